@@ -1,0 +1,31 @@
+//! What every crate of the timing verifier stands on: lists, assertions and the header, refusals
+//! with their places, and the devices that bytes come from and go to.
+//!
+//! The layers above read a text with `read_all` and write an answer with `write_all`. `specs/Device`
+//! says what a source and a sink promise, and `specs/Memory` what those in memory do at each call;
+//! `specs/Time`, `Span`, `Clock`, `Quiet` and `Fitting` say what an assertion means on the ticks of a
+//! period.
+#![tactic(auto)]
+
+mod assertion;
+mod header;
+mod list;
+mod memory;
+mod refusal;
+mod sink;
+mod source;
+mod standard;
+mod transfer;
+
+pub use assertion::{AssertSpec, ClockSpec, Span, Spans};
+pub use header::{Delay, Header};
+pub use list::{Bytes, Calls, List, NoMemory};
+pub use memory::{MemorySink, MemorySource};
+pub use refusal::{Place, Refusal, RefusalKind, Stop};
+pub use sink::Sink;
+pub use source::{Failed, Source};
+pub use standard::{StdSink, StdSource};
+pub use transfer::{ReadEnd, WriteFault, read_all, write_all};
+
+#[cfg(test)]
+mod tests;

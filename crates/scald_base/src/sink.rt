@@ -1,0 +1,23 @@
+//! Where bytes go.
+
+ghost use Rattle.std.specs.Prelude.{◌≡◌, ℕ, List, Option, IfOk, OnErr};
+ghost use Rattle.std.specs.Io.KnownBytes.{Keeps};
+ghost use Rattle.scald_base.specs.Device.{CountsFaults, Takes};
+
+use crate::source::Failed;
+
+/// A sink for bytes.
+pub trait Sink {
+    /// The bytes that were taken so far, where the sink tells them.
+    ghost taken: { Self → Option (List ℕ) };
+
+    /// How often a write failed. The count never falls.
+    ghost faults: { Self → ℕ };
+
+    /// Takes bytes from the front of the piece, and says how many: at least one where there is one.
+    /// `Failed` comes only where the count of faults rose, and then nothing was taken.
+    fn write(&mut self, piece: &[u8]) -> Result<usize, Failed>
+        ensures takes { IfOk result (λ n. Takes (taken self.old) (taken self.new) piece.now n) }
+        ensures kept { OnErr result (Keeps (taken self.old) (taken self.new)) }
+        ensures faults { CountsFaults (faults self.old) (faults self.new) result };
+}
