@@ -1,0 +1,68 @@
+-- The wave of an assertion permits each signal that keeps it.
+use Rattle.std.proofs.Common.{◌≡◌, ℕ, ◌+◌, ◌-◌, ◌<◌, ◌≤◌, min, Bool, true, List, [], length, refl, sym, ap, ◌∙◌, cond, arith}
+use Rattle.std.proofs.lemmas.Bool.{cond_both}
+use Rattle.scald_base.specs.Time.{Header, period}
+use Rattle.scald_base.specs.Clock.{ideal, back}
+use Rattle.scald_base.specs.Quiet.{quiet}
+use Rattle.scald_base.specs.Fitting.{skew_of}
+use Rattle.scald_base.specs.declared.assertion.Span.{Span}
+use Rattle.scald_base.specs.declared.assertion.AssertSpec.{AssertSpec}
+use Rattle.scald_base.specs.declared.assertion.AssertSpec.TheVariants.{None as Unasserted, Precision, Clock, Stable}
+use Rattle.step_values.specs.declared.value.Value.TheVariants.{S, C}
+use Rattle.step_values.specs.Steps.{has}
+use Rattle.scald_tool.specs.Wave.{Signal, Permits, sooner}
+use Rattle.scald_tool.specs.Interface.{MeetsStable, Meets, stable_wave, asserted_wave, interface_wave}
+use Rattle.scald_tool.proofs.Back.{back-later}
+use Rattle.scald_tool.proofs.Values.{stable-has, step-has}
+use Rattle.scald_tool.proofs.Moves.{length-slots, length-normal, earlier-slots, Permits-capped, Permits-normal}
+use Rattle.scald_tool.proofs.ClockEdges.{step_slots, earlier-sooner_steps, length-sooner_steps, Permits-clock}
+
+-- a clock that is shifted as a whole
+Permits-shifted : (p : ℕ) (f : ℕ → Bool) (a b by n : ℕ) (x : Signal) → 0 < p → by ≤ a + b →
+    ((t : ℕ) → t < n → x t ≡ f (back p (t + a) by)) →
+    Permits (record { cells = sooner (step_slots p f) a; skew = min (a + b) (p - 1) }) n x 1
+Permits-shifted p f a b by n x pos within bits =
+    Permits-capped (sooner (step_slots p f) a) p (a + b) n 1 x (length-sooner_steps p f a) pos
+    (record {
+      offset = by;
+      within = within;
+      steps = λ t t1 tv tn.
+          let now : x t ≡ f (back p (t + a) by) = bits t tn in
+          let before : x (t - 1) ≡ f (back p (t + a) (by + 1)) =
+          bits (t - 1) (omega arith)
+          ∙ ap f (sym (back-later p (t - 1 + a) 1 by pos) ∙ ap (λ (z : ℕ). back p z (1 + by)) (omega arith) ∙ ap (back p (t + a)) (omega arith)) in
+          rw (earlier-sooner_steps p f a t by pos, now, before) (step-has (f (back p (t + a) (by + 1))) (f (back p (t + a) by)));
+    })
+
+-- a net that steps in no quiet slot
+Permits-stable : (h : Header) (spans : List Span) (n : ℕ) (x : Signal) → 0 < period h → MeetsStable h spans n x → Permits (stable_wave h spans) n x 1
+Permits-stable h spans n x pos meets =
+    record {
+      offset = 0;
+      within = omega arith;
+      steps = λ t t1 tv tn.
+          rw (earlier-slots (period h) (λ p. cond (quiet spans h p) S C) t 0 pos)
+          (cond_both (quiet spans h (back (period h) t 0)) S C (λ v. has v (x (t - 1)) (x t) ≡ true)
+          (λ q. stable-has (x (t - 1)) (x t) (meets t t1 tn q)) (λ q. refl));
+    }
+
+pub length-asserted : (h : Header) (a : AssertSpec) → length (asserted_wave h a).cells ≡ period h
+length-asserted h Unasserted = length-slots (period h) _
+length-asserted h (Precision c) = length-sooner_steps (period h) (ideal c h) (skew_of c h.pskew).0
+length-asserted h (Clock c) = length-slots _ _ ∙ length-sooner_steps (period h) (ideal c h) (skew_of c h.cskew).0
+length-asserted h (Stable spans) = length-slots (period h) _
+
+Permits-asserted : (h : Header) (a : AssertSpec) (n : ℕ) (x : Signal) → 0 < period h → Meets h a n x → Permits (asserted_wave h a) n x 1
+Permits-asserted h Unasserted n x pos meets = Permits-stable h [] n x pos (λ t t1 tn q. meets t t1 tn)
+Permits-asserted h (Precision c) n x pos meets =
+    Permits-shifted (period h) (ideal c h) (skew_of c h.pskew).0 (skew_of c h.pskew).1 meets.by n x pos meets.within meets.bits
+Permits-asserted h (Clock c) n x pos meets = Permits-clock h c n x pos meets
+Permits-asserted h (Stable spans) n x pos meets = Permits-stable h spans n x pos meets
+
+pub length-interface : (h : Header) (a : AssertSpec) → length (interface_wave h a).cells ≡ period h
+length-interface h a = length-normal (asserted_wave h a) ∙ length-asserted h a
+
+pub Permits-interface : (h : Header) (a : AssertSpec) (n : ℕ) (x : Signal) → 0 < period h → Meets h a n x → Permits (interface_wave h a) n x 1
+Permits-interface h a n x pos meets =
+    Permits-normal (asserted_wave h a) n 1 x (let e : length (asserted_wave h a).cells ≡ period h = length-asserted h a in omega arith)
+    (Permits-asserted h a n x pos meets)
