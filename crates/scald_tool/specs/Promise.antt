@@ -3,7 +3,7 @@ use Rattle.std.specs.Prelude.{◌≡◌, ℕ, Bool, true, false, List, [], Optio
 use Rattle.std.specs.Io.KnownBytes.{Appends}
 use Rattle.scald_base.specs.Device.{TakesFront}
 use Rattle.scald_tool.specs.declared.outcome.Outcome.{Outcome}
-use Rattle.scald_tool.specs.declared.outcome.Outcome.TheVariants.{Clean, Faulty, Done, Refused, Unsettled, BadWords, TooLong, ReadFault, WriteFault, NoMemory}
+use Rattle.scald_tool.specs.declared.outcome.Outcome.TheVariants.{Clean, Faulty, Done, Refused, Unsettled, BadWords, TooLong, ReadFault, NoMemory}
 use Rattle.scald_tool.specs.Circuit.{Circuit, Instance}
 use Rattle.scald_tool.specs.Run.{Run, IsRun}
 use Rattle.scald_tool.specs.Interface.{MeetsInterface}
@@ -36,11 +36,7 @@ speaks (Faulty n) = true
 speaks Done = true
 speaks (Refused r) = true
 speaks (Unsettled k limit) = true
-speaks (BadWords i) = false
-speaks TooLong = false
-speaks ReadFault = false
-speaks WriteFault = false
-speaks NoMemory = false
+speaks _ = false
 
 -- an outcome with which nothing is written
 abbrev pub is_silent : Outcome → Bool
@@ -48,25 +44,13 @@ is_silent (BadWords i) = true
 is_silent TooLong = true
 is_silent ReadFault = true
 is_silent NoMemory = true
-is_silent Clean = false
-is_silent (Faulty n) = false
-is_silent Done = false
-is_silent (Refused r) = false
-is_silent (Unsettled k limit) = false
-is_silent WriteFault = false
+is_silent _ = false
 
 -- an outcome that comes with a whole report
 abbrev pub has_report : Outcome → Bool
 has_report Clean = true
 has_report (Faulty n) = true
-has_report Done = false
-has_report (Refused r) = false
-has_report (Unsettled k limit) = false
-has_report (BadWords i) = false
-has_report TooLong = false
-has_report ReadFault = false
-has_report WriteFault = false
-has_report NoMemory = false
+has_report _ = false
 
 -- ---- the runs
 

@@ -1,5 +1,5 @@
-//! Laws of runs, waves and answers that hold of every circuit without drivers. The functions do
-//! nothing: what each states is its contract.
+//! Laws of runs, waves and answers that hold of every circuit without drivers, some where its period
+//! is not empty. The functions do nothing: what each states is its contract.
 
 ghost use Rattle.std.specs.Prelude.{◌<◌, List, ℕ};
 ghost use Rattle.scald_base.specs.Time.{period};

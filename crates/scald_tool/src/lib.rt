@@ -5,20 +5,27 @@
 //! runs (`Run`, `Interface`, `Break`) and of waves (`Wave`, `Rounds`, `Fault`, `Report`, `Answer`).
 #![tactic(auto)]
 
-mod check;
-mod fault;
-pub mod laws;
+// what comes in
 mod one_checker;
-mod outcome;
 mod reader;
 mod refusal;
+mod words;
+
+// what is computed of it
+mod check;
+mod fault;
+mod waves;
+
+// what goes out
+mod outcome;
 mod report;
-#[cfg(test)]
-mod tests;
 mod tool;
 mod verify;
-mod waves;
-mod words;
+
+// beside the call
+pub mod laws;
+#[cfg(test)]
+mod tests;
 
 pub use outcome::{Outcome, status};
 pub use tool::tool_main;

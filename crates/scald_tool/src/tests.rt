@@ -5,47 +5,56 @@ ghost use Rattle.std.specs.Prelude.{◌≤◌};
 use crate::{Outcome, Words, status, tool_main};
 use scald_base::{Bytes, Calls, MemorySink, MemorySource, NoMemory, Place, Refusal, RefusalKind};
 use std::alloc::Global;
-use std::process::Abort;
 use std::test::Fail;
 
-const FIRST: &str = "c1 : SETUP_HOLD_CHK {SETUP=20, HOLD=10} (\"CK .P2-3\", \"D .S1-4\");";
+const CLOCK: &[u8] = b"CLOCK 8 x 50;";
 
-/// How each report of a period of 400 ticks begins.
-const HEAD: &str = "SCALD 1 PERIOD 400\nNETS 2 INSTANCES 0 CHECKS 1\nCASE 0 BASE 0 ROUNDS 0 T 1\n";
+const FIRST: &[u8] = b"c1 : SETUP_HOLD_CHK {SETUP=20, HOLD=10} (\"CK .P2-3\", \"D .S1-4\");";
 
-const FIRST_LINES: [&str; 3] = [
-    "WAVE CK<0> SKEW 0 0:100 R:1 1:49 F:1 0:249",
-    "WAVE D<0> SKEW 0 C:51 S:149 C:200",
-    "CLEAN",
-];
+const FIRST_REPORT: &[u8] =
+    b"SCALD 1 PERIOD 400\nNETS 2 INSTANCES 0 CHECKS 1\nCASE 0 BASE 0 ROUNDS 0 T 1\nWAVE CK<0> SKEW 0 0:100 R:1 1:49 F:1 0:249\nWAVE D<0> SKEW 0 C:51 S:149 C:200\nCLEAN\n";
 
-/// A device's pieces and its failing calls.
+/// How many bytes a device moves in a call, and which one of its calls fails.
 #[derive(Clone, Copy)]
-struct Device<'a> {
+struct Device {
     piece: u32,
-    failing: &'a [u32],
+    failing: Option<u32>,
 }
 
-const SURE: Device<'static> = Device {
+const SURE: Device = Device {
     piece: 4096,
-    failing: &[],
+    failing: None,
 };
 
-fn bytes_of(alloc: Global, text: &str) -> Result<Bytes, NoMemory> {
+/// How a call ended: its outcome, how many bytes were left to read, and what was written.
+#[derive(Drop)]
+struct Answered {
+    outcome: Outcome,
+    left: usize,
+    taken: Bytes,
+}
+
+impl Answered {
+    fn is(&self, outcome: Outcome, left: usize, taken: &[u8]) -> bool {
+        self.outcome == outcome && self.left == left && self.taken.as_slice() == taken
+    }
+}
+
+fn bytes_of(alloc: Global, text: &[u8]) -> Result<Bytes, NoMemory> {
     let mut bytes = Bytes::new(alloc);
-    bytes.extend(text.as_bytes())?;
+    bytes.extend(text)?;
     Ok(bytes)
 }
 
-fn calls_of(alloc: Global, numbers: &[u32]) -> Result<Calls, NoMemory> {
+fn calls_of(alloc: Global, failing: Option<u32>) -> Result<Calls, NoMemory> {
     let mut calls = Calls::new(alloc);
-    for number in numbers {
-        calls.push(*number)?;
+    if let Some(number) = failing {
+        calls.push(number)?;
     }
     Ok(calls)
 }
 
-fn words_of(alloc: Global, texts: &[&str]) -> Result<Words, NoMemory> {
+fn words_of(alloc: Global, texts: &[&[u8]]) -> Result<Words, NoMemory> {
     let mut words = Words::new(alloc);
     for text in texts {
         words.push(bytes_of(alloc, text)?)?;
@@ -54,31 +63,76 @@ fn words_of(alloc: Global, texts: &[&str]) -> Result<Words, NoMemory> {
 }
 
 /// A text of one checker: its second line, and its fourth.
-fn text_of(alloc: Global, clock: &str, checker: &str) -> Result<Bytes, NoMemory> {
-    let mut text = bytes_of(alloc, "SCALD 1;\n")?;
-    text.extend(clock.as_bytes())?;
+fn text_of(alloc: Global, clock: &[u8], checker: &[u8]) -> Result<Bytes, NoMemory> {
+    let mut text = bytes_of(alloc, b"SCALD 1;\n")?;
+    text.extend(clock)?;
     text.extend(b"\nDRAWING ROW;\n")?;
-    text.extend(checker.as_bytes())?;
+    text.extend(checker)?;
     text.extend(b"\nEND;\n")?;
     Ok(text)
 }
 
-/// The call over these devices: its outcome, and the devices as it left them.
+fn source_of(alloc: Global, text: Bytes, device: Device) -> Result<MemorySource, NoMemory>
+    requires { 1 ≤ device.piece }
+{
+    Ok(MemorySource::new(text, device.piece, calls_of(alloc, device.failing)?))
+}
+
+fn sink_of(alloc: Global, device: Device) -> Result<MemorySink, NoMemory>
+    requires { 1 ≤ device.piece }
+{
+    MemorySink::new(alloc, 1000, device.piece, calls_of(alloc, device.failing)?)
+}
+
+/// The call over these devices.
 fn called(
     alloc: Global,
-    words: &[&str],
+    words: &Words,
+    source: &mut MemorySource,
+    sink: &mut MemorySink,
+) -> Result<Answered, NoMemory> {
+    let outcome = tool_main(alloc, words, source, sink);
+    Ok(Answered {
+        outcome,
+        left: source.left().len(),
+        taken: bytes_of(alloc, sink.taken())?,
+    })
+}
+
+fn ended(
+    alloc: Global,
+    words: &Words,
     text: Bytes,
-    from: Device<'_>,
-    to: Device<'_>,
-) -> Result<(Outcome, MemorySource, MemorySink), NoMemory>
+    from: Device,
+    to: Device,
+) -> Result<Answered, NoMemory>
     requires from { 1 ≤ from.piece }
     requires to { 1 ≤ to.piece }
 {
-    let words = words_of(alloc, words)?;
-    let mut source = MemorySource::new(text, from.piece, calls_of(alloc, from.failing)?);
-    let mut sink = MemorySink::new(alloc, 1000, to.piece, calls_of(alloc, to.failing)?)?;
-    let outcome = tool_main(alloc, &words, &mut source, &mut sink);
-    Ok((outcome, source, sink))
+    let mut source = source_of(alloc, text, from)?;
+    let mut sink = sink_of(alloc, to)?;
+    called(alloc, words, &mut source, &mut sink)
+}
+
+/// What is answered to `verify` and a text whose second and fourth line are these.
+fn verified(alloc: Global, clock: &[u8], checker: &[u8]) -> Result<Answered, NoMemory> {
+    let words = words_of(alloc, &[b"verify"])?;
+    ended(alloc, &words, text_of(alloc, clock, checker)?, SURE, SURE)
+}
+
+/// What is answered to these words and the first text.
+fn worded(alloc: Global, texts: &[&[u8]]) -> Result<Answered, NoMemory> {
+    let words = words_of(alloc, texts)?;
+    ended(alloc, &words, text_of(alloc, CLOCK, FIRST)?, SURE, SURE)
+}
+
+/// What is answered to `verify` and the first text over these devices.
+fn over(alloc: Global, from: Device, to: Device) -> Result<Answered, NoMemory>
+    requires from { 1 ≤ from.piece }
+    requires to { 1 ≤ to.piece }
+{
+    let words = words_of(alloc, &[b"verify"])?;
+    ended(alloc, &words, text_of(alloc, CLOCK, FIRST)?, from, to)
 }
 
 fn refused(kind: RefusalKind, line: u32, col: u32) -> Outcome {
@@ -88,258 +142,212 @@ fn refused(kind: RefusalKind, line: u32, col: u32) -> Outcome {
     })
 }
 
-/// Lines behind a head, each with its end.
-fn lines_of(alloc: Global, head: &str, lines: &[&str]) -> Result<Bytes, NoMemory> {
-    let mut text = bytes_of(alloc, head)?;
-    for line in lines {
-        text.extend(line.as_bytes())?;
-        text.push(b'\n')?;
-    }
-    Ok(text)
-}
-
-/// What is answered to a drawing whose second and fourth line are these.
-fn expect(
-    alloc: Global,
-    rt: &impl Abort,
-    name: &str,
-    clock: &str,
-    checker: &str,
-    outcome: Outcome,
-    report: Bytes,
-) -> Result<(), NoMemory> {
-    let text = text_of(alloc, clock, checker)?;
-    let (answer, source, sink) = called(alloc, &["verify"], text, SURE, SURE)?;
-    assert_eq!(rt; answer, outcome, "{name}");
-    assert_eq!(rt; sink.taken(), report.as_slice(), "{name}");
-    assert_eq!(rt; source.left().len(), 0, "{name}");
+#[test]
+fn the_first_drawing(rt: HostRuntime) -> Result<(), Fail> {
+    let end = verified(rt.alloc(), CLOCK, FIRST)?;
+    assert!(rt; end.is(Outcome::Clean, 0, FIRST_REPORT));
     Ok(())
 }
 
 #[test]
-fn reports(rt: HostRuntime) -> Result<(), Fail> {
-    let a = rt.alloc();
-    expect(
-        a,
-        &rt,
-        "smallest",
-        "CLOCK 8 x 50;",
-        FIRST,
-        Outcome::Clean,
-        lines_of(a, HEAD, &FIRST_LINES)?,
+fn a_change_up_to_the_edge(rt: HostRuntime) -> Result<(), Fail> {
+    let end = verified(
+        rt.alloc(),
+        CLOCK,
+        b"c1 : SETUP_HOLD_CHK {SETUP=20, HOLD=10} (\"CK .P2-3\", \"D .S2-4\");",
     )?;
-    expect(
-        a,
-        &rt,
-        "change up to the edge",
-        "CLOCK 8 x 50;",
-        "c1 : SETUP_HOLD_CHK {SETUP=20, HOLD=10} (\"CK .P2-3\", \"D .S2-4\");",
-        Outcome::Faulty(1),
-        lines_of(
-            a,
-            HEAD,
-            &[
-                "WAVE CK<0> SKEW 0 0:100 R:1 1:49 F:1 0:249",
-                "WAVE D<0> SKEW 0 C:101 S:99 C:200",
-                "FAULT SETUP c1<0> EDGE 100 SLOT 81 VALUE C",
-                "FAULTS 1",
-            ],
-        )?,
-    )?;
-    expect(
-        a,
-        &rt,
-        "window open at its front",
-        "CLOCK 8 x 50;",
-        "c1 : SETUP_HOLD_CHK {SETUP=0, HOLD=10} (\"CK .P2-3\", \"D .S2-4\");",
-        Outcome::Clean,
-        lines_of(
-            a,
-            HEAD,
-            &[
-                "WAVE CK<0> SKEW 0 0:100 R:1 1:49 F:1 0:249",
-                "WAVE D<0> SKEW 0 C:101 S:99 C:200",
-                "CLEAN",
-            ],
-        )?,
-    )?;
-    expect(
-        a,
-        &rt,
-        "over the end of the period",
-        "CLOCK 8 x 50;",
-        "c1 : SETUP_HOLD_CHK {SETUP=50, HOLD=10} (\"CK .P0-1\", \"D .S7-2\");",
-        Outcome::Clean,
-        lines_of(
-            a,
-            HEAD,
-            &[
-                "WAVE CK<0> SKEW 0 R:1 1:49 F:1 0:349",
-                "WAVE D<0> SKEW 0 S:100 C:251 S:49",
-                "CLEAN",
-            ],
-        )?,
-    )?;
-    expect(
-        a,
-        &rt,
-        "one slot too early, over the end of the period",
-        "CLOCK 8 x 50;",
-        "c1 : SETUP_HOLD_CHK {SETUP=51, HOLD=10} (\"CK .P0-1\", \"D .S7-2\");",
-        Outcome::Faulty(1),
-        lines_of(
-            a,
-            HEAD,
-            &[
-                "WAVE CK<0> SKEW 0 R:1 1:49 F:1 0:349",
-                "WAVE D<0> SKEW 0 S:100 C:251 S:49",
-                "FAULT SETUP c1<0> EDGE 0 SLOT 350 VALUE C",
-                "FAULTS 1",
-            ],
-        )?,
-    )?;
-    expect(
-        a,
-        &rt,
-        "a change after the edge, and names in the other order",
-        "CLOCK 8 x 50;",
-        "c1 : SETUP_HOLD_CHK {SETUP=0, HOLD=10} (\"Z .P2-3\", \"D .S1-2\");",
-        Outcome::Faulty(1),
-        lines_of(
-            a,
-            HEAD,
-            &[
-                "WAVE D<0> SKEW 0 C:51 S:49 C:300",
-                "WAVE Z<0> SKEW 0 0:100 R:1 1:49 F:1 0:249",
-                "FAULT HOLD c1<0> EDGE 100 SLOT 101 VALUE C",
-                "FAULTS 1",
-            ],
-        )?,
-    )?;
-    expect(
-        a,
-        &rt,
-        "a clock without edges",
-        "CLOCK 8 x 50;",
-        "c1 : SETUP_HOLD_CHK {SETUP=400, HOLD=0} (\"CK .P0-8\", \"D .S1-4\");",
-        Outcome::Clean,
-        lines_of(
-            a,
-            HEAD,
-            &[
-                "WAVE CK<0> SKEW 0 1:400",
-                "WAVE D<0> SKEW 0 C:51 S:149 C:200",
-                "CLEAN",
-            ],
-        )?,
-    )?;
-    Ok(())
-}
-
-#[test]
-fn refusals(rt: HostRuntime) -> Result<(), Fail> {
-    let a = rt.alloc();
-    expect(
-        a,
-        &rt,
-        "no ticks in a unit",
-        "CLOCK 8 x 0;",
-        FIRST,
-        refused(RefusalKind::BadHeader, 2, 1),
-        lines_of(a, "", &["REFUSED 4 BadHeader 2:1"])?,
-    )?;
-    expect(
-        a,
-        &rt,
-        "an interval past the period",
-        "CLOCK 8 x 50;",
-        "c1 : SETUP_HOLD_CHK {SETUP=20, HOLD=10} (\"CK .P2-9\", \"D .S1-4\");",
-        refused(RefusalKind::BadName, 4, 42),
-        lines_of(a, "", &["REFUSED 7 BadName 4:42"])?,
-    )?;
-    expect(
-        a,
-        &rt,
-        "an empty interval of the input",
-        "CLOCK 8 x 50;",
-        "c1 : SETUP_HOLD_CHK {SETUP=20, HOLD=10} (\"CK .P2-3\", \"D .S4-4\");",
-        refused(RefusalKind::BadName, 4, 54),
-        lines_of(a, "", &["REFUSED 7 BadName 4:54"])?,
-    )?;
-    expect(
-        a,
-        &rt,
-        "limits longer than the period",
-        "CLOCK 8 x 50;",
-        "c1 : SETUP_HOLD_CHK {SETUP=391, HOLD=10} (\"CK .P2-3\", \"D .S1-4\");",
-        refused(RefusalKind::Bounds, 4, 1),
-        lines_of(a, "", &["REFUSED 14 Bounds 4:1"])?,
-    )?;
-    expect(
-        a,
-        &rt,
-        "another text",
-        "CLOCK 8 x 50;",
-        "c1 : SETUP_HOLD_CHK {SETUP=20, HOLD=10} (\"CK .P2-3\", \"D .S1-4\")",
-        refused(RefusalKind::NotBuilt, 1, 1),
-        lines_of(a, "", &["REFUSED 23 NotBuilt 1:1"])?,
-    )?;
-    Ok(())
-}
-
-#[test]
-fn empty_input_and_other_words(rt: HostRuntime) -> Result<(), Fail> {
-    let a = rt.alloc();
-    let (outcome, _source, sink) = called(a, &["verify"], Bytes::new(a), SURE, SURE)?;
-    assert_eq!(rt; outcome, refused(RefusalKind::NotBuilt, 1, 1));
-    assert_eq!(rt; sink.taken(), b"REFUSED 23 NotBuilt 1:1\n".as_slice());
-    let lists: [(&[&str], u32); 4] = [
-        (&[], 0),
-        (&["format"], 0),
-        (&["verify", "waves"], 1),
-        (&["verify", "verify"], 1),
-    ];
-    for (words, number) in lists {
-        let text = text_of(a, "CLOCK 8 x 50;", FIRST)?;
-        let len = text.len();
-        let (outcome, source, sink) = called(a, words, text, SURE, SURE)?;
-        assert_eq!(rt; outcome, Outcome::BadWords(number));
-        assert_eq!(rt; source.left().len(), len);
-        assert_eq!(rt; sink.taken().len(), 0);
-    }
-    Ok(())
-}
-
-#[test]
-fn failing_devices(rt: HostRuntime) -> Result<(), Fail> {
-    let a = rt.alloc();
-    let failing_sink = Device {
-        piece: 32,
-        failing: &[2],
-    };
-    let text = text_of(a, "CLOCK 8 x 50;", FIRST)?;
-    let len = text.len();
-    let (outcome, _source, sink) = called(a, &["verify"], text, SURE, failing_sink)?;
-    assert_eq!(rt; outcome, Outcome::WriteFault);
-    assert_eq!(rt;
-        sink.taken(),
-        b"SCALD 1 PERIOD 400\nNETS 2 INSTANCES 0 CHECKS 1\nCASE 0 BASE 0 ROU".as_slice()
+    assert!(rt;
+        end.is(
+            Outcome::Faulty(1),
+            0,
+            b"SCALD 1 PERIOD 400\nNETS 2 INSTANCES 0 CHECKS 1\nCASE 0 BASE 0 ROUNDS 0 T 1\nWAVE CK<0> SKEW 0 0:100 R:1 1:49 F:1 0:249\nWAVE D<0> SKEW 0 C:101 S:99 C:200\nFAULT SETUP c1<0> EDGE 100 SLOT 81 VALUE C\nFAULTS 1\n"
+        )
     );
+    Ok(())
+}
 
-    let again = text_of(a, "CLOCK 8 x 50;", FIRST)?;
-    let (outcome, _source, sink) = called(a, &["verify"], again, SURE, SURE)?;
-    assert_eq!(rt; outcome, Outcome::Clean);
-    assert_eq!(rt; sink.taken(), lines_of(a, HEAD, &FIRST_LINES)?.as_slice());
+#[test]
+fn a_window_open_at_its_front(rt: HostRuntime) -> Result<(), Fail> {
+    let end = verified(
+        rt.alloc(),
+        CLOCK,
+        b"c1 : SETUP_HOLD_CHK {SETUP=0, HOLD=10} (\"CK .P2-3\", \"D .S2-4\");",
+    )?;
+    assert!(rt;
+        end.is(
+            Outcome::Clean,
+            0,
+            b"SCALD 1 PERIOD 400\nNETS 2 INSTANCES 0 CHECKS 1\nCASE 0 BASE 0 ROUNDS 0 T 1\nWAVE CK<0> SKEW 0 0:100 R:1 1:49 F:1 0:249\nWAVE D<0> SKEW 0 C:101 S:99 C:200\nCLEAN\n"
+        )
+    );
+    Ok(())
+}
 
-    let failing_source = Device {
-        piece: 16,
-        failing: &[1],
+#[test]
+fn over_the_end_of_the_period(rt: HostRuntime) -> Result<(), Fail> {
+    let end = verified(
+        rt.alloc(),
+        CLOCK,
+        b"c1 : SETUP_HOLD_CHK {SETUP=50, HOLD=10} (\"CK .P0-1\", \"D .S7-2\");",
+    )?;
+    assert!(rt;
+        end.is(
+            Outcome::Clean,
+            0,
+            b"SCALD 1 PERIOD 400\nNETS 2 INSTANCES 0 CHECKS 1\nCASE 0 BASE 0 ROUNDS 0 T 1\nWAVE CK<0> SKEW 0 R:1 1:49 F:1 0:349\nWAVE D<0> SKEW 0 S:100 C:251 S:49\nCLEAN\n"
+        )
+    );
+    Ok(())
+}
+
+#[test]
+fn one_slot_too_early(rt: HostRuntime) -> Result<(), Fail> {
+    let end = verified(
+        rt.alloc(),
+        CLOCK,
+        b"c1 : SETUP_HOLD_CHK {SETUP=51, HOLD=10} (\"CK .P0-1\", \"D .S7-2\");",
+    )?;
+    assert!(rt;
+        end.is(
+            Outcome::Faulty(1),
+            0,
+            b"SCALD 1 PERIOD 400\nNETS 2 INSTANCES 0 CHECKS 1\nCASE 0 BASE 0 ROUNDS 0 T 1\nWAVE CK<0> SKEW 0 R:1 1:49 F:1 0:349\nWAVE D<0> SKEW 0 S:100 C:251 S:49\nFAULT SETUP c1<0> EDGE 0 SLOT 350 VALUE C\nFAULTS 1\n"
+        )
+    );
+    Ok(())
+}
+
+#[test]
+fn a_change_after_the_edge(rt: HostRuntime) -> Result<(), Fail> {
+    let end = verified(
+        rt.alloc(),
+        CLOCK,
+        b"c1 : SETUP_HOLD_CHK {SETUP=0, HOLD=10} (\"Z .P2-3\", \"D .S1-2\");",
+    )?;
+    assert!(rt;
+        end.is(
+            Outcome::Faulty(1),
+            0,
+            b"SCALD 1 PERIOD 400\nNETS 2 INSTANCES 0 CHECKS 1\nCASE 0 BASE 0 ROUNDS 0 T 1\nWAVE D<0> SKEW 0 C:51 S:49 C:300\nWAVE Z<0> SKEW 0 0:100 R:1 1:49 F:1 0:249\nFAULT HOLD c1<0> EDGE 100 SLOT 101 VALUE C\nFAULTS 1\n"
+        )
+    );
+    Ok(())
+}
+
+#[test]
+fn no_ticks_in_a_unit(rt: HostRuntime) -> Result<(), Fail> {
+    let end = verified(rt.alloc(), b"CLOCK 8 x 0;", FIRST)?;
+    assert!(rt;
+        end.is(
+            refused(RefusalKind::BadHeader, 2, 1),
+            0,
+            b"REFUSED 4 BadHeader 2:1\n"
+        )
+    );
+    Ok(())
+}
+
+#[test]
+fn an_interval_past_the_period(rt: HostRuntime) -> Result<(), Fail> {
+    let end = verified(
+        rt.alloc(),
+        CLOCK,
+        b"c1 : SETUP_HOLD_CHK {SETUP=20, HOLD=10} (\"CK .P2-9\", \"D .S1-4\");",
+    )?;
+    assert!(rt;
+        end.is(
+            refused(RefusalKind::BadName, 4, 42),
+            0,
+            b"REFUSED 7 BadName 4:42\n"
+        )
+    );
+    Ok(())
+}
+
+#[test]
+fn limits_longer_than_the_period(rt: HostRuntime) -> Result<(), Fail> {
+    let end = verified(
+        rt.alloc(),
+        CLOCK,
+        b"c1 : SETUP_HOLD_CHK {SETUP=391, HOLD=10} (\"CK .P2-3\", \"D .S1-4\");",
+    )?;
+    assert!(rt;
+        end.is(
+            refused(RefusalKind::Bounds, 4, 1),
+            0,
+            b"REFUSED 14 Bounds 4:1\n"
+        )
+    );
+    Ok(())
+}
+
+#[test]
+fn an_empty_text(rt: HostRuntime) -> Result<(), Fail> {
+    let words = words_of(rt.alloc(), &[b"verify"])?;
+    let end = ended(rt.alloc(), &words, Bytes::new(rt.alloc()), SURE, SURE)?;
+    assert!(rt;
+        end.is(
+            refused(RefusalKind::NotBuilt, 1, 1),
+            0,
+            b"REFUSED 23 NotBuilt 1:1\n"
+        )
+    );
+    Ok(())
+}
+
+#[test]
+fn no_words(rt: HostRuntime) -> Result<(), Fail> {
+    let end = worded(rt.alloc(), &[])?;
+    assert!(rt; end.is(Outcome::BadWords(0), 106, b""));
+    Ok(())
+}
+
+#[test]
+fn another_word(rt: HostRuntime) -> Result<(), Fail> {
+    let end = worded(rt.alloc(), &[b"format"])?;
+    assert!(rt; end.is(Outcome::BadWords(0), 106, b""));
+    Ok(())
+}
+
+#[test]
+fn a_word_too_many(rt: HostRuntime) -> Result<(), Fail> {
+    let end = worded(rt.alloc(), &[b"verify", b"waves"])?;
+    assert!(rt; end.is(Outcome::BadWords(1), 106, b""));
+    Ok(())
+}
+
+#[test]
+fn a_failing_sink(rt: HostRuntime) -> Result<(), Fail> {
+    let failing = Device {
+        piece: 32,
+        failing: Some(2),
     };
-    let text = text_of(a, "CLOCK 8 x 50;", FIRST)?;
-    let (outcome, source, sink) = called(a, &["verify"], text, failing_source, SURE)?;
-    assert_eq!(rt; outcome, Outcome::ReadFault);
-    assert_eq!(rt; len.checked_sub(source.left().len()), Some(16));
-    assert_eq!(rt; sink.taken().len(), 0);
+    let end = over(rt.alloc(), SURE, failing)?;
+    assert!(rt;
+        end.is(
+            Outcome::WriteFault,
+            0,
+            b"SCALD 1 PERIOD 400\nNETS 2 INSTANCES 0 CHECKS 1\nCASE 0 BASE 0 ROU"
+        )
+    );
+    Ok(())
+}
+
+#[test]
+fn the_same_over_a_good_sink(rt: HostRuntime) -> Result<(), Fail> {
+    let end = over(rt.alloc(), SURE, SURE)?;
+    assert!(rt; end.is(Outcome::Clean, 0, FIRST_REPORT));
+    Ok(())
+}
+
+#[test]
+fn a_failing_source(rt: HostRuntime) -> Result<(), Fail> {
+    let failing = Device {
+        piece: 16,
+        failing: Some(1),
+    };
+    let end = over(rt.alloc(), failing, SURE)?;
+    assert!(rt; end.is(Outcome::ReadFault, 90, b""));
     Ok(())
 }
 
