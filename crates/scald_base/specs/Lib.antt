@@ -6,3 +6,4 @@ pub mod Fitting
 pub mod Refusal
 pub mod Device
 pub mod Memory
+pub mod Word

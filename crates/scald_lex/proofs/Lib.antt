@@ -1,0 +1,10 @@
+pub mod Fronts
+pub mod Values
+pub mod Places
+pub mod Pieces
+pub mod Cuts
+pub mod Unique
+pub mod Whole
+pub mod Spelt
+pub mod Stands
+pub mod Longest

@@ -1,0 +1,33 @@
+//! Laws of the tokens of a text. The functions do nothing: what each states is its contract.
+
+ghost use Rattle.scald_lex.specs.Laws.{OneList, NotBoth, OneRefusal, TokensAreLongest, TokensOrRefusal, TokensStand};
+
+/// A text has one list of tokens.
+pub fn one_list()
+    ensures { OneList }
+{}
+
+/// A text that has tokens is not refused.
+pub fn not_both()
+    ensures { NotBoth }
+{}
+
+/// A text is refused for one reason, at one place.
+pub fn one_refusal()
+    ensures { OneRefusal }
+{}
+
+/// Each text has tokens or a refusal.
+pub fn tokens_or_refusal()
+    ensures { TokensOrRefusal }
+{}
+
+/// The last token is the end, and those before it stand in order: each is a text of its kind, at its place.
+pub fn tokens_stand()
+    ensures { TokensStand }
+{}
+
+/// No token is the front of a longer one that stands there.
+pub fn tokens_are_longest()
+    ensures { TokensAreLongest }
+{}

@@ -1,0 +1,21 @@
+//! The tokens of a text: words, numbers, names in quotes, arrows and symbols, each with its place.
+//!
+//! The layer above calls `tokens`. `specs/Tokens` says which tokens a text is, and why and where it is
+//! refused; `specs/Piece` what stands in front of a rest of it, `specs/Place` how places count, and
+//! `specs/Laws` what holds of every text, as `laws` proves it.
+#![tactic(auto)]
+
+mod bytes;
+mod laws;
+mod piece;
+mod scan;
+mod token;
+
+pub use laws::{
+    not_both, one_list, one_refusal, tokens_are_longest, tokens_or_refusal, tokens_stand,
+};
+pub use scan::tokens;
+pub use token::{Token, TokenKind, TokenList};
+
+#[cfg(test)]
+mod tests;
