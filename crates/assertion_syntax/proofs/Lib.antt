@@ -1,0 +1,8 @@
+pub mod Pieces
+pub mod Parts
+pub mod SpansSoFar
+pub mod Names
+pub mod Intervals
+pub mod Back
+pub mod Near
+pub mod Edges

@@ -1,0 +1,6 @@
+use Rattle.assertion_syntax.proofs.Names.{base_len-le}
+use Rattle.std.proofs.Common.{arith}
+use Rattle.assertion_syntax.proofs.reader.base.Goals as goal
+
+pub split_at-requires : goal.split_at-requires
+split_at-requires c = omega (arith, c.base_len.ensures, base_len-le c.args.rest.now)
