@@ -1,0 +1,107 @@
+-- Lists of cells that are all quiet, or all the same.
+use Rattle.std.proofs.Common.{inl, inr, ◌≡◌, ℕ, zero, suc, ◌+◌, ◌-◌, ◌<◌, ◌≤◌, Bool, true, false, ◌&&◌, List, [], ◌∷◌, length, get_or, take, Some, map, refl, sym, ap, ◌∙◌, arith}
+use Rattle.std.specs.Prelude.{slice_get}
+use Rattle.std.specs.List.{list_all}
+use Rattle.std.proofs.lemmas.List.{get_or-map, length-map}
+use Rattle.std.proofs.lemmas.Option.{get_or_from_slice_get}
+use Rattle.std.proofs.lemmas.List.Folds.{list_all_more, list_all_at}
+use Rattle.std.proofs.lemmas.Bool.{and_parts, and_from, cases_eq}
+use Rattle.wave_core.specs.Cell.{Cells, IsLawful}
+use Rattle.wave_core.specs.Slots.{slots, join_to}
+use Rattle.wave_core.proofs.Fold.{join_to-same}
+use Rattle.wave_core.proofs.Slots.{get_or-slots, length-slots}
+use Rattle.skew_algebra.specs.Wave.{cell_at, all_equal, is_steady, joined}
+
+pub all-at : {T : Type 0} (test : T → Bool) (cells : List T) (i : ℕ) (d : T) → list_all test cells ≡ true → i < length cells → test (get_or cells i d) ≡ true
+all-at test [] i d h below = absurd (omega arith)
+all-at test (v ∷ vs) zero d h below = (and_parts (test v) (list_all test vs) h).0
+all-at test (v ∷ vs) (suc i) d h below = all-at test vs i d (and_parts (test v) (list_all test vs) h).1 (omega arith)
+
+pub all-from : {T : Type 0} (test : T → Bool) (cells : List T) (d : T) → ((i : ℕ) → i < length cells → test (get_or cells i d) ≡ true) → list_all test cells ≡ true
+all-from test [] d h = refl
+all-from test (v ∷ vs) d h =
+    and_from (test v) (list_all test vs) (h 0 (omega arith)) (all-from test vs d (λ i below. h (suc i) (omega arith)))
+
+-- one test for another
+pub all-same : {T : Type 0} (test other : T → Bool) (cells : List T) → ((v : T) → test v ≡ other v) → list_all test cells ≡ list_all other cells
+all-same test other [] e = refl
+all-same test other (v ∷ vs) e = let rest : list_all test vs ≡ list_all other vs = all-same test other vs e in λ i. e v i && rest i
+
+pub all-map : {T : Type 0} (test : T → Bool) (f : T → T) (cells : List T) → list_all test (map f cells) ≡ list_all (λ v. test (f v)) cells
+all-map test f [] = refl
+all-map test f (v ∷ vs) = ap (λ b. test (f v) && b) (all-map test f vs)
+
+pub same-list : {T : Type 0} (xs ys : List T) (d : T) → length xs ≡ length ys → ((i : ℕ) → i < length xs → get_or xs i d ≡ get_or ys i d) → xs ≡ ys
+same-list [] [] d long e = refl
+same-list [] (y ∷ ys) d long e = absurd (omega arith)
+same-list (x ∷ xs) [] d long e = absurd (omega arith)
+same-list (x ∷ xs) (y ∷ ys) d long e =
+    let head : x ≡ y = e 0 (omega arith) in
+    let rest : xs ≡ ys = same-list xs ys d (omega arith) (λ i below. e (suc i) (omega arith)) in
+    λ i. head i ∷ rest i
+
+module _ {T : Type 0} (k : Cells T) (laws : IsLawful k) where
+  -- in a wave of one cell any slot is as good
+  pub equal-at : (cells : List T) (i j : ℕ) → all_equal k cells ≡ true → i < length cells → j < length cells → cell_at k cells i ≡ cell_at k cells j
+  equal-at cells i j h below below' =
+      sym (laws.same_is (cell_at k cells 0) (cell_at k cells i) (all-at (k.same (cell_at k cells 0)) cells i k.any h below))
+      ∙ laws.same_is (cell_at k cells 0) (cell_at k cells j) (all-at (k.same (cell_at k cells 0)) cells j k.any h below')
+
+  pub equal-from : (cells : List T) (v : T) → ((i : ℕ) → i < length cells → cell_at k cells i ≡ v) → all_equal k cells ≡ true
+  equal-from cells v e =
+      all-from (k.same (cell_at k cells 0)) cells k.any
+      (λ i below. let s : cell_at k cells i ≡ cell_at k cells 0 = e i below ∙ sym (e 0 (omega arith)) in
+      ap (k.same (cell_at k cells 0)) s ∙ laws.same_self (cell_at k cells 0))
+
+  -- a join permits what each of its cells does
+  pub join_to-has : (f : ℕ → T) (n i : ℕ) (before after : Bool) → i ≤ n → k.has (f i) before after ≡ true → k.has (join_to k f n) before after ≡ true
+  join_to-has f zero i before after l h = let e : i ≡ 0 = omega arith in ap (λ (z : ℕ). k.has (f z) before after) (sym e) ∙ h
+  join_to-has f (suc n) i before after l h = elim (cases_eq i (suc n)) [
+    | inl e ↦ laws.join_has_right (join_to k f n) (f (suc n)) before after (ap (λ (z : ℕ). k.has (f z) before after) (sym e) ∙ h)
+    | inr ne ↦ laws.join_has_left (join_to k f n) (f (suc n)) before after (join_to-has f n i before after (omega arith) h)
+  ]
+
+  pub joined-has : (cells : List T) (i : ℕ) (before after : Bool) → i < length cells → k.has (cell_at k cells i) before after ≡ true →
+      k.has (joined k cells) before after ≡ true
+  joined-has cells i before after below h = join_to-has (cell_at k cells) (length cells - 1) i before after (omega arith) h
+
+  -- ---- complements
+
+  pub flip-same : (v w : T) → k.same (k.flip v) (k.flip w) ≡ k.same v w
+  flip-same v w = by (k.same (k.flip v) (k.flip w)) (k.same v w) refl refl
+    where
+      by : (a b : Bool) → k.same (k.flip v) (k.flip w) ≡ a → k.same v w ≡ b → k.same (k.flip v) (k.flip w) ≡ k.same v w
+      by true true e e' = e ∙ sym e'
+      by false false e e' = e ∙ sym e'
+      by true false e e' =
+          let s : v ≡ w = sym (laws.flip_returns v) ∙ ap k.flip (laws.same_is (k.flip v) (k.flip w) e) ∙ laws.flip_returns w in
+          e ∙ sym (ap (λ z. k.same v z) (sym s) ∙ laws.same_self v)
+      by false true e e' =
+          let s : v ≡ w = laws.same_is v w e' in
+          ap (λ z. k.same (k.flip v) (k.flip z)) (sym s) ∙ laws.same_self (k.flip v) ∙ sym e'
+
+  pub steady-flipped : (cells : List T) → is_steady k (map k.flip cells) ≡ is_steady k cells
+  steady-flipped cells = all-map k.quiet k.flip cells ∙ all-same (λ v. k.quiet (k.flip v)) k.quiet cells laws.flip_quiet
+
+  pub equal-flipped : (cells : List T) → 0 < length cells → all_equal k (map k.flip cells) ≡ all_equal k cells
+  equal-flipped cells some =
+      let first : cell_at k (map k.flip cells) 0 ≡ k.flip (cell_at k cells 0) = get_or-map k.flip cells 0 k.any k.any some in
+      ap (λ v. list_all (k.same v) (map k.flip cells)) first
+      ∙ all-map (k.same (k.flip (cell_at k cells 0))) k.flip cells
+      ∙ all-same (λ v. k.same (k.flip (cell_at k cells 0)) (k.flip v)) (k.same (cell_at k cells 0)) cells (λ v. flip-same (cell_at k cells 0) v)
+
+-- ---- what a scan reads
+
+-- one slot more
+pub all-next : {T : Type 0} (test : T → Bool) (xs : List T) (i : ℕ) (c : T) → i < length xs → slice_get xs i ≡ Some c →
+    list_all test (take i xs) ≡ true → test c ≡ true → list_all test (take (i + 1) xs) ≡ true
+all-next test xs i c below is so_far here =
+    let at : get_or xs i c ≡ c = get_or_from_slice_get xs i c c is in
+    list_all_more test xs i c below ∙ and_from (list_all test (take i xs)) (test (get_or xs i c)) so_far (ap test at ∙ here)
+
+-- a slot that fails
+pub all-fails : {T : Type 0} (test : T → Bool) (xs : List T) (i : ℕ) (c : T) → i < length xs → slice_get xs i ≡ Some c →
+    test c ≡ false → list_all test xs ≡ false
+all-fails test xs i c below is here =
+    let at : get_or xs i c ≡ c = get_or_from_slice_get xs i c c is in
+    list_all_at test xs i c below (ap test at ∙ here)

@@ -1,0 +1,200 @@
+-- Waves that permit a signal, moved, complemented, folded and brought to their normal form.
+use Rattle.std.proofs.Common.{inl, inr, ◌≡◌, ℕ, zero, suc, ◌+◌, ◌-◌, ◌%◌, ◌<◌, ◌≤◌, min, Bool, true, false, not, List, length, get_or, Some, refl, sym, ap, ◌∙◌, arith, map, subst}
+use Rattle.std.specs.Prelude.{slice_get}
+use Rattle.std.proofs.lemmas.Option.{get_or_from_slice_get}
+use Rattle.std.proofs.lemmas.List.{get_or-map, length-map}
+use Rattle.std.proofs.lemmas.Bool.{cond_both}
+use Rattle.std.proofs.Math.Nat.{mod-lt, mod-le, mod-eq_of_lt}
+use Rattle.scald_base.specs.Time.{Bounds}
+use Rattle.scald_base.specs.Clock.{back}
+use Rattle.wave_core.specs.Cell.{Cells, IsLawful}
+use Rattle.wave_core.specs.Slots.{slots, earlier, later, join_to, fold_at, folded as folded_cells}
+use Rattle.wave_core.proofs.Back.{back-lt, back-zero, back-later, back-back, back-mod, back-period}
+use Rattle.wave_core.proofs.Fold.{join_to-same}
+use Rattle.wave_core.proofs.Slots.{get_or-slots, length-slots, near-cell}
+use Rattle.skew_algebra.specs.Wave.{Wave, skewed, fold, folded, cell_at, all_equal, is_steady, joined, normal, moved, flipped}
+use Rattle.skew_algebra.specs.Permits.{Signal, Permits, Keeps, KeepsFlipped, Shows, KeepsMoved}
+use Rattle.skew_algebra.proofs.Cells.{equal-at, join_to-has, joined-has}
+
+module _ {T : Type 0} (k : Cells T) where
+  -- ---- the laws of `back`, at a list of cells
+
+  pub earlier-slots : (n : ℕ) (f : ℕ → T) (t o : ℕ) → 0 < n → earlier k (slots n f) t o ≡ f (back n t o)
+  unfolding earlier
+  earlier-slots n f t o some =
+      ap (λ (l : ℕ). get_or (slots n f) (back l t o) k.any) (length-slots n f)
+      ∙ get_or-slots n (back n t o) f k.any (back-lt n t o some)
+
+  earlier-later : (cells : List T) (t m o : ℕ) → 0 < length cells → earlier k cells (t + m) (m + o) ≡ earlier k cells t o
+  unfolding earlier
+  earlier-later cells t m o some = ap (λ (z : ℕ). get_or cells z k.any) (back-later (length cells) t m o some)
+
+  earlier-earlier : (cells : List T) (t m o : ℕ) → earlier k cells (back (length cells) t m) o ≡ earlier k cells t (m + o)
+  unfolding earlier
+  earlier-earlier cells t m o = ap (λ (z : ℕ). get_or cells z k.any) (back-back (length cells) t m o)
+
+  pub earlier-period : (cells : List T) (t o : ℕ) → earlier k cells t (o % length cells) ≡ earlier k cells t o
+  unfolding earlier
+  earlier-period cells t o = ap (λ (z : ℕ). get_or cells z k.any) (back-period (length cells) t o)
+
+  pub earlier-mod : (cells : List T) (t o : ℕ) → earlier k cells (t % length cells) o ≡ earlier k cells t o
+  unfolding earlier
+  earlier-mod cells t o = ap (λ (z : ℕ). get_or cells z k.any) (back-mod (length cells) t o)
+
+  -- a slot's own cell
+  pub here-cell : (cells : List T) (t : ℕ) (c : T) → t < length cells → slice_get cells t ≡ Some c → c ≡ earlier k cells t 0
+  unfolding earlier
+  here-cell cells t c below is =
+      sym (get_or_from_slice_get cells t c k.any is)
+      ∙ ap (λ (z : ℕ). get_or cells z k.any) (sym (back-zero (length cells) t ∙ mod-eq_of_lt below))
+
+  -- a cell that code finds so many slots before
+  pub before-cell : (cells : List T) (period t by : ℕ) (c : T) → period ≡ length cells → by < length cells →
+      slice_get cells ((t + (period - by)) % period) ≡ Some c → c ≡ earlier k cells t by
+  before-cell cells period t by c e below is =
+      near-cell k cells period t by c e below (sym (get_or_from_slice_get cells ((t + (period - by)) % period) c c is))
+
+  -- one slot more
+  pub fold-next : (cells : List T) (n t : ℕ) (fold c r : T) → fold ≡ fold_at k cells n t → c ≡ earlier k cells t (n + 1) → r ≡ k.join fold c →
+      r ≡ fold_at k cells (n + 1) t
+  fold-next cells n t fold c r so_far is joins =
+      let one : n + 1 ≡ suc n = omega arith in
+      joins ∙ (λ i. k.join (so_far i) (is i))
+      ∙ ap (λ (z : ℕ). k.join (fold_at k cells n t) (earlier k cells t z)) one
+      ∙ ap (λ (z : ℕ). fold_at k cells z t) (sym one)
+
+  pub earlier-turned : (cells : List T) (m t o : ℕ) → 0 < length cells → earlier k (later k cells m) t o ≡ earlier k cells t (o + m)
+  earlier-turned cells m t o some =
+      earlier-slots (length cells) (λ p. earlier k cells p m) t o some ∙ earlier-earlier cells t o m
+
+  pub length-later : (cells : List T) (m : ℕ) → length (later k cells m) ≡ length cells
+  length-later cells m = length-slots (length cells) (λ p. earlier k cells p m)
+
+  pub fold_at-mod : (cells : List T) (n t : ℕ) → fold_at k cells n (t % length cells) ≡ fold_at k cells n t
+  fold_at-mod cells n t =
+      join_to-same k (λ o. earlier k cells (t % length cells) o) (λ o. earlier k cells t o) n (λ o l. earlier-mod cells t o)
+
+  pub earlier-folded : (w : Wave T) (t : ℕ) → 0 < length w.cells → earlier k (folded k w) t 0 ≡ fold k w t
+  earlier-folded w t some =
+      earlier-slots (length w.cells) (fold k w) t 0 some ∙ ap (fold k w) (back-zero (length w.cells) t) ∙ fold_at-mod w.cells w.skew t
+
+  -- ---- waves that permit a signal
+
+  pub Permits-after : (w : Wave T) (n v u : ℕ) (x : Signal) → v ≤ u → Permits k w n x v → Permits k w n x u
+  Permits-after w n v u x l p =
+      record { offset = p.offset; within = p.within; steps = λ t t1 tv tn. p.steps t t1 (omega arith) tn }
+
+  -- no offset of a period or more is needed
+  pub Permits-capped : (cells : List T) (skew : ℕ) → 0 < length cells → Keeps k (skewed cells skew) (skewed cells (min skew (length cells - 1)))
+  Permits-capped cells skew some n v x s =
+      record {
+        offset = s.offset % length cells;
+        within = let e : s.offset ≤ skew = s.within in omega (arith, mod-lt s.offset some, mod-le s.offset (length cells));
+        steps = λ t t1 tv tn. ap (λ c. k.has c (x (t - 1)) (x t)) (earlier-period cells t s.offset) ∙ s.steps t t1 tv tn;
+      }
+
+  -- y shows x, so many ticks later
+  pub Permits-later : (w : Wave T) (d : Bounds) → 0 < length w.cells →
+      KeepsMoved k w (skewed (later k w.cells d.min) (w.skew + (d.max - d.min))) d
+  Permits-later w d some n m v u delay x y p low high v1 uv mn shows =
+      record {
+        offset = p.offset + (delay - d.min);
+        within = let e : p.offset ≤ w.skew = p.within in omega arith;
+        steps = λ t t1 tu tm.
+            let s : k.has (earlier k w.cells (t - delay) p.offset) (x (t - delay - 1)) (x (t - delay)) ≡ true =
+            p.steps (t - delay) (omega arith) (omega arith) (omega arith) in
+            let far : p.offset + (delay - d.min) + d.min ≡ delay + p.offset = omega arith in
+            let here : t ≡ t - delay + delay = omega arith in
+            let cell : earlier k (later k w.cells d.min) t (p.offset + (delay - d.min)) ≡ earlier k w.cells (t - delay) p.offset =
+            earlier-turned w.cells d.min t (p.offset + (delay - d.min)) some
+            ∙ ap (λ (z : ℕ). earlier k w.cells t z) far
+            ∙ ap (λ (z : ℕ). earlier k w.cells z (delay + p.offset)) here
+            ∙ earlier-later w.cells (t - delay) delay p.offset some in
+            let now : y t ≡ x (t - delay) = shows t (omega arith) tm in
+            let one : t - 1 - delay ≡ t - delay - 1 = omega arith in
+            let before : y (t - 1) ≡ x (t - delay - 1) = shows (t - 1) (omega arith) (omega arith) ∙ ap x one in
+            (λ i. k.has (cell i) (before i) (now i)) ∙ s;
+      }
+
+  module _ (laws : IsLawful k) where
+    -- a wave permits no step that its fold does not
+    pub fold-has : (w : Wave T) (n v t : ℕ) (x : Signal) → Permits k w n x v → 1 ≤ t → v ≤ t → t < n → k.has (fold k w t) (x (t - 1)) (x t) ≡ true
+    fold-has w n v t x p t1 tv tn =
+        join_to-has k laws (λ o. earlier k w.cells t o) w.skew p.offset (x (t - 1)) (x t) p.within (p.steps t t1 tv tn)
+
+    pub Permits-folded : (w : Wave T) → 0 < length w.cells → Keeps k w (skewed (folded k w) 0)
+    Permits-folded w some n v x p =
+        record {
+          offset = 0;
+          within = omega arith;
+          steps = λ t t1 tv tn. ap (λ c. k.has c (x (t - 1)) (x t)) (earlier-folded w t some) ∙ fold-has w n v t x p t1 tv tn;
+        }
+
+    earlier-joined : (cells : List T) (t o : ℕ) (before after : Bool) → 0 < length cells →
+        k.has (earlier k cells t o) before after ≡ true → k.has (joined k cells) before after ≡ true
+    unfolding earlier
+    earlier-joined cells t o before after some h =
+        joined-has k laws cells (back (length cells) t o) before after (back-lt (length cells) t o some) h
+
+    earlier-equal : (cells : List T) (t o o' : ℕ) → 0 < length cells → all_equal k cells ≡ true → earlier k cells t o ≡ earlier k cells t o'
+    unfolding earlier
+    earlier-equal cells t o o' some h =
+        equal-at k laws cells (back (length cells) t o) (back (length cells) t o') h (back-lt (length cells) t o some) (back-lt (length cells) t o' some)
+
+    Permits-joined : (w : Wave T) → 0 < length w.cells → Keeps k w (skewed (slots (length w.cells) (λ p. joined k w.cells)) 0)
+    Permits-joined w some n v x p =
+        record {
+          offset = 0;
+          within = omega arith;
+          steps = λ t t1 tv tn.
+              ap (λ c. k.has c (x (t - 1)) (x t)) (earlier-slots (length w.cells) (λ p. joined k w.cells) t 0 some)
+              ∙ earlier-joined w.cells t p.offset (x (t - 1)) (x t) some (p.steps t t1 tv tn);
+        }
+
+    Permits-equal : (cells : List T) (skew : ℕ) → 0 < length cells → all_equal k cells ≡ true → Keeps k (skewed cells skew) (skewed cells 0)
+    Permits-equal cells skew some h n v x p =
+        record {
+          offset = 0;
+          within = omega arith;
+          steps = λ t t1 tv tn. ap (λ c. k.has c (x (t - 1)) (x t)) (earlier-equal cells t 0 p.offset some h) ∙ p.steps t t1 tv tn;
+        }
+
+    pub Permits-normal : (w : Wave T) → 0 < length w.cells → Keeps k w (normal k w)
+    unfolding normal
+    Permits-normal w some n v x p =
+        cond_both (is_steady k w.cells) _ _ (λ (r : Wave T). Permits k r n x v) (λ q. Permits-joined w some n v x p)
+        (λ q. cond_both (all_equal k w.cells) 0 (min w.skew (length w.cells - 1)) (λ (s : ℕ). Permits k (skewed w.cells s) n x v)
+        (λ e. Permits-equal w.cells w.skew some e n v x p)
+        (λ e. Permits-capped w.cells w.skew some n v x p))
+
+    pub Permits-moved : (w : Wave T) (d : Bounds) → 0 < length w.cells → KeepsMoved k w (moved k w d) d
+    unfolding moved
+    Permits-moved w d some n m v u delay x y p low high v1 uv mn shows =
+        Permits-normal (skewed (later k w.cells d.min) (w.skew + (d.max - d.min)))
+        (let l : length (later k w.cells d.min) ≡ length w.cells = length-later w.cells d.min in omega (arith, l, some))
+        m u y (Permits-later w d some n m v u delay x y p low high v1 uv mn shows)
+
+    pub Permits-flipped : (w : Wave T) → 0 < length w.cells → KeepsFlipped k w (flipped k w)
+    unfolding earlier
+    Permits-flipped w some n v x p =
+        record {
+          offset = p.offset;
+          within = p.within;
+          steps = λ t t1 tv tn.
+              let cell : get_or (map k.flip w.cells) (back (length (map k.flip w.cells)) t p.offset) k.any ≡ k.flip (get_or w.cells (back (length w.cells) t p.offset) k.any) =
+              ap (λ (l : ℕ). get_or (map k.flip w.cells) (back l t p.offset) k.any) (length-map w.cells k.flip)
+              ∙ get_or-map k.flip w.cells (back (length w.cells) t p.offset) k.any k.any (back-lt (length w.cells) t p.offset some) in
+              ap (λ c. k.has c (not (x (t - 1))) (not (x t))) cell
+              ∙ laws.flip_has (get_or w.cells (back (length w.cells) t p.offset) k.any) (x (t - 1)) (x t) ∙ p.steps t t1 tv tn;
+        }
+
+  -- the same wave by another name
+  pub keeps-by : (w u r : Wave T) → r ≡ u → Keeps k w u → Keeps k w r
+  keeps-by w u r e h n v x p = subst (λ (z : Wave T). Permits k z n x v) (sym e) (h n v x p)
+
+  pub keeps_flipped-by : (w u r : Wave T) → r ≡ u → KeepsFlipped k w u → KeepsFlipped k w r
+  keeps_flipped-by w u r e h n v x p = subst (λ (z : Wave T). Permits k z n (λ t. not (x t)) v) (sym e) (h n v x p)
+
+  pub keeps_moved-by : (w u r : Wave T) (d : Bounds) → r ≡ u → KeepsMoved k w u d → KeepsMoved k w r d
+  keeps_moved-by w u r d e h n m v u' delay x y p low high v1 uv mn shows =
+      subst (λ (z : Wave T). Permits k z m y u') (sym e) (h n m v u' delay x y p low high v1 uv mn shows)

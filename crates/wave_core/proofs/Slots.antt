@@ -1,0 +1,106 @@
+-- Lists with a cell for each slot.
+use Rattle.std.proofs.Common.{◌≡◌, ℕ, zero, suc, ◌+◌, ◌-◌, ◌%◌, ◌<◌, List, [], ◌∷◌, ◌++◌, length, get_or, take, map, refl, sym, ap, ◌∙◌, arith, add-one}
+use Rattle.std.specs.List.{AllZip, zip}
+use Rattle.std.proofs.lemmas.List.{take_more}
+use Rattle.std.proofs.Math.Nat.{mod-eq_of_lt}
+use Rattle.scald_base.specs.Clock.{back}
+use Rattle.wave_core.specs.Cell.{Cells}
+use Rattle.wave_core.specs.Slots.{IsPeriod, slots_from, slots, earlier}
+use Rattle.wave_core.proofs.Back.{back-lt, back-sub}
+
+length-slots_from : {T : Type 0} (n i : ℕ) (f : ℕ → T) → length (slots_from n i f) ≡ n
+length-slots_from zero i f = refl
+length-slots_from (suc n) i f = ap suc (length-slots_from n (i + 1) f)
+
+get_or-slots_from : {T : Type 0} (n i k : ℕ) (f : ℕ → T) (d : T) → k < n → get_or (slots_from n i f) k d ≡ f (i + k)
+get_or-slots_from zero i k f d below = absurd (omega arith)
+get_or-slots_from (suc n) i zero f d below = ap f (omega arith)
+get_or-slots_from (suc n) i (suc k) f d below = get_or-slots_from n (i + 1) k f d (omega arith) ∙ ap f (omega arith)
+
+pub length-slots : {T : Type 0} (n : ℕ) (f : ℕ → T) → length (slots n f) ≡ n
+length-slots n f = length-slots_from n 0 f
+
+pub get_or-slots : {T : Type 0} (n k : ℕ) (f : ℕ → T) (d : T) → k < n → get_or (slots n f) k d ≡ f k
+get_or-slots n k f d below = get_or-slots_from n 0 k f d below ∙ ap f (omega arith)
+
+slots_from-next : {T : Type 0} (n i : ℕ) (f : ℕ → T) → slots_from n i f ++ f (i + n) ∷ [] ≡ slots_from (suc n) i f
+slots_from-next zero i f = ap (λ (j : ℕ). f j ∷ []) (omega arith)
+slots_from-next {T} (suc n) i f =
+    ap (λ (l : List T). f i ∷ l) (ap (λ (j : ℕ). slots_from n (i + 1) f ++ f j ∷ []) (omega arith) ∙ slots_from-next n (i + 1) f)
+
+-- one slot more
+pub slots-next : {T : Type 0} (n : ℕ) (f : ℕ → T) → slots n f ++ f n ∷ [] ≡ slots (n + 1) f
+slots-next {T} n f =
+    ap (λ (j : ℕ). slots n f ++ f j ∷ []) (omega arith) ∙ slots_from-next n 0 f ∙ ap (λ (m : ℕ). slots m f) (sym (add-one n))
+
+-- what a loop over the slots has put together
+pub slots-push : {T : Type 0} (n : ℕ) (f : ℕ → T) (cells : List T) (c : T) → cells ≡ slots n f → c ≡ f n → cells ++ c ∷ [] ≡ slots (n + 1) f
+slots-push {T} n f cells c so_far is = rw (so_far, is) (slots-next n f)
+
+AllZip-push : {A B : Type 0} (R : A → B → Type 0) (xs : List A) (ys : List B) (x : A) (y : B) → AllZip R xs ys → R x y →
+    AllZip R (xs ++ x ∷ []) (ys ++ y ∷ [])
+AllZip-push R [] [] x y h r = (r, tt)
+AllZip-push R [] (b ∷ ys) x y h r = absurd h
+AllZip-push R (a ∷ xs) [] x y h r = absurd h
+AllZip-push R (a ∷ xs) (b ∷ ys) x y h r = (h.0, AllZip-push R xs ys x y h.1 r)
+
+-- one cell more, by what is related to it
+pub related-push : {A B : Type 0} (R : A → B → Type 0) (xs : List A) (ys : List B) (i : ℕ) (x : A) (y : B) → i < length xs → x ≡ get_or xs i x → R x y →
+    AllZip R (take i xs) ys → AllZip R (take (i + 1) xs) (ys ++ y ∷ [])
+related-push R xs ys i x y below is r so_far =
+    let next : take (i + 1) xs ≡ take i xs ++ x ∷ [] = take_more xs i x below ∙ ap (λ c. take i xs ++ c ∷ []) (sym is) in
+    rw next (AllZip-push R (take i xs) ys x y so_far r)
+
+pub length-related : {A B : Type 0} (R : A → B → Type 0) (xs : List A) (ys : List B) → AllZip R xs ys → length ys ≡ length xs
+length-related R [] [] h = refl
+length-related R [] (y ∷ ys) h = absurd h
+length-related R (x ∷ xs) [] h = absurd h
+length-related R (x ∷ xs) (y ∷ ys) h = ap suc (length-related R xs ys h.1)
+
+pub length-zip : {A B : Type 0} (xs : List A) (ys : List B) → length xs ≡ length ys → length (zip xs ys) ≡ length xs
+length-zip [] ys e = refl
+length-zip (x ∷ xs) [] e = absurd (omega arith)
+length-zip (x ∷ xs) (y ∷ ys) e = ap suc (length-zip xs ys (omega arith))
+
+-- the pair of the two items at a place
+pub zip-at : {A B : Type 0} (xs : List A) (ys : List B) (i : ℕ) (x : A) (y : B) → i < length xs → i < length ys → x ≡ get_or xs i x → y ≡ get_or ys i y →
+    (x, y) ≡ get_or (zip xs ys) i (x, y)
+zip-at [] ys i x y below below' is is' = absurd (omega arith)
+zip-at (a ∷ xs) [] i x y below below' is is' = absurd (omega arith)
+zip-at (a ∷ xs) (b ∷ ys) zero x y below below' is is' = λ i. (is i, is' i)
+zip-at (a ∷ xs) (b ∷ ys) (suc i) x y below below' is is' = zip-at xs ys i x y (omega arith) (omega arith) is is'
+
+-- a place within a list has a cell, whatever stands for none
+pub get_or-within : {T : Type 0} (xs : List T) (i : ℕ) (d e : T) → i < length xs → get_or xs i d ≡ get_or xs i e
+get_or-within [] i d e below = absurd (omega arith)
+get_or-within (x ∷ xs) zero d e below = refl
+get_or-within (x ∷ xs) (suc i) d e below = get_or-within xs i d e (omega arith)
+
+-- a slot of a turned wave, by the place where code finds it
+pub turned-cell : {T : Type 0} (k : Cells T) (cells : List T) (period slot by : ℕ) (c : T) → period ≡ length cells → 0 < length cells →
+    c ≡ get_or cells ((slot + (period - by % period)) % period) c → c ≡ earlier k cells slot by
+unfolding earlier
+turned-cell k cells period slot by c e pos is =
+    (rw (e, back-sub (length cells) slot by pos) at is) ∙ get_or-within cells (back (length cells) slot by) c k.any (back-lt (length cells) slot by pos)
+
+pub period-length : {T : Type 0} (xs : List T) (n : ℕ) → length xs ≡ n → IsPeriod n → IsPeriod (length xs)
+period-length xs n e p = rw e p
+
+-- the same, for fewer slots than the period has
+pub near-cell : {T : Type 0} (k : Cells T) (cells : List T) (period slot by : ℕ) (c : T) → period ≡ length cells → by < length cells →
+    c ≡ get_or cells ((slot + (period - by)) % period) c → c ≡ earlier k cells slot by
+near-cell k cells period slot by c e below is =
+    let pos : 0 < period = omega arith in
+    let small : by % period ≡ by = mod-eq_of_lt (omega (arith, e)) in
+    turned-cell k cells period slot by c e (omega arith) (rw small is)
+
+-- what a call gives of each item, as a list
+pub mapped : {A B : Type 0} (R : A → B → Type 0) (f : A → B) (xs : List A) (ys : List B) → ((x : A) (y : B) → R x y → y ≡ f x) →
+    AllZip R xs ys → ys ≡ map f xs
+mapped R f [] [] is h = refl
+mapped R f [] (y ∷ ys) is h = absurd h
+mapped R f (x ∷ xs) [] is h = absurd h
+mapped R f (x ∷ xs) (y ∷ ys) is h =
+    let head : y ≡ f x = is x y h.0 in
+    let rest : ys ≡ map f xs = mapped R f xs ys is h.1 in
+    λ i. head i ∷ rest i

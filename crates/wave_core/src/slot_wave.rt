@@ -1,0 +1,148 @@
+//! A wave that keeps its cells one by one.
+
+ghost use Rattle.std.specs.Prelude.{◌≡◌, ◌+◌, ◌^◌, ◌<◌, OnOk, length, min};
+ghost use Rattle.wave_core.specs.Fold.{tails as tails_of};
+ghost use Rattle.wave_core.specs.Slots.{IsPeriod, earlier, fold_at, slots};
+
+use crate::cell::Cell;
+use crate::cyclic_wave::CyclicWave;
+use scald_base::NoMemory;
+use std::alloc::Global;
+use std::cmp::min;
+
+/// The cells of a wave, slot by slot.
+#[derive(Drop, Debug)]
+pub struct SlotWave<T> {
+    cells: Vec<T>,
+    ghost sized: { IsPeriod (length cells.items) },
+}
+
+impl<T: Cell + Drop> SlotWave<T> {
+    /// The cell `back` slots before a slot, which may lie past the period.
+    fn cell_before(&self, slot: usize, back: usize) -> T
+        requires near { slot < 2 ^ 32 }
+        requires within { back < length self.now.cells.items }
+        ensures { result ≡ earlier T.kind self.now.cells.items slot back }
+    {
+        let period = self.cells.len();
+        self.cells[(slot + (period - back)) % period]
+    }
+
+    /// Puts the joins of the last cells of the block that begins at slot `from` in place of what
+    /// was in `tails`: of its last cell, of its last two cells, and so on to all `back + 1` of them.
+    fn find_tails(&self, tails: &mut Vec<T>, from: usize, back: usize) -> Result<(), NoMemory>
+        requires near { from < length self.now.cells.items }
+        requires within { back < length self.now.cells.items }
+        ensures { OnOk result (tails.new.items ≡ tails_of T.kind self.now.cells.items back from) }
+    {
+        tails.clear();
+        let mut joined = self.cell_before(from + back, back);
+        tails.push(joined)?;
+        for n in 0..back {
+            joined = self.cell_before(from + (back - (n + 1)), back).join(joined);
+            tails.push(joined)?;
+        }
+        Ok(())
+    }
+
+    /// Puts the folds of a block behind those of the slots before it, from the tails of the block
+    /// and the first cells of the next.
+    fn push_block(&self, cells: &mut Vec<T>, tails: &[T], back: usize) -> Result<(), NoMemory>
+        requires near { length cells.old.items < length self.now.cells.items }
+        requires within { back < length self.now.cells.items }
+        requires so_far { cells.old.items ≡ slots (length cells.old.items) (fold_at T.kind self.now.cells.items back) }
+        requires tails { tails.now ≡ tails_of T.kind self.now.cells.items back (length cells.old.items) }
+        ensures { OnOk result (cells.new.items ≡ slots (min (length cells.old.items + (back + 1)) (length self.now.cells.items)) (fold_at T.kind self.now.cells.items back)) }
+    {
+        let from = cells.len();
+        let end = min(from + (back + 1), self.cells.len());
+        cells.push(tails[back])?;
+        let mut joined = self.cell_before(from + (back + 1), back);
+        for slot in from + 1..end {
+            cells.push(tails[from + back - slot].join(joined))?;
+            joined = joined.join(self.cell_before(slot + (back + 1), back));
+        }
+        Ok(())
+    }
+}
+
+impl<T: Cell + Drop> CyclicWave for SlotWave<T> {
+    type Item = T;
+
+    ghost cells = { λ w. w.cells.items };
+
+    ghost sized = { λ w. w.sized };
+
+    fn uniform(alloc: Global, period: u16, cell: T) -> Result<SlotWave<T>, NoMemory> {
+        let mut cells = Vec::with_capacity(alloc, period as usize)?;
+        for _slot in 0..period {
+            cells.push(cell)?;
+        }
+        Ok(SlotWave { cells })
+    }
+
+    fn from_slots(alloc: Global, slots: &[T]) -> Result<SlotWave<T>, NoMemory> {
+        let cells = Vec::from_slice(alloc, slots)?;
+        Ok(SlotWave { cells })
+    }
+
+    fn period(&self) -> u16 {
+        self.cells.len() as u16
+    }
+
+    fn at(&self, slot: u16) -> T {
+        self.cells[slot as usize]
+    }
+
+    fn equal(&self, other: &SlotWave<T>) -> bool {
+        self.cells == other.cells
+    }
+
+    fn rotate(&self, alloc: Global, by: u16) -> Result<SlotWave<T>, NoMemory> {
+        let period = self.cells.len();
+        let ahead = period - by as usize % period;
+        let mut cells = Vec::with_capacity(alloc, period)?;
+        for slot in 0..period {
+            cells.push(self.cells[(slot + ahead) % period])?;
+        }
+        Ok(SlotWave { cells })
+    }
+
+    fn map<F: Fn(T) -> T>(&self, alloc: Global, f: F) -> Result<SlotWave<T>, NoMemory> {
+        let mut cells = Vec::with_capacity(alloc, self.cells.len())?;
+        for cell in &self.cells {
+            cells.push(f(*cell))?;
+        }
+        Ok(SlotWave { cells })
+    }
+
+    fn zip<F: Fn(T, T) -> T>(
+        &self,
+        alloc: Global,
+        other: &SlotWave<T>,
+        f: F,
+    ) -> Result<SlotWave<T>, NoMemory> {
+        let mut cells = Vec::with_capacity(alloc, self.cells.len())?;
+        for (slot, cell) in self.cells.iter().enumerate() {
+            cells.push(f(*cell, other.cells[slot]))?;
+        }
+        Ok(SlotWave { cells })
+    }
+
+    fn fold(&self, alloc: Global, back: u16) -> Result<SlotWave<T>, NoMemory> {
+        let period = self.cells.len();
+        let back = back as usize;
+        let mut cells = Vec::with_capacity(alloc, period)?;
+        let mut tails = Vec::with_capacity(alloc, back + 1)?;
+        while cells.len() < period {
+            self.find_tails(&mut tails, cells.len(), back)?;
+            self.push_block(&mut cells, &tails, back)?;
+        }
+        Ok(SlotWave { cells })
+    }
+
+    fn copy(&self, alloc: Global) -> Result<SlotWave<T>, NoMemory> {
+        let cells = Vec::from_slice(alloc, &self.cells)?;
+        Ok(SlotWave { cells })
+    }
+}
