@@ -7,7 +7,7 @@ use Rattle.scald_base.specs.declared.assertion.ClockSpec.{ClockSpec}
 use Rattle.scald_base.specs.Time.{Header, period}
 use Rattle.scald_base.specs.Clock.{ideal, back, IsEdge, IsInRegion, SharesSlot, IsTooWide}
 use Rattle.assertion_syntax.specs.Slots.{steps, AreNear}
-use Rattle.assertion_syntax.proofs.Back.{mod-small, back-zero, back-one, back-mod, back-later, back-sooner, back-periods, back-to, next-period, period-apart}
+use Rattle.scald_base.proofs.Back.{mod-small, back-zero, back-one, back-mod, back-later, back-sooner, back-periods, back-to, next-period, period-apart}
 
 -- ---- an edge, by its test
 

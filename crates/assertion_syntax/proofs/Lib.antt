@@ -3,6 +3,5 @@ pub mod Parts
 pub mod SpansSoFar
 pub mod Names
 pub mod Intervals
-pub mod Back
 pub mod Near
 pub mod Edges

@@ -7,3 +7,4 @@ pub mod Refusal
 pub mod Device
 pub mod Memory
 pub mod Word
+pub mod Signal

@@ -4,7 +4,7 @@
 //! The layers above read a text with `read_all` and write an answer with `write_all`. `specs/Device`
 //! says what a source and a sink promise, and `specs/Memory` what those in memory do at each call;
 //! `specs/Time`, `Span`, `Clock`, `Quiet` and `Fitting` say what an assertion means on the ticks of a
-//! period.
+//! period, and `specs/Signal` what a signal is.
 #![tactic(auto)]
 
 mod assertion;
@@ -15,6 +15,7 @@ mod refusal;
 mod sink;
 mod source;
 mod standard;
+mod sure;
 mod transfer;
 
 pub use assertion::{AssertSpec, ClockSpec, Span, Spans};
@@ -25,6 +26,7 @@ pub use refusal::{Place, Refusal, RefusalKind, Stop};
 pub use sink::Sink;
 pub use source::{Failed, Source};
 pub use standard::{StdSink, StdSource};
+pub use sure::{CountSink, SureSource};
 pub use transfer::{ReadEnd, WriteFault, read_all, write_all};
 
 #[cfg(test)]

@@ -3,8 +3,8 @@
 ghost use Rattle.std.specs.Prelude.{◌-◌, ◌^◌, ◌<◌, ◌≤◌};
 
 use crate::{
-    Bytes, Calls, List, MemorySink, MemorySource, NoMemory, ReadEnd, StdSink, StdSource,
-    WriteFault, read_all, write_all,
+    Bytes, Calls, CountSink, List, MemorySink, MemorySource, NoMemory, ReadEnd, StdSink, StdSource,
+    SureSource, WriteFault, read_all, write_all,
 };
 use std::alloc::Global;
 use std::process::Abort;
@@ -22,7 +22,7 @@ fn reading(
     requires piece { 1 ≤ piece }
     requires limit { limit < 2 ^ 32 - 1 }
 {
-    let mut source = MemorySource::new(bytes_of(alloc, TEXT)?, piece, calls_of(alloc, failing)?);
+    let mut source = MemorySource::new(Bytes::of(alloc, TEXT)?, piece, calls_of(alloc, failing)?);
     let outcome = read_all(alloc, &mut source, limit);
     Ok((outcome, source))
 }
@@ -151,10 +151,23 @@ fn writes_to_a_standard_writer(rt: HostRuntime) -> Result<(), Fail> {
     Ok(())
 }
 
-fn bytes_of(alloc: Global, bytes: &[u8]) -> Result<Bytes, NoMemory> {
-    let mut list = List::new(alloc);
-    list.extend(bytes)?;
-    Ok(list)
+#[test]
+fn reads_a_sure_source(rt: HostRuntime) -> Result<(), Fail> {
+    let mut source = SureSource::new(Bytes::of(rt.alloc(), TEXT)?);
+    match read_all(rt.alloc(), &mut source, 26) {
+        Ok(bytes) => assert_eq!(rt; bytes.as_slice(), TEXT),
+        Err(end) => assert_eq!(rt; Some(end), None),
+    }
+    assert!(rt; source.left().is_empty());
+    Ok(())
+}
+
+#[test]
+fn counts_what_is_written(rt: HostRuntime) {
+    let mut sink = CountSink::new();
+    assert_eq!(rt; write_all(&mut sink, TEXT), Ok(()));
+    assert_eq!(rt; write_all(&mut sink, b"abc"), Ok(()));
+    assert_eq!(rt; sink.length(), 29);
 }
 
 fn calls_of(alloc: Global, calls: &[u32]) -> Result<Calls, NoMemory> {

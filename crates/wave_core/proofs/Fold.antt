@@ -4,7 +4,7 @@ use Rattle.scald_base.specs.Clock.{back}
 use Rattle.wave_core.specs.Cell.{Cells, IsLawful}
 use Rattle.wave_core.specs.Slots.{slots, earlier, join_to, fold_at}
 use Rattle.wave_core.specs.Fold.{span, tail, tails}
-use Rattle.wave_core.proofs.Back.{back-later}
+use Rattle.scald_base.proofs.Back.{back-later}
 use Rattle.wave_core.proofs.Slots.{get_or-slots, length-slots}
 
 module _ {T : Type 0} (k : Cells T) where

@@ -6,7 +6,7 @@ use Rattle.std.proofs.Math.Nat.{mod-eq_of_lt}
 use Rattle.scald_base.specs.Clock.{back}
 use Rattle.wave_core.specs.Cell.{Cells}
 use Rattle.wave_core.specs.Slots.{IsPeriod, slots_from, slots, earlier}
-use Rattle.wave_core.proofs.Back.{back-lt, back-sub}
+use Rattle.scald_base.proofs.Back.{back-lt, back-sub}
 
 length-slots_from : {T : Type 0} (n i : ℕ) (f : ℕ → T) → length (slots_from n i f) ≡ n
 length-slots_from zero i f = refl
