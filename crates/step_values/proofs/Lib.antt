@@ -1,2 +1,5 @@
 pub mod Permits
 pub mod Bytes
+pub mod Examples
+pub mod Filled
+pub mod Sound

@@ -1,3 +1,8 @@
 pub mod Steps
 pub mod StepSet
 pub mod Laws
+pub mod Cell
+pub mod Each
+pub mod Lawful
+pub mod Image
+pub mod Table

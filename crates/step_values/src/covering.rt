@@ -1,15 +1,15 @@
 //! From a value to its steps, and back.
 
-ghost use Rattle.std.specs.Prelude.{◌≡◌, ◌<◌, Bool};
-ghost use Rattle.step_values.specs.StepSet.{in_set};
-ghost use Rattle.step_values.specs.Steps.{cover, has, join};
+ghost use Rattle.std.specs.Prelude.{◌≡◌, ◌<◌};
+ghost use Rattle.step_values.specs.StepSet.{in_set, IsSet};
+ghost use Rattle.step_values.specs.Steps.{cover, has};
 
 use crate::step_set::StepSet;
 use crate::value::Value;
 
 /// The steps that a value permits.
 pub fn steps(v: Value) -> StepSet
-    ensures permitted { (before after : Bool) → in_set result before after ≡ has v before after }
+    ensures permitted { IsSet result (has v) }
     ensures inhabited { 0 < result }
 {
     match v {
@@ -22,10 +22,17 @@ pub fn steps(v: Value) -> StepSet
     }
 }
 
-/// The least of 0, 1, S, R, F and C that permits each step of the set, or U where all four steps are
-/// there and `saw_unknown` says that they come of an unknown value.
+/// The least of 0, 1, S, R, F and C that permits each step of the set, or U where all four steps
+/// are there and `saw_unknown` says that they come of an unknown value.
 pub fn cover(s: StepSet, saw_unknown: bool) -> Value
     requires { 0 < s }
+    ensures { result ≡ cover (in_set s) saw_unknown }
+{
+    least_cover(s, saw_unknown)
+}
+
+/// That cover, which is 1 where the set has no step.
+pub fn least_cover(s: StepSet, saw_unknown: bool) -> Value
     ensures { result ≡ cover (in_set s) saw_unknown }
 {
     let (low, high) = (s.contains(false, false), s.contains(true, true));
@@ -37,15 +44,5 @@ pub fn cover(s: StepSet, saw_unknown: bool) -> Value
         (false, false) if low && high => Value::S,
         (false, false) if low => Value::Zero,
         (false, false) => Value::One,
-    }
-}
-
-impl Value {
-    /// The least value that permits what either permits; U where one of them is U.
-    pub fn join(self, other: Value) -> Value
-        ensures { result ≡ join self other }
-    {
-        let saw_unknown = self.is_unknown() | other.is_unknown();
-        cover(steps(self).union(steps(other)), saw_unknown)
     }
 }

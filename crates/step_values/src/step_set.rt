@@ -1,9 +1,45 @@
 //! A set of steps.
 
-ghost use Rattle.std.specs.Prelude.{◌≡◌, ◌<◌, ◌==◌, ◌||◌, ℕ, Bool, false, true};
-ghost use Rattle.step_values.specs.StepSet.{in_set, step_bit};
+ghost use Rattle.std.specs.Prelude.{◌≡◌, ◌<◌, ◌==◌, ◌&&◌, ◌||◌, ℕ, Bool, false, true};
+ghost use Rattle.step_values.specs.Image.{one_step};
+ghost use Rattle.step_values.specs.StepSet.{either, followed_by, in_set, IsSet, only_if, step_bit};
 
 use std::marker::Model;
+
+/// A step: a bit before and the bit after.
+#[derive(Clone, Copy, PartialEq, Eq, Debug)]
+pub struct Step {
+    /// The bit before.
+    pub before: bool,
+    /// The bit after.
+    pub after: bool,
+}
+
+impl Step {
+    /// 0 before and after.
+    pub const LOW: Step = Step {
+        before: false,
+        after: false,
+    };
+
+    /// From 0 to 1.
+    pub const RISE: Step = Step {
+        before: false,
+        after: true,
+    };
+
+    /// From 1 to 0.
+    pub const FALL: Step = Step {
+        before: true,
+        after: false,
+    };
+
+    /// 1 before and after.
+    pub const HIGH: Step = Step {
+        before: true,
+        after: true,
+    };
+}
 
 /// A set of steps in a byte: bit 1 for the step from 0 to 0, 2 for 0 to 1, 4 for 1 to 0, 8 for 1 to 1.
 /// A contract sees the byte.
@@ -36,13 +72,54 @@ impl StepSet {
         }
     }
 
+    /// No step.
+    pub fn none() -> StepSet
+        ensures { IsSet result (λ before after. false) }
+    {
+        StepSet { bits: 0 }
+    }
+
+    /// The one step from `before` to `after`, where it is wanted.
+    pub fn one_if(wanted: bool, before: bool, after: bool) -> StepSet
+        ensures { (b b' : Bool) → in_set result b b' ≡ (wanted && one_step before after b b') }
+    {
+        if wanted {
+            StepSet {
+                bits: step_bit(before, after),
+            }
+        } else {
+            StepSet::none()
+        }
+    }
+
     /// The steps of either.
     pub fn union(self, other: StepSet) -> StepSet
-        ensures { (before after : Bool) → in_set result before after ≡ (in_set self before after || in_set other before after) }
+        ensures { IsSet result (either (in_set self) (in_set other)) }
     {
         StepSet {
             bits: self.bits | other.bits,
         }
+    }
+
+    /// The steps of `next` that begin where some step of this ends.
+    pub fn followed_by(self, next: StepSet) -> StepSet
+        ensures { IsSet result (followed_by (in_set self) (in_set next)) }
+    {
+        let low = self.contains(false, false) || self.contains(true, false);
+        let high = self.contains(false, true) || self.contains(true, true);
+        StepSet::of(
+            low && next.contains(false, false),
+            low && next.contains(false, true),
+            high && next.contains(true, false),
+            high && next.contains(true, true),
+        )
+    }
+
+    /// Itself where it is wanted, else no step.
+    pub fn only_if(self, wanted: bool) -> StepSet
+        ensures { IsSet result (only_if wanted (in_set self)) }
+    {
+        if wanted { self } else { StepSet::none() }
     }
 
     /// Whether the step from `before` to `after` is in it.

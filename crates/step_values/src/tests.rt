@@ -1,6 +1,11 @@
 //! Tables of values, worked out on paper from the steps that each permits.
 
-use crate::{StepSet, Value, cover, steps};
+use crate::{
+    Step, StepSet, Table, Value, and2, cover, latch, latch_rs, look2, look3, look4, mux2, or2, reg,
+    reg_rs, steps, xor2,
+};
+use std::process::Abort;
+use wave_core::Cell;
 
 #[test]
 fn letters(rt: HostRuntime) {
@@ -38,7 +43,7 @@ fn steps_of_values(rt: HostRuntime) {
         );
         assert_eq!(rt; value.may_rise(), rises, "of {value:?}");
         assert_eq!(rt; value.may_fall(), falls, "of {value:?}");
-        assert_eq!(rt; value.is_quiet(), !rises && !falls, "of {value:?}");
+        assert_eq!(rt; value.quiet(), !rises && !falls, "of {value:?}");
     }
 }
 
@@ -68,6 +73,15 @@ fn covers(rt: HostRuntime) {
         assert_eq!(rt; cover(set, false), known, "of {set:?}");
         assert_eq!(rt; cover(set, true), unknown, "of {set:?}");
     }
+}
+
+/// What the names of the four steps stand for.
+#[test]
+fn named_steps(rt: HostRuntime) {
+    assert!(rt; Value::Zero.permits(Step::LOW) && !Value::One.permits(Step::LOW));
+    assert!(rt; Value::R.permits(Step::RISE) && !Value::F.permits(Step::RISE));
+    assert!(rt; Value::F.permits(Step::FALL) && !Value::R.permits(Step::FALL));
+    assert!(rt; Value::One.permits(Step::HIGH) && !Value::Zero.permits(Step::HIGH));
 }
 
 #[test]
@@ -106,4 +120,113 @@ fn bytes_and_flips(rt: HostRuntime) {
     assert_eq!(rt; Value::R.flip(), Value::F);
     assert_eq!(rt; Value::Zero.flip(), Value::One);
     assert_eq!(rt; Value::S.flip(), Value::S);
+}
+
+/// The values in the order of the rows and columns below.
+const ORDER: [Value; 7] = [
+    Value::Zero,
+    Value::One,
+    Value::S,
+    Value::R,
+    Value::F,
+    Value::C,
+    Value::U,
+];
+
+/// Looks at each entry: a row for each first value, and a letter for each second one.
+fn expect_rows(rt: &impl Abort, name: &str, table: &Table<49>, rows: &[u8]) {
+    for (row, first) in ORDER.iter().enumerate() {
+        for (column, second) in ORDER.iter().enumerate() {
+            let letter = look2(table, *first, *second).letter();
+            assert_eq!(rt;
+                Some(&letter),
+                rows.get(8 * row + column),
+                "{name} of {first:?}, {second:?}"
+            );
+        }
+    }
+}
+
+#[test]
+fn ands(rt: HostRuntime) {
+    let rows = b"0000000 01SRFCU 0SSRFCU 0RRRCCU 0FFCFCU 0CCCCCU 0UUUUUU";
+    expect_rows(&rt, "AND", &and2(), rows);
+}
+
+#[test]
+fn ors(rt: HostRuntime) {
+    let rows = b"01SRFCU 1111111 S1SRFCU R1RRCCU F1FCFCU C1CCCCU U1UUUUU";
+    expect_rows(&rt, "OR", &or2(), rows);
+}
+
+#[test]
+fn exclusive_ors(rt: HostRuntime) {
+    let rows = b"01SRFCU 10SFRCU SSSCCCU RFCCCCU FRCCCCU CCCCCCU UUUUUUU";
+    expect_rows(&rt, "XOR", &xor2(), rows);
+}
+
+#[test]
+fn latches(rt: HostRuntime) {
+    let rows = b"SSSSSSS 01SRFCU SSSRFCU FRCCCCU SSSRFCU FRCCCCU FRUUUUU";
+    expect_rows(&rt, "LATCH", &latch(), rows);
+}
+
+/// A register by its clock.
+#[test]
+fn registers(rt: HostRuntime) {
+    let letters = b"SSSCSCU";
+    for (column, clock) in ORDER.iter().enumerate() {
+        assert_eq!(rt;
+            Some(&reg(*clock).letter()),
+            letters.get(column),
+            "of {clock:?}"
+        );
+    }
+}
+
+#[test]
+fn multiplexers(rt: HostRuntime) {
+    let table = mux2();
+    let entries = [
+        (Value::S, Value::Zero, Value::One, Value::S),
+        (Value::R, Value::Zero, Value::One, Value::R),
+        (Value::F, Value::Zero, Value::One, Value::F),
+        (Value::R, Value::S, Value::S, Value::C),
+        (Value::U, Value::One, Value::One, Value::One),
+        (Value::Zero, Value::C, Value::U, Value::U),
+    ];
+    for (select, a, b, want) in entries {
+        assert_eq!(rt;
+            look3(&table, select, a, b),
+            want,
+            "of {select:?}, {a:?} and {b:?}"
+        );
+    }
+}
+
+#[test]
+fn registers_with_set_and_reset(rt: HostRuntime) {
+    let table = reg_rs();
+    let entries = [
+        (Value::Zero, Value::One, Value::Zero, Value::One),
+        (Value::Zero, Value::Zero, Value::R, Value::F),
+        (Value::R, Value::Zero, Value::Zero, Value::C),
+        (Value::Zero, Value::One, Value::One, Value::C),
+    ];
+    for (clock, set, reset, want) in entries {
+        assert_eq!(rt;
+            look3(&table, clock, set, reset),
+            want,
+            "of {clock:?}, {set:?}, {reset:?}"
+        );
+    }
+}
+
+#[test]
+fn latches_with_set_and_reset(rt: HostRuntime) {
+    let table = latch_rs();
+    let risen = look4(&table, Value::Zero, Value::S, Value::R, Value::Zero);
+    assert_eq!(rt; risen, Value::R);
+    let followed = look4(&table, Value::One, Value::Zero, Value::Zero, Value::Zero);
+    assert_eq!(rt; followed, Value::Zero);
 }

@@ -1,7 +1,9 @@
 //! A value.
 
 ghost use Rattle.std.specs.Prelude.{◌≡◌, false, true};
-ghost use Rattle.step_values.specs.Steps.{flip, has, is_quiet, is_unknown, letter_of};
+ghost use Rattle.step_values.specs.Steps.{has, is_unknown, letter_of};
+
+use crate::step_set::Step;
 
 /// What a net may do in a slot of the period: the set of steps that it may make there, a step being
 /// the bit before and the bit after.
@@ -39,13 +41,6 @@ impl Value {
         }
     }
 
-    /// Whether it permits no change.
-    pub fn is_quiet(self) -> bool
-        ensures { result ≡ is_quiet self }
-    {
-        matches!(self, Value::Zero | Value::One | Value::S)
-    }
-
     /// Whether it is [`Value::U`].
     pub fn is_unknown(self) -> bool
         ensures { result ≡ is_unknown self }
@@ -67,16 +62,17 @@ impl Value {
         matches!(self, Value::F | Value::C | Value::U)
     }
 
-    /// The value of the complement: 0 for 1, and a fall for a rise.
-    pub fn flip(self) -> Value
-        ensures { result ≡ flip self }
+    /// Whether it permits the step.
+    pub fn permits(self, step: Step) -> bool
+        ensures { result ≡ has self step.before step.after }
     {
         match self {
-            Value::Zero => Value::One,
-            Value::One => Value::Zero,
-            Value::R => Value::F,
-            Value::F => Value::R,
-            Value::S | Value::C | Value::U => self,
+            Value::Zero => !step.before && !step.after,
+            Value::One => step.before && step.after,
+            Value::S => step.before == step.after,
+            Value::R => !step.before || step.after,
+            Value::F => step.before || !step.after,
+            Value::C | Value::U => true,
         }
     }
 }

@@ -1,0 +1,18 @@
+use Rattle.std.proofs.Common.{refl, arith}
+use Rattle.step_values.specs.Image.{and_of}
+use Rattle.step_values.proofs.Filled.{filled2, index2-below}
+use Rattle.step_values.proofs.tables.and2.Goals as goal
+
+pub loop-index-init : goal.loop-index-init
+loop-index-init c = record {
+  size = refl;
+  below = λ v w h. absurd (omega arith);
+}
+
+pub loop-index-preserved : goal.loop-index-preserved
+loop-index-preserved c =
+    filled2 and_of c.loop-index.entries c.loop-index.index _ _ c.and_value.result (omega arith)
+    c.value_at.ensures c.value_at-in-loop-index.ensures c.and_value.ensures c.loop-index.invariant
+
+pub returns : goal.returns
+returns c v w = c.loop-index.invariant.below v w (omega (arith, index2-below v w))
