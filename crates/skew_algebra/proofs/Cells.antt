@@ -2,14 +2,12 @@
 use Rattle.std.proofs.Common.{inl, inr, ◌≡◌, ℕ, zero, suc, ◌+◌, ◌-◌, ◌<◌, ◌≤◌, Bool, true, false, ◌&&◌, List, [], ◌∷◌, length, get_or, take, Some, map, refl, sym, ap, ◌∙◌, arith}
 use Rattle.std.specs.Prelude.{slice_get}
 use Rattle.std.specs.List.{list_all}
-use Rattle.std.proofs.lemmas.List.{get_or-map, length-map}
+use Rattle.std.proofs.lemmas.List.{get_or-map}
 use Rattle.std.proofs.lemmas.Option.{get_or_from_slice_get}
 use Rattle.std.proofs.lemmas.List.Folds.{list_all_more, list_all_at}
 use Rattle.std.proofs.lemmas.Bool.{and_parts, and_from, cases_eq}
 use Rattle.wave_core.specs.Cell.{Cells, IsLawful}
-use Rattle.wave_core.specs.Slots.{slots, join_to}
-use Rattle.wave_core.proofs.Fold.{join_to-same}
-use Rattle.wave_core.proofs.Slots.{get_or-slots, length-slots}
+use Rattle.wave_core.specs.Slots.{join_to}
 use Rattle.skew_algebra.specs.Wave.{cell_at, all_equal, is_steady, joined}
 
 pub all-at : {T : Type 0} (test : T → Bool) (cells : List T) (i : ℕ) (d : T) → list_all test cells ≡ true → i < length cells → test (get_or cells i d) ≡ true

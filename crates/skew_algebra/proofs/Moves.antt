@@ -1,5 +1,5 @@
 -- Waves that permit a signal, moved, complemented, folded and brought to their normal form.
-use Rattle.std.proofs.Common.{inl, inr, ◌≡◌, ℕ, zero, suc, ◌+◌, ◌-◌, ◌%◌, ◌<◌, ◌≤◌, min, Bool, true, false, not, List, length, get_or, Some, refl, sym, ap, ◌∙◌, arith, map, subst}
+use Rattle.std.proofs.Common.{◌≡◌, ℕ, suc, ◌+◌, ◌-◌, ◌%◌, ◌<◌, ◌≤◌, min, Bool, true, not, List, length, get_or, Some, sym, ap, ◌∙◌, arith, map, subst}
 use Rattle.std.specs.Prelude.{slice_get}
 use Rattle.std.proofs.lemmas.Option.{get_or_from_slice_get}
 use Rattle.std.proofs.lemmas.List.{get_or-map, length-map}
@@ -8,12 +8,12 @@ use Rattle.std.proofs.Math.Nat.{mod-lt, mod-le, mod-eq_of_lt}
 use Rattle.scald_base.specs.Time.{Bounds}
 use Rattle.scald_base.specs.Clock.{back}
 use Rattle.wave_core.specs.Cell.{Cells, IsLawful}
-use Rattle.wave_core.specs.Slots.{slots, earlier, later, join_to, fold_at, folded as folded_cells}
-use Rattle.wave_core.proofs.Back.{back-lt, back-zero, back-later, back-back, back-mod, back-period}
+use Rattle.wave_core.specs.Slots.{slots, earlier, later, fold_at}
+use Rattle.scald_base.proofs.Back.{back-lt, back-zero, back-later, back-back, back-mod, back-period}
 use Rattle.wave_core.proofs.Fold.{join_to-same}
 use Rattle.wave_core.proofs.Slots.{get_or-slots, length-slots, near-cell}
-use Rattle.skew_algebra.specs.Wave.{Wave, skewed, fold, folded, cell_at, all_equal, is_steady, joined, normal, moved, flipped}
-use Rattle.skew_algebra.specs.Permits.{Signal, Permits, Keeps, KeepsFlipped, Shows, KeepsMoved}
+use Rattle.skew_algebra.specs.Wave.{Wave, skewed, fold, folded, all_equal, is_steady, joined, normal, moved, flipped}
+use Rattle.skew_algebra.specs.Permits.{Signal, Permits, Keeps, KeepsFlipped, KeepsMoved}
 use Rattle.skew_algebra.proofs.Cells.{equal-at, join_to-has, joined-has}
 
 module _ {T : Type 0} (k : Cells T) where

@@ -1,12 +1,12 @@
 -- The normal form.
-use Rattle.std.proofs.Common.{inl, inr, ◌≡◌, ℕ, zero, suc, ◌+◌, ◌-◌, ◌<◌, ◌≤◌, min, Bool, true, false, List, length, get_or, map, refl, sym, ap, ◌∙◌, arith, cond}
+use Rattle.std.proofs.Common.{◌≡◌, ℕ, ◌+◌, ◌-◌, ◌<◌, min, true, false, List, length, map, refl, sym, ap, ◌∙◌, arith, cond}
 use Rattle.std.proofs.lemmas.List.{length-map}
 use Rattle.std.proofs.lemmas.Bool.{cond_both, cond-true, cond-false, true≢false}
 use Rattle.scald_base.specs.Time.{Bounds}
 use Rattle.wave_core.specs.Cell.{Cells, IsLawful}
-use Rattle.wave_core.specs.Slots.{slots, later, join_to}
+use Rattle.wave_core.specs.Slots.{slots, later}
 use Rattle.wave_core.proofs.Slots.{get_or-slots, length-slots}
-use Rattle.skew_algebra.specs.Wave.{Wave, skewed, cell_at, all_equal, is_steady, joined, normal, IsNormal, moved, flipped}
+use Rattle.skew_algebra.specs.Wave.{Wave, skewed, all_equal, is_steady, joined, normal, IsNormal, moved, flipped}
 use Rattle.skew_algebra.proofs.Cells.{equal-from, steady-flipped, equal-flipped}
 
 module _ {T : Type 0} (k : Cells T) where

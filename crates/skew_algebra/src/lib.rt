@@ -11,3 +11,6 @@ mod scan;
 mod skewed;
 
 pub use skewed::Skewed;
+
+#[cfg(test)]
+mod tests;

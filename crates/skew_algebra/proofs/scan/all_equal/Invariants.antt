@@ -1,6 +1,5 @@
 use Rattle.std.proofs.Common.{◌≡◌, true, take}
 use Rattle.std.specs.List.{list_all}
-use Rattle.skew_algebra.specs.Wave.{cell_at}
 use Rattle.skew_algebra.proofs.scan.all_equal.Given as goal
 
 abbrev pub invariant-loop-slot : goal.invariant-loop-slot

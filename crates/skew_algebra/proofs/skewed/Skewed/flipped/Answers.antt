@@ -1,4 +1,4 @@
-use Rattle.std.proofs.Common.{◌≡◌, ◌<◌, length, map, rules, arith, sym, ap, ◌∙◌, subst}
+use Rattle.std.proofs.Common.{◌≡◌, ◌<◌, length, map, rules, arith, sym, ap, subst}
 use Rattle.wave_core.proofs.Slots.{mapped}
 use Rattle.skew_algebra.specs.Wave.{skewed, flipped, IsNormal}
 use Rattle.skew_algebra.proofs.Normal.{flipped-normal}

@@ -1,4 +1,4 @@
-use Rattle.std.proofs.Common.{◌≡◌, ◌<◌, ◌+◌, length, rules, arith}
+use Rattle.std.proofs.Common.{◌<◌, ◌+◌, length, arith}
 use Rattle.skew_algebra.proofs.Moves.{here-cell, before-cell, fold-next}
 use Rattle.skew_algebra.proofs.skewed.Skewed.fold_at.Goals as goal
 

@@ -1,4 +1,4 @@
-use Rattle.std.proofs.Common.{◌≡◌, ◌<◌, length, rules, arith, ap}
+use Rattle.std.proofs.Common.{◌≡◌, ◌<◌, length, arith, ap}
 use Rattle.std.proofs.lemmas.Result.{IfOk-weaker}
 use Rattle.skew_algebra.specs.Permits.{Keeps}
 use Rattle.skew_algebra.specs.Wave.{skewed, folded}

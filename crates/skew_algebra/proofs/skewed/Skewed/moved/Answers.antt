@@ -1,6 +1,5 @@
-use Rattle.std.proofs.Common.{◌≡◌, ◌<◌, ◌+◌, ◌-◌, length, rules, arith, sym, ap, ◌∙◌}
+use Rattle.std.proofs.Common.{◌≡◌, ◌<◌, ◌+◌, ◌-◌, length, rules, arith, ◌∙◌}
 use Rattle.std.proofs.lemmas.Result.{IfOk-weaker}
-use Rattle.wave_core.specs.Slots.{later}
 use Rattle.skew_algebra.specs.Permits.{KeepsMoved}
 use Rattle.skew_algebra.specs.Wave.{skewed, normal, moved}
 use Rattle.skew_algebra.proofs.Moves.{Permits-moved, keeps_moved-by}
