@@ -1,0 +1,4 @@
+pub mod ClockEdges
+pub mod Asserted
+pub mod CodeSlots
+pub mod Pins

@@ -1,0 +1,3 @@
+pub mod Meets
+pub mod Interface
+pub mod Pin
