@@ -1,0 +1,10 @@
+pub mod Examples
+pub mod Asked
+pub mod Walk
+pub mod Driven
+pub mod Names
+pub mod Loops
+pub mod Rows
+pub mod Tables
+pub mod Counts
+pub mod Ends

@@ -1,0 +1,12 @@
+use Rattle.std.proofs.Common.{◌∙◌, ◌++◌, ◌∷◌, [], ap, sym, ℕ, List, map, arith}
+use Rattle.std.proofs.lemmas.List.{map_push}
+use Rattle.std.proofs.lemmas.List.FromFn.{map-range_with_len_more}
+use Rattle.flat_circuit.specs.declared.search.Node.{Node}
+use Rattle.flat_circuit.specs.Steps.{quick_feeders, node_feeders}
+use Rattle.flat_circuit.proofs.passages.nodes.Goals as goal
+
+pub loop-k-preserved : goal.loop-k-preserved
+loop-k-preserved c =
+    let f = quick_feeders c.args.nets.now.wires c.args.drivers.now c.args.instances.now in
+    let node : Node = record { feeders = c.in_ok-quick_to.field-0 } in
+    ap (map node_feeders) c.in_ok-push.ensures.items ∙ map_push node_feeders c.loop-k.nodes.items node ∙ ap (λ (x : List (List ℕ)). x ++ node_feeders node ∷ []) c.loop-k.invariant ∙ rw c.in_ok-quick_to.ensures (sym (map-range_with_len_more f 0 c.loop-k.k c.loop-k.k (omega arith)))

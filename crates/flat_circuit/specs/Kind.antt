@@ -1,0 +1,56 @@
+-- What each kind of instance has: an output, pins of which some listen, a mark, and limits.
+use Rattle.std.specs.Prelude.{ℕ, ◌+◌, ◌≤◌, ◌==◌, Bool, true, false, not, List, length, count_by, ⊤}
+use Rattle.scald_base.specs.Time.{Header, period}
+use Rattle.flat_circuit.specs.declared.kind.Kind.{Kind}
+use Rattle.flat_circuit.specs.declared.kind.Kind.TheVariants.{Buf, And, Or, Xor, Mux2, Mux4, Mux8, Chg, Reg, RegRs, Latch, LatchRs, SetupHold, RiseFall, MinPulse}
+use Rattle.flat_circuit.specs.declared.instance.Pin.{Pin}
+
+-- checkers have no output
+abbrev pub has_output : Kind → Bool
+has_output SetupHold = false
+has_output RiseFall = false
+has_output MinPulse = false
+has_output kind = true
+
+-- The pins, by their places, that an output changes with: all but a register's input, which counts at its clock's rise.
+abbrev pub listens : Kind → ℕ → Bool
+listens Reg place = not (place == 1)
+listens RegRs place = not (place == 1)
+listens kind place = true
+
+-- the least and the greatest number of pins; a change function has up to 16 connections of up to 256 bits
+abbrev pub pin_counts : Kind → ℕ × ℕ
+pin_counts Buf = (1, 1)
+pin_counts And = (1, 16)
+pin_counts Or = (1, 16)
+pin_counts Xor = (1, 16)
+pin_counts Mux2 = (3, 3)
+pin_counts Mux4 = (6, 6)
+pin_counts Mux8 = (11, 11)
+pin_counts Chg = (1, 4096)
+pin_counts Reg = (2, 2)
+pin_counts RegRs = (4, 4)
+pin_counts Latch = (2, 2)
+pin_counts LatchRs = (4, 4)
+pin_counts SetupHold = (2, 2)
+pin_counts RiseFall = (2, 2)
+pin_counts MinPulse = (1, 1)
+
+-- how many pins may be marked `!H`
+abbrev pub greatest_marks : Kind → ℕ
+greatest_marks And = 1
+greatest_marks Or = 1
+greatest_marks kind = 0
+
+-- pins that a kind may have
+pub record PinsFit (k : Kind) (ps : List Pin) : Type 0 where
+  pub least : (pin_counts k).0 ≤ length ps
+  pub most : length ps ≤ (pin_counts k).1
+  pub marks : count_by (λ (p : Pin). p.hold) ps ≤ greatest_marks k
+
+-- A checker's limits: setup and hold together, and a pulse's width, are at most a period.
+abbrev pub LimitsFit : Header → Kind → ℕ × ℕ → Type 0
+LimitsFit h SetupHold l = l.0 + l.1 ≤ period h
+LimitsFit h RiseFall l = l.0 + l.1 ≤ period h
+LimitsFit h MinPulse l = (l.0 ≤ period h) × (l.1 ≤ period h)
+LimitsFit h kind l = ⊤

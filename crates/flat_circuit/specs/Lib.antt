@@ -1,0 +1,10 @@
+pub mod Kind
+pub mod Equation
+pub mod Name
+pub mod Instances
+pub mod Loop
+pub mod Circuit
+pub mod Run
+pub mod Builder
+pub mod Search
+pub mod Steps

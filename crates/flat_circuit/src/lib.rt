@@ -1,0 +1,36 @@
+//! A drawing's circuit, flat: its nets, and the bits of the elements and checkers between them.
+//!
+//! The layer above makes one by a `Builder`, which numbers the nets and takes instances, and whose
+//! `finish` refuses two drivers of a net and loops without delay. The layers that evaluate read a
+//! `Circuit` by its methods. `specs/Circuit` says what holds of each circuit, `specs/Builder` what a
+//! builder makes of each call, and `specs/Run` and `specs/Equation` what a run of a circuit is.
+#![tactic(auto)]
+
+mod assertions;
+mod builder;
+mod case;
+mod circuit;
+mod drivers;
+mod fault;
+mod finish;
+mod instance;
+mod kind;
+mod net;
+mod net_table;
+mod order;
+mod passages;
+mod readers;
+mod refused;
+mod search;
+
+pub use builder::Builder;
+pub use case::{Case, CaseList, CaseValue};
+pub use circuit::Circuit;
+pub use fault::{Fault, Faults, PointKind};
+pub use instance::{Instance, Pin, Pins};
+pub use kind::Kind;
+pub use net::Net;
+pub use vector_names::Target;
+
+#[cfg(test)]
+mod tests;

@@ -1,0 +1,115 @@
+//! The table of readers.
+
+ghost use Rattle.std.specs.Prelude.{◌≡◌, ◌<◌, ◌^◌, ◌&&◌, ◌==◌, ℕ, [], length, map, if◌then◌else◌, IfOk, OnOk};
+ghost use Rattle.std.specs.List.{All, range_with_len};
+ghost use Rattle.flat_circuit.specs.Kind.{listens};
+ghost use Rattle.flat_circuit.specs.Instances.{InstanceExists, PinExists, TargetExists, is_on, readers_of};
+ghost use Rattle.flat_circuit.specs.Steps.{row_at, row_noted, row_told, rows_of, told_by, last_is};
+
+use crate::instance::{Instance, Pin};
+use crate::kind::Kind;
+use scald_base::NoMemory;
+use std::alloc::Global;
+use vector_names::Target;
+
+/// For each of so many nets, the instances with an output that listen to it, each once, ascending.
+pub(crate) fn readers(
+    alloc: Global,
+    instances: &[Instance],
+    nets: usize,
+) -> Result<Vec<Vec<u32>>, NoMemory>
+    requires within { All (InstanceExists nets) instances.now }
+    requires few { length instances.now < 2 ^ 32 }
+    ensures { IfOk result (λ rows. rows_of rows.items ≡ map (readers_of instances.now) (range_with_len 0 nets)) }
+{
+    let mut rows = empty_rows(alloc, nets)?;
+    for k in 0..instances.len() {
+        note_instance(&mut rows, &instances[k], k as u32)?;
+    }
+    Ok(rows)
+}
+
+fn empty_rows(alloc: Global, count: usize) -> Result<Vec<Vec<u32>>, NoMemory>
+    ensures { IfOk result (λ rows. rows_of rows.items ≡ map (λ _. []) (range_with_len 0 count)) }
+{
+    let mut rows = Vec::new(alloc);
+    for _k in 0..count {
+        rows.push(Vec::new(alloc))?;
+    }
+    Ok(rows)
+}
+
+// Notes instance k at the nets of its listening pins, if it has an output.
+fn note_instance(rows: &mut Vec<Vec<u32>>, instance: &Instance, k: u32) -> Result<(), NoMemory>
+    requires { InstanceExists (length rows.old.items) instance.now }
+    ensures long { OnOk result (length rows.new.items ≡ length rows.old.items) }
+    ensures told { OnOk result ((i : ℕ) → row_at (rows_of rows.new.items) i ≡ told_by instance.now i k (row_at (rows_of rows.old.items) i)) }
+{
+    if instance.out.is_some() {
+        note_pins(rows, instance.kind, instance.pins.as_slice(), k)
+    } else {
+        Ok(())
+    }
+}
+
+fn note_pins(rows: &mut Vec<Vec<u32>>, kind: Kind, pins: &[Pin], k: u32) -> Result<(), NoMemory>
+    requires { All (PinExists (length rows.old.items)) pins.now }
+    ensures long { OnOk result (length rows.new.items ≡ length rows.old.items) }
+    ensures told { OnOk result ((i : ℕ) → row_at (rows_of rows.new.items) i ≡ row_told kind i k 0 pins.now (row_at (rows_of rows.old.items) i)) }
+{
+    for t in 0..pins.len() {
+        note_pin(rows, kind, t, pins[t].target, k)?;
+    }
+    Ok(())
+}
+
+// Notes instance k at the net of its pin at a place, if that pin listens.
+fn note_pin(
+    rows: &mut Vec<Vec<u32>>,
+    kind: Kind,
+    place: usize,
+    target: Target,
+    k: u32,
+) -> Result<(), NoMemory>
+    requires { TargetExists (length rows.old.items) target }
+    ensures long { OnOk result (length rows.new.items ≡ length rows.old.items) }
+    ensures told { OnOk result ((i : ℕ) → row_at (rows_of rows.new.items) i ≡ (if listens kind place && is_on i target then row_noted (row_at (rows_of rows.old.items) i) k else row_at (rows_of rows.old.items) i)) }
+{
+    if !kind.listens(place) {
+        return Ok(());
+    }
+    match target {
+        Target::Constant(_) => Ok(()),
+        Target::Net(i) => {
+            note_at(rows, i, k)?;
+            Ok(())
+        }
+    }
+}
+
+fn note_at(rows: &mut Vec<Vec<u32>>, i: u32, k: u32) -> Result<(), NoMemory>
+    requires { i < length rows.old.items }
+    ensures long { OnOk result (length rows.new.items ≡ length rows.old.items) }
+    ensures told { OnOk result ((x : ℕ) → row_at (rows_of rows.new.items) x ≡ (if i == x then row_noted (row_at (rows_of rows.old.items) x) k else row_at (rows_of rows.old.items) x)) }
+{
+    note_row(&mut rows[i as usize], k)?;
+    Ok(())
+}
+
+fn note_row(row: &mut Vec<u32>, k: u32) -> Result<(), NoMemory>
+    ensures { OnOk result (row.new.items ≡ row_noted row.old.items k) }
+{
+    if !last_is_it(row, k) {
+        row.push(k)?;
+    }
+    Ok(())
+}
+
+fn last_is_it(row: &[u32], k: u32) -> bool
+    ensures { result ≡ last_is row.now k }
+{
+    match row.last() {
+        None => false,
+        Some(last) => *last == k,
+    }
+}
