@@ -1,0 +1,138 @@
+-- What a search for a hazard has found.
+use Rattle.std.proofs.Common.{inl, inr, ◌≡◌, ◌≢◌, ℕ, zero, suc, ◌+◌, ◌<◌, ◌≤◌, Bool, true, false, not, ◌&&◌, cond, eqb, List, length, map, get_or, refl, sym, ap, ◌∙◌, Option, Some, None, arith, eq-eqb}
+use Rattle.std.specs.Prelude.{slice_get, is_none, is_some}
+use Rattle.std.specs.Option.{option_or, option_map}
+use Rattle.std.proofs.lemmas.Bool.{cases_eq, ne_eqb, cond-true, cond-false}
+use Rattle.std.proofs.lemmas.List.{get_or-map, length-map}
+use Rattle.std.proofs.lemmas.Option.{get_or_from_slice_get}
+use Rattle.step_values.specs.declared.value.Value.{Value}
+use Rattle.step_values.specs.declared.value.Value.TheVariants.{U}
+use Rattle.step_values.specs.Steps.{is_quiet}
+use Rattle.step_values.specs.Cell.{values}
+use Rattle.skew_algebra.specs.Wave.{Wave, fold, cell_at}
+use Rattle.flat_circuit.specs.declared.kind.Kind.{Kind}
+use Rattle.gate_eval.specs.Meeting.{folds_in, period_of}
+use Rattle.gate_eval.specs.Hold.{first_some, value_of_pin, is_closed, moves_beside, mover_beside, disturber, hazard}
+
+-- ---- first places
+
+-- none before, and this one
+pub first_some-at : {A : Type 0} (f : ℕ → Option A) (n i j : ℕ) (x : A) → ((k : ℕ) → k < j → f k ≡ None) → i ≤ j → j < i + n → f j ≡ Some x →
+    first_some f n i ≡ Some x
+first_some-at f zero i j x before after within here = absurd (omega arith)
+first_some-at f (suc n) i j x before after within here = elim (cases_eq i j) [
+  | inl e ↦ ap (λ o. option_or o (first_some f n (i + 1))) (ap f e ∙ here)
+  | inr ne ↦ ap (λ o. option_or o (first_some f n (i + 1))) (before i (omega arith)) ∙ first_some-at f n (i + 1) j x before (omega arith) (omega arith) here
+]
+
+pub first_some-nowhere : {A : Type 0} (f : ℕ → Option A) (n i : ℕ) → ((k : ℕ) → k < i + n → f k ≡ None) → first_some f n i ≡ None
+first_some-nowhere f zero i nowhere = refl
+first_some-nowhere f (suc n) i nowhere =
+    ap (λ o. option_or o (first_some f n (i + 1))) (nowhere i (omega arith)) ∙ first_some-nowhere f n (i + 1) (λ k below. nowhere k (omega arith))
+
+or-some : {A : Type 0} (o p : Option A) → is_none o ≡ false → is_none (option_or o p) ≡ false
+or-some None p e = cc
+or-some (Some x) p e = refl
+
+or-rest : {A : Type 0} (o p : Option A) → is_none p ≡ false → is_none (option_or o p) ≡ false
+or-rest None p e = e
+or-rest (Some x) p e = refl
+
+-- where one is there, some first one is
+pub first_some-some : {A : Type 0} (f : ℕ → Option A) (n i j : ℕ) → i ≤ j → j < i + n → is_none (f j) ≡ false → is_none (first_some f n i) ≡ false
+first_some-some f zero i j after within here = absurd (omega arith)
+first_some-some f (suc n) i j after within here = elim (cases_eq j i) [
+  | inl e ↦ or-some (f i) (first_some f n (i + 1)) (ap (λ (k : ℕ). is_none (f k)) (sym e) ∙ here)
+  | inr ne ↦ or-rest (f i) (first_some f n (i + 1)) (first_some-some f n (i + 1) j (omega arith) (omega arith) here)
+]
+
+pub none-is : {A : Type 0} (o : Option A) → is_none o ≡ true → o ≡ None
+none-is None e = refl
+none-is (Some x) e = cc
+
+pub none-not : {A : Type 0} (o : Option A) → is_some o ≡ true → is_none o ≡ false
+none-not None e = cc
+none-not (Some x) e = refl
+
+-- ---- one slot
+
+pub beside-moves : (marked : ℕ) (folds : List Value) (pin : ℕ) (v : Value) → v ≡ value_of_pin folds pin → pin ≢ marked → is_quiet v ≡ false → moves_beside marked folds pin ≡ true
+beside-moves marked folds pin v is apart moves =
+    let other : eqb pin marked ≡ false = ne_eqb pin marked apart in
+    let quiet : is_quiet (value_of_pin folds pin) ≡ false = ap is_quiet (sym is) ∙ moves in
+    λ i. not (other i) && not (quiet i)
+
+pub beside-quiet : (marked : ℕ) (folds : List Value) (pin : ℕ) (v : Value) → v ≡ value_of_pin folds pin → is_quiet v ≡ true → moves_beside marked folds pin ≡ false
+beside-quiet marked folds pin v is still =
+    ap (λ b. not (eqb pin marked) && not b) (ap is_quiet (sym is) ∙ still) ∙ right_false (not (eqb pin marked))
+  where
+    right_false : (a : Bool) → (a && false) ≡ false
+    right_false a = grind arith
+
+pub beside-itself : (marked : ℕ) (folds : List Value) (pin : ℕ) → pin ≡ marked → moves_beside marked folds pin ≡ false
+beside-itself marked folds pin e =
+    let same : eqb pin marked ≡ true = eq-eqb pin marked e in
+    ap (λ b. not b && not (is_quiet (value_of_pin folds pin))) same
+
+module _ (kind : Kind) (marked : ℕ) (folds : List Value) where
+  pub disturbs-closed : is_closed kind (value_of_pin folds marked) ≡ true → None ≡ disturber kind marked folds
+  disturbs-closed closed = sym (cond-true (is_closed kind (value_of_pin folds marked)) None (mover_beside marked folds) closed)
+
+  pub disturbs : (pin : ℕ) → is_closed kind (value_of_pin folds marked) ≡ false → ((k : ℕ) → k < pin → moves_beside marked folds k ≡ false) → pin < length folds →
+      moves_beside marked folds pin ≡ true → Some pin ≡ disturber kind marked folds
+  disturbs pin opened before within here =
+      sym (cond-false (is_closed kind (value_of_pin folds marked)) None (mover_beside marked folds) opened
+      ∙ first_some-at (λ j. cond (moves_beside marked folds j) (Some j) None) (length folds) 0 pin pin
+      (λ k below. ap (λ b. cond b (Some k) None) (before k below)) (omega arith) (omega arith) (ap (λ b. cond b (Some pin) None) here))
+
+  pub disturbs-none : is_closed kind (value_of_pin folds marked) ≡ false → ((k : ℕ) → k < length folds → moves_beside marked folds k ≡ false) → None ≡ disturber kind marked folds
+  disturbs-none opened nowhere =
+      sym (cond-false (is_closed kind (value_of_pin folds marked)) None (mover_beside marked folds) opened
+      ∙ first_some-nowhere (λ j. cond (moves_beside marked folds j) (Some j) None) (length folds) 0
+      (λ k below. ap (λ b. cond b (Some k) None) (nowhere k (omega arith))))
+
+-- ---- the values that code reads
+
+pub value-among : {A : Type 0} (folds : List A) (i : ℕ) (fold : A) (slot : ℕ) (v : Value) (cells : A → List Value) → i < length folds → fold ≡ get_or folds i fold →
+    slice_get (cells fold) slot ≡ Some v → v ≡ value_of_pin (map (λ w. cell_at values (cells w) slot) folds) i
+value-among folds i fold slot v cells below item is =
+    sym (get_or-map (λ w. cell_at values (cells w) slot) folds i fold U below
+    ∙ ap (λ w. cell_at values (cells w) slot) (sym item)
+    ∙ get_or_from_slice_get (cells fold) slot v U is)
+
+pub value-at : {P : Type 0} (pins : List P) (i : ℕ) (pin : P) (slot : ℕ) (v : Value) (wave : P → Wave Value) → i < length pins →
+    v ≡ fold values (wave (get_or pins i pin)) slot → v ≡ value_of_pin (folds_in values (map wave pins) slot) i
+value-at pins i pin slot v wave below is =
+    let long : length (map wave pins) ≡ length pins = length-map pins wave in
+    is ∙ sym (ap (λ w. fold values w slot) (get_or-map wave pins i pin (wave pin) below))
+    ∙ sym (get_or-map (λ w. fold values w slot) (map wave pins) i (wave pin) U (omega (arith, long)))
+
+pub value-of-item : {P : Type 0} (pins : List P) (i : ℕ) (pin : P) (slot : ℕ) (v : Value) (wave : P → Wave Value) → i < length pins → pin ≡ get_or pins i pin →
+    v ≡ fold values (wave pin) slot → v ≡ value_of_pin (folds_in values (map wave pins) slot) i
+value-of-item pins i pin slot v wave below item is = value-at pins i pin slot v wave below (is ∙ ap (λ q. fold values (wave q) slot) item)
+
+pub folds-long : {P : Type 0} (pins : List P) (slot : ℕ) (wave : P → Wave Value) → length (folds_in values (map wave pins) slot) ≡ length pins
+folds-long pins slot wave = length-map (map wave pins) (λ w. fold values w slot) ∙ length-map pins wave
+
+-- ---- the whole
+
+pub hazard-unmarked : (kind : Kind) (waves : List (Wave Value)) (marked : Option ℕ) → None ≡ marked → None ≡ hazard kind waves marked
+unfolding hazard
+hazard-unmarked kind waves marked e = ap (hazard kind waves) e
+
+pub hazard-here : (kind : Kind) (waves : List (Wave Value)) (marked : Option ℕ) (m slot pin : ℕ) → Some m ≡ marked →
+    ((k : ℕ) → k < slot → disturber kind m (folds_in values waves k) ≡ None) → slot < period_of waves → Some pin ≡ disturber kind m (folds_in values waves slot) →
+    Some (slot, pin) ≡ hazard kind waves marked
+unfolding hazard
+hazard-here kind waves marked m slot pin e before below here =
+    sym (first_some-at (λ p. option_map (λ j. (p, j)) (disturber kind m (folds_in values waves p))) (period_of waves) 0 slot (slot, pin)
+    (λ k near. ap (option_map (λ j. (k, j))) (before k near)) (omega arith) (omega arith) (ap (option_map (λ j. (slot, j))) (sym here)))
+    ∙ ap (hazard kind waves) e
+
+pub hazard-nowhere : (kind : Kind) (waves : List (Wave Value)) (marked : Option ℕ) (m : ℕ) → Some m ≡ marked →
+    ((k : ℕ) → k < period_of waves → disturber kind m (folds_in values waves k) ≡ None) → None ≡ hazard kind waves marked
+unfolding hazard
+hazard-nowhere kind waves marked m e nowhere =
+    sym (first_some-nowhere (λ p. option_map (λ j. (p, j)) (disturber kind m (folds_in values waves p))) (period_of waves) 0
+    (λ k near. ap (option_map (λ j. (k, j))) (nowhere k (omega arith))))
+    ∙ ap (hazard kind waves) e

@@ -1,0 +1,120 @@
+//! The wave of a gate's or a change function's output.
+
+ghost use Rattle.std.specs.Prelude.{◌≡◌, ◌<◌, [], ◌∷◌, IfOk, Some, count_by, length, map, position, true};
+ghost use Rattle.step_values.specs.declared.value.Value.TheVariants.{S};
+ghost use Rattle.step_values.specs.Cell.{values};
+ghost use Rattle.skew_algebra.specs.Wave.{moved, skewed};
+ghost use Rattle.gate_eval.specs.Meeting.{HaveOnePeriod};
+ghost use Rattle.gate_eval.specs.Hold.{hazard};
+ghost use Rattle.gate_eval.specs.Instance.{CountsFit, IsSound, MarkFits, gate_wave, held_wave, image_by, is_gate};
+
+use crate::change::change_wave;
+use crate::hold::{is_held, marked_pin};
+use crate::image::{FromLeft, OfEight, OfFour, OfTwo, PassedOn};
+use crate::meeting::{Image, by_folds, by_slots, folded_waves, kept_skew, late, met};
+use crate::pin_wave::{PinWave, PinWaves};
+use flat_circuit::Kind;
+use scald_base::{Delay, NoMemory};
+use skew_algebra::Skewed;
+use std::alloc::Global;
+use step_values::{Value, and2, mux2, or2, xor2};
+use wave_core::CyclicWave;
+
+/// What passes of a pin's wave while the other pins stay as they are.
+fn passing<W: CyclicWave<Item = Value>, I: Image>(
+    alloc: Global,
+    image: &I,
+    pin: &Skewed<W>,
+    d: Delay,
+) -> Result<Skewed<W>, NoMemory>
+    ensures { IfOk result (λ s. skewed (W.cells s.wave) s.skew ≡ moved values (held_wave (I.value_of image.now) (skewed (W.cells pin.now.wave) pin.now.skew)) d) }
+{
+    let made = pin.wave.map(alloc, |v| image.value(&[v, Value::S]))?;
+    late(alloc, &made, pin.skew, d)
+}
+
+/// What an AND or OR with a marked pin makes of its pins' waves. Each pin is folded once.
+fn marked_gate<W: CyclicWave<Item = Value>, I: Image>(
+    alloc: Global,
+    kind: Kind,
+    image: &I,
+    pins: &[PinWave<W>],
+    marked: usize,
+    d: Delay,
+) -> Result<Skewed<W>, NoMemory>
+    requires marked { marked < length pins.now }
+    requires periods { HaveOnePeriod (map (λ p. skewed (W.cells p.wave.wave) p.wave.skew) pins.now) }
+    ensures { let waves = map (λ p. skewed (W.cells p.wave.wave) p.wave.skew) pins.now in
+        IfOk result (λ s. skewed (W.cells s.wave) s.skew ≡ moved values (image_by (I.value_of image.now) waves (Some marked) (hazard kind waves (Some marked))) d) }
+{
+    let folds = folded_waves(alloc, pins)?;
+    if is_held(kind, &folds, marked, pins[marked].wave.wave.period()) {
+        return passing(alloc, image, &pins[marked].wave, d);
+    }
+    match kept_skew(pins) {
+        Some(skew) => by_slots(alloc, image, pins, skew, d),
+        None => by_folds(alloc, image, pins, &folds, d),
+    }
+}
+
+/// What an AND or OR makes of its pins' waves.
+fn markable_gate<W: CyclicWave<Item = Value>, I: Image>(
+    alloc: Global,
+    kind: Kind,
+    image: &I,
+    pins: &[PinWave<W>],
+    d: Delay,
+) -> Result<Skewed<W>, NoMemory>
+    requires some { 0 < length pins.now }
+    requires periods { HaveOnePeriod (map (λ p. skewed (W.cells p.wave.wave) p.wave.skew) pins.now) }
+    ensures { let waves = map (λ p. skewed (W.cells p.wave.wave) p.wave.skew) pins.now in
+        IfOk result (λ s. skewed (W.cells s.wave) s.skew ≡ moved values (image_by (I.value_of image.now) waves (position (λ p. p.hold) pins.now) (hazard kind waves (position (λ p. p.hold) pins.now))) d) }
+{
+    match marked_pin(pins) {
+        Some(marked) => marked_gate(alloc, kind, image, pins, marked, d),
+        None => met(alloc, image, pins, d),
+    }
+}
+
+/// What a gate or change function makes of these pins' waves.
+fn evaluated<W: CyclicWave<Item = Value>>(
+    alloc: Global,
+    kind: Kind,
+    pins: &[PinWave<W>],
+    d: Delay,
+) -> Result<Skewed<W>, NoMemory>
+    requires gate { is_gate kind ≡ true }
+    requires some { 0 < length pins.now }
+    requires mark { MarkFits kind (position (λ p. p.hold) pins.now) (length pins.now) }
+    requires periods { HaveOnePeriod (map (λ p. skewed (W.cells p.wave.wave) p.wave.skew) pins.now) }
+    ensures { IfOk result (λ s. skewed (W.cells s.wave) s.skew ≡ gate_wave kind (map (λ p. skewed (W.cells p.wave.wave) p.wave.skew) pins.now) (position (λ p. p.hold) pins.now) d) }
+{
+    match kind {
+        Kind::Buf => met(alloc, &PassedOn, pins, d),
+        Kind::And => markable_gate(alloc, kind, &FromLeft { table: and2() }, pins, d),
+        Kind::Or => markable_gate(alloc, kind, &FromLeft { table: or2() }, pins, d),
+        Kind::Xor => met(alloc, &FromLeft { table: xor2() }, pins, d),
+        Kind::Mux2 => met(alloc, &OfTwo { table: mux2() }, pins, d),
+        Kind::Mux4 => met(alloc, &OfFour { table: mux2() }, pins, d),
+        Kind::Mux8 => met(alloc, &OfEight { table: mux2() }, pins, d),
+        Kind::Chg => change_wave(alloc, pins, d),
+        _ => unreachable!(),
+    }
+}
+
+/// The wave of the output of a gate or change function, before the output's complement, from the waves
+/// of its pins and the bounds of its delay, in ticks. It fails only where memory runs out.
+pub fn eval_gate<W: CyclicWave<Item = Value>>(
+    alloc: Global,
+    kind: Kind,
+    pins: &PinWaves<W>,
+    d: Delay,
+) -> Result<Skewed<W>, NoMemory>
+    requires gate { is_gate kind ≡ true }
+    requires pins { CountsFit kind (length pins.now) (count_by (λ p. p.hold) pins.now) }
+    requires periods { HaveOnePeriod (map (λ p. skewed (W.cells p.wave.wave) p.wave.skew) pins.now) }
+    ensures wave { IfOk result (λ s. skewed (W.cells s.wave) s.skew ≡ gate_wave kind (map (λ p. skewed (W.cells p.wave.wave) p.wave.skew) pins.now) (position (λ p. p.hold) pins.now) d) }
+    ensures sound { IfOk result (λ s. IsSound kind d (map (λ p. skewed (W.cells p.wave.wave) p.wave.skew) pins.now) (skewed (W.cells s.wave) s.skew)) }
+{
+    evaluated(alloc, kind, pins.as_slice(), d)
+}

@@ -1,0 +1,101 @@
+//! What a kind of gate makes of a value for each of its pins.
+
+ghost use Rattle.step_values.specs.Table.{entry2, entry3};
+ghost use Rattle.gate_eval.specs.Gates.{from_left, of_eight, of_four, of_two, passed_on};
+
+use crate::meeting::Image;
+use step_values::{Table, Value, look2, look3};
+
+/// One pin, passed on.
+#[derive(Drop)]
+pub struct PassedOn;
+
+impl Image for PassedOn {
+    ghost value_of = { λ image found. passed_on found };
+
+    fn value(&self, found: &[Value]) -> Value {
+        found.first().copied().unwrap_or(Value::U)
+    }
+}
+
+/// Two pins at a time, from the left.
+#[derive(Drop)]
+pub struct FromLeft {
+    pub table: Table<49>,
+}
+
+impl Image for FromLeft {
+    ghost value_of = { λ image found. from_left (entry2 image.table.entries) found };
+
+    fn value(&self, found: &[Value]) -> Value {
+        match found.split_first() {
+            Some((first, rest)) => rest
+                .iter()
+                .fold(*first, |made, v| look2(&self.table, made, *v)),
+            None => Value::U,
+        }
+    }
+}
+
+/// One of two inputs behind a select.
+#[derive(Drop)]
+pub struct OfTwo {
+    pub table: Table<343>,
+}
+
+impl Image for OfTwo {
+    ghost value_of = { λ image found. of_two (entry3 image.table.entries) found };
+
+    fn value(&self, found: &[Value]) -> Value {
+        match found {
+            [s, a, b] => look3(&self.table, *s, *a, *b),
+            _ => Value::U,
+        }
+    }
+}
+
+/// One of four inputs behind two selects, the most significant first.
+#[derive(Drop)]
+pub struct OfFour {
+    pub table: Table<343>,
+}
+
+impl Image for OfFour {
+    ghost value_of = { λ image found. of_four (entry3 image.table.entries) found };
+
+    fn value(&self, found: &[Value]) -> Value {
+        match found {
+            [s1, s0, a, b, c, d] => {
+                let low = look3(&self.table, *s0, *a, *b);
+                let high = look3(&self.table, *s0, *c, *d);
+                look3(&self.table, *s1, low, high)
+            }
+            _ => Value::U,
+        }
+    }
+}
+
+/// One of eight inputs behind three selects, the most significant first.
+#[derive(Drop)]
+pub struct OfEight {
+    pub table: Table<343>,
+}
+
+impl Image for OfEight {
+    ghost value_of = { λ image found. of_eight (entry3 image.table.entries) found };
+
+    fn value(&self, found: &[Value]) -> Value {
+        match found {
+            [s2, s1, s0, a, b, c, d, e, f, g, h] => {
+                let first = look3(&self.table, *s0, *a, *b);
+                let second = look3(&self.table, *s0, *c, *d);
+                let third = look3(&self.table, *s0, *e, *f);
+                let fourth = look3(&self.table, *s0, *g, *h);
+                let low = look3(&self.table, *s1, first, second);
+                let high = look3(&self.table, *s1, third, fourth);
+                look3(&self.table, *s2, low, high)
+            }
+            _ => Value::U,
+        }
+    }
+}

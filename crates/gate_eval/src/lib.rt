@@ -1,0 +1,35 @@
+//! What gates and change functions make of the waves at their pins, and the mark `!H` at a pin of an
+//! AND or OR.
+//!
+//! The layer above calls [`eval_gate`] for the wave of an element's output, before its complement, and
+//! [`hold_fault`] for the hazard of a marked pin; [`met`] does the same for an [`Image`] of another
+//! crate. `specs/Instance` says which wave comes and what it permits: `specs/Meeting` where several
+//! waves meet, `specs/Gates` what a gate makes of values, `specs/Hold` the mark and its rule,
+//! `specs/Change` the change function.
+#![tactic(auto)]
+
+// pins
+mod pin_wave;
+
+// where waves meet
+mod meeting;
+
+// what a gate makes of values
+mod image;
+
+// the mark
+mod hold;
+
+// the change function
+mod change;
+
+// all of them
+mod gate;
+
+pub use gate::eval_gate;
+pub use hold::hold_fault;
+pub use meeting::{Image, met};
+pub use pin_wave::{PinWave, PinWaves};
+
+#[cfg(test)]
+mod tests;

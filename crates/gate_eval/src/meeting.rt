@@ -1,0 +1,181 @@
+//! What an element makes of its pins' waves, slot by slot.
+
+ghost use Rattle.std.specs.Prelude.{◌≡◌, ◌-◌, ◌<◌, List, [], All, Option, map, length, IfOk, IfSome, OnOk};
+ghost use Rattle.wave_core.specs.Slots.{IsPeriod, slots};
+ghost use Rattle.step_values.specs.declared.value.Value.{Value};
+ghost use Rattle.step_values.specs.Cell.{values};
+ghost use Rattle.skew_algebra.specs.Wave.{skewed, cell_at, folded, moved};
+ghost use Rattle.skew_algebra.specs.Permits.{KeepsMoved};
+ghost use Rattle.gate_eval.specs.Meeting.{HaveOnePeriod, cells_in, folds_in, kept_skew as kept, meeting, movers, period_of};
+
+use crate::pin_wave::PinWave;
+use scald_base::{Delay, NoMemory};
+use skew_algebra::Skewed;
+use std::alloc::Global;
+use step_values::Value;
+use wave_core::CyclicWave;
+
+/// What a kind of element makes of one value for each of its pins.
+pub trait Image {
+    /// The value that covers its image.
+    ghost value_of: { Self → List Value → Value };
+
+    /// The value that it makes of these.
+    fn value(&self, found: &[Value]) -> Value
+        ensures { result ≡ value_of self.now found.now };
+}
+
+/// A wave that is not in normal form, late by a delay within the bounds.
+pub fn late<W: CyclicWave<Item = Value>>(
+    alloc: Global,
+    wave: &W,
+    skew: u16,
+    d: Delay,
+) -> Result<Skewed<W>, NoMemory>
+    requires { skew < 4096 }
+    ensures { IfOk result (λ s. skewed (W.cells s.wave) s.skew ≡ moved values (skewed (W.cells wave.now) skew) d) }
+{
+    let turned = wave.rotate(alloc, d.min)?;
+    Skewed::normal(alloc, turned, skew + (d.max - d.min))
+}
+
+/// The skew that is kept beside the slots: that of the one pin that moves. `None` where more move.
+pub fn kept_skew<W: CyclicWave<Item = Value>>(pins: &[PinWave<W>]) -> Option<u16>
+    ensures kept { result ≡ kept (movers values (map (λ p. skewed (W.cells p.wave.wave) p.wave.skew) pins.now)) }
+    ensures short { IfSome result (λ skew. skew < 4096) }
+{
+    let mut moves = false;
+    let mut skew = 0;
+    for pin in pins {
+        if !pin.wave.is_steady() {
+            if moves {
+                return None;
+            }
+            moves = true;
+            skew = pin.wave.skew;
+        }
+    }
+    Some(skew)
+}
+
+/// The waves at the pins, without their skews.
+fn own_waves<W: CyclicWave<Item = Value>>(
+    alloc: Global,
+    pins: &[PinWave<W>],
+) -> Result<Vec<W>, NoMemory>
+    ensures { IfOk result (λ ws. map (λ w. W.cells w) ws.items ≡ map (λ p. W.cells p.wave.wave) pins.now) }
+{
+    let mut waves = Vec::with_capacity(alloc, pins.len())?;
+    for pin in pins {
+        waves.push(pin.wave.wave.copy(alloc)?)?;
+    }
+    Ok(waves)
+}
+
+/// The waves at the pins, each with its skew folded in.
+pub fn folded_waves<W: CyclicWave<Item = Value>>(
+    alloc: Global,
+    pins: &[PinWave<W>],
+) -> Result<Vec<W>, NoMemory>
+    ensures { IfOk result (λ ws. map (λ w. W.cells w) ws.items ≡ map (λ p. folded values (skewed (W.cells p.wave.wave) p.wave.skew)) pins.now) }
+{
+    let mut waves = Vec::with_capacity(alloc, pins.len())?;
+    for pin in pins {
+        waves.push(pin.wave.folded(alloc)?)?;
+    }
+    Ok(waves)
+}
+
+/// Puts the values that the waves have in a slot in place of what was found before.
+fn read_slot<W: CyclicWave<Item = Value>>(
+    found: &mut Vec<Value>,
+    waves: &[W],
+    slot: u16,
+) -> Result<(), NoMemory>
+    requires { All (λ w. slot < length (W.cells w)) waves.now }
+    ensures { OnOk result (found.new.items ≡ map (λ w. cell_at values (W.cells w) slot) waves.now) }
+{
+    found.clear();
+    for wave in waves {
+        found.push(wave.at(slot))?;
+    }
+    Ok(())
+}
+
+/// What an element makes of the waves in each slot of the period.
+fn imaged<W: CyclicWave<Item = Value>, I: Image>(
+    alloc: Global,
+    image: &I,
+    waves: &[W],
+    period: u16,
+) -> Result<W, NoMemory>
+    requires period { IsPeriod period }
+    requires waves { All (λ w. length (W.cells w) ≡ period) waves.now }
+    ensures { IfOk result (λ w. W.cells w ≡ slots period (λ p. I.value_of image.now (map (λ u. cell_at values (W.cells u) p) waves.now))) }
+{
+    let mut cells = Vec::with_capacity(alloc, period as usize)?;
+    let mut found = Vec::with_capacity(alloc, waves.len())?;
+    for slot in 0..period {
+        read_slot(&mut found, waves, slot)?;
+        cells.push(image.value(&found))?;
+    }
+    W::from_slots(alloc, &cells)
+}
+
+/// What an element makes of its pins' waves slot by slot, with one skew for all of them.
+pub fn by_slots<W: CyclicWave<Item = Value>, I: Image>(
+    alloc: Global,
+    image: &I,
+    pins: &[PinWave<W>],
+    skew: u16,
+    d: Delay,
+) -> Result<Skewed<W>, NoMemory>
+    requires some { 0 < length pins.now }
+    requires periods { HaveOnePeriod (map (λ p. skewed (W.cells p.wave.wave) p.wave.skew) pins.now) }
+    requires short { skew < 4096 }
+    ensures { let waves = map (λ p. skewed (W.cells p.wave.wave) p.wave.skew) pins.now in
+        IfOk result (λ s. skewed (W.cells s.wave) s.skew ≡ moved values (skewed (slots (period_of waves) (λ p. I.value_of image.now (cells_in values waves p))) skew) d) }
+{
+    let waves = own_waves(alloc, pins)?;
+    let made = imaged(alloc, image, &waves, pins[0].wave.wave.period())?;
+    late(alloc, &made, skew, d)
+}
+
+/// What an element makes of its pins' folds.
+pub fn by_folds<W: CyclicWave<Item = Value>, I: Image>(
+    alloc: Global,
+    image: &I,
+    pins: &[PinWave<W>],
+    folds: &[W],
+    d: Delay,
+) -> Result<Skewed<W>, NoMemory>
+    requires some { 0 < length pins.now }
+    requires periods { HaveOnePeriod (map (λ p. skewed (W.cells p.wave.wave) p.wave.skew) pins.now) }
+    requires folds { map (λ w. W.cells w) folds.now ≡ map (λ p. folded values (skewed (W.cells p.wave.wave) p.wave.skew)) pins.now }
+    ensures { let waves = map (λ p. skewed (W.cells p.wave.wave) p.wave.skew) pins.now in
+        IfOk result (λ s. skewed (W.cells s.wave) s.skew ≡ moved values (skewed (slots (period_of waves) (λ p. I.value_of image.now (folds_in values waves p))) 0) d) }
+{
+    let made = imaged(alloc, image, folds, pins[0].wave.wave.period())?;
+    late(alloc, &made, 0, d)
+}
+
+/// What an element makes of its pins' waves, late by its delay: with the skew of the pin that moves,
+/// where at most one does, and else of the folds.
+pub fn met<W: CyclicWave<Item = Value>, I: Image>(
+    alloc: Global,
+    image: &I,
+    pins: &[PinWave<W>],
+    d: Delay,
+) -> Result<Skewed<W>, NoMemory>
+    requires some { 0 < length pins.now }
+    requires periods { HaveOnePeriod (map (λ p. skewed (W.cells p.wave.wave) p.wave.skew) pins.now) }
+    ensures { IfOk result (λ s. skewed (W.cells s.wave) s.skew ≡ moved values (meeting values (I.value_of image.now) (map (λ p. skewed (W.cells p.wave.wave) p.wave.skew) pins.now)) d) }
+{
+    match kept_skew(pins) {
+        Some(skew) => by_slots(alloc, image, pins, skew, d),
+        None => {
+            let folds = folded_waves(alloc, pins)?;
+            by_folds(alloc, image, pins, &folds, d)
+        }
+    }
+}
