@@ -1,0 +1,5 @@
+pub mod Stored
+pub mod Heard
+pub mod Sounds
+pub mod Kept
+pub mod Dependence
