@@ -1,0 +1,151 @@
+-- Canonical texts of small trees, one for each rule of spacing and of parentheses.
+use Rattle.std.proofs.Common.{◌≡◌, ℕ, pos, negsuc, Bool, true, false, List, [], ◌∷◌, Option, Some, None, refl}
+use Rattle.std.specs.Prelude.{codes}
+use Rattle.std.specs.Fmt.{digits}
+use Rattle.scald_base.specs.declared.refusal.Place.{Place}
+use Rattle.scald_base.specs.declared.assertion.AssertSpec.TheVariants.{None as Unasserted}
+use Rattle.scald_expr.specs.declared.expr.Op.TheVariants.{Add, Sub, Mul, Div, Eq, Ne, Lt, Ge}
+use Rattle.scald_expr.specs.Expression.{Expression, Number, Param, Negate, Binary}
+use Rattle.assertion_syntax.specs.declared.name.SignalName.{SignalName}
+use Rattle.drawing_tree.specs.Tree.{Range, Item, Zero, One, Named, Term, Connection, UseStatement, Use, If, nil, cons, no_else, else_}
+use Rattle.drawing_tree.specs.ExpressionText.{condition_text, sum_text}
+use Rattle.drawing_tree.specs.Canonical.{connection_text, bracketed, bracketed_if_some, use_head, use_text, wire_text, statement_lines, statements_lines, else_lines, header_lines, body_lines, macro_head, macro_lines, case_lines, canonical}
+
+-- ---- expressions
+
+abbrev num : ℕ → Expression
+num n = Number (pos n)
+
+abbrev a : Expression
+a = Param (codes "A")
+
+abbrev b : Expression
+b = Param (codes "B")
+
+-- (1+2)*3-(-(4))
+mixed : condition_text (Binary Sub (Binary Mul (Binary Add (num 1) (num 2)) (num 3)) (Negate (num 4))) ≡ codes "(1 + 2) * 3 - -4"
+unfolding digits condition_text
+mixed = refl
+
+sum_on_the_right : condition_text (Binary Sub a (Binary Add b (num 1))) ≡ codes "A - (B + 1)"
+unfolding digits condition_text
+sum_on_the_right = refl
+
+sum_on_the_left : condition_text (Binary Add (Binary Sub a b) (num 1)) ≡ codes "A - B + 1"
+unfolding digits condition_text
+sum_on_the_left = refl
+
+product_on_the_right : condition_text (Binary Div a (Binary Mul b (num 2))) ≡ codes "A / (B * 2)"
+unfolding digits condition_text
+product_on_the_right = refl
+
+product_on_the_left : condition_text (Binary Mul (Binary Div a b) (num 2)) ≡ codes "A / B * 2"
+unfolding digits condition_text
+product_on_the_left = refl
+
+minus_of_a_minus : condition_text (Negate (Negate a)) ≡ codes "-(-A)"
+unfolding digits condition_text
+minus_of_a_minus = refl
+
+minus_of_a_product : condition_text (Negate (Binary Mul (Negate a) (Negate b))) ≡ codes "-(-A * -B)"
+unfolding digits condition_text
+minus_of_a_product = refl
+
+comparison_of_comparisons : condition_text (Binary Ne (Binary Lt a b) (Binary Ge (Binary Add a b) (num 0))) ≡ codes "(A < B) != (A + B >= 0)"
+unfolding digits condition_text
+comparison_of_comparisons = refl
+
+comparison_as_a_sum : sum_text (Binary Eq a (num 8)) ≡ codes "(A = 8)"
+unfolding digits condition_text
+comparison_as_a_sum = refl
+
+-- no text has such a number
+negative_number : condition_text (Binary Sub (Number (negsuc 2)) (Number (negsuc 4))) ≡ codes "-3 - -5"
+unfolding digits condition_text
+negative_number = refl
+
+-- ---- connections
+
+abbrev here : Place
+here = record { line = 1; col = 1 }
+
+abbrev plain : List ℕ → SignalName
+plain base = record { base = base; global = false; spec = Unasserted }
+
+abbrev term : Bool → Item → Term
+term minus item = record { minus = minus; item = item }
+
+abbrev single : Item → Connection
+single item = record { terms = term false item ∷ []; hold = false; place = here }
+
+abbrev named : List ℕ → Item
+named base = Named (plain base) None
+
+abbrev bits : Expression → Option Expression → Option Range
+bits first last = Some (record { first = first; last = last })
+
+terms_and_hold : connection_text (record { terms = term true (named (codes "A")) ∷ term false Zero ∷ term true One ∷ term false (Named (record { base = codes "CK"; global = true; spec = Unasserted }) (bits (num 0) (Some (Binary Sub a (num 1))))) ∷ []; hold = true; place = here }) ≡ codes "-\"A\" & ZERO & -ONE & \"/CK\"<0:A - 1> !H"
+unfolding digits condition_text
+terms_and_hold = refl
+
+one_bit : connection_text (single (Named (plain (codes "D")) (bits (num 3) None))) ≡ codes "\"D\"<3>"
+unfolding digits condition_text
+one_bit = refl
+
+-- ---- statements
+
+abbrev buffer : UseStatement
+buffer = record {
+  label = codes "b1";
+  kind = codes "BUF";
+  delay = Some (num 0, num 0);
+  params = [];
+  ins = record { terms = term true (named (codes "A")) ∷ []; hold = false; place = here } ∷ [];
+  outs = single (named (codes "B")) ∷ [];
+  place = here;
+}
+
+abbrev checker : UseStatement
+checker = record {
+  label = codes "c";
+  kind = codes "CHK";
+  delay = None;
+  params = record { name = codes "SETUP"; value = num 20 } ∷ record { name = codes "HOLD"; value = Binary Lt a b } ∷ [];
+  ins = single (named (codes "CK")) ∷ single (named (codes "D")) ∷ [];
+  outs = [];
+  place = here;
+}
+
+params_and_no_outputs : use_text checker ≡ codes "c : CHK {SETUP=20, HOLD=(A < B)} (\"CK\", \"D\");"
+unfolding digits condition_text bracketed bracketed_if_some use_head use_text
+params_and_no_outputs = refl
+
+no_connections : use_text (record checker { params = []; ins = [] }) ≡ codes "c : CHK ();"
+unfolding digits condition_text bracketed bracketed_if_some use_head use_text
+no_connections = refl
+
+wire : wire_text (record { name = plain (codes "D"); range = bits (num 0) (Some (num 7)); min = num 0; max = Negate a; place = here }) ≡ codes "WIRE \"D\"<0:7> 0:-A;"
+unfolding digits condition_text wire_text
+wire = refl
+
+choices : statement_lines (codes "  ") (If (Binary Eq a (num 1)) (cons (If b nil no_else here) nil) (else_ (cons (Use (record checker { params = [] })) nil)) here) ≡ codes "  IF A = 1 THEN\n    IF B THEN\n    END;\n  ELSE\n    c : CHK (\"CK\", \"D\");\n  END;\n"
+unfolding digits condition_text bracketed bracketed_if_some use_head use_text statement_lines
+choices = refl
+
+empty_else : statement_lines [] (If a nil (else_ nil) here) ≡ codes "IF A THEN\nELSE\nEND;\n"
+unfolding digits condition_text statement_lines
+empty_else = refl
+
+-- ---- drawings
+
+a_macro : macro_lines (record { name = codes "M"; params = record { name = codes "A"; value = num 8 } ∷ []; ins = record { base = codes "D"; range = bits (num 0) (Some a) } ∷ []; outs = record { base = codes "Q"; range = None } ∷ []; body = nil; place = here }) ≡ codes "MACRO M {A=8} (\"D\"<0:A>) -> (\"Q\");\nEND;\n"
+unfolding digits condition_text bracketed bracketed_if_some macro_head macro_lines body_lines statements_lines
+a_macro = refl
+
+a_case : case_lines (record { entries = record { name = plain (codes "A"); bit = 0; value = 0; place = here } ∷ record { name = plain (codes "B"); bit = 1; value = 1; place = here } ∷ []; place = here }) ≡ codes "CASE \"A\"<0>=0, \"B\"<1>=1;\n"
+unfolding digits
+a_case = refl
+
+whole : canonical (record { version = 1; header = record { units = 8; ticks = 50; wire = record { min = 0; max = 0 }; pskew = (0, 0); cskew = (0, 0) }; macros = []; name = codes "T"; body = cons (Use buffer) nil; cases = [] }) ≡ codes "SCALD 1;\nCLOCK 8 x 50;\nWIRE 0:0;\nPSKEW 0:0;\nCSKEW 0:0;\nDRAWING T;\n  b1 : BUF [0:0] (-\"A\") -> (\"B\");\nEND;\n"
+unfolding digits condition_text bracketed bracketed_if_some use_head use_text statement_lines statements_lines else_lines header_lines body_lines
+whole = refl

@@ -1,0 +1,4 @@
+pub mod Joined
+pub mod Views
+pub mod Lines
+pub mod Examples

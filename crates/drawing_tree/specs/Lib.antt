@@ -1,0 +1,5 @@
+pub mod Tree
+pub mod Places
+pub mod ExpressionText
+pub mod Canonical
+pub mod WellFormed

@@ -1,0 +1,202 @@
+-- A drawing as a tree of what it holds, without where its parts lie in memory.
+use Rattle.std.specs.Prelude.{ℕ, Bool, List, [], ◌∷◌, map, Option, Some, None, option_map}
+use Rattle.std.specs.Global.{Vec}
+use Rattle.scald_base.specs.Time.{Header}
+use Rattle.scald_base.specs.declared.refusal.Place.{Place}
+use Rattle.scald_expr.specs.Expression.{Expression, expression_of}
+use Rattle.scald_expr.specs.declared.expr.Expr.{Expr}
+use Rattle.assertion_syntax.specs.declared.name.SignalName.{SignalName}
+use Rattle.drawing_tree.specs.declared.connection.RangeExpr.{RangeExpr}
+use Rattle.drawing_tree.specs.declared.connection.Item as written
+use Rattle.drawing_tree.specs.declared.connection.Item.TheVariants as item
+use Rattle.drawing_tree.specs.declared.connection.Term as written_term
+use Rattle.drawing_tree.specs.declared.connection.Conn.{Conn}
+use Rattle.drawing_tree.specs.declared.statement.Assign.{Assign}
+use Rattle.drawing_tree.specs.declared.statement.UseStmt.{UseStmt}
+use Rattle.drawing_tree.specs.declared.statement.WireStmt.{WireStmt}
+use Rattle.drawing_tree.specs.declared.statement.Stmt.{Stmt, Stmt-F, fold-Stmt}
+use Rattle.drawing_tree.specs.declared.statement.Stmt.TheOpen as layer
+use Rattle.drawing_tree.specs.declared.statement.Stmt.TheOpen.{IfStmt-F}
+use Rattle.drawing_tree.specs.declared.statement.IfStmt.{IfStmt, fold-IfStmt}
+use Rattle.drawing_tree.specs.declared.drawing.Formal as written_formal
+use Rattle.drawing_tree.specs.declared.drawing.MacroDef.{MacroDef}
+use Rattle.drawing_tree.specs.declared.drawing.CaseStmt.{CaseStmt}
+use Rattle.drawing_tree.specs.declared.drawing.Drawing as written_drawing
+
+-- ---- connections
+
+-- bits of a net: from the first to the last, or the first alone
+pub record Range : Type 0 where
+  pub first : Expression
+  pub last : Option Expression
+
+pub data Item : Type 0 where
+  Zero : Item
+  One : Item
+  Named : SignalName → Option Range → Item
+
+-- complemented where a minus stands before it
+pub record Term : Type 0 where
+  pub minus : Bool
+  pub item : Item
+
+-- bits that follow one another; hold where the hazard mark stands behind them
+pub record Connection : Type 0 where
+  pub terms : List Term
+  pub hold : Bool
+  pub place : Place
+
+-- ---- statements
+
+pub record Assignment : Type 0 where
+  pub name : List ℕ
+  pub value : Expression
+
+pub record UseStatement : Type 0 where
+  pub label : List ℕ
+  pub kind : List ℕ
+  pub delay : Option (Expression × Expression)
+  pub params : List Assignment
+  pub ins : List Connection
+  pub outs : List Connection
+  pub place : Place
+
+pub record WireStatement : Type 0 where
+  pub name : SignalName
+  pub range : Option Range
+  pub min : Expression
+  pub max : Expression
+  pub place : Place
+
+-- An IF has its test, the statements behind THEN, those behind ELSE where ELSE is written, and its place.
+mutual
+  pub data Statement : Type 0 where
+    Use : UseStatement → Statement
+    Wire : WireStatement → Statement
+    If : Expression → Statements → Otherwise → Place → Statement
+
+  pub data Statements : Type 0 where
+    nil : Statements
+    cons : Statement → Statements → Statements
+
+  pub data Otherwise : Type 0 where
+    no_else : Otherwise
+    else_ : Statements → Otherwise
+
+-- ---- drawings
+
+pub record Formal : Type 0 where
+  pub base : List ℕ
+  pub range : Option Range
+
+pub record Macro : Type 0 where
+  pub name : List ℕ
+  pub params : List Assignment
+  pub ins : List Formal
+  pub outs : List Formal
+  pub body : Statements
+  pub place : Place
+
+pub record Drawing : Type 0 where
+  pub version : ℕ
+  pub header : Header
+  pub macros : List Macro
+  pub name : List ℕ
+  pub body : Statements
+  pub cases : List CaseStmt
+
+-- ---- what the values of the program hold
+
+abbrev pub range_of : RangeExpr → Range
+range_of r = record { first = expression_of r.first; last = option_map expression_of r.last }
+
+abbrev pub item_of : written.Item → Item
+item_of item.Zero = Zero
+item_of item.One = One
+item_of (item.Named name range) = Named name (option_map range_of range)
+
+abbrev pub term_of : written_term.Term → Term
+term_of t = record { minus = t.minus; item = item_of t.item }
+
+abbrev pub connection_of : Conn → Connection
+connection_of c = record { terms = map term_of c.terms; hold = c.hold; place = c.place }
+
+abbrev pub assignment_of : Assign → Assignment
+assignment_of a = record { name = a.name; value = expression_of a.value }
+
+abbrev pub both_of : Expr × Expr → Expression × Expression
+both_of pair = (expression_of pair.0, expression_of pair.1)
+
+abbrev pub use_of : UseStmt → UseStatement
+use_of u = record {
+  label = u.label;
+  kind = u.kind;
+  delay = option_map both_of u.delay;
+  params = map assignment_of u.params;
+  ins = map connection_of u.ins;
+  outs = map connection_of u.outs;
+  place = u.place;
+}
+
+abbrev pub wire_of : WireStmt → WireStatement
+wire_of w = record {
+  name = w.name;
+  range = option_map range_of w.range;
+  min = expression_of w.min;
+  max = expression_of w.max;
+  place = w.place;
+}
+
+abbrev pub listed : List Statement → Statements
+listed [] = nil
+listed (s ∷ ss) = cons s (listed ss)
+
+abbrev pub otherwise_of : Option (Vec Statement) → Otherwise
+otherwise_of None = no_else
+otherwise_of (Some v) = else_ (listed v.items)
+
+-- one layer of a statement, with the tree of each inner statement in its place
+abbrev pub statement_layer : Stmt-F Statement Statement → Statement
+statement_layer (layer.Use u) = Use (use_of u)
+statement_layer (layer.Wire w) = Wire (wire_of w)
+statement_layer (layer.If s) = s
+
+abbrev pub if_layer : IfStmt-F Statement Statement → Statement
+if_layer s = If (expression_of s.test) (listed s.yes.items) (otherwise_of s.no) s.place
+
+abbrev pub statement_of : Stmt → Statement
+statement_of = fold-Stmt Statement Statement statement_layer if_layer
+
+abbrev pub if_of : IfStmt → Statement
+if_of = fold-IfStmt Statement Statement statement_layer if_layer
+
+abbrev pub statements_of : List Stmt → Statements
+statements_of ss = listed (map statement_of ss)
+
+-- what stands behind ELSE, where ELSE is written
+abbrev pub else_of : Option (Vec Stmt) → Otherwise
+else_of None = no_else
+else_of (Some v) = else_ (statements_of v.items)
+
+abbrev pub formal_of : written_formal.Formal → Formal
+formal_of f = record { base = f.base; range = option_map range_of f.range }
+
+abbrev pub macro_of : MacroDef → Macro
+macro_of m = record {
+  name = m.name;
+  params = map assignment_of m.params;
+  ins = map formal_of m.ins;
+  outs = map formal_of m.outs;
+  body = statements_of m.body.items;
+  place = m.place;
+}
+
+abbrev pub drawing_of : written_drawing.Drawing → Drawing
+drawing_of d = record {
+  version = d.version;
+  header = d.header;
+  macros = map macro_of d.macros;
+  name = d.name;
+  body = statements_of d.body.items;
+  cases = d.cases;
+}

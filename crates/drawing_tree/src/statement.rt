@@ -1,0 +1,62 @@
+//! Statements.
+
+use crate::connection::{Conns, RangeExpr};
+use assertion_syntax::SignalName;
+use scald_base::{Bytes, List, Place};
+use scald_expr::Expr;
+
+/// A parameter and its value.
+#[derive(Drop, PartialEq, Eq, Debug)]
+pub struct Assign {
+    pub name: Bytes,
+    pub value: Expr,
+}
+
+/// The parameters that a use gives.
+pub type Assigns = List<Assign>;
+
+/// A primitive or a macro put to use, with the place of its label.
+#[derive(Drop, PartialEq, Eq, Debug)]
+pub struct UseStmt {
+    pub label: Bytes,
+    pub kind: Bytes,
+    /// The least and the greatest delay, in ticks.
+    pub delay: Option<(Expr, Expr)>,
+    pub params: Assigns,
+    pub ins: Conns,
+    pub outs: Conns,
+    pub place: Place,
+}
+
+/// The wire bounds of a net's bits, in ticks, with the place of the word WIRE.
+#[derive(Drop, PartialEq, Eq, Debug)]
+pub struct WireStmt {
+    pub name: SignalName,
+    pub range: Option<RangeExpr>,
+    pub min: Expr,
+    pub max: Expr,
+    pub place: Place,
+}
+
+/// Statements.
+pub type Stmts = Vec<Stmt>;
+
+/// Statements for a test that is not 0, and where ELSE is written those for one that is, with the
+/// place of the word IF.
+#[cycle(stmt)]
+#[derive(Drop, PartialEq, Eq, Debug)]
+pub struct IfStmt {
+    pub test: Expr,
+    pub yes: Stmts,
+    pub no: Option<Stmts>,
+    pub place: Place,
+}
+
+/// A statement.
+#[cycle(stmt)]
+#[derive(Drop, PartialEq, Eq, Debug)]
+pub enum Stmt {
+    Use(UseStmt),
+    Wire(WireStmt),
+    If(IfStmt),
+}

@@ -1,0 +1,196 @@
+//! Writes statements.
+
+ghost use Rattle.std.specs.Prelude.{◌≡◌, ◌++◌, ◌∷◌, [], OnOk, IfOk, option_map, map, codes};
+ghost use Rattle.scald_expr.specs.Expression.{expression_of};
+ghost use Rattle.drawing_tree.specs.Tree.{assignment_of, connection_of, both_of, use_of, wire_of, statement_of, statements_of, if_of};
+ghost use Rattle.drawing_tree.specs.ExpressionText.{condition_text};
+ghost use Rattle.drawing_tree.specs.Canonical.{assignment_text, params_text, delay_text, connection_text, inputs_text, outputs_text, use_head, use_text, wire_text, line, deeper, statement_lines, statements_lines};
+
+use crate::connection::Conn;
+use crate::connection_text::{add_bounds, add_signal};
+use crate::expression_text::{add_condition, add_sum};
+use crate::printed::{Printed, add_bracketed, add_bracketed_if_some};
+use crate::statement::{Assign, IfStmt, Stmt, UseStmt, WireStmt};
+use scald_base::{Bytes, NoMemory};
+use scald_expr::Expr;
+use std::alloc::Global;
+
+impl Printed for Assign {
+    ghost text = { λ a. assignment_text (assignment_of a) };
+
+    fn add_to(&self, _alloc: Global, out: &mut Bytes) -> Result<(), NoMemory> {
+        out.extend(self.name.as_slice())?;
+        out.extend(b"=")?;
+        add_sum(out, &self.value)
+    }
+}
+
+/// Puts parameters in their braces at the end, where there are some.
+#[tactic(auto, using(crate::proofs::Joined::bracketed_if_some_map))]
+pub fn add_params(alloc: Global, out: &mut Bytes, params: &[Assign]) -> Result<(), NoMemory>
+    ensures { OnOk result (out.new ≡ out.old ++ params_text (map assignment_of params.now)) }
+{
+    add_bracketed_if_some(alloc, out, b" {", b"}", params)
+}
+
+fn add_delay(out: &mut Bytes, delay: &Option<(Expr, Expr)>) -> Result<(), NoMemory>
+    ensures { OnOk result (out.new ≡ out.old ++ delay_text (option_map both_of delay.now)) }
+{
+    let Some(delay) = delay else {
+        return Ok(());
+    };
+    out.extend(b" [")?;
+    add_bounds(out, &delay.0, &delay.1)?;
+    out.extend(b"]")
+}
+
+/// Puts the inputs of a use in their parentheses at the end.
+#[tactic(auto, using(crate::proofs::Joined::bracketed_map))]
+fn add_ins(alloc: Global, out: &mut Bytes, ins: &[Conn]) -> Result<(), NoMemory>
+    ensures { OnOk result (out.new ≡ out.old ++ inputs_text connection_text (map connection_of ins.now)) }
+{
+    add_bracketed(alloc, out, b" (", b")", ins)
+}
+
+/// Puts the outputs of a use behind an arrow at the end, where there are some.
+#[tactic(auto, using(crate::proofs::Joined::bracketed_if_some_map))]
+fn add_outs(alloc: Global, out: &mut Bytes, outs: &[Conn]) -> Result<(), NoMemory>
+    ensures { OnOk result (out.new ≡ out.old ++ outputs_text connection_text (map connection_of outs.now)) }
+{
+    add_bracketed_if_some(alloc, out, b" -> (", b")", outs)
+}
+
+/// Puts what stands before the connections of a use at the end.
+#[tactic(auto, unfolding(crate::specs::Canonical::use_head))]
+fn add_head(alloc: Global, out: &mut Bytes, u: &UseStmt) -> Result<(), NoMemory>
+    ensures { OnOk result (out.new ≡ out.old ++ use_head (use_of u.now)) }
+{
+    out.extend(u.label.as_slice())?;
+    out.extend(b" : ")?;
+    out.extend(u.kind.as_slice())?;
+    add_delay(out, &u.delay)?;
+    add_params(alloc, out, u.params.as_slice())
+}
+
+#[tactic(auto, unfolding(crate::specs::Canonical::use_text))]
+fn add_use(alloc: Global, out: &mut Bytes, u: &UseStmt) -> Result<(), NoMemory>
+    ensures { OnOk result (out.new ≡ out.old ++ use_text (use_of u.now)) }
+{
+    add_head(alloc, out, u)?;
+    add_ins(alloc, out, u.ins.as_slice())?;
+    add_outs(alloc, out, u.outs.as_slice())?;
+    out.extend(b";")
+}
+
+#[tactic(auto, unfolding(crate::specs::Canonical::wire_text))]
+fn add_wire(alloc: Global, out: &mut Bytes, wire: &WireStmt) -> Result<(), NoMemory>
+    ensures { OnOk result (out.new ≡ out.old ++ wire_text (wire_of wire.now)) }
+{
+    out.extend(b"WIRE ")?;
+    add_signal(alloc, out, &wire.name, &wire.range)?;
+    out.extend(b" ")?;
+    add_bounds(out, &wire.min, &wire.max)?;
+    out.extend(b";")
+}
+
+/// Puts a line at the end, behind its margin.
+pub fn add_line(out: &mut Bytes, margin: &[u8], text: &[u8]) -> Result<(), NoMemory>
+    ensures { OnOk result (out.new ≡ out.old ++ line margin.now text.now) }
+{
+    out.extend(margin)?;
+    out.extend(text)?;
+    out.extend(b"\n")
+}
+
+fn add_use_line(alloc: Global, out: &mut Bytes, margin: &[u8], u: &UseStmt) -> Result<(), NoMemory>
+    ensures { OnOk result (out.new ≡ out.old ++ line margin.now (use_text (use_of u.now))) }
+{
+    out.extend(margin)?;
+    add_use(alloc, out, u)?;
+    out.extend(b"\n")
+}
+
+fn add_wire_line(
+    alloc: Global,
+    out: &mut Bytes,
+    margin: &[u8],
+    wire: &WireStmt,
+) -> Result<(), NoMemory>
+    ensures { OnOk result (out.new ≡ out.old ++ line margin.now (wire_text (wire_of wire.now))) }
+{
+    out.extend(margin)?;
+    add_wire(alloc, out, wire)?;
+    out.extend(b"\n")
+}
+
+/// Puts the first line of an IF at the end.
+fn add_if_line(out: &mut Bytes, margin: &[u8], test: &Expr) -> Result<(), NoMemory>
+    ensures { OnOk result (out.new ≡ out.old ++ line margin.now (codes "IF " ++ condition_text (expression_of test.now) ++ codes " THEN")) }
+{
+    out.extend(margin)?;
+    out.extend(b"IF ")?;
+    add_condition(out, test)?;
+    out.extend(b" THEN\n")
+}
+
+/// The margin of what an IF holds.
+fn deeper(alloc: Global, margin: &[u8]) -> Result<Bytes, NoMemory>
+    ensures { IfOk result (λ inside. inside ≡ deeper margin.now) }
+{
+    let mut inside = Bytes::new(alloc);
+    inside.extend(margin)?;
+    inside.extend(b"  ")?;
+    Ok(inside)
+}
+
+/// Puts the lines of a statement at the end, each behind the margin.
+#[cycle(statement)]
+#[tactic(auto, using(crate::proofs::Views::view_use, crate::proofs::Views::view_wire, crate::proofs::Views::view_choice), unfolding(crate::specs::Canonical::statement_lines))]
+fn add_statement(
+    alloc: Global,
+    out: &mut Bytes,
+    margin: &[u8],
+    statement: &Stmt,
+) -> Result<(), NoMemory>
+    ensures { OnOk result (out.new ≡ out.old ++ statement_lines margin.now (statement_of statement.now)) }
+{
+    match statement {
+        Stmt::Use(u) => add_use_line(alloc, out, margin, u),
+        Stmt::Wire(wire) => add_wire_line(alloc, out, margin, wire),
+        Stmt::If(choice) => add_if(alloc, out, margin, choice),
+    }
+}
+
+/// Puts the lines of an IF at the end, each behind the margin, and what it holds two spaces further in.
+#[cycle(statement)]
+#[tactic(auto, using(crate::proofs::Views::view_if), unfolding(crate::specs::Canonical::statement_lines))]
+fn add_if(alloc: Global, out: &mut Bytes, margin: &[u8], choice: &IfStmt) -> Result<(), NoMemory>
+    ensures { OnOk result (out.new ≡ out.old ++ statement_lines margin.now (if_of choice.now)) }
+{
+    let inside = deeper(alloc, margin)?;
+    add_if_line(out, margin, &choice.test)?;
+    add_statements(alloc, out, inside.as_slice(), choice.yes.as_slice())?;
+    let Some(otherwise) = &choice.no else {
+        return add_line(out, margin, b"END;");
+    };
+    add_line(out, margin, b"ELSE")?;
+    add_statements(alloc, out, inside.as_slice(), otherwise.as_slice())?;
+    add_line(out, margin, b"END;")
+}
+
+/// Puts the lines of statements at the end, each behind the margin.
+#[cycle(statement)]
+#[tactic(auto, unfolding(crate::specs::Canonical::statements_lines))]
+pub fn add_statements(
+    alloc: Global,
+    out: &mut Bytes,
+    margin: &[u8],
+    statements: &[Stmt],
+) -> Result<(), NoMemory>
+    ensures { OnOk result (out.new ≡ out.old ++ statements_lines margin.now (statements_of statements.now)) }
+{
+    'statements: for statement in statements {
+        add_statement(alloc, out, margin, statement)?;
+    }
+    Ok(())
+}
