@@ -1,0 +1,15 @@
+use Rattle.std.proofs.Common.{◌≤◌, List, ◌∷◌, ◌++◌, length}
+use Rattle.drawing_reader.specs.Grammar.{Need, part, group}
+use Rattle.drawing_reader.specs.Grammar as g
+use Rattle.drawing_reader.specs.Machine.{Moves}
+use Rattle.drawing_reader.specs.Reader.{ahead}
+use Rattle.drawing_reader.proofs.cursor.Cursor.cases.Given as goal
+
+abbrev pub invariant-each : goal.invariant-each
+invariant-each l = record {
+  reads : (rest : List Need) → Moves (ahead l.fn.self (group g.Cases 0 ∷ rest)) (ahead l.self (group g.Cases 0 ∷ rest)) (λ v. (l.all ++ v.0, v.1));
+  no_longer : length l.self.rest.now ≤ length l.fn.self.rest.now;
+}
+
+abbrev pub decreases-each : goal.decreases-each
+decreases-each l = length l.self.rest.now

@@ -1,0 +1,40 @@
+-- What reading a text answers, against the grammar.
+use Rattle.std.specs.Prelude.{◌≡◌, List, map, Result, Ok, Err, ⊤, ◌⊎◌}
+use Rattle.scald_base.specs.declared.refusal.Refusal.{Refusal}
+use Rattle.scald_base.specs.declared.refusal.Stop.{Stop}
+use Rattle.scald_base.specs.declared.refusal.Stop.TheVariants as stop
+use Rattle.drawing_tree.specs.Tree.{macro_of, statements_of}
+use Rattle.drawing_reader.specs.declared.reader.Sketch as written
+use Rattle.drawing_reader.specs.Lexeme.{Lexeme}
+use Rattle.drawing_reader.specs.Sketch.{Sketch}
+use Rattle.drawing_reader.specs.Draws.{whole, IsRefused}
+use Rattle.drawing_reader.specs.Machine.{Complete, verdict, Says}
+
+abbrev pub sketch_of : written.Sketch → Sketch
+sketch_of x = record {
+  header = x.header;
+  macros = record { macros = map macro_of x.macros; heads = x.heads };
+  name = x.name;
+  body = statements_of x.body.items;
+  cases = x.cases;
+}
+
+-- Reading stops because the tokens are refused so, or memory ran out.
+abbrev pub IsStop : List Lexeme → Stop → Type 0
+IsStop ts (stop.Refused r) = IsRefused ts r
+IsStop ts stop.NoMemory = ⊤
+
+-- The answer is this, unless memory ran out.
+abbrev pub GivesSketch : Sketch → Result written.Sketch Stop → Type 0
+GivesSketch s (Ok found) = sketch_of found ≡ s
+GivesSketch s (Err e) = e ≡ stop.NoMemory
+
+-- The answer is this refusal, unless memory ran out.
+abbrev pub GivesRefusal : Refusal → Result written.Sketch Stop → Type 0
+GivesRefusal r (Ok found) = ⊥
+GivesRefusal r (Err e) = (e ≡ stop.Refused r) ⊎ (e ≡ stop.NoMemory)
+
+-- The answer is what the tokens say.
+abbrev pub Answers : Result written.Sketch Stop → List Lexeme → Type 0
+Answers (Ok found) ts = verdict ts whole 0 ≡ Complete (sketch_of found, tt)
+Answers (Err e) ts = Says (verdict ts whole 0) e

@@ -1,0 +1,169 @@
+//! The tokens that are still to be read.
+
+ghost use Rattle.std.specs.Prelude.{◌≡◌, ◌≢◌, ◌↔◌, ◌≤◌, ◌<◌, ℕ, suc, List, [], ◌∷◌, ◌++◌, length, IfOk, OnOk, IfErr, IsTrue, IsFalse, Some, None, slice_range};
+ghost use Rattle.scald_lex.specs.declared.token.TokenKind.TheVariants.{End};
+ghost use Rattle.drawing_reader.specs.declared.terminal.Terminal.TheVariants.{EndOfText};
+ghost use Rattle.drawing_reader.specs.Grammar.{Need, mark, item, letter as letter_need};
+ghost use Rattle.drawing_reader.specs.Machine.{Gives, refusal};
+ghost use Rattle.drawing_reader.specs.Reader.{tokens_at, ahead, at, first_terminal, first_place, first_text, Lettered, first_token, other_tokens};
+
+use crate::terminal::{Letter, Terminal, terminal_of};
+use scald_base::{Place, Refusal, RefusalKind, Stop};
+use scald_lex::{Token, TokenKind};
+
+/// Reads the tokens of a text from the front.
+#[derive(Drop)]
+pub struct Cursor<'a> {
+    pub text: &'a [u8],
+    pub rest: &'a [Token],
+    /// How many binary operators of the expression have come.
+    pub operators: usize,
+}
+
+/// The bytes of a token.
+pub fn text_of<'a>(text: &'a [u8], token: Token) -> &'a [u8]
+    ensures { result.now ≡ slice_range text.now token.start token.end }
+{
+    let from = (token.start as usize).min(text.len());
+    let behind = &text[from..];
+    let count = (token.end as usize)
+        .saturating_sub(token.start as usize)
+        .min(behind.len());
+    &behind[..count]
+}
+
+impl<'a> Cursor<'a> {
+    /// What the grammar takes the next token for.
+    pub fn look(&self) -> Terminal
+        ensures { result ≡ first_terminal (tokens_at self.now) }
+    {
+        match self.rest.first() {
+            None => Terminal::EndOfText,
+            Some(token) => terminal_of(token.kind, text_of(self.text, *token)),
+        }
+    }
+
+    /// The place of the next token.
+    pub fn place(&self) -> Place
+        ensures { result ≡ first_place (tokens_at self.now) }
+    {
+        match self.rest.first() {
+            None => Place { line: 0, col: 0 },
+            Some(token) => token.place,
+        }
+    }
+
+    /// Why the next token is refused.
+    pub fn refused(&self, kind: RefusalKind) -> Stop
+        ensures { result ≡ Stop.Refused (refusal kind (first_place (tokens_at self.now))) }
+    {
+        Stop::Refused(Refusal {
+            kind,
+            place: self.place(),
+        })
+    }
+
+    pub fn peek(&self) -> Option<Token>
+        ensures { result ≡ first_token self.now.rest.now }
+    {
+        self.rest.first().copied()
+    }
+
+    pub fn advance(&mut self)
+        ensures rest { self.new.rest.now ≡ other_tokens self.old.rest.now }
+        ensures no_longer { length self.new.rest.now ≤ length self.old.rest.now }
+        ensures text { self.new.text.now ≡ self.old.text.now }
+        ensures operators { self.new.operators ≡ self.old.operators }
+    {
+        if let Some((_, rest)) = self.rest.split_first() {
+            self.rest = rest;
+        }
+    }
+
+    /// Whether the next token is this terminal.
+    pub fn starts(&self, terminal: Terminal) -> bool
+        ensures yes { IsTrue result → first_terminal (tokens_at self.now) ≡ terminal }
+        ensures no { IsFalse result → first_terminal (tokens_at self.now) ≢ terminal }
+    {
+        self.look() == terminal
+    }
+
+    /// Takes the next token, where one is left.
+    pub fn bump(&mut self) -> Token
+        ensures shorter { first_terminal (tokens_at self.old) ≢ EndOfText → length self.new.rest.now < length self.old.rest.now }
+        ensures no_longer { length self.new.rest.now ≤ length self.old.rest.now }
+        ensures taken { first_terminal (tokens_at self.old) ≢ EndOfText → tokens_at self.old ≡ at self.old result ∷ tokens_at self.new }
+        ensures text { self.new.text.now ≡ self.old.text.now }
+        ensures operators { self.new.operators ≡ self.old.operators }
+    {
+        let Some(token) = self.peek() else {
+            return Token {
+                kind: TokenKind::End,
+                place: self.place(),
+                start: 0,
+                end: 0,
+            };
+        };
+        self.advance();
+        token
+    }
+
+    /// Takes a token that has to stand here.
+    pub fn mark(&mut self, terminal: Terminal) -> Result<(), Stop>
+        requires { terminal ≢ EndOfText }
+        ensures reads { (rest : List Need) → Gives result (λ _ v. v) (ahead self.old (mark terminal ∷ rest)) (ahead self.new rest) }
+        ensures shorter { OnOk result (length self.new.rest.now < length self.old.rest.now) }
+        ensures no_longer { length self.new.rest.now ≤ length self.old.rest.now }
+    {
+        if !self.starts(terminal) {
+            return Err(self.refused(RefusalKind::Syntax));
+        }
+        self.bump();
+        Ok(())
+    }
+
+    /// Takes a token that has to stand here, and whose text counts.
+    pub fn item(&mut self, terminal: Terminal) -> Result<Token, Stop>
+        requires { terminal ≢ EndOfText }
+        ensures reads { (rest : List Need) → Gives result (λ t v. (at self.old t, v)) (ahead self.old (item terminal ∷ rest)) (ahead self.new rest) }
+        ensures shorter { OnOk result (length self.new.rest.now < length self.old.rest.now) }
+        ensures no_longer { length self.new.rest.now ≤ length self.old.rest.now }
+        ensures text { self.new.text.now ≡ self.old.text.now }
+    {
+        if !self.starts(terminal) {
+            return Err(self.refused(RefusalKind::Syntax));
+        }
+        Ok(self.bump())
+    }
+
+    fn first_text(&self) -> &[u8]
+        ensures { result.now ≡ first_text (tokens_at self.now) }
+    {
+        match self.rest.first() {
+            None => &[],
+            Some(token) => text_of(self.text, *token),
+        }
+    }
+
+    fn at_letter(&self, letter: Letter) -> bool
+        ensures yes { IsTrue result → Lettered letter (tokens_at self.now) }
+        ensures no { IsFalse result → ¬ Lettered letter (tokens_at self.now) }
+    {
+        if !self.starts(Terminal::Word) {
+            return false;
+        }
+        self.first_text() == letter.text()
+    }
+
+    /// Takes a word that has to be this letter.
+    pub fn letter(&mut self, letter: Letter) -> Result<(), Stop>
+        ensures reads { (rest : List Need) → Gives result (λ _ v. v) (ahead self.old (letter_need letter ∷ rest)) (ahead self.new rest) }
+        ensures no_longer { length self.new.rest.now ≤ length self.old.rest.now }
+    {
+        if !self.at_letter(letter) {
+            return Err(self.refused(RefusalKind::Syntax));
+        }
+        self.bump();
+        Ok(())
+    }
+}

@@ -1,0 +1,65 @@
+//! The drawing of a text.
+
+ghost use Rattle.std.specs.Prelude.{IfOk, IfErr};
+ghost use Rattle.scald_lex.specs.Tokens.{AreTokens};
+ghost use Rattle.drawing_tree.specs.Tree.{drawing_of};
+ghost use Rattle.drawing_reader.specs.Lexeme.{lexemes};
+ghost use Rattle.drawing_tree.specs.Canonical.{canonical};
+ghost use Rattle.drawing_reader.specs.CanonicalDraws.{DrawsAgain, IsShallowDrawing};
+ghost use Rattle.drawing_reader.specs.Drawing.{Draws, IsWrongStop};
+
+use crate::double_names::distinct_names;
+use crate::header::judged_header;
+use crate::names::judged_names;
+use crate::reader::{Sketch, read_sketch};
+use drawing_tree::Drawing;
+use scald_base::Stop;
+use scald_lex::TokenList;
+use std::alloc::Global;
+
+/// The drawing of a text, whose tokens these are, or its first refusal: `Syntax` or `TooDeep`,
+/// whichever token comes first; then `BadHeader`; then `BadName` and `EdgesOverlap`, name by name; then
+/// `DoubleName`. The canonical text of the drawing draws it again, places aside, where it does not nest
+/// too deep.
+pub fn read_drawing(alloc: Global, text: &[u8], tokens: &TokenList) -> Result<Drawing, Stop>
+    requires { AreTokens text.now tokens.now }
+    ensures drawn { IfOk result (λ d. Draws (lexemes text.now tokens.now) (drawing_of d)) }
+    ensures again { IfOk result (λ d. IsShallowDrawing (drawing_of d) → DrawsAgain (canonical (drawing_of d)) (drawing_of d)) }
+    ensures refused { IfErr result (λ stop. IsWrongStop (lexemes text.now tokens.now) stop) }
+{
+    let sketch = match read_sketch(alloc, text, tokens) {
+        Ok(sketch) => sketch,
+        Err(stop) => return Err(stop),
+    };
+    let header = match judged_header(&sketch.header) {
+        Ok(header) => header,
+        Err(refusal) => return Err(Stop::Refused(refusal)),
+    };
+    if let Err(stop) = judged_names(alloc, text, tokens.as_slice(), &header) {
+        return Err(stop);
+    }
+    if let Err(stop) = distinct_names(
+        alloc,
+        &sketch.macros,
+        sketch.heads.as_slice(),
+        sketch.body.as_slice(),
+    ) {
+        return Err(stop);
+    }
+    let Sketch {
+        header: _,
+        macros,
+        heads: _,
+        name,
+        body,
+        cases,
+    } = sketch;
+    Ok(Drawing {
+        version: 1,
+        header,
+        macros,
+        name,
+        body,
+        cases,
+    })
+}

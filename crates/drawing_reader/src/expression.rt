@@ -1,0 +1,257 @@
+//! Reads expressions. Each function is told how many parentheses and minus signs are open.
+
+ghost use Rattle.std.specs.Prelude.{◌≡◌, ◌≢◌, ◌≤◌, ◌<◌, ℕ, suc, List, [], ◌∷◌, length, IfOk, OnOk, IfErr, IfSome, Some, None};
+ghost use Rattle.scald_expr.specs.Expression.{expression_of};
+ghost use Rattle.scald_expr.specs.Expression as Expression;
+ghost use Rattle.drawing_reader.specs.declared.terminal.Terminal.TheVariants.{EndOfText};
+ghost use Rattle.drawing_reader.specs.Lexeme.{kind_number};
+ghost use Rattle.drawing_reader.specs.Grammar.{Need, part, group, fresh, Unary, OrEqual, Product, Sum, Expr as Whole};
+ghost use Rattle.drawing_reader.specs.Sketch.{less_or, greater_or};
+ghost use Rattle.drawing_reader.specs.Machine.{Gives, Moves, refusal, nowhere};
+ghost use Rattle.drawing_reader.specs.Reader.{tokens_at, ahead, at, first_terminal, first_place, Taken};
+ghost use Rattle.drawing_reader.specs.Operators.{FactorAt, TermAt, ComparisonAt};
+
+use crate::cursor::{Cursor, text_of};
+use crate::terminal::Terminal;
+use scald_base::{Bytes, NoMemory, RefusalKind, Stop};
+use scald_expr::{Expr, Op};
+use scald_lex::TokenKind;
+use std::alloc::Global;
+
+/// The most parentheses and minus signs that may be open at once, and the most binary operators of an expression.
+const LIMIT: usize = 64;
+
+fn number(kind: TokenKind) -> Expr
+    ensures { expression_of result ≡ Expression.Number (kind_number kind) }
+{
+    match kind {
+        TokenKind::Number(value) => Expr::Number(value),
+        _ => Expr::Number(0),
+    }
+}
+
+fn negated(alloc: Global, operand: Expr) -> Result<Expr, NoMemory>
+    ensures { IfOk result (λ e. expression_of e ≡ Expression.Negate (expression_of operand)) }
+{
+    Ok(Expr::Negate(Box::new(alloc, operand)?))
+}
+
+fn binary(alloc: Global, op: Op, left: Expr, right: Expr) -> Result<Expr, NoMemory>
+    ensures { IfOk result (λ e. expression_of e ≡ Expression.Binary op (expression_of left) (expression_of right)) }
+{
+    let left = Box::new(alloc, left)?;
+    let right = Box::new(alloc, right)?;
+    Ok(Expr::Binary(op, left, right))
+}
+
+fn below(equal: bool) -> Op
+    ensures { result ≡ less_or equal }
+{
+    if equal { Op::Le } else { Op::Lt }
+}
+
+fn above(equal: bool) -> Op
+    ensures { result ≡ greater_or equal }
+{
+    if equal { Op::Ge } else { Op::Gt }
+}
+
+impl<'a> Cursor<'a> {
+    /// One more is open, where the limit allows it.
+    pub fn deeper(&self, depth: usize) -> Result<usize, Stop>
+        ensures ok { IfOk result (λ n. n ≡ suc depth) }
+        ensures room { OnOk result (depth < 64) }
+        ensures err { IfErr result (λ s. (s ≡ Stop.Refused (refusal RefusalKind.TooDeep (first_place (tokens_at self.now)))) × (64 ≤ depth)) }
+    {
+        if depth >= LIMIT {
+            return Err(self.refused(RefusalKind::TooDeep));
+        }
+        Ok(depth + 1)
+    }
+
+    /// Takes the first token of a binary operator.
+    fn operator(&mut self) -> Result<(), Stop>
+        ensures taken { OnOk result (first_terminal (tokens_at self.old) ≢ EndOfText → Taken self.old self.new) }
+        ensures counted { OnOk result (self.new.operators ≡ suc self.old.operators) }
+        ensures room { OnOk result (self.old.operators < 64) }
+        ensures err { IfErr result (λ s. (s ≡ Stop.Refused (refusal RefusalKind.TooDeep (first_place (tokens_at self.old)))) × (64 ≤ self.old.operators)) }
+        ensures shorter { OnOk result (first_terminal (tokens_at self.old) ≢ EndOfText → length self.new.rest.now < length self.old.rest.now) }
+        ensures no_longer { length self.new.rest.now ≤ length self.old.rest.now }
+    {
+        if self.operators >= LIMIT {
+            return Err(self.refused(RefusalKind::TooDeep));
+        }
+        self.bump();
+        self.operators += 1;
+        Ok(())
+    }
+
+    fn factor_operator(&mut self) -> Result<Option<Op>, Stop>
+        ensures reads { FactorAt result self.old self.new }
+        ensures shorter { IfOk result (λ o. IfSome o (λ _. length self.new.rest.now < length self.old.rest.now)) }
+        ensures no_longer { length self.new.rest.now ≤ length self.old.rest.now }
+    {
+        match self.look() {
+            Terminal::Star => {
+                self.operator()?;
+                Ok(Some(Op::Mul))
+            }
+            Terminal::Slash => {
+                self.operator()?;
+                Ok(Some(Op::Div))
+            }
+            _ => Ok(None),
+        }
+    }
+
+    fn term_operator(&mut self) -> Result<Option<Op>, Stop>
+        ensures reads { TermAt result self.old self.new }
+        ensures shorter { IfOk result (λ o. IfSome o (λ _. length self.new.rest.now < length self.old.rest.now)) }
+        ensures no_longer { length self.new.rest.now ≤ length self.old.rest.now }
+    {
+        match self.look() {
+            Terminal::Plus => {
+                self.operator()?;
+                Ok(Some(Op::Add))
+            }
+            Terminal::Minus => {
+                self.operator()?;
+                Ok(Some(Op::Sub))
+            }
+            _ => Ok(None),
+        }
+    }
+
+    /// Takes an equals sign that may stand here.
+    fn or_equal(&mut self) -> bool
+        ensures reads { (n : ℕ) (rest : List Need) → Moves (ahead self.old (part OrEqual n ∷ rest)) (ahead self.new rest) (λ v. (result, v)) }
+        ensures no_longer { length self.new.rest.now ≤ length self.old.rest.now }
+    {
+        if !self.starts(Terminal::Equals) {
+            return false;
+        }
+        self.bump();
+        true
+    }
+
+    fn comparison(&mut self) -> Result<Option<Op>, Stop>
+        ensures reads { ComparisonAt result self.old self.new }
+        ensures no_longer { length self.new.rest.now ≤ length self.old.rest.now }
+    {
+        match self.look() {
+            Terminal::Equals => {
+                self.operator()?;
+                Ok(Some(Op::Eq))
+            }
+            Terminal::Exclamation => {
+                self.operator()?;
+                self.mark(Terminal::Equals)?;
+                Ok(Some(Op::Ne))
+            }
+            Terminal::Less => {
+                self.operator()?;
+                let equal = self.or_equal();
+                Ok(Some(below(equal)))
+            }
+            Terminal::Greater => {
+                self.operator()?;
+                let equal = self.or_equal();
+                Ok(Some(above(equal)))
+            }
+            _ => Ok(None),
+        }
+    }
+
+    #[cycle(expression)]
+    fn unary(&mut self, alloc: Global, depth: usize) -> Result<Expr, Stop>
+        ensures reads { (rest : List Need) → Gives result (λ e v. (expression_of e, v)) (ahead self.old (part Unary depth ∷ rest)) (ahead self.new rest) }
+        ensures no_longer { length self.new.rest.now ≤ length self.old.rest.now }
+    {
+        match self.look() {
+            Terminal::Number => {
+                let token = self.bump();
+                Ok(number(token.kind))
+            }
+            Terminal::Word => {
+                let token = self.bump();
+                let name = Bytes::of(alloc, text_of(self.text, token))?;
+                Ok(Expr::Param(name))
+            }
+            Terminal::Minus => {
+                let inner = self.deeper(depth)?;
+                self.bump();
+                let operand = self.unary(alloc, inner)?;
+                Ok(negated(alloc, operand)?)
+            }
+            Terminal::OpenParenthesis => {
+                let inner = self.deeper(depth)?;
+                self.bump();
+                let whole = self.whole(alloc, inner)?;
+                self.mark(Terminal::CloseParenthesis)?;
+                Ok(whole)
+            }
+            _ => Err(self.refused(RefusalKind::Syntax)),
+        }
+    }
+
+    #[cycle(expression)]
+    fn product(&mut self, alloc: Global, depth: usize) -> Result<Expr, Stop>
+        ensures reads { (rest : List Need) → Gives result (λ e v. (expression_of e, v)) (ahead self.old (group Product depth ∷ rest)) (ahead self.new rest) }
+        ensures no_longer { length self.new.rest.now ≤ length self.old.rest.now }
+    {
+        let mut left = self.unary(alloc, depth)?;
+        'factors: while let Some(op) = self.factor_operator()? {
+            let right = self.unary(alloc, depth)?;
+            left = binary(alloc, op, left, right)?;
+        }
+        Ok(left)
+    }
+
+    #[cycle(expression)]
+    fn sum(&mut self, alloc: Global, depth: usize) -> Result<Expr, Stop>
+        ensures reads { (rest : List Need) → Gives result (λ e v. (expression_of e, v)) (ahead self.old (group Sum depth ∷ rest)) (ahead self.new rest) }
+        ensures no_longer { length self.new.rest.now ≤ length self.old.rest.now }
+    {
+        let mut left = self.product(alloc, depth)?;
+        'terms: while let Some(op) = self.term_operator()? {
+            let right = self.product(alloc, depth)?;
+            left = binary(alloc, op, left, right)?;
+        }
+        Ok(left)
+    }
+
+    #[cycle(expression)]
+    fn whole(&mut self, alloc: Global, depth: usize) -> Result<Expr, Stop>
+        ensures reads { (rest : List Need) → Gives result (λ e v. (expression_of e, v)) (ahead self.old (group Whole depth ∷ rest)) (ahead self.new rest) }
+        ensures no_longer { length self.new.rest.now ≤ length self.old.rest.now }
+    {
+        let left = self.sum(alloc, depth)?;
+        match self.comparison()? {
+            None => Ok(left),
+            Some(op) => {
+                let right = self.sum(alloc, depth)?;
+                Ok(binary(alloc, op, left, right)?)
+            }
+        }
+    }
+
+    /// A sum that is an expression of its own.
+    pub fn own_sum(&mut self, alloc: Global) -> Result<Expr, Stop>
+        ensures reads { (rest : List Need) → Gives result (λ e v. (expression_of e, v)) (ahead self.old (fresh ∷ group Sum 0 ∷ rest)) (ahead self.new rest) }
+        ensures no_longer { length self.new.rest.now ≤ length self.old.rest.now }
+    {
+        self.operators = 0;
+        let sum = self.sum(alloc, 0)?;
+        Ok(sum)
+    }
+
+    /// An expression, which may be a comparison.
+    pub fn own_expression(&mut self, alloc: Global) -> Result<Expr, Stop>
+        ensures reads { (rest : List Need) → Gives result (λ e v. (expression_of e, v)) (ahead self.old (fresh ∷ group Whole 0 ∷ rest)) (ahead self.new rest) }
+        ensures no_longer { length self.new.rest.now ≤ length self.old.rest.now }
+    {
+        self.operators = 0;
+        let whole = self.whole(alloc, 0)?;
+        Ok(whole)
+    }
+}

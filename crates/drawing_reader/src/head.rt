@@ -1,0 +1,14 @@
+//! The places of what a macro's head declares.
+
+use scald_base::{List, Place};
+
+/// Places of tokens.
+pub type Places = List<Place>;
+
+/// Where a macro's head names its parameters, its inputs and its outputs.
+#[derive(Drop, PartialEq, Eq, Debug)]
+pub struct Head {
+    pub parameters: Places,
+    pub ins: Places,
+    pub outs: Places,
+}

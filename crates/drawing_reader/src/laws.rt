@@ -1,0 +1,25 @@
+//! Laws of drawings and their texts. The functions do nothing: what each states is its contract.
+
+ghost use Rattle.drawing_reader.specs.CanonicalDraws.{CanonicalDraws};
+ghost use Rattle.drawing_reader.specs.Laws.{NotBoth, OneDrawing, OneRefusal};
+
+/// Tokens draw one drawing alone.
+pub fn one_drawing()
+    ensures { OneDrawing }
+{}
+
+/// Tokens that draw a drawing are not refused.
+pub fn not_both()
+    ensures { NotBoth }
+{}
+
+/// Tokens are refused for one reason, at one place.
+pub fn one_refusal()
+    ensures { OneRefusal }
+{}
+
+/// What some text draws, its canonical text draws too, places aside, where that text does not nest
+/// too deep: at most 64 parentheses and minus signs are open at once in an expression.
+pub fn canonical_draws()
+    ensures { CanonicalDraws }
+{}

@@ -1,0 +1,130 @@
+//! Reads macros.
+
+ghost use Rattle.std.specs.Prelude.{◌≡◌, ◌≤◌, ◌<◌, ℕ, List, [], ◌∷◌, map, length, IfOk, OnOk};
+ghost use Rattle.drawing_tree.specs.Tree.{formal_of, macro_of};
+ghost use Rattle.drawing_reader.specs.Grammar.{Need, part, group, Formal as FormalPart, SomeFormals, Formals as FormalsGroup, FormalOutputs, Macro as MacroPart, Macros as MacrosGroup};
+ghost use Rattle.drawing_reader.specs.Machine.{Gives};
+ghost use Rattle.drawing_reader.specs.Reader.{ahead};
+
+use crate::cursor::Cursor;
+use crate::head::{Head, Places};
+use crate::terminal::Terminal;
+use assertion_syntax::SignalName;
+use drawing_tree::{Formal, Formals, MacroDef, MacroDefs};
+use scald_base::{List, Place, RefusalKind, Stop};
+use std::alloc::Global;
+
+impl<'a> Cursor<'a> {
+    /// A formal, and the place of its name.
+    fn formal(&mut self, alloc: Global) -> Result<(Formal, Place), Stop>
+        ensures reads { (rest : List Need) → Gives result (λ x v. (record { item = formal_of x.0; place = x.1 }, v)) (ahead self.old (part FormalPart 0 ∷ rest)) (ahead self.new rest) }
+        ensures no_longer { length self.new.rest.now ≤ length self.old.rest.now }
+    {
+        if !self.starts(Terminal::Name) {
+            return Err(self.refused(RefusalKind::Syntax));
+        }
+        let token = self.bump();
+        let name = self.name(alloc, token)?;
+        let SignalName {
+            base,
+            global: _,
+            spec: _,
+        } = name;
+        let range = self.range(alloc)?;
+        Ok((Formal { base, range }, token.place))
+    }
+
+    fn some_formals(&mut self, alloc: Global) -> Result<(Formals, Places), Stop>
+        ensures reads { (rest : List Need) → Gives result (λ x v. (record { items = map formal_of x.0; places = x.1 }, v)) (ahead self.old (group SomeFormals 0 ∷ rest)) (ahead self.new rest) }
+        ensures no_longer { length self.new.rest.now ≤ length self.old.rest.now }
+    {
+        let (first, place) = self.formal(alloc)?;
+        let mut all = Formals::new(alloc);
+        all.push(first)?;
+        let mut places = Places::new(alloc);
+        places.push(place)?;
+        'more: while self.starts(Terminal::Comma) {
+            self.bump();
+            let (next, place) = self.formal(alloc)?;
+            all.push(next)?;
+            places.push(place)?;
+        }
+        Ok((all, places))
+    }
+
+    fn formals(&mut self, alloc: Global) -> Result<(Formals, Places), Stop>
+        ensures reads { (rest : List Need) → Gives result (λ x v. (record { items = map formal_of x.0; places = x.1 }, v)) (ahead self.old (group FormalsGroup 0 ∷ rest)) (ahead self.new rest) }
+        ensures no_longer { length self.new.rest.now ≤ length self.old.rest.now }
+    {
+        if !self.starts(Terminal::Name) {
+            return Ok((Formals::new(alloc), Places::new(alloc)));
+        }
+        let all = self.some_formals(alloc)?;
+        Ok(all)
+    }
+
+    fn formal_outputs(&mut self, alloc: Global) -> Result<(Formals, Places), Stop>
+        ensures reads { (rest : List Need) → Gives result (λ x v. (record { items = map formal_of x.0; places = x.1 }, v)) (ahead self.old (part FormalOutputs 0 ∷ rest)) (ahead self.new rest) }
+        ensures no_longer { length self.new.rest.now ≤ length self.old.rest.now }
+    {
+        if !self.starts(Terminal::Arrow) {
+            return Ok((Formals::new(alloc), Places::new(alloc)));
+        }
+        self.bump();
+        self.mark(Terminal::OpenParenthesis)?;
+        let all = self.some_formals(alloc)?;
+        self.mark(Terminal::CloseParenthesis)?;
+        Ok(all)
+    }
+
+    fn definition(&mut self, alloc: Global) -> Result<(MacroDef, Head), Stop>
+        ensures reads { (rest : List Need) → Gives result (λ x v. (record { macro = macro_of x.0; head = x.1 }, v)) (ahead self.old (part MacroPart 0 ∷ rest)) (ahead self.new rest) }
+        ensures shorter { OnOk result (length self.new.rest.now < length self.old.rest.now) }
+        ensures no_longer { length self.new.rest.now ≤ length self.old.rest.now }
+    {
+        if !self.starts(Terminal::Macro) {
+            return Err(self.refused(RefusalKind::Syntax));
+        }
+        self.bump();
+        let token = self.item(Terminal::Word)?;
+        let name = self.word(alloc, token)?;
+        let (params, parameters) = self.parameters(alloc)?;
+        self.mark(Terminal::OpenParenthesis)?;
+        let (ins, in_places) = self.formals(alloc)?;
+        self.mark(Terminal::CloseParenthesis)?;
+        let (outs, out_places) = self.formal_outputs(alloc)?;
+        self.mark(Terminal::Semicolon)?;
+        let body = self.statements(alloc, 0)?;
+        self.mark(Terminal::End)?;
+        self.mark(Terminal::Semicolon)?;
+        let head = Head {
+            parameters,
+            ins: in_places,
+            outs: out_places,
+        };
+        let definition = MacroDef {
+            name,
+            params,
+            ins,
+            outs,
+            body,
+            place: token.place,
+        };
+        Ok((definition, head))
+    }
+
+    /// The macros, and where their heads name what they declare.
+    pub fn definitions(&mut self, alloc: Global) -> Result<(MacroDefs, List<Head>), Stop>
+        ensures reads { (rest : List Need) → Gives result (λ x v. (record { macros = map macro_of x.0; heads = x.1 }, v)) (ahead self.old (group MacrosGroup 0 ∷ rest)) (ahead self.new rest) }
+        ensures no_longer { length self.new.rest.now ≤ length self.old.rest.now }
+    {
+        let mut all = MacroDefs::new(alloc);
+        let mut heads = List::new(alloc);
+        'each: while self.starts(Terminal::Macro) {
+            let (next, head) = self.definition(alloc)?;
+            all.push(next)?;
+            heads.push(head)?;
+        }
+        Ok((all, heads))
+    }
+}

@@ -1,0 +1,115 @@
+//! The names of a text.
+
+ghost use Rattle.std.specs.Prelude.{◌≡◌, ◌↔◌, ◌∷◌, [], IsTrue, IfOk, IfErr, MatchResult, MatchOption, false};
+ghost use Rattle.scald_base.specs.Fitting.{Fits};
+ghost use Rattle.drawing_reader.specs.Lexeme.{lexeme_of, lexemes, terminal};
+ghost use Rattle.drawing_reader.specs.Names.{named, names_at, head_behind, names_from, IsPlain, MayStand, IsNameFault, IsGood, AreGood, IsNameStop};
+
+use crate::cursor::text_of;
+use crate::signal::unquoted;
+use crate::terminal::{Terminal, terminal_of};
+use assertion_syntax::{NameEnd, NameFault, SignalName, fits, read_name};
+use scald_base::{AssertSpec, Header, Place, Refusal, RefusalKind, Stop};
+use scald_lex::Token;
+use std::alloc::Global;
+
+fn refused(kind: RefusalKind, place: Place) -> Stop
+    ensures { result ≡ Stop.Refused (record { kind = kind; place = place }) }
+{
+    Stop::Refused(Refusal { kind, place })
+}
+
+/// Whether a name may be a formal's: it is neither global nor has an assertion.
+fn is_plain(name: &SignalName) -> bool
+    ensures { IsTrue result ↔ IsPlain name.now }
+{
+    if name.global {
+        return false;
+    }
+    match name.spec {
+        AssertSpec::None => true,
+        _ => false,
+    }
+}
+
+fn may_stand(name: &SignalName, of_formal: bool) -> bool
+    ensures { IsTrue result ↔ MayStand of_formal name.now }
+{
+    !of_formal || is_plain(name)
+}
+
+/// Why a name is refused, if it is.
+fn fault(name: &SignalName, of_formal: bool, header: &Header) -> Option<RefusalKind>
+    ensures { MatchOption result (MayStand of_formal name.now × Fits header.now name.now.spec) (IsNameFault header.now of_formal name.now) }
+{
+    if !may_stand(name, of_formal) {
+        return Some(RefusalKind::BadName);
+    }
+    match fits(&name.spec, header) {
+        Ok(()) => None,
+        Err(NameFault::BadName) => Some(RefusalKind::BadName),
+        Err(NameFault::EdgesOverlap) => Some(RefusalKind::EdgesOverlap),
+    }
+}
+
+/// Whether a text is of a name that may stand there.
+fn judge(
+    alloc: Global,
+    text: &[u8],
+    of_formal: bool,
+    place: Place,
+    header: &Header,
+) -> Result<(), Stop>
+    ensures { MatchResult result (λ _. IsGood header.now (named text.now of_formal place)) (IsNameStop header.now (named text.now of_formal place ∷ [])) }
+{
+    match read_name(alloc, text) {
+        Ok(name) => match fault(&name, of_formal, header) {
+            None => Ok(()),
+            Some(kind) => Err(refused(kind, place)),
+        },
+        Err(NameEnd::BadName) => Err(refused(RefusalKind::BadName, place)),
+        Err(NameEnd::NoMemory) => Err(Stop::NoMemory),
+    }
+}
+
+/// Takes a token, inside or outside of a macro's head, and answers where the next one stands.
+fn judge_token(
+    alloc: Global,
+    text: &[u8],
+    token: Token,
+    in_head: bool,
+    header: &Header,
+) -> Result<bool, Stop>
+    ensures next { IfOk result (λ next. next ≡ head_behind in_head (terminal (lexeme_of text.now token))) }
+    ensures good { IfOk result (λ _. AreGood header.now (names_at in_head (terminal (lexeme_of text.now token)) (lexeme_of text.now token))) }
+    ensures refused { IfErr result (IsNameStop header.now (names_at in_head (terminal (lexeme_of text.now token)) (lexeme_of text.now token))) }
+{
+    let word = text_of(text, token);
+    match terminal_of(token.kind, word) {
+        Terminal::Macro => Ok(true),
+        Terminal::Semicolon => Ok(false),
+        Terminal::Name => {
+            judge(alloc, unquoted(word), in_head, token.place, header)?;
+            Ok(in_head)
+        }
+        _ => Ok(in_head),
+    }
+}
+
+/// Whether each name of a text is one that fits the header, and plain where it is a formal's. At the first
+/// that is not, `BadName` comes where it has not the form of a name, is a formal's and not plain, or has an
+/// interval that does not fit; else `EdgesOverlap`.
+pub fn judged_names(
+    alloc: Global,
+    text: &[u8],
+    tokens: &[Token],
+    header: &Header,
+) -> Result<(), Stop>
+    ensures { MatchResult result (λ _. AreGood header.now (names_from false (lexemes text.now tokens.now))) (IsNameStop header.now (names_from false (lexemes text.now tokens.now))) }
+{
+    let mut in_head = false;
+    'tokens: for token in tokens {
+        in_head = judge_token(alloc, text, *token, in_head, header)?;
+    }
+    Ok(())
+}

@@ -1,0 +1,205 @@
+//! Reads a whole text.
+
+ghost use Rattle.std.specs.Prelude.{◌≡◌, ◌≢◌, IsTrue, IsFalse, ◌≤◌, ◌<◌, ℕ, List, [], ◌∷◌, ◌++◌, map, length, Option, Some, None, IfOk, IfErr};
+ghost use Rattle.drawing_reader.specs.Lexeme.{kind_number, lexemes};
+ghost use Rattle.drawing_reader.specs.Grammar.{Need, part, WireBounds, PrecisionSkew, ClockSkew};
+ghost use Rattle.drawing_reader.specs.Machine.{Gives};
+ghost use Rattle.drawing_reader.specs.Reader.{tokens_at, ahead, PairAt, EndAt};
+ghost use Rattle.scald_base.specs.declared.refusal.Refusal.{Refusal};
+ghost use Rattle.scald_lex.specs.Tokens.{AreTokens};
+ghost use Rattle.drawing_reader.specs.Sketch.{Sketch as Sketched};
+ghost use Rattle.drawing_reader.specs.Draws.{Reads, IsRefused};
+ghost use Rattle.drawing_reader.specs.Sketched.{sketch_of, IsStop, GivesSketch, GivesRefusal, Answers};
+
+use crate::cursor::Cursor;
+use crate::head::Head;
+use crate::header::{NumberPair, WrittenHeader};
+use crate::terminal::{Letter, Terminal};
+use drawing_tree::{CaseStmts, MacroDefs, Stmts};
+use scald_base::{Bytes, List, Place, RefusalKind, Stop};
+use scald_lex::{TokenKind, TokenList};
+use std::alloc::Global;
+
+/// A drawing as its text is written, before its header and its names are judged.
+#[derive(Drop)]
+pub struct Sketch {
+    pub header: WrittenHeader,
+    pub macros: MacroDefs,
+    /// Where the macros' heads name what they declare.
+    pub heads: List<Head>,
+    pub name: Bytes,
+    pub body: Stmts,
+    pub cases: CaseStmts,
+}
+
+fn pair_of(first: TokenKind, second: TokenKind, place: Place) -> NumberPair
+    ensures { result ≡ record { first = kind_number first; second = kind_number second; place = place } }
+{
+    NumberPair {
+        first: value_of(first),
+        second: value_of(second),
+        place,
+    }
+}
+
+fn value_of(kind: TokenKind) -> i64
+    ensures { result ≡ kind_number kind }
+{
+    match kind {
+        TokenKind::Number(value) => value,
+        _ => 0,
+    }
+}
+
+fn written(
+    version: TokenKind,
+    place: Place,
+    clock: NumberPair,
+    wire: Option<NumberPair>,
+    pskew: Option<NumberPair>,
+    cskew: Option<NumberPair>,
+) -> WrittenHeader
+    ensures { result ≡ record { version = kind_number version; place = place; clock = clock; wire = wire; pskew = pskew; cskew = cskew } }
+{
+    WrittenHeader {
+        version: value_of(version),
+        place,
+        clock,
+        wire,
+        pskew,
+        cskew,
+    }
+}
+
+impl<'a> Cursor<'a> {
+    /// Two numbers, in a statement that begins at this place.
+    fn pair(&mut self, place: Place) -> Result<NumberPair, Stop>
+        ensures reads { PairAt result place self.old self.new }
+    {
+        let first = self.item(Terminal::Number)?;
+        self.mark(Terminal::Colon)?;
+        let second = self.item(Terminal::Number)?;
+        self.mark(Terminal::Semicolon)?;
+        Ok(pair_of(first.kind, second.kind, place))
+    }
+
+    fn wire_bounds(&mut self) -> Result<Option<NumberPair>, Stop>
+        ensures reads { (rest : List Need) → Gives result (λ x v. (x, v)) (ahead self.old (part WireBounds 0 ∷ rest)) (ahead self.new rest) }
+    {
+        if !self.starts(Terminal::Wire) {
+            return Ok(None);
+        }
+        let token = self.bump();
+        let pair = self.pair(token.place)?;
+        Ok(Some(pair))
+    }
+
+    fn precision_skew(&mut self) -> Result<Option<NumberPair>, Stop>
+        ensures reads { (rest : List Need) → Gives result (λ x v. (x, v)) (ahead self.old (part PrecisionSkew 0 ∷ rest)) (ahead self.new rest) }
+    {
+        if !self.starts(Terminal::Pskew) {
+            return Ok(None);
+        }
+        let token = self.bump();
+        let pair = self.pair(token.place)?;
+        Ok(Some(pair))
+    }
+
+    fn clock_skew(&mut self) -> Result<Option<NumberPair>, Stop>
+        ensures reads { (rest : List Need) → Gives result (λ x v. (x, v)) (ahead self.old (part ClockSkew 0 ∷ rest)) (ahead self.new rest) }
+    {
+        if !self.starts(Terminal::Cskew) {
+            return Ok(None);
+        }
+        let token = self.bump();
+        let pair = self.pair(token.place)?;
+        Ok(Some(pair))
+    }
+
+    /// Whether no token is left.
+    fn is_done(&self) -> bool
+        ensures yes { IsTrue result → tokens_at self.now ≡ [] }
+        ensures no { IsFalse result → tokens_at self.now ≢ [] }
+    {
+        match self.peek() {
+            None => true,
+            Some(_) => false,
+        }
+    }
+
+    /// The end of the text.
+    fn finish(&mut self) -> Result<(), Stop>
+        ensures reads { EndAt result self.old }
+    {
+        if self.is_done() {
+            return Err(self.refused(RefusalKind::Syntax));
+        }
+        if !self.starts(Terminal::EndOfText) {
+            return Err(self.refused(RefusalKind::Syntax));
+        }
+        self.advance();
+        let done = self.is_done();
+        if !done {
+            return Err(self.refused(RefusalKind::Syntax));
+        }
+        Ok(())
+    }
+
+    fn text(&mut self, alloc: Global) -> Result<Sketch, Stop>
+        requires { self.old.operators ≡ 0 }
+        ensures reads { Answers result (tokens_at self.old) }
+    {
+        if !self.starts(Terminal::Scald) {
+            return Err(self.refused(RefusalKind::Syntax));
+        }
+        let token = self.bump();
+        let version = self.item(Terminal::Number)?;
+        self.mark(Terminal::Semicolon)?;
+        let clock = self.item(Terminal::Clock)?;
+        let units = self.item(Terminal::Number)?;
+        self.letter(Letter::By)?;
+        let ticks = self.item(Terminal::Number)?;
+        self.mark(Terminal::Semicolon)?;
+        let wire = self.wire_bounds()?;
+        let pskew = self.precision_skew()?;
+        let cskew = self.clock_skew()?;
+        let clock = pair_of(units.kind, ticks.kind, clock.place);
+        let header = written(version.kind, token.place, clock, wire, pskew, cskew);
+        let (macros, heads) = self.definitions(alloc)?;
+        self.mark(Terminal::Drawing)?;
+        let name_token = self.item(Terminal::Word)?;
+        let name = self.word(alloc, name_token)?;
+        self.mark(Terminal::Semicolon)?;
+        let body = self.statements(alloc, 0)?;
+        self.mark(Terminal::End)?;
+        self.mark(Terminal::Semicolon)?;
+        let cases = self.cases(alloc)?;
+        self.finish()?;
+        Ok(Sketch {
+            header,
+            macros,
+            heads,
+            name,
+            body,
+            cases,
+        })
+    }
+}
+
+/// What the tokens of a text stand for, or the first token that is refused: `Syntax` where no text goes on with it,
+/// `TooDeep` where it is beyond a limit.
+pub fn read_sketch(alloc: Global, text: &[u8], tokens: &TokenList) -> Result<Sketch, Stop>
+    requires { AreTokens text.now tokens.now }
+    ensures found { IfOk result (λ found. Reads (lexemes text.now tokens.now) (sketch_of found)) }
+    ensures refused { IfErr result (λ stop. IsStop (lexemes text.now tokens.now) stop) }
+    ensures only_sketch { (s : Sketched) → Reads (lexemes text.now tokens.now) s → GivesSketch s result }
+    ensures only_refusal { (r : Refusal) → IsRefused (lexemes text.now tokens.now) r → GivesRefusal r result }
+{
+    let mut cursor = Cursor {
+        text,
+        rest: tokens.as_slice(),
+        operators: 0,
+    };
+    let sketch = cursor.text(alloc)?;
+    Ok(sketch)
+}

@@ -1,0 +1,60 @@
+//! The names that stand in quotes.
+
+ghost use Rattle.std.specs.Prelude.{◌≡◌, ◌-◌, slice_range, length, IfOk, IfErr};
+ghost use Rattle.scald_base.specs.declared.refusal.Stop.TheVariants.{NoMemory as OutOfMemory};
+ghost use Rattle.drawing_reader.specs.Sketch.{blank, unquoted, signal_named};
+
+use crate::cursor::{Cursor, text_of};
+use assertion_syntax::{NameEnd, SignalName, read_name};
+use scald_base::{AssertSpec, Bytes, NoMemory, Stop};
+use scald_lex::Token;
+use std::alloc::Global;
+
+/// The text between the quotes.
+pub fn unquoted<'a>(text: &'a [u8]) -> &'a [u8]
+    ensures { result.now ≡ unquoted text.now }
+{
+    let behind = &text[text.len().min(1)..];
+    let count = text.len().saturating_sub(2).min(behind.len());
+    &behind[..count]
+}
+
+fn blank(alloc: Global) -> SignalName
+    ensures { result ≡ blank }
+{
+    SignalName {
+        base: Bytes::new(alloc),
+        global: false,
+        spec: AssertSpec::None,
+    }
+}
+
+/// The name that a text in quotes is of, or a blank where it is of none: it is refused elsewhere.
+pub fn signal(alloc: Global, text: &[u8]) -> Result<SignalName, Stop>
+    ensures is { IfOk result (λ name. name ≡ signal_named text.now) }
+    ensures memory { IfErr result (λ stop. stop ≡ OutOfMemory) }
+{
+    match read_name(alloc, unquoted(text)) {
+        Ok(name) => Ok(name),
+        Err(NameEnd::BadName) => Ok(blank(alloc)),
+        Err(NameEnd::NoMemory) => Err(Stop::NoMemory),
+    }
+}
+
+impl<'a> Cursor<'a> {
+    /// The bytes of a token.
+    pub fn word(&self, alloc: Global, token: Token) -> Result<Bytes, NoMemory>
+        ensures { IfOk result (λ bytes. bytes ≡ slice_range self.now.text.now token.start token.end) }
+    {
+        let bytes = Bytes::of(alloc, text_of(self.text, token))?;
+        Ok(bytes)
+    }
+
+    /// The name of a token.
+    pub fn name(&self, alloc: Global, token: Token) -> Result<SignalName, Stop>
+        ensures is { IfOk result (λ name. name ≡ signal_named (slice_range self.now.text.now token.start token.end)) }
+        ensures memory { IfErr result (λ stop. stop ≡ OutOfMemory) }
+    {
+        signal(alloc, text_of(self.text, token))
+    }
+}
