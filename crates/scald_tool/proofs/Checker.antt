@@ -8,7 +8,7 @@ use Rattle.step_values.specs.Steps.{has, is_quiet}
 use Rattle.step_values.proofs.Permits.{quiet-same}
 use Rattle.scald_tool.specs.Wave.{Wave, Signal, Permits, fold}
 use Rattle.scald_tool.specs.Fault.{first_from, window_slot, first_change, is_faulty_edge, fault_in, fault_of_edge, setup_hold_fault}
-use Rattle.scald_tool.proofs.Back.{back-zero, back-later, back-sooner}
+use Rattle.scald_base.proofs.Back.{back-zero, back-later, back-sooner}
 use Rattle.scald_tool.proofs.Moves.{fold-has, fold_at-mod}
 
 -- ---- the first number that passes

@@ -10,7 +10,7 @@ use Rattle.step_values.specs.declared.value.Value.{Value}
 use Rattle.step_values.specs.Steps.{has}
 use Rattle.scald_tool.specs.Wave.{Signal, earlier, Permits, slots, sooner, fold_at, folded}
 use Rattle.scald_tool.specs.Interface.{NearEdge, MeetsClock, step_value, clock_wave}
-use Rattle.scald_tool.proofs.Back.{back-lt, back-later, back-back, back-sooner}
+use Rattle.scald_base.proofs.Back.{back-lt, back-later, back-back, back-sooner}
 use Rattle.scald_tool.proofs.Values.{step-has, rise-has, fall-has}
 use Rattle.scald_tool.proofs.Moves.{length-slots, earlier-slots, earlier-period, earlier-folded, fold_at-has}
 

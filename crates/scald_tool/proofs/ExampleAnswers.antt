@@ -18,7 +18,8 @@ use Rattle.scald_tool.specs.Break.{BreaksAt}
 use Rattle.scald_tool.specs.Fault.{setup_hold_fault}
 use Rattle.scald_tool.specs.Text.{IsCapital, IsSignal, IsOneChecker, text_of, circuit_of, checker_of, net_of, clock_spec}
 use Rattle.scald_tool.specs.Promise.{NeverBreaks}
-use Rattle.scald_tool.specs.Answer.{rested, Verified, unread, judged, Answer, no_form, verified, not_built}
+use Rattle.scald_tool.specs.Answer.{rested, Verified, unread, judged, Answer, no_form, replied, not_built}
+use Rattle.scald_tool.specs.declared.words.Command.TheVariants.{Verify}
 use Rattle.scald_tool.specs.Laws.{OneText}
 use Rattle.scald_tool.proofs.Rest.{rests_at_zero, rests_only_at_zero}
 use Rattle.scald_tool.proofs.Headline.{clean_never_breaks}
@@ -56,7 +57,7 @@ first_drawing_verified = judged first_drawing _ _ (record { is_one = first_drawi
 
 pub first_drawing_answer : Answer (codes "verify" ∷ []) (text_of first_drawing) Clean (codes "SCALD 1 PERIOD 400\nNETS 2 INSTANCES 0 CHECKS 1\nCASE 0 BASE 0 ROUNDS 0 T 1\nWAVE CK<0> SKEW 0 0:100 R:1 1:49 F:1 0:249\nWAVE D<0> SKEW 0 C:51 S:149 C:200\nCLEAN\n")
 unfolding digits
-first_drawing_answer = verified _ _ refl (omega arith) first_drawing_verified
+first_drawing_answer = replied Verify _ _ refl (omega arith) first_drawing_verified
 
 late_input_is_one : IsOneChecker late_input
 late_input_is_one = record {
@@ -71,11 +72,11 @@ late_input_is_one = record {
 
 pub late_input_answer : Answer (codes "verify" ∷ []) (text_of late_input) (Faulty 1) (codes "SCALD 1 PERIOD 400\nNETS 2 INSTANCES 0 CHECKS 1\nCASE 0 BASE 0 ROUNDS 0 T 1\nWAVE CK<0> SKEW 0 0:100 R:1 1:49 F:1 0:249\nWAVE D<0> SKEW 0 C:101 S:99 C:200\nFAULT SETUP c1<0> EDGE 100 SLOT 81 VALUE C\nFAULTS 1\n")
 unfolding digits back earlier normal moved round setup_hold_fault
-late_input_answer = verified _ _ refl (omega arith) (judged late_input _ _ (record { is_one = late_input_is_one; spelled = refl }) refl (rested 0 (rests_at_zero late_input _)))
+late_input_answer = replied Verify _ _ refl (omega arith) (judged late_input _ _ (record { is_one = late_input_is_one; spelled = refl }) refl (rested 0 (rests_at_zero late_input _)))
 
 pub no_input_answer : Answer (codes "verify" ∷ []) [] (Refused not_built) (codes "REFUSED 23 NotBuilt 1:1\n")
 unfolding digits
-no_input_answer = verified _ _ refl (omega arith) (unread (λ d h. absurd (nothing d h.spelled))) where
+no_input_answer = replied Verify _ _ refl (omega arith) (unread (λ d h. absurd (nothing d h.spelled))) where
   nothing : (d : OneChecker) → [] ≢ text_of d
   nothing d e = cc
 
@@ -183,7 +184,7 @@ small_is_one = record {
 
 pub small_answer : Answer (codes "verify" ∷ []) (text_of small) (Faulty 1) (codes "SCALD 1 PERIOD 4\nNETS 2 INSTANCES 0 CHECKS 1\nCASE 0 BASE 0 ROUNDS 0 T 1\nWAVE CK<0> SKEW 0 0:1 R:1 F:1 0:1\nWAVE D<0> SKEW 0 C:4\nFAULT SETUP c1<0> EDGE 1 SLOT 1 VALUE C\nFAULTS 1\n")
 unfolding small digits back earlier normal moved round setup_hold_fault
-small_answer = verified _ _ refl (omega arith) (judged small _ _ (record { is_one = small_is_one; spelled = refl }) refl (rested 0 (rests_at_zero small _)))
+small_answer = replied Verify _ _ refl (omega arith) (judged small _ _ (record { is_one = small_is_one; spelled = refl }) refl (rested 0 (rests_at_zero small _)))
 
 -- The text is accepted and has a fault, its circuit has a run that meets the interface, and in it the constraint is
 -- broken. So nothing can promise of this text that no constraint is broken.

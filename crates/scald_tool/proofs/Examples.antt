@@ -2,7 +2,7 @@
 use Rattle.std.specs.Prelude.{◌≡◌, ℕ, true, false, ◌&&◌, nat_lt, if◌then◌else◌, List, [], ◌∷◌, ◌++◌, take, codes, decimal, Some, None}
 use Rattle.std.specs.List.{flat_map}
 use Rattle.std.specs.Fmt.{digits}
-use Rattle.std.proofs.Common.{refl}
+use Rattle.std.proofs.Common.{refl, Ok, Err}
 use Rattle.scald_base.specs.Time.{Header}
 use Rattle.scald_base.specs.Clock.{back}
 use Rattle.scald_base.specs.declared.assertion.Span.{Span}
@@ -19,7 +19,9 @@ use Rattle.scald_tool.specs.Rounds.{round, printed_tick}
 use Rattle.scald_tool.specs.Fault.{setup_hold_fault}
 use Rattle.scald_tool.specs.Text.{text_of, refused, refusal_of, circuit_of, header_of}
 use Rattle.scald_tool.specs.Report.{report, refusal_line, stretch_text, stretches}
-use Rattle.scald_tool.specs.Answer.{bad_word, not_built}
+use Rattle.scald_tool.specs.Words.{command_of}
+use Rattle.scald_tool.specs.Answer.{not_built}
+use Rattle.scald_tool.specs.declared.words.Command.TheVariants.{Verify, Format}
 
 abbrev pub span : ℕ → ℕ → Span
 span lo hi = record { lo = lo; hi = hi }
@@ -166,17 +168,20 @@ not_built_line = refl
 
 -- ---- words
 
-pub no_words : bad_word [] ≡ Some 0
+pub no_words : command_of [] ≡ Err 0
 no_words = refl
 
-pub other_word : bad_word (codes "verif" ∷ []) ≡ Some 0
+pub other_word : command_of (codes "verif" ∷ []) ≡ Err 0
 other_word = refl
 
-pub one_word_more : bad_word (codes "verify" ∷ codes "faults" ∷ []) ≡ Some 1
+pub one_word_more : command_of (codes "format" ∷ codes "faults" ∷ []) ≡ Err 1
 one_word_more = refl
 
-pub verify_alone : bad_word (codes "verify" ∷ []) ≡ None
+pub verify_alone : command_of (codes "verify" ∷ []) ≡ Ok Verify
 verify_alone = refl
+
+pub format_alone : command_of (codes "format" ∷ []) ≡ Ok Format
+format_alone = refl
 
 -- ---- waves of assertions that no text has yet, over the header of the first drawing
 

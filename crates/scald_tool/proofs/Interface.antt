@@ -12,7 +12,7 @@ use Rattle.step_values.specs.declared.value.Value.TheVariants.{S, C}
 use Rattle.step_values.specs.Steps.{has}
 use Rattle.scald_tool.specs.Wave.{Signal, Permits, sooner}
 use Rattle.scald_tool.specs.Interface.{MeetsStable, Meets, stable_wave, asserted_wave, interface_wave}
-use Rattle.scald_tool.proofs.Back.{back-later}
+use Rattle.scald_base.proofs.Back.{back-later}
 use Rattle.scald_tool.proofs.Values.{stable-has, step-has}
 use Rattle.scald_tool.proofs.Moves.{length-slots, length-normal, earlier-slots, Permits-capped, Permits-normal}
 use Rattle.scald_tool.proofs.ClockEdges.{step_slots, earlier-sooner_steps, length-sooner_steps, Permits-clock}

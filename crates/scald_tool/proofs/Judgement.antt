@@ -1,15 +1,20 @@
 -- A circuit that nothing drives has one judgement, and a text one answer.
-use Rattle.std.proofs.Common.{◌≡◌, ℕ, refl, arith, List, Option, Some, None, subst, sym}
+use Rattle.std.proofs.Common.{◌≡◌, ℕ, refl, ap, arith, List, Some, None, Result, Ok, Err, subst, sym}
 use Rattle.scald_base.specs.declared.refusal.Refusal.{Refusal}
 use Rattle.scald_tool.specs.declared.outcome.Outcome.{Outcome}
+use Rattle.scald_tool.specs.declared.words.Command.{Command}
+use Rattle.scald_tool.specs.declared.words.Command.TheVariants.{Verify, Format}
+use Rattle.drawing_tree.specs.Canonical.{canonical}
 use Rattle.scald_tool.specs.declared.one_checker.OneChecker.{OneChecker}
 use Rattle.scald_tool.specs.Circuit.{Circuit}
 use Rattle.scald_tool.specs.Rounds.{round, default_limit}
 use Rattle.scald_tool.specs.Fault.{faults}
 use Rattle.scald_tool.specs.Text.{refusal_of, circuit_of}
 use Rattle.scald_tool.specs.Report.{report}
-use Rattle.scald_tool.specs.Answer.{bad_word, verdict_of, Judged, rested, unsettled, Verified, unread, refusal, judged, no_form, too_long, verified}
+use Rattle.scald_tool.specs.Answer.{verdict_of, Judged, rested, unsettled, Verified, unread, refusal, judged, Formatted, undrawn, drawn, Replied, no_form, too_long, replied}
+use Rattle.scald_tool.specs.Words.{command_of}
 use Rattle.scald_tool.specs.Laws.{IsUndriven, OneText, OneJudgement, OneAnswer}
+use Rattle.scald_tool.proofs.Trees.{one_tree, no_tree, one_cause}
 use Rattle.scald_tool.proofs.Rest.{still, rests_at_once, circuit-undriven}
 
 -- the one that it has
@@ -55,21 +60,38 @@ one_verified one text _ _ _ _ (judged d o bytes is_text fine j) (refusal e s is_
 one_verified one text _ _ _ _ (judged d o bytes is_text fine j) (judged e o' bytes' is_text' fine' j') =
     judged-same d e o o' bytes bytes' (one d e text is_text is_text') j j'
 
-one-index : (o : Option ℕ) (i j : ℕ) → o ≡ Some i → o ≡ Some j → i ≡ j
-one-index o i j a b = cc
+-- what the words are read as is one thing
+one-number : (r : Result Command ℕ) (i j : ℕ) → r ≡ Err i → r ≡ Err j → i ≡ j
+one-number r i j a b = cc
 
-some-none : (o : Option ℕ) (i : ℕ) → o ≡ Some i → o ≡ None → ⊥
-some-none o i a b = cc
+one-command : (r : Result Command ℕ) (c d : Command) → r ≡ Ok c → r ≡ Ok d → c ≡ d
+one-command r c d a b = cc
+
+not-both : (r : Result Command ℕ) (i : ℕ) (c : Command) → r ≡ Err i → r ≡ Ok c → ⊥
+not-both r i c a b = cc
+
+one_formatted : (text : List ℕ) (o o' : Outcome) (bytes bytes' : List ℕ) → Formatted text o bytes → Formatted text o' bytes' → (o ≡ o') × (bytes ≡ bytes')
+one_formatted text _ _ _ _ (undrawn r is) (undrawn s is') = let same : r ≡ s = one_cause text r s is is' in (rw same refl, rw same refl)
+one_formatted text _ _ _ _ (undrawn r is) (drawn d draws) = absurd (no_tree text r d is draws)
+one_formatted text _ _ _ _ (drawn d draws) (undrawn r is) = absurd (no_tree text r d is draws)
+one_formatted text _ _ _ _ (drawn d draws) (drawn e draws') = let same : d ≡ e = one_tree text d e draws draws' in (refl, ap canonical same)
+
+one_reply : OneText → (command command' : Command) (text : List ℕ) (o o' : Outcome) (bytes bytes' : List ℕ) → command ≡ command' →
+    Replied command text o bytes → Replied command' text o' bytes' → (o ≡ o') × (bytes ≡ bytes')
+one_reply one Verify Verify text o o' bytes bytes' same r r' = one_verified one text o o' bytes bytes' r r'
+one_reply one Format Format text o o' bytes bytes' same r r' = one_formatted text o o' bytes bytes' r r'
+one_reply one Verify Format text o o' bytes bytes' same r r' = cc
+one_reply one Format Verify text o o' bytes bytes' same r r' = cc
 
 pub one_answer : OneText → OneAnswer
 one_answer one words text _ _ _ _ (no_form i form) (no_form j form') =
-    let same : i ≡ j = one-index (bad_word words) i j form form' in (rw same refl, refl)
-one_answer one words text _ _ _ _ (no_form i form) (too_long form' long') = absurd (some-none (bad_word words) i form form')
-one_answer one words text _ _ _ _ (no_form i form) (verified o' bytes' form' short' v') = absurd (some-none (bad_word words) i form form')
-one_answer one words text _ _ _ _ (too_long form long) (no_form j form') = absurd (some-none (bad_word words) j form' form)
-one_answer one words text _ _ _ _ (too_long form long) (too_long form' long') = (refl, refl)
-one_answer one words text _ _ _ _ (too_long form long) (verified o' bytes' form' short' v') = absurd (omega arith)
-one_answer one words text _ _ _ _ (verified o bytes form short v) (no_form j form') = absurd (some-none (bad_word words) j form' form)
-one_answer one words text _ _ _ _ (verified o bytes form short v) (too_long form' long') = absurd (omega arith)
-one_answer one words text _ _ _ _ (verified o bytes form short v) (verified o' bytes' form' short' v') =
-    one_verified one text o o' bytes bytes' v v'
+    let same : i ≡ j = one-number (command_of words) i j form form' in (rw same refl, refl)
+one_answer one words text _ _ _ _ (no_form i form) (too_long c form' long') = absurd (not-both (command_of words) i c form form')
+one_answer one words text _ _ _ _ (no_form i form) (replied c o' bytes' form' short' r') = absurd (not-both (command_of words) i c form form')
+one_answer one words text _ _ _ _ (too_long c form long) (no_form j form') = absurd (not-both (command_of words) j c form' form)
+one_answer one words text _ _ _ _ (too_long c form long) (too_long c' form' long') = (refl, refl)
+one_answer one words text _ _ _ _ (too_long c form long) (replied c' o' bytes' form' short' r') = absurd (omega arith)
+one_answer one words text _ _ _ _ (replied c o bytes form short r) (no_form j form') = absurd (not-both (command_of words) j c form' form)
+one_answer one words text _ _ _ _ (replied c o bytes form short r) (too_long c' form' long') = absurd (omega arith)
+one_answer one words text _ _ _ _ (replied c o bytes form short r) (replied c' o' bytes' form' short' r') =
+    one_reply one c c' text o o' bytes bytes' (one-command (command_of words) c c' form form') r r'

@@ -1,7 +1,7 @@
 pub mod Window
 pub mod Rest
+pub mod Trees
 pub mod Judgement
-pub mod Back
 pub mod Values
 pub mod Moves
 pub mod ClockEdges

@@ -12,7 +12,7 @@ use Rattle.step_values.specs.Steps.{has, is_quiet, flip}
 use Rattle.step_values.proofs.Permits.{join-left, join-right, flip-has}
 use Rattle.scald_tool.specs.Wave.{Wave, Signal, earlier, Permits, fold_at, slots_from, slots, fold, folded, later, uniform, steady_value, all_equal, normal, moved, turned_wave}
 use Rattle.scald_tool.specs.Run.{turned}
-use Rattle.scald_tool.proofs.Back.{back-lt, back-zero, back-later, back-back, back-mod, back-period}
+use Rattle.scald_base.proofs.Back.{back-lt, back-zero, back-later, back-back, back-mod, back-period}
 use Rattle.scald_tool.proofs.Values.{all_equal-at, steady-has}
 
 -- ---- lists by slot

@@ -14,7 +14,7 @@ use Rattle.step_values.specs.declared.value.Value.{Value}
 use Rattle.step_values.specs.declared.value.Value.TheVariants.{One, R, F, S, C}
 use Rattle.scald_tool.specs.Interface.{step_value}
 use Rattle.scald_tool.specs.declared.one_checker.OneChecker.{OneChecker}
-use Rattle.scald_tool.proofs.Back.{back-lt}
+use Rattle.scald_base.proofs.Back.{back-lt}
 use Rattle.scald_tool.specs.Text.{header_of, clock_spec, header_fits, limits_fit, refusal_of}
 
 -- ---- a text that is not refused

@@ -13,7 +13,7 @@ use Rattle.scald_tool.specs.declared.fault.PointFault.{PointFault}
 use Rattle.scald_tool.specs.declared.fault.PointKind.{PointKind}
 use Rattle.scald_tool.specs.declared.fault.PointKind.TheVariants.{Setup, Hold}
 use Rattle.scald_tool.specs.Wave.{Wave, earlier}
-use Rattle.scald_tool.proofs.Back.{back-zero, back-later, back-mod}
+use Rattle.scald_base.proofs.Back.{back-zero, back-later, back-mod}
 use Rattle.scald_tool.specs.Fault.{first_from, window_slot, first_change, is_faulty_edge, fault_at, setup_hold_fault}
 
 -- ---- the first of some numbers that passes

@@ -1,11 +1,17 @@
 -- What the program answers to its words and to the bytes that it is given.
-use Rattle.std.specs.Prelude.{◌≡◌, ◌≢◌, ℕ, suc, ◌<◌, ◌≤◌, List, [], ◌∷◌, length, codes, slice_get, Option, Some, None, if◌then◌else◌}
-use Rattle.std.specs.Str.{bytes_eq}
+use Rattle.std.specs.Prelude.{◌≡◌, ◌≢◌, ℕ, suc, ◌<◌, ◌≤◌, List, [], ◌∷◌, length, slice_get, Some, None, Ok, Err}
 use Rattle.scald_base.specs.declared.refusal.Refusal.{Refusal}
 use Rattle.scald_base.specs.declared.refusal.RefusalKind.TheVariants.{NotBuilt}
 use Rattle.scald_tool.specs.declared.outcome.Outcome.{Outcome}
-use Rattle.scald_tool.specs.declared.outcome.Outcome.TheVariants.{Clean, Faulty, Refused, Unsettled, BadWords, TooLong}
+use Rattle.scald_tool.specs.declared.outcome.Outcome.TheVariants.{Clean, Faulty, Done, Refused, Unsettled, BadWords, TooLong}
+use Rattle.drawing_tree.specs.Tree.{Drawing}
+use Rattle.drawing_tree.specs.Canonical.{canonical}
+use Rattle.drawing_reader.specs.CanonicalDraws.{TextDraws}
+use Rattle.scald_tool.specs.Drawn.{IsRefusal}
+use Rattle.scald_tool.specs.declared.words.Command.{Command}
+use Rattle.scald_tool.specs.declared.words.Command.TheVariants.{Verify, Format}
 use Rattle.scald_tool.specs.declared.one_checker.OneChecker.{OneChecker}
+use Rattle.scald_tool.specs.Words.{command_of}
 use Rattle.scald_tool.specs.Circuit.{Circuit}
 use Rattle.scald_tool.specs.Rounds.{round, IsStill, RestsAt, default_limit}
 use Rattle.scald_tool.specs.Fault.{Fault, faults}
@@ -15,16 +21,6 @@ use Rattle.scald_tool.specs.Report.{NumberedNet, nets_by_name, report, refusal_l
 -- the most bytes that are read
 abbrev pub most_bytes : ℕ
 most_bytes = 4194304
-
--- The one form of words is `verify` alone. Of other words this is the number of the first with which no form goes on,
--- or the count of words where one is missing.
-abbrev pub bad_option : List (List ℕ) → Option ℕ
-bad_option [] = None
-bad_option (w ∷ ws) = Some 1
-
-abbrev pub bad_word : List (List ℕ) → Option ℕ
-bad_word [] = Some 0
-bad_word (w ∷ ws) = if bytes_eq w (codes "verify") then bad_option ws else Some 0
 
 -- no fault, or so many
 abbrev pub verdict_of : List Fault → Outcome
@@ -47,14 +43,25 @@ pub data Judged (c : Circuit) (limit : ℕ) : Outcome → List ℕ → Type 0 wh
 abbrev pub not_built : Refusal
 not_built = refused NotBuilt 1 1
 
--- What is answered on a text.
+-- What `verify` answers on a text.
 pub data Verified (text : List ℕ) : Outcome → List ℕ → Type 0 where
   unread : ((d : OneChecker) → ¬ IsTextOf d text) → Verified text (Refused not_built) (refusal_line not_built)
   refusal : (d : OneChecker) (r : Refusal) → IsTextOf d text → refusal_of d ≡ Some r → Verified text (Refused r) (refusal_line r)
   judged : (d : OneChecker) (o : Outcome) (bytes : List ℕ) → IsTextOf d text → refusal_of d ≡ None → Judged (circuit_of d) (default_limit (circuit_of d)) o bytes → Verified text o bytes
 
+-- What `format` answers on a text: the canonical text of the drawing that it draws, or why it draws none.
+pub data Formatted (text : List ℕ) : Outcome → List ℕ → Type 0 where
+  undrawn : (r : Refusal) → IsRefusal text r → Formatted text (Refused r) (refusal_line r)
+  drawn : (d : Drawing) → TextDraws text d → Formatted text Done (canonical d)
+
+-- what each form answers on a text
+abbrev pub Replied : Command → List ℕ → Outcome → List ℕ → Type 0
+Replied Verify = Verified
+Replied Format = Formatted
+
 -- The outcome and the bytes that are written, to words and to the bytes of the input.
 pub data Answer (words : List (List ℕ)) (text : List ℕ) : Outcome → List ℕ → Type 0 where
-  no_form : (i : ℕ) → bad_word words ≡ Some i → Answer words text (BadWords i) []
-  too_long : bad_word words ≡ None → most_bytes < length text → Answer words text TooLong []
-  verified : (o : Outcome) (bytes : List ℕ) → bad_word words ≡ None → length text ≤ most_bytes → Verified text o bytes → Answer words text o bytes
+  no_form : (i : ℕ) → command_of words ≡ Err i → Answer words text (BadWords i) []
+  too_long : (command : Command) → command_of words ≡ Ok command → most_bytes < length text → Answer words text TooLong []
+  replied : (command : Command) (o : Outcome) (bytes : List ℕ) → command_of words ≡ Ok command → length text ≤ most_bytes →
+      Replied command text o bytes → Answer words text o bytes

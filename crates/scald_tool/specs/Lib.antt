@@ -8,6 +8,8 @@ pub mod Fault
 pub mod Text
 pub mod Reading
 pub mod Report
+pub mod Words
+pub mod Drawn
 pub mod Answer
 pub mod Status
 pub mod Promise

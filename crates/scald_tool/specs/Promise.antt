@@ -46,6 +46,13 @@ is_silent ReadFault = true
 is_silent NoMemory = true
 is_silent _ = false
 
+-- an outcome that judges the drawing
+abbrev pub judges : Outcome → Bool
+judges Clean = true
+judges (Faulty n) = true
+judges (Unsettled k limit) = true
+judges _ = false
+
 -- an outcome that comes with a whole report
 abbrev pub has_report : Outcome → Bool
 has_report Clean = true

@@ -5,6 +5,7 @@ ghost use Rattle.scald_tool.specs.Fault.{fault_at, first_change, setup_hold_faul
 
 use crate::fault::{PointFault, PointKind};
 use step_values::Value;
+use wave_core::Cell;
 
 /// The slot of a place of the window of an edge: place 0 is `setup` slots before the slot behind the
 /// edge, and the places go round the period.
@@ -28,7 +29,7 @@ fn first_change(input: &[Value], setup: usize, hold: usize, edge: usize) -> Opti
     ensures within { IfSome result (λ place. place < setup + hold) }
 {
     for place in 0..setup + hold {
-        if !input[window_slot(input.len(), setup, edge, place)].is_quiet() {
+        if !input[window_slot(input.len(), setup, edge, place)].quiet() {
             return Some(place);
         }
     }

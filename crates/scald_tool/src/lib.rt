@@ -17,7 +17,10 @@ mod fault;
 mod waves;
 
 // what goes out
+mod answer;
+mod format;
 mod outcome;
+mod reply;
 mod report;
 mod tool;
 mod verify;
@@ -29,4 +32,4 @@ mod tests;
 
 pub use outcome::{Outcome, status};
 pub use tool::tool_main;
-pub use words::Words;
+pub use words::{Command, Words, read_words};

@@ -135,6 +135,12 @@ fn over(alloc: Global, from: Device, to: Device) -> Result<Answered, NoMemory>
     ended(alloc, &words, text_of(alloc, CLOCK, FIRST)?, from, to)
 }
 
+/// What is answered to `format` and a text.
+fn formatted(alloc: Global, text: &[u8]) -> Result<Answered, NoMemory> {
+    let words = words_of(alloc, &[b"format"])?;
+    ended(alloc, &words, bytes_of(alloc, text)?, SURE, SURE)
+}
+
 fn refused(kind: RefusalKind, line: u32, col: u32) -> Outcome {
     Outcome::Refused(Refusal {
         kind,
@@ -304,7 +310,7 @@ fn no_words(rt: HostRuntime) -> Result<(), Fail> {
 
 #[test]
 fn another_word(rt: HostRuntime) -> Result<(), Fail> {
-    let end = worded(rt.alloc(), &[b"format"])?;
+    let end = worded(rt.alloc(), &[b"verif"])?;
     assert!(rt; end.is(Outcome::BadWords(0), 106, b""));
     Ok(())
 }
@@ -313,6 +319,90 @@ fn another_word(rt: HostRuntime) -> Result<(), Fail> {
 fn a_word_too_many(rt: HostRuntime) -> Result<(), Fail> {
     let end = worded(rt.alloc(), &[b"verify", b"waves"])?;
     assert!(rt; end.is(Outcome::BadWords(1), 106, b""));
+    Ok(())
+}
+
+#[test]
+fn a_word_behind_format(rt: HostRuntime) -> Result<(), Fail> {
+    let end = worded(rt.alloc(), &[b"format", b"verify"])?;
+    assert!(rt; end.is(Outcome::BadWords(1), 106, b""));
+    Ok(())
+}
+
+#[test]
+fn a_canonical_text(rt: HostRuntime) -> Result<(), Fail> {
+    let end = formatted(
+        rt.alloc(),
+        b"SCALD 1; CLOCK 8 x 50; DRAWING T; b1:BUF[0:0](-\"A\")->(\"B\"); END;",
+    )?;
+    assert!(rt;
+        end.is(
+            Outcome::Done,
+            0,
+            b"SCALD 1;\nCLOCK 8 x 50;\nWIRE 0:0;\nPSKEW 0:0;\nCSKEW 0:0;\nDRAWING T;\n  b1 : BUF [0:0] (-\"A\") -> (\"B\");\nEND;\n"
+        )
+    );
+    Ok(())
+}
+
+#[test]
+fn few_parentheses_are_needed(rt: HostRuntime) -> Result<(), Fail> {
+    let end = formatted(
+        rt.alloc(),
+        b"SCALD 1;CLOCK 8 x 50;DRAWING T;t:T{N=(1+2)*3-(-(4))}(\"A\")->(\"Z\");END;",
+    )?;
+    assert!(rt;
+        end.is(
+            Outcome::Done,
+            0,
+            b"SCALD 1;\nCLOCK 8 x 50;\nWIRE 0:0;\nPSKEW 0:0;\nCSKEW 0:0;\nDRAWING T;\n  t : T {N=(1 + 2) * 3 - -4} (\"A\") -> (\"Z\");\nEND;\n"
+        )
+    );
+    Ok(())
+}
+
+#[test]
+fn clock_in_small_letters(rt: HostRuntime) -> Result<(), Fail> {
+    let end = formatted(rt.alloc(), b"SCALD 1;\nclock 8 x 50;\nDRAWING T;\nEND;\n")?;
+    assert!(rt;
+        end.is(
+            refused(RefusalKind::Syntax, 2, 1),
+            0,
+            b"REFUSED 3 Syntax 2:1\n"
+        )
+    );
+    Ok(())
+}
+
+#[test]
+fn a_label_twice(rt: HostRuntime) -> Result<(), Fail> {
+    let end = formatted(
+        rt.alloc(),
+        b"SCALD 1;\nCLOCK 8 x 50;\nDRAWING T;\nb1 : BUF [0:0] (\"A\") -> (\"B\");\nb1 : BUF [0:0] (\"A\") -> (\"C\");\nEND;\n",
+    )?;
+    assert!(rt;
+        end.is(
+            refused(RefusalKind::DoubleName, 5, 1),
+            0,
+            b"REFUSED 5 DoubleName 5:1\n"
+        )
+    );
+    Ok(())
+}
+
+#[test]
+fn a_name_that_is_not_closed(rt: HostRuntime) -> Result<(), Fail> {
+    let end = formatted(
+        rt.alloc(),
+        b"SCALD 1;\nCLOCK 8 x 50;\nDRAWING T;\nc1 : BUF [0:0] (\"CK",
+    )?;
+    assert!(rt;
+        end.is(
+            refused(RefusalKind::BadToken, 4, 17),
+            0,
+            b"REFUSED 2 BadToken 4:17\n"
+        )
+    );
     Ok(())
 }
 

@@ -2,7 +2,6 @@
 
 ghost use Rattle.std.specs.Prelude.{◌≡◌, ◌≢◌, true, None, IfOk};
 ghost use Rattle.scald_tool.specs.Text.{IsOneChecker, refusal_of, circuit_of};
-ghost use Rattle.scald_tool.specs.Report.{refusal_line};
 ghost use Rattle.scald_tool.specs.Answer.{Verified, Judged, verdict_of};
 ghost use Rattle.scald_tool.specs.Circuit.{Instance};
 ghost use Rattle.scald_tool.specs.Fault.{noted};
@@ -14,17 +13,11 @@ use crate::fault::PointFault;
 use crate::one_checker::OneChecker;
 use crate::outcome::Outcome;
 use crate::reader::read_one_checker;
-use crate::report::{write_refusal, write_report};
+use crate::reply::{Reply, refused};
+use crate::report::write_report;
 use crate::waves::{clock_wave, input_wave};
 use scald_base::{Bytes, NoMemory, Place, Refusal, RefusalKind};
 use std::alloc::Global;
-
-/// An answer before it is written.
-#[derive(Drop, Debug)]
-pub struct Reply {
-    pub outcome: Outcome,
-    pub bytes: Bytes,
-}
 
 /// What is said of a text that is not read yet.
 const NOT_BUILT: Refusal = Refusal {
@@ -46,19 +39,6 @@ pub fn verify(alloc: Global, text: &[u8]) -> Result<Reply, NoMemory>
         return refused(alloc, refusal);
     }
     judged(alloc, &drawing)
-}
-
-/// The line of a refusal.
-fn refused(alloc: Global, refusal: Refusal) -> Result<Reply, NoMemory>
-    ensures outcome { IfOk result (λ reply. reply.outcome ≡ Outcome.Refused refusal) }
-    ensures bytes { IfOk result (λ reply. reply.bytes ≡ refusal_line refusal) }
-{
-    let mut bytes = Bytes::new(alloc);
-    write_refusal(&mut bytes, &refusal)?;
-    Ok(Reply {
-        outcome: Outcome::Refused(refusal),
-        bytes,
-    })
 }
 
 /// The report on a drawing of which nothing is refused.

@@ -10,14 +10,14 @@ pub loop-place-preserved : goal.loop-place-preserved
 loop-place-preserved c =
     below_more _ _ c.loop-place.invariant
     (read_place c.args.input.now c.args.setup c.args.edge c.loop-place.place c.window_slot.result Zero _ c.window_slot.ensures.slot c.window_slot.ensures.within
-    (sym c.is_quiet.ensures ∙ c.if-not-is_quiet.false))
+    (sym c.quiet.ensures ∙ c.if-not-quiet.false))
 
-pub returns-then-not-is_quiet-clause-first : goal.returns-then-not-is_quiet-clause-first
-returns-then-not-is_quiet-clause-first c =
+pub returns-then-not-quiet-clause-first : goal.returns-then-not-quiet-clause-first
+returns-then-not-quiet-clause-first c =
     sym (first_from-at (λ i. not (is_quiet (earlier c.args.input.now (window_slot (length c.args.input.now) c.args.setup c.args.edge i) 0)))
     (c.args.setup + c.args.hold) c.loop-place.place c.loop-place.invariant c.loop-place-test.true
     (read_place c.args.input.now c.args.setup c.args.edge c.loop-place.place c.window_slot.result Zero _ c.window_slot.ensures.slot c.window_slot.ensures.within
-    (sym c.is_quiet.ensures ∙ c.if-not-is_quiet.true)))
+    (sym c.quiet.ensures ∙ c.if-not-quiet.true)))
 
 pub returns-clause-first : goal.returns-clause-first
 returns-clause-first c =
