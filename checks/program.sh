@@ -56,6 +56,41 @@ expect "the most bytes" 2 $?
 "$program" verify </dev/null >"$work/out"
 expect "no bytes" 2 $?
 
+{
+    printf 'SCALD 1;\nCLOCK 8 x 50;\nWIRE 0:0;\nPSKEW 0:0;\nCSKEW 0:0;\nDRAWING ROW;\n'
+    printf '  c1 : SETUP_HOLD_CHK {SETUP=20, HOLD=10} ("CK .P2-3", "D .S1-4");\nEND;\n'
+} >"$work/want"
+"$program" format <"$first" >"$work/out"
+expect "a drawing in its canonical form" 0 $?
+cp "$work/want" "$work/again"
+"$program" format <"$work/again" >"$work/out"
+expect "a canonical text" 0 $?
+
+echo "REFUSED 3 Syntax 1:4194305" >"$work/want"
+head -c 4194304 /dev/zero | tr '\0' ' ' | "$program" format >"$work/out"
+expect "spaces alone" 2 $?
+
+# nothing nests so deep that the stack would feel it
+echo "REFUSED 15 TooDeep 4:74" >"$work/want"
+deep='SCALD 1;\nCLOCK 8 x 50;\nDRAWING T;\nWIRE "X" '
+{
+    printf "$deep"
+    head -c 4194200 /dev/zero | tr '\0' '('
+} | "$program" format >"$work/out"
+expect "parentheses alone" 2 $?
+echo "REFUSED 15 TooDeep 4:138" >"$work/want"
+{
+    printf "$deep"
+    head -c 4194200 /dev/zero | tr '\0' '-' | sed 's/--/- /g'
+} | "$program" format >"$work/out"
+expect "minus signs alone" 2 $?
+echo "REFUSED 15 TooDeep 4:641" >"$work/want"
+{
+    printf 'SCALD 1;\nCLOCK 8 x 50;\nDRAWING T;\n'
+    yes 'IF 1 THEN ' | head -n 400000 | tr -d '\n'
+} | "$program" format >"$work/out"
+expect "nested IFs alone" 2 $?
+
 : >"$work/want"
 # With no form of words nothing is read: the next command still finds the first line.
 {
