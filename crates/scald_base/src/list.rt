@@ -102,6 +102,10 @@ impl<T: Drop> List<T> {
         ensures ok { OnOk result (self.new ≡ self.old ++ item ∷ []) }
         ensures err { OnErr result (self.new ≡ self.old) }
     {
+        // Most lists of a drawing have one item, and items can be large: no room is made for more yet.
+        if self.items.is_empty() {
+            self.items.reserve_exact(1)?;
+        }
         self.items.push(item)?;
         Ok(())
     }
