@@ -13,29 +13,43 @@ uses() {
     awk -v count="$1" 'BEGIN {
         print "SCALD 1;"; print "CLOCK 8 x 50;"; print "DRAWING BIG;";
         for (i = 0; i < count; i++)
-            printf "r%d : REG [5:10] (\"CK .P2-3\", \"D%d\"<0:7>) -> (\"Q%d\"<0:7>);\n", i, i, i;
+            printf "  r%d : REG [5:10] (\"CK .P2-3\", \"D%d\"<0:7>) -> (\"Q%d\"<0:7>);\n", i, i, i;
         print "END;"
     }'
 }
 
-# expressions COUNT: a drawing of so many statements with two expressions of 59 operators each
+# expressions COUNT SUM: a drawing of so many statements with two expressions of 59 operators each, of sums like this
+# one, in which % stands for a number
 expressions() {
-    awk -v count="$1" 'BEGIN {
-        sum = "(A*1-B/3)";
-        for (k = 2; k <= 15; k++) sum = sum "+(A*" k "-B/3)";
+    awk -v count="$1" -v one="$2" -v between="$3" 'BEGIN {
+        for (k = 1; k <= 15; k++) {
+            next_one = one; sub(/%/, k, next_one);
+            sum = k == 1 ? next_one : sum between next_one;
+        }
         print "SCALD 1;"; print "CLOCK 8 x 50;"; print "DRAWING BIG;";
-        for (i = 0; i < count; i++) printf "WIRE \"W%d\"<%s> 0:%s;\n", i, sum, sum;
+        for (i = 0; i < count; i++) printf "  WIRE \"W%d\"<%s> 0:%s;\n", i, sum, sum;
         print "END;"
     }'
+}
+
+# as they are written, with names of several letters and spaces around the operators
+written() {
+    expressions "$1" "(ADDRESS * % - CONTROL / 3)" " + "
+}
+
+# in the shortest tokens, of which there is one in nearly each byte
+shortest() {
+    expressions "$1" "(A*%-B/3)" "+"
 }
 
 uses 23000 >"$work/uses"
 uses 46000 >"$work/twice-the-uses"
-expressions 3900 >"$work/expressions"
-expressions 7800 >"$work/twice-the-expressions"
+written 1600 >"$work/expressions"
+written 3200 >"$work/twice-the-expressions"
+shortest 3900 >"$work/shortest-tokens"
 
 printf '%-24s %10s %20s %18s\n' text bytes "instructions a byte" "memory a byte"
-for text in uses twice-the-uses expressions twice-the-expressions; do
+for text in uses twice-the-uses expressions twice-the-expressions shortest-tokens; do
     bytes=$(wc -c <"$work/$text")
     valgrind --tool=callgrind --callgrind-out-file="$work/out" "$program" format <"$work/$text" >/dev/null 2>"$work/log"
     all=$(sed -n 's/.*Collected : \([0-9]*\).*/\1/p' "$work/log")

@@ -46,7 +46,7 @@ both : (a b : Bool) → (a && b) ≡ true → (a ≡ true) × (b ≡ true)
 both true b h = (refl, h)
 both false b h = absurd cc
 
-same_parts : (s t : ℕ) (j k : Kind) (x y : List ℕ) → (nat_eq s t && (sameb the_type j k && bytes_eq x y)) ≡ true → (s ≡ t) × (j ≡ k) × (x ≡ y)
+pub same_parts : (s t : ℕ) (j k : Kind) (x y : List ℕ) → (nat_eq s t && (sameb the_type j k && bytes_eq x y)) ≡ true → (s ≡ t) × (j ≡ k) × (x ≡ y)
 same_parts s t j k x y h =
     let first = both (nat_eq s t) (sameb the_type j k && bytes_eq x y) h in
     let second = both (sameb the_type j k) (bytes_eq x y) first.1 in
@@ -54,7 +54,7 @@ same_parts s t j k x y h =
     let q : bytes_eq x y ≡ true = second.1 in
     (grind (arith, nat_tests), same_kind j k second.0, grind (arith, bytes_eq-Decides))
 
-parts_same : (s t : ℕ) (j k : Kind) (x y : List ℕ) → s ≡ t → j ≡ k → x ≡ y → (nat_eq s t && (sameb the_type j k && bytes_eq x y)) ≡ true
+pub parts_same : (s t : ℕ) (j k : Kind) (x y : List ℕ) → s ≡ t → j ≡ k → x ≡ y → (nat_eq s t && (sameb the_type j k && bytes_eq x y)) ≡ true
 parts_same s t j k x y p q r =
     let kinds : sameb the_type j k ≡ true = subst (λ (l : Kind). sameb the_type j l ≡ true) q (kind_same j) in
     let scopes : nat_eq s t ≡ true = grind (arith, nat_tests) in
@@ -67,7 +67,7 @@ same_key a b h = let e = same_parts a.scope b.scope a.kind b.kind a.name.now b.n
 key_same : (a b : Declared) → key_of a ≡ key_of b → eq-value.it a b ≡ true
 key_same a b h = parts_same a.scope b.scope a.kind b.kind a.name.now b.name.now (ap (λ (k : Key). k.scope) h) (ap (λ (k : Key). k.kind) h) (ap (λ (k : Key). k.name) h)
 
-later : (xs : List Key) (x y : Key) → Contains xs y → Contains (x ∷ xs) y
+pub later : (xs : List Key) (x y : Key) → Contains xs y → Contains (x ∷ xs) y
 later xs x y found = (suc found.0, omega (arith, found.1), found.2)
 
 or_true : (a : Bool) → (a || true) ≡ true

@@ -9,6 +9,8 @@ pub mod Taken
 pub mod Moves
 pub mod Cursors
 pub mod None
+pub mod Reserved
+pub mod Lone
 pub mod Signals
 pub mod Lists
 pub mod Periods
@@ -17,6 +19,7 @@ pub mod Keys
 pub mod Labels
 pub mod Distinct
 pub mod Naming
+pub mod Bare
 pub mod Cutting
 pub mod Leaves
 pub mod CanonicalTokens
@@ -53,6 +56,9 @@ pub mod Modest
 pub mod Short
 pub mod SameHeader
 pub mod SameDeclared
+pub mod Different
 pub mod SameNames
 pub mod SameNamesText
 pub mod Again
+pub mod Decided
+pub mod SpelledNames

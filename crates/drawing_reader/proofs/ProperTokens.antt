@@ -399,7 +399,7 @@ all_lexical text (t ∷ ts) from s = (lexical_of t.kind (slice_range text t.star
 
 -- ---- names
 
-first_good : (h : Header) (l : Terminal) (in_head : Bool) (t : Lexeme) (more : List Naming) → AreGood h (names_at in_head l t ++ more) → (l ≡ is.Name → IsGood h (naming in_head t)) × AreGood h more
+pub first_good : (h : Header) (l : Terminal) (in_head : Bool) (t : Lexeme) (more : List Naming) → AreGood h (names_at in_head l t ++ more) → (l ≡ is.Name → IsGood h (naming in_head t)) × AreGood h more
 first_good h is.Scald in_head t more a = (λ e. absurd cc, a)
 first_good h is.Clock in_head t more a = (λ e. absurd cc, a)
 first_good h is.Wire in_head t more a = (λ e. absurd cc, a)

@@ -9,7 +9,7 @@ use Rattle.drawing_reader.specs.declared.declared.Kind.TheVariants.{Macro, Param
 use Rattle.drawing_reader.specs.DoubleNames.{Key, key, Declaration, parameters, formals, statement_labels, labels, else_labels, head_declared, macros_declared, declared, primitives, keys_of, AreDifferent, IsDistinct}
 use Rattle.drawing_reader.proofs.Proper.{IsHeadOf, AreHeads}
 
-abbrev the_key : Declaration → Key
+abbrev pub the_key : Declaration → Key
 the_key d = d.key
 
 both : (a b c d : List Declaration) → keys_of a ≡ keys_of c → keys_of b ≡ keys_of d → keys_of (a ++ b) ≡ keys_of (c ++ d)
@@ -35,10 +35,10 @@ mutual
 
 -- ---- heads
 
-abbrev parameter_keys : ℕ → List tree.Assignment → List Key
+abbrev pub parameter_keys : ℕ → List tree.Assignment → List Key
 parameter_keys scope ps = map (λ p. key scope Parameter p.name) ps
 
-abbrev formal_keys : ℕ → List tree.Formal → List Key
+abbrev pub formal_keys : ℕ → List tree.Formal → List Key
 formal_keys scope fs = map (λ f. key scope Formal f.base) fs
 
 parameters_are : (scope : ℕ) (ps : List tree.Assignment) (places : List Place) → length places ≡ length ps → keys_of (parameters scope ps places) ≡ parameter_keys scope ps
@@ -52,7 +52,7 @@ formals_are scope (f ∷ fs) [] e = absurd cc
 formals_are scope (f ∷ fs) (place ∷ places) e = let k : length places ≡ length fs = cc in ap (λ (ks : List Key). key scope Formal f.base ∷ ks) (formals_are scope fs places k)
 
 -- what a macro declares, whatever its places are
-abbrev macro_keys : ℕ → tree.Macro → List Key
+abbrev pub macro_keys : ℕ → tree.Macro → List Key
 macro_keys scope m = (key 0 Macro m.name ∷ (parameter_keys scope m.params ++ (formal_keys scope m.ins ++ formal_keys scope m.outs))) ++ keys_of (labels scope m.body)
 
 three : (a b c : List Declaration) (x y z : List Key) → keys_of a ≡ x → keys_of b ≡ y → keys_of c ≡ z → keys_of (a ++ (b ++ c)) ≡ x ++ (y ++ z)
@@ -68,11 +68,11 @@ macro_is scope m h is =
     ∙ (ap (λ (ks : List Key). ks ++ keys_of (labels scope m.body)) (head_is scope m h is)
     ∙ ap (λ (ks : List Key). (key 0 Macro m.name ∷ (parameter_keys scope m.params ++ (formal_keys scope m.ins ++ formal_keys scope m.outs))) ++ ks) (sym (statements_again scope m.body)))
 
-abbrev all_keys : ℕ → List tree.Macro → List Key
+abbrev pub all_keys : ℕ → List tree.Macro → List Key
 all_keys scope [] = []
 all_keys scope (m ∷ ms) = macro_keys scope m ++ all_keys (suc scope) ms
 
-macros_are : (scope : ℕ) (ms : List tree.Macro) (hs : List Head) → AreHeads ms hs → keys_of (macros_declared scope ms hs) ≡ all_keys scope (map unplaced_macro ms)
+pub macros_are : (scope : ℕ) (ms : List tree.Macro) (hs : List Head) → AreHeads ms hs → keys_of (macros_declared scope ms hs) ≡ all_keys scope (map unplaced_macro ms)
 macros_are scope [] hs is = refl
 macros_are scope (m ∷ ms) [] is = absurd is
 macros_are scope (m ∷ ms) (h ∷ hs) is =

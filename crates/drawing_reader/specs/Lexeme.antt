@@ -1,5 +1,5 @@
 -- A token with its text, and what the grammar tells apart among tokens.
-use Rattle.std.specs.Prelude.{ℕ, ◌==◌, ℤ, pos, if◌then◌else◌, List, codes, map, slice_range}
+use Rattle.std.specs.Prelude.{ℕ, ◌==◌, ◌||◌, Bool, false, ℤ, pos, if◌then◌else◌, List, [], ◌∷◌, codes, map, slice_range}
 use Rattle.std.specs.Str.{bytes_eq}
 use Rattle.scald_base.specs.declared.refusal.Place.{Place}
 use Rattle.scald_lex.specs.declared.token.TokenKind.{TokenKind}
@@ -39,6 +39,14 @@ word_terminal word =
     else if bytes_eq word (codes "ZERO") then Zero
     else if bytes_eq word (codes "ONE") then One
     else Word
+
+-- a letter that a reserved word begins with
+abbrev pub is_first : ℕ → Bool
+is_first b = b == 67 || (b == 68 || (b == 69 || (b == 73 || (b == 77 || (b == 79 || (b == 80 || (b == 83 || (b == 84 || (b == 87 || b == 90)))))))))
+
+abbrev pub begins_reserved : List ℕ → Bool
+begins_reserved [] = false
+begins_reserved (b ∷ bs) = is_first b
 
 -- by its byte; the last is `!`
 unfoldable pub symbol_terminal : ℕ → Terminal

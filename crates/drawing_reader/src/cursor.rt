@@ -3,11 +3,12 @@
 ghost use Rattle.std.specs.Prelude.{◌≡◌, ◌≢◌, ◌↔◌, ◌≤◌, ◌<◌, ℕ, suc, List, [], ◌∷◌, ◌++◌, length, IfOk, OnOk, IfErr, IsTrue, IsFalse, Some, None, slice_range};
 ghost use Rattle.scald_lex.specs.declared.token.TokenKind.TheVariants.{End};
 ghost use Rattle.drawing_reader.specs.declared.terminal.Terminal.TheVariants.{EndOfText};
+ghost use Rattle.drawing_reader.specs.Lexeme.{lexeme_of, terminal};
 ghost use Rattle.drawing_reader.specs.Grammar.{Need, mark, item, letter as letter_need};
 ghost use Rattle.drawing_reader.specs.Machine.{Gives, refusal};
 ghost use Rattle.drawing_reader.specs.Reader.{tokens_at, ahead, at, first_terminal, first_place, first_text, Lettered, first_token, other_tokens};
 
-use crate::terminal::{Letter, Terminal, terminal_of};
+use crate::terminal::{Letter, Terminal, symbol_terminal, word_terminal};
 use scald_base::{Place, Refusal, RefusalKind, Stop};
 use scald_lex::{Token, TokenKind};
 
@@ -32,6 +33,20 @@ pub fn text_of<'a>(text: &'a [u8], token: Token) -> &'a [u8]
     &behind[..count]
 }
 
+/// What the grammar takes a token of a text for.
+pub fn terminal_of(text: &[u8], token: Token) -> Terminal
+    ensures { result ≡ terminal (lexeme_of text.now token) }
+{
+    match token.kind {
+        TokenKind::Word => word_terminal(text_of(text, token)),
+        TokenKind::Number(_) => Terminal::Number,
+        TokenKind::Name => Terminal::Name,
+        TokenKind::Arrow => Terminal::Arrow,
+        TokenKind::Symbol(byte) => symbol_terminal(byte),
+        TokenKind::End => Terminal::EndOfText,
+    }
+}
+
 impl<'a> Cursor<'a> {
     /// What the grammar takes the next token for.
     pub fn look(&self) -> Terminal
@@ -39,7 +54,7 @@ impl<'a> Cursor<'a> {
     {
         match self.rest.first() {
             None => Terminal::EndOfText,
-            Some(token) => terminal_of(token.kind, text_of(self.text, *token)),
+            Some(token) => terminal_of(self.text, *token),
         }
     }
 

@@ -5,6 +5,7 @@ ghost use Rattle.scald_lex.specs.Tokens.{AreTokens};
 ghost use Rattle.drawing_tree.specs.Tree.{drawing_of};
 ghost use Rattle.drawing_reader.specs.Lexeme.{lexemes};
 ghost use Rattle.drawing_tree.specs.Canonical.{canonical};
+ghost use Rattle.drawing_tree.specs.WellFormed.{IsWellFormed};
 ghost use Rattle.drawing_reader.specs.CanonicalDraws.{DrawsAgain, IsShallowDrawing};
 ghost use Rattle.drawing_reader.specs.Drawing.{Draws, IsWrongStop};
 
@@ -19,11 +20,12 @@ use std::alloc::Global;
 
 /// The drawing of a text, whose tokens these are, or its first refusal: `Syntax` or `TooDeep`,
 /// whichever token comes first; then `BadHeader`; then `BadName` and `EdgesOverlap`, name by name; then
-/// `DoubleName`. The canonical text of the drawing draws it again, places aside, where it does not nest
-/// too deep.
+/// `DoubleName`. The drawing is well formed, and its canonical text draws it again, places aside, where that
+/// text does not nest too deep.
 pub fn read_drawing(alloc: Global, text: &[u8], tokens: &TokenList) -> Result<Drawing, Stop>
     requires { AreTokens text.now tokens.now }
     ensures drawn { IfOk result (λ d. Draws (lexemes text.now tokens.now) (drawing_of d)) }
+    ensures formed { IfOk result (λ d. IsWellFormed (drawing_of d)) }
     ensures again { IfOk result (λ d. IsShallowDrawing (drawing_of d) → DrawsAgain (canonical (drawing_of d)) (drawing_of d)) }
     ensures refused { IfErr result (λ stop. IsWrongStop (lexemes text.now tokens.now) stop) }
 {

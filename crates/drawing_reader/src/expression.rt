@@ -1,13 +1,13 @@
 //! Reads expressions. Each function is told how many parentheses and minus signs are open.
 
-ghost use Rattle.std.specs.Prelude.{◌≡◌, ◌≢◌, ◌≤◌, ◌<◌, ℕ, suc, List, [], ◌∷◌, length, IfOk, OnOk, IfErr, IfSome, Some, None};
+ghost use Rattle.std.specs.Prelude.{◌≡◌, ◌≢◌, ◌≤◌, ◌<◌, ℕ, suc, List, [], ◌∷◌, length, IfOk, OnOk, IfErr, IfSome, IfNone, IsFalse, Some, None};
 ghost use Rattle.scald_expr.specs.Expression.{expression_of};
 ghost use Rattle.scald_expr.specs.Expression as Expression;
 ghost use Rattle.drawing_reader.specs.declared.terminal.Terminal.TheVariants.{EndOfText};
 ghost use Rattle.drawing_reader.specs.Lexeme.{kind_number};
-ghost use Rattle.drawing_reader.specs.Grammar.{Need, part, group, fresh, Unary, OrEqual, Product, Sum, Expr as Whole};
+ghost use Rattle.drawing_reader.specs.Grammar.{Need, part, group, fresh, Unary, Factors, Terms, OrEqual, Product, Sum, Expr as Whole};
 ghost use Rattle.drawing_reader.specs.Sketch.{less_or, greater_or};
-ghost use Rattle.drawing_reader.specs.Machine.{Gives, Moves, refusal, nowhere};
+ghost use Rattle.drawing_reader.specs.Machine.{Gives, Moves, choice, refusal, nowhere};
 ghost use Rattle.drawing_reader.specs.Reader.{tokens_at, ahead, at, first_terminal, first_place, Taken};
 ghost use Rattle.drawing_reader.specs.Operators.{FactorAt, TermAt, ComparisonAt};
 
@@ -15,7 +15,7 @@ use crate::cursor::{Cursor, text_of};
 use crate::terminal::Terminal;
 use scald_base::{Bytes, NoMemory, RefusalKind, Stop};
 use scald_expr::{Expr, Op};
-use scald_lex::TokenKind;
+use scald_lex::{Token, TokenKind};
 use std::alloc::Global;
 
 /// The most parentheses and minus signs that may be open at once, and the most binary operators of an expression.
@@ -235,12 +235,47 @@ impl<'a> Cursor<'a> {
         }
     }
 
+    /// Whether an operator between the operands of a sum stands here.
+    fn at_operator(&self) -> bool
+        ensures factors { IsFalse result → choice Factors (first_terminal (tokens_at self.now)) ≡ None }
+        ensures terms { IsFalse result → choice Terms (first_terminal (tokens_at self.now)) ≡ None }
+    {
+        match self.look() {
+            Terminal::Star => true,
+            Terminal::Slash => true,
+            Terminal::Plus => true,
+            Terminal::Minus => true,
+            _ => false,
+        }
+    }
+
+    /// Takes a number that is all of a sum, as it is of most.
+    fn lone_number(&mut self) -> Option<Token>
+        ensures found { IfSome result (λ t. (rest : List Need) → Moves (ahead self.old (group Sum 0 ∷ rest)) (ahead self.new rest) (λ v. (Expression.Number (kind_number t.kind), v))) }
+        ensures none { IfNone result ((rest : List Need) → Moves (ahead self.old (group Sum 0 ∷ rest)) (ahead self.new (group Sum 0 ∷ rest)) (λ v. v)) }
+        ensures no_longer { length self.new.rest.now ≤ length self.old.rest.now }
+    {
+        if !self.starts(Terminal::Number) {
+            return None;
+        }
+        let rest = self.rest;
+        let token = self.bump();
+        if self.at_operator() {
+            self.rest = rest;
+            return None;
+        }
+        Some(token)
+    }
+
     /// A sum that is an expression of its own.
     pub fn own_sum(&mut self, alloc: Global) -> Result<Expr, Stop>
         ensures reads { (rest : List Need) → Gives result (λ e v. (expression_of e, v)) (ahead self.old (fresh ∷ group Sum 0 ∷ rest)) (ahead self.new rest) }
         ensures no_longer { length self.new.rest.now ≤ length self.old.rest.now }
     {
         self.operators = 0;
+        if let Some(token) = self.lone_number() {
+            return Ok(number(token.kind));
+        }
         let sum = self.sum(alloc, 0)?;
         Ok(sum)
     }

@@ -1,13 +1,15 @@
 //! The names of a text.
 
 ghost use Rattle.std.specs.Prelude.{◌≡◌, ◌↔◌, ◌∷◌, [], IsTrue, IfOk, IfErr, MatchResult, MatchOption, false};
+ghost use Rattle.std.specs.List.{list_all};
+ghost use Rattle.assertion_syntax.specs.Name.{IsBase};
 ghost use Rattle.scald_base.specs.Fitting.{Fits};
 ghost use Rattle.drawing_reader.specs.Lexeme.{lexeme_of, lexemes, terminal};
-ghost use Rattle.drawing_reader.specs.Names.{named, names_at, head_behind, names_from, IsPlain, MayStand, IsNameFault, IsGood, AreGood, IsNameStop};
+ghost use Rattle.drawing_reader.specs.Names.{is_inner, named, names_at, head_behind, names_from, IsPlain, MayStand, IsNameFault, IsGood, AreGood, IsNameStop};
 
-use crate::cursor::text_of;
+use crate::cursor::{terminal_of, text_of};
 use crate::signal::unquoted;
-use crate::terminal::{Terminal, terminal_of};
+use crate::terminal::Terminal;
 use assertion_syntax::{NameEnd, NameFault, SignalName, fits, read_name};
 use scald_base::{AssertSpec, Header, Place, Refusal, RefusalKind, Stop};
 use scald_lex::Token;
@@ -52,6 +54,32 @@ fn fault(name: &SignalName, of_formal: bool, header: &Header) -> Option<RefusalK
     }
 }
 
+/// Whether a byte may stand anywhere in a base.
+fn is_inner(byte: u8) -> bool
+    ensures { result ≡ is_inner byte }
+{
+    byte.is_ascii_alphanumeric() || matches!(byte, b'_' | b'#' | b'$')
+}
+
+fn are_inner(text: &[u8]) -> bool
+    ensures { result ≡ list_all is_inner text.now }
+{
+    text.iter().all(|byte| is_inner(*byte))
+}
+
+/// Whether a text is a base without spaces, as most names are: such a name may stand anywhere.
+fn is_bare(text: &[u8]) -> bool
+    ensures { IsTrue result → IsBase text.now }
+{
+    if text.is_empty() {
+        return false;
+    }
+    if text.len() > 64 {
+        return false;
+    }
+    are_inner(text)
+}
+
 /// Whether a text is of a name that may stand there.
 fn judge(
     alloc: Global,
@@ -62,6 +90,10 @@ fn judge(
 ) -> Result<(), Stop>
     ensures { MatchResult result (λ _. IsGood header.now (named text.now of_formal place)) (IsNameStop header.now (named text.now of_formal place ∷ [])) }
 {
+    // No memory is taken for a name that is seen to be good by its bytes alone.
+    if is_bare(text) {
+        return Ok(());
+    }
     match read_name(alloc, text) {
         Ok(name) => match fault(&name, of_formal, header) {
             None => Ok(()),
@@ -84,12 +116,12 @@ fn judge_token(
     ensures good { IfOk result (λ _. AreGood header.now (names_at in_head (terminal (lexeme_of text.now token)) (lexeme_of text.now token))) }
     ensures refused { IfErr result (IsNameStop header.now (names_at in_head (terminal (lexeme_of text.now token)) (lexeme_of text.now token))) }
 {
-    let word = text_of(text, token);
-    match terminal_of(token.kind, word) {
+    match terminal_of(text, token) {
         Terminal::Macro => Ok(true),
         Terminal::Semicolon => Ok(false),
         Terminal::Name => {
-            judge(alloc, unquoted(word), in_head, token.place, header)?;
+            let name = unquoted(text_of(text, token));
+            judge(alloc, name, in_head, token.place, header)?;
             Ok(in_head)
         }
         _ => Ok(in_head),

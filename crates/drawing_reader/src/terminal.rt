@@ -2,9 +2,7 @@
 
 ghost use Rattle.std.specs.Prelude.{◌≡◌};
 ghost use Rattle.drawing_reader.specs.Grammar.{letter_text};
-ghost use Rattle.drawing_reader.specs.Lexeme.{word_terminal, symbol_terminal, terminal_by};
-
-use scald_lex::TokenKind;
+ghost use Rattle.drawing_reader.specs.Lexeme.{is_first, begins_reserved, word_terminal, symbol_terminal};
 
 /// A token as the grammar sees it: a word that stands for itself, any other word, a number, a name, a symbol or
 /// the end.
@@ -73,24 +71,41 @@ impl Letter {
     }
 }
 
-/// What the grammar takes a token of this kind and text for.
-pub fn terminal_of(kind: TokenKind, text: &[u8]) -> Terminal
-    ensures { result ≡ terminal_by kind text.now }
+/// Whether a reserved word begins as this one does.
+fn begins_reserved(word: &[u8]) -> bool
+    ensures { result ≡ begins_reserved word.now }
 {
-    match kind {
-        TokenKind::Word => word_terminal(text),
-        TokenKind::Number(_) => Terminal::Number,
-        TokenKind::Name => Terminal::Name,
-        TokenKind::Arrow => Terminal::Arrow,
-        TokenKind::Symbol(byte) => symbol_terminal(byte),
-        TokenKind::End => Terminal::EndOfText,
+    match word {
+        [] => false,
+        [first, ..] => is_first(*first),
     }
 }
 
+fn is_first(byte: u8) -> bool
+    ensures { result ≡ is_first byte }
+{
+    byte == b'C'
+        || byte == b'D'
+        || byte == b'E'
+        || byte == b'I'
+        || byte == b'M'
+        || byte == b'O'
+        || byte == b'P'
+        || byte == b'S'
+        || byte == b'T'
+        || byte == b'W'
+        || byte == b'Z'
+}
+
+/// What the grammar takes a word for.
 #[tactic(auto, unfolding(crate::specs::Lexeme::word_terminal))]
-fn word_terminal(word: &[u8]) -> Terminal
+pub fn word_terminal(word: &[u8]) -> Terminal
     ensures { result ≡ word_terminal word.now }
 {
+    // Most words are told by their first letter.
+    if !begins_reserved(word) {
+        return Terminal::Word;
+    }
     if word == b"SCALD".as_slice() {
         Terminal::Scald
     } else if word == b"CLOCK".as_slice() {
@@ -124,8 +139,9 @@ fn word_terminal(word: &[u8]) -> Terminal
     }
 }
 
+/// What the grammar takes a symbol for.
 #[tactic(auto, unfolding(crate::specs::Lexeme::symbol_terminal))]
-fn symbol_terminal(byte: u8) -> Terminal
+pub fn symbol_terminal(byte: u8) -> Terminal
     ensures { result ≡ symbol_terminal byte }
 {
     match byte {

@@ -1,6 +1,6 @@
 //! The tokens of a text, from its first byte to its end.
 
-ghost use Rattle.std.specs.Prelude.{◌≡◌, ◌<◌, ◌+◌, ◌-◌, ◌^◌, [], ◌∷◌, ◌++◌, List, length, IfOk, OnOk, IfErr, IfSome, IfNone};
+ghost use Rattle.std.specs.Prelude.{◌≡◌, ◌<◌, ◌+◌, ◌-◌, ◌^◌, [], ◌∷◌, ◌++◌, List, length, IsTrue, IfOk, OnOk, IfErr, IfSome, IfNone};
 ghost use Rattle.scald_base.specs.declared.refusal.Stop.TheVariants.{NoMemory as OutOfMemory};
 ghost use Rattle.scald_base.specs.declared.refusal.Refusal.{Refusal};
 ghost use Rattle.scald_lex.specs.declared.token.Token.{Token};
@@ -48,11 +48,26 @@ fn read(alloc: Global, text: &[u8]) -> Result<TokenList, Stop>
     scan.finish()
 }
 
+/// Whether a text holds no byte that none may hold. All bytes are looked at, so that the processor takes
+/// several at once.
+fn are_allowed(text: &[u8]) -> bool
+    ensures { IsTrue result → IsAllowed text.now }
+{
+    let mut all = true;
+    'bytes: for byte in text {
+        all = all & bytes::is_allowed(*byte);
+    }
+    all
+}
+
 /// The first byte that no text may hold.
 fn bad_byte(text: &[u8]) -> Option<usize>
     ensures found { IfSome result (λ at. IsBadByte text.now at) }
     ensures none { IfNone result (IsAllowed text.now) }
 {
+    if are_allowed(text) {
+        return None;
+    }
     for (at, byte) in text.iter().enumerate() {
         if !bytes::is_allowed(*byte) {
             return Some(at);

@@ -2,6 +2,7 @@ use Rattle.std.proofs.Common.{sym, refl}
 use Rattle.drawing_reader.specs.Sketched.{sketch_of}
 use Rattle.drawing_reader.proofs.Drawn.{stop_of_grammar, header_wrong, name_wrong, double_wrong, draws_it, names_of_slice, good_of_slice, double_of_slices, distinct_of_slices}
 use Rattle.drawing_reader.proofs.Again.{law}
+use Rattle.drawing_reader.proofs.Different.{well_formed}
 use Rattle.drawing_reader.proofs.drawing.read_drawing.Goals as goal
 
 pub returns-in-Err-clause-refused : goal.returns-in-Err-clause-refused
@@ -26,6 +27,9 @@ returns-clause-drawn c =
     draws_it _ (sketch_of c.in-Ok.sketch) _ _ c.in-Ok.ensures.found (sym c.in-Ok-judged_header.ensures)
     (good_of_slice _ _ _ _ c.as_slice.ensures c.in_default.ensures)
     (distinct_of_slices _ _ _ _ _ c.as_slice-2.ensures c.as_slice-3.ensures.value c.in_default-distinct_names.ensures) refl
+
+pub returns-clause-formed : goal.returns-clause-formed
+returns-clause-formed c = well_formed c.args.text.now c.args.tokens.now _ c.requires (returns-clause-drawn c)
 
 pub returns-clause-again : goal.returns-clause-again
 returns-clause-again c shallow =

@@ -1,7 +1,11 @@
 use Rattle.scald_base.specs.declared.refusal.RefusalKind.TheVariants.{BadName}
 use Rattle.drawing_reader.specs.Names.{named, no_name, bad_name}
+use Rattle.drawing_reader.proofs.Bare.{bare_good}
 use Rattle.drawing_reader.proofs.Naming.{fault_stop}
 use Rattle.drawing_reader.proofs.names.judge.Goals as goal
+
+pub returns-then-is_bare : goal.returns-then-is_bare
+returns-then-is_bare c = bare_good c.args.header.now c.args.text.now c.args.of_formal c.args.place (c.is_bare.ensures c.if-is_bare.true)
 
 pub returns-in-Ok : goal.returns-in-Ok
 returns-in-Ok c =
