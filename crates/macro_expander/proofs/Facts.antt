@@ -1,0 +1,264 @@
+-- What holds of the bits of a use that is not refused.
+use Rattle.std.proofs.Common.{◌≡◌, ℕ, ℤ, pos, negsuc, zero, suc, ◌+◌, ◌*◌, ◌≤◌, Bool, true, false, ◌&&◌, cond, List, [], ◌∷◌, length, map, Ok, Err, is_some, refl, sym, ◌∙◌, subst, arith}
+use Rattle.std.specs.Prelude.{◌==◌, nat_le, slice_index_or}
+use Rattle.std.specs.List.{All, count_by, flat_map}
+use Rattle.std.proofs.lemmas.Bool.Decides.{nat_tests}
+use Rattle.std.proofs.lemmas.List.{length-map, length-append}
+use Rattle.std.proofs.lemmas.List.Sums.{sum_by-cons, sum_by-append}
+use Rattle.std.proofs.lemmas.List.Elements.{All-head, All-tail, All-nil, All-cons, All-append, All-map, All-weaker}
+use Rattle.scald_base.specs.Time.{Header, period}
+use Rattle.scald_base.specs.declared.refusal.RefusalKind.{RefusalKind}
+use Rattle.scald_base.specs.declared.refusal.RefusalKind.TheVariants.{BadParameter, Bounds, PinCount}
+use Rattle.scald_expr.specs.declared.environment.Binding.{Binding}
+use Rattle.vector_names.specs.declared.bits.BitRef.{BitRef}
+use Rattle.flat_circuit.specs.declared.kind.Kind.{Kind}
+use Rattle.flat_circuit.specs.declared.kind.Kind.TheVariants.{Buf, And, Or, Xor, Mux2, Mux4, Mux8, Chg, Reg, RegRs, Latch, LatchRs, SetupHold, RiseFall, MinPulse}
+use Rattle.flat_circuit.specs.declared.instance.Pin.{Pin}
+use Rattle.flat_circuit.specs.Kind.{has_output, PinsFit, LimitsFit}
+use Rattle.flat_circuit.specs.Name.{Name}
+use Rattle.flat_circuit.specs.Instances.{PinExists, OutExists, InstanceFits}
+use Rattle.drawing_tree.specs.declared.statement.UseStmt.{UseStmt}
+use Rattle.drawing_tree.specs.Tree.{UseStatement}
+use Rattle.macro_expander.specs.declared.primitive.Plan.{Plan}
+use Rattle.macro_expander.specs.declared.connection.Joined as numbered_joined
+use Rattle.macro_expander.specs.Outcome.{Judged, judging}
+use Rattle.macro_expander.specs.Terms.{Joined}
+use Rattle.macro_expander.specs.Primitives.{demanded, are_of, takes, same_truth, written_delay, values_given, delay_of, limits_of, setup_and_hold, high_and_low, are_connected, plan_of, fewest_inputs, most_inputs, most_marks, outputs, marks, bit_at}
+use Rattle.macro_expander.specs.Numbered.{bit_of, joined_of, no_ref, pin_ref, all_refs, column_ref, pin_refs, output_ref, target_ref, instance_ref, BitExists, JoinedExists}
+use Rattle.macro_expander.proofs.Alike.{both}
+use Rattle.macro_expander.proofs.Lists.{count_by-map}
+use Rattle.macro_expander.proofs.Joints.{HasWidth, AreJoined}
+
+-- ---- judgements that are not refused
+
+pub demanded_ok : {A : Type 0} (b : Bool) (kind : RefusalKind) (rest : Judged A) (a : A) → demanded b kind rest ≡ Ok a → (b ≡ true) × (rest ≡ Ok a)
+demanded_ok true kind rest a h = (refl, h)
+demanded_ok false kind rest a h = absurd (cc)
+
+pub record Ran {A B : Type 0} (j : Judged A) (next : A → Judged B) (b : B) : Type 0 where
+  pub value : A
+  pub was : j ≡ Ok value
+  pub goes_on : next value ≡ Ok b
+
+pub judging_ok : {A B : Type 0} (j : Judged A) (next : A → Judged B) (b : B) → judging j next ≡ Ok b → Ran j next b
+judging_ok (Ok a) next b h = record { value = a; was = refl; goes_on = h }
+judging_ok (Err kind) next b h = absurd (cc)
+
+le_so : (m n : ℕ) → nat_le m n ≡ true → m ≤ n
+le_so m n h = grind (arith, nat_tests)
+
+eq_so : (m n : ℕ) → (m == n) ≡ true → m ≡ n
+eq_so m n h = grind (arith, nat_tests)
+
+-- ---- limits
+
+sum_by_test : (b : Bool) (p s h : ℕ) (l : ℕ × ℕ) → nat_le (s + h) p ≡ b → cond b (Ok (s, h)) (Err Bounds) ≡ Ok l → l.0 + l.1 ≤ p
+sum_by_test true p s h l t e = let is : (s, h) ≡ l = cc in subst (λ (x : ℕ × ℕ). x.0 + x.1 ≤ p) is (le_so (s + h) p t)
+sum_by_test false p s h l t e = absurd (cc)
+
+setup_fits : (p : ℕ) (s h : ℤ) (l : ℕ × ℕ) → setup_and_hold p s h ≡ Ok l → l.0 + l.1 ≤ p
+setup_fits p (pos s) (pos h) l e = sum_by_test (nat_le (s + h) p) p s h l refl e
+setup_fits p (pos s) (negsuc h) l e = absurd (cc)
+setup_fits p (negsuc s) (pos h) l e = absurd (cc)
+setup_fits p (negsuc s) (negsuc h) l e = absurd (cc)
+
+each_by_test : (b : Bool) (p s h : ℕ) (l : ℕ × ℕ) → (nat_le s p && nat_le h p) ≡ b → cond b (Ok (s, h)) (Err Bounds) ≡ Ok l → (l.0 ≤ p) × (l.1 ≤ p)
+each_by_test true p s h l t e =
+    let is : (s, h) ≡ l = cc in
+    let q = both (nat_le s p) (nat_le h p) t in
+    subst (λ (x : ℕ × ℕ). (x.0 ≤ p) × (x.1 ≤ p)) is (le_so s p q.0, le_so h p q.1)
+each_by_test false p s h l t e = absurd (cc)
+
+high_fits : (p : ℕ) (s h : ℤ) (l : ℕ × ℕ) → high_and_low p s h ≡ Ok l → (l.0 ≤ p) × (l.1 ≤ p)
+high_fits p (pos s) (pos h) l e = each_by_test (nat_le s p && nat_le h p) p s h l refl e
+high_fits p (pos s) (negsuc h) l e = absurd (cc)
+high_fits p (negsuc s) (pos h) l e = absurd (cc)
+high_fits p (negsuc s) (negsuc h) l e = absurd (cc)
+
+limits_fit : (h : Header) (kind : Kind) (given : List Binding) (l : ℕ × ℕ) → limits_of (period h) kind given ≡ Ok l → LimitsFit h kind l
+limits_fit h SetupHold given l e = setup_fits (period h) _ _ l e
+limits_fit h RiseFall given l e = setup_fits (period h) _ _ l e
+limits_fit h MinPulse given l e = high_fits (period h) _ _ l e
+limits_fit h Buf given l e = tt
+limits_fit h And given l e = tt
+limits_fit h Or given l e = tt
+limits_fit h Xor given l e = tt
+limits_fit h Mux2 given l e = tt
+limits_fit h Mux4 given l e = tt
+limits_fit h Mux8 given l e = tt
+limits_fit h Chg given l e = tt
+limits_fit h Reg given l e = tt
+limits_fit h RegRs given l e = tt
+limits_fit h Latch given l e = tt
+limits_fit h LatchRs given l e = tt
+
+pub record PlanFits (h : Header) (kind : Kind) (u : UseStatement) (plan : Plan) : Type 0 where
+  pub limits : LimitsFit h kind plan.limits
+  pub connected : are_connected kind u ≡ true
+
+pub plan_fits : (h : Header) (kind : Kind) (env : List Binding) (u : UseStatement) (plan : Plan) → plan_of (period h) kind env u ≡ Ok plan → PlanFits h kind u plan
+unfolding plan_of
+plan_fits h kind env u plan e =
+    let a = demanded_ok (same_truth (is_some u.delay) (has_output kind)) Bounds _ plan e in
+    let b = demanded_ok (are_of (takes kind) u.params) BadParameter _ plan a.1 in
+    let c = judging_ok (written_delay env u.delay) _ plan b.1 in
+    let d = judging_ok (values_given env u.params) _ plan c.goes_on in
+    let f = judging_ok (delay_of c.value) _ plan d.goes_on in
+    let g = judging_ok (limits_of (period h) kind d.value) _ plan f.goes_on in
+    let i = demanded_ok (are_connected kind u) PinCount _ plan g.goes_on in
+    let made : Plan = record { delay = f.value; limits = g.value } in
+    let is : made ≡ plan = cc (i.1) in
+    subst (λ (p : Plan). PlanFits h kind u p) is (record { limits = limits_fit h kind d.value g.value g.was; connected = i.0 })
+
+-- ---- numbers that there are
+
+bit_at_exists : (nets : ℕ) (bits : List BitRef) (k : ℕ) → All (BitExists nets) bits → BitExists nets (slice_index_or bits k no_ref)
+bit_at_exists nets [] k h = record { target = tt }
+bit_at_exists nets (b ∷ bits) zero h = All-head (BitExists nets) b bits h
+bit_at_exists nets (b ∷ bits) (suc k) h = bit_at_exists nets bits k (All-tail (BitExists nets) b bits h)
+
+spread_exists : (nets : ℕ) (bits : List BitRef) (k : ℕ) → All (BitExists nets) bits → BitExists nets (bit_at no_ref bits k)
+spread_exists nets [] k h = record { target = tt }
+spread_exists nets (b ∷ []) k h = All-head (BitExists nets) b [] h
+spread_exists nets (b ∷ c ∷ bits) k h = bit_at_exists nets (b ∷ c ∷ bits) k h
+
+columns_exist : (nets k : ℕ) (ins : List numbered_joined.Joined) → All (JoinedExists nets) ins → All (PinExists nets) (map (column_ref k) ins)
+columns_exist nets k ins h = All-map (PinExists nets) (column_ref k) ins (All-weaker (JoinedExists nets) (λ c. PinExists nets (column_ref k c)) (λ c x. (spread_exists nets c.bits k x.bits).target) ins h)
+
+refs_exist : (nets : ℕ) (c : numbered_joined.Joined) → All (BitExists nets) c.bits → All (PinExists nets) (all_refs c)
+refs_exist nets c h = All-map (PinExists nets) (pin_ref c.hold) c.bits (All-weaker (BitExists nets) (λ b. PinExists nets (pin_ref c.hold b)) (λ b x. x.target) c.bits h)
+
+all_refs_exist : (nets : ℕ) (ins : List numbered_joined.Joined) → All (JoinedExists nets) ins → All (PinExists nets) (flat_map all_refs ins)
+all_refs_exist nets [] h = All-nil (PinExists nets)
+all_refs_exist nets (c ∷ ins) h =
+    All-append (PinExists nets) (all_refs c) (flat_map all_refs ins) (refs_exist nets c (All-head (JoinedExists nets) c ins h).bits) (all_refs_exist nets ins (All-tail (JoinedExists nets) c ins h))
+
+pins_exist : (nets k : ℕ) (kind : Kind) (ins : List numbered_joined.Joined) → All (JoinedExists nets) ins → All (PinExists nets) (pin_refs kind ins k)
+pins_exist nets k Chg ins h = all_refs_exist nets ins h
+pins_exist nets k Buf ins h = columns_exist nets k ins h
+pins_exist nets k And ins h = columns_exist nets k ins h
+pins_exist nets k Or ins h = columns_exist nets k ins h
+pins_exist nets k Xor ins h = columns_exist nets k ins h
+pins_exist nets k Mux2 ins h = columns_exist nets k ins h
+pins_exist nets k Mux4 ins h = columns_exist nets k ins h
+pins_exist nets k Mux8 ins h = columns_exist nets k ins h
+pins_exist nets k Reg ins h = columns_exist nets k ins h
+pins_exist nets k RegRs ins h = columns_exist nets k ins h
+pins_exist nets k Latch ins h = columns_exist nets k ins h
+pins_exist nets k LatchRs ins h = columns_exist nets k ins h
+pins_exist nets k SetupHold ins h = columns_exist nets k ins h
+pins_exist nets k RiseFall ins h = columns_exist nets k ins h
+pins_exist nets k MinPulse ins h = columns_exist nets k ins h
+
+out_exists : (nets k : ℕ) (outs : List numbered_joined.Joined) → All (JoinedExists nets) outs → OutExists nets (target_ref (output_ref outs k))
+out_exists nets k [] h = tt
+out_exists nets k (c ∷ outs) h = (spread_exists nets c.bits k (All-head (JoinedExists nets) c outs h).bits).target
+
+-- ---- how many pins
+
+pub record Counted (kind : Kind) (ins : List numbered_joined.Joined) : Type 0 where
+  pub least : fewest_inputs kind ≤ length ins
+  pub most : length ins ≤ most_inputs kind
+  pub marked : count_by (λ (c : numbered_joined.Joined). c.hold) ins ≤ most_marks kind
+
+cols : (k lo hi m : ℕ) (ins : List numbered_joined.Joined) → lo ≤ length ins → length ins ≤ hi → count_by (λ (c : numbered_joined.Joined). c.hold) ins ≤ m →
+    (lo ≤ length (map (column_ref k) ins)) × (length (map (column_ref k) ins) ≤ hi) × (count_by (λ (p : Pin). p.hold) (map (column_ref k) ins) ≤ m)
+cols k lo hi m ins a b c = rw (length-map ins (column_ref k), count_by-map (λ (p : Pin). p.hold) (column_ref k) ins) (a, b, c)
+
+pub record Wide (c : numbered_joined.Joined) : Type 0 where
+  pub some : 1 ≤ length c.bits
+  pub few : length c.bits ≤ 256
+
+refs_least : (ins : List numbered_joined.Joined) → All Wide ins → length ins ≤ length (flat_map all_refs ins)
+refs_least [] h = omega arith
+refs_least (c ∷ ins) h =
+    let w = All-head Wide c ins h in
+    let more = refs_least ins (All-tail Wide c ins h) in
+    omega (arith, length-append (all_refs c) (flat_map all_refs ins), length-map c.bits (pin_ref c.hold), w.some, more)
+
+refs_most : (ins : List numbered_joined.Joined) → All Wide ins → length (flat_map all_refs ins) ≤ 256 * length ins
+refs_most [] h = omega arith
+refs_most (c ∷ ins) h =
+    let w = All-head Wide c ins h in
+    let more = refs_most ins (All-tail Wide c ins h) in
+    omega (arith, length-append (all_refs c) (flat_map all_refs ins), length-map c.bits (pin_ref c.hold), w.few, more)
+
+held_none : (hold : Bool) (bits : List BitRef) → hold ≡ false → count_by (λ (p : Pin). p.hold) (map (pin_ref hold) bits) ≡ 0
+held_none hold [] h = refl
+held_none hold (b ∷ bits) h = sum_by-cons (λ (p : Pin). cond p.hold 1 0) (pin_ref hold b) (map (pin_ref hold) bits) ∙ rw (h, held_none false bits refl) refl
+
+zero_of : (b : Bool) (n : ℕ) → cond b 1 0 + n ≤ 0 → (b ≡ false) × (n ≤ 0)
+zero_of true n h = absurd (omega arith)
+zero_of false n h = (refl, omega arith)
+
+refs_none : (ins : List numbered_joined.Joined) → count_by (λ (c : numbered_joined.Joined). c.hold) ins ≤ 0 → count_by (λ (p : Pin). p.hold) (flat_map all_refs ins) ≤ 0
+refs_none [] h = omega arith
+refs_none (c ∷ ins) h =
+    let z = zero_of c.hold (count_by (λ (x : numbered_joined.Joined). x.hold) ins) (rw (sum_by-cons (λ (x : numbered_joined.Joined). cond x.hold 1 0) c ins) at h) in
+    let here = held_none c.hold c.bits z.0 in
+    let more = refs_none ins z.1 in
+    omega (arith, sum_by-append (λ (p : Pin). cond p.hold 1 0) (all_refs c) (flat_map all_refs ins), here, more)
+
+pins_fit : (k : ℕ) (kind : Kind) (ins : List numbered_joined.Joined) → Counted kind ins → All Wide ins → PinsFit kind (pin_refs kind ins k)
+pins_fit k Chg ins f w = record {
+  least = let a = refs_least ins w in omega (arith, f.least);
+  most = let a = refs_most ins w in omega (arith, f.most);
+  marks = refs_none ins f.marked;
+}
+pins_fit k Buf ins f w = let r = cols k 1 1 0 ins f.least f.most f.marked in record { least = r.0; most = r.1; marks = r.2 }
+pins_fit k And ins f w = let r = cols k 1 16 1 ins f.least f.most f.marked in record { least = r.0; most = r.1; marks = r.2 }
+pins_fit k Or ins f w = let r = cols k 1 16 1 ins f.least f.most f.marked in record { least = r.0; most = r.1; marks = r.2 }
+pins_fit k Xor ins f w = let r = cols k 1 16 0 ins f.least f.most f.marked in record { least = r.0; most = r.1; marks = r.2 }
+pins_fit k Mux2 ins f w = let r = cols k 3 3 0 ins f.least f.most f.marked in record { least = r.0; most = r.1; marks = r.2 }
+pins_fit k Mux4 ins f w = let r = cols k 6 6 0 ins f.least f.most f.marked in record { least = r.0; most = r.1; marks = r.2 }
+pins_fit k Mux8 ins f w = let r = cols k 11 11 0 ins f.least f.most f.marked in record { least = r.0; most = r.1; marks = r.2 }
+pins_fit k Reg ins f w = let r = cols k 2 2 0 ins f.least f.most f.marked in record { least = r.0; most = r.1; marks = r.2 }
+pins_fit k RegRs ins f w = let r = cols k 4 4 0 ins f.least f.most f.marked in record { least = r.0; most = r.1; marks = r.2 }
+pins_fit k Latch ins f w = let r = cols k 2 2 0 ins f.least f.most f.marked in record { least = r.0; most = r.1; marks = r.2 }
+pins_fit k LatchRs ins f w = let r = cols k 4 4 0 ins f.least f.most f.marked in record { least = r.0; most = r.1; marks = r.2 }
+pins_fit k SetupHold ins f w = let r = cols k 2 2 0 ins f.least f.most f.marked in record { least = r.0; most = r.1; marks = r.2 }
+pins_fit k RiseFall ins f w = let r = cols k 2 2 0 ins f.least f.most f.marked in record { least = r.0; most = r.1; marks = r.2 }
+pins_fit k MinPulse ins f w = let r = cols k 1 1 0 ins f.least f.most f.marked in record { least = r.0; most = r.1; marks = r.2 }
+
+-- ---- the whole
+
+named_wide : (names : List Name) (ins : List numbered_joined.Joined) → All HasWidth (map (joined_of names) ins) → All Wide ins
+named_wide names [] h = All-nil Wide
+named_wide names (c ∷ ins) h =
+    let w = All-head HasWidth (joined_of names c) (map (joined_of names) ins) h in
+    All-cons Wide c ins (record { some = omega (arith, w.some, length-map c.bits (bit_of names)); few = omega (arith, w.few, length-map c.bits (bit_of names)) }) (named_wide names ins (All-tail HasWidth (joined_of names c) (map (joined_of names) ins) h))
+
+some_out : (kind : Kind) (outs : List numbered_joined.Joined) (k : ℕ) (b : Bool) → length outs ≡ cond b 1 0 → is_some (target_ref (output_ref outs k)) ≡ b
+some_out kind [] k true h = absurd (omega arith)
+some_out kind [] k false h = refl
+some_out kind (c ∷ outs) k true h = refl
+some_out kind (c ∷ outs) k false h = absurd (omega arith)
+
+module _ (h : Header) (names : List Name) (kind : Kind) (u : UseStatement) (plan : Plan) (ins outs : List numbered_joined.Joined) (fits : PlanFits h kind u plan)
+    (ins_are : AreJoined u.ins (map (joined_of names) ins)) (outs_are : AreJoined u.outs (map (joined_of names) outs)) where
+  pub counted : Counted kind ins
+  counted =
+      let a = both (nat_le (fewest_inputs kind) (length u.ins) && nat_le (length u.ins) (most_inputs kind)) ((length u.outs == outputs kind) && (nat_le (marks u.ins) (most_marks kind) && (marks u.outs == 0))) fits.connected in
+      let b = both (nat_le (fewest_inputs kind) (length u.ins)) (nat_le (length u.ins) (most_inputs kind)) a.0 in
+      let c = both (length u.outs == outputs kind) (nat_le (marks u.ins) (most_marks kind) && (marks u.outs == 0)) a.1 in
+      let d = both (nat_le (marks u.ins) (most_marks kind)) (marks u.outs == 0) c.1 in
+      let least = le_so (fewest_inputs kind) (length u.ins) b.0 in
+      let most = le_so (length u.ins) (most_inputs kind) b.1 in
+      let marked = le_so (marks u.ins) (most_marks kind) d.0 in
+      let count : length ins ≡ length u.ins = sym (length-map ins (joined_of names)) ∙ ins_are.count in
+      let held : count_by (λ (x : numbered_joined.Joined). x.hold) ins ≡ marks u.ins = sym (count_by-map (λ (j : Joined). j.hold) (joined_of names) ins) ∙ ins_are.marked in
+      record { least = rw count least; most = rw count most; marked = rw held marked }
+
+  pub one_out : length outs ≡ outputs kind
+  one_out =
+      let a = both (nat_le (fewest_inputs kind) (length u.ins) && nat_le (length u.ins) (most_inputs kind)) ((length u.outs == outputs kind) && (nat_le (marks u.ins) (most_marks kind) && (marks u.outs == 0))) fits.connected in
+      let c = both (length u.outs == outputs kind) (nat_le (marks u.ins) (most_marks kind) && (marks u.outs == 0)) a.1 in
+      sym (length-map outs (joined_of names)) ∙ (outs_are.count ∙ eq_so (length u.outs) (outputs kind) c.0)
+
+  pub bit_fits : (nets k : ℕ) (path : List ℕ) (code : UseStmt) → All (JoinedExists nets) ins → All (JoinedExists nets) outs → InstanceFits h nets (instance_ref path code kind plan ins outs k)
+  bit_fits nets k path code x y = record {
+    pins = pins_fit k kind ins counted (named_wide names ins ins_are.wide);
+    has_out = some_out kind outs k (has_output kind) one_out;
+    lim = fits.limits;
+    exists = record { reads = pins_exist nets k kind ins x; drives = out_exists nets k outs y };
+  }

@@ -1,0 +1,19 @@
+mod Examples
+pub mod Lists
+pub mod Alike
+pub mod Nets
+pub mod Gathered
+pub mod Formals
+pub mod Binding
+pub mod Ranges
+pub mod Running
+pub mod Leading
+pub mod Joints
+pub mod Uses
+pub mod Adding
+pub mod Facts
+pub mod PrimitiveUses
+pub mod WireBounds
+pub mod Statements
+pub mod Whole
+pub mod Only

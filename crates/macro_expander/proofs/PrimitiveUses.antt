@@ -1,0 +1,110 @@
+-- The use of a primitive, step by step.
+use Rattle.std.proofs.Common.{◌≡◌, ℕ, ◌≤◌, Bool, true, false, cond, List, [], ◌∷◌, map, Result, Ok, Err, refl, sym, ◌∙◌, subst, arith}
+use Rattle.std.specs.List.{All}
+use Rattle.std.proofs.lemmas.List.{length-map}
+use Rattle.std.proofs.lemmas.List.Elements.{All-head, All-tail}
+use Rattle.scald_base.specs.Time.{period}
+use Rattle.scald_base.specs.declared.refusal.Place.{Place}
+use Rattle.scald_base.specs.declared.refusal.Refusal.{Refusal}
+use Rattle.scald_base.specs.declared.refusal.RefusalKind.{RefusalKind}
+use Rattle.scald_base.specs.declared.refusal.RefusalKind.TheVariants.{Width}
+use Rattle.scald_base.specs.declared.refusal.Stop.{Stop}
+use Rattle.scald_base.specs.declared.refusal.Stop.TheVariants.{Refused}
+use Rattle.flat_circuit.specs.declared.kind.Kind.{Kind}
+use Rattle.flat_circuit.specs.Kind.{has_output}
+use Rattle.flat_circuit.specs.Name.{Name}
+use Rattle.flat_circuit.specs.Instances.{InstanceFits}
+use Rattle.drawing_tree.specs.declared.statement.UseStmt.{UseStmt}
+use Rattle.drawing_tree.specs.Tree.{use_of}
+use Rattle.macro_expander.specs.declared.expansion.Expansion.{Expansion}
+use Rattle.macro_expander.specs.declared.primitive.Plan.{Plan}
+use Rattle.macro_expander.specs.declared.scope.Scope as numbered_scope
+use Rattle.macro_expander.specs.declared.connection.Joined as numbered_joined
+use Rattle.macro_expander.specs.declared.connection.Wires as numbered_wires
+use Rattle.macro_expander.specs.Outcome.{Outcome, Fails, Judged, judged}
+use Rattle.macro_expander.specs.Steps.{IsJudgedRefusal}
+use Rattle.macro_expander.specs.Terms.{Joined, Wires, wires_of}
+use Rattle.macro_expander.specs.Primitives.{width, greatest, width_of, width_in, inputs_fit, plan_of, all_added, primitive_use}
+use Rattle.macro_expander.specs.Numbered.{bit_of, joined_of, bits_in, instance_ref, scope_of, named_wires, names_in, nets_in, state_of, Failed, Grows, GivesWires, DoneAt}
+use Rattle.macro_expander.proofs.Nets.{grows_trans}
+use Rattle.macro_expander.proofs.Joints.{HasWidth, AreWires, are_wires}
+use Rattle.macro_expander.proofs.Facts.{plan_fits, bit_fits}
+
+pub judged_failed : {A B : Type 0} (j : Judged A) (place : Place) (next : A → Outcome B) (stop : Stop) → IsJudgedRefusal place stop j → Failed stop (judged j place next)
+judged_failed j place next stop h = record { told = λ r is. rw (h.told r is, h.here r is) refl }
+
+pub done_later : (d e f : Expansion) (r : Result (Unit {0}) Stop) (o o' : Outcome (Unit {0})) → Grows d e → o' ≡ o → DoneAt e f r o → DoneAt d f r o'
+done_later d e f (Ok done) o o' g is h = record { is = is ∙ h.is; grows = grows_trans d e f g h.grows }
+done_later d e f (Err stop) o o' g is h = record { told = λ r s. is ∙ h.told r s }
+
+-- ---- widths
+
+widths_named : (names : List Name) (cs : List numbered_joined.Joined) → map width (map (joined_of names) cs) ≡ map bits_in cs
+widths_named names [] = refl
+widths_named names (c ∷ cs) = rw (length-map c.bits (bit_of names), widths_named names cs) refl
+
+greatest_few : (cs : List Joined) → All HasWidth cs → greatest (map width cs) ≤ 256
+greatest_few [] h = omega arith
+greatest_few (c ∷ cs) h =
+    let w = All-head HasWidth c cs h in
+    let more = greatest_few cs (All-tail HasWidth c cs h) in
+    omega (arith, w.few, more)
+
+width_few : (b : Bool) (ins outs : List Joined) → All HasWidth ins → All HasWidth outs → cond b (greatest (map width outs)) (greatest (map width ins)) ≤ 256
+width_few true ins outs h k = greatest_few outs k
+width_few false ins outs h k = greatest_few ins h
+
+module _ (e : Expansion) (ticks : ℕ) (kind : Kind) (s : numbered_scope.Scope) (u : UseStmt) where
+  abbrev the_use : Outcome (Unit {0})
+  the_use = primitive_use ticks kind (scope_of (names_in e) s) (use_of u) (state_of e)
+
+  pub use_refused : (stop : Stop) → IsJudgedRefusal u.place stop (plan_of ticks kind s.env (use_of u)) → Failed stop the_use
+  unfolding primitive_use
+  use_refused stop h = record { told = λ r is. rw (h.told r is, h.here r is) refl }
+
+  module _ (plan : Plan) (was : plan_of ticks kind s.env (use_of u) ≡ Ok plan) where
+    pub use_cut : (stop : Stop) → Failed stop (wires_of (scope_of (names_in e) s) (use_of u) (state_of e)) → Failed stop the_use
+    unfolding primitive_use
+    use_cut stop h = record { told = λ r is. rw (was, h.told r is) refl }
+
+    module _ (e1 : Expansion) (w : numbered_wires.Wires) (g : GivesWires e e1 w (wires_of (scope_of (names_in e) s) (use_of u) (state_of e))) (i o i2 : List numbered_joined.Joined) (n : ℕ)
+        (i_is : i ≡ w.ins) (o_is : o ≡ w.outs) (i2_is : i2 ≡ w.ins) (n_is : n ≡ width_of kind (map bits_in i) (map bits_in o)) where
+      abbrev wires : Wires
+      wires = named_wires (names_in e1) w
+
+      width_is : width_in kind wires ≡ n
+      width_is = sym (n_is ∙ rw (i_is, o_is, widths_named (names_in e1) w.ins, widths_named (names_in e1) w.outs) refl)
+
+      widths_are : map width wires.ins ≡ map bits_in i2
+      widths_are = rw i2_is (widths_named (names_in e1) w.ins)
+
+      pub use_narrow : inputs_fit kind n (map bits_in i2) ≡ false → the_use ≡ Fails Width u.place
+      unfolding primitive_use
+      use_narrow h = rw (was, g.is, width_is, widths_are, h) refl
+
+      pub use_done : (e2 : Expansion) (r : Result (Unit {0}) Stop) (path : List ℕ) (i3 o3 : List numbered_joined.Joined) → path ≡ s.path → i3 ≡ w.ins → o3 ≡ w.outs → inputs_fit kind n (map bits_in i2) ≡ true →
+          DoneAt e1 e2 r (all_added path (use_of u) kind plan n (map (joined_of (names_in e1)) i3) (map (joined_of (names_in e1)) o3) (state_of e1)) → DoneAt e e2 r the_use
+      unfolding primitive_use
+      use_done e2 r path i3 o3 p q t fits h =
+          let is : the_use ≡ all_added path (use_of u) kind plan n (map (joined_of (names_in e1)) i3) (map (joined_of (names_in e1)) o3) (state_of e1) = rw (was, g.is, width_is, widths_are, fits, p, q, t) refl in
+          done_later e e1 e2 r (all_added path (use_of u) kind plan n (map (joined_of (names_in e1)) i3) (map (joined_of (names_in e1)) o3) (state_of e1)) the_use g.grows is h
+
+      are : AreWires (use_of u) wires
+      are = are_wires (scope_of (names_in e) s) (use_of u) wires (state_of e) (state_of e1) g.is
+
+      pub use_few : n ≤ 256
+      use_few = subst (λ (m : ℕ). m ≤ 256) width_is (width_few (has_output kind) wires.ins wires.outs are.ins.wide are.outs.wide)
+
+      pub use_fits : (k : ℕ) (path : List ℕ) (i3 o3 : List numbered_joined.Joined) → i3 ≡ w.ins → o3 ≡ w.outs → ticks ≡ period e.builder.header → InstanceFits e1.builder.header (nets_in e1) (instance_ref path u kind plan i3 o3 k)
+      use_fits k path i3 o3 q t p =
+          let was' : plan_of (period e.builder.header) kind s.env (use_of u) ≡ Ok plan = subst (λ (x : ℕ). plan_of x kind s.env (use_of u) ≡ Ok plan) p was in
+          rw (q, t, g.grows.header) (bit_fits e.builder.header (names_in e1) kind (use_of u) plan w.ins w.outs (plan_fits e.builder.header kind s.env (use_of u) plan was') are.ins are.outs (nets_in e1) k path u g.ins g.outs)
+
+-- a refusal that a call makes
+pub failed_so : {A : Type 0} (stop : Stop) (o : Outcome A) (kind : RefusalKind) (place : Place) → stop ≡ Refused (record { kind = kind; place = place }) → o ≡ Fails kind place → Failed stop o
+failed_so stop o kind place is h = record {
+  told = λ r s.
+      let made : Refusal = record { kind = kind; place = place } in
+      let same : made ≡ r = cc in
+      subst (λ (x : Refusal). o ≡ Fails x.kind x.place) same h;
+}

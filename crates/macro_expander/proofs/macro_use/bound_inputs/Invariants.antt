@@ -1,0 +1,10 @@
+use Rattle.std.proofs.Common.{◌≡◌, length, drop}
+use Rattle.std.specs.List.{zip}
+use Rattle.macro_expander.specs.Outcome.{collected}
+use Rattle.macro_expander.specs.Numbered.{input_bound_ref}
+use Rattle.macro_expander.proofs.macro_use.bound_inputs.Given as goal
+
+abbrev pub invariant-loop-shape : goal.invariant-loop-shape
+invariant-loop-shape l =
+    let i = length l.yielded in
+    collected input_bound_ref l.formals (zip (drop i l.shapes) (drop i l.ins)) ≡ collected input_bound_ref l.fn.formals (zip l.shapes l.ins)

@@ -1,0 +1,130 @@
+use Rattle.std.proofs.Common.{◌≡◌, ◌≢◌, ℕ, List, Option, Some, None, sym, subst, arith}
+use Rattle.std.specs.Option.{option_map}
+use Rattle.std.specs.Str.{bytes_eq}
+use Rattle.std.proofs.lemmas.Result.{err_from_is_err_and}
+use Rattle.scald_base.specs.Time.{Header}
+use Rattle.flat_circuit.specs.declared.kind.Kind.{Kind}
+use Rattle.scald_base.specs.declared.refusal.RefusalKind.TheVariants.{TooDeep, UnknownKind}
+use Rattle.drawing_tree.specs.Tree.{statement_of, statements_of, macro_of, use_of, Macro}
+use Rattle.macro_expander.specs.Terms.{Scope}
+use Rattle.macro_expander.specs.Primitives.{Primitive, primitive_of, primitive_use}
+use Rattle.macro_expander.specs.Macros.{macro_of as first_called}
+use Rattle.macro_expander.specs.Flat.{use_act, macro_use}
+use Rattle.macro_expander.specs.Fitting.{StatementFits, MacroFits}
+use Rattle.macro_expander.specs.Library.{macros_in}
+use Rattle.macro_expander.specs.Numbered.{Failed, GivesDone, scope_of, names_in, state_of}
+use Rattle.macro_expander.specs.Statements.{bodies_in, statements_in, statement_in}
+use Rattle.macro_expander.proofs.Nets.{grows_refl}
+use Rattle.macro_expander.proofs.Gathered.{scope_stays, scope_exists_stays}
+use Rattle.macro_expander.proofs.PrimitiveUses.{done_later, failed_so}
+use Rattle.macro_expander.proofs.Statements.{library_stays, item_fits, through_more, through_failed, primitive_act, macro_act, found_is, macro_too_deep, macro_cut, macro_done}
+use Rattle.macro_expander.proofs.statement.+statement.Goals as goal
+
+pub body-one-requires : goal.body-one-requires
+body-one-requires t c =
+    let start = c.args.expansion.now in
+    let grows = c.statements.invariant.grows in (
+      omega (arith, c.decreases, grows.statements),
+      (
+        library_stays start.builder.header c.statements.expansion.builder.header c.args.library.now grows.header c.requires.library,
+        (
+          subst (λ (h : Header). StatementFits h (statement_of c.statement-item.result)) (sym grows.header) (item_fits start.builder.header c.args.statements.now c.statements.statement-index c.statement-item.result c.requires.fits c.statements-test.true c.statement-item.is),
+          scope_exists_stays start c.statements.expansion c.args.scope.now grows c.requires.exists,
+        ),
+      ),
+    )
+
+pub body-returns-in_err-one : goal.body-returns-in_err-one
+body-returns-in_err-one t c =
+    let start = c.args.expansion.now in
+    let e = c.statements.expansion in
+    let l = c.args.library.now in
+    let all = c.args.statements.now in
+    let x = c.statement-item.result in
+    let scope = scope_of (names_in start) c.args.scope.now in
+    let p = err_from_is_err_and c.from_residual.result c.from_residual.ensures.1 in
+    rw (p.1, p.2) (through_failed l.ticks (macros_in l) (bodies_in l c.args.levels) scope start (statements_in l c.args.levels (statements_of all) scope (state_of start)) all c.statements.statement-index e x c.statements-test.true c.statement-item.is c.in_err-one.field-0.0
+    (subst (λ (z : Scope). Failed c.in_err-one.field-0.0 (statement_in l c.args.levels (statement_of x) z (state_of e))) (scope_stays start e c.args.scope.now c.statements.invariant.grows c.requires.exists) c.in_err-one.ensures)
+    c.statements.invariant)
+
+pub body-statements-preserved : goal.body-statements-preserved
+body-statements-preserved t c =
+    let start = c.args.expansion.now in
+    let e = c.statements.expansion in
+    let l = c.args.library.now in
+    let all = c.args.statements.now in
+    let x = c.statement-item.result in
+    let scope = scope_of (names_in start) c.args.scope.now in
+    through_more l.ticks (macros_in l) (bodies_in l c.args.levels) scope start (statements_in l c.args.levels (statements_of all) scope (state_of start)) all c.statements.statement-index e x c.statements-test.true c.statement-item.is c.one.new.expansion
+    (subst (λ (z : Scope). GivesDone e c.one.new.expansion (statement_in l c.args.levels (statement_of x) z (state_of e))) (scope_stays start e c.args.scope.now c.statements.invariant.grows c.requires.exists) c.in_ok-one.ensures)
+    c.statements.invariant
+
+pub expand_macro-returns-then-levels-eq0 : goal.expand_macro-returns-then-levels-eq0
+expand_macro-returns-then-levels-eq0 t c =
+    let l = c.args.library.now in
+    failed_so c.refused.result _ TooDeep c.args.used.now.place c.refused.ensures
+    (macro_too_deep l.ticks (macros_in l) c.args.levels c.args.expansion.now c.args.scope.now (macro_of c.args.definition.now) (use_of c.args.used.now) c.in_ok-given.given c.in_ok-given.ensures c.if-levels-eq0.true)
+
+pub expand_macro-returns-in_err-inner : goal.expand_macro-returns-in_err-inner
+expand_macro-returns-in_err-inner t c =
+    let l = c.args.library.now in
+    let deep : c.args.levels ≢ 0 = omega arith in
+    let p = err_from_is_err_and c.from_residual-in_err-inner.result c.from_residual-in_err-inner.ensures.1 in
+    rw (p.1, p.2) (macro_cut l.ticks (macros_in l) c.args.levels c.args.expansion.now c.args.scope.now (macro_of c.args.definition.now) (use_of c.args.used.now) c.in_ok-given.given c.in_ok-given.ensures deep c.in_err-inner.field-0.0 c.in_err-inner.ensures)
+
+pub expand_macro-returns : goal.expand_macro-returns
+expand_macro-returns t c =
+    let l = c.args.library.now in
+    let deep : c.args.levels ≢ 0 = omega arith in
+    let done = rw c.deref.ensures.value at c.body.ensures in
+    macro_done l.ticks (macros_in l) c.args.levels c.args.expansion.now c.args.scope.now (macro_of c.args.definition.now) (use_of c.args.used.now) c.in_ok-given.given c.in_ok-given.ensures deep c.inner_scope.new.expansion c.body.new.expansion c.in_ok-inner.inner c.body.result c.in_ok-inner.ensures done
+
+pub expand_use-returns-in-Some : goal.expand_use-returns-in-Some
+expand_use-returns-in-Some t c =
+    let l = c.args.library.now in
+    let e = c.args.expansion.now in
+    let below = bodies_in l c.args.levels in
+    let scope = scope_of (names_in e) c.args.scope.now in
+    let u = use_of c.args.used.now in
+    let known = subst (λ (name : List ℕ). Some c.in-Some.kind ≡ option_map (λ (p : Primitive). p.kind) (primitive_of name)) c.as_slice.ensures c.in-Some.ensures in
+    done_later e e c.primitive_use.new.expansion c.primitive_use.result (primitive_use l.ticks c.in-Some.kind scope u (state_of e)) (use_act l.ticks (macros_in l) below u scope (state_of e)) (grows_refl e)
+    (primitive_act l.ticks (macros_in l) below u scope (state_of e) c.in-Some.kind known) c.primitive_use.ensures
+
+pub expand_use-expand_macro-requires : goal.expand_use-expand_macro-requires
+expand_use-expand_macro-requires t c =
+    let l = c.args.library.now in
+    let first = subst (λ (name : List ℕ). Some (macro_of c.in-Some-find.definition.now) ≡ first_called name (macros_in l)) c.as_slice-2.ensures c.in-Some-find.ensures in (
+      omega (arith, c.decreases),
+      (
+        c.requires.library,
+        (
+          found_is (MacroFits c.args.expansion.now.builder.header) (λ (m : Macro). bytes_eq m.name c.args.used.now.kind) (macros_in l) (macro_of c.in-Some-find.definition.now) c.requires.library.fit first,
+          (c.requires.fits, c.requires.exists),
+        ),
+      ),
+    )
+
+pub expand_use-returns-in-Some-find : goal.expand_use-returns-in-Some-find
+expand_use-returns-in-Some-find t c =
+    let l = c.args.library.now in
+    let e = c.args.expansion.now in
+    let below = bodies_in l c.args.levels in
+    let scope = scope_of (names_in e) c.args.scope.now in
+    let u = use_of c.args.used.now in
+    let m = macro_of c.in-Some-find.definition.now in
+    let unknown = subst (λ (name : List ℕ). let none : Option Kind = None in none ≡ option_map (λ (p : Primitive). p.kind) (primitive_of name)) c.as_slice.ensures c.in_default.ensures in
+    let first = subst (λ (name : List ℕ). Some m ≡ first_called name (macros_in l)) c.as_slice-2.ensures c.in-Some-find.ensures in
+    done_later e e c.expand_macro.new.expansion c.expand_macro.result (macro_use below (Some m) u scope (state_of e)) (use_act l.ticks (macros_in l) below u scope (state_of e)) (grows_refl e)
+    (macro_act l.ticks (macros_in l) below u scope (state_of e) (Some m) unknown first) c.expand_macro.ensures
+
+pub expand_use-returns-in-None : goal.expand_use-returns-in-None
+expand_use-returns-in-None t c =
+    let l = c.args.library.now in
+    let e = c.args.expansion.now in
+    let below = bodies_in l c.args.levels in
+    let scope = scope_of (names_in e) c.args.scope.now in
+    let u = use_of c.args.used.now in
+    let unknown = subst (λ (name : List ℕ). let none : Option Kind = None in none ≡ option_map (λ (p : Primitive). p.kind) (primitive_of name)) c.as_slice.ensures c.in_default.ensures in
+    let nowhere = subst (λ (name : List ℕ). let none : Option Macro = None in none ≡ first_called name (macros_in l)) c.as_slice-2.ensures c.in-None.ensures in
+    failed_so c.refused.result (use_act l.ticks (macros_in l) below u scope (state_of e)) UnknownKind c.args.used.now.place c.refused.ensures
+    (macro_act l.ticks (macros_in l) below u scope (state_of e) None unknown nowhere)

@@ -1,0 +1,30 @@
+use Rattle.std.proofs.Common.{◌+◌, ◌-◌, ◌*◌, drop}
+use Rattle.drawing_tree.specs.Tree.{statements_of}
+use Rattle.macro_expander.specs.Library.{macros_in}
+use Rattle.macro_expander.specs.Statements.{bodies_in, statements_in, WentThrough}
+use Rattle.macro_expander.specs.Numbered.{scope_of, names_in, state_of}
+use Rattle.macro_expander.proofs.Statements.{act}
+use Rattle.macro_expander.proofs.statement.+statement.Given as goal
+
+-- the statements that may still be reached, and then how far a call is from the next count
+abbrev pub decreases-body : goal.decreases-body
+decreases-body l = 5 * (262144 - l.expansion.now.statements) + 2
+
+abbrev pub decreases-expand_if : goal.decreases-expand_if
+decreases-expand_if l = 5 * (262144 - l.expansion.now.statements) + 3
+
+abbrev pub decreases-expand_macro : goal.decreases-expand_macro
+decreases-expand_macro l = 5 * (262144 - l.expansion.now.statements) + 3
+
+abbrev pub decreases-expand_use : goal.decreases-expand_use
+decreases-expand_use l = 5 * (262144 - l.expansion.now.statements) + 4
+
+abbrev pub decreases-one : goal.decreases-one
+decreases-one l = 5 * (262144 - l.expansion.now.statements) + 1
+
+abbrev pub invariant-body-statements : goal.invariant-body-statements
+invariant-body-statements l =
+    let start = l.fn.expansion in
+    let scope = scope_of (names_in start) l.scope in
+    let want = statements_in l.library l.levels (statements_of l.statements) scope (state_of start) in
+    WentThrough (act l.library.ticks (macros_in l.library) (bodies_in l.library l.levels) scope) start want (drop l.statement-index l.statements) l.expansion

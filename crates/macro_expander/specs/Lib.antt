@@ -1,0 +1,16 @@
+pub mod Named
+pub mod Outcome
+pub mod Assertions
+pub mod Terms
+pub mod Primitives
+pub mod Macros
+pub mod Flat
+pub mod Steps
+pub mod Numbered
+pub mod Cases
+pub mod Stands
+pub mod Fitting
+pub mod Library
+pub mod Statements
+pub mod Places
+pub mod Runs

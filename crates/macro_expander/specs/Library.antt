@@ -1,0 +1,28 @@
+-- The macros of a drawing by their names.
+use Rattle.std.specs.Prelude.{◌≡◌, ℕ, List, map}
+use Rattle.std.specs.List.{All}
+use Rattle.scald_base.specs.Time.{Header, period}
+use Rattle.drawing_tree.specs.declared.drawing.MacroDef.{MacroDef}
+use Rattle.drawing_tree.specs.Tree.{Macro, macro_of}
+use Rattle.macro_expander.specs.declared.library.Library.{Library}
+use Rattle.macro_expander.specs.Fitting.{MacroFits}
+use Rattle.macro_expander.specs.Places.{LeadTo}
+
+abbrev pub macros_in : Library → List Macro
+macros_in l = map macro_of l.macros.now
+
+-- each name leads to the first macro of that name
+abbrev pub LeadToMacros : Library → Type 0
+LeadToMacros l = LeadTo (λ (m : MacroDef). m.name) l.places.entries l.macros.now l.macros.now
+
+-- the library of these macros, in a drawing with a period of so many ticks
+pub record HoldsMacros (n : ℕ) (ms : List MacroDef) (l : Library) : Type 0 where
+  pub ticks : l.ticks ≡ n
+  pub macros : l.macros.now ≡ ms
+  pub places : LeadToMacros l
+
+-- a library of a drawing with this header, whose macros assert what the header allows
+pub record IsLibrary (h : Header) (l : Library) : Type 0 where
+  pub ticks : l.ticks ≡ period h
+  pub places : LeadToMacros l
+  pub fit : All (MacroFits h) (macros_in l)

@@ -1,0 +1,279 @@
+-- The uses of primitives: what each kind takes, and the instance and checker bits that a use makes.
+use Rattle.std.specs.Prelude.{ℕ, ◌+◌, Bool, true, false, not, ◌&&◌, ◌||◌, List, [], ◌∷◌, ◌++◌, length, map, count_by, sum_by, nat_le, ◌==◌, if◌then◌else◌, slice_index_or, Option, Some, None, is_some, Ok, Err, ℤ, pos, codes, max}
+use Rattle.std.specs.List.{find, list_any, list_all, flat_map, range_with_len}
+use Rattle.std.specs.Option.{option_map_or}
+use Rattle.std.specs.Str.{bytes_eq}
+use Rattle.scald_base.specs.Time.{Bounds as DelayBounds}
+use Rattle.scald_base.specs.declared.refusal.RefusalKind.{RefusalKind}
+use Rattle.scald_base.specs.declared.refusal.RefusalKind.TheVariants.{BadParameter, Bounds, PinCount, TooMany, Width}
+use Rattle.scald_expr.specs.declared.environment.Binding.{Binding}
+use Rattle.scald_expr.specs.Expression.{Expression}
+use Rattle.flat_circuit.specs.declared.kind.Kind.{Kind}
+use Rattle.flat_circuit.specs.declared.kind.Kind.TheVariants.{Buf, And, Or, Xor, Mux2, Mux4, Mux8, Chg, Reg, RegRs, Latch, LatchRs, SetupHold, RiseFall, MinPulse}
+use Rattle.flat_circuit.specs.Kind.{has_output}
+use Rattle.flat_circuit.specs.Instances.{most_bits, most_pins}
+use Rattle.drawing_tree.specs.Tree.{Assignment, Connection, UseStatement}
+use Rattle.macro_expander.specs.declared.primitive.Plan.{Plan}
+use Rattle.macro_expander.specs.Named.{Where, Fixed, Bit, NamedPin, NamedInstance, State}
+use Rattle.macro_expander.specs.Outcome.{Outcome, Gives, Fails, after, Judged, judging, judged, collected, each}
+use Rattle.macro_expander.specs.Terms.{Scope, valued, Joined, Wires, wires_of, plain}
+
+-- ---- kinds
+
+pub record Primitive : Type 0 where
+  pub name : List ℕ
+  pub kind : Kind
+
+abbrev pub primitives : List Primitive
+primitives =
+    (record { name = codes "BUF"; kind = Buf })
+    ∷ (record { name = codes "AND"; kind = And })
+    ∷ (record { name = codes "OR"; kind = Or })
+    ∷ (record { name = codes "XOR"; kind = Xor })
+    ∷ (record { name = codes "MUX2"; kind = Mux2 })
+    ∷ (record { name = codes "MUX4"; kind = Mux4 })
+    ∷ (record { name = codes "MUX8"; kind = Mux8 })
+    ∷ (record { name = codes "CHG"; kind = Chg })
+    ∷ (record { name = codes "REG"; kind = Reg })
+    ∷ (record { name = codes "REG_RS"; kind = RegRs })
+    ∷ (record { name = codes "LATCH"; kind = Latch })
+    ∷ (record { name = codes "LATCH_RS"; kind = LatchRs })
+    ∷ (record { name = codes "SETUP_HOLD_CHK"; kind = SetupHold })
+    ∷ (record { name = codes "SETUP_RISE_HOLD_FALL_CHK"; kind = RiseFall })
+    ∷ (record { name = codes "MIN_PULSE_CHK"; kind = MinPulse })
+    ∷ []
+
+abbrev pub primitive_of : List ℕ → Option Primitive
+primitive_of name = find (λ p. bytes_eq name p.name) primitives
+
+-- the fewest and the most input connections
+abbrev pub fewest_inputs : Kind → ℕ
+fewest_inputs Buf = 1
+fewest_inputs And = 1
+fewest_inputs Or = 1
+fewest_inputs Xor = 1
+fewest_inputs Mux2 = 3
+fewest_inputs Mux4 = 6
+fewest_inputs Mux8 = 11
+fewest_inputs Chg = 1
+fewest_inputs Reg = 2
+fewest_inputs RegRs = 4
+fewest_inputs Latch = 2
+fewest_inputs LatchRs = 4
+fewest_inputs SetupHold = 2
+fewest_inputs RiseFall = 2
+fewest_inputs MinPulse = 1
+
+abbrev pub most_inputs : Kind → ℕ
+most_inputs And = 16
+most_inputs Or = 16
+most_inputs Xor = 16
+most_inputs Chg = 16
+most_inputs kind = fewest_inputs kind
+
+abbrev pub outputs : Kind → ℕ
+outputs kind = if has_output kind then 1 else 0
+
+-- how many of its input connections may be marked
+abbrev pub most_marks : Kind → ℕ
+most_marks And = 1
+most_marks Or = 1
+most_marks kind = 0
+
+abbrev pub parameters : Kind → List (List ℕ)
+parameters SetupHold = codes "SETUP" ∷ codes "HOLD" ∷ []
+parameters RiseFall = codes "SETUP" ∷ codes "HOLD" ∷ []
+parameters MinPulse = codes "HIGH" ∷ codes "LOW" ∷ []
+parameters kind = []
+
+-- ---- parameters and connections that a use gives
+
+abbrev pub assigns : List ℕ → Assignment → Bool
+assigns name a = bytes_eq a.name name
+
+-- each is one of the known, and none comes twice
+abbrev pub are_of : (List ℕ → Bool) → List Assignment → Bool
+are_of known [] = true
+are_of known (a ∷ rest) = known a.name && (not (list_any (assigns a.name) rest) && are_of known rest)
+
+abbrev pub takes : Kind → List ℕ → Bool
+takes kind name = list_any (bytes_eq name) (parameters kind)
+
+abbrev pub demanded : {A : Type 0} → Bool → RefusalKind → Judged A → Judged A
+demanded true kind rest = rest
+demanded false kind rest = Err kind
+
+-- the values that a use gives, in the order of its text
+abbrev pub assigned : List Binding → Assignment → Judged Binding
+assigned env a = judging (valued env a.value) (λ v. Ok (record { name = a.name; value = v }))
+
+abbrev pub values_given : List Binding → List Assignment → Judged (List Binding)
+values_given env params = collected (assigned env) [] params
+
+abbrev pub is_named : List ℕ → Binding → Bool
+is_named name b = bytes_eq b.name name
+
+abbrev pub marks : List Connection → ℕ
+marks connections = count_by (λ c. c.hold) connections
+
+-- ---- delays and limits
+
+abbrev pub longest_delay : ℕ
+longest_delay = 4095
+
+-- 0 at most the least, the least at most the greatest, and that at most the longest delay
+abbrev pub delay_between : ℤ → ℤ → Judged DelayBounds
+delay_between (pos min) (pos max) = if nat_le min max && nat_le max longest_delay then Ok (record { min = min; max = max }) else Err Bounds
+delay_between _ _ = Err Bounds
+
+-- the two expressions of a delay
+abbrev pub written_delay : List Binding → Option (Expression × Expression) → Judged (Option (ℤ × ℤ))
+written_delay env None = Ok None
+written_delay env (Some pair) = judging (valued env pair.0) (λ min. judging (valued env pair.1) (λ max. Ok (Some (min, max))))
+
+-- a checker has no delay
+abbrev pub delay_of : Option (ℤ × ℤ) → Judged DelayBounds
+delay_of None = Ok (record { min = 0; max = 0 })
+delay_of (Some pair) = delay_between pair.0 pair.1
+
+-- the value of a parameter, 0 where the use gives none
+abbrev pub given_or_zero : List Binding → List ℕ → ℤ
+given_or_zero given name = option_map_or (λ b. b.value) (find (is_named name) given) (pos 0)
+
+-- setup and hold: together at most the period
+abbrev pub setup_and_hold : ℕ → ℤ → ℤ → Judged (ℕ × ℕ)
+setup_and_hold period (pos setup) (pos hold) = if nat_le (setup + hold) period then Ok (setup, hold) else Err Bounds
+setup_and_hold period _ _ = Err Bounds
+
+-- least widths: each at most the period
+abbrev pub high_and_low : ℕ → ℤ → ℤ → Judged (ℕ × ℕ)
+high_and_low period (pos high) (pos low) = if nat_le high period && nat_le low period then Ok (high, low) else Err Bounds
+high_and_low period _ _ = Err Bounds
+
+abbrev pub limits_of : ℕ → Kind → List Binding → Judged (ℕ × ℕ)
+limits_of period SetupHold given = setup_and_hold period (given_or_zero given (codes "SETUP")) (given_or_zero given (codes "HOLD"))
+limits_of period RiseFall given = setup_and_hold period (given_or_zero given (codes "SETUP")) (given_or_zero given (codes "HOLD"))
+limits_of period MinPulse given = high_and_low period (given_or_zero given (codes "HIGH")) (given_or_zero given (codes "LOW"))
+limits_of period kind given = Ok (0, 0)
+
+-- ---- what a use of a primitive says before its connections are looked at: its delay and limits
+
+-- the number of connections, and the marks
+abbrev pub are_connected : Kind → UseStatement → Bool
+are_connected kind u =
+    (nat_le (fewest_inputs kind) (length u.ins) && nat_le (length u.ins) (most_inputs kind))
+    && ((length u.outs == outputs kind) && (nat_le (marks u.ins) (most_marks kind) && (marks u.outs == 0)))
+
+abbrev pub same_truth : Bool → Bool → Bool
+same_truth a b = if a then b else not b
+
+unfoldable pub plan_of : ℕ → Kind → List Binding → UseStatement → Judged Plan
+plan_of period kind env u =
+    demanded (same_truth (is_some u.delay) (has_output kind)) Bounds (
+    demanded (are_of (takes kind) u.params) BadParameter (
+    judging (written_delay env u.delay) (λ ends.
+    judging (values_given env u.params) (λ given.
+    judging (delay_of ends) (λ delay.
+    judging (limits_of period kind given) (λ limits.
+    demanded (are_connected kind u) PinCount (
+    Ok (record { delay = delay; limits = limits }))))))))
+
+-- ---- widths
+
+abbrev pub width : Joined → ℕ
+width c = length c.bits
+
+abbrev pub greatest : List ℕ → ℕ
+greatest [] = 0
+greatest (n ∷ ns) = max n (greatest ns)
+
+-- The width of a primitive is that of its output, and a checker's is the greatest of its connections'.
+abbrev pub width_of : Kind → List ℕ → List ℕ → ℕ
+width_of kind ins outs = if has_output kind then greatest outs else greatest ins
+
+-- a connection of one bit is spread
+abbrev pub can_have : ℕ → ℕ → Bool
+can_have n width = width == n || width == 1
+
+-- the inputs of a change function may have any width
+abbrev pub inputs_fit : Kind → ℕ → List ℕ → Bool
+inputs_fit Chg n widths = true
+inputs_fit kind n widths = list_all (can_have n) widths
+
+-- ---- instance bits
+
+-- bit k of a connection, which one bit is for every k
+abbrev pub bit_at : {B : Type 0} → B → List B → ℕ → B
+bit_at default (b ∷ []) k = b
+bit_at default bits k = slice_index_or bits k default
+
+abbrev pub no_bit : Bit
+no_bit = plain (Fixed false)
+
+abbrev pub pin_of : Bool → Bit → NamedPin
+pin_of hold b = record { target = b.target; inverted = b.inverted; hold = hold }
+
+-- A pin for each connection, or, of a change function, for each bit of each connection.
+abbrev pub pins_of : Kind → List Joined → ℕ → List NamedPin
+pins_of Chg ins k = flat_map (λ c. map (pin_of c.hold) c.bits) ins
+pins_of kind ins k = map (λ c. pin_of c.hold (bit_at no_bit c.bits k)) ins
+
+abbrev pub output_at : List Joined → ℕ → Option Bit
+output_at [] k = None
+output_at (c ∷ _) k = Some (bit_at no_bit c.bits k)
+
+abbrev pub target_of : Option Bit → Option Where
+target_of None = None
+target_of (Some b) = Some b.target
+
+abbrev pub inverted_of : Option Bit → Bool
+inverted_of None = false
+inverted_of (Some b) = b.inverted
+
+abbrev pub instance_at : List ℕ → UseStatement → Kind → Plan → List Joined → List Joined → ℕ → NamedInstance
+instance_at path u kind plan ins outs k = record {
+  path = path ++ u.label;
+  bit = k;
+  kind = kind;
+  delay = plan.delay;
+  limits = plan.limits;
+  pins = pins_of kind ins k;
+  out = target_of (output_at outs k);
+  out_inverted = inverted_of (output_at outs k);
+  place = u.place;
+}
+
+abbrev pub is_gate : NamedInstance → Bool
+is_gate j = has_output j.kind
+
+abbrev pub is_checker : NamedInstance → Bool
+is_checker j = not (has_output j.kind)
+
+abbrev pub pin_count : NamedInstance → ℕ
+pin_count j = length j.pins
+
+-- instance bits with an output, checker bits and pins, each within its limit
+abbrev pub are_few : List NamedInstance → Bool
+are_few js = nat_le (count_by is_gate js) most_bits && (nat_le (count_by is_checker js) most_bits && nat_le (sum_by pin_count js) most_pins)
+
+abbrev pub with_instance : State → NamedInstance → State
+with_instance s j = record s { instances = s.instances ++ j ∷ [] }
+
+abbrev pub adding : NamedInstance → State → Outcome (Unit {0})
+adding j s = if are_few (s.instances ++ j ∷ []) then Gives tt (with_instance s j) else Fails TooMany j.place
+
+-- the bits of a use, from bit 0 on
+unfoldable pub all_added : List ℕ → UseStatement → Kind → Plan → ℕ → List Joined → List Joined → State → Outcome (Unit {0})
+all_added path u kind plan n ins outs s = each (λ k. adding (instance_at path u kind plan ins outs k)) (range_with_len 0 n) s
+
+abbrev pub width_in : Kind → Wires → ℕ
+width_in kind w = width_of kind (map width w.ins) (map width w.outs)
+
+-- the use of a primitive, behind its count
+unfoldable pub primitive_use : ℕ → Kind → Scope → UseStatement → State → Outcome (Unit {0})
+primitive_use period kind scope u s =
+    judged (plan_of period kind scope.env u) u.place (λ plan.
+    after (wires_of scope u s) (λ w s1.
+    if inputs_fit kind (width_in kind w) (map width w.ins)
+    then all_added scope.path u kind plan (width_in kind w) w.ins w.outs s1
+    else Fails Width u.place))

@@ -1,0 +1,40 @@
+//! The circuit of a drawing.
+
+ghost use Rattle.std.specs.Prelude.{MatchResult};
+ghost use Rattle.drawing_tree.specs.Tree.{drawing_of};
+ghost use Rattle.drawing_tree.specs.WellFormed.{IsWellFormed};
+ghost use Rattle.macro_expander.specs.Stands.{IsCircuitOf, IsStopOf};
+
+use crate::expansion::Expansion;
+use crate::library::Library;
+use crate::scope::Scope;
+use crate::statement::body;
+use drawing_tree::Drawing;
+use flat_circuit::{Builder, Circuit};
+use scald_base::Stop;
+use std::alloc::Global;
+
+/// How deep uses of macros may go.
+const DEEPEST: u32 = 64;
+
+/// The circuit of a drawing: its statements in the order of the text, each macro's body at its uses, and
+/// then the circuit's own rules. A refusal of expansion stands at the statement that is expanded, and that
+/// of a rule at the statement whose bit breaks it; `NoMemory` comes where memory runs out.
+pub fn expand(alloc: Global, d: &Drawing) -> Result<Circuit, Stop>
+    requires { IsWellFormed (drawing_of d.now) }
+    ensures { MatchResult result (IsCircuitOf (drawing_of d.now)) (IsStopOf (drawing_of d.now)) }
+{
+    let library = Library::of(alloc, d.header.period(), &d.macros)?;
+    let mut expansion = Expansion {
+        statements: 0,
+        builder: Builder::new(alloc, d.header),
+    };
+    let top = Scope::top(alloc);
+    body(&mut expansion, alloc, &library, &d.body, &top, DEEPEST)?;
+    let Expansion {
+        builder,
+        statements: _,
+    } = expansion;
+    builder.known();
+    builder.finish()
+}

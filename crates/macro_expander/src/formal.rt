@@ -1,0 +1,164 @@
+//! The parameters and the formals of a macro at a use.
+
+ghost use Rattle.std.specs.Prelude.{◌≡◌, ◌==◌, ◌&&◌, map, length};
+ghost use Rattle.std.specs.List.{find, list_any};
+ghost use Rattle.drawing_tree.specs.Tree.{assignment_of, formal_of, macro_of, use_of};
+ghost use Rattle.macro_expander.specs.Primitives.{are_of};
+ghost use Rattle.macro_expander.specs.Macros.{value_given as spec_value_given, value_or_default as spec_value_or_default, parameter as spec_parameter, parameters_of, shape_of, shapes_of, has_parameter, fits_formals as spec_fits_formals, given_to as spec_given_to, inside_of as spec_inside_of};
+ghost use Rattle.macro_expander.specs.Steps.{JudgedAt};
+
+use crate::parameter::{comes_again, find_given, values_given};
+use crate::primitive::marks;
+use crate::range::{at, numbers, refused, value, written_ends};
+use drawing_tree::{Assign, Assigns, Defaults, Formal, Formals, MacroDef, UseStmt};
+use scald_base::{Bytes, List, Place, RefusalKind, Stop};
+use scald_expr::{Binding, Env};
+use std::alloc::Global;
+use vector_names::Indices;
+
+/// A formal with the numbers of its bits.
+#[derive(Drop, Debug)]
+pub struct Shape {
+    pub base: Bytes,
+    pub numbers: Indices,
+}
+
+/// What a macro's body is expanded with: the values of its parameters, and its formals.
+#[derive(Drop, Debug)]
+pub struct Inside {
+    pub env: Env,
+    pub ins: List<Shape>,
+    pub outs: List<Shape>,
+}
+
+fn value_given(given: &Env, name: &[u8]) -> Option<i64>
+    ensures { result ≡ spec_value_given given.now name.now }
+{
+    match find_given(given, name) {
+        Some(binding) => Some(binding.value),
+        None => None,
+    }
+}
+
+fn value_or_default(
+    alloc: Global,
+    given: Option<i64>,
+    param: &Assign,
+    place: Place,
+) -> Result<i64, Stop>
+    ensures { JudgedAt place result (spec_value_or_default given (assignment_of param.now)) }
+{
+    match given {
+        Some(value) => Ok(value),
+        None => {
+            let nothing: Env = List::new(alloc);
+            at(place, value(&param.value, &nothing))
+        }
+    }
+}
+
+fn parameter(alloc: Global, given: &Env, param: &Assign, place: Place) -> Result<Binding, Stop>
+    ensures { JudgedAt place result (spec_parameter given.now (assignment_of param.now)) }
+{
+    let value = value_or_default(
+        alloc,
+        value_given(given, param.name.as_slice()),
+        param,
+        place,
+    )?;
+    let name = Bytes::of(alloc, param.name.as_slice())?;
+    Ok(Binding { name, value })
+}
+
+fn parameters(alloc: Global, given: &Env, params: &Defaults, place: Place) -> Result<Env, Stop>
+    ensures { JudgedAt place result (parameters_of given.now (map assignment_of params.now)) }
+{
+    let mut env = List::new(alloc);
+    for param in params.as_slice() {
+        env.push(parameter(alloc, given, param, place)?)?;
+    }
+    Ok(env)
+}
+
+fn shaped(alloc: Global, env: &Env, formal: &Formal, place: Place) -> Result<Shape, Stop>
+    ensures { JudgedAt place result (shape_of env.now (formal_of formal.now)) }
+{
+    let ends = at(place, written_ends(&formal.range, env))?;
+    let numbers = numbers(alloc, ends, place)?;
+    let base = Bytes::of(alloc, formal.base.as_slice())?;
+    Ok(Shape { base, numbers })
+}
+
+fn shapes(alloc: Global, env: &Env, formals: &Formals, place: Place) -> Result<List<Shape>, Stop>
+    ensures { JudgedAt place result (shapes_of env.now (map formal_of formals.now)) }
+{
+    let mut shapes = List::new(alloc);
+    for formal in formals.as_slice() {
+        shapes.push(shaped(alloc, env, formal, place)?)?;
+    }
+    Ok(shapes)
+}
+
+/// What a macro's body is expanded with where a use gives these values: the defaults of the parameters
+/// that are not given, which name no parameter, and then the formals' ranges.
+#[tactic(auto, unfolding(crate::specs::Macros::inside_of))]
+pub(crate) fn inside_of(
+    alloc: Global,
+    definition: &MacroDef,
+    given: &Env,
+    place: Place,
+) -> Result<Inside, Stop>
+    ensures { JudgedAt place result (spec_inside_of (macro_of definition.now) given.now) }
+{
+    let env = parameters(alloc, given, &definition.params, place)?;
+    let ins = shapes(alloc, &env, &definition.ins, place)?;
+    let outs = shapes(alloc, &env, &definition.outs, place)?;
+    Ok(Inside { env, ins, outs })
+}
+
+fn are_parameters(definition: &MacroDef, params: &Assigns) -> bool
+    ensures { result ≡ are_of (has_parameter (macro_of definition.now)) (map assignment_of params.now) }
+{
+    let params = params.as_slice();
+    for i in 0..params.len() {
+        let name = params[i].name.as_slice();
+        if !comes_again(definition.params.as_slice(), name) || comes_again(&params[i + 1..], name) {
+            return false;
+        }
+    }
+    true
+}
+
+fn fits_formals(definition: &MacroDef, statement: &UseStmt) -> bool
+    ensures { result ≡ spec_fits_formals (macro_of definition.now) (use_of statement.now) }
+{
+    statement.ins.len() == definition.ins.len()
+        && statement.outs.len() == definition.outs.len()
+        && marks(&statement.ins) == 0
+        && marks(&statement.outs) == 0
+}
+
+/// What a use gives to a macro's parameters, or its refusal: a delay, a parameter that is not the
+/// macro's or comes twice, the first fault of an expression, or a wrong number of connections or a mark.
+#[tactic(auto, unfolding(crate::specs::Macros::given_to))]
+pub(crate) fn given_to(
+    alloc: Global,
+    definition: &MacroDef,
+    env: &Env,
+    statement: &UseStmt,
+) -> Result<Env, Stop>
+    ensures { JudgedAt statement.now.place result (spec_given_to (macro_of definition.now) env.now (use_of statement.now)) }
+{
+    let place = statement.place;
+    if statement.delay.is_some() {
+        return Err(refused(RefusalKind::Bounds, place));
+    }
+    if !are_parameters(definition, &statement.params) {
+        return Err(refused(RefusalKind::BadParameter, place));
+    }
+    let given = values_given(alloc, &statement.params, env, place)?;
+    if !fits_formals(definition, statement) {
+        return Err(refused(RefusalKind::PinCount, place));
+    }
+    Ok(given)
+}

@@ -1,0 +1,29 @@
+//! From the tree of a drawing to its circuit.
+//!
+//! The layer above calls `expand`. `specs/Flat` says what the flat circuit of a drawing is, by whole
+//! names, with each refusal and its place; `specs/Stands` what a circuit is that stands for it, and
+//! `specs/Cases` what the cases of a drawing are. Inside, nets have numbers, and `specs/Numbered` says
+//! what the numbers stand for while a circuit grows. `circuit` begins and ends an expansion, `statement`
+//! goes down the statements and the bodies of macros, and the other modules are the steps on the way:
+//! the bits of names, terms and connections, the use of a primitive, the scope of a macro's body, WIRE.
+#![tactic(auto)]
+
+mod circuit;
+mod connection;
+mod expansion;
+mod formal;
+mod instance_bits;
+mod library;
+mod list;
+mod macro_use;
+mod parameter;
+mod places;
+mod primitive;
+mod primitive_use;
+mod range;
+mod scope;
+mod statement;
+mod term;
+mod wire;
+
+pub use circuit::expand;

@@ -1,0 +1,59 @@
+//! The macros of a drawing by their names.
+
+ghost use Rattle.std.specs.Prelude.{◌≡◌, map, IfOk, option_map};
+ghost use Rattle.std.specs.Option.{option_copied};
+ghost use Rattle.drawing_tree.specs.Tree.{macro_of};
+ghost use Rattle.macro_expander.specs.Macros.{macro_of as first_called};
+ghost use Rattle.macro_expander.specs.Library.{LeadToMacros, HoldsMacros, macros_in};
+
+use crate::places::{Called, places};
+use drawing_tree::{MacroDef, MacroDefs};
+use indexmap::IndexMap;
+use scald_base::NoMemory;
+use std::alloc::Global;
+
+/// The macros of a drawing, to be found by their names, and the ticks of the drawing's period.
+#[derive(Drop)]
+pub struct Library<'a> {
+    pub(crate) ticks: u16,
+    pub(crate) macros: &'a MacroDefs,
+    /// The place of each name's first macro.
+    pub(crate) places: IndexMap<Vec<u8>, usize>,
+}
+
+impl Called for MacroDef {
+    ghost name = { λ m. m.name };
+
+    fn name(&self) -> &[u8] {
+        self.name.as_slice()
+    }
+}
+
+impl<'a> Library<'a> {
+    /// The library of these macros, in a drawing with a period of so many ticks.
+    pub(crate) fn of(
+        alloc: Global,
+        ticks: u16,
+        macros: &'a MacroDefs,
+    ) -> Result<Library<'a>, NoMemory>
+        ensures { IfOk result (HoldsMacros ticks macros.now) }
+    {
+        let places = places(alloc, macros.as_slice())?;
+        Ok(Library {
+            ticks,
+            macros,
+            places,
+        })
+    }
+
+    /// The first macro of a name.
+    pub(crate) fn find(&self, name: &[u8]) -> Option<&'a MacroDef>
+        requires { LeadToMacros self.now }
+        ensures { option_map macro_of (option_copied result) ≡ first_called name.now (macros_in self.now) }
+    {
+        match self.places.get(name) {
+            Some(place) => self.macros.get(*place),
+            None => None,
+        }
+    }
+}

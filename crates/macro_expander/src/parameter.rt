@@ -1,0 +1,70 @@
+//! The parameters that a use gives.
+
+ghost use Rattle.std.specs.Prelude.{◌≡◌, ◌∷◌, [], map};
+ghost use Rattle.std.specs.List.{find, list_any};
+ghost use Rattle.std.specs.Option.{option_copied};
+ghost use Rattle.drawing_tree.specs.Tree.{assignment_of};
+ghost use Rattle.macro_expander.specs.Primitives.{assigned as spec_assigned, values_given as spec_values_given, is_named, assigns, given_or_zero};
+ghost use Rattle.macro_expander.specs.Steps.{JudgedAt};
+
+use crate::range::{at, value};
+use drawing_tree::{Assign, Assigns};
+use scald_base::{Bytes, List, Place, Stop};
+use scald_expr::{Binding, Env};
+use std::alloc::Global;
+
+fn assigned(alloc: Global, param: &Assign, env: &Env, place: Place) -> Result<Binding, Stop>
+    ensures { JudgedAt place result (spec_assigned env.now (assignment_of param.now)) }
+{
+    let value = at(place, value(&param.value, env))?;
+    let name = Bytes::of(alloc, param.name.as_slice())?;
+    Ok(Binding { name, value })
+}
+
+/// The values that a use gives, in the order of its text.
+pub(crate) fn values_given(
+    alloc: Global,
+    params: &Assigns,
+    env: &Env,
+    place: Place,
+) -> Result<Env, Stop>
+    ensures { JudgedAt place result (spec_values_given env.now (map assignment_of params.now)) }
+{
+    let mut given = List::new(alloc);
+    for param in params.as_slice() {
+        given.push(assigned(alloc, param, env, place)?)?;
+    }
+    Ok(given)
+}
+
+/// Whether a name is given again.
+pub(crate) fn comes_again(params: &[Assign], name: &[u8]) -> bool
+    ensures { result ≡ list_any (assigns name.now) (map assignment_of params.now) }
+{
+    for param in params {
+        if param.name.as_slice() == name {
+            return true;
+        }
+    }
+    false
+}
+
+/// The value that a use gives to a parameter.
+pub(crate) fn find_given<'a>(given: &'a Env, name: &[u8]) -> Option<&'a Binding>
+    ensures { option_copied result ≡ find (is_named name.now) given.now }
+{
+    given
+        .as_slice()
+        .iter()
+        .find(|binding| binding.name.as_slice() == name)
+}
+
+/// The value of a parameter, 0 where the use gives none.
+pub(crate) fn value_given(given: &Env, name: &[u8]) -> i64
+    ensures { result ≡ given_or_zero given.now name.now }
+{
+    match find_given(given, name) {
+        None => 0,
+        Some(binding) => binding.value,
+    }
+}

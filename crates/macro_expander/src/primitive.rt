@@ -1,0 +1,262 @@
+//! What a use of a primitive says before its connections are looked at.
+
+ghost use Rattle.std.specs.Prelude.{◌≡◌, ◌+◌, ◌∷◌, [], length, map, is_some, nat_le, if◌then◌else◌, option_map};
+ghost use Rattle.std.specs.List.{find, list_any};
+ghost use Rattle.std.specs.Str.{bytes_eq};
+ghost use Rattle.drawing_tree.specs.Tree.{assignment_of, connection_of, both_of, use_of};
+ghost use Rattle.macro_expander.specs.Primitives.{primitive_of, fewest_inputs as spec_fewest, most_inputs as spec_most, most_marks as spec_most_marks, takes as spec_takes, are_of, assigns, marks as spec_marks, delay_between as spec_delay_between, written_delay as spec_written_delay, delay_of as spec_delay_of, given_or_zero as spec_given_or_zero, setup_and_hold as spec_setup_and_hold, high_and_low as spec_high_and_low, limits_of as spec_limits_of, are_connected as spec_are_connected, plan_of};
+ghost use Rattle.macro_expander.specs.Steps.{JudgedAt};
+
+use crate::parameter::{comes_again, value_given, values_given};
+use crate::range::{at, refused, value};
+use drawing_tree::{Assigns, Conns, UseStmt};
+use flat_circuit::Kind;
+use scald_base::{Delay, List, Place, RefusalKind, Stop};
+use scald_expr::{Env, Expr};
+use std::alloc::Global;
+
+/// The delay of a primitive's bits and a checker's limits, in ticks.
+#[derive(Clone, Copy, PartialEq, Eq, Debug)]
+pub struct Plan {
+    pub delay: Delay,
+    pub limits: (u16, u16),
+}
+
+const LONGEST_DELAY: i64 = 4095;
+
+/// The primitive of a name.
+pub(crate) fn primitive(name: &[u8]) -> Option<Kind>
+    ensures { result ≡ option_map (λ p. p.kind) (primitive_of name.now) }
+{
+    if name == b"BUF".as_slice() {
+        return Some(Kind::Buf);
+    }
+    if name == b"AND".as_slice() {
+        return Some(Kind::And);
+    }
+    if name == b"OR".as_slice() {
+        return Some(Kind::Or);
+    }
+    if name == b"XOR".as_slice() {
+        return Some(Kind::Xor);
+    }
+    if name == b"MUX2".as_slice() {
+        return Some(Kind::Mux2);
+    }
+    if name == b"MUX4".as_slice() {
+        return Some(Kind::Mux4);
+    }
+    if name == b"MUX8".as_slice() {
+        return Some(Kind::Mux8);
+    }
+    if name == b"CHG".as_slice() {
+        return Some(Kind::Chg);
+    }
+    if name == b"REG".as_slice() {
+        return Some(Kind::Reg);
+    }
+    if name == b"REG_RS".as_slice() {
+        return Some(Kind::RegRs);
+    }
+    if name == b"LATCH".as_slice() {
+        return Some(Kind::Latch);
+    }
+    if name == b"LATCH_RS".as_slice() {
+        return Some(Kind::LatchRs);
+    }
+    if name == b"SETUP_HOLD_CHK".as_slice() {
+        return Some(Kind::SetupHold);
+    }
+    if name == b"SETUP_RISE_HOLD_FALL_CHK".as_slice() {
+        return Some(Kind::RiseFall);
+    }
+    if name == b"MIN_PULSE_CHK".as_slice() {
+        return Some(Kind::MinPulse);
+    }
+    None
+}
+
+fn fewest_inputs(kind: Kind) -> usize
+    ensures { result ≡ spec_fewest kind }
+{
+    match kind {
+        Kind::Buf | Kind::And | Kind::Or | Kind::Xor | Kind::Chg | Kind::MinPulse => 1,
+        Kind::Reg | Kind::Latch | Kind::SetupHold | Kind::RiseFall => 2,
+        Kind::Mux2 => 3,
+        Kind::RegRs | Kind::LatchRs => 4,
+        Kind::Mux4 => 6,
+        Kind::Mux8 => 11,
+    }
+}
+
+fn most_inputs(kind: Kind) -> usize
+    ensures { result ≡ spec_most kind }
+{
+    match kind {
+        Kind::And | Kind::Or | Kind::Xor | Kind::Chg => 16,
+        _ => fewest_inputs(kind),
+    }
+}
+
+fn most_marks(kind: Kind) -> usize
+    ensures { result ≡ spec_most_marks kind }
+{
+    match kind {
+        Kind::And | Kind::Or => 1,
+        _ => 0,
+    }
+}
+
+fn is_one_of(name: &[u8], one: &[u8], other: &[u8]) -> bool
+    ensures { result ≡ list_any (bytes_eq name.now) (one.now ∷ other.now ∷ []) }
+{
+    name == one || name == other
+}
+
+fn takes(kind: Kind, name: &[u8]) -> bool
+    ensures { result ≡ spec_takes kind name.now }
+{
+    match kind {
+        Kind::SetupHold | Kind::RiseFall => is_one_of(
+            name,
+            b"SETUP".as_slice(),
+            b"HOLD".as_slice(),
+        ),
+        Kind::MinPulse => is_one_of(name, b"HIGH".as_slice(), b"LOW".as_slice()),
+        _ => false,
+    }
+}
+
+fn are_parameters(kind: Kind, params: &Assigns) -> bool
+    ensures { result ≡ are_of (spec_takes kind) (map assignment_of params.now) }
+{
+    let params = params.as_slice();
+    for i in 0..params.len() {
+        let name = params[i].name.as_slice();
+        if !takes(kind, name) || comes_again(&params[i + 1..], name) {
+            return false;
+        }
+    }
+    true
+}
+
+/// How many connections are marked.
+pub(crate) fn marks(connections: &Conns) -> usize
+    ensures { result ≡ spec_marks (map connection_of connections.now) }
+{
+    connections.as_slice().iter().filter(|c| c.hold).count()
+}
+
+/// A delay's bounds, which are refused where the least is above the greatest or that is too long.
+pub(crate) fn delay_between(min: i64, max: i64) -> Result<Delay, RefusalKind>
+    ensures { result ≡ spec_delay_between min max }
+{
+    if 0 <= min && min <= max && max <= LONGEST_DELAY {
+        return Ok(Delay {
+            min: min as u16,
+            max: max as u16,
+        });
+    }
+    Err(RefusalKind::Bounds)
+}
+
+fn written_delay(delay: &Option<(Expr, Expr)>, env: &Env) -> Result<Option<(i64, i64)>, RefusalKind>
+    ensures { result ≡ spec_written_delay env.now (option_map both_of delay.now) }
+{
+    match delay {
+        None => Ok(None),
+        Some((min, max)) => {
+            let min = value(min, env)?;
+            let max = value(max, env)?;
+            Ok(Some((min, max)))
+        }
+    }
+}
+
+fn delay_of(ends: Option<(i64, i64)>) -> Result<Delay, RefusalKind>
+    ensures { result ≡ spec_delay_of ends }
+{
+    match ends {
+        None => Ok(Delay { min: 0, max: 0 }),
+        Some((min, max)) => delay_between(min, max),
+    }
+}
+
+fn setup_and_hold(period: u16, setup: i64, hold: i64) -> Result<(u16, u16), RefusalKind>
+    ensures { result ≡ spec_setup_and_hold period setup hold }
+{
+    let period = i64::from(period);
+    if 0 <= setup && 0 <= hold && setup <= period && hold <= period - setup {
+        return Ok((setup as u16, hold as u16));
+    }
+    Err(RefusalKind::Bounds)
+}
+
+fn high_and_low(period: u16, high: i64, low: i64) -> Result<(u16, u16), RefusalKind>
+    ensures { result ≡ spec_high_and_low period high low }
+{
+    let period = i64::from(period);
+    if 0 <= high && 0 <= low && high <= period && low <= period {
+        return Ok((high as u16, low as u16));
+    }
+    Err(RefusalKind::Bounds)
+}
+
+fn limits_of(period: u16, kind: Kind, given: &Env) -> Result<(u16, u16), RefusalKind>
+    ensures { result ≡ spec_limits_of period kind given.now }
+{
+    match kind {
+        Kind::SetupHold | Kind::RiseFall => {
+            let setup = value_given(given, b"SETUP".as_slice());
+            let hold = value_given(given, b"HOLD".as_slice());
+            setup_and_hold(period, setup, hold)
+        }
+        Kind::MinPulse => {
+            let high = value_given(given, b"HIGH".as_slice());
+            let low = value_given(given, b"LOW".as_slice());
+            high_and_low(period, high, low)
+        }
+        _ => Ok((0, 0)),
+    }
+}
+
+fn are_connected(kind: Kind, statement: &UseStmt) -> bool
+    ensures { result ≡ spec_are_connected kind (use_of statement.now) }
+{
+    let outputs = if kind.has_output() { 1 } else { 0 };
+    fewest_inputs(kind) <= statement.ins.len()
+        && statement.ins.len() <= most_inputs(kind)
+        && statement.outs.len() == outputs
+        && marks(&statement.ins) <= most_marks(kind)
+        && marks(&statement.outs) == 0
+}
+
+/// The delay and the limits of a use, or its refusal: a delay that is missing or not allowed, a
+/// parameter that is not the kind's or comes twice, the first fault of an expression, a value out of
+/// its bounds, or a wrong number of connections or marks.
+#[tactic(auto, unfolding(crate::specs::Primitives::plan_of))]
+pub(crate) fn planned(
+    alloc: Global,
+    period: u16,
+    kind: Kind,
+    statement: &UseStmt,
+    env: &Env,
+) -> Result<Plan, Stop>
+    ensures { JudgedAt statement.now.place result (plan_of period kind env.now (use_of statement.now)) }
+{
+    let place = statement.place;
+    if statement.delay.is_some() != kind.has_output() {
+        return Err(refused(RefusalKind::Bounds, place));
+    }
+    if !are_parameters(kind, &statement.params) {
+        return Err(refused(RefusalKind::BadParameter, place));
+    }
+    let ends = at(place, written_delay(&statement.delay, env))?;
+    let given = values_given(alloc, &statement.params, env, place)?;
+    let delay = at(place, delay_of(ends))?;
+    let limits = at(place, limits_of(period, kind, &given))?;
+    if !are_connected(kind, statement) {
+        return Err(refused(RefusalKind::PinCount, place));
+    }
+    Ok(Plan { delay, limits })
+}

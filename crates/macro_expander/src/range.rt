@@ -1,0 +1,107 @@
+//! The values of expressions, and the numbers of ranges.
+
+ghost use Rattle.std.specs.Prelude.{◌≡◌, Ok, MatchResult};
+ghost use Rattle.std.specs.Option.{option_map};
+ghost use Rattle.scald_expr.specs.Expression.{expression_of};
+ghost use Rattle.drawing_tree.specs.Tree.{range_of};
+ghost use Rattle.macro_expander.specs.Terms.{valued, last_of, ends_of, written_ends as spec_written_ends, numbers_of, kind_of_fault as spec_kind};
+ghost use Rattle.macro_expander.specs.Steps.{JudgedAt};
+
+use drawing_tree::RangeExpr;
+use scald_base::{List, Place, Refusal, RefusalKind, Stop};
+use scald_expr::{Env, Expr, ExprFault, eval};
+use std::alloc::Global;
+use vector_names::{Indices, VectorFault, bits_of};
+
+fn kind_of(fault: ExprFault) -> RefusalKind
+    ensures { result ≡ spec_kind fault }
+{
+    match fault {
+        ExprFault::Unknown => RefusalKind::UnknownName,
+        ExprFault::Overflow => RefusalKind::Overflow,
+        ExprFault::ZeroDivisor => RefusalKind::ZeroDivisor,
+    }
+}
+
+/// A refusal at a place.
+pub(crate) fn refused(kind: RefusalKind, place: Place) -> Stop
+    ensures { result ≡ Stop.Refused (record { kind = kind; place = place }) }
+{
+    Stop::Refused(Refusal { kind, place })
+}
+
+/// A value, or its refusal at a place.
+pub(crate) fn at<T: Drop>(place: Place, judged: Result<T, RefusalKind>) -> Result<T, Stop>
+    ensures { JudgedAt place result judged }
+{
+    match judged {
+        Ok(value) => Ok(value),
+        Err(kind) => Err(refused(kind, place)),
+    }
+}
+
+/// The value of an expression.
+pub(crate) fn value(e: &Expr, env: &Env) -> Result<i64, RefusalKind>
+    ensures { result ≡ valued env.now (expression_of e.now) }
+{
+    match eval(e, env) {
+        Ok(value) => Ok(value),
+        Err(fault) => Err(kind_of(fault)),
+    }
+}
+
+fn last(written: &Option<Expr>, env: &Env, first: i64) -> Result<i64, RefusalKind>
+    ensures { result ≡ last_of env.now (option_map expression_of written.now) first }
+{
+    match written {
+        None => Ok(first),
+        Some(e) => value(e, env),
+    }
+}
+
+fn ends(range: &RangeExpr, env: &Env) -> Result<(i64, i64), RefusalKind>
+    ensures { result ≡ ends_of env.now (range_of range.now) }
+{
+    let first = value(&range.first, env)?;
+    let last = last(&range.last, env, first)?;
+    Ok((first, last))
+}
+
+/// The first and the last number of a range, where one is written.
+pub(crate) fn written_ends(
+    range: &Option<RangeExpr>,
+    env: &Env,
+) -> Result<Option<(i64, i64)>, RefusalKind>
+    ensures { result ≡ spec_written_ends env.now (option_map range_of range.now) }
+{
+    match range {
+        None => Ok(None),
+        Some(range) => Ok(Some(ends(range, env)?)),
+    }
+}
+
+fn zero(alloc: Global, place: Place) -> Result<Indices, Stop>
+    ensures { JudgedAt place result (numbers_of None) }
+{
+    let mut numbers = List::new(alloc);
+    numbers.push(0)?;
+    Ok(numbers)
+}
+
+/// The numbers of a range with these ends, or 0 where none is written.
+pub(crate) fn numbers(
+    alloc: Global,
+    ends: Option<(i64, i64)>,
+    place: Place,
+) -> Result<Indices, Stop>
+    ensures { JudgedAt place result (numbers_of ends) }
+{
+    match ends {
+        None => zero(alloc, place),
+        Some((first, last)) => match bits_of(alloc, first, last) {
+            Ok(numbers) => Ok(numbers),
+            Err(VectorFault::NoMemory) => Err(Stop::NoMemory),
+            Err(_) => Err(refused(RefusalKind::BadRange, place)),
+        },
+    }
+}

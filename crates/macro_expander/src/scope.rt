@@ -1,0 +1,192 @@
+//! What names mean in the body that is expanded.
+
+ghost use Rattle.std.specs.Prelude.{◌≡◌, ◌==◌, ◌∷◌, [], map, position, Ok, IfOk, IfSome};
+ghost use Rattle.std.specs.Option.{option_copied};
+ghost use Rattle.std.specs.List.{All, find};
+ghost use Rattle.std.specs.Str.{bytes_eq};
+ghost use Rattle.macro_expander.specs.Terms.{bit_numbered, bit_at_place, outer_bits as spec_outer_bits, formal_bits as spec_formal_bits, formal_term as spec_formal_term};
+ghost use Rattle.macro_expander.specs.Steps.{JudgedAt};
+ghost use Rattle.macro_expander.specs.Runs.{IsRun, HasRun};
+
+use crate::list::copied;
+use crate::places::{Called, places};
+use crate::range::{numbers, refused};
+use indexmap::IndexMap;
+use scald_base::{AssertSpec, Bytes, List, NoMemory, Place, RefusalKind, Stop};
+use scald_expr::Env;
+use std::alloc::Global;
+use std::marker::Model;
+use vector_names::{BitRef, Bits, Indices};
+
+/// A formal of the macro that is expanded: the numbers of its bits, in the order of its declaration,
+/// and the outer bits bound to them.
+#[derive(Drop, Debug)]
+pub struct Bound {
+    pub(crate) base: Bytes,
+    pub(crate) numbers: Indices,
+    pub(crate) bits: Bits,
+}
+
+impl Called for Bound {
+    ghost name = { λ f. f.base };
+
+    fn name(&self) -> &[u8] {
+        self.base.as_slice()
+    }
+}
+
+/// The formals of a macro in the order of its text, each found by its base name.
+#[derive(Drop)]
+pub struct Formals {
+    items: List<Bound>,
+    places: IndexMap<Vec<u8>, usize>,
+}
+
+impl Model for Formals {
+    ghost use Rattle.std.specs.Prelude.{List};
+    ghost use Rattle.macro_expander.specs.declared.scope.Bound.{Bound};
+    ghost use Rattle.std.specs.List.{All};
+    ghost use Rattle.macro_expander.specs.Places.{LeadTo, base_of};
+    ghost use Rattle.macro_expander.specs.Runs.{HasRun};
+
+    ghost Value = { List Bound };
+
+    ghost view = { λ f. f.items };
+
+    ghost invariant = { λ f. LeadTo base_of f.places.entries f.items f.items × All HasRun f.items };
+}
+
+impl Formals {
+    /// No formals.
+    pub(crate) fn new(alloc: Global) -> Formals
+        ensures { result ≡ [] }
+    {
+        Formals {
+            items: List::new(alloc),
+            places: IndexMap::new(alloc),
+        }
+    }
+
+    /// These formals.
+    pub(crate) fn of(alloc: Global, items: List<Bound>) -> Result<Formals, NoMemory>
+        requires { All HasRun items }
+        ensures { IfOk result (λ formals. formals ≡ items) }
+    {
+        let places = places(alloc, items.as_slice())?;
+        Ok(Formals { items, places })
+    }
+
+    /// The first formal of a base name.
+    pub(crate) fn find(&self, base: &[u8]) -> Option<&Bound>
+        ensures first { option_copied result ≡ find (λ f. bytes_eq f.base base.now) self.now }
+        ensures run { IfSome result (λ f. HasRun f.now) }
+    {
+        match self.places.get(base) {
+            Some(place) => self.items.get(*place),
+            None => None,
+        }
+    }
+}
+
+/// The labels of the uses from the drawing down, each with a slash behind it, the parameters with their
+/// values, and the formals.
+#[derive(Drop)]
+pub struct Scope {
+    pub(crate) path: Bytes,
+    pub(crate) env: Env,
+    pub(crate) formals: Formals,
+}
+
+impl Scope {
+    /// The scope of a drawing's own statements.
+    pub(crate) fn top(alloc: Global) -> Scope
+        ensures { result ≡ record { path = []; env = []; formals = [] } }
+    {
+        Scope {
+            path: List::new(alloc),
+            env: List::new(alloc),
+            formals: Formals::new(alloc),
+        }
+    }
+}
+
+/// Where a number stands among numbers that follow one another, up or down.
+fn place_of(numbers: &[u16], number: u16) -> Option<usize>
+    requires { IsRun numbers.now }
+    ensures { result ≡ position (λ n. n == number) numbers.now }
+{
+    let first = *numbers.first()?;
+    let place = usize::from(first.abs_diff(number));
+    match numbers.get(place) {
+        Some(found) => { if *found == number { Some(place) } else { None } }
+        None => None,
+    }
+}
+
+fn bit_at(bits: &[BitRef], place: Option<usize>) -> Option<BitRef>
+    ensures { result ≡ bit_at_place bits.now place }
+{
+    match place {
+        None => None,
+        Some(k) => bits.get(k).copied(),
+    }
+}
+
+/// The outer bit of a formal's bit.
+#[tactic(auto, unfolding(crate::specs::Terms::bit_numbered))]
+fn outer_bit(numbers: &[u16], bits: &[BitRef], number: u16) -> Option<BitRef>
+    requires { IsRun numbers.now }
+    ensures { result ≡ bit_numbered numbers.now bits.now number }
+{
+    bit_at(bits, place_of(numbers, number))
+}
+
+/// The outer bits of a formal's bits.
+fn outer_bits(alloc: Global, bound: &Bound, chosen: &[u16], place: Place) -> Result<Bits, Stop>
+    requires { HasRun bound.now }
+    ensures { JudgedAt place result (spec_outer_bits bound.now.numbers bound.now.bits chosen.now) }
+{
+    let mut bits = List::new(alloc);
+    for number in chosen {
+        match outer_bit(bound.numbers.as_slice(), bound.bits.as_slice(), *number) {
+            Some(bit) => bits.push(bit)?,
+            None => return Err(refused(RefusalKind::BadRange, place)),
+        }
+    }
+    Ok(bits)
+}
+
+fn formal_bits(
+    alloc: Global,
+    bound: &Bound,
+    ends: Option<(i64, i64)>,
+    place: Place,
+) -> Result<Bits, Stop>
+    requires { HasRun bound.now }
+    ensures { JudgedAt place result (spec_formal_bits bound.now.numbers bound.now.bits ends) }
+{
+    if ends.is_none() {
+        return Ok(copied(alloc, bound.bits.as_slice())?);
+    }
+    let chosen = numbers(alloc, ends, place)?;
+    outer_bits(alloc, bound, chosen.as_slice(), place)
+}
+
+/// The outer bits that a formal's name means, a range with these ends standing behind it.
+#[tactic(auto, unfolding(crate::specs::Terms::formal_term))]
+pub(crate) fn formal_term(
+    alloc: Global,
+    bound: &Bound,
+    spec: &AssertSpec,
+    ends: Option<(i64, i64)>,
+    place: Place,
+) -> Result<Bits, Stop>
+    requires { HasRun bound.now }
+    ensures { JudgedAt place result (spec_formal_term bound.now.numbers bound.now.bits spec.now ends) }
+{
+    let bits = formal_bits(alloc, bound, ends, place)?;
+    match spec {
+        AssertSpec::None => Ok(bits),
+        _ => Err(refused(RefusalKind::AssertionClash, place)),
+    }
+}

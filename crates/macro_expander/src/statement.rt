@@ -1,0 +1,183 @@
+//! Statements, in the order of the text, with a macro's body at each of its uses.
+
+ghost use Rattle.std.specs.Prelude.{◌≡◌, IfErr, OnOk, Some, MatchResult};
+ghost use Rattle.drawing_tree.specs.Tree.{statement_of, statements_of, if_of, macro_of, use_of};
+ghost use Rattle.macro_expander.specs.Fitting.{UseFits, StatementFits, StatementsFit, MacroFits};
+ghost use Rattle.macro_expander.specs.Flat.{use_act, macro_use};
+ghost use Rattle.macro_expander.specs.Library.{IsLibrary, macros_in};
+ghost use Rattle.macro_expander.specs.Numbered.{DoneAt, state_of, scope_of, ScopeExists, nets_in, names_in};
+ghost use Rattle.macro_expander.specs.Statements.{place_of as spec_place_of, bodies_in, statements_in, statement_in, uncounted_in, Reached, IsOneTooMany, Chooses, IsUnchosen};
+
+use crate::expansion::Expansion;
+use crate::formal::given_to;
+use crate::library::Library;
+use crate::macro_use::inner_scope;
+use crate::primitive::primitive;
+use crate::primitive_use::primitive_use;
+use crate::range::{at, refused, value};
+use crate::scope::Scope;
+use crate::wire::wire_bounds;
+use drawing_tree::{IfStmt, MacroDef, Stmt, UseStmt};
+use scald_base::{Place, RefusalKind, Stop};
+use scald_expr::Env;
+use std::alloc::Global;
+
+/// The most statements that may be reached.
+const MOST_STATEMENTS: u32 = 262_144;
+
+/// Counts a statement that is reached, or refuses it where it is one too many.
+fn count(expansion: &mut Expansion, place: Place) -> Result<(), Stop>
+    ensures reached { OnOk result (Reached expansion.old expansion.new) }
+    ensures refused { IfErr result (IsOneTooMany expansion.old place) }
+{
+    if expansion.statements >= MOST_STATEMENTS {
+        return Err(refused(RefusalKind::TooMany, place));
+    }
+    expansion.statements += 1;
+    Ok(())
+}
+
+/// Where a statement stands.
+fn place_of(statement: &Stmt) -> Place
+    ensures { result ≡ spec_place_of (statement_of statement.now) }
+{
+    match statement {
+        Stmt::Use(used) => used.place,
+        Stmt::Wire(wire) => wire.place,
+        Stmt::If(choice) => choice.place,
+    }
+}
+
+/// The statements of an IF that its test chooses.
+fn chosen<'a>(choice: &'a IfStmt, env: &Env) -> Result<&'a [Stmt], Stop>
+    ensures { MatchResult result (λ statements. Chooses env.now choice.now statements.now) (IsUnchosen env.now choice.now) }
+{
+    let test = at(choice.place, value(&choice.test, env))?;
+    if test != 0 {
+        return Ok(choice.yes.as_slice());
+    }
+    match &choice.no {
+        Some(statements) => Ok(statements.as_slice()),
+        None => Ok(&[]),
+    }
+}
+
+/// The statements of a body, with uses going so many levels deeper.
+#[cycle(statement)]
+pub(crate) fn body(
+    expansion: &mut Expansion,
+    alloc: Global,
+    library: &Library,
+    statements: &[Stmt],
+    scope: &Scope,
+    levels: u32,
+) -> Result<(), Stop>
+    requires library { IsLibrary expansion.old.builder.header library.now }
+    requires fits { StatementsFit expansion.old.builder.header (statements_of statements.now) }
+    requires exists { ScopeExists (nets_in expansion.old) scope.now }
+    ensures { DoneAt expansion.old expansion.new result (statements_in library.now levels (statements_of statements.now) (scope_of (names_in expansion.old) scope.now) (state_of expansion.old)) }
+{
+    'statements: for statement in statements {
+        one(expansion, alloc, library, statement, scope, levels)?;
+    }
+    Ok(())
+}
+
+#[cycle(statement)]
+fn one(
+    expansion: &mut Expansion,
+    alloc: Global,
+    library: &Library,
+    statement: &Stmt,
+    scope: &Scope,
+    levels: u32,
+) -> Result<(), Stop>
+    requires library { IsLibrary expansion.old.builder.header library.now }
+    requires fits { StatementFits expansion.old.builder.header (statement_of statement.now) }
+    requires exists { ScopeExists (nets_in expansion.old) scope.now }
+    ensures { DoneAt expansion.old expansion.new result (statement_in library.now levels (statement_of statement.now) (scope_of (names_in expansion.old) scope.now) (state_of expansion.old)) }
+{
+    count(expansion, place_of(statement))?;
+    match statement {
+        Stmt::Use(used) => expand_use(expansion, alloc, library, used, scope, levels),
+        Stmt::Wire(wire) => wire_bounds(expansion, alloc, scope, wire),
+        Stmt::If(choice) => expand_if(expansion, alloc, library, choice, scope, levels),
+    }
+}
+
+/// An IF behind its count.
+#[cycle(statement)]
+fn expand_if(
+    expansion: &mut Expansion,
+    alloc: Global,
+    library: &Library,
+    choice: &IfStmt,
+    scope: &Scope,
+    levels: u32,
+) -> Result<(), Stop>
+    requires library { IsLibrary expansion.old.builder.header library.now }
+    requires fits { StatementFits expansion.old.builder.header (if_of choice.now) }
+    requires exists { ScopeExists (nets_in expansion.old) scope.now }
+    ensures { DoneAt expansion.old expansion.new result (uncounted_in library.now levels (if_of choice.now) (scope_of (names_in expansion.old) scope.now) (state_of expansion.old)) }
+{
+    let statements = chosen(choice, &scope.env)?;
+    body(expansion, alloc, library, statements, scope, levels)
+}
+
+/// The use of a primitive or of a macro, behind its count.
+#[cycle(statement)]
+fn expand_use(
+    expansion: &mut Expansion,
+    alloc: Global,
+    library: &Library,
+    used: &UseStmt,
+    scope: &Scope,
+    levels: u32,
+) -> Result<(), Stop>
+    requires library { IsLibrary expansion.old.builder.header library.now }
+    requires fits { UseFits expansion.old.builder.header (use_of used.now) }
+    requires exists { ScopeExists (nets_in expansion.old) scope.now }
+    ensures { DoneAt expansion.old expansion.new result (use_act library.now.ticks (macros_in library.now) (bodies_in library.now levels) (use_of used.now) (scope_of (names_in expansion.old) scope.now) (state_of expansion.old)) }
+{
+    if let Some(kind) = primitive(used.kind.as_slice()) {
+        return primitive_use(expansion, alloc, library.ticks, kind, scope, used);
+    }
+    match library.find(used.kind.as_slice()) {
+        Some(definition) => {
+            expand_macro(expansion, alloc, library, definition, used, scope, levels)
+        }
+        None => Err(refused(RefusalKind::UnknownKind, used.place)),
+    }
+}
+
+/// The use of a macro: its body in the scope of its formals.
+#[cycle(statement)]
+fn expand_macro(
+    expansion: &mut Expansion,
+    alloc: Global,
+    library: &Library,
+    definition: &MacroDef,
+    used: &UseStmt,
+    scope: &Scope,
+    levels: u32,
+) -> Result<(), Stop>
+    requires library { IsLibrary expansion.old.builder.header library.now }
+    requires body { MacroFits expansion.old.builder.header (macro_of definition.now) }
+    requires fits { UseFits expansion.old.builder.header (use_of used.now) }
+    requires exists { ScopeExists (nets_in expansion.old) scope.now }
+    ensures { DoneAt expansion.old expansion.new result (macro_use (bodies_in library.now levels) (Some (macro_of definition.now)) (use_of used.now) (scope_of (names_in expansion.old) scope.now) (state_of expansion.old)) }
+{
+    let given = given_to(alloc, definition, &scope.env, used)?;
+    if levels == 0 {
+        return Err(refused(RefusalKind::TooDeep, used.place));
+    }
+    let inner = inner_scope(expansion, alloc, definition, &given, scope, used)?;
+    body(
+        expansion,
+        alloc,
+        library,
+        &definition.body,
+        &inner,
+        levels - 1,
+    )
+}
