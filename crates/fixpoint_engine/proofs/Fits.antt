@@ -1,0 +1,65 @@
+-- The waves at pins have the circuit's period and are in normal form, where those of the nets are.
+use Rattle.std.proofs.Common.{◌≡◌, ℕ, ◌+◌, ◌-◌, ◌<◌, Bool, true, false, cond, List, [], ◌∷◌, length, map, refl, sym, subst, ◌∙◌, arith, All}
+use Rattle.std.proofs.lemmas.List.{length-map}
+use Rattle.std.proofs.lemmas.List.Elements.{All-head, All-tail}
+use Rattle.scald_base.specs.Time.{Bounds, period}
+use Rattle.vector_names.specs.declared.bits.Target.{Target}
+use Rattle.vector_names.specs.declared.bits.Target.TheVariants.{Net as OnNet, Constant}
+use Rattle.step_values.specs.declared.value.Value.{Value}
+use Rattle.step_values.specs.declared.value.Value.TheVariants.{Zero, One}
+use Rattle.step_values.specs.Steps.{flip}
+use Rattle.step_values.specs.Cell.{values}
+use Rattle.step_values.specs.Lawful.{values_lawful}
+use Rattle.wave_core.specs.Slots.{later}
+use Rattle.wave_core.proofs.Slots.{length-slots}
+use Rattle.skew_algebra.specs.Wave.{Wave, skewed, is_steady, joined, normal, moved, IsNormal}
+use Rattle.skew_algebra.proofs.Normal.{normal-steady, normal-moving, uniform-normal, moving-normal, flipped-normal, length-normal}
+use Rattle.skew_algebra.proofs.Moves.{length-later}
+use Rattle.flat_circuit.specs.declared.instance.Pin.{Pin}
+use Rattle.flat_circuit.specs.Circuit.{Circuit}
+use Rattle.flat_circuit.specs.Instances.{PinExists, TargetExists}
+use Rattle.gate_eval.proofs.Fitting.{Fits, AllFit}
+use Rattle.pin_waves.specs.Pin.{pin_wave as wave_behind}
+use Rattle.fixpoint_engine.specs.Value.{Waves, target_wave, target_wire, pin_wave, turned_wave}
+
+-- the nets' waves fit
+abbrev pub NetsFit : Circuit → Waves → Type 0
+NetsFit c ws = (i : ℕ) → i < length c.nets → Fits values (period c.header) (ws i)
+
+pub normal-is : (w : Wave Value) → 0 < length w.cells → IsNormal values (normal values w)
+normal-is w some = by (is_steady values w.cells) refl
+  where
+    by : (quiet : Bool) → is_steady values w.cells ≡ quiet → IsNormal values (normal values w)
+    by true q = subst (λ (r : Wave Value). IsNormal values r) (sym (normal-steady values w q)) (uniform-normal values values_lawful (length w.cells) (joined values w.cells) some)
+    by false q = subst (λ (r : Wave Value). IsNormal values r) (sym (normal-moving values w q)) (moving-normal values values_lawful w some q)
+
+pub normal-fits : (p : ℕ) (w : Wave Value) → 0 < p → length w.cells ≡ p → Fits values p (normal values w)
+normal-fits p w some long = record { long = length-normal values w ∙ long; normal = normal-is w (omega arith) }
+
+pub flipped-fits : (p : ℕ) (inverted : Bool) (w : Wave Value) → Fits values p w → Fits values p (turned_wave inverted w)
+flipped-fits p true w fits = record { long = length-map w.cells flip ∙ fits.long; normal = flipped-normal values values_lawful w fits.normal }
+flipped-fits p false w fits = fits
+
+moved-fits : (p : ℕ) (w : Wave Value) (d : Bounds) → 0 < p → length w.cells ≡ p → Fits values p (moved values w d)
+unfolding moved
+moved-fits p w d some long = normal-fits p (skewed (later values w.cells d.min) (w.skew + (d.max - d.min))) some (length-later values w.cells d.min ∙ long)
+
+behind-fits : (p : ℕ) (w : Wave Value) (wire : Bounds) (inverted : Bool) → 0 < p → length w.cells ≡ p → Fits values p (wave_behind w wire inverted)
+behind-fits p w wire true some long = flipped-fits p true (moved values w wire) (moved-fits p w wire some long)
+behind-fits p w wire false some long = moved-fits p w wire some long
+
+pub length-target : (c : Circuit) (ws : Waves) (t : Target) → NetsFit c ws → TargetExists (length c.nets) t → length (target_wave c.header ws t).cells ≡ period c.header
+length-target c ws (OnNet i) fit exists = (fit i exists).long
+length-target c ws (Constant one) fit exists = length-slots (period c.header) (λ p. cond one One Zero)
+
+pub pin-fits : (c : Circuit) (ws : Waves) (p : Pin) → 0 < period c.header → NetsFit c ws → PinExists (length c.nets) p → Fits values (period c.header) (pin_wave c ws p)
+pin-fits c ws p some fit exists =
+    behind-fits (period c.header) (target_wave c.header ws p.target) (target_wire c.nets p.target) p.inverted some (length-target c ws p.target fit exists)
+
+pub pins-fit : (c : Circuit) (ws : Waves) (ps : List Pin) → 0 < period c.header → NetsFit c ws → All (PinExists (length c.nets)) ps →
+    AllFit values (period c.header) (map (pin_wave c ws) ps)
+pins-fit c ws [] some fit exist = tt
+pins-fit c ws (p ∷ ps) some fit exist = (
+  pin-fits c ws p some fit (All-head (PinExists (length c.nets)) p ps exist),
+  pins-fit c ws ps some fit (All-tail (PinExists (length c.nets)) p ps exist),
+)

@@ -1,0 +1,17 @@
+pub mod Same
+pub mod Hearing
+pub mod Fits
+pub mod Asked
+pub mod Made
+pub mod Drivers
+pub mod Sound
+pub mod Marks
+pub mod Normal
+pub mod Places
+pub mod Reached
+pub mod Rest
+pub mod Changing
+pub mod Waiting
+pub mod Listening
+pub mod Kept
+pub mod Examples

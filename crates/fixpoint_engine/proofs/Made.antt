@@ -1,0 +1,156 @@
+-- What each kind makes is sound, and has the period of its pins' waves.
+use Rattle.std.proofs.Common.{◌≡◌, ℕ, zero, suc, ◌+◌, ◌-◌, ◌<◌, ◌≤◌, Bool, true, false, List, [], ◌∷◌, length, map, refl, sym, subst, ◌∙◌, arith, All, Option, Some, None}
+use Rattle.std.proofs.lemmas.List.{length-map}
+use Rattle.std.proofs.lemmas.List.Elements.{All-nil, All-cons}
+use Rattle.scald_base.specs.Time.{Bounds, period}
+use Rattle.step_values.specs.declared.value.Value.{Value}
+use Rattle.step_values.specs.declared.value.Value.TheVariants.{S}
+use Rattle.step_values.specs.Cell.{values}
+use Rattle.wave_core.specs.Slots.{later}
+use Rattle.skew_algebra.specs.Wave.{Wave, skewed, moved, IsNormal}
+use Rattle.skew_algebra.proofs.Normal.{length-normal}
+use Rattle.skew_algebra.proofs.Moves.{length-later}
+use Rattle.flat_circuit.specs.declared.kind.Kind.{Kind}
+use Rattle.flat_circuit.specs.declared.kind.Kind.TheVariants.{And, Or, Chg, Reg, RegRs, Latch, LatchRs, SetupHold, RiseFall, MinPulse}
+use Rattle.flat_circuit.specs.declared.instance.Pin.{Pin}
+use Rattle.flat_circuit.specs.declared.instance.Instance.{Instance}
+use Rattle.flat_circuit.specs.Kind.{has_output, pin_counts}
+use Rattle.flat_circuit.specs.Instances.{InstanceFits}
+use Rattle.flat_circuit.specs.Circuit.{Circuit}
+use Rattle.gate_eval.specs.Meeting.{period_of, HaveOnePeriod}
+use Rattle.gate_eval.specs.Gates.{gate_value}
+use Rattle.gate_eval.specs.Hold.{hazard}
+use Rattle.gate_eval.specs.Instance.{wave_of_pin, image_by, gate_image, gate_wave, MarkFits, IsSound}
+use Rattle.gate_eval.proofs.Fitting.{Fits, AllFit}
+use Rattle.gate_eval.proofs.Meets.{length-meeting}
+use Rattle.gate_eval.proofs.Chosen.{mark-fits, some-pins}
+use Rattle.gate_eval.proofs.Sound.{gate-sound, length-change}
+use Rattle.gate_eval.specs.Change.{change_wave}
+use Rattle.storage_eval.proofs.Sounds.{storage-sound}
+use Rattle.storage_eval.proofs.Dependence.{length-storage_wave}
+use Rattle.fixpoint_engine.specs.Value.{Waves, pin_wave, pin_waves, marked_pin, made_by, turned_wave, instance_wave}
+use Rattle.fixpoint_engine.specs.Settled.{waves_of, FitWaves}
+use Rattle.fixpoint_engine.proofs.Fits.{NetsFit, normal-fits, pins-fit}
+
+-- ---- the period
+
+pub period-is : (p : ℕ) (waves : List (Wave Value)) → AllFit values p waves → 0 < length waves → period_of waves ≡ p
+period-is p [] fits some = absurd (omega arith)
+period-is p (w ∷ waves) fits some = fits.0.long
+
+long-at : (p : ℕ) (waves : List (Wave Value)) (i : ℕ) → AllFit values p waves → i < length waves → length (wave_of_pin waves i).cells ≡ p
+long-at p [] i fits below = absurd (omega arith)
+long-at p (w ∷ waves) zero fits below = fits.0.long
+long-at p (w ∷ waves) (suc i) fits below = long-at p waves i fits.1 (omega arith)
+
+mark-below : (kind : Kind) (marked pins : ℕ) → MarkFits kind (Some marked) pins → marked < pins
+mark-below And marked pins fits = fits
+mark-below Or marked pins fits = fits
+mark-below kind marked pins fits = absurd fits
+
+length-moved : (w : Wave Value) (d : Bounds) → length (moved values w d).cells ≡ length w.cells
+unfolding moved
+length-moved w d = length-normal values (skewed (later values w.cells d.min) (w.skew + (d.max - d.min))) ∙ length-later values w.cells d.min
+
+length-image : (kind : Kind) (waves : List (Wave Value)) (marked : Option ℕ) (h : Option (ℕ × ℕ)) → AllFit values (period_of waves) waves → MarkFits kind marked (length waves) →
+    length (image_by (gate_value kind) waves marked h).cells ≡ period_of waves
+length-image kind waves None h fits mark = length-meeting values (gate_value kind) waves
+length-image kind waves (Some marked) (Some h) fits mark = length-meeting values (gate_value kind) waves
+length-image kind waves (Some marked) None fits mark =
+    length-map (wave_of_pin waves marked).cells (λ v. gate_value kind (v ∷ S ∷ []))
+    ∙ long-at (period_of waves) waves marked fits (mark-below kind marked (length waves) mark)
+
+length-gate : (kind : Kind) (waves : List (Wave Value)) (marked : Option ℕ) (d : Bounds) → AllFit values (period_of waves) waves → MarkFits kind marked (length waves) →
+    length (gate_wave kind waves marked d).cells ≡ period_of waves
+unfolding gate_wave
+length-gate Chg waves marked d fits mark = length-normal values (change_wave waves d) ∙ length-change waves d
+length-gate kind waves marked d fits mark =
+    length-moved (gate_image kind waves marked) d ∙ length-image kind waves marked (hazard kind waves marked) fits mark
+
+pub length-made : (kind : Kind) (waves : List (Wave Value)) (marked : Option ℕ) (d : Bounds) → AllFit values (period_of waves) waves → MarkFits kind marked (length waves) →
+    length (made_by kind waves marked d).cells ≡ period_of waves
+length-made Reg waves marked d fits mark = length-storage_wave Reg waves d
+length-made RegRs waves marked d fits mark = length-storage_wave RegRs waves d
+length-made Latch waves marked d fits mark = length-storage_wave Latch waves d
+length-made LatchRs waves marked d fits mark = length-storage_wave LatchRs waves d
+length-made kind waves marked d fits mark = length-gate kind waves marked d fits mark
+
+-- ---- the kinds
+
+kind-sound : (kind : Kind) (waves : List (Wave Value)) (marked : Option ℕ) (d : Bounds) → has_output kind ≡ true → (pin_counts kind).0 ≤ length waves → length waves ≤ (pin_counts kind).1 →
+    MarkFits kind marked (length waves) → 0 < period_of waves → AllFit values (period_of waves) waves → IsSound kind d waves (made_by kind waves marked d)
+kind-sound Reg waves marked d makes least most mark some fits = storage-sound Reg d waves refl (omega arith) some fits
+kind-sound RegRs waves marked d makes least most mark some fits = storage-sound RegRs d waves refl (omega arith) some fits
+kind-sound Latch waves marked d makes least most mark some fits = storage-sound Latch d waves refl (omega arith) some fits
+kind-sound LatchRs waves marked d makes least most mark some fits = storage-sound LatchRs d waves refl (omega arith) some fits
+kind-sound SetupHold waves marked d makes least most mark some fits = cc
+kind-sound RiseFall waves marked d makes least most mark some fits = cc
+kind-sound MinPulse waves marked d makes least most mark some fits = cc
+kind-sound kind waves marked d makes least most mark some fits = gate-sound kind waves marked d refl mark some fits
+
+-- ---- an instance of a circuit
+
+length-pins : (c : Circuit) (ws : Waves) (j : Instance) → length (pin_waves c ws j) ≡ length j.pins
+length-pins c ws j = length-map j.pins (pin_wave c ws)
+
+made-period : (c : Circuit) (ws : Waves) (j : Instance) → 0 < period c.header → NetsFit c ws → InstanceFits c.header (length c.nets) j → period_of (pin_waves c ws j) ≡ period c.header
+made-period c ws j some fit fits =
+    let pins : 0 < length j.pins = some-pins j.kind (length j.pins) fits.pins.least in
+    period-is (period c.header) (pin_waves c ws j) (pins-fit c ws j.pins some fit fits.exists.reads) (let long = length-pins c ws j in omega (arith, long))
+
+made-fit : (c : Circuit) (ws : Waves) (j : Instance) → 0 < period c.header → NetsFit c ws → InstanceFits c.header (length c.nets) j → AllFit values (period_of (pin_waves c ws j)) (pin_waves c ws j)
+made-fit c ws j some fit fits =
+    subst (λ (p : ℕ). AllFit values p (pin_waves c ws j)) (sym (made-period c ws j some fit fits)) (pins-fit c ws j.pins some fit fits.exists.reads)
+
+made-mark : (c : Circuit) (ws : Waves) (j : Instance) → InstanceFits c.header (length c.nets) j → MarkFits j.kind (marked_pin j) (length (pin_waves c ws j))
+made-mark c ws j fits =
+    subst (λ (n : ℕ). MarkFits j.kind (marked_pin j) n) (sym (length-pins c ws j)) (mark-fits j.kind (λ (p : Pin). p.hold) j.pins fits.pins.marks)
+
+pub made-long : (c : Circuit) (ws : Waves) (j : Instance) → 0 < period c.header → NetsFit c ws → InstanceFits c.header (length c.nets) j →
+    length (made_by j.kind (pin_waves c ws j) (marked_pin j) j.delay).cells ≡ period c.header
+made-long c ws j some fit fits =
+    length-made j.kind (pin_waves c ws j) (marked_pin j) j.delay (made-fit c ws j some fit fits) (made-mark c ws j fits) ∙ made-period c ws j some fit fits
+
+pub made-sound : (c : Circuit) (ws : Waves) (j : Instance) → 0 < period c.header → NetsFit c ws → InstanceFits c.header (length c.nets) j → has_output j.kind ≡ true →
+    IsSound j.kind j.delay (pin_waves c ws j) (made_by j.kind (pin_waves c ws j) (marked_pin j) j.delay)
+made-sound c ws j some fit fits makes =
+    let long = length-pins c ws j in
+    let least = fits.pins.least in
+    let most = fits.pins.most in
+    let one = made-period c ws j some fit fits in
+    kind-sound j.kind (pin_waves c ws j) (marked_pin j) j.delay makes (omega (arith, long, least)) (omega (arith, long, most)) (made-mark c ws j fits) (omega (arith, one, some))
+    (made-fit c ws j some fit fits)
+
+pub instance-fits : (c : Circuit) (ws : Waves) (j : Instance) → 0 < period c.header → NetsFit c ws → InstanceFits c.header (length c.nets) j →
+    Fits values (period c.header) (instance_wave c ws j)
+unfolding instance_wave
+instance-fits c ws j some fit fits =
+    let w : Wave Value = made_by j.kind (pin_waves c ws j) (marked_pin j) j.delay in
+    normal-fits (period c.header) (turned_wave j.out_inverted w) some (length-turned j.out_inverted w ∙ made-long c ws j some fit fits)
+  where
+    length-turned : (inverted : Bool) (w : Wave Value) → length (turned_wave inverted w).cells ≡ length w.cells
+    length-turned true w = length-map w.cells _
+    length-turned false w = refl
+
+-- ---- by what code knows
+
+all-long : (p : ℕ) (waves : List (Wave Value)) → AllFit values p waves → All (λ w. length w.cells ≡ p) waves
+all-long p [] fits = All-nil (λ (w : Wave Value). length w.cells ≡ p)
+all-long p (w ∷ waves) fits = All-cons (λ (v : Wave Value). length v.cells ≡ p) w waves fits.0.long (all-long p waves fits.1)
+
+pub made-one-period : (c : Circuit) (ws : Waves) (j : Instance) → 0 < period c.header → NetsFit c ws → InstanceFits c.header (length c.nets) j → HaveOnePeriod (pin_waves c ws j)
+made-one-period c ws j some fit fits = all-long (period_of (pin_waves c ws j)) (pin_waves c ws j) (made-fit c ws j some fit fits)
+
+normal-at : {A : Type 0} (wave : A → Wave Value) (xs : List A) (i : ℕ) → ((x : A) → IsNormal values (wave x)) → i < length (map wave xs) →
+    IsNormal values (waves_of (map wave xs) i)
+normal-at wave [] i normal below = absurd (omega arith)
+normal-at wave (x ∷ xs) zero normal below = normal x
+normal-at wave (x ∷ xs) (suc i) normal below = normal-at wave xs i normal (omega arith)
+
+-- waves that are each in normal form
+pub nets-fit : {A : Type 0} (wave : A → Wave Value) (c : Circuit) (xs : List A) → ((x : A) → IsNormal values (wave x)) → FitWaves c (map wave xs) →
+    NetsFit c (waves_of (map wave xs))
+nets-fit wave c xs normal fit i below = record {
+  long = fit.each_slot i below;
+  normal = normal-at wave xs i normal (let long = fit.each_net in omega (arith, long, below));
+}

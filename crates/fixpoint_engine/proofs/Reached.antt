@@ -1,0 +1,70 @@
+-- Rounds one after the other: what is not due stays, and how rounds come to rest or do not.
+use Rattle.std.proofs.Common.{◌≡◌, ℕ, zero, suc, ◌+◌, ◌<◌, ◌≤◌, Bool, true, false, ◌&&◌, cond, refl, sym, ◌∙◌, arith, below_more}
+use Rattle.flat_circuit.specs.Circuit.{Circuit}
+use Rattle.fixpoint_engine.specs.Value.{Waves}
+use Rattle.fixpoint_engine.specs.Rounds.{driver, evaluated, next, round, AreSame, DiffersFirst, IsUnsettled}
+use Rattle.fixpoint_engine.specs.Work.{differs, hears_in, is_due, due_count, work_to}
+use Rattle.fixpoint_engine.specs.Settled.{AreAtRest}
+use Rattle.fixpoint_engine.proofs.Hearing.{stays}
+
+pub round-next : (c : Circuit) (active : ℕ → Bool) (start : Waves) (r i : ℕ) → round c active start (suc r) i ≡ next c active (round c active start r) i
+unfolding round
+round-next c active start r i = refl
+
+inactive-stays : (c : Circuit) (active : ℕ → Bool) (ws : Waves) (i : ℕ) → active i ≡ false → next c active ws i ≡ ws i
+unfolding next
+inactive-stays c active ws i passive = rw passive refl
+
+-- A net that is not due in the next round stays as it is.
+pub undue-stays : (c : Circuit) (active : ℕ → Bool) (start : Waves) (r i : ℕ) → is_due c active (round c active start) (suc r) i ≡ false →
+    round c active start (suc r) i ≡ round c active start r i
+unfolding is_due
+undue-stays c active start zero i undue = round-next c active start 0 i ∙ inactive-stays c active (round c active start 0) i undue
+undue-stays c active start (suc r) i undue = round-next c active start (suc r) i ∙ by (active i) refl undue
+  where
+    by : (a : Bool) → active i ≡ a → (a && hears_in (differs (round c active start r) (round c active start (suc r))) (driver c i)) ≡ false →
+        next c active (round c active start (suc r)) i ≡ round c active start (suc r) i
+    by false passive undue = inactive-stays c active (round c active start (suc r)) i passive
+    by true a unheard = stays c active (round c active start r) (round c active start (suc r)) i (round-next c active start r i) unheard
+
+-- A net that is due is active, and takes its value.
+pub due-takes : (c : Circuit) (active : ℕ → Bool) (start : Waves) (r i : ℕ) → is_due c active (round c active start) (suc r) i ≡ true →
+    round c active start (suc r) i ≡ evaluated c (round c active start r) i
+unfolding is_due next
+due-takes c active start zero i due = round-next c active start 0 i ∙ (rw due refl)
+due-takes c active start (suc r) i due = round-next c active start (suc r) i ∙ by (active i) due
+  where
+    by : (a : Bool) → (a && hears_in (differs (round c active start r) (round c active start (suc r))) (driver c i)) ≡ true →
+        cond a (evaluated c (round c active start (suc r)) i) (round c active start (suc r) i) ≡ evaluated c (round c active start (suc r)) i
+    by true due = refl
+    by false due = cc
+
+-- what has been found after r rounds: these waves are those of round r, and no round before was at rest
+pub record Reached (c : Circuit) (active : ℕ → Bool) (start : Waves) (r : ℕ) (ws : Waves) : Type 0 where
+  pub is : AreSame ws (round c active start r)
+  pub moving : (s : ℕ) → s < r → ¬ AreSame (round c active start (suc s)) (round c active start s)
+
+pub reached-start : (c : Circuit) (active : ℕ → Bool) (start ws : Waves) → AreSame ws start → Reached c active start 0 ws
+unfolding round
+reached-start c active start ws same = record { is = same; moving = λ s below. absurd (omega arith) }
+
+pub reached-more : (c : Circuit) (active : ℕ → Bool) (start ws after : Waves) (r : ℕ) → Reached c active start r ws → AreSame after (round c active start (suc r)) →
+    ¬ AreSame (round c active start (suc r)) (round c active start r) → Reached c active start (suc r) after
+reached-more c active start ws after r reached same moves = record { is = same; moving = λ s below. below_more (λ k. ¬ AreSame (round c active start (suc k)) (round c active start k)) r reached.moving moves s (omega arith) }
+
+pub at-rest : (c : Circuit) (active : ℕ → Bool) (start ws : Waves) (limit r : ℕ) → Reached c active start r ws → r ≤ limit → AreSame (round c active start (suc r)) (round c active start r) →
+    AreAtRest c active start limit r ws
+at-rest c active start ws limit r reached within still = record { rests = record { still = still; first = reached.moving; within = within }; waves = reached.is }
+
+pub not-at-rest : (c : Circuit) (active : ℕ → Bool) (start ws : Waves) (limit place : ℕ) → Reached c active start limit ws →
+    DiffersFirst c.order (round c active start limit) (round c active start (suc limit)) place → IsUnsettled c.order (round c active start) limit place
+not-at-rest c active start ws limit place reached differs = record {
+  never = λ r within. below_more (λ s. ¬ AreSame (round c active start (suc s)) (round c active start s)) limit reached.moving
+      (λ still. differs.differs (sym (still _))) r (omega arith);
+  first = differs;
+}
+
+-- the evaluations of one round more
+pub work-more : (c : Circuit) (active : ℕ → Bool) (rounds : ℕ → Waves) (r : ℕ) → work_to c active rounds (suc r) ≡ work_to c active rounds r + due_count c active rounds (suc r)
+unfolding work_to
+work-more c active rounds r = refl

@@ -1,0 +1,190 @@
+-- Rounds are sound: where waves permit a run from some tick on, those of the next round permit it `reach` ticks later.
+use Rattle.std.proofs.Common.{◌≡◌, ℕ, zero, suc, ◌+◌, ◌-◌, ◌*◌, ◌<◌, ◌≤◌, Bool, true, false, List, [], ◌∷◌, length, map, refl, sym, ap, subst, ◌∙◌, arith, All, slice_get, Option, Some, None}
+use Rattle.std.proofs.lemmas.Bool.{cond_both}
+use Rattle.std.proofs.lemmas.List.{length-map}
+use Rattle.std.proofs.lemmas.List.Elements.{All-head, All-tail}
+use Rattle.step_values.specs.Steps.{flip}
+use Rattle.scald_base.specs.Time.{period}
+use Rattle.scald_base.specs.Signal.{Signal, turned}
+use Rattle.vector_names.specs.declared.bits.Target.{Target}
+use Rattle.vector_names.specs.declared.bits.Target.TheVariants.{Net as OnNet, Constant}
+use Rattle.step_values.specs.declared.value.Value.{Value}
+use Rattle.step_values.specs.Cell.{values}
+use Rattle.step_values.specs.Lawful.{values_lawful}
+use Rattle.skew_algebra.specs.Wave.{Wave, normal}
+use Rattle.skew_algebra.specs.Permits.{Permits}
+use Rattle.skew_algebra.proofs.Moves.{Permits-after, Permits-normal, Permits-flipped}
+use Rattle.flat_circuit.specs.declared.instance.Pin.{Pin}
+use Rattle.flat_circuit.specs.declared.instance.Instance.{Instance}
+use Rattle.flat_circuit.specs.declared.net.Net.{Net}
+use Rattle.flat_circuit.specs.Kind.{has_output}
+use Rattle.flat_circuit.specs.Instances.{InstanceFits, PinExists, TargetExists, out_of}
+use Rattle.flat_circuit.specs.Circuit.{Circuit, IsCircuit, driver_at}
+use Rattle.flat_circuit.specs.Run.{Choice, Run, IsRun, IsRunAt, net_signal, target_signal, pin_signal, pin_signals, out_signal, WireFits, WiresFit}
+use Rattle.gate_eval.specs.Permitted.{AllPermit}
+use Rattle.gate_eval.proofs.Fitting.{Fits}
+use Rattle.pin_waves.proofs.Pins.{Permits-pin}
+use Rattle.pin_waves.proofs.CodeSlots.{Permits-constant}
+use Rattle.fixpoint_engine.specs.Value.{Waves, target_wave, target_wire, pin_wave, pin_waves, marked_pin, made_by, turned_wave, instance_wave}
+use Rattle.fixpoint_engine.specs.Rounds.{instance_in, wave_from, evaluated, next, round}
+use Rattle.fixpoint_engine.specs.Reach.{greatest_wire, greatest_delay, farthest, reach}
+use Rattle.fixpoint_engine.specs.Interface.{PermitRun}
+use Rattle.fixpoint_engine.proofs.Fits.{NetsFit, length-target}
+use Rattle.fixpoint_engine.proofs.Asked.{wire-within, wires-within, asked}
+use Rattle.fixpoint_engine.proofs.Drivers.{fits-of, makes-of}
+use Rattle.fixpoint_engine.proofs.Made.{made-sound, made-long, instance-fits}
+
+-- ---- pins
+
+target-permits : (c : Circuit) (run : Run) (ws : Waves) (t : Target) (v : ℕ) → 0 < period c.header → TargetExists (length c.nets) t → PermitRun c run ws v →
+    Permits values (target_wave c.header ws t) run.ticks (target_signal run t 0) v
+target-permits c run ws (OnNet i) v some exists permits =
+    let same : net_signal run i ≡ (λ s. net_signal run i (s - 0)) = λ k s. net_signal run i (minus-zero s k) in
+    subst (λ (x : Signal). Permits values (ws i) run.ticks x v) same (permits i exists)
+  where
+    minus-zero : (s : ℕ) → s ≡ s - 0
+    minus-zero s = omega arith
+target-permits c run ws (Constant one) v some exists permits = Permits-constant c.header one run.ticks v some
+
+shown : (run : Run) (t : Target) (w s : ℕ) → target_signal run t w s ≡ target_signal run t 0 (s - w)
+shown run (OnNet i) w s = ap (net_signal run i) (omega arith)
+shown run (Constant one) w s = refl
+
+pin-permits : (c : Circuit) (run : Run) (ws : Waves) (p : Pin) (w v u : ℕ) → 0 < period c.header → NetsFit c ws → PinExists (length c.nets) p → PermitRun c run ws v → 1 ≤ v →
+    WireFits c.nets p.target w → v + (target_wire c.nets p.target).max ≤ u →
+    Permits values (pin_wave c ws p) run.ticks (pin_signal run p w) u
+pin-permits c run ws p w v u some fit exists permits v1 wire far =
+    let within = wire-within c.nets p.target w wire in
+    let low : (target_wire c.nets p.target).min ≤ w = within.0 in
+    let high : w ≤ (target_wire c.nets p.target).max = within.1 in
+    let long = length-target c ws p.target fit exists in
+    Permits-pin (target_wave c.header ws p.target) (target_wire c.nets p.target) p.inverted (omega (arith, long))
+    run.ticks run.ticks v u w (target_signal run p.target 0) (pin_signal run p w)
+    (target-permits c run ws p.target v some exists permits) low high v1 (omega (arith, high, far)) (omega arith)
+    (λ t tu tm. ap (turned p.inverted) (shown run p.target w t))
+
+pins-permit : (c : Circuit) (run : Run) (ws : Waves) (ps : List Pin) (wires : List ℕ) (v u : ℕ) → 0 < period c.header → NetsFit c ws → All (PinExists (length c.nets)) ps → PermitRun c run ws v → 1 ≤ v →
+    WiresFit c.nets ps wires → v + greatest_wire c.nets ps ≤ u →
+    AllPermit values (map (pin_wave c ws) ps) run.ticks (pin_signals run ps wires) u
+pins-permit c run ws [] [] v u some fit exist permits v1 fits far = tt
+pins-permit c run ws [] (w ∷ wires) v u some fit exist permits v1 fits far = absurd fits
+pins-permit c run ws (p ∷ ps) [] v u some fit exist permits v1 fits far = absurd fits
+pins-permit c run ws (p ∷ ps) (w ∷ wires) v u some fit exist permits v1 fits far = (
+  pin-permits c run ws p w v u some fit (All-head (PinExists (length c.nets)) p ps exist) permits v1 fits.0 (omega arith),
+  pins-permit c run ws ps wires v u some fit (All-tail (PinExists (length c.nets)) p ps exist) permits v1 fits.1 (omega arith),
+)
+
+-- ---- one instance
+
+turned-turned : (inverted bit : Bool) → turned inverted (turned inverted bit) ≡ bit
+turned-turned true true = refl
+turned-turned true false = refl
+turned-turned false bit = refl
+
+turned-permits : (inverted : Bool) (w : Wave Value) (n v : ℕ) (x : Signal) → 0 < length w.cells → Permits values w n x v →
+    Permits values (turned_wave inverted w) n (λ t. turned inverted (x t)) v
+turned-permits true w n v x some permits = Permits-flipped values values_lawful w some n v x permits
+turned-permits false w n v x some permits = permits
+
+instance-permits : (c : Circuit) (run : Run) (ws : Waves) (j : Instance) (i : ℕ) (choice : Choice) (v u : ℕ) → 0 < period c.header → NetsFit c ws → InstanceFits c.header (length c.nets) j → PermitRun c run ws v → 1 ≤ v →
+    IsRunAt c run j choice → has_output j.kind ≡ true → j.out ≡ Some (OnNet i) → v + greatest_wire c.nets j.pins + j.delay.max + 1 ≤ u →
+    Permits values (instance_wave c ws j) run.ticks (net_signal run i) u
+unfolding instance_wave
+instance-permits c run ws j i choice v u some fit fits permits v1 at makes out far =
+    let seen : ℕ = v + greatest_wire c.nets j.pins in
+    let made : Wave Value = made_by j.kind (pin_waves c ws j) (marked_pin j) j.delay in
+    let output : Signal = out_signal run j.out j.out_inverted in
+    let wires = wires-within c.nets j.pins choice.wires at.wires in
+    let made_permits : Permits values made run.ticks output (seen + j.delay.max + 1) =
+    made-sound c ws j some fit fits makes run.ticks run.ticks seen choice.delay (pin_signals run j.pins choice.wires) output
+    (pins-permit c run ws j.pins choice.wires v seen some fit fits.exists.reads permits v1 at.wires (omega arith))
+    (omega arith) at.delay (omega arith)
+    (λ t tv tm. at.obeys t tm (asked j.kind j.delay choice.delay choice.wires t makes at.delay (omega (arith, wires)))) in
+    let long : length made.cells ≡ period c.header = made-long c ws j some fit fits in
+    let turned_permits = turned-permits j.out_inverted made run.ticks (seen + j.delay.max + 1) output (omega arith) made_permits in
+    let turned_long : length (turned_wave j.out_inverted made).cells ≡ period c.header = length-turned j.out_inverted made ∙ long in
+    let normal_permits = Permits-normal values values_lawful (turned_wave j.out_inverted made) (omega arith) run.ticks (seen + j.delay.max + 1) (λ t. turned j.out_inverted (output t)) turned_permits in
+    Permits-after values (normal values (turned_wave j.out_inverted made)) run.ticks (seen + j.delay.max + 1) u (net_signal run i) far
+    (subst (λ (x : Signal). Permits values (normal values (turned_wave j.out_inverted made)) run.ticks x (seen + j.delay.max + 1)) (is-net j.out out j.out_inverted) normal_permits)
+  where
+    length-turned : (inverted : Bool) (w : Wave Value) → length (turned_wave inverted w).cells ≡ length w.cells
+    length-turned true w = length-map w.cells flip
+    length-turned false w = refl
+
+    minus-zero : (s : ℕ) → s - 0 ≡ s
+    minus-zero s = omega arith
+
+    is-net : (found : Option Target) → found ≡ Some (OnNet i) → (inverted : Bool) → (λ t. turned inverted (out_signal run found inverted t)) ≡ net_signal run i
+    is-net found e inverted =
+        subst (λ (o : Option Target). (λ t. turned inverted (out_signal run o inverted t)) ≡ net_signal run i) (sym e)
+        (λ k t. (turned-turned inverted (net_signal run i (t - 0)) ∙ ap (net_signal run i) (minus-zero t)) k)
+
+-- ---- all nets
+
+farthest-of : (nets : List Net) (js : List Instance) (k : ℕ) (j : Instance) → slice_get js k ≡ Some j → greatest_delay j + greatest_wire nets j.pins ≤ farthest nets js
+farthest-of nets [] k j is = cc
+farthest-of nets (first ∷ js) zero j is = let same : first ≡ j = cc in rw same (omega arith)
+farthest-of nets (first ∷ js) (suc k) j is = omega (arith, farthest-of nets js k j is)
+
+delay-of : (j : Instance) → has_output j.kind ≡ true → greatest_delay j ≡ j.delay.max
+delay-of j makes = rw makes refl
+
+-- as many choices as instances
+pub choice-of : {A B : Type 0} (xs : List A) (ys : List B) (k : ℕ) (x : A) → length ys ≡ length xs → slice_get xs k ≡ Some x → (y : B) × (slice_get ys k ≡ Some y)
+choice-of [] ys k x long is = cc
+choice-of (a ∷ xs) [] k x long is = absurd (omega arith)
+choice-of (a ∷ xs) (b ∷ ys) zero x long is = (b, refl)
+choice-of (a ∷ xs) (b ∷ ys) (suc k) x long is = choice-of xs ys k x (omega arith) is
+
+driver-permits : (c : Circuit) (run : Run) (ws : Waves) (i : ℕ) (v : ℕ) (found : Option ℕ) → driver_at c.nets i ≡ found → 0 < period c.header → IsCircuit c → IsRun c run → NetsFit c ws → PermitRun c run ws v → 1 ≤ v → i < length c.nets →
+    Permits values (wave_from c ws (instance_in c found) (ws i)) run.ticks (net_signal run i) (v + reach c)
+driver-permits c run ws i v None is some known isrun fit permits v1 below =
+    Permits-after values (ws i) run.ticks v (v + reach c) (net_signal run i) (omega arith) (permits i below)
+driver-permits c run ws i v (Some k) is some known isrun fit permits v1 below = by (slice_get c.instances k) refl (known.drivers.is i k is)
+  where
+    by : (j : Option Instance) → slice_get c.instances k ≡ j → out_of j ≡ Some (OnNet i) → Permits values (wave_from c ws j (ws i)) run.ticks (net_signal run i) (v + reach c)
+    by None at out = Permits-after values (ws i) run.ticks v (v + reach c) (net_signal run i) (omega arith) (permits i below)
+    by (Some j) at out =
+        let makes = makes-of c k i j known at out in
+        let far = farthest-of c.nets c.instances k j at in
+        let own = delay-of j makes in
+        let choice = choice-of c.instances run.choices k j isrun.instances at in
+        instance-permits c run ws j i choice.0 v (v + reach c) some fit (fits-of c k j known at) permits v1 (isrun.at k j choice.0 at choice.1) makes out
+        (omega (arith, far, own))
+
+next-permits : (c : Circuit) (active : ℕ → Bool) (run : Run) (ws : Waves) (v : ℕ) → 0 < period c.header → IsCircuit c → IsRun c run → NetsFit c ws → PermitRun c run ws v → 1 ≤ v →
+    PermitRun c run (next c active ws) (v + reach c)
+unfolding next
+next-permits c active run ws v some known isrun fit permits v1 i below =
+    cond_both (active i) (evaluated c ws i) (ws i) (λ (w : Wave Value). Permits values w run.ticks (net_signal run i) (v + reach c))
+    (λ a. driver-permits c run ws i v (driver_at c.nets i) refl some known isrun fit permits v1 below)
+    (λ a. Permits-after values (ws i) run.ticks v (v + reach c) (net_signal run i) (omega arith) (permits i below))
+
+next-fits : (c : Circuit) (active : ℕ → Bool) (ws : Waves) → 0 < period c.header → IsCircuit c → NetsFit c ws → NetsFit c (next c active ws)
+unfolding next
+next-fits c active ws some known fit i below =
+    cond_both (active i) (evaluated c ws i) (ws i) (Fits values (period c.header)) (λ a. by-driver (driver_at c.nets i) refl) (λ a. fit i below)
+  where
+    by : (k : ℕ) (j : Option Instance) → slice_get c.instances k ≡ j → out_of j ≡ Some (OnNet i) → Fits values (period c.header) (wave_from c ws j (ws i))
+    by k None at out = fit i below
+    by k (Some j) at out = instance-fits c ws j some fit (fits-of c k j known at)
+
+    by-driver : (found : Option ℕ) → driver_at c.nets i ≡ found → Fits values (period c.header) (wave_from c ws (instance_in c found) (ws i))
+    by-driver None is = fit i below
+    by-driver (Some k) is = by k (slice_get c.instances k) refl (known.drivers.is i k is)
+
+pub round-fits : (c : Circuit) (active : ℕ → Bool) (start : Waves) (r : ℕ) → 0 < period c.header → IsCircuit c → NetsFit c start → NetsFit c (round c active start r)
+unfolding round
+round-fits c active start zero some known fit i below = fit i below
+round-fits c active start (suc r) some known fit i below = next-fits c active (round c active start r) some known (round-fits c active start r some known fit) i below
+
+-- The waves of round r permit each run that those at the start permit, so many ticks later.
+pub round-sound : (c : Circuit) (active : ℕ → Bool) (start : Waves) (r : ℕ) → 0 < period c.header → IsCircuit c → NetsFit c start →
+    (run : Run) (v : ℕ) → IsRun c run → 1 ≤ v → PermitRun c run start v → PermitRun c run (round c active start r) (v + r * reach c)
+unfolding round
+round-sound c active start zero some known fit run v isrun v1 permits i below =
+    Permits-after values (start i) run.ticks v (v + 0 * reach c) (net_signal run i) (omega arith) (permits i below)
+round-sound c active start (suc r) some known fit run v isrun v1 permits i below =
+    let before : PermitRun c run (round c active start r) (v + r * reach c) = round-sound c active start r some known fit run v isrun v1 permits in
+    Permits-after values (next c active (round c active start r) i) run.ticks (v + r * reach c + reach c) (v + suc r * reach c) (net_signal run i) (omega arith)
+    (next-permits c active run (round c active start r) (v + r * reach c) some known isrun (round-fits c active start r some known fit) before (omega arith) i below)

@@ -1,0 +1,60 @@
+use Rattle.std.proofs.Common.{◌≡◌, ◌∙◌, ◌<◌, List, length, map, sym, ap, subst, refl, true, false, arith, count_by}
+use Rattle.std.specs.List.{position}
+use Rattle.std.proofs.lemmas.Result.{IfOk-weaker}
+use Rattle.scald_base.specs.Time.{period}
+use Rattle.step_values.specs.declared.value.Value.{Value}
+use Rattle.step_values.specs.Cell.{values}
+use Rattle.skew_algebra.specs.Wave.{Wave, skewed, flipped}
+use Rattle.gate_eval.specs.Meeting.{HaveOnePeriod}
+use Rattle.fixpoint_engine.specs.Value.{pin_wave, instance_wave}
+use Rattle.fixpoint_engine.specs.Settled.{waves_of}
+use Rattle.fixpoint_engine.proofs.Made.{nets-fit, made-one-period}
+use Rattle.fixpoint_engine.proofs.Marks.{count-marks, position-marks, length-marks}
+use Rattle.fixpoint_engine.proofs.Normal.{instance-is}
+use Rattle.fixpoint_engine.proofs.value.instance_wave.Goals as goal
+
+pub made_by-requires-clause-pins : goal.made_by-requires-clause-pins
+made_by-requires-clause-pins g c =
+    let pins = c.as_slice.ensures in
+    let long : length c.in_ok-pins.pins ≡ length c.args.instance.now.pins =
+    length-marks (λ p. p.hold) (λ p. p.hold) c.in_ok-pins.pins c.as_slice.result.now c.in_ok-pins.ensures.marks ∙ ap length pins in
+    let marks : count_by (λ p. p.hold) c.in_ok-pins.pins ≡ count_by (λ p. p.hold) c.args.instance.now.pins =
+    count-marks (λ p. p.hold) (λ p. p.hold) c.in_ok-pins.pins c.as_slice.result.now c.in_ok-pins.ensures.marks ∙ ap (count_by (λ p. p.hold)) pins in
+    let fits = c.requires.fits.pins in
+    record {
+      least = rw long fits.least;
+      most = rw long fits.most;
+      marks = rw marks fits.marks;
+    }
+
+pub made_by-requires-clause-periods : goal.made_by-requires-clause-periods
+made_by-requires-clause-periods g c =
+    let h = c.known.ensures in
+    let head = c.header.ensures in
+    let some : 0 < period c.args.c.now.header = subst (λ h. 0 < period h) head (let two = h.shortest in omega (arith, two)) in
+    subst (λ (ws : List (Wave Value)). HaveOnePeriod ws)
+    (sym (c.in_ok-pins.ensures.waves ∙ ap (map (pin_wave c.args.c.now (waves_of (map (λ s. skewed (g.W.CyclicWave.cells s.wave) s.skew) c.args.waves.now)))) c.as_slice.ensures))
+    (made-one-period c.args.c.now (waves_of (map (λ s. skewed (g.W.CyclicWave.cells s.wave) s.skew) c.args.waves.now)) c.args.instance.now some
+    (nets-fit (λ s. skewed (g.W.CyclicWave.cells s.wave) s.skew) c.args.c.now c.args.waves.now (λ s. s.is_normal) c.requires.fit) c.requires.fits)
+
+pub returns-then-instance : goal.returns-then-instance
+returns-then-instance g c =
+    IfOk-weaker c.flipped.result
+    (λ s. skewed (g.W.CyclicWave.cells s.wave) s.skew ≡ flipped values (skewed (g.W.CyclicWave.cells c.in_ok-wave.wave.wave) c.in_ok-wave.wave.skew))
+    (λ s. skewed (g.W.CyclicWave.cells s.wave) s.skew ≡ instance_wave c.args.c.now (waves_of (map (λ s. skewed (g.W.CyclicWave.cells s.wave) s.skew) c.args.waves.now)) c.args.instance.now)
+    (λ s e. instance-is c.args.c.now (waves_of (map (λ s. skewed (g.W.CyclicWave.cells s.wave) s.skew) c.args.waves.now)) c.args.instance.now (map (λ p. skewed (g.W.CyclicWave.cells p.wave.wave) p.wave.skew) c.in_ok-pins.pins) (position (λ p. p.hold) c.in_ok-pins.pins) true
+    (skewed (g.W.CyclicWave.cells c.in_ok-wave.wave.wave) c.in_ok-wave.wave.skew) (skewed (g.W.CyclicWave.cells s.wave) s.skew) c.if-instance.true
+    (let two = (g.met.W.CyclicWave.sized s.wave).shortest in omega (arith, two)) s.is_normal
+    (c.in_ok-pins.ensures.waves ∙ ap (map (pin_wave c.args.c.now (waves_of (map (λ s. skewed (g.W.CyclicWave.cells s.wave) s.skew) c.args.waves.now)))) c.as_slice.ensures)
+    (position-marks (λ p. p.hold) (λ p. p.hold) c.in_ok-pins.pins c.as_slice.result.now c.in_ok-pins.ensures.marks ∙ ap (position (λ p. p.hold)) c.as_slice.ensures)
+    c.in_ok-wave.ensures.wave e)
+    c.flipped.ensures.wave
+
+pub returns : goal.returns
+returns g c =
+    instance-is c.args.c.now (waves_of (map (λ s. skewed (g.W.CyclicWave.cells s.wave) s.skew) c.args.waves.now)) c.args.instance.now (map (λ p. skewed (g.W.CyclicWave.cells p.wave.wave) p.wave.skew) c.in_ok-pins.pins) (position (λ p. p.hold) c.in_ok-pins.pins) false
+    (skewed (g.W.CyclicWave.cells c.in_ok-wave.wave.wave) c.in_ok-wave.wave.skew) (skewed (g.W.CyclicWave.cells c.in_ok-wave.wave.wave) c.in_ok-wave.wave.skew) c.if-instance.false
+    (let two = (g.met.W.CyclicWave.sized c.in_ok-wave.wave.wave).shortest in omega (arith, two)) c.in_ok-wave.wave.is_normal
+    (c.in_ok-pins.ensures.waves ∙ ap (map (pin_wave c.args.c.now (waves_of (map (λ s. skewed (g.W.CyclicWave.cells s.wave) s.skew) c.args.waves.now)))) c.as_slice.ensures)
+    (position-marks (λ p. p.hold) (λ p. p.hold) c.in_ok-pins.pins c.as_slice.result.now c.in_ok-pins.ensures.marks ∙ ap (position (λ p. p.hold)) c.as_slice.ensures)
+    c.in_ok-wave.ensures.wave refl

@@ -1,0 +1,10 @@
+pub mod Value
+pub mod Rounds
+pub mod Start
+pub mod Work
+pub mod Reach
+pub mod Loops
+pub mod Interface
+pub mod Settled
+pub mod End
+pub mod Worklist

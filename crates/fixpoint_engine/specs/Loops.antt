@@ -1,0 +1,14 @@
+-- Loops through listening pins. Where there is none, rounds come to rest by as many rounds as there are outputs.
+use Rattle.std.specs.Prelude.{◌≡◌, ℕ, ◌==◌, true}
+use Rattle.flat_circuit.specs.Circuit.{Circuit}
+use Rattle.flat_circuit.specs.Loop.{Reaches}
+use Rattle.fixpoint_engine.specs.Rounds.{driver}
+use Rattle.fixpoint_engine.specs.Work.{hears_in}
+
+-- the driver of the net has a listening pin on the other net
+abbrev pub Hears : Circuit → ℕ → ℕ → Type 0
+Hears c from net = hears_in (λ i. i == from) (driver c net) ≡ true
+
+-- no net is reached from itself through listening pins
+abbrev pub HasNoLoop : Circuit → Type 0
+HasNoLoop c = (net : ℕ) → ¬ Reaches (Hears c) net net

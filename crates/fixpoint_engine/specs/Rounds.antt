@@ -1,0 +1,59 @@
+-- Rounds: from given waves, each of some nets takes what its driver makes of the waves of the round before, all at once.
+use Rattle.std.specs.Prelude.{◌≡◌, ◌≢◌, ℕ, zero, suc, ◌<◌, ◌≤◌, Bool, if◌then◌else◌, List, length, slice_get, slice_index_or, Option, Some, None}
+use Rattle.step_values.specs.declared.value.Value.{Value}
+use Rattle.skew_algebra.specs.Wave.{Wave}
+use Rattle.flat_circuit.specs.declared.instance.Instance.{Instance}
+use Rattle.flat_circuit.specs.Circuit.{Circuit, driver_at}
+use Rattle.fixpoint_engine.specs.Value.{Waves, instance_wave}
+
+-- the instance that drives a net
+abbrev pub instance_in : Circuit → Option ℕ → Option Instance
+instance_in c None = None
+instance_in c (Some k) = slice_get c.instances k
+
+abbrev pub driver : Circuit → ℕ → Option Instance
+driver c i = instance_in c (driver_at c.nets i)
+
+-- what an instance makes; where there is none, the wave stays as it was
+abbrev pub wave_from : Circuit → Waves → Option Instance → Wave Value → Wave Value
+wave_from c ws None old = old
+wave_from c ws (Some j) old = instance_wave c ws j
+
+-- a net's value, from the waves of all nets
+abbrev pub evaluated : Circuit → Waves → ℕ → Wave Value
+evaluated c ws i = wave_from c ws (driver c i) (ws i)
+
+-- the round after: the active nets are evaluated, and the others stay as they were
+unfoldable pub next : Circuit → (ℕ → Bool) → Waves → Waves
+next c active ws i = if active i then evaluated c ws i else ws i
+
+-- round r, from these waves at round 0
+unfoldable pub round : Circuit → (ℕ → Bool) → Waves → ℕ → Waves
+round c active start zero i = start i
+round c active start (suc r) i = next c active (round c active start r) i
+
+-- two rounds are equal
+abbrev pub AreSame : Waves → Waves → Type 0
+AreSame ws vs = (i : ℕ) → ws i ≡ vs i
+
+-- The rounds come to rest: r is the first that the next one equals, and within the limit.
+pub record RestsAt (rounds : ℕ → Waves) (limit r : ℕ) : Type 0 where
+  pub still : AreSame (rounds (suc r)) (rounds r)
+  pub first : (s : ℕ) → s < r → ¬ AreSame (rounds (suc s)) (rounds s)
+  pub within : r ≤ limit
+
+-- the number of the net at a place in an order of the nets
+abbrev pub net_at : List ℕ → ℕ → ℕ
+net_at order place = slice_index_or order place 0
+
+-- of the nets in this order, the one at this place is the first whose waves differ
+pub record DiffersFirst (order : List ℕ) (ws vs : Waves) (place : ℕ) : Type 0 where
+  pub below : place < length order
+  pub differs : ws (net_at order place) ≢ vs (net_at order place)
+  pub same : (k : ℕ) → k < place → ws (net_at order k) ≡ vs (net_at order k)
+
+-- No round up to the limit is as the next one, and at the limit this net is the first, in the order of names, that still
+-- differs.
+pub record IsUnsettled (order : List ℕ) (rounds : ℕ → Waves) (limit place : ℕ) : Type 0 where
+  pub never : (r : ℕ) → r ≤ limit → ¬ AreSame (rounds (suc r)) (rounds r)
+  pub first : DiffersFirst order (rounds limit) (rounds (suc limit)) place

@@ -1,0 +1,39 @@
+-- What it means that rounds have settled: the waves are at rest, and permit every run that the waves at the start permit.
+use Rattle.std.specs.Prelude.{◌≡◌, ℕ, ◌+◌, ◌*◌, ◌<◌, ◌≤◌, Bool, true, false, List, [], length, slice_index_or, is_some}
+use Rattle.step_values.specs.declared.value.Value.{Value}
+use Rattle.skew_algebra.specs.Wave.{Wave, skewed}
+use Rattle.scald_base.specs.Time.{period}
+use Rattle.flat_circuit.specs.Circuit.{Circuit, driver_at}
+use Rattle.flat_circuit.specs.Run.{Run, IsRun}
+use Rattle.fixpoint_engine.specs.Value.{Waves}
+use Rattle.fixpoint_engine.specs.Rounds.{round, RestsAt, AreSame}
+use Rattle.fixpoint_engine.specs.Reach.{reach}
+use Rattle.fixpoint_engine.specs.Interface.{PermitRun}
+
+-- the waves of a list, by number
+abbrev pub waves_of : List (Wave Value) → Waves
+waves_of waves i = slice_index_or waves i (skewed [] 0)
+
+-- the nets of a set that is kept as a mark for each net
+abbrev pub marked_in : List Bool → ℕ → Bool
+marked_in marks i = slice_index_or marks i false
+
+-- one wave for each net, of one slot for each tick of the period
+pub record FitWaves (c : Circuit) (waves : List (Wave Value)) : Type 0 where
+  pub each_net : length waves ≡ length c.nets
+  pub each_slot : (i : ℕ) → i < length c.nets → length (waves_of waves i).cells ≡ period c.header
+
+-- a set of driven nets
+pub record FitActive (c : Circuit) (active : List Bool) : Type 0 where
+  pub each_net : length active ≡ length c.nets
+  pub driven : (i : ℕ) → marked_in active i ≡ true → is_some (driver_at c.nets i) ≡ true
+
+-- the waves are those of the first round that the next one equals
+pub record AreAtRest (c : Circuit) (active : ℕ → Bool) (start : Waves) (limit r : ℕ) (settled : Waves) : Type 0 where
+  pub rests : RestsAt (round c active start) limit r
+  pub waves : AreSame settled (round c active start r)
+
+-- Each round needs `reach` ticks more until its waves permit a run.
+abbrev pub KeepRuns : Circuit → Waves → ℕ → Waves → Type 0
+KeepRuns c start r settled =
+    (run : Run) (v : ℕ) → IsRun c run → 1 ≤ v → PermitRun c run start v → PermitRun c run settled (v + r * reach c)

@@ -1,0 +1,31 @@
+//! Rounds of evaluation: from the waves at the start, each round gives the active nets what their
+//! drivers make of the waves of the round before, until nothing changes.
+//!
+//! The layer above calls [`settle`], which answers the waves at rest, or the net that still changes at
+//! the limit. `specs/Value` says what an instance makes of all waves, `specs/Rounds` what a round is
+//! and when rounds rest, `specs/Work` which nets are evaluated, and `specs/Settled` which runs the
+//! waves permit.
+#![tactic(auto)]
+
+// sets of nets, and the waves of all nets
+mod net_set;
+mod waves;
+
+// one instance
+mod pins;
+mod value;
+
+// one round
+mod changes;
+mod queue;
+
+// rounds to rest
+mod rounds;
+
+pub use net_set::NetSet;
+pub use pins::{pin_wave, waves_at_pins};
+pub use rounds::{EngineEnd, Settled, settle};
+pub use waves::Waves;
+
+#[cfg(test)]
+mod tests;

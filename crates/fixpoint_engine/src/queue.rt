@@ -1,0 +1,151 @@
+//! The nets that are to be evaluated in a round.
+
+ghost use Rattle.std.specs.Prelude.{◌≡◌, ◌<◌, ◌==◌, ◌&&◌, [], ℕ, IfOk, OnOk, false, length, map, replicate};
+ghost use Rattle.std.specs.List.{All};
+ghost use Rattle.flat_circuit.specs.Instances.{out_at, readers_of};
+ghost use Rattle.fixpoint_engine.specs.Rounds.{driver};
+ghost use Rattle.fixpoint_engine.specs.Settled.{FitActive, marked_in};
+ghost use Rattle.fixpoint_engine.specs.Work.{hears_in};
+ghost use Rattle.fixpoint_engine.specs.Worklist.{Adds, IsQueue, among, drives_in, output_net};
+
+use crate::changes::Change;
+use crate::net_set::NetSet;
+use flat_circuit::{Circuit, Target};
+use scald_base::NoMemory;
+use std::alloc::Global;
+use std::marker::Model;
+use wave_core::CyclicWave;
+
+/// Nets that wait for their evaluation, each once.
+#[derive(Drop)]
+pub struct Queue {
+    nets: Vec<u32>,
+    /// Which nets stand in the list.
+    queued: NetSet,
+}
+
+impl Model for Queue {
+    ghost use Rattle.fixpoint_engine.specs.Worklist.{Queue as Waiting, IsQueue};
+
+    ghost Value = { Waiting };
+
+    ghost view = { λ q. record { nets = q.nets.items; marks = q.queued } };
+
+    ghost invariant = { λ q. IsQueue (record { nets = q.nets.items; marks = q.queued }) };
+}
+
+impl Queue {
+    /// All active nets.
+    pub fn all(alloc: Global, c: &Circuit, active: &NetSet) -> Result<Queue, NoMemory>
+        requires { FitActive c.now active.now }
+        ensures { IfOk result (λ q. q.marks ≡ active.now) }
+    {
+        let mut queue = Queue {
+            nets: Vec::new(alloc),
+            queued: NetSet::new(alloc, c.net_count())?,
+        };
+        for net in 0..c.net_count() {
+            if active.has(net) {
+                queue.add(net)?;
+            }
+        }
+        Ok(queue)
+    }
+
+    /// The nets that wait, each once.
+    pub fn nets(&self) -> &[u32]
+        ensures nets { result.now ≡ self.now.nets }
+        ensures once { IsQueue self.now }
+    {
+        self.nets.as_slice()
+    }
+
+    /// Lets a net wait, if it does not yet.
+    fn add(&mut self, net: u32) -> Result<(), NoMemory>
+        requires { net < length self.old.marks }
+        ensures { OnOk result (Adds (λ i. net == i) self.old self.new) }
+    {
+        if !self.queued.has(net) {
+            self.nets.push(net)?;
+            self.queued.add(net);
+        }
+        Ok(())
+    }
+
+    /// Lets no net wait.
+    fn clear(&mut self)
+        ensures nets { self.new.nets ≡ [] }
+        ensures marks { self.new.marks ≡ replicate (length self.old.marks) false }
+    {
+        while let Some(net) = self.nets.pop() {
+            self.queued.remove(net);
+        }
+    }
+
+    /// Lets the net wait that an instance drives, if it is active.
+    fn add_output(&mut self, c: &Circuit, active: &NetSet, instance: u32) -> Result<(), NoMemory>
+        requires active { FitActive c.now active.now }
+        requires each_net { length self.old.marks ≡ length c.now.nets }
+        ensures { OnOk result (Adds (λ i. marked_in active.now i && drives_in (out_at c.now.instances instance) i) self.old self.new) }
+    {
+        match output_of(c, instance) {
+            Some(net) if active.has(net) => self.add(net),
+            _ => Ok(()),
+        }
+    }
+
+    /// Lets the active nets wait whose drivers listen to this net.
+    fn add_hearers(&mut self, c: &Circuit, active: &NetSet, net: u32) -> Result<(), NoMemory>
+        requires active { FitActive c.now active.now }
+        requires each_net { length self.old.marks ≡ length c.now.nets }
+        requires exists { net < length c.now.nets }
+        ensures { OnOk result (Adds (λ i. marked_in active.now i && hears_in (λ j. net == j) (driver c.now i)) self.old self.new) }
+    {
+        c.known();
+        for reader in readers_of(c, net) {
+            self.add_output(c, active, *reader)?;
+        }
+        Ok(())
+    }
+
+    /// In place of those that wait: the active nets whose drivers listen to a net that changed.
+    pub fn refill<W: CyclicWave>(
+        &mut self,
+        c: &Circuit,
+        active: &NetSet,
+        changes: &[Change<W>],
+    ) -> Result<(), NoMemory>
+        requires active { FitActive c.now active.now }
+        requires each_net { length self.old.marks ≡ length c.now.nets }
+        requires exist { All (λ ch. ch.net < length c.now.nets) changes.now }
+        ensures each_net { OnOk result (length self.new.marks ≡ length c.now.nets) }
+        ensures due { OnOk result ((i : ℕ) → marked_in self.new.marks i ≡ (marked_in active.now i && hears_in (among (map (λ ch. ch.net) changes.now)) (driver c.now i))) }
+    {
+        self.clear();
+        for change in changes {
+            self.add_hearers(c, active, change.net)?;
+        }
+        Ok(())
+    }
+}
+
+/// The instances with an output that listen to a net.
+fn readers_of(c: &Circuit, net: u32) -> &[u32]
+    requires { net < length c.now.nets }
+    ensures { result.now ≡ readers_of c.now.instances net }
+{
+    match c.readers(net) {
+        Some(readers) => readers,
+        None => unreachable!(),
+    }
+}
+
+/// The net that an instance drives.
+fn output_of(c: &Circuit, instance: u32) -> Option<u32>
+    ensures { result ≡ output_net (out_at c.now.instances instance) }
+{
+    match c.instance(instance)?.out? {
+        Target::Net(net) => Some(net),
+        Target::Constant(_) => None,
+    }
+}

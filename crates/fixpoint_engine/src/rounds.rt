@@ -1,0 +1,175 @@
+//! Rounds to rest.
+
+ghost use Rattle.std.specs.Prelude.{◌≡◌, ◌+◌, ◌<◌, ℕ, IfErr, IfOk, MatchOption, false, length, map};
+ghost use Rattle.std.specs.List.{All};
+ghost use Rattle.skew_algebra.specs.Wave.{skewed};
+ghost use Rattle.fixpoint_engine.specs.Rounds.{net_at, round};
+ghost use Rattle.fixpoint_engine.specs.Settled.{AreAtRest, FitActive, FitWaves, KeepRuns, marked_in, waves_of};
+ghost use Rattle.fixpoint_engine.specs.Work.{work_to};
+ghost use Rattle.fixpoint_engine.specs.End.{EndsAt, EndsFor, IsFirstIn};
+ghost use Rattle.fixpoint_engine.specs.Worklist.{among};
+
+use crate::changes::{Change, apply, changes};
+use crate::net_set::NetSet;
+use crate::queue::Queue;
+use crate::waves::Waves;
+use flat_circuit::Circuit;
+use scald_base::{List, NoMemory};
+use skew_algebra::Skewed;
+use std::alloc::Global;
+use step_values::Value;
+use wave_core::CyclicWave;
+
+/// Rounds at rest.
+#[derive(Drop)]
+pub struct Settled<W: CyclicWave> {
+    /// The waves of the first round that the next one equals.
+    pub waves: Waves<W>,
+    /// The number of that round.
+    pub rounds: u32,
+    /// How many evaluations were made: one for each net that was due, in the rounds up to the next one.
+    pub evals: u64,
+}
+
+/// Why rounds gave no waves.
+#[derive(Clone, Copy, PartialEq, Eq, Debug)]
+pub enum EngineEnd {
+    /// The round at the limit, `round`, and the next one differ. The first net that differs stands at
+    /// this place, from 0, in the order of names.
+    Unsettled { net: u32, round: u32 },
+    /// Memory ran out.
+    NoMemory,
+}
+
+impl From<NoMemory> for EngineEnd {
+    ghost use Rattle.std.specs.Prelude.{◌≡◌};
+    ghost use Rattle.fixpoint_engine.specs.declared.rounds.EngineEnd.TheVariants.{NoMemory as OutOfMemory};
+
+    ghost from_gives = { λ _ e. e ≡ OutOfMemory };
+
+    fn from(_e: NoMemory) -> EngineEnd {
+        EngineEnd::NoMemory
+    }
+}
+
+/// The same waves once more.
+fn copies<W: CyclicWave<Item = Value>>(
+    alloc: Global,
+    waves: &[Skewed<W>],
+) -> Result<Waves<W>, NoMemory>
+    ensures { IfOk result (λ copied. map (λ s. skewed (W.cells s.wave) s.skew) copied ≡ map (λ s. skewed (W.cells s.wave) s.skew) waves.now) }
+{
+    let mut copied: Waves<W> = List::new(alloc);
+    for wave in waves {
+        copied.push(wave.copy(alloc)?)?;
+    }
+    Ok(copied)
+}
+
+/// The nets that change, as a set.
+fn changed_nets<W: CyclicWave>(
+    alloc: Global,
+    c: &Circuit,
+    changes: &[Change<W>],
+) -> Result<NetSet, NoMemory>
+    requires { All (λ ch. ch.net < length c.now.nets) changes.now }
+    ensures { IfOk result (λ set. (i : ℕ) → marked_in set i ≡ among (map (λ ch. ch.net) changes.now) i) }
+{
+    let mut changed = NetSet::new(alloc, c.net_count())?;
+    for change in changes {
+        changed.add(change.net);
+    }
+    Ok(changed)
+}
+
+/// The number of the net at a place in the order of names; past the last, 0.
+#[tactic(auto, using(crate::proofs::Places::past_last, crate::proofs::Places::at_place))]
+fn net_named(c: &Circuit, place: u32) -> u32
+    ensures { result ≡ net_at c.now.order place }
+{
+    match c.by_name(place) {
+        Some(net) => net,
+        None => 0,
+    }
+}
+
+/// The place in the order of names of the first net of a set.
+fn first_named(c: &Circuit, set: &NetSet) -> Option<u32>
+    ensures { MatchOption result ((k : ℕ) → k < length c.now.order → marked_in set.now (net_at c.now.order k) ≡ false) (λ place. IsFirstIn c.now.order (marked_in set.now) place) }
+{
+    c.known();
+    for place in 0..c.net_count() {
+        if set.has(net_named(c, place)) {
+            return Some(place);
+        }
+    }
+    None
+}
+
+/// The end of rounds whose last ones differ in these nets.
+fn unsettled<W: CyclicWave>(
+    alloc: Global,
+    c: &Circuit,
+    changes: &[Change<W>],
+    limit: u32,
+) -> Result<EngineEnd, NoMemory>
+    requires exist { All (λ ch. ch.net < length c.now.nets) changes.now }
+    requires some { 0 < length changes.now }
+    ensures { IfOk result (EndsAt c.now.order (among (map (λ ch. ch.net) changes.now)) limit) }
+{
+    let changed = changed_nets(alloc, c, changes)?;
+    c.known();
+    match first_named(c, &changed) {
+        Some(net) => Ok(EngineEnd::Unsettled { net, round: limit }),
+        None => unreachable!(),
+    }
+}
+
+/// Rounds over the active nets, from the waves at the start, until a round is as the one before: the
+/// waves of the first round that the next one equals. The start waves permit a run from some tick on;
+/// the waves at rest permit it `reach` ticks a round later. `Unsettled` comes exactly where no round up
+/// to `limit` is as the next one. In the first round each active net is evaluated, and later those alone
+/// whose driver listens to a net that changed in the round before; `evals` counts them.
+pub fn settle<W: CyclicWave<Item = Value>>(
+    alloc: Global,
+    c: &Circuit,
+    start: &Waves<W>,
+    active: &NetSet,
+    limit: u32,
+) -> Result<Settled<W>, EngineEnd>
+    requires waves { FitWaves c.now (map (λ s. skewed (W.cells s.wave) s.skew) start.now) }
+    requires active { FitActive c.now active.now }
+    ensures rest { let first = waves_of (map (λ s. skewed (W.cells s.wave) s.skew) start.now) in
+        IfOk result (λ s. AreAtRest c.now (marked_in active.now) first limit s.rounds (waves_of (map (λ w. skewed (W.cells w.wave) w.skew) s.waves))) }
+    ensures fit { IfOk result (λ s. FitWaves c.now (map (λ w. skewed (W.cells w.wave) w.skew) s.waves)) }
+    ensures work { let first = waves_of (map (λ s. skewed (W.cells s.wave) s.skew) start.now) in
+        IfOk result (λ s. s.evals ≡ work_to c.now (marked_in active.now) (round c.now (marked_in active.now) first) (s.rounds + 1)) }
+    ensures sound { let first = waves_of (map (λ s. skewed (W.cells s.wave) s.skew) start.now) in
+        IfOk result (λ s. KeepRuns c.now first s.rounds (waves_of (map (λ w. skewed (W.cells w.wave) w.skew) s.waves))) }
+    ensures unsettled { let first = waves_of (map (λ s. skewed (W.cells s.wave) s.skew) start.now) in
+        IfErr result (EndsFor c.now.order (round c.now (marked_in active.now) first) limit) }
+{
+    c.known();
+    c.header().known();
+    let mut waves = copies(alloc, start.as_slice())?;
+    let mut queue = Queue::all(alloc, c, active)?;
+    let mut rounds = 0;
+    let mut evals = 0;
+    'rounds: loop {
+        let made = changes(alloc, c, &waves, queue.nets())?;
+        evals += queue.nets().len() as u64;
+        if made.is_empty() {
+            return Ok(Settled {
+                waves,
+                rounds,
+                evals,
+            });
+        }
+        if rounds == limit {
+            return Err(unsettled(alloc, c, &made, limit)?);
+        }
+        queue.refill(c, active, &made)?;
+        apply(&mut waves, made);
+        rounds += 1;
+    }
+}

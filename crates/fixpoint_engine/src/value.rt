@@ -1,0 +1,93 @@
+//! What an instance makes of the waves of all nets.
+
+ghost use Rattle.std.specs.Prelude.{◌≡◌, ◌<◌, IfOk, count_by, length, map, true};
+ghost use Rattle.std.specs.List.{position};
+ghost use Rattle.std.specs.Option.{option_copied};
+ghost use Rattle.skew_algebra.specs.Wave.{skewed};
+ghost use Rattle.flat_circuit.specs.Kind.{has_output};
+ghost use Rattle.flat_circuit.specs.Instances.{InstanceFits};
+ghost use Rattle.gate_eval.specs.Instance.{CountsFit, IsSound};
+ghost use Rattle.gate_eval.specs.Meeting.{HaveOnePeriod};
+ghost use Rattle.fixpoint_engine.specs.Value.{instance_wave, made_by};
+ghost use Rattle.fixpoint_engine.specs.Rounds.{driver, evaluated};
+ghost use Rattle.fixpoint_engine.specs.Settled.{FitWaves, waves_of};
+
+use crate::pins::waves_at_pins;
+use crate::waves::Waves;
+use flat_circuit::{Circuit, Instance, Kind};
+use gate_eval::{PinWaves, eval_gate};
+use scald_base::{Delay, NoMemory};
+use skew_algebra::Skewed;
+use std::alloc::Global;
+use step_values::Value;
+use storage_eval::eval_storage;
+use wave_core::CyclicWave;
+
+/// What a kind with an output makes of the waves at its pins.
+fn made_by<W: CyclicWave<Item = Value>>(
+    alloc: Global,
+    kind: Kind,
+    pins: &PinWaves<W>,
+    d: Delay,
+) -> Result<Skewed<W>, NoMemory>
+    requires makes { has_output kind ≡ true }
+    requires pins { CountsFit kind (length pins.now) (count_by (λ p. p.hold) pins.now) }
+    requires periods { HaveOnePeriod (map (λ p. skewed (W.cells p.wave.wave) p.wave.skew) pins.now) }
+    ensures wave { IfOk result (λ s. skewed (W.cells s.wave) s.skew ≡ made_by kind (map (λ p. skewed (W.cells p.wave.wave) p.wave.skew) pins.now) (position (λ p. p.hold) pins.now) d) }
+    ensures sound { IfOk result (λ s. IsSound kind d (map (λ p. skewed (W.cells p.wave.wave) p.wave.skew) pins.now) (skewed (W.cells s.wave) s.skew)) }
+{
+    match kind {
+        Kind::Reg | Kind::RegRs | Kind::Latch | Kind::LatchRs => {
+            eval_storage(alloc, kind, pins, d)
+        }
+        _ => eval_gate(alloc, kind, pins, d),
+    }
+}
+
+/// What an instance makes of the waves of all nets: the wave of its output's net.
+fn instance_wave<W: CyclicWave<Item = Value>>(
+    alloc: Global,
+    c: &Circuit,
+    waves: &Waves<W>,
+    instance: &Instance,
+) -> Result<Skewed<W>, NoMemory>
+    requires makes { has_output instance.now.kind ≡ true }
+    requires fits { InstanceFits c.now.header (length c.now.nets) instance.now }
+    requires fit { FitWaves c.now (map (λ s. skewed (W.cells s.wave) s.skew) waves.now) }
+    ensures { IfOk result (λ s. skewed (W.cells s.wave) s.skew ≡ instance_wave c.now (waves_of (map (λ s. skewed (W.cells s.wave) s.skew) waves.now)) instance.now) }
+{
+    c.header().known();
+    let pins = waves_at_pins(alloc, c, waves, instance.pins.as_slice())?;
+    let wave = made_by(alloc, instance.kind, &pins, instance.delay)?;
+    if instance.out_inverted {
+        wave.flipped(alloc)
+    } else {
+        Ok(wave)
+    }
+}
+
+/// The instance that drives a net.
+pub fn driver_of(c: &Circuit, net: u32) -> Option<&Instance>
+    ensures { option_copied result ≡ driver c.now net }
+{
+    let driver = c.net(net)?.driver?;
+    c.instance(driver)
+}
+
+/// The value of a net: what its driver makes, or the wave that it has where nothing drives it.
+pub fn evaluated<W: CyclicWave<Item = Value>>(
+    alloc: Global,
+    c: &Circuit,
+    waves: &Waves<W>,
+    net: u32,
+) -> Result<Skewed<W>, NoMemory>
+    requires exists { net < length c.now.nets }
+    requires fit { FitWaves c.now (map (λ s. skewed (W.cells s.wave) s.skew) waves.now) }
+    ensures { IfOk result (λ s. skewed (W.cells s.wave) s.skew ≡ evaluated c.now (waves_of (map (λ s. skewed (W.cells s.wave) s.skew) waves.now)) net) }
+{
+    c.known();
+    match driver_of(c, net) {
+        Some(driver) => instance_wave(alloc, c, waves, driver),
+        None => waves.as_slice()[net as usize].copy(alloc),
+    }
+}
