@@ -1,0 +1,141 @@
+-- The waves that a case begins with, and the runs that they permit.
+use Rattle.std.proofs.Common.{◌≡◌, ℕ, ◌+◌, ◌-◌, ◌*◌, ◌<◌, ◌≤◌, ◌==◌, ◌&&◌, Bool, true, false, cond, List, [], ◌∷◌, ◌++◌, length, map, take, set, get_or, refl, sym, ap, subst, ◌∙◌, arith, Option, Some, None}
+use Rattle.std.proofs.lemmas.Bool.{eqb-true, eqb-false}
+use Rattle.std.proofs.lemmas.List.{get_or_past, get_or-set_same, get_or-set_other, length-set, length-map, map-set, take_more}
+use Rattle.std.proofs.lemmas.List.Elements.{All-head, All-tail}
+use Rattle.scald_base.specs.Time.{Header, period}
+use Rattle.step_values.specs.declared.value.Value.{Value}
+use Rattle.step_values.specs.declared.value.Value.TheVariants.{Zero, One}
+use Rattle.step_values.specs.Cell.{values}
+use Rattle.wave_core.specs.Slots.{earlier}
+use Rattle.wave_core.proofs.Slots.{length-slots}
+use Rattle.skew_algebra.specs.Wave.{Wave, skewed}
+use Rattle.skew_algebra.specs.Permits.{Permits}
+use Rattle.flat_circuit.specs.declared.case.CaseValue.{CaseValue}
+use Rattle.flat_circuit.specs.Circuit.{Circuit}
+use Rattle.flat_circuit.specs.Run.{Run, net_signal}
+use Rattle.pin_waves.specs.Interface.{constant_wave}
+use Rattle.pin_waves.proofs.CodeSlots.{Permits-constant}
+use Rattle.fixpoint_engine.specs.Value.{Waves}
+use Rattle.fixpoint_engine.specs.Reach.{reach}
+use Rattle.fixpoint_engine.specs.Start.{is_driven}
+use Rattle.fixpoint_engine.specs.Settled.{waves_of, FitWaves, KeepRuns}
+use Rattle.fixpoint_engine.specs.Interface.{PermitRun}
+use Rattle.fixpoint_engine.proofs.Listening.{same-tests}
+use Rattle.case_analysis.specs.Base.{PermitInputs}
+use Rattle.case_analysis.specs.Case.{value_after, value_of, NetsExist, IsInCase, IsCone, case_wave, case_start, case_active, PermitCase}
+use Rattle.case_analysis.proofs.Start.{length-unknown, Permits-unknown}
+use Rattle.case_analysis.proofs.Inputs.{as-same}
+
+-- ---- one cone
+
+pub one-cone : (c : Circuit) (vs : List CaseValue) (a b : ℕ → Bool) → IsCone c vs a → IsCone c vs b → (i : ℕ) → a i ≡ b i
+one-cone c vs a b one other i = same-tests (a i) (b i) (λ is. (other i).1 ((one i).0 is)) (λ is. (one i).1 ((other i).0 is))
+
+pub start-same : (c : Circuit) (vs : List CaseValue) (a b : ℕ → Bool) (base : Waves) → ((i : ℕ) → a i ≡ b i) → (i : ℕ) → case_start c vs a base i ≡ case_start c vs b base i
+start-same c vs a b base same i = ap (λ reached. case_wave c.header (value_of vs i) reached (base i)) (same i)
+
+-- What holds of the active nets and of the waves that code begins with holds of those of the case.
+pub as-case : (c : Circuit) (vs : List CaseValue) (marks active : ℕ → Bool) (base first : Waves) (P : (ℕ → Bool) → Waves → Type 0) → IsCone c vs marks → ((i : ℕ) → active i ≡ case_active c marks i) →
+    ((i : ℕ) → first i ≡ case_start c vs marks base i) → P active first → (cone : ℕ → Bool) → IsCone c vs cone → P (case_active c cone) (case_start c vs cone base)
+as-case c vs marks active base first P marked of from holds cone is =
+    as-same active (case_active c cone) first (case_start c vs cone base) P
+    (λ i. of i ∙ ap (λ b. b && is_driven c i) (one-cone c vs marks cone marked is i))
+    (λ i. from i ∙ start-same c vs marks cone base (one-cone c vs marks cone marked is) i) holds
+
+-- ---- one value more
+
+value-more : (before : Option Bool) (vs : List CaseValue) (v : CaseValue) (i : ℕ) → value_after before (vs ++ v ∷ []) i ≡ cond (v.net == i) (Some v.one) (value_after before vs i)
+value-more before [] v i = refl
+value-more before (w ∷ vs) v i = value-more (cond (w.net == i) (Some w.one) before) vs v i
+
+start-more : (c : Circuit) (vs : List CaseValue) (v : CaseValue) (cone : ℕ → Bool) (base : Waves) (i : ℕ) →
+    case_start c (vs ++ v ∷ []) cone base i ≡ cond (v.net == i) (constant_wave c.header v.one) (case_start c vs cone base i)
+start-more c vs v cone base i = ap (λ (o : Option Bool). case_wave c.header o (cone i) (base i)) (value-more None vs v i) ∙ by (v.net == i)
+  where
+    by : (here : Bool) → case_wave c.header (cond here (Some v.one) (value_of vs i)) (cone i) (base i) ≡ cond here (constant_wave c.header v.one) (case_start c vs cone base i)
+    by true = refl
+    by false = refl
+
+wave-set : (waves : List (Wave Value)) (net i : ℕ) (w : Wave Value) → net < length waves → waves_of (set waves net w) i ≡ cond (net == i) w (waves_of waves i)
+wave-set waves net i w below = by (net == i) refl
+  where
+    by : (same : Bool) → (net == i) ≡ same → waves_of (set waves net w) i ≡ cond same w (waves_of waves i)
+    by true e = ap (waves_of (set waves net w)) (sym (eqb-true net i e)) ∙ get_or-set_same waves net w (skewed [] 0) below
+    by false e = get_or-set_other waves net i w (skewed [] 0) (λ same. eqb-false net i e (sym same))
+
+-- as code sets it
+pub long-more : {A : Type 0} (n k : ℕ) (items : List CaseValue) (d : CaseValue) (waves after : List A) (w : A) → after ≡ set waves (get_or items k d).net w → length waves ≡ n → length after ≡ n
+long-more n k items d waves after w sets long = ap length sets ∙ length-set waves (get_or items k d).net w ∙ long
+
+pub case-more : {A : Type 0} (wave : A → Wave Value) (c : Circuit) (h : Header) (vs items : List CaseValue) (k : ℕ) (d : CaseValue) (cone : ℕ → Bool) (base : Waves) (waves after : List A) (w : A) → items ≡ vs → k < length items → NetsExist c vs →
+    length waves ≡ length c.nets → after ≡ set waves (get_or items k d).net w → h ≡ c.header → wave w ≡ constant_wave h (get_or items k d).one →
+    ((i : ℕ) → waves_of (map wave waves) i ≡ case_start c (take k vs) cone base i) → (i : ℕ) → waves_of (map wave after) i ≡ case_start c (take (k + 1) vs) cone base i
+case-more {A = A} wave c h vs items k d cone base waves after w same inside exist each sets head is so i =
+    let read : get_or vs k d ≡ get_or items k d = ap (λ (xs : List CaseValue). get_or xs k d) (sym same) in
+    let below : k < length vs = subst (λ (xs : List CaseValue). k < length xs) same inside in
+    let more : take (k + 1) vs ≡ take k vs ++ get_or items k d ∷ [] = take_more vs k d below ∙ ap (λ x. take k vs ++ x ∷ []) read in
+    let real : (get_or vs k d).net < length c.nets = exist k d below in
+    let here : (get_or items k d).net < length c.nets = subst (λ (v : CaseValue). v.net < length c.nets) read real in
+    let long : length (map wave waves) ≡ length waves = length-map waves wave in
+    ap (λ (xs : List A). waves_of (map wave xs) i) sets
+    ∙ ap (λ (ws : List (Wave Value)). waves_of ws i) (map-set wave waves (get_or items k d).net w)
+    ∙ wave-set (map wave waves) (get_or items k d).net i (wave w) (omega (arith, here, each, long))
+    ∙ (λ n. cond ((get_or items k d).net == i) (is n) (so i n))
+    ∙ (λ n. cond ((get_or items k d).net == i) (constant_wave (head n) (get_or items k d).one) (case_start c (take k vs) cone base i))
+    ∙ sym (ap (λ (xs : List CaseValue). case_start c xs cone base i) more ∙ start-more c (take k vs) (get_or items k d) cone base i)
+
+-- ---- one for each net, of the period
+
+pub past-set : (cone : List Bool) (waves : List (Wave Value)) (c : Circuit) (i : ℕ) → length cone ≤ i → length waves ≤ i → case_start c [] (λ j. get_or cone j false) (waves_of waves) i ≡ skewed [] 0
+past-set cone waves c i none past =
+    (λ k. case_wave c.header None (get_or_past cone i false none k) (waves_of waves i)) ∙ get_or_past waves i (skewed [] 0) past
+
+case-long : (h : Header) (value : Option Bool) (reached : Bool) (before : Wave Value) → length before.cells ≡ period h → length (case_wave h value reached before).cells ≡ period h
+case-long h (Some one) reached before long = length-slots (period h) (λ p. cond one One Zero)
+case-long h None true before long = length-unknown h
+case-long h None false before long = long
+
+pub case-fits : (c : Circuit) (vs : List CaseValue) (cone : ℕ → Bool) (base waves : List (Wave Value)) → FitWaves c base → length waves ≡ length c.nets → ((i : ℕ) → waves_of waves i ≡ case_start c vs cone (waves_of base) i) → FitWaves c waves
+case-fits c vs cone base waves fit each is = record {
+  each_net = each;
+  each_slot = λ i below. ap (λ (w : Wave Value). length w.cells) (is i) ∙ case-long c.header (value_of vs i) (cone i) (waves_of base i) (fit.each_slot i below);
+}
+
+-- ---- runs
+
+value-kept : (run : Run) (i : ℕ) (before : Option Bool) (vs : List CaseValue) (one : Bool) → IsInCase vs run → ((b : Bool) → before ≡ Some b → (t : ℕ) → t < run.ticks → net_signal run i t ≡ b) →
+    value_after before vs i ≡ Some one → (t : ℕ) → t < run.ticks → net_signal run i t ≡ one
+value-kept run i before [] one inside held is = held one is
+value-kept run i before (v ∷ vs) one inside held is =
+    value-kept run i (cond (v.net == i) (Some v.one) before) vs one (All-tail (λ (v : CaseValue). (t : ℕ) → t < run.ticks → net_signal run v.net t ≡ v.one) v vs inside) (next (v.net == i) refl) is
+  where
+    here : (t : ℕ) → t < run.ticks → net_signal run v.net t ≡ v.one
+    here = All-head (λ (v : CaseValue). (t : ℕ) → t < run.ticks → net_signal run v.net t ≡ v.one) v vs inside
+
+    next : (same : Bool) → (v.net == i) ≡ same → (b : Bool) → cond same (Some v.one) before ≡ Some b → (t : ℕ) → t < run.ticks → net_signal run i t ≡ b
+    next true e b is t below = let one : v.one ≡ b = cc in ap (λ n. net_signal run n t) (sym (eqb-true v.net i e)) ∙ here t below ∙ one
+    next false e b is t below = held b is t below
+
+case-permits : (c : Circuit) (run : Run) (vs : List CaseValue) (i v : ℕ) (value : Option Bool) (reached : Bool) (before : Wave Value) → 0 < period c.header → IsInCase vs run → value_of vs i ≡ value →
+    Permits values before run.ticks (net_signal run i) v → Permits values (case_wave c.header value reached before) run.ticks (net_signal run i) v
+case-permits c run vs i v (Some one) reached before some inside is permits =
+    let keeps = value-kept run i None vs one inside (λ b none. cc) is in
+    let constant = Permits-constant c.header one run.ticks v some in
+    record {
+      offset = constant.offset;
+      within = constant.within;
+      steps = λ t t1 tv tn.
+          (λ k. values.has (earlier values (constant_wave c.header one).cells t constant.offset) (keeps (t - 1) (omega arith) k) (keeps t tn k)) ∙ constant.steps t t1 tv tn;
+    }
+case-permits c run vs i v None true before some inside is permits = Permits-unknown c.header run.ticks v (net_signal run i) some
+case-permits c run vs i v None false before some inside is permits = permits
+
+pub case-permitted : (c : Circuit) (vs : List CaseValue) (cone : ℕ → Bool) (base first settled : Waves) (b r : ℕ) → 0 < period c.header → PermitInputs c b base →
+    ((i : ℕ) → first i ≡ case_start c vs cone base i) → KeepRuns c first r settled → PermitCase c vs (b + r) settled
+case-permitted c vs cone base first settled b r some inputs start keeps run isrun meets inside =
+    let later : b * reach c + 1 + r * reach c ≡ (b + r) * reach c + 1 = omega arith in
+    subst (PermitRun c run settled) later
+    (keeps run (b * reach c + 1) isrun (omega arith)
+    (λ i below. subst (λ (w : Wave Value). Permits values w run.ticks (net_signal run i) (b * reach c + 1)) (sym (start i))
+    (case-permits c run vs i (b * reach c + 1) (value_of vs i) (cone i) (base i) some inside refl (inputs run isrun meets i below))))

@@ -1,0 +1,171 @@
+-- How a search finds the nets of a cone, and that it ends with all of them.
+use Rattle.std.proofs.Common.{◌≡◌, ℕ, zero, suc, ◌+◌, ◌<◌, ◌≤◌, ◌==◌, ◌||◌, Bool, true, false, List, [], ◌∷◌, length, take, get_or, refl, sym, ap, subst, ◌∙◌, arith, inl, inr, slice_get, Option, Some, None}
+use Rattle.std.specs.List.{Contains}
+use Rattle.std.proofs.lemmas.Bool.{cases_eq, cases_lt, or_cases, or_left, or_right}
+use Rattle.std.proofs.lemmas.Bool.Decides.{nat_tests}
+use Rattle.std.proofs.lemmas.List.{get_or_default}
+use Rattle.std.proofs.lemmas.List.Elements.{Contains-get_or}
+use Rattle.std.proofs.lemmas.List.Folds.{list_any_more}
+use Rattle.std.proofs.lemmas.List.Sums.{count_by-le-length}
+use Rattle.std.proofs.lemmas.Option.{slice_get_within, slice_get_past, get_or_from_slice_get}
+use Rattle.vector_names.specs.declared.bits.Target.{Target}
+use Rattle.vector_names.specs.declared.bits.Target.TheVariants.{Net as OnNet, Constant}
+use Rattle.flat_circuit.specs.declared.case.CaseValue.{CaseValue}
+use Rattle.flat_circuit.specs.Instances.{out_at}
+use Rattle.flat_circuit.specs.Circuit.{Circuit, IsCircuit, driver_at, driver_in}
+use Rattle.fixpoint_engine.specs.Rounds.{driver, net_at}
+use Rattle.fixpoint_engine.specs.Settled.{marked_in}
+use Rattle.fixpoint_engine.specs.Work.{hears_in}
+use Rattle.fixpoint_engine.specs.Loops.{Hears}
+use Rattle.fixpoint_engine.specs.Worklist.{Queue, IsQueue, drives_in, output_net}
+use Rattle.fixpoint_engine.proofs.Listening.{hears-same}
+use Rattle.fixpoint_engine.proofs.Waiting.{marked-below}
+use Rattle.case_analysis.specs.Case.{InCone, Is_set, Hears_one, IsCone, is_set}
+use Rattle.case_analysis.specs.Found.{Extends}
+
+-- ---- one net more
+
+pub nothing-added : (set : ℕ → Bool) (old new : Queue) → new ≡ old → ((i : ℕ) → set i ≡ true → marked_in old.marks i ≡ true) → Extends set old new
+nothing-added set old new same held = subst (λ (q : Queue). Extends set old q) (sym same) (record {
+  adds = record { each_net = refl; marks = λ i. by (marked_in old.marks i) (set i) (held i) };
+  longer = omega arith;
+  before = λ k below. refl;
+})
+  where
+    by : (marked in_set : Bool) → (in_set ≡ true → marked ≡ true) → marked ≡ (marked || in_set)
+    by true in_set held = refl
+    by false true held = held refl
+    by false false held = refl
+
+pub more-added : (first second : ℕ → Bool) (old between new : Queue) → Extends first old between → Extends second between new → Extends (λ i. first i || second i) old new
+more-added first second old between new one two = record {
+  adds = record {
+    each_net = two.adds.each_net ∙ one.adds.each_net;
+    marks = λ i. two.adds.marks i ∙ ap (λ b. b || second i) (one.adds.marks i) ∙ turned (marked_in old.marks i) (first i) (second i);
+  };
+  longer = let a = one.longer in let b = two.longer in omega (arith, a, b);
+  before = λ k below. two.before k (let a = one.longer in omega (arith, a, below)) ∙ one.before k below;
+}
+  where
+    turned : (a b c : Bool) → ((a || b) || c) ≡ (a || (b || c))
+    turned true b c = refl
+    turned false b c = refl
+
+pub set-same : (set other : ℕ → Bool) (old new : Queue) → Extends set old new → ((i : ℕ) → set i ≡ other i) → Extends other old new
+set-same set other old new extends same = subst (λ (s : ℕ → Bool). Extends s old new) (λ k i. same i k) extends
+
+-- an output's net exists
+pub output-below : (c : Circuit) (k net : ℕ) → IsCircuit c → output_net (out_at c.instances k) ≡ Some net → net < length c.nets
+output-below c k net known is = elim (cases_lt net (length c.nets)) [
+  | inl below ↦ below
+  | inr past ↦ absurd (let none : driver_at c.nets net ≡ None = ap driver_in (slice_get_past c.nets net past) in
+      let some : driver_at c.nets net ≡ Some k = known.drivers.of net k (of (out_at c.instances k) is) in
+      let clash : None ≡ Some k = sym none ∙ some in cc)
+]
+  where
+    of : (out : Option Target) → output_net out ≡ Some net → out ≡ Some (OnNet net)
+    of None is = cc
+    of (Some (OnNet i)) is = let same : i ≡ net = cc in ap (λ n. Some (OnNet n)) same
+    of (Some (Constant one)) is = cc
+
+pub drives-one : (out : Option Target) (net i : ℕ) → output_net out ≡ Some net → (net == i) ≡ drives_in out i
+drives-one None net i is = cc
+drives-one (Some (OnNet n)) net i is = let same : n ≡ net = cc in ap (λ m. m == i) (sym same)
+drives-one (Some (Constant one)) net i is = cc
+
+pub drives-none : (out : Option Target) (i : ℕ) → output_net out ≡ None → drives_in out i ≡ false
+drives-none None i is = refl
+drives-none (Some (OnNet n)) i is = cc
+drives-none (Some (Constant one)) i is = refl
+
+-- ---- the search
+
+-- The nets of the case are found, all that is found is of the cone, and what listens to the first nets is found.
+pub record Closing (c : Circuit) (values : List CaseValue) (q : Queue) (next : ℕ) : Type 0 where
+  pub each_net : length q.marks ≡ length c.nets
+  pub inside : (i : ℕ) → marked_in q.marks i ≡ true → InCone c values i
+  pub set : (i : ℕ) → is_set values i ≡ true → marked_in q.marks i ≡ true
+  pub within : next ≤ length q.nets
+  pub closed : (k i : ℕ) → k < next → Hears c (net_at q.nets k) i → marked_in q.marks i ≡ true
+
+pub closing-start : (c : Circuit) (values : List CaseValue) (q : Queue) → length q.marks ≡ length c.nets → ((i : ℕ) → marked_in q.marks i ≡ is_set values i) → Closing c values q 0
+closing-start c values q each marks = record {
+  each_net = each;
+  inside = λ i marked. Is_set (sym (marks i) ∙ marked);
+  set = λ i is. marks i ∙ is;
+  within = omega arith;
+  closed = λ k i below. absurd (omega arith);
+}
+
+-- one value more of the case
+pub set-more : (values items : List CaseValue) (k : ℕ) (d : CaseValue) (old new : Queue) → items ≡ values → k < length items → Extends (λ i. (get_or items k d).net == i) old new →
+    ((i : ℕ) → marked_in old.marks i ≡ is_set (take k values) i) → (i : ℕ) → marked_in new.marks i ≡ is_set (take (k + 1) values) i
+set-more values items k d old new same below extends marks i =
+    let inside : k < length values = subst (λ (vs : List CaseValue). k < length vs) same below in
+    extends.adds.marks i ∙ ap (λ b. b || ((get_or items k d).net == i)) (marks i)
+    ∙ ap (λ (vs : List CaseValue). is_set (take k values) i || ((get_or vs k d).net == i)) same
+    ∙ sym (list_any_more (λ (v : CaseValue). v.net == i) values k d inside)
+
+turned-hears : (c : Circuit) (net i : ℕ) → hears_in (λ j. net == j) (driver c i) ≡ hears_in (λ j. j == net) (driver c i)
+turned-hears c net i = hears-same (λ j. net == j) (λ j. j == net) (driver c i) (λ j. either net j)
+  where
+    either : (m n : ℕ) → (m == n) ≡ (n == m)
+    either m n = grind (arith, nat_tests)
+
+pub found-marked : (q : Queue) (k net : ℕ) → IsQueue q → slice_get q.nets k ≡ Some net → marked_in q.marks net ≡ true
+found-marked q k net queue at =
+    (queue.are net).1 (subst (Contains q.nets) (get_or_from_slice_get q.nets k net 0 at) (Contains-get_or q.nets k 0 (slice_get_within q.nets k net at)))
+
+pub closing-more : (c : Circuit) (values : List CaseValue) (q more : Queue) (next net : ℕ) → IsQueue q → slice_get q.nets next ≡ Some net → Closing c values q next →
+    Extends (λ i. hears_in (λ j. net == j) (driver c i)) q more → Closing c values more (next + 1)
+closing-more c values q more next net queue at closing extends = record {
+  each_net = extends.adds.each_net ∙ closing.each_net;
+  inside = λ i marked. elim (or_cases (marked_in q.marks i) (hears_in (λ j. net == j) (driver c i)) (sym (extends.adds.marks i) ∙ marked)) [
+    | inl before ↦ closing.inside i before
+    | inr hears ↦ Hears_one (closing.inside net (found-marked q next net queue at)) (sym (turned-hears c net i) ∙ hears)
+  ];
+  set = λ i is. extends.adds.marks i ∙ or_left _ _ (closing.set i is);
+  within = let inside = slice_get_within q.nets next net at in let longer = extends.longer in omega (arith, inside, longer);
+  closed = λ k i below hears. extends.adds.marks i ∙ heard k i below (subst (λ n. Hears c n i) (extends.before k (reach k below)) hears);
+}
+  where
+    reach : (k : ℕ) → k < next + 1 → k < length q.nets
+    reach k below = let inside = slice_get_within q.nets next net at in omega (arith, inside, below)
+
+    heard : (k i : ℕ) → k < next + 1 → Hears c (net_at q.nets k) i → (marked_in q.marks i || hears_in (λ j. net == j) (driver c i)) ≡ true
+    heard k i below hears = elim (cases_eq k next) [
+      | inl same ↦ or_right _ _ (turned-hears c net i ∙ subst (λ n. Hears c n i) (ap (net_at q.nets) same ∙ get_or_from_slice_get q.nets next net 0 at) hears)
+      | inr other ↦ or_left _ _ (closing.closed k i (omega (arith, below, other)) hears)
+    ]
+
+pub closing-end : (c : Circuit) (values : List CaseValue) (q : Queue) (next : ℕ) → IsQueue q → slice_get q.nets next ≡ None → Closing c values q next → IsCone c values (marked_in q.marks)
+closing-end c values q next queue none closing i = (closing.inside i, all)
+  where
+    whole : length q.nets ≤ next
+    whole = elim (cases_lt next (length q.nets)) [
+      | inl below ↦ absurd (some q.nets next below none)
+      | inr past ↦ past
+    ]
+      where
+        some : (xs : List ℕ) (k : ℕ) → k < length xs → slice_get xs k ≡ None → ⊥
+        some [] k below none = omega arith
+        some (x ∷ xs) zero below none = cc
+        some (x ∷ xs) (suc k) below none = some xs k (omega arith) none
+
+    heard : (from j : ℕ) → Contains q.nets from → Hears c from j → marked_in q.marks j ≡ true
+    heard from j at hears = closing.closed at.0 j (let below = at.1 in omega (arith, below, whole)) (subst (λ n. Hears c n j) (sym (place q.nets from at)) hears)
+      where
+        place : (xs : List ℕ) (x : ℕ) → (at : Contains xs x) → net_at xs at.0 ≡ x
+        place xs x at = get_or_default xs at.0 0 x at.1 ∙ at.2
+
+    all : {j : ℕ} → InCone c values j → marked_in q.marks j ≡ true
+    all (Is_set {i = i} is) = closing.set i is
+    all (Hears_one {from = from} {i = i} inner hears) = heard from i ((queue.are from).0 (all inner)) hears
+
+-- No more are found than there are nets.
+pub found-few : (q : Queue) → IsQueue q → length q.nets ≤ length q.marks
+found-few q queue = let few = count_by-le-length (λ b. b) q.marks in let once = queue.once in omega (arith, few, once)
+
+-- a net that is found exists
+pub found-below : (c : Circuit) (q : Queue) (k net : ℕ) → IsQueue q → length q.marks ≡ length c.nets → slice_get q.nets k ≡ Some net → net < length c.nets
+found-below c q k net queue each at = let below = marked-below q.marks net (found-marked q k net queue at) in omega (arith, below, each)

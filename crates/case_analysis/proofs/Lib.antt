@@ -1,0 +1,6 @@
+pub mod Start
+pub mod Inputs
+pub mod Marked
+pub mod Coning
+pub mod Cases
+pub mod Far

@@ -1,0 +1,120 @@
+-- The waves that the base begins with: one of the period for each net, which permits each run whose inputs keep their
+-- assertions.
+use Rattle.std.proofs.Common.{◌≡◌, ℕ, ◌-◌, ◌<◌, ◌≤◌, Bool, true, false, List, [], length, map, refl, sym, ap, subst, ◌∙◌, arith, inl, inr, Option, Some, None, is_some}
+use Rattle.std.specs.List.{range_with_len}
+use Rattle.std.proofs.lemmas.Option.{slice_get_cases, slice_get_past}
+use Rattle.std.proofs.lemmas.List.{get_or_past}
+use Rattle.std.proofs.lemmas.List.FromFn.{get_or-map-range_with_len, length-map-range_with_len}
+use Rattle.std.proofs.lemmas.Bool.{cases_lt}
+use Rattle.scald_base.specs.Time.{Header, period}
+use Rattle.scald_base.specs.Signal.{Signal}
+use Rattle.scald_base.specs.declared.assertion.AssertSpec.{AssertSpec}
+use Rattle.step_values.specs.declared.value.Value.{Value}
+use Rattle.step_values.specs.declared.value.Value.TheVariants.{U}
+use Rattle.step_values.specs.Steps.{has}
+use Rattle.step_values.specs.Cell.{values}
+use Rattle.step_values.specs.Lawful.{values_lawful}
+use Rattle.wave_core.proofs.Slots.{length-slots}
+use Rattle.skew_algebra.specs.Wave.{Wave, skewed}
+use Rattle.skew_algebra.specs.Permits.{Permits}
+use Rattle.skew_algebra.proofs.Moves.{earlier-slots}
+use Rattle.skew_algebra.proofs.Normal.{uniform-normal}
+use Rattle.flat_circuit.specs.declared.net.Net.{Net}
+use Rattle.flat_circuit.specs.Circuit.{Circuit, driver_in}
+use Rattle.flat_circuit.specs.Run.{Run, net_signal}
+use Rattle.pin_waves.specs.Meets.{Meets}
+use Rattle.pin_waves.specs.Interface.{interface_wave, asserted_wave}
+use Rattle.pin_waves.proofs.Asserted.{length-asserted, length-interface, Permits-interface}
+use Rattle.fixpoint_engine.specs.Value.{Waves}
+use Rattle.fixpoint_engine.specs.Start.{unknown_wave, start_in, base_start, is_driven}
+use Rattle.fixpoint_engine.specs.Interface.{MeetsInterface, PermitRun}
+use Rattle.fixpoint_engine.specs.Settled.{waves_of, FitWaves}
+use Rattle.fixpoint_engine.proofs.Fits.{NetsFit, normal-fits}
+use Rattle.gate_eval.proofs.Fitting.{Fits}
+
+-- ---- one net
+
+pub length-unknown : (h : Header) → length (unknown_wave h).cells ≡ period h
+length-unknown h = length-slots (period h) (λ p. U)
+
+all-has : (before after : Bool) → has U before after ≡ true
+all-has before after = grind (arith)
+
+pub Permits-unknown : (h : Header) (n v : ℕ) (x : Signal) → 0 < period h → Permits values (unknown_wave h) n x v
+Permits-unknown h n v x some = record {
+  offset = 0;
+  within = omega arith;
+  steps = λ t t1 tv tn. ap (λ value. has value (x (t - 1)) (x t)) (earlier-slots values (period h) (λ p. U) t 0 some) ∙ all-has (x (t - 1)) (x t);
+}
+
+abbrev started : Header → AssertSpec → Option ℕ → Wave Value
+started h a driver = elim driver [ None ↦ interface_wave h a | Some k ↦ unknown_wave h ]
+
+length-started : (h : Header) (a : AssertSpec) (driver : Option ℕ) → length (started h a driver).cells ≡ period h
+length-started h a None = length-interface h a
+length-started h a (Some k) = length-unknown h
+
+Permits-started : (h : Header) (a : AssertSpec) (driver : Option ℕ) (n : ℕ) (x : Signal) → 0 < period h → (driver ≡ None → Meets h a n x) → Permits values (started h a driver) n x 1
+Permits-started h a None n x some meets = Permits-interface h a n x some (meets refl)
+Permits-started h a (Some k) n x some meets = Permits-unknown h n 1 x some
+
+-- ---- all nets
+
+pub start-long : (c : Circuit) (i : ℕ) → i < length c.nets → length (base_start c i).cells ≡ period c.header
+start-long c i below = elim (slice_get_cases c.nets i).1 [
+  | inl found ↦ ap (λ (o : Option Net). length (start_in c.header o).cells) found.2 ∙ length-started c.header found.0.spec found.0.driver
+  | inr past ↦ absurd (let far = past.0 in omega (arith, far))
+]
+
+-- past the last net there is no wave
+pub start-past : (c : Circuit) (i : ℕ) → length c.nets ≤ i → base_start c i ≡ skewed [] 0
+start-past c i past = elim (slice_get_cases c.nets i).1 [
+  | inl found ↦ absurd (let below = found.1 in omega (arith, below))
+  | inr none ↦ ap (start_in c.header) none.1
+]
+
+-- nor a driver
+pub undriven-past : (c : Circuit) (i : ℕ) → length c.nets ≤ i → is_driven c i ≡ false
+undriven-past c i past = ap (λ (o : Option Net). is_some (driver_in o)) (slice_get_past c.nets i past)
+
+pub start-permits : (c : Circuit) (run : Run) → 0 < period c.header → MeetsInterface c run → PermitRun c run (base_start c) 1
+start-permits c run some meets i below = elim (slice_get_cases c.nets i).1 [
+  | inl found ↦
+      subst (λ (o : Option Net). Permits values (start_in c.header o) run.ticks (net_signal run i) 1) (sym found.2)
+      (Permits-started c.header found.0.spec found.0.driver run.ticks (net_signal run i) some (meets i found.0 found.2))
+  | inr past ↦ absurd (let far = past.0 in omega (arith, far))
+]
+
+-- ---- as code has them
+
+-- the waves of a list, where past its end there is none
+pub listed-is : (f : ℕ → Wave Value) (n : ℕ) (waves : List (Wave Value)) → waves ≡ map f (range_with_len 0 n) → ((i : ℕ) → n ≤ i → f i ≡ skewed [] 0) → (i : ℕ) → waves_of waves i ≡ f i
+listed-is f n waves is none i = elim (cases_lt i n) [
+  | inl below ↦
+      ap (λ (ws : List (Wave Value)). waves_of ws i) is
+      ∙ get_or-map-range_with_len f 0 n i i (skewed [] 0) below (omega arith)
+  | inr past ↦ get_or_past waves i (skewed [] 0) (omega (arith, long, past)) ∙ sym (none i past)
+]
+  where
+    long : length waves ≡ n
+    long = ap length is ∙ length-map-range_with_len f 0 n
+
+pub start-is : (c : Circuit) (waves : List (Wave Value)) → waves ≡ map (base_start c) (range_with_len 0 (length c.nets)) → waves_of waves ≡ base_start c
+start-is c waves is = λ k i. listed-is (base_start c) (length c.nets) waves is (start-past c) i k
+
+pub start-fits : (c : Circuit) (waves : List (Wave Value)) → waves ≡ map (base_start c) (range_with_len 0 (length c.nets)) → FitWaves c waves
+start-fits c waves is = record {
+  each_net = ap length is ∙ length-map-range_with_len (base_start c) 0 (length c.nets);
+  each_slot = λ i below. ap (λ (ws : Waves). length (ws i).cells) (start-is c waves is) ∙ start-long c i below;
+}
+
+-- in normal form, too
+pub start-nets-fit : (c : Circuit) → 0 < period c.header → NetsFit c (base_start c)
+start-nets-fit c some i below = elim (slice_get_cases c.nets i).1 [
+  | inl found ↦ subst (λ (o : Option Net). Fits values (period c.header) (start_in c.header o)) (sym found.2) (started-fits c.header found.0.spec found.0.driver some)
+  | inr past ↦ absurd (let far = past.0 in omega (arith, far))
+]
+  where
+    started-fits : (h : Header) (a : AssertSpec) (driver : Option ℕ) → 0 < period h → Fits values (period h) (started h a driver)
+    started-fits h a None some = normal-fits (period h) (asserted_wave h a) some (length-asserted h a)
+    started-fits h a (Some k) some = record { long = length-unknown h; normal = uniform-normal values values_lawful (period h) U some }

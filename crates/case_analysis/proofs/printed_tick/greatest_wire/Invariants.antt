@@ -1,0 +1,9 @@
+use Rattle.std.proofs.Common.{◌≡◌, ◌≤◌, drop, max}
+use Rattle.fixpoint_engine.specs.Reach.{greatest_wire}
+use Rattle.case_analysis.proofs.printed_tick.greatest_wire.Given as goal
+
+abbrev pub invariant-loop-pin : goal.invariant-loop-pin
+invariant-loop-pin l = record {
+  is : max l.greatest (greatest_wire l.c.nets (drop l.pin-index l.pins)) ≡ greatest_wire l.c.nets l.pins;
+  bounded : l.greatest ≤ 4095;
+}

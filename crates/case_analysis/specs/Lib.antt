@@ -1,0 +1,4 @@
+pub mod Base
+pub mod Tick
+pub mod Case
+pub mod Found

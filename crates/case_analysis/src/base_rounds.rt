@@ -1,0 +1,117 @@
+//! The base of a circuit.
+
+ghost use Rattle.std.specs.Prelude.{◌≡◌, ◌≤◌, ◌+◌, ℕ, IfErr, IfOk, MatchResult, length, map};
+ghost use Rattle.std.specs.List.{range_with_len};
+ghost use Rattle.skew_algebra.specs.Wave.{skewed};
+ghost use Rattle.flat_circuit.specs.Instances.{outputs};
+ghost use Rattle.fixpoint_engine.specs.End.{EndsFor};
+ghost use Rattle.fixpoint_engine.specs.Loops.{HasNoLoop};
+ghost use Rattle.fixpoint_engine.specs.Settled.{FitWaves, marked_in, waves_of};
+ghost use Rattle.fixpoint_engine.specs.Start.{base_start, default_limit, is_driven, start_in, unknown_wave};
+ghost use Rattle.fixpoint_engine.specs.Work.{work_to};
+ghost use Rattle.case_analysis.specs.Base.{IsBase, PermitInputs, base_round};
+
+use crate::parts::{instance_of, net_of};
+use fixpoint_engine::{EngineEnd, NetSet, Settled, Waves, settle};
+use flat_circuit::{Circuit, Net};
+use pin_waves::interface_wave;
+use scald_base::{Header, List, NoMemory};
+use skew_algebra::Skewed;
+use std::alloc::Global;
+use step_values::Value;
+use wave_core::CyclicWave;
+
+/// The wave of a net of which nothing is known.
+pub fn unknown_wave<W: CyclicWave<Item = Value>>(
+    alloc: Global,
+    h: &Header,
+) -> Result<Skewed<W>, NoMemory>
+    ensures { IfOk result (λ s. skewed (W.cells s.wave) s.skew ≡ unknown_wave h.now) }
+{
+    let wave = W::uniform(alloc, h.period(), Value::U)?;
+    Ok(Skewed { wave, skew: 0 })
+}
+
+/// The wave that a net begins with: that of its assertion, or nothing known where it is driven.
+fn start_wave<W: CyclicWave<Item = Value>>(
+    alloc: Global,
+    h: &Header,
+    net: &Net,
+) -> Result<Skewed<W>, NoMemory>
+    ensures { IfOk result (λ s. skewed (W.cells s.wave) s.skew ≡ start_in h.now (Some net.now)) }
+{
+    match net.driver {
+        None => interface_wave(alloc, &net.spec, h),
+        Some(_) => unknown_wave(alloc, h),
+    }
+}
+
+/// The waves that the base begins with.
+fn start_waves<W: CyclicWave<Item = Value>>(
+    alloc: Global,
+    c: &Circuit,
+) -> Result<Waves<W>, NoMemory>
+    ensures { IfOk result (λ waves. map (λ s. skewed (W.cells s.wave) s.skew) waves ≡ map (base_start c.now) (range_with_len 0 (length c.now.nets))) }
+{
+    let mut waves = List::new(alloc);
+    for i in 0..c.net_count() {
+        let wave = start_wave(alloc, c.header(), net_of(c, i))?;
+        waves.push(wave)?;
+    }
+    Ok(waves)
+}
+
+/// The nets that are driven.
+fn driven_nets(alloc: Global, c: &Circuit) -> Result<NetSet, NoMemory>
+    ensures each_net { IfOk result (λ set. length set ≡ length c.now.nets) }
+    ensures driven { IfOk result (λ set. (i : ℕ) → marked_in set i ≡ is_driven c.now i) }
+{
+    let mut driven = NetSet::new(alloc, c.net_count())?;
+    for net in 0..c.net_count() {
+        if net_of(c, net).driver.is_some() {
+            driven.add(net);
+        }
+    }
+    Ok(driven)
+}
+
+/// The most rounds where no other limit is asked: one for each instance with an output, four for each
+/// tick of the period, and 16.
+pub fn default_limit(c: &Circuit) -> u32
+    ensures is { result ≡ default_limit c.now }
+    ensures bounded { result ≤ 81936 }
+{
+    c.known();
+    let mut outputs = 0;
+    for k in 0..c.instance_count() {
+        if instance_of(c, k).kind.has_output() {
+            outputs += 1;
+        }
+    }
+    outputs + 4 * u32::from(c.header().period()) + 16
+}
+
+/// The base: from the assertions of the nets that nothing drives, and nothing known of the others, rounds
+/// over all driven nets until a round is as the one before. The waves at rest permit every run whose
+/// inputs keep their assertions, `reach` ticks a round later. `Unsettled` comes exactly where no round up
+/// to `limit` is as the next one: never where no net is reached from itself through listening pins and
+/// the limit is not below the number of instances with an output.
+pub fn base<W: CyclicWave<Item = Value>>(
+    alloc: Global,
+    c: &Circuit,
+    limit: u32,
+) -> Result<Settled<W>, EngineEnd>
+    ensures rest { IfOk result (λ s. IsBase c.now limit s.rounds (waves_of (map (λ w. skewed (W.cells w.wave) w.skew) s.waves))) }
+    ensures within { IfOk result (λ s. s.rounds ≤ limit) }
+    ensures fit { IfOk result (λ s. FitWaves c.now (map (λ w. skewed (W.cells w.wave) w.skew) s.waves)) }
+    ensures work { IfOk result (λ s. s.evals ≡ work_to c.now (is_driven c.now) (base_round c.now) (s.rounds + 1)) }
+    ensures sound { IfOk result (λ s. PermitInputs c.now s.rounds (waves_of (map (λ w. skewed (W.cells w.wave) w.skew) s.waves))) }
+    ensures unsettled { IfErr result (EndsFor c.now.order (base_round c.now) limit) }
+    ensures loopless { HasNoLoop c.now → outputs c.now.instances ≤ limit → MatchResult result (λ s. s.rounds ≤ outputs c.now.instances) (λ e. e ≡ EngineEnd.NoMemory) }
+{
+    c.known();
+    c.header().known();
+    let start = start_waves(alloc, c)?;
+    let active = driven_nets(alloc, c)?;
+    settle(alloc, c, &start, &active, limit)
+}

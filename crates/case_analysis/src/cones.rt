@@ -1,0 +1,138 @@
+//! Cones: the nets that a case may reach.
+
+ghost use Rattle.std.specs.Prelude.{◌≡◌, ◌<◌, ◌==◌, [], IfOk, OnOk, false, length, replicate, slice_get};
+ghost use Rattle.flat_circuit.specs.Instances.{out_at, readers_of};
+ghost use Rattle.fixpoint_engine.specs.Rounds.{driver};
+ghost use Rattle.fixpoint_engine.specs.Settled.{marked_in};
+ghost use Rattle.fixpoint_engine.specs.Work.{hears_in};
+ghost use Rattle.fixpoint_engine.specs.Worklist.{IsQueue, drives_in, output_net};
+ghost use Rattle.case_analysis.specs.Case.{IsCone, NetsExist};
+ghost use Rattle.case_analysis.specs.Found.{Extends};
+
+use fixpoint_engine::NetSet;
+use flat_circuit::{Case, Circuit, Target};
+use scald_base::NoMemory;
+use std::alloc::Global;
+use std::marker::Model;
+
+/// Nets that were found, each once.
+#[derive(Drop)]
+struct Found {
+    nets: Vec<u32>,
+    /// Which nets stand in the list.
+    marks: NetSet,
+}
+
+impl Model for Found {
+    ghost use Rattle.fixpoint_engine.specs.Worklist.{Queue, IsQueue};
+
+    ghost Value = { Queue };
+
+    ghost view = { λ f. record { nets = f.nets.items; marks = f.marks } };
+
+    ghost invariant = { λ f. IsQueue (record { nets = f.nets.items; marks = f.marks }) };
+}
+
+impl Found {
+    /// None of so many nets.
+    fn new(alloc: Global, nets: u32) -> Result<Found, NoMemory>
+        ensures { IfOk result (λ found. found.marks ≡ replicate nets false) }
+    {
+        Ok(Found {
+            nets: Vec::new(alloc),
+            marks: NetSet::new(alloc, nets)?,
+        })
+    }
+
+    /// The net that was found so many nets after the first.
+    fn at(&self, place: usize) -> Option<u32>
+        ensures is { result ≡ slice_get self.now.nets place }
+        ensures once { IsQueue self.now }
+    {
+        self.nets.get(place).copied()
+    }
+
+    /// Puts a net behind the others, if it is not there yet.
+    fn add(&mut self, net: u32) -> Result<(), NoMemory>
+        requires { net < length self.old.marks }
+        ensures { OnOk result (Extends (λ i. net == i) self.old self.new) }
+    {
+        if !self.marks.has(net) {
+            self.nets.push(net)?;
+            self.marks.add(net);
+        }
+        Ok(())
+    }
+
+    /// Puts the net that an instance drives behind the others.
+    fn add_output(&mut self, c: &Circuit, instance: u32) -> Result<(), NoMemory>
+        requires { length self.old.marks ≡ length c.now.nets }
+        ensures { OnOk result (Extends (drives_in (out_at c.now.instances instance)) self.old self.new) }
+    {
+        c.known();
+        match output_of(c, instance) {
+            Some(net) => self.add(net),
+            None => Ok(()),
+        }
+    }
+
+    /// Puts the nets whose drivers listen to this one behind the others.
+    fn add_hearers(&mut self, c: &Circuit, net: u32) -> Result<(), NoMemory>
+        requires each_net { length self.old.marks ≡ length c.now.nets }
+        requires exists { net < length c.now.nets }
+        ensures { OnOk result (Extends (λ i. hears_in (λ j. net == j) (driver c.now i)) self.old self.new) }
+    {
+        c.known();
+        for reader in readers_of(c, net) {
+            self.add_output(c, *reader)?;
+        }
+        Ok(())
+    }
+
+    /// Which nets were found.
+    fn into_set(self) -> NetSet
+        ensures { result ≡ self.marks }
+    {
+        self.marks
+    }
+}
+
+/// The net that an instance drives.
+fn output_of(c: &Circuit, instance: u32) -> Option<u32>
+    ensures { result ≡ output_net (out_at c.now.instances instance) }
+{
+    match c.instance(instance)?.out? {
+        Target::Net(net) => Some(net),
+        Target::Constant(_) => None,
+    }
+}
+
+/// The instances with an output that listen to a net.
+fn readers_of(c: &Circuit, net: u32) -> &[u32]
+    requires { net < length c.now.nets }
+    ensures { result.now ≡ readers_of c.now.instances net }
+{
+    match c.readers(net) {
+        Some(readers) => readers,
+        None => unreachable!(),
+    }
+}
+
+/// The nets that a case may reach: its own, and each whose driver has a listening pin on one of them,
+/// and no other. It costs what the readers of these nets cost.
+pub fn cone(alloc: Global, c: &Circuit, case: &Case) -> Result<NetSet, NoMemory>
+    requires { NetsExist c.now case.now }
+    ensures each_net { IfOk result (λ set. length set ≡ length c.now.nets) }
+    ensures is { IfOk result (λ set. IsCone c.now case.now (marked_in set)) }
+{
+    let mut found = Found::new(alloc, c.net_count())?;
+    for value in case.as_slice() {
+        found.add(value.net)?;
+    }
+    let mut next = 0;
+    'nets: while let Some(net) = found.at(next) {
+        found.add_hearers(c, net)?;
+        next += 1;
+    }
+    Ok(found.into_set())
+}

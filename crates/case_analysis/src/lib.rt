@@ -1,0 +1,20 @@
+//! The base of a circuit: the waves at rest of rounds that begin with the inputs alone, and nothing known
+//! of any net that is driven; and the tick from which on they permit every run.
+//!
+//! The layer above calls [`base`] for the waves, and [`reach`] and [`tick`] for that tick. `specs/Base`
+//! says which runs the waves permit, and `specs/Tick` from which tick on checks may rest on them.
+#![tactic(auto)]
+
+mod base_rounds;
+mod case_rounds;
+mod cones;
+mod parts;
+mod printed_tick;
+
+pub use base_rounds::{base, default_limit};
+pub use case_rounds::case_waves;
+pub use cones::cone;
+pub use printed_tick::{reach, tick};
+
+#[cfg(test)]
+mod tests;

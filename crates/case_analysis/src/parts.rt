@@ -1,0 +1,27 @@
+//! The nets and instances of a circuit that are known to be there.
+
+ghost use Rattle.std.specs.Prelude.{◌≡◌, ◌<◌, length, slice_get};
+
+use flat_circuit::{Circuit, Instance, Net};
+
+/// The net of a number.
+pub fn net_of(c: &Circuit, net: u32) -> &Net
+    requires { net < length c.now.nets }
+    ensures { slice_get c.now.nets net ≡ Some result.now }
+{
+    match c.net(net) {
+        Some(found) => found,
+        None => unreachable!(),
+    }
+}
+
+/// The instance of a number.
+pub fn instance_of(c: &Circuit, instance: u32) -> &Instance
+    requires { instance < length c.now.instances }
+    ensures { slice_get c.now.instances instance ≡ Some result.now }
+{
+    match c.instance(instance) {
+        Some(found) => found,
+        None => unreachable!(),
+    }
+}
