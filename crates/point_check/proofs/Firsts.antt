@@ -1,0 +1,82 @@
+-- The first and the last of some numbers.
+use Rattle.std.proofs.Common.{inl, inr, ◌≡◌, ℕ, zero, suc, ◌+◌, ◌<◌, ◌≤◌, Bool, true, false, cond, refl, sym, ap, ◌∙◌, arith, Option, Some, None}
+use Rattle.std.specs.Option.{option_or}
+use Rattle.std.proofs.lemmas.Bool.{cases_eq}
+use Rattle.gate_eval.specs.Hold.{first_some}
+use Rattle.point_check.specs.Point.{last_to}
+
+-- none from i on before j, and j
+pub first_some-from : {A : Type 0} (f : ℕ → Option A) (n i j : ℕ) (x : A) → ((k : ℕ) → i ≤ k → k < j → f k ≡ None) → i ≤ j → j < i + n → f j ≡ Some x →
+    first_some f n i ≡ Some x
+first_some-from f zero i j x before after within here = absurd (omega arith)
+first_some-from f (suc n) i j x before after within here = elim (cases_eq i j) [
+  | inl e ↦ ap (λ o. option_or o (first_some f n (i + 1))) (ap f e ∙ here)
+  | inr ne ↦ ap (λ o. option_or o (first_some f n (i + 1))) (before i (omega arith) (omega arith))
+      ∙ first_some-from f n (i + 1) j x (λ k above below. before k (omega arith) below) (omega arith) (omega arith) here
+]
+
+pub first_some-beyond : {A : Type 0} (f : ℕ → Option A) (n i : ℕ) → ((k : ℕ) → i ≤ k → k < i + n → f k ≡ None) → first_some f n i ≡ None
+first_some-beyond f zero i nowhere = refl
+first_some-beyond f (suc n) i nowhere =
+    ap (λ o. option_or o (first_some f n (i + 1))) (nowhere i (omega arith) (omega arith))
+    ∙ first_some-beyond f n (i + 1) (λ k above below. nowhere k (omega arith) (omega arith))
+
+-- what is found is found somewhere
+pub record IsFoundAt {A : Type 0} (f : ℕ → Option A) (n i : ℕ) (x : A) : Type 0 where
+  pub at : ℕ
+  pub above : i ≤ at
+  pub below : at < i + n
+  pub is : f at ≡ Some x
+
+found-here : {A : Type 0} (f : ℕ → Option A) (n i : ℕ) (x y : A) → f i ≡ Some y → Some y ≡ Some x → IsFoundAt f (suc n) i x
+found-here f n i x y is same = record { at = i; above = omega arith; below = omega arith; is = is ∙ same }
+
+found-later : {A : Type 0} (f : ℕ → Option A) (n i : ℕ) (x : A) → IsFoundAt f n (i + 1) x → IsFoundAt f (suc n) i x
+found-later f n i x later =
+    let above = later.above in
+    let below = later.below in
+    record { at = later.at; above = omega (arith, above); below = omega (arith, below); is = later.is }
+
+found-either : {A : Type 0} (f : ℕ → Option A) (n i : ℕ) (x : A) (o : Option A) → f i ≡ o → option_or o (first_some f n (i + 1)) ≡ Some x →
+    (first_some f n (i + 1) ≡ Some x → IsFoundAt f n (i + 1) x) → IsFoundAt f (suc n) i x
+found-either f n i x (Some y) is e later = found-here f n i x y is e
+found-either f n i x None is e later = found-later f n i x (later e)
+
+pub first_some-is : {A : Type 0} (f : ℕ → Option A) (n i : ℕ) (x : A) → first_some f n i ≡ Some x → IsFoundAt f n i x
+first_some-is f zero i x e = cc
+first_some-is f (suc n) i x e = found-either f n i x (f i) refl e (λ later. first_some-is f n (i + 1) x later)
+
+-- ---- the last
+
+pub last_to-at : (test : ℕ → Bool) (n j : ℕ) → 1 ≤ j → j ≤ n → ((k : ℕ) → j < k → k ≤ n → test k ≡ false) → test j ≡ true → last_to test n ≡ Some j
+last_to-at test zero j one most above here = absurd (omega arith)
+last_to-at test (suc n) j one most above here = elim (cases_eq j (suc n)) [
+  | inl e ↦ ap (λ b. cond b (Some (suc n)) (last_to test n)) (ap test (sym e) ∙ here) ∙ ap (λ (k : ℕ). Some k) (sym e)
+  | inr ne ↦ ap (λ b. cond b (Some (suc n)) (last_to test n)) (above (suc n) (omega arith) (omega arith))
+      ∙ last_to-at test n j one (omega arith) (λ k over below. above k over (omega arith)) here
+]
+
+pub last_to-nowhere : (test : ℕ → Bool) (n : ℕ) → ((k : ℕ) → 1 ≤ k → k ≤ n → test k ≡ false) → last_to test n ≡ None
+last_to-nowhere test zero nowhere = refl
+last_to-nowhere test (suc n) nowhere =
+    ap (λ b. cond b (Some (suc n)) (last_to test n)) (nowhere (suc n) (omega arith) (omega arith))
+    ∙ last_to-nowhere test n (λ k one below. nowhere k one (omega arith))
+
+-- where one passes, the last that does is no earlier
+pub record IsNoEarlier (j : ℕ) (o : Option ℕ) : Type 0 where
+  pub last : ℕ
+  pub is : o ≡ Some last
+  pub later : j ≤ last
+
+later-either : (test : ℕ → Bool) (n j : ℕ) (b : Bool) → test (suc n) ≡ b → j ≤ suc n → test j ≡ true → (j ≤ n → IsNoEarlier j (last_to test n)) → IsNoEarlier j (last_to test (suc n))
+later-either test n j true e most here before = record { last = suc n; is = ap (λ b. cond b (Some (suc n)) (last_to test n)) e; later = most }
+later-either test n j false e most here before = elim (cases_eq j (suc n)) [
+  | inl same ↦ let up : test (suc n) ≡ true = ap test (sym same) ∙ here in absurd (cc (up, e))
+  | inr ne ↦
+      let rest = before (omega arith) in
+      record { last = rest.last; is = ap (λ b. cond b (Some (suc n)) (last_to test n)) e ∙ rest.is; later = rest.later }
+]
+
+pub last_to-later : (test : ℕ → Bool) (n j : ℕ) → 1 ≤ j → j ≤ n → test j ≡ true → IsNoEarlier j (last_to test n)
+last_to-later test zero j one most here = absurd (omega arith)
+last_to-later test (suc n) j one most here = later-either test n j (test (suc n)) refl most here (λ less. last_to-later test n j one less here)

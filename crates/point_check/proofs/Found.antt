@@ -1,0 +1,123 @@
+-- What the search for a checker's fault has found, step by step.
+use Rattle.std.proofs.Common.{◌≡◌, ℕ, ◌+◌, ◌<◌, ◌≤◌, Bool, true, false, cond, sym, ap, ◌∙◌, arith, Option, Some, None}
+use Rattle.std.specs.Prelude.{is_some}
+use Rattle.std.specs.Option.{option_map}
+use Rattle.std.proofs.lemmas.Bool.Decides.{nat_tests}
+use Rattle.step_values.specs.declared.value.Value.{Value}
+use Rattle.step_values.specs.Steps.{has, is_quiet, letter_of}
+use Rattle.flat_circuit.specs.declared.kind.Kind.{Kind}
+use Rattle.flat_circuit.specs.declared.fault.PointKind.{PointKind}
+use Rattle.flat_circuit.specs.declared.fault.PointKind.TheVariants.{Setup, High, Hold}
+use Rattle.flat_circuit.specs.declared.fault.Fault.{Fault}
+use Rattle.flat_circuit.specs.declared.fault.Fault.TheVariants.{Point}
+use Rattle.gate_eval.proofs.Found.{first_some-at, first_some-nowhere}
+use Rattle.point_check.specs.declared.window.Window.{Window}
+use Rattle.point_check.specs.Window.{Folds, places, slot_at, kind_at, mover_at, first_mover, fault_at, window_fault}
+use Rattle.point_check.specs.Point.{first_low, last_fall, falls_somewhere, to_last_fall, all_round, high_window_to, high_window, window_of, edge_fault, first_fault}
+use Rattle.point_check.proofs.Firsts.{first_some-from, first_some-beyond, last_to-at, last_to-nowhere}
+
+-- ---- one place of a window
+
+pub no_mover : (p : ℕ) (input : Folds) (w : Window) (t place : ℕ) (v : Value) → input (slot_at p w t place) ≡ v → is_quiet v ≡ true → mover_at p input w t place ≡ None
+no_mover p input w t place v is quiet = ap (λ b. cond b None (Some place)) (ap is_quiet is ∙ quiet)
+
+pub a_mover : (p : ℕ) (input : Folds) (w : Window) (t place : ℕ) (v : Value) → input (slot_at p w t place) ≡ v → is_quiet v ≡ false → mover_at p input w t place ≡ Some place
+a_mover p input w t place v is moves = ap (λ b. cond b None (Some place)) (ap is_quiet is ∙ moves)
+
+pub first_mover-here : (p : ℕ) (input : Folds) (w : Window) (t place : ℕ) → ((k : ℕ) → k < place → mover_at p input w t k ≡ None) → place < places w → mover_at p input w t place ≡ Some place →
+    Some place ≡ first_mover p input w t
+first_mover-here p input w t place before below here =
+    sym (first_some-at (mover_at p input w t) (places w) 0 place place before (omega arith) (omega arith) here)
+
+pub first_mover-nowhere : (p : ℕ) (input : Folds) (w : Window) (t : ℕ) → ((k : ℕ) → k < places w → mover_at p input w t k ≡ None) → None ≡ first_mover p input w t
+first_mover-nowhere p input w t nowhere = sym (first_some-nowhere (mover_at p input w t) (places w) 0 (λ k below. nowhere k (omega arith)))
+
+-- ---- the fault of an edge
+
+pub kind-setup : (w : Window) (place : ℕ) → place < w.setup → Setup ≡ kind_at w place
+kind-setup w place l = grind (arith, nat_tests)
+
+pub kind-high : (w : Window) (place : ℕ) → w.setup ≤ place → place < w.setup + w.high → High ≡ kind_at w place
+kind-high w place l m = grind (arith, nat_tests)
+
+pub kind-hold : (w : Window) (place : ℕ) → w.setup ≤ place → w.setup + w.high ≤ place → Hold ≡ kind_at w place
+kind-hold w place l m = grind (arith, nat_tests)
+
+pub same_fault : (p k : ℕ) (input : Folds) (w : Window) (t place : ℕ) (kind : PointKind) (slot : ℕ) (v : Value) (letter : ℕ) → kind ≡ kind_at w place → slot ≡ slot_at p w t place →
+    input slot ≡ v → letter ≡ letter_of v → Point kind k t slot letter ≡ fault_at p k input w t place
+same_fault p k input w t place kind slot v letter of at is says =
+    let value : letter ≡ letter_of (input (slot_at p w t place)) = says ∙ ap letter_of (sym is ∙ ap input at) in
+    λ i. Point (of i) k t (at i) (value i)
+
+pub no_window_fault : (p k : ℕ) (input : Folds) (w : Window) (t : ℕ) → None ≡ first_mover p input w t → None ≡ window_fault p k input t (Some w)
+no_window_fault p k input w t none = ap (option_map (fault_at p k input w t)) none
+
+pub a_window_fault : (p k : ℕ) (input : Folds) (w : Window) (t place : ℕ) (fault : Fault) → Some place ≡ first_mover p input w t → fault ≡ fault_at p k input w t place →
+    Some fault ≡ window_fault p k input t (Some w)
+a_window_fault p k input w t place fault first is = ap (λ (f : Fault). Some f) is ∙ ap (option_map (fault_at p k input w t)) first
+
+-- ---- the time while a clock may be high
+
+pub stays_high : (clock : Folds) (t j : ℕ) (v : Value) → clock (t + j) ≡ v → has v true true ≡ true → cond (has (clock (t + j)) true true) None (Some j) ≡ None
+stays_high clock t j v is high = ap (λ b. cond b None (Some j)) (ap (λ (u : Value). has u true true) is ∙ high)
+
+pub gets_low : (clock : Folds) (t j : ℕ) (v : Value) → clock (t + j) ≡ v → has v true true ≡ false → cond (has (clock (t + j)) true true) None (Some j) ≡ Some j
+gets_low clock t j v is low = ap (λ b. cond b None (Some j)) (ap (λ (u : Value). has u true true) is ∙ low)
+
+pub first_low-here : (p : ℕ) (clock : Folds) (t j : ℕ) → ((k : ℕ) → 1 ≤ k → k < j → cond (has (clock (t + k)) true true) None (Some k) ≡ None) → 1 ≤ j → j < p + 1 →
+    cond (has (clock (t + j)) true true) None (Some j) ≡ Some j → Some j ≡ first_low p clock t
+first_low-here p clock t j before one below here =
+    sym (first_some-from (λ k. cond (has (clock (t + k)) true true) None (Some k)) p 1 j j before one (omega arith) here)
+
+pub first_low-nowhere : (p : ℕ) (clock : Folds) (t : ℕ) → ((k : ℕ) → 1 ≤ k → k < p + 1 → cond (has (clock (t + k)) true true) None (Some k) ≡ None) → None ≡ first_low p clock t
+first_low-nowhere p clock t nowhere =
+    sym (first_some-beyond (λ k. cond (has (clock (t + k)) true true) None (Some k)) p 1 (λ k one below. nowhere k one (omega arith)))
+
+pub last_fall-here : (clock : Folds) (t m j : ℕ) → 1 ≤ j → j ≤ m → ((k : ℕ) → j < k → k ≤ m → has (clock (t + k)) true false ≡ false) → has (clock (t + j)) true false ≡ true →
+    Some j ≡ last_fall clock t m
+last_fall-here clock t m j one most above here = sym (last_to-at (λ k. has (clock (t + k)) true false) m j one most above here)
+
+pub last_fall-nowhere : (clock : Folds) (t m : ℕ) → ((k : ℕ) → 1 ≤ k → k ≤ m → has (clock (t + k)) true false ≡ false) → None ≡ last_fall clock t m
+last_fall-nowhere clock t m nowhere = sym (last_to-nowhere (λ k. has (clock (t + k)) true false) m nowhere)
+
+pub falls-here : (p : ℕ) (clock : Folds) (s : ℕ) → ((k : ℕ) → k < s → has (clock k) true false ≡ false) → s < p → has (clock s) true false ≡ true → true ≡ falls_somewhere p clock
+falls-here p clock s before below here =
+    sym (ap is_some (first_some-at (λ k. cond (has (clock k) true false) (Some k) None) p 0 s s
+    (λ k l. ap (λ b. cond b (Some k) None) (before k l)) (omega arith) (omega arith) (ap (λ b. cond b (Some s) None) here)))
+
+pub falls-nowhere : (p : ℕ) (clock : Folds) → ((k : ℕ) → k < p → has (clock k) true false ≡ false) → false ≡ falls_somewhere p clock
+falls-nowhere p clock nowhere =
+    sym (ap is_some (first_some-nowhere (λ k. cond (has (clock k) true false) (Some k) None) p 0
+    (λ k below. ap (λ b. cond b (Some k) None) (nowhere k (omega arith)))))
+
+-- ---- its window
+
+pub window-to_last : (p : ℕ) (clock : Folds) (limits : ℕ × ℕ) (t m : ℕ) (o : Option ℕ) → Some m ≡ first_low p clock t → o ≡ last_fall clock t m →
+    to_last_fall limits o ≡ high_window p clock limits t
+window-to_last p clock limits t m o low last = ap (to_last_fall limits) last ∙ ap (high_window_to p clock limits t) low
+
+pub window-all_round : (p : ℕ) (clock : Folds) (limits : ℕ × ℕ) (t : ℕ) (falls : Bool) → None ≡ first_low p clock t → falls ≡ falls_somewhere p clock →
+    all_round p limits falls ≡ high_window p clock limits t
+window-all_round p clock limits t falls low is = ap (all_round p limits) is ∙ ap (high_window_to p clock limits t) low
+
+-- ---- all edges
+
+pub no_edge : (kind : Kind) (p k : ℕ) (clock input : Folds) (limits : ℕ × ℕ) (t : ℕ) (v : Value) → clock t ≡ v → has v false true ≡ false → None ≡ edge_fault kind p k clock input limits t
+no_edge kind p k clock input limits t v is low =
+    sym (ap (λ b. cond b (window_fault p k input t (window_of kind p clock limits t)) None) (ap (λ (u : Value). has u false true) is ∙ low))
+
+pub an_edge : (kind : Kind) (p k : ℕ) (clock input : Folds) (limits : ℕ × ℕ) (t : ℕ) (v : Value) (window : Option Window) (found : Option Fault) → clock t ≡ v → has v false true ≡ true →
+    window ≡ window_of kind p clock limits t → found ≡ window_fault p k input t window → found ≡ edge_fault kind p k clock input limits t
+an_edge kind p k clock input limits t v window found is rises of so =
+    so ∙ ap (window_fault p k input t) of
+    ∙ sym (ap (λ b. cond b (window_fault p k input t (window_of kind p clock limits t)) None) (ap (λ (u : Value). has u false true) is ∙ rises))
+
+pub first_fault-here : (kind : Kind) (p k : ℕ) (clock input : Folds) (limits : ℕ × ℕ) (t : ℕ) (fault : Fault) → ((s : ℕ) → s < t → edge_fault kind p k clock input limits s ≡ None) → t < p →
+    Some fault ≡ edge_fault kind p k clock input limits t → Some fault ≡ first_fault kind p k clock input limits
+first_fault-here kind p k clock input limits t fault before below here =
+    sym (first_some-at (edge_fault kind p k clock input limits) p 0 t fault before (omega arith) (omega arith) (sym here))
+
+pub first_fault-nowhere : (kind : Kind) (p k : ℕ) (clock input : Folds) (limits : ℕ × ℕ) → ((s : ℕ) → s < p → edge_fault kind p k clock input limits s ≡ None) →
+    None ≡ first_fault kind p k clock input limits
+first_fault-nowhere kind p k clock input limits nowhere =
+    sym (first_some-nowhere (edge_fault kind p k clock input limits) p 0 (λ s below. nowhere s (omega arith)))

@@ -1,0 +1,140 @@
+-- Faults gathered one number after the other.
+use Rattle.std.proofs.Common.{◌≡◌, ℕ, Bool, true, zero, suc, ◌+◌, ◌<◌, ◌≤◌, List, map, [], ◌∷◌, ◌++◌, length, get_or, take, refl, sym, ap, subst, ◌∙◌, arith, append_assoc, add-one, slice_get, Option, Some, None}
+use Rattle.std.specs.Prelude.{filter_map}
+use Rattle.std.specs.List.{cons_option, range_with_len}
+use Rattle.std.specs.Option.{option_map, option_to_list}
+use Rattle.std.proofs.lemmas.List.{take_more, get_or-map, length-map}
+use Rattle.std.proofs.lemmas.Option.{slice_get_within, get_or_from_slice_get}
+use Rattle.std.proofs.lemmas.List.Elements.{filter_map-append, All-get_or}
+use Rattle.scald_base.specs.Time.{Header, period}
+use Rattle.scald_base.specs.Fitting.{Fits}
+use Rattle.step_values.specs.declared.value.Value.{Value}
+use Rattle.step_values.specs.Cell.{values}
+use Rattle.skew_algebra.specs.Wave.{Wave, skewed, folded}
+use Rattle.flat_circuit.specs.declared.kind.Kind.{Kind}
+use Rattle.flat_circuit.specs.declared.kind.Kind.TheVariants.{SetupHold, RiseFall}
+use Rattle.flat_circuit.specs.declared.instance.Pin.{Pin}
+use Rattle.flat_circuit.specs.declared.instance.Instance.{Instance}
+use Rattle.flat_circuit.specs.declared.net.Net.{Net}
+use Rattle.flat_circuit.specs.declared.fault.Fault.{Fault}
+use Rattle.flat_circuit.specs.Kind.{PinsFit, LimitsFit}
+use Rattle.flat_circuit.specs.Circuit.{Circuit, IsCircuit}
+use Rattle.gate_eval.specs.Hold.{hazard}
+use Rattle.gate_eval.specs.Instance.{wave_of_pin}
+use Rattle.fixpoint_engine.specs.Value.{Waves, pin_wave, pin_waves, marked_pin}
+use Rattle.fixpoint_engine.specs.Settled.{FitWaves, waves_of}
+use Rattle.point_check.specs.Folds.{read}
+use Rattle.point_check.specs.Point.{first_fault, checker_fault}
+use Rattle.point_check.specs.Assertion.{is_held}
+use Rattle.point_check.proofs.ReadSlots.{read-folded, length-folded}
+use Rattle.point_check.specs.Faults.{checks_points, hazard_at, mark_fault, fault_by_kind, fault_of, instance_fault, fault_if_held, fault_of_net, net_fault}
+
+range-next : (a n : ℕ) → range_with_len a (suc n) ≡ range_with_len a n ++ (a + n) ∷ []
+range-next a zero = ap (λ (k : ℕ). k ∷ []) (omega arith)
+range-next a (suc n) =
+    let same : a + 1 + n ≡ a + suc n = omega arith in
+    ap (λ (l : List ℕ). a ∷ l) (range-next (a + 1) n ∙ ap (λ (k : ℕ). range_with_len (a + 1) n ++ k ∷ []) same)
+
+one-found : (o : Option Fault) → cons_option o [] ≡ option_to_list o
+one-found None = refl
+one-found (Some f) = refl
+
+found-next : (find : ℕ → Option Fault) (xs : List ℕ) (x : ℕ) → filter_map find (xs ++ x ∷ []) ≡ filter_map find xs ++ option_to_list (find x)
+found-next find xs x = filter_map-append find xs (x ∷ []) ∙ ap (λ (l : List Fault). filter_map find xs ++ l) (one-found (find x))
+
+pub range-found : (find : ℕ → Option Fault) (n : ℕ) (faults more : List Fault) (found : Option Fault) → faults ≡ filter_map find (range_with_len 0 n) → found ≡ find n → more ≡ faults ++ option_to_list found →
+    more ≡ filter_map find (range_with_len 0 (n + 1))
+range-found find n faults more found so_far is e =
+    let same : 0 + n ≡ n = omega arith in
+    e ∙ (λ i. so_far i ++ option_to_list (is i)) ∙ sym (found-next find (range_with_len 0 n) n)
+    ∙ ap (filter_map find) (ap (λ (k : ℕ). range_with_len 0 n ++ k ∷ []) (sym same) ∙ sym (range-next 0 n) ∙ ap (range_with_len 0) (sym (add-one n)))
+
+pub order-found : (find : ℕ → Option Fault) (order : List ℕ) (place number : ℕ) (before faults more : List Fault) (found : Option Fault) → place < length order → number ≡ get_or order place 0 →
+    faults ≡ before ++ filter_map find (take place order) → found ≡ find number → more ≡ faults ++ option_to_list found → more ≡ before ++ filter_map find (take (place + 1) order)
+order-found find order place number before faults more found below named so_far is e =
+    e ∙ (λ i. so_far i ++ option_to_list ((is ∙ ap find named) i))
+    ∙ append_assoc before (filter_map find (take place order)) (option_to_list (find (get_or order place 0)))
+    ∙ ap (λ (l : List Fault). before ++ l) (sym (found-next find (take place order) (get_or order place 0)) ∙ ap (filter_map find) (sym (take_more order place 0 below)))
+
+-- ---- one number
+
+pub instance-is : (c : Circuit) (ws : Waves) (k : ℕ) (j : Instance) (found : Option Fault) → Some j ≡ slice_get c.instances k → found ≡ fault_by_kind j.kind c ws k j → found ≡ instance_fault c ws k
+unfolding instance_fault
+instance-is c ws k j found at e = e ∙ ap (fault_of c ws k) at
+
+pub instance-not : (c : Circuit) (ws : Waves) (k : ℕ) → None ≡ slice_get c.instances k → None ≡ instance_fault c ws k
+unfolding instance_fault
+instance-not c ws k at = ap (fault_of c ws k) at
+
+pub net-is : (c : Circuit) (ws : Waves) (i : ℕ) (net : Net) (held : Bool) (found : Option Fault) → Some net ≡ slice_get c.nets i → held ≡ is_held net → found ≡ fault_if_held held c ws i net →
+    found ≡ net_fault c ws i
+unfolding net_fault
+net-is c ws i net held found at is e = e ∙ ap (λ (b : Bool). fault_if_held b c ws i net) is ∙ ap (fault_of_net c ws i) at
+
+pub net-not : (c : Circuit) (ws : Waves) (i : ℕ) → None ≡ slice_get c.nets i → None ≡ net_fault c ws i
+unfolding net_fault
+net-not c ws i at = ap (fault_of_net c ws i) at
+
+-- a hazard, by the waves and the mark that code has
+pub mark-is : (c : Circuit) (ws : Waves) (k : ℕ) (j : Instance) (waves : List (Wave Value)) (marked : Option ℕ) (o : Option (ℕ × ℕ)) (found : Option Fault) → waves ≡ pin_waves c ws j → marked ≡ marked_pin j →
+    o ≡ hazard j.kind waves marked → found ≡ option_map (hazard_at k) o → found ≡ mark_fault c ws k j
+mark-is c ws k j waves marked o found w m is e = e ∙ ap (option_map (hazard_at k)) (is ∙ (λ i. hazard j.kind (w i) (m i)))
+
+-- ---- one checker, by the folds that code has
+
+pub checker-is : (kind : Kind) (k : ℕ) (clock input : Wave Value) (cs xs : List Value) (limits : ℕ × ℕ) (found : Option Fault) → 0 < length clock.cells → 0 < length input.cells →
+    cs ≡ folded values clock → xs ≡ folded values input → found ≡ first_fault kind (length cs) k (read cs) (read xs) limits → found ≡ checker_fault kind (length clock.cells) k clock input limits
+unfolding checker_fault
+checker-is kind k clock input cs xs limits found some some' c_is x_is e =
+    e ∙ (λ i. first_fault kind (length-folded clock cs c_is i) k (read-folded clock cs some c_is i) (read-folded input xs some' x_is i) limits)
+
+pub same-checker : (kind : Kind) (p p' k : ℕ) (clock clock' input input' : Wave Value) (limits : ℕ × ℕ) (found : Option Fault) → p ≡ p' → clock ≡ clock' → input ≡ input' →
+    found ≡ checker_fault kind p k clock input limits → found ≡ checker_fault kind p' k clock' input' limits
+same-checker kind p p' k clock clock' input input' limits found pe ce xe e = e ∙ (λ i. checker_fault kind (pe i) k (ce i) (xe i) limits)
+
+-- the waves of the first two pins
+pub first-pins : (c : Circuit) (ws : Waves) (ps : List Pin) (clock input : Pin) → 2 ≤ length ps → clock ≡ get_or ps 0 clock → input ≡ get_or ps 1 input →
+    (pin_wave c ws clock ≡ wave_of_pin (map (pin_wave c ws) ps) 0) × (pin_wave c ws input ≡ wave_of_pin (map (pin_wave c ws) ps) 1)
+first-pins c ws [] clock input two c_is x_is = absurd (omega arith)
+first-pins c ws (p ∷ []) clock input two c_is x_is = absurd (omega arith)
+first-pins c ws (p ∷ q ∷ ps) clock input two c_is x_is = (ap (pin_wave c ws) c_is, ap (pin_wave c ws) x_is)
+
+-- a checker has them
+pub two-pins : (kind : Kind) (ps : List Pin) → checks_points kind ≡ true → PinsFit kind ps → 2 ≤ length ps
+two-pins SetupHold ps is fits = fits.least
+two-pins RiseFall ps is fits = fits.least
+two-pins kind ps is fits = cc
+
+-- and its limits are within a period
+pub own-limits : (h : Header) (kind : Kind) (limits : ℕ × ℕ) → checks_points kind ≡ true → LimitsFit h kind limits → limits.0 + limits.1 ≤ period h
+own-limits h SetupHold limits is fits = fits
+own-limits h RiseFall limits is fits = fits
+own-limits h kind limits is fits = cc
+
+-- ---- one net, by the waves that code has
+
+module _ {A : Type 0} (f : A → Wave Value) (c : Circuit) (xs ys : List A) (i : ℕ) (net : Net) where
+  pub net-below : FitWaves c (map f xs) → ys ≡ xs → Some net ≡ slice_get c.nets i → i < length ys
+  net-below fit same at =
+      let below = slice_get_within c.nets i net (sym at) in
+      let each = fit.each_net in
+      let long = length-map xs f in
+      let size : length ys ≡ length xs = ap length same in
+      omega (arith, below, each, long, size)
+
+  -- the wave of its number
+  pub net-wave : (x : A) → FitWaves c (map f xs) → ys ≡ xs → Some net ≡ slice_get c.nets i → x ≡ get_or ys i x → waves_of (map f xs) i ≡ f x
+  net-wave x fit same at is =
+      let below = net-below fit same at in
+      let size : length ys ≡ length xs = ap length same in
+      get_or-map f xs i x (skewed [] 0) (omega (arith, below, size)) ∙ ap f (sym (is ∙ ap (λ (zs : List A). get_or zs i x) same))
+
+  pub net-long : (x : A) → FitWaves c (map f xs) → ys ≡ xs → Some net ≡ slice_get c.nets i → x ≡ get_or ys i x → length (f x).cells ≡ period c.header
+  net-long x fit same at is =
+      ap (λ (w : Wave Value). length w.cells) (sym (net-wave x fit same at is)) ∙ fit.each_slot i (slice_get_within c.nets i net (sym at))
+
+-- its assertion fits
+pub fits-at : (c : Circuit) (i : ℕ) (net : Net) → IsCircuit c → Some net ≡ slice_get c.nets i → Fits c.header net.spec
+fits-at c i net known at =
+    subst (λ (n : Net). Fits c.header n.spec) (get_or_from_slice_get c.nets i net net (sym at))
+    (All-get_or (λ (n : Net). Fits c.header n.spec) c.nets i net (slice_get_within c.nets i net (sym at)) known.asserted)

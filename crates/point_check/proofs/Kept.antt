@@ -1,0 +1,183 @@
+-- What the waves permit breaks nothing of an instance or a net that has no fault.
+use Rattle.std.proofs.Common.{◌≡◌, ℕ, zero, suc, ◌+◌, ◌-◌, ◌%◌, ◌<◌, ◌≤◌, max, Bool, true, false, List, [], ◌∷◌, length, map, refl, sym, ap, ◌∙◌, arith, All, slice_get, Some, None}
+use Rattle.std.specs.List.{list_any, position}
+use Rattle.std.proofs.lemmas.List.{length-map}
+use Rattle.std.proofs.lemmas.List.Elements.{All-head, All-tail}
+use Rattle.std.proofs.lemmas.List.Quantifiers.{position-Some}
+use Rattle.std.proofs.lemmas.Option.{slice_get_within}
+use Rattle.std.proofs.Math.Nat.{mod-lt}
+use Rattle.scald_base.specs.Time.{period}
+use Rattle.vector_names.specs.declared.bits.Target.{Target}
+use Rattle.vector_names.specs.declared.bits.Target.TheVariants.{Net as OnNet, Constant}
+use Rattle.step_values.specs.declared.value.Value.{Value}
+use Rattle.step_values.specs.declared.value.Value.TheVariants.{Zero, One}
+use Rattle.step_values.specs.Steps.{has}
+use Rattle.step_values.specs.Cell.{values}
+use Rattle.step_values.specs.Lawful.{values_lawful}
+use Rattle.wave_core.proofs.Slots.{length-slots}
+use Rattle.skew_algebra.specs.Wave.{fold}
+use Rattle.skew_algebra.specs.Permits.{Permits}
+use Rattle.skew_algebra.proofs.Moves.{fold-has}
+use Rattle.flat_circuit.specs.declared.kind.Kind.{Kind}
+use Rattle.flat_circuit.specs.declared.kind.Kind.TheVariants.{And, Or, SetupHold, RiseFall}
+use Rattle.flat_circuit.specs.declared.instance.Pin.{Pin}
+use Rattle.flat_circuit.specs.declared.instance.Instance.{Instance}
+use Rattle.flat_circuit.specs.declared.net.Net.{Net}
+use Rattle.flat_circuit.specs.declared.fault.Fault.{Fault}
+use Rattle.flat_circuit.specs.Kind.{pin_counts}
+use Rattle.flat_circuit.specs.Instances.{InstanceFits, PinExists, TargetExists}
+use Rattle.flat_circuit.specs.Circuit.{Circuit, IsCircuit}
+use Rattle.flat_circuit.specs.Run.{Run, Choice, net_signal}
+use Rattle.pin_waves.proofs.Pins.{length-pin}
+use Rattle.gate_eval.specs.Meeting.{period_of}
+use Rattle.gate_eval.specs.Instance.{wave_of_pin}
+use Rattle.gate_eval.specs.Hold.{hazard}
+use Rattle.gate_eval.proofs.Fitting.{fold-mod}
+use Rattle.gate_eval.proofs.Held.{map-none}
+use Rattle.fixpoint_engine.specs.Value.{Waves, target_wave, target_wire, pin_wave, pin_waves, marked_pin}
+use Rattle.fixpoint_engine.proofs.Drivers.{fits-of}
+use Rattle.point_check.specs.Point.{checker_fault}
+use Rattle.point_check.specs.Assertion.{is_held}
+use Rattle.point_check.specs.Faults.{hazard_at, mark_fault, fault_by_kind, fault_of, instance_fault, fault_if_held, fault_of_net, net_fault, point_faults, is_of_instance, is_of_net}
+use Rattle.point_check.specs.Break.{wire_to, pin_at, StepsFrom, BreaksSetupHold, BreaksRiseFall, BreaksMark, BreaksKind, BreaksInstance, BreaksNet}
+use Rattle.point_check.specs.Sound.{PinsPermit, PinsPermitAt, KeepsConstraints}
+use Rattle.point_check.proofs.Near.{setup_hold-kept, rise_fall-kept}
+use Rattle.point_check.proofs.Marks.{mark-kept}
+use Rattle.point_check.proofs.Held.{assertion-kept}
+use Rattle.point_check.proofs.Whose.{no_instance_fault, no_net_fault}
+
+-- ---- the period of the waves at pins
+
+-- each net's wave has the circuit's period
+abbrev pub AreLong : Circuit → Waves → Type 0
+AreLong c ws = (i : ℕ) → i < length c.nets → length (ws i).cells ≡ period c.header
+
+pub long-target : (c : Circuit) (ws : Waves) (t : Target) → AreLong c ws → TargetExists (length c.nets) t → length (target_wave c.header ws t).cells ≡ period c.header
+long-target c ws (OnNet i) long exists = long i exists
+long-target c ws (Constant true) long exists = length-slots (period c.header) (λ p. One)
+long-target c ws (Constant false) long exists = length-slots (period c.header) (λ p. Zero)
+
+pub long-pin : (c : Circuit) (ws : Waves) (p : Pin) → AreLong c ws → PinExists (length c.nets) p → length (pin_wave c ws p).cells ≡ period c.header
+long-pin c ws p long exists =
+    length-pin (target_wave c.header ws p.target) (target_wire c.nets p.target) p.inverted ∙ long-target c ws p.target long exists
+
+long-at : (c : Circuit) (ws : Waves) (ps : List Pin) (i : ℕ) → AreLong c ws → All (PinExists (length c.nets)) ps → i < length ps →
+    length (wave_of_pin (map (pin_wave c ws) ps) i).cells ≡ period c.header
+long-at c ws [] i long exist below = absurd (omega arith)
+long-at c ws (p ∷ ps) zero long exist below = long-pin c ws p long (All-head (PinExists (length c.nets)) p ps exist)
+long-at c ws (p ∷ ps) (suc i) long exist below = long-at c ws ps i long (All-tail (PinExists (length c.nets)) p ps exist) (omega arith)
+
+period-at : (c : Circuit) (ws : Waves) (ps : List Pin) → AreLong c ws → All (PinExists (length c.nets)) ps → 0 < length ps → period_of (map (pin_wave c ws) ps) ≡ period c.header
+period-at c ws [] long exist some = absurd (omega arith)
+period-at c ws (p ∷ ps) long exist some = long-pin c ws p long (All-head (PinExists (length c.nets)) p ps exist)
+
+-- a place where something is found is one of the list's
+position-within : {A : Type 0} (test : A → Bool) (xs : List A) (i : ℕ) → position test xs ≡ Some i → i < length xs
+position-within test [] i is = cc
+position-within test (x ∷ xs) i is = (position-Some test (x ∷ xs) i x is).0
+
+-- ---- one instance
+
+module _ (c : Circuit) (ws : Waves) (run : Run) (k : ℕ) (j : Instance) (choice : Choice) (start : ℕ) (pos : 0 < period c.header) (long : AreLong c ws)
+    (fits : InstanceFits c.header (length c.nets) j) (permit : PinsPermit c ws run j choice start) where
+  two-pins : (kind : Kind) → j.kind ≡ kind → (pin_counts kind).0 ≡ 2 → 2 ≤ length j.pins
+  two-pins kind is two = let least = fits.pins.least in let same = ap (λ (q : Kind). (pin_counts q).0) is in omega (arith, least, same, two)
+
+  -- a pin's step, where its wave permits it
+  starts : (i t : ℕ) → StepsFrom run choice i start t → max start (wire_to choice i + 1) ≤ t
+  starts i t steps = let after = steps.after in let begins = steps.begins in omega (arith, after, begins)
+
+  keeps-setup_hold : j.kind ≡ SetupHold → checker_fault j.kind (period c.header) k (wave_of_pin (pin_waves c ws j) 0) (wave_of_pin (pin_waves c ws j) 1) j.limits ≡ None →
+      ¬ BreaksSetupHold run j choice start
+  keeps-setup_hold is none b =
+      let two = two-pins SetupHold is refl in
+      let begins = b.edge_in.begins in
+      let begins' = b.change_in.begins in
+      b.changes (setup_hold-kept (period c.header) k (wave_of_pin (pin_waves c ws j) 0) (wave_of_pin (pin_waves c ws j) 1) j.limits run.ticks b.edge b.change
+      (max start (wire_to choice 0 + 1)) (max start (wire_to choice 1 + 1)) (pin_at run j choice 0) (pin_at run j choice 1) pos
+      (long-at c ws j.pins 0 long fits.exists.reads (omega (arith, two))) (long-at c ws j.pins 1 long fits.exists.reads (omega (arith, two)))
+      (permit 0 (omega (arith, two))) (permit 1 (omega (arith, two)))
+      (ap (λ (q : Kind). checker_fault q (period c.header) k (wave_of_pin (pin_waves c ws j) 0) (wave_of_pin (pin_waves c ws j) 1) j.limits) (sym is) ∙ none)
+      b.rises (omega (arith, begins)) (starts 0 b.edge b.edge_in) b.edge_in.ends (omega (arith, begins')) (starts 1 b.change b.change_in) b.change_in.ends b.not_before b.not_after)
+
+  keeps-rise_fall : j.kind ≡ RiseFall → checker_fault j.kind (period c.header) k (wave_of_pin (pin_waves c ws j) 0) (wave_of_pin (pin_waves c ws j) 1) j.limits ≡ None →
+      ¬ BreaksRiseFall run j choice start
+  keeps-rise_fall is none b =
+      let two = two-pins RiseFall is refl in
+      let begins = b.edge_in.begins in
+      let begins' = b.change_in.begins in
+      b.changes (rise_fall-kept (period c.header) k (wave_of_pin (pin_waves c ws j) 0) (wave_of_pin (pin_waves c ws j) 1) j.limits run.ticks b.edge b.fall b.change
+      (max start (wire_to choice 0 + 1)) (max start (wire_to choice 1 + 1)) (pin_at run j choice 0) (pin_at run j choice 1) pos
+      (long-at c ws j.pins 0 long fits.exists.reads (omega (arith, two))) (long-at c ws j.pins 1 long fits.exists.reads (omega (arith, two)))
+      (permit 0 (omega (arith, two))) (permit 1 (omega (arith, two)))
+      b.is_high (omega (arith, begins)) (starts 0 b.edge b.edge_in) b.fall_in.ends (omega (arith, begins')) (starts 1 b.change b.change_in) b.change_in.ends b.not_before b.not_after
+      (ap (λ (q : Kind). checker_fault q (period c.header) k (wave_of_pin (pin_waves c ws j) 0) (wave_of_pin (pin_waves c ws j) 1) j.limits) (sym is) ∙ none))
+
+  -- the fold of a pin's wave in the slot of a tick has the pin's step there
+  fold-steps : (i t : ℕ) → i < length j.pins → StepsFrom run choice i start t →
+      has (fold values (wave_of_pin (pin_waves c ws j) i) (t % period c.header)) (pin_at run j choice i (t - 1)) (pin_at run j choice i t) ≡ true
+  fold-steps i t below steps =
+      let begins = steps.begins in
+      ap (λ (v : Value). has v (pin_at run j choice i (t - 1)) (pin_at run j choice i t))
+      (fold-mod values (period c.header) (wave_of_pin (pin_waves c ws j) i) t (long-at c ws j.pins i long fits.exists.reads below))
+      ∙ fold-has values values_lawful (wave_of_pin (pin_waves c ws j) i) run.ticks (max start (wire_to choice i + 1)) t (pin_at run j choice i) (permit i below)
+      (omega (arith, begins)) (starts i t steps) steps.ends
+
+  keeps-mark : mark_fault c ws k j ≡ None → ¬ BreaksMark run j choice start
+  keeps-mark none b =
+      b.changes (mark-kept j.kind (pin_waves c ws j) b.marked (b.tick % period c.header) b.pin
+      (pin_at run j choice b.marked (b.tick - 1)) (pin_at run j choice b.marked b.tick) (pin_at run j choice b.pin (b.tick - 1)) (pin_at run j choice b.pin b.tick)
+      (ap (hazard j.kind (pin_waves c ws j)) (sym b.is_marked) ∙ map-none (hazard_at k) (hazard j.kind (pin_waves c ws j) (marked_pin j)) none)
+      (let slot : b.tick % period c.header < period c.header = mod-lt b.tick pos in
+      let one = period-at c ws j.pins long fits.exists.reads (omega (arith, pin_below)) in omega (arith, slot, one))
+      (omega (arith, marked_below, waves_long)) (omega (arith, pin_below, waves_long)) b.apart
+      (fold-steps b.marked b.tick marked_below b.marked_in) (fold-steps b.pin b.tick b.below b.pin_in) b.leaves)
+    where
+      pin_below : b.pin < length j.pins
+      pin_below = b.below
+
+      marked_below : b.marked < length j.pins
+      marked_below = position-within (λ (p : Pin). p.hold) j.pins b.marked b.is_marked
+
+      waves_long : length (pin_waves c ws j) ≡ length j.pins
+      waves_long = length-map j.pins (pin_wave c ws)
+
+  keeps-kind : (kind : Kind) → j.kind ≡ kind → fault_by_kind kind c ws k j ≡ None → BreaksKind kind run j choice start → ⊥
+  keeps-kind SetupHold is none b = keeps-setup_hold is none b
+  keeps-kind RiseFall is none b = keeps-rise_fall is none b
+  keeps-kind And is none b = keeps-mark none b
+  keeps-kind Or is none b = keeps-mark none b
+  keeps-kind kind is none b = absurd b
+
+-- ---- all
+
+instance-none : (c : Circuit) (ws : Waves) (k : ℕ) (j : Instance) → slice_get c.instances k ≡ Some j → instance_fault c ws k ≡ None → fault_by_kind j.kind c ws k j ≡ None
+unfolding instance_fault
+instance-none c ws k j at none = ap (fault_of c ws k) (sym at) ∙ none
+
+net-none : (c : Circuit) (ws : Waves) (i : ℕ) (net : Net) → slice_get c.nets i ≡ Some net → is_held net ≡ true → net_fault c ws i ≡ None → fault_if_held true c ws i net ≡ None
+unfolding net_fault
+net-none c ws i net at held none = ap (λ (b : Bool). fault_if_held b c ws i net) (sym held) ∙ ap (fault_of_net c ws i) (sym at) ∙ none
+
+keeps-instance : (c : Circuit) (ws : Waves) (run : Run) (k start : ℕ) → 0 < period c.header → IsCircuit c → AreLong c ws → list_any (is_of_instance k) (point_faults c ws) ≡ false →
+    PinsPermitAt c ws run k start → ¬ BreaksInstance c run k start
+keeps-instance c ws run k start pos known long none permit b =
+    keeps-kind c ws run k b.instance b.choice start pos long (fits-of c k b.instance known b.instance_is) (permit b.instance b.choice b.instance_is b.choice_is)
+    b.instance.kind refl
+    (instance-none c ws k b.instance b.instance_is (no_instance_fault c ws k (slice_get_within c.instances k b.instance b.instance_is) none)) b.breaks
+
+keeps-net : (c : Circuit) (ws : Waves) (run : Run) (i start : ℕ) → 0 < period c.header → IsCircuit c → AreLong c ws → list_any (is_of_net i) (point_faults c ws) ≡ false →
+    Permits values (ws i) run.ticks (net_signal run i) start → ¬ BreaksNet c run i start
+keeps-net c ws run i start pos known long none permits b =
+    let below = slice_get_within c.nets i b.net b.net_is in
+    both _ (assertion-kept c.header b.net.spec i (ws i) run.ticks b.tick start (net_signal run i) pos (long i below) permits
+    (net-none c ws i b.net b.net_is b.is_held (no_net_fault c ws i known below none)) b.begins b.after b.ends) b.lacks
+  where
+    both : (x : Bool) → x ≡ true → x ≡ false → ⊥
+    both x t f = cc
+
+pub keeps-constraints : (c : Circuit) (ws : Waves) (faults : List Fault) → 0 < period c.header → IsCircuit c → AreLong c ws → faults ≡ point_faults c ws → KeepsConstraints c ws faults
+keeps-constraints c ws faults pos known long is = record {
+  instances = λ run k start none permit. keeps-instance c ws run k start pos known long (ap (list_any (is_of_instance k)) (sym is) ∙ none) permit;
+  nets = λ run i start none permits. keeps-net c ws run i start pos known long (ap (list_any (is_of_net i)) (sym is) ∙ none) permits;
+}

@@ -1,0 +1,13 @@
+pub mod Firsts
+pub mod ReadSlots
+pub mod Found
+pub mod Exceeded
+pub mod Steady
+pub mod Near
+pub mod Marks
+pub mod Held
+pub mod Whose
+pub mod Gathered
+pub mod Kept
+pub mod Reached
+mod Examples

@@ -1,0 +1,100 @@
+-- Where waves permit the nets of a run from a tick on, those at pins permit the pins as much later as instances look back;
+-- so nothing is broken from there on by what has no fault.
+use Rattle.std.proofs.Common.{◌≡◌, ℕ, zero, suc, ◌+◌, ◌-◌, ◌<◌, ◌≤◌, max, false, List, [], ◌∷◌, length, map, refl, ap, subst, arith, All, slice_get, Some}
+use Rattle.std.specs.Prelude.{slice_index_or}
+use Rattle.std.specs.List.{list_any}
+use Rattle.std.proofs.lemmas.List.Elements.{All-head, All-tail}
+use Rattle.std.proofs.lemmas.Option.{slice_get_within}
+use Rattle.scald_base.specs.Time.{period}
+use Rattle.scald_base.specs.Signal.{Signal, turned}
+use Rattle.vector_names.specs.declared.bits.Target.{Target}
+use Rattle.vector_names.specs.declared.bits.Target.TheVariants.{Net as OnNet, Constant}
+use Rattle.step_values.specs.Cell.{values}
+use Rattle.skew_algebra.specs.Permits.{Permits}
+use Rattle.skew_algebra.proofs.Moves.{Permits-after}
+use Rattle.flat_circuit.specs.declared.instance.Pin.{Pin}
+use Rattle.flat_circuit.specs.declared.instance.Instance.{Instance}
+use Rattle.flat_circuit.specs.declared.net.Net.{Net}
+use Rattle.flat_circuit.specs.declared.fault.Fault.{Fault}
+use Rattle.flat_circuit.specs.Instances.{PinExists, TargetExists}
+use Rattle.flat_circuit.specs.Circuit.{Circuit, IsCircuit}
+use Rattle.flat_circuit.specs.Equation.{nth_signal}
+use Rattle.flat_circuit.specs.Run.{Run, IsRun, net_signal, target_signal, pin_signal, pin_signals, WireFits, WiresFit}
+use Rattle.pin_waves.proofs.Pins.{Permits-pin}
+use Rattle.pin_waves.proofs.CodeSlots.{Permits-constant}
+use Rattle.gate_eval.specs.Instance.{wave_of_pin}
+use Rattle.fixpoint_engine.specs.Value.{Waves, target_wave, target_wire, pin_wave}
+use Rattle.fixpoint_engine.specs.Reach.{greatest_wire, farthest, reach}
+use Rattle.fixpoint_engine.specs.Interface.{PermitRun}
+use Rattle.fixpoint_engine.proofs.Asked.{wire-within}
+use Rattle.fixpoint_engine.proofs.Drivers.{fits-of}
+use Rattle.point_check.specs.Faults.{is_of_instance, is_of_net}
+use Rattle.point_check.specs.Break.{BreaksInstance, BreaksNet}
+use Rattle.point_check.specs.Sound.{PinsPermitAt, KeepsConstraints}
+use Rattle.point_check.proofs.Kept.{AreLong, long-target}
+
+target-permits : (c : Circuit) (run : Run) (ws : Waves) (t : Target) (v : ℕ) → 0 < period c.header → TargetExists (length c.nets) t → PermitRun c run ws v →
+    Permits values (target_wave c.header ws t) run.ticks (target_signal run t 0) v
+target-permits c run ws (OnNet i) v some exists permits =
+    let same : net_signal run i ≡ (λ s. net_signal run i (s - 0)) = λ k s. net_signal run i (minus-zero s k) in
+    subst (λ (x : Signal). Permits values (ws i) run.ticks x v) same (permits i exists)
+  where
+    minus-zero : (s : ℕ) → s ≡ s - 0
+    minus-zero s = omega arith
+target-permits c run ws (Constant one) v some exists permits = Permits-constant c.header one run.ticks v some
+
+shown : (run : Run) (t : Target) (w s : ℕ) → target_signal run t w s ≡ target_signal run t 0 (s - w)
+shown run (OnNet i) w s = ap (net_signal run i) (omega arith)
+shown run (Constant one) w s = refl
+
+pin-permits : (c : Circuit) (run : Run) (ws : Waves) (p : Pin) (w v start : ℕ) → 0 < period c.header → AreLong c ws → PinExists (length c.nets) p → PermitRun c run ws v → 1 ≤ v →
+    WireFits c.nets p.target w → v + (target_wire c.nets p.target).max ≤ start →
+    Permits values (pin_wave c ws p) run.ticks (pin_signal run p w) (max start (w + 1))
+pin-permits c run ws p w v start some long exists permits v1 wire far =
+    let within = wire-within c.nets p.target w wire in
+    let low : (target_wire c.nets p.target).min ≤ w = within.0 in
+    let high : w ≤ (target_wire c.nets p.target).max = within.1 in
+    let size = long-target c ws p.target long exists in
+    Permits-pin (target_wave c.header ws p.target) (target_wire c.nets p.target) p.inverted (omega (arith, size))
+    run.ticks run.ticks v (max start (w + 1)) w (target_signal run p.target 0) (pin_signal run p w)
+    (target-permits c run ws p.target v some exists permits) low high v1 (omega (arith, high, far)) (omega arith)
+    (λ t tu tm. ap (turned p.inverted) (shown run p.target w t))
+
+pins-permit : (c : Circuit) (run : Run) (ws : Waves) (ps : List Pin) (wires : List ℕ) (v start i : ℕ) → 0 < period c.header → AreLong c ws → All (PinExists (length c.nets)) ps → PermitRun c run ws v → 1 ≤ v →
+    WiresFit c.nets ps wires → v + greatest_wire c.nets ps ≤ start → i < length ps →
+    Permits values (wave_of_pin (map (pin_wave c ws) ps) i) run.ticks (nth_signal (pin_signals run ps wires) i) (max start (slice_index_or wires i 0 + 1))
+pins-permit c run ws [] wires v start i some long exist permits v1 fits far below = absurd (omega arith)
+pins-permit c run ws (p ∷ ps) [] v start i some long exist permits v1 fits far below = absurd fits
+pins-permit c run ws (p ∷ ps) (w ∷ wires) v start zero some long exist permits v1 fits far below =
+    pin-permits c run ws p w v start some long (All-head (PinExists (length c.nets)) p ps exist) permits v1 fits.0 (omega arith)
+pins-permit c run ws (p ∷ ps) (w ∷ wires) v start (suc i) some long exist permits v1 fits far below =
+    pins-permit c run ws ps wires v start i some long (All-tail (PinExists (length c.nets)) p ps exist) permits v1 fits.1 (omega arith) (omega arith)
+
+looks-back : (nets : List Net) (js : List Instance) (k : ℕ) (j : Instance) → slice_get js k ≡ Some j → greatest_wire nets j.pins ≤ farthest nets js
+looks-back nets [] k j is = cc
+looks-back nets (first ∷ js) zero j is = let same : first ≡ j = cc in rw same (omega arith)
+looks-back nets (first ∷ js) (suc k) j is = omega (arith, looks-back nets js k j is)
+
+-- the pins of an instance, from the greatest delay of its wires on
+pub pins-permit-from : (c : Circuit) (run : Run) (ws : Waves) (k v start : ℕ) → 0 < period c.header → IsCircuit c → AreLong c ws → IsRun c run → PermitRun c run ws v → 1 ≤ v →
+    ((j : Instance) → slice_get c.instances k ≡ Some j → v + greatest_wire c.nets j.pins ≤ start) → PinsPermitAt c ws run k start
+pins-permit-from c run ws k v start some known long isrun permits v1 far j choice at chosen i below =
+    pins-permit c run ws j.pins choice.wires v start i some long (fits-of c k j known at).exists.reads permits v1 (isrun.at k j choice at chosen).wires (far j at) below
+
+-- the pins of each instance, from where the next round would permit the nets, but for one tick
+pub all-pins-permit : (c : Circuit) (run : Run) (ws : Waves) (k v start : ℕ) → 0 < period c.header → IsCircuit c → AreLong c ws → IsRun c run → PermitRun c run ws v → 1 ≤ v →
+    v + reach c ≤ start + 1 → PinsPermitAt c ws run k start
+all-pins-permit c run ws k v start some known long isrun permits v1 far =
+    pins-permit-from c run ws k v start some known long isrun permits v1 (λ j at. let back = looks-back c.nets c.instances k j at in omega (arith, back, far))
+
+-- ---- nothing is broken from there on
+
+module _ (c : Circuit) (run : Run) (ws : Waves) (faults : List Fault) (v start : ℕ) (some : 0 < period c.header) (known : IsCircuit c) (long : AreLong c ws)
+    (keeps : KeepsConstraints c ws faults) (isrun : IsRun c run) (permits : PermitRun c run ws v) (v1 : 1 ≤ v) (far : v + reach c ≤ start + 1) where
+  pub no-instance-breaks : (k : ℕ) → list_any (is_of_instance k) faults ≡ false → ¬ BreaksInstance c run k start
+  no-instance-breaks k none = keeps.instances run k start none (all-pins-permit c run ws k v start some known long isrun permits v1 far)
+
+  pub no-net-breaks : (i : ℕ) → list_any (is_of_net i) faults ≡ false → ¬ BreaksNet c run i start
+  no-net-breaks i none b =
+      keeps.nets run i start none
+      (Permits-after values (ws i) run.ticks v start (net_signal run i) (omega (arith, far)) (permits i (slice_get_within c.nets i b.net b.net_is))) b

@@ -1,0 +1,8 @@
+use Rattle.std.proofs.Common.{◌≡◌, ℕ, ◌<◌, None, length}
+use Rattle.point_check.specs.Folds.{read}
+use Rattle.point_check.specs.Point.{edge_fault}
+use Rattle.point_check.proofs.edges.first_fault.Given as goal
+
+abbrev pub invariant-loop-edge : goal.invariant-loop-edge
+invariant-loop-edge g l =
+    (k : ℕ) → k < l.edge → edge_fault l.kind (length (g.W.CyclicWave.cells l.clock)) l.instance (read (g.W.CyclicWave.cells l.clock)) (read (g.W.CyclicWave.cells l.input)) l.limits k ≡ None

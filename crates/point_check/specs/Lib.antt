@@ -1,0 +1,7 @@
+pub mod Window
+pub mod Point
+pub mod Folds
+pub mod Assertion
+pub mod Faults
+pub mod Break
+pub mod Sound

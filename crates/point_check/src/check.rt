@@ -1,0 +1,162 @@
+//! The faults of a whole circuit.
+
+ghost use Rattle.std.specs.Prelude.{◌≡◌, ◌++◌, ◌<◌, IfOk, OnOk, length, map, slice_get, Some, filter_map};
+ghost use Rattle.std.specs.List.{range_with_len};
+ghost use Rattle.std.specs.Option.{option_to_list};
+ghost use Rattle.skew_algebra.specs.Wave.{skewed};
+ghost use Rattle.flat_circuit.specs.Instances.{InstanceFits};
+ghost use Rattle.fixpoint_engine.specs.Settled.{FitWaves, waves_of};
+ghost use Rattle.fixpoint_engine.specs.Rounds.{net_at};
+ghost use Rattle.point_check.specs.Faults.{fault_by_kind, instance_fault as fault_of_instance, net_fault as fault_of_net, point_faults};
+ghost use Rattle.point_check.specs.Sound.{KeepsConstraints};
+
+use crate::assertion::{assertion_fault, is_held};
+use crate::checker::limited_fault;
+use crate::mark::mark_fault;
+use fixpoint_engine::Waves;
+use flat_circuit::{Circuit, Fault, Faults, Instance, Kind};
+use scald_base::NoMemory;
+use std::alloc::Global;
+use step_values::Value;
+use wave_core::CyclicWave;
+
+/// The fault of an instance, if it has one.
+fn fault_by_kind<W: CyclicWave<Item = Value>>(
+    alloc: Global,
+    c: &Circuit,
+    waves: &Waves<W>,
+    number: u32,
+    instance: &Instance,
+) -> Result<Option<Fault>, NoMemory>
+    requires fits { InstanceFits c.now.header (length c.now.nets) instance.now }
+    requires fit { FitWaves c.now (map (λ s. skewed (W.cells s.wave) s.skew) waves.now) }
+    ensures { IfOk result (λ found. found ≡ fault_by_kind instance.now.kind c.now (waves_of (map (λ s. skewed (W.cells s.wave) s.skew) waves.now)) number instance.now) }
+{
+    match instance.kind {
+        Kind::SetupHold | Kind::RiseFall => {
+            limited_fault(alloc, c, waves, number, instance, instance.limits)
+        }
+        Kind::And | Kind::Or => mark_fault(alloc, c, waves, number, instance),
+        _ => Ok(None),
+    }
+}
+
+/// The fault of the instance of a number, if it has one.
+fn instance_fault<W: CyclicWave<Item = Value>>(
+    alloc: Global,
+    c: &Circuit,
+    waves: &Waves<W>,
+    number: u32,
+) -> Result<Option<Fault>, NoMemory>
+    requires { FitWaves c.now (map (λ s. skewed (W.cells s.wave) s.skew) waves.now) }
+    ensures { IfOk result (λ found. found ≡ fault_of_instance c.now (waves_of (map (λ s. skewed (W.cells s.wave) s.skew) waves.now)) number) }
+{
+    c.known();
+    match c.instance(number) {
+        None => Ok(None),
+        Some(instance) => {
+            let found = fault_by_kind(alloc, c, waves, number, instance)?;
+            Ok(found)
+        }
+    }
+}
+
+/// The fault of the net of a number, if something drives it, its name asserts something and it has one.
+fn net_fault<W: CyclicWave<Item = Value>>(
+    alloc: Global,
+    c: &Circuit,
+    waves: &Waves<W>,
+    number: u32,
+) -> Result<Option<Fault>, NoMemory>
+    requires { FitWaves c.now (map (λ s. skewed (W.cells s.wave) s.skew) waves.now) }
+    ensures { IfOk result (λ found. found ≡ fault_of_net c.now (waves_of (map (λ s. skewed (W.cells s.wave) s.skew) waves.now)) number) }
+{
+    c.known();
+    match c.net(number) {
+        None => Ok(None),
+        Some(net) => {
+            if !is_held(net) {
+                return Ok(None);
+            }
+            let wave = &waves.as_slice()[number as usize];
+            let found = assertion_fault(alloc, c.header(), &net.spec, number, wave)?;
+            Ok(found)
+        }
+    }
+}
+
+/// Puts a fault, if there is one, behind the others.
+fn add(faults: &mut Faults, found: Option<Fault>) -> Result<(), NoMemory>
+    ensures { OnOk result (faults.new ≡ faults.old ++ option_to_list found) }
+{
+    match found {
+        Some(fault) => faults.push(fault),
+        None => Ok(()),
+    }
+}
+
+/// The number of the net at a place in the order of names; past the last, 0.
+#[tactic(auto, using(fixpoint_engine::proofs::Places::past_last, fixpoint_engine::proofs::Places::at_place))]
+fn net_named(c: &Circuit, place: u32) -> u32
+    ensures { result ≡ net_at c.now.order place }
+{
+    match c.by_name(place) {
+        Some(net) => net,
+        None => 0,
+    }
+}
+
+/// The faults of instances, in the order of expansion.
+fn instance_faults<W: CyclicWave<Item = Value>>(
+    alloc: Global,
+    c: &Circuit,
+    waves: &Waves<W>,
+) -> Result<Faults, NoMemory>
+    requires { FitWaves c.now (map (λ s. skewed (W.cells s.wave) s.skew) waves.now) }
+    ensures { IfOk result (λ faults. faults ≡ filter_map (fault_of_instance c.now (waves_of (map (λ s. skewed (W.cells s.wave) s.skew) waves.now))) (range_with_len 0 (length c.now.instances))) }
+{
+    let mut faults = Faults::new(alloc);
+    for number in 0..c.instance_count() {
+        let found = instance_fault(alloc, c, waves, number)?;
+        add(&mut faults, found)?;
+    }
+    Ok(faults)
+}
+
+/// Puts the faults of nets behind these, in the order of names.
+fn add_net_faults<W: CyclicWave<Item = Value>>(
+    faults: &mut Faults,
+    alloc: Global,
+    c: &Circuit,
+    waves: &Waves<W>,
+) -> Result<(), NoMemory>
+    requires { FitWaves c.now (map (λ s. skewed (W.cells s.wave) s.skew) waves.now) }
+    ensures { OnOk result (faults.new ≡ faults.old ++ filter_map (fault_of_net c.now (waves_of (map (λ s. skewed (W.cells s.wave) s.skew) waves.now))) c.now.order) }
+{
+    c.known();
+    for place in 0..c.net_count() {
+        let found = net_fault(alloc, c, waves, net_named(c, place))?;
+        add(faults, found)?;
+    }
+    Ok(())
+}
+
+/// The faults that these waves of all nets show, at rest: of setup and hold, of rise and fall and of
+/// marked pins by the order of expansion, and then of assertions by the order of names. What the waves
+/// permit from a tick on breaks no constraint of an instance, and no assertion of a driven net, from
+/// there on, where the answer has no fault of it.
+pub fn check_points<W: CyclicWave<Item = Value>>(
+    alloc: Global,
+    c: &Circuit,
+    waves: &Waves<W>,
+) -> Result<Faults, NoMemory>
+    requires { FitWaves c.now (map (λ s. skewed (W.cells s.wave) s.skew) waves.now) }
+    ensures faults { IfOk result (λ faults. faults ≡ point_faults c.now (waves_of (map (λ s. skewed (W.cells s.wave) s.skew) waves.now))) }
+    ensures sound { IfOk result (KeepsConstraints c.now (waves_of (map (λ s. skewed (W.cells s.wave) s.skew) waves.now))) }
+{
+    c.known();
+    c.header().known();
+    let mut faults = instance_faults(alloc, c, waves)?;
+    add_net_faults(&mut faults, alloc, c, waves)?;
+    Ok(faults)
+}

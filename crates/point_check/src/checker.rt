@@ -1,0 +1,114 @@
+//! The checkers that hold an input against the edges of a clock.
+
+ghost use Rattle.std.specs.Prelude.{◌≡◌, ◌+◌, ◌≤◌, IfOk, length, map, slice_get, true};
+ghost use Rattle.scald_base.specs.Time.{period};
+ghost use Rattle.skew_algebra.specs.Wave.{skewed};
+ghost use Rattle.flat_circuit.specs.Instances.{InstanceFits, PinExists};
+ghost use Rattle.fixpoint_engine.specs.Settled.{FitWaves, waves_of};
+ghost use Rattle.fixpoint_engine.specs.Value.{pin_wave as wave_shown};
+ghost use Rattle.point_check.specs.Point.{checker_fault as fault_of_checker};
+ghost use Rattle.point_check.specs.Faults.{IsPointChecker, checks_points, limited_fault as fault_with, limited_fault_at};
+
+use crate::edges::first_fault;
+use fixpoint_engine::{Waves, pin_wave};
+use flat_circuit::{Circuit, Fault, Instance, Kind, Pin};
+use scald_base::NoMemory;
+use skew_algebra::Skewed;
+use std::alloc::Global;
+use step_values::Value;
+use wave_core::CyclicWave;
+
+/// The fault of a checker by the waves at its clock and its input.
+fn fault_between<W: CyclicWave<Item = Value>>(
+    alloc: Global,
+    kind: Kind,
+    instance: u32,
+    clock: &Skewed<W>,
+    input: &Skewed<W>,
+    limits: (u16, u16),
+) -> Result<Option<Fault>, NoMemory>
+    requires limits { limits.0 + limits.1 ≤ length (W.cells clock.now.wave) }
+    requires periods { length (W.cells input.now.wave) ≡ length (W.cells clock.now.wave) }
+    ensures { IfOk result (λ found. found ≡ fault_of_checker kind (length (W.cells clock.now.wave)) instance (skewed (W.cells clock.now.wave) clock.now.skew) (skewed (W.cells input.now.wave) input.now.skew) limits) }
+{
+    if input.is_steady() {
+        return Ok(None);
+    }
+    let clock_folds = clock.folded(alloc)?;
+    let input_folds = input.folded(alloc)?;
+    Ok(first_fault(kind, instance, &clock_folds, &input_folds, limits))
+}
+
+/// The fault of a checker with these pins and limits.
+fn checker_fault<W: CyclicWave<Item = Value>>(
+    alloc: Global,
+    c: &Circuit,
+    waves: &Waves<W>,
+    kind: Kind,
+    instance: u32,
+    clock: Pin,
+    input: Pin,
+    limits: (u16, u16),
+) -> Result<Option<Fault>, NoMemory>
+    requires clock { PinExists (length c.now.nets) clock }
+    requires input { PinExists (length c.now.nets) input }
+    requires limits { limits.0 + limits.1 ≤ period c.now.header }
+    requires fit { FitWaves c.now (map (λ s. skewed (W.cells s.wave) s.skew) waves.now) }
+    ensures { let ws = waves_of (map (λ s. skewed (W.cells s.wave) s.skew) waves.now) in
+        IfOk result (λ found. found ≡ fault_of_checker kind (period c.now.header) instance (wave_shown c.now ws clock) (wave_shown c.now ws input) limits) }
+{
+    let clock_wave = pin_wave(alloc, c, waves, clock)?;
+    let input_wave = pin_wave(alloc, c, waves, input)?;
+    let found = fault_between(alloc, kind, instance, &clock_wave, &input_wave, limits)?;
+    Ok(found)
+}
+
+/// The fault of a checker with these limits.
+pub fn limited_fault<W: CyclicWave<Item = Value>>(
+    alloc: Global,
+    c: &Circuit,
+    waves: &Waves<W>,
+    number: u32,
+    checker: &Instance,
+    limits: (u16, u16),
+) -> Result<Option<Fault>, NoMemory>
+    requires checker { checks_points checker.now.kind ≡ true }
+    requires fits { InstanceFits c.now.header (length c.now.nets) checker.now }
+    requires limits { limits.0 + limits.1 ≤ period c.now.header }
+    requires fit { FitWaves c.now (map (λ s. skewed (W.cells s.wave) s.skew) waves.now) }
+    ensures { let ws = waves_of (map (λ s. skewed (W.cells s.wave) s.skew) waves.now) in
+        IfOk result (λ found. found ≡ fault_with c.now ws number checker.now limits) }
+{
+    let pins = checker.pins.as_slice();
+    let clock = pins[0];
+    let input = pins[1];
+    let found = checker_fault(alloc, c, waves, checker.kind, number, clock, input, limits)?;
+    Ok(found)
+}
+
+/// The fault that a `SETUP_HOLD_CHK` or a `SETUP_RISE_HOLD_FALL_CHK` has with these setup and hold
+/// times, in ticks, in place of its own: that of the first slot of its clock at which the clock may
+/// rise while its input may change in the edge's window, and the first such change. `None` exactly
+/// where there is none.
+pub fn point_fault<W: CyclicWave<Item = Value>>(
+    alloc: Global,
+    c: &Circuit,
+    waves: &Waves<W>,
+    instance: u32,
+    limits: (u16, u16),
+) -> Result<Option<Fault>, NoMemory>
+    requires checker { IsPointChecker (slice_get c.now.instances instance) }
+    requires limits { limits.0 + limits.1 ≤ period c.now.header }
+    requires fit { FitWaves c.now (map (λ s. skewed (W.cells s.wave) s.skew) waves.now) }
+    ensures { let ws = waves_of (map (λ s. skewed (W.cells s.wave) s.skew) waves.now) in
+        IfOk result (λ found. found ≡ limited_fault_at c.now ws instance limits) }
+{
+    c.known();
+    match c.instance(instance) {
+        None => unreachable!(),
+        Some(checker) => {
+            let found = limited_fault(alloc, c, waves, instance, checker, limits)?;
+            Ok(found)
+        }
+    }
+}

@@ -1,0 +1,26 @@
+//! Faults at the points of a circuit where something is to stay as it is: an input about the edges of a
+//! clock, the pins beside a marked one, and a driven net that is held to what its name asserts.
+//!
+//! The layer above calls [`check_points`] for the faults of all waves at rest, and [`point_fault`] for
+//! what a checker finds with other limits. `specs/Faults` says which faults come, in which order:
+//! `specs/Point` those of checkers, over the windows of `specs/Window`, `specs/Assertion` those of nets.
+//! `specs/Break` says what a run breaks, and `specs/Sound` that nothing breaks where there is no fault.
+#![tactic(auto)]
+
+// an input about the edges of a clock
+mod edges;
+mod window;
+
+// checkers, marked pins and assertions
+mod assertion;
+mod checker;
+mod mark;
+
+// all of them
+mod check;
+
+pub use check::check_points;
+pub use checker::point_fault;
+
+#[cfg(test)]
+mod tests;
