@@ -1,0 +1,78 @@
+-- A checker's faults, and those of all checkers, as code gathers them.
+use Rattle.std.proofs.Common.{◌≡◌, ◌≢◌, ℕ, zero, suc, ◌+◌, ◌<◌, Bool, true, List, [], ◌++◌, length, append-nil, append_assoc, add-one, get_or, refl, sym, ap, subst, ◌∙◌, arith, slice_get, Option, Some, None}
+use Rattle.std.specs.List.{flat_map, range_with_len}
+use Rattle.std.specs.Option.{option_map}
+use Rattle.std.proofs.lemmas.List.Elements.{All-get_or}
+use Rattle.scald_base.specs.Time.{period}
+use Rattle.step_values.specs.declared.value.Value.{Value}
+use Rattle.skew_algebra.specs.Wave.{Wave}
+use Rattle.flat_circuit.specs.declared.kind.Kind.{Kind}
+use Rattle.flat_circuit.specs.declared.kind.Kind.TheVariants.{MinPulse}
+use Rattle.flat_circuit.specs.declared.instance.Pin.{Pin}
+use Rattle.flat_circuit.specs.declared.instance.Instance.{Instance}
+use Rattle.flat_circuit.specs.declared.fault.Fault.{Fault}
+use Rattle.flat_circuit.specs.declared.fault.Fault.TheVariants.{Width}
+use Rattle.flat_circuit.specs.Kind.{PinsFit}
+use Rattle.flat_circuit.specs.Instances.{InstanceFits, PinExists}
+use Rattle.flat_circuit.specs.Circuit.{Circuit}
+use Rattle.fixpoint_engine.specs.Value.{Waves, pin_wave}
+use Rattle.point_check.specs.Folds.{read}
+use Rattle.point_check.proofs.Kept.{AreLong, long-pin}
+use Rattle.pulse_check.specs.Pulse.{first_narrow}
+use Rattle.pulse_check.specs.Faults.{fault_at, width_fault, checks_pulses, faults_by_kind, faults_of, instance_faults}
+
+-- ---- by the wave at a pin
+
+pub no-width : (p k : ℕ) (wave : Wave Value) (level : Bool) (limit : ℕ) → None ≡ first_narrow p level (read wave.cells) limit → None ≡ width_fault p k wave level limit
+unfolding width_fault
+no-width p k wave level limit e = ap (option_map (fault_at k level)) e
+
+pub a-width : (p k from width : ℕ) (wave : Wave Value) (level : Bool) (limit : ℕ) → Some (from, width) ≡ first_narrow p level (read wave.cells) limit → Some (Width k level from width) ≡ width_fault p k wave level limit
+unfolding width_fault
+a-width p k from width wave level limit e = ap (option_map (fault_at k level)) e
+
+-- the wave at a checker's first pin has the circuit's period
+a-pin : (kind : Kind) (ps : List Pin) → checks_pulses kind ≡ true → PinsFit kind ps → 0 < length ps
+a-pin MinPulse ps is fits = fits.least
+a-pin kind ps is fits = cc
+
+pub long-first : (c : Circuit) (ws : Waves) (j : Instance) (ps : List Pin) (d : Pin) (wave : Wave Value) → checks_pulses j.kind ≡ true → InstanceFits c.header (length c.nets) j → AreLong c ws → ps ≡ j.pins →
+    wave ≡ pin_wave c ws (get_or ps 0 d) → length wave.cells ≡ period c.header
+long-first c ws j ps d wave checks fits long same is =
+    ap (λ (w : Wave Value). length w.cells) is
+    ∙ long-pin c ws (get_or ps 0 d) long
+    (subst (λ (qs : List Pin). PinExists (length c.nets) (get_or qs 0 d)) (sym same)
+    (All-get_or (PinExists (length c.nets)) j.pins 0 d (a-pin j.kind j.pins checks fits.pins) fits.exists.reads))
+
+-- ---- one instance
+
+pub instance-kind : (c : Circuit) (ws : Waves) (k : ℕ) (j : Instance) → Some j ≡ slice_get c.instances k → faults_by_kind j.kind c ws k j ≡ instance_faults c ws k
+unfolding instance_faults
+instance-kind c ws k j at = ap (faults_of c ws k) at
+
+pub none-more : (c : Circuit) (ws : Waves) (k : ℕ) (faults : List Fault) → None ≡ slice_get c.instances k → faults ≡ faults ++ instance_faults c ws k
+unfolding instance_faults
+none-more c ws k faults at = sym (append-nil faults) ∙ ap (λ (o : Option Instance). faults ++ faults_of c ws k o) at
+
+other-kind : (kind : Kind) (c : Circuit) (ws : Waves) (k : ℕ) (j : Instance) → kind ≢ MinPulse → [] ≡ faults_by_kind kind c ws k j
+other-kind MinPulse c ws k j not = absurd (not refl)
+other-kind kind c ws k j not = refl
+
+pub other-more : (c : Circuit) (ws : Waves) (k : ℕ) (j : Instance) (faults : List Fault) → Some j ≡ slice_get c.instances k → j.kind ≢ MinPulse → faults ≡ faults ++ instance_faults c ws k
+other-more c ws k j faults at not =
+    sym (append-nil faults) ∙ ap (λ (l : List Fault). faults ++ l) (other-kind j.kind c ws k j not ∙ instance-kind c ws k j at)
+
+-- ---- all
+
+flat-next : (find : ℕ → List Fault) (a n : ℕ) → flat_map find (range_with_len a (suc n)) ≡ flat_map find (range_with_len a n) ++ find (a + n)
+flat-next find a zero = let same : a ≡ a + 0 = omega arith in append-nil (find a) ∙ ap find same
+flat-next find a (suc n) =
+    let same : a + 1 + n ≡ a + suc n = omega arith in
+    ap (λ (l : List Fault). find a ++ l) (flat-next find (a + 1) n)
+    ∙ sym (append_assoc (find a) (flat_map find (range_with_len (a + 1) n)) (find (a + 1 + n)))
+    ∙ ap (λ (k : ℕ). (find a ++ flat_map find (range_with_len (a + 1) n)) ++ find k) same
+
+pub flat-more : (find : ℕ → List Fault) (n : ℕ) (faults more : List Fault) → faults ≡ flat_map find (range_with_len 0 n) → more ≡ faults ++ find n → more ≡ flat_map find (range_with_len 0 (n + 1))
+flat-more find n faults more so_far e =
+    let same : n ≡ 0 + n = omega arith in
+    e ∙ (λ i. so_far i ++ find (same i)) ∙ sym (flat-next find 0 n) ∙ ap (λ (m : ℕ). flat_map find (range_with_len 0 m)) (sym (add-one n))

@@ -1,0 +1,5 @@
+pub mod Narrow
+pub mod Listed
+pub mod Gathered
+pub mod Kept
+mod Examples

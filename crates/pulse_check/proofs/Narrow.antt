@@ -1,0 +1,121 @@
+-- Where the least width of a pulse is found, and why none is.
+use Rattle.std.proofs.Common.{inl, inr, ◌⊎◌, ◌≡◌, ℕ, zero, suc, ◌+◌, ◌-◌, ◌<◌, ◌≤◌, Bool, true, false, ◌&&◌, cond, refl, sym, ap, ◌∙◌, arith, Option, Some, None}
+use Rattle.std.specs.Option.{option_map}
+use Rattle.std.proofs.lemmas.Bool.{cases_lt}
+use Rattle.step_values.specs.declared.value.Value.{Value}
+use Rattle.point_check.proofs.Firsts.{first_some-from, first_some-beyond}
+use Rattle.pulse_check.specs.Pulse.{Slots, may_begin, may_end, may_last, lasts_for, may_be_wide, least_width, narrow_at, first_narrow}
+
+both-true : (a b : Bool) → a ≡ true → b ≡ true → (a && b) ≡ true
+both-true a b e e' = ap (λ (x : Bool). x && b) e ∙ e'
+
+first-false : (a b : Bool) → a ≡ false → (a && b) ≡ false
+first-false a b e = ap (λ (x : Bool). x && b) e
+
+second-false : (a b : Bool) → b ≡ false → (a && b) ≡ false
+second-false true b e = e
+second-false false b e = refl
+
+-- ---- going on
+
+pub lasts-all : (level : Bool) (wave : Slots) (slot n : ℕ) → ((k : ℕ) → k < n → may_last level (wave (slot + k)) ≡ true) → lasts_for level wave slot n ≡ true
+lasts-all level wave slot zero each = refl
+lasts-all level wave slot (suc n) each =
+    let here : slot ≡ slot + 0 = omega arith in
+    both-true (may_last level (wave slot)) (lasts_for level wave (slot + 1) n)
+    (ap (λ (s : ℕ). may_last level (wave s)) here ∙ each 0 (omega arith))
+    (lasts-all level wave (slot + 1) n (λ k below. next k below))
+  where
+    next : (k : ℕ) → k < n → may_last level (wave (slot + 1 + k)) ≡ true
+    next k below =
+        let same : slot + 1 + k ≡ slot + suc k = omega arith in
+        ap (λ (s : ℕ). may_last level (wave s)) same ∙ each (suc k) (omega arith)
+
+lasts-not : (level : Bool) (wave : Slots) (slot n k : ℕ) → k < n → may_last level (wave (slot + k)) ≡ false → lasts_for level wave slot n ≡ false
+lasts-not level wave slot zero k below stops = absurd (omega arith)
+lasts-not level wave slot (suc n) zero below stops =
+    let here : slot ≡ slot + 0 = omega arith in
+    first-false (may_last level (wave slot)) (lasts_for level wave (slot + 1) n) (ap (λ (s : ℕ). may_last level (wave s)) here ∙ stops)
+lasts-not level wave slot (suc n) (suc k) below stops =
+    let same : slot + 1 + k ≡ slot + suc k = omega arith in
+    second-false (may_last level (wave slot)) (lasts_for level wave (slot + 1) n)
+    (lasts-not level wave (slot + 1) n k (omega arith) (ap (λ (s : ℕ). may_last level (wave s)) same ∙ stops))
+
+-- ---- the least width
+
+-- a pulse that begins in slot a goes on so far and does not end
+pub record GoesOn (level : Bool) (wave : Slots) (a k : ℕ) : Type 0 where
+  pub unended : may_end level (wave (a + k)) ≡ false
+  pub lasts : may_last level (wave (a + k)) ≡ true
+
+pub unended-on : (level : Bool) (wave : Slots) (a k : ℕ) (v : Value) (ends lasts : Bool) → wave (a + k) ≡ v → ends ≡ may_end level v → ends ≡ false → lasts ≡ may_last level v → lasts ≡ true → GoesOn level wave a k
+unended-on level wave a k v ends lasts at e unended l goes = record { unended = ap (may_end level) at ∙ sym e ∙ unended; lasts = ap (may_last level) at ∙ sym l ∙ goes }
+
+module _ (level : Bool) (wave : Slots) (limit a : ℕ) where
+  abbrev pub width_at : ℕ → Option ℕ
+  width_at width = cond (may_be_wide level wave a width) (Some width) None
+
+  unended-none : (k : ℕ) → may_end level (wave (a + k)) ≡ false → width_at k ≡ None
+  unended-none k e =
+      ap (λ b. cond b (Some k) None) (first-false (may_end level (wave (a + k))) (lasts_for level wave (a + 1) (k - 1)) e)
+
+  pub is-wide : (width : ℕ) → 1 ≤ width → ((k : ℕ) → 1 ≤ k → k < width → may_last level (wave (a + k)) ≡ true) → may_end level (wave (a + width)) ≡ true →
+      may_be_wide level wave a width ≡ true
+  is-wide width one each end =
+      both-true (may_end level (wave (a + width))) (lasts_for level wave (a + 1) (width - 1)) end
+      (lasts-all level wave (a + 1) (width - 1) (λ k below. later k below))
+    where
+      later : (k : ℕ) → k < width - 1 → may_last level (wave (a + 1 + k)) ≡ true
+      later k below =
+          let same : a + 1 + k ≡ a + (1 + k) = omega arith in
+          ap (λ (s : ℕ). may_last level (wave s)) same ∙ each (1 + k) (omega arith) (omega arith)
+
+  pub ends-here : (width : ℕ) → 1 ≤ width → width < limit → ((k : ℕ) → k < width → 1 ≤ k → GoesOn level wave a k) → may_end level (wave (a + width)) ≡ true →
+      least_width level wave limit a ≡ Some width
+  ends-here width one below before end =
+      first_some-from width_at (limit - 1) 1 width width (λ k above less. unended-none k (before k less above).unended) one (omega arith)
+      (ap (λ b. cond b (Some width) None) (is-wide width one (λ k above less. (before k less above).lasts) end))
+
+  pub stops-here : (width : ℕ) → 1 ≤ width → ((k : ℕ) → k < width → 1 ≤ k → GoesOn level wave a k) → may_end level (wave (a + width)) ≡ false → may_last level (wave (a + width)) ≡ false →
+      least_width level wave limit a ≡ None
+  stops-here width one before unended stops = first_some-beyond width_at (limit - 1) 1 (λ k above below. by k above (cases_lt k width) (cases_lt width k))
+    where
+      beyond : (k : ℕ) → width < k → width_at k ≡ None
+      beyond k over =
+          let same : a + 1 + (width - 1) ≡ a + width = omega arith in
+          ap (λ b. cond b (Some k) None)
+          (second-false (may_end level (wave (a + k))) (lasts_for level wave (a + 1) (k - 1))
+          (lasts-not level wave (a + 1) (k - 1) (width - 1) (omega arith) (ap (λ (s : ℕ). may_last level (wave s)) same ∙ stops)))
+
+      by : (k : ℕ) → 1 ≤ k → (k < width) ⊎ (width ≤ k) → (width < k) ⊎ (k ≤ width) → width_at k ≡ None
+      by k above (inl less) other = unended-none k (before k less above).unended
+      by k above (inr most) (inl over) = beyond k over
+      by k above (inr most) (inr least) =
+          let same : k ≡ width = omega arith in
+          unended-none k (ap (λ (j : ℕ). may_end level (wave (a + j))) same ∙ unended)
+
+  pub never-ends : ((k : ℕ) → k < limit → 1 ≤ k → GoesOn level wave a k) → least_width level wave limit a ≡ None
+  never-ends before = first_some-beyond width_at (limit - 1) 1 (λ k above below. unended-none k (before k (omega arith) above).unended)
+
+-- ---- the first slot
+
+pub narrow-here : (level : Bool) (wave : Slots) (limit a width : ℕ) → may_begin level (wave a) ≡ true → least_width level wave limit a ≡ Some width → narrow_at level wave limit a ≡ Some (a, width)
+narrow-here level wave limit a width begins least =
+    ap (λ b. cond b (option_map (λ (w : ℕ). (a, w)) (least_width level wave limit a)) None) begins ∙ ap (option_map (λ (w : ℕ). (a, w))) least
+
+pub narrow-not : (level : Bool) (wave : Slots) (limit a : ℕ) → may_begin level (wave a) ≡ false → narrow_at level wave limit a ≡ None
+narrow-not level wave limit a begins = ap (λ b. cond b (option_map (λ (w : ℕ). (a, w)) (least_width level wave limit a)) None) begins
+
+pub narrow-wide : (level : Bool) (wave : Slots) (limit a : ℕ) → least_width level wave limit a ≡ None → narrow_at level wave limit a ≡ None
+narrow-wide level wave limit a least = by (may_begin level (wave a))
+  where
+    by : (b : Bool) → cond b (option_map {U = ℕ × ℕ} (λ w. (a, w)) (least_width level wave limit a)) None ≡ None
+    by true = ap (option_map {U = ℕ × ℕ} (λ w. (a, w))) least
+    by false = refl
+
+pub first-here : (period : ℕ) (level : Bool) (wave : Slots) (limit a width : ℕ) → ((k : ℕ) → k < a → narrow_at level wave limit k ≡ None) → a < period → narrow_at level wave limit a ≡ Some (a, width) →
+    first_narrow period level wave limit ≡ Some (a, width)
+first-here period level wave limit a width before below here = first_some-from (narrow_at level wave limit) period 0 a (a, width) (λ k above less. before k less) (omega arith) (omega arith) here
+
+pub first-nowhere : (period : ℕ) (level : Bool) (wave : Slots) (limit : ℕ) → ((k : ℕ) → k < period → narrow_at level wave limit k ≡ None) → first_narrow period level wave limit ≡ None
+first-nowhere period level wave limit none = first_some-beyond (narrow_at level wave limit) period 0 (λ k above below. none k (omega arith))

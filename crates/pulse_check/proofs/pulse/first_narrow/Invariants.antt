@@ -1,0 +1,7 @@
+use Rattle.std.proofs.Common.{◌≡◌, ℕ, ◌<◌, None}
+use Rattle.point_check.specs.Folds.{read}
+use Rattle.pulse_check.specs.Pulse.{narrow_at}
+use Rattle.pulse_check.proofs.pulse.first_narrow.Given as goal
+
+abbrev pub invariant-loop-start : goal.invariant-loop-start
+invariant-loop-start g l = (k : ℕ) → k < l.start → narrow_at l.level (read (g.W.CyclicWave.cells l.wave)) l.limit k ≡ None

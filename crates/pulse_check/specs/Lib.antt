@@ -1,0 +1,4 @@
+pub mod Pulse
+pub mod Faults
+pub mod Break
+pub mod Sound

@@ -1,0 +1,82 @@
+//! How narrow the pulses of a wave may be.
+
+ghost use Rattle.std.specs.Prelude.{◌≡◌, ◌<◌, ◌≤◌, IfSome, length};
+ghost use Rattle.point_check.specs.Folds.{read};
+ghost use Rattle.pulse_check.specs.Pulse.{first_narrow as narrow_pulse, least_width as least_width_of, may_begin as begins, may_end as ends, may_last as lasts};
+
+use step_values::{Step, Value};
+use wave_core::CyclicWave;
+
+/// Whether a pulse at the level may begin in a slot of this value.
+fn may_begin(level: bool, value: Value) -> bool
+    ensures { result ≡ begins level value }
+{
+    value.permits(Step {
+        before: !level,
+        after: level,
+    })
+}
+
+/// Whether it may end there.
+fn may_end(level: bool, value: Value) -> bool
+    ensures { result ≡ ends level value }
+{
+    value.permits(Step {
+        before: level,
+        after: !level,
+    })
+}
+
+/// Whether it may go on there.
+fn may_last(level: bool, value: Value) -> bool
+    ensures { result ≡ lasts level value }
+{
+    value.permits(Step {
+        before: level,
+        after: level,
+    })
+}
+
+/// The least width below the limit of a pulse that begins in this slot.
+fn least_width<W: CyclicWave<Item = Value>>(
+    wave: &W,
+    level: bool,
+    limit: u16,
+    start: u16,
+) -> Option<u16>
+    requires start { start < length (W.cells wave.now) }
+    requires limit { limit ≤ length (W.cells wave.now) }
+    ensures { result ≡ least_width_of level (read (W.cells wave.now)) limit start }
+{
+    let period = wave.period();
+    for width in 1..limit {
+        let value = wave.at((start + width) % period);
+        if may_end(level, value) {
+            return Some(width);
+        }
+        if !may_last(level, value) {
+            return None;
+        }
+    }
+    None
+}
+
+/// The first slot in which a pulse at the level may begin that is narrower than the limit, and the least
+/// width of such a pulse.
+pub fn first_narrow<W: CyclicWave<Item = Value>>(
+    wave: &W,
+    level: bool,
+    limit: u16,
+) -> Option<(u16, u16)>
+    requires { limit ≤ length (W.cells wave.now) }
+    ensures { result ≡ narrow_pulse (length (W.cells wave.now)) level (read (W.cells wave.now)) limit }
+{
+    for start in 0..wave.period() {
+        if may_begin(level, wave.at(start)) {
+            if let Some(width) = least_width(wave, level, limit, start) {
+                return Some((start, width));
+            }
+        }
+    }
+    None
+}
