@@ -1,0 +1,5 @@
+pub mod Parts
+pub mod Numbers
+pub mod Runs
+pub mod Waves
+pub mod Examples

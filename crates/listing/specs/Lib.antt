@@ -1,0 +1,10 @@
+pub mod Text
+pub mod Piece
+pub mod Names
+pub mod Head
+pub mod Run
+pub mod Wave
+pub mod Fault
+pub mod Case
+pub mod End
+pub mod Answer

@@ -1,0 +1,52 @@
+//! The lines that stand in place of a report.
+
+ghost use Rattle.std.specs.Prelude.{◌≡◌, ◌++◌, ◌<◌, length, OnErr, OnOk};
+ghost use Rattle.listing.specs.Answer.{refusal_line, unsettled_line};
+ghost use Rattle.listing.specs.Text.{HasPart};
+
+use crate::names::{net_at, net_piece};
+use crate::piece::{Piece, add_line};
+use flat_circuit::Circuit;
+use scald_base::{Bytes, NoMemory, Refusal};
+
+/// Puts the line of a refused text at the end of `out`: the number and the name of the refusal's kind,
+/// and its line and column. Where memory runs out, a part of the line may stand there.
+#[tactic(auto, unfolding(crate::specs::Answer::refusal_line))]
+pub fn write_refusal(r: &Refusal, out: &mut Bytes) -> Result<(), NoMemory>
+    ensures ok { OnOk result (out.new ≡ out.old ++ refusal_line r.now) }
+    ensures err { OnErr result (HasPart out.old out.new (refusal_line r.now)) }
+{
+    add_line(
+        out,
+        &[
+            Piece::Text(b"REFUSED "),
+            Piece::Number(u64::from(r.kind.number())),
+            Piece::Text(b" "),
+            Piece::Text(r.kind.name().as_bytes()),
+            Piece::Text(b" "),
+            Piece::Number(u64::from(r.place.line)),
+            Piece::Text(b":"),
+            Piece::Number(u64::from(r.place.col)),
+        ],
+    )
+}
+
+/// Puts the line of rounds that do not come to rest at the end of `out`: the net at the place `net`, from
+/// 0, in the order of names, and the round at the limit. Where memory runs out, a part of the line may
+/// stand there.
+#[tactic(auto, unfolding(crate::specs::Answer::unsettled_line))]
+pub fn write_unsettled(c: &Circuit, net: u32, round: u32, out: &mut Bytes) -> Result<(), NoMemory>
+    requires { net < length c.now.order }
+    ensures ok { OnOk result (out.new ≡ out.old ++ unsettled_line c.now net round) }
+    ensures err { OnErr result (HasPart out.old out.new (unsettled_line c.now net round)) }
+{
+    add_line(
+        out,
+        &[
+            Piece::Text(b"UNSETTLED "),
+            net_piece(c, net_at(c, net)),
+            Piece::Text(b" ROUND "),
+            Piece::Number(u64::from(round)),
+        ],
+    )
+}

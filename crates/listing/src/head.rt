@@ -1,0 +1,116 @@
+//! The head of the report.
+
+ghost use Rattle.std.specs.Prelude.{◌≡◌, ◌<◌, ◌++◌, length, slice_get, OnErr, OnOk};
+ghost use Rattle.flat_circuit.specs.declared.instance.Instance.{Instance};
+ghost use Rattle.flat_circuit.specs.Kind.{has_output};
+ghost use Rattle.flat_circuit.specs.Instances.{outputs};
+ghost use Rattle.listing.specs.Head.{counts_line, head, is_taken_stable, period_line, stable_line, stable_lines};
+ghost use Rattle.listing.specs.Text.{HasPart};
+
+use crate::names::{net_at, net_piece};
+use crate::piece::{Piece, add_line};
+use flat_circuit::Circuit;
+use scald_base::{AssertSpec, Bytes, NoMemory};
+
+/// Whether an instance has an output.
+fn has_output(c: &Circuit, instance: u32) -> bool
+    requires { instance < length c.now.instances }
+    ensures { (j : Instance) → slice_get c.now.instances instance ≡ Some j → result ≡ has_output j.kind }
+{
+    c.instance(instance).unwrap().kind.has_output()
+}
+
+/// How many instances have an output.
+fn output_count(c: &Circuit) -> u32
+    ensures { result ≡ outputs c.now.instances }
+{
+    let mut count = 0;
+    for k in 0..c.instance_count() {
+        count += u32::from(has_output(c, k));
+    }
+    count
+}
+
+/// The line with the period, in ticks.
+#[tactic(auto, unfolding(crate::specs::Head::period_line))]
+fn add_period(out: &mut Bytes, c: &Circuit) -> Result<(), NoMemory>
+    ensures ok { OnOk result (out.new ≡ out.old ++ period_line c.now) }
+    ensures err { OnErr result (HasPart out.old out.new (period_line c.now)) }
+{
+    add_line(
+        out,
+        &[
+            Piece::Text(b"SCALD 1 PERIOD "),
+            Piece::Number(u64::from(c.header().period())),
+        ],
+    )
+}
+
+/// The line that counts nets, instances with an output, and checkers, each bit by itself.
+#[tactic(auto, unfolding(crate::specs::Head::counts_line))]
+fn add_counts(out: &mut Bytes, c: &Circuit) -> Result<(), NoMemory>
+    ensures ok { OnOk result (out.new ≡ out.old ++ counts_line c.now) }
+    ensures err { OnErr result (HasPart out.old out.new (counts_line c.now)) }
+{
+    let outputs = output_count(c);
+    add_line(
+        out,
+        &[
+            Piece::Text(b"NETS "),
+            Piece::Number(u64::from(c.net_count())),
+            Piece::Text(b" INSTANCES "),
+            Piece::Number(u64::from(outputs)),
+            Piece::Text(b" CHECKS "),
+            Piece::Number(u64::from(c.instance_count() - outputs)),
+        ],
+    )
+}
+
+/// Whether nothing drives the net and nothing is asserted of it.
+fn is_taken_stable(c: &Circuit, net: u32) -> bool
+    ensures { result ≡ is_taken_stable (slice_get c.now.nets net) }
+{
+    match c.net(net) {
+        Some(found) => found.driver.is_none() && matches!(found.spec, AssertSpec::None),
+        None => false,
+    }
+}
+
+/// The line of a net that is taken for constant: one that nothing drives and of which nothing is
+/// asserted. Other nets have none.
+#[tactic(auto, unfolding(crate::specs::Head::stable_line))]
+fn add_stable(out: &mut Bytes, c: &Circuit, net: u32) -> Result<(), NoMemory>
+    ensures ok { OnOk result (out.new ≡ out.old ++ stable_line c.now net) }
+    ensures err { OnErr result (HasPart out.old out.new (stable_line c.now net)) }
+{
+    if is_taken_stable(c, net) {
+        add_line(out, &[Piece::Text(b"STABLE "), net_piece(c, net)])
+    } else {
+        Ok(())
+    }
+}
+
+/// The lines of the nets that are taken for constant, in the order of names.
+fn add_stables(out: &mut Bytes, c: &Circuit) -> Result<(), NoMemory>
+    ensures ok { OnOk result (out.new ≡ out.old ++ stable_lines c.now) }
+    ensures err { OnErr result (HasPart out.old out.new (stable_lines c.now)) }
+{
+    c.known();
+    for place in 0..c.net_count() {
+        add_stable(out, c, net_at(c, place))?;
+    }
+    Ok(())
+}
+
+/// Puts the head of the report at the end of `out`: the line with the period in ticks, the line that
+/// counts the bits of nets, of instances with an output and of checkers, and a line for each net that
+/// nothing drives and of which nothing is asserted, in the order of names. Where memory runs out, a part
+/// of these lines may stand there.
+pub fn begin_report(c: &Circuit, out: &mut Bytes) -> Result<(), NoMemory>
+    ensures ok { OnOk result (out.new ≡ out.old ++ head c.now) }
+    ensures err { OnErr result (HasPart out.old out.new (head c.now)) }
+{
+    add_period(out, c)?;
+    add_counts(out, c)?;
+    add_stables(out, c)
+}

@@ -1,0 +1,32 @@
+//! The report on a circuit, line by line: its head, the lines of each case with waves and faults as
+//! the mode asks, and the last line; and the one line that stands in place of a report where a text is
+//! refused or rounds do not come to rest.
+//!
+//! The layer above composes a report of [`begin_report`], [`write_case`] for each case, and
+//! [`end_report`]. Each call puts exactly its lines behind the bytes that it is given. `specs/Head`,
+//! `specs/Case`, `specs/End` and `specs/Answer` say which lines these are, over `specs/Wave`,
+//! `specs/Run` and `specs/Fault`.
+#![tactic(auto)]
+
+// pieces of lines
+mod names;
+mod piece;
+
+// the report
+mod case;
+mod end;
+mod fault;
+mod head;
+mod run;
+mod wave;
+
+// in place of a report
+mod answer;
+
+pub use answer::{write_refusal, write_unsettled};
+pub use case::{Mode, write_case};
+pub use end::end_report;
+pub use head::begin_report;
+
+#[cfg(test)]
+mod tests;

@@ -1,0 +1,57 @@
+//! Runs of equal values.
+
+ghost use Rattle.std.specs.Prelude.{◌≡◌, ◌++◌, OnErr, OnOk};
+ghost use Rattle.step_values.specs.Cell.{same};
+ghost use Rattle.listing.specs.Run.{AreRuns, Run, run_text, runs, runs_text};
+ghost use Rattle.listing.specs.Text.{HasPart};
+
+use crate::piece::{Piece, add_pieces};
+use scald_base::{Bytes, NoMemory};
+use step_values::Value;
+use wave_core::CyclicWave;
+
+/// A value, and in how many slots it stands side by side.
+fn add_run(out: &mut Bytes, value: Value, width: u16) -> Result<(), NoMemory>
+    ensures ok { let run : Run = record { value = value; width = width } in OnOk result (out.new ≡ out.old ++ run_text run) }
+    ensures err { let run : Run = record { value = value; width = width } in OnErr result (HasPart out.old out.new (run_text run)) }
+{
+    add_pieces(
+        out,
+        &[
+            Piece::Text(b" "),
+            Piece::Byte(value.letter()),
+            Piece::Text(b":"),
+            Piece::Number(u64::from(width)),
+        ],
+    )
+}
+
+/// Whether two values are one.
+fn is_same(value: Value, other: Value) -> bool
+    ensures { result ≡ same value other }
+{
+    value == other
+}
+
+/// The runs of equal values of a wave, from slot 0 to the period's end.
+pub fn add_runs<W: CyclicWave<Item = Value>>(out: &mut Bytes, wave: &W) -> Result<(), NoMemory>
+    ensures ok { OnOk result (out.new ≡ out.old ++ runs_text (W.cells wave.now)) }
+    ensures err { OnErr result (HasPart out.old out.new (runs_text (W.cells wave.now))) }
+
+    // What is printed as runs are runs: they spell the wave, and none of them can be longer.
+    ensures are { AreRuns (W.cells wave.now) (runs (W.cells wave.now)) }
+{
+    let mut value = wave.at(0);
+    let mut width = 1;
+    for slot in 1..wave.period() {
+        let next = wave.at(slot);
+        if is_same(value, next) {
+            width += 1;
+        } else {
+            add_run(out, value, width)?;
+            value = next;
+            width = 1;
+        }
+    }
+    add_run(out, value, width)
+}
