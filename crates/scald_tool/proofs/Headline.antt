@@ -1,133 +1,126 @@
--- The waves at rest speak of every run: what has no fault in them is never broken.
-use Rattle.std.proofs.Common.{◌≡◌, ℕ, zero, suc, ◌+◌, ◌*◌, ◌<◌, ◌≤◌, Bool, true, false, not, nat_le, List, [], ◌∷◌, ◌++◌, length, refl, sym, subst, cond, ◌∙◌, arith, Option, Some, None}
-use Rattle.std.specs.Prelude.{slice_get}
-use Rattle.std.specs.List.{flat_map}
-use Rattle.std.proofs.lemmas.Bool.{and_parts, leb-true}
-use Rattle.scald_base.specs.Time.{period}
-use Rattle.scald_base.specs.declared.refusal.Refusal.{Refusal}
-use Rattle.scald_tool.specs.declared.one_checker.OneChecker.{OneChecker}
-use Rattle.scald_tool.specs.declared.fault.PointFault.{PointFault}
+-- What has no fault in the waves at rest is never broken, and Clean is said where nothing has one.
+use Rattle.std.proofs.Common.{◌≡◌, ℕ, ◌+◌, ◌*◌, ◌<◌, ◌≤◌, Bool, true, false, List, [], ◌∷◌, ◌++◌, length, refl, sym, ap, subst, ◌∙◌, arith, cond, IfOk, Result, Ok, Err}
+use Rattle.std.specs.Prelude.{◌==◌, ◌||◌}
+use Rattle.std.specs.List.{list_any}
+use Rattle.std.proofs.lemmas.List.Elements.{All-head, All-cons, All-nil}
+use Rattle.std.proofs.lemmas.Bool.{eqb-true}
+use Rattle.std.proofs.lemmas.List.Folds.{list_any-append}
+use Rattle.scald_base.specs.Time.{Header, period}
+use Rattle.flat_circuit.specs.declared.fault.Fault.{Fault}
+use Rattle.flat_circuit.specs.Circuit.{Circuit, IsCircuit}
+use Rattle.fixpoint_engine.specs.Value.{Waves}
+use Rattle.fixpoint_engine.specs.Reach.{reach}
+use Rattle.fixpoint_engine.specs.Rounds.{AreSame}
+use Rattle.case_analysis.specs.Base.{base_round, PermitInputs}
+use Rattle.case_analysis.specs.Tick.{tick}
+use Rattle.point_check.specs.Faults.{is_of_instance, is_of_net}
+use Rattle.point_check.specs.Sound.{KeepsConstraints}
+use Rattle.point_check.proofs.Kept.{AreLong}
+use Rattle.point_check.proofs.Reached.{all-pins-permit, no-instance-breaks, no-net-breaks}
+use Rattle.pulse_check.specs.Sound.{is_of_pulse, KeepsWidths}
+use Rattle.listing.specs.declared.case.Mode.{Mode}
 use Rattle.scald_tool.specs.declared.outcome.Outcome.{Outcome}
-use Rattle.scald_tool.specs.declared.outcome.Outcome.TheVariants.{Clean}
-use Rattle.scald_tool.specs.Circuit.{Kind, SetupHold, Instance, Circuit}
-use Rattle.scald_tool.specs.Run.{Run, Choice, WiresFit, IsRunAt}
-use Rattle.scald_tool.specs.Interface.{MeetsInterface}
-use Rattle.scald_tool.specs.Rounds.{Waves, default_limit, round, greatest_wire, greatest_delay, printed_tick}
-use Rattle.scald_tool.specs.Break.{BreaksKind, pin_at}
-use Rattle.scald_tool.specs.Fault.{Fault, pin_wave_at, kind_faults, instance_faults, noted, faults}
-use Rattle.scald_tool.specs.Text.{IsTextOf, refusal_of, circuit_of, header_fits, Draws}
-use Rattle.scald_tool.specs.Answer.{verdict_of, Verified, unread, refusal, judged}
-use Rattle.scald_tool.specs.Promise.{has_report, NeverBreaks, FaultlessNeverBreaks}
-use Rattle.scald_tool.specs.Laws.{IsUndriven, FaultlessIsUnbroken}
-use Rattle.scald_tool.proofs.Rest.{circuit-undriven, rests_at_zero}
-use Rattle.scald_tool.proofs.Judgement.{judged-first}
-use Rattle.scald_tool.proofs.Pins.{length-pin_at, Permits-pin_at, wire-delay}
-use Rattle.scald_tool.proofs.Checker.{no_break}
+use Rattle.scald_tool.specs.declared.outcome.Outcome.TheVariants.{Clean, Faulty}
+use Rattle.scald_base.specs.declared.list.NoMemory.{NoMemory as OutOfMemory}
+use Rattle.scald_tool.specs.declared.reply.Reply.{Reply}
+use Rattle.scald_tool.specs.Drawn.{DrawsCircuit}
+use Rattle.scald_tool.specs.Case.{Case, base_case, faults_of, faults, fault_count}
+use Rattle.scald_tool.specs.Answer.{verdict_of, Judged, rested, unsettled}
+use Rattle.scald_tool.specs.Promise.{by_instance, by_pulse, by_net, IsUnbroken, KeepsFaultless, IsKept, IsSafe, has_report, NeverBreaks}
+use Rattle.scald_tool.proofs.Judgement.{one_rest}
 
--- what a pin shows is permitted from the tick on that is printed for any round
-printed-after : (r n w : ℕ) → w ≤ n → 1 + w ≤ (r + 0 + 1) * (1 + n)
-printed-after r n w l = omega arith
+-- ---- the faults of both checks together
 
-noted-none : (i : Instance) (f : Option PointFault) → noted i f ≡ [] → f ≡ None
-noted-none i None e = refl
-noted-none i (Some f) e = cc
+or-left : (a b : Bool) → (a || b) ≡ false → a ≡ false
+or-left true b e = absurd cc
+or-left false b e = refl
 
--- one instance, by its kind
-unbroken : (kind : Kind) (c : Circuit) (run : Run) (r : ℕ) (i : Instance) (choice : Choice) → 0 < period c.header → IsUndriven c → MeetsInterface c run →
-    WiresFit c i.pins choice.wires → greatest_wire c i.pins ≤ greatest_delay c c.instances →
-    kind_faults c (round c r) kind i ≡ [] → BreaksKind kind run i choice (printed_tick c r 0) → ⊥
-unbroken SetupHold c run r i choice pos free meets fits l none b =
-    let from : 1 + greatest_wire c i.pins ≤ printed_tick c r 0 = printed-after r (greatest_delay c c.instances) (greatest_wire c i.pins) l in
-    let l0 : length (pin_wave_at c (round c r) i 0).cells ≡ period c.header = length-pin_at c r i 0 free in
-    let l1 : length (pin_wave_at c (round c r) i 1).cells ≡ period c.header = length-pin_at c r i 1 free in
-    b.changes (no_break (pin_wave_at c (round c r) i 0) (pin_wave_at c (round c r) i 1) i.limits.0 i.limits.1 run.ticks (printed_tick c r 0) b.edge b.change
-    (pin_at run i choice 0) (pin_at run i choice 1) (omega (arith, l0, pos)) (l1 ∙ sym l0)
-    (Permits-pin_at c run r i choice 0 (printed_tick c r 0) pos free meets fits from)
-    (Permits-pin_at c run r i choice 1 (printed_tick c r 0) pos free meets fits from)
-    (noted-none i _ none) b.edge_from b.change_from (omega (arith, b.edge_begins)) (omega (arith, b.change_begins)) b.edge_ends b.change_ends b.low b.high b.not_before b.not_after)
+or-right : (a b : Bool) → (a || b) ≡ false → b ≡ false
+or-right true b e = absurd cc
+or-right false b e = e
 
-one-instance : (o : Option Instance) (i j : Instance) → o ≡ Some i → o ≡ Some j → i ≡ j
-one-instance o i j a b = cc
+none-first : (test : Fault → Bool) (fs gs all : List Fault) → all ≡ fs ++ gs → list_any test all ≡ false → list_any test fs ≡ false
+none-first test fs gs all e none = or-left (list_any test fs) (list_any test gs) (sym (list_any-append test fs gs) ∙ ap (list_any test) (sym e) ∙ none)
 
-pub faultless_is_unbroken : (c : Circuit) → 0 < period c.header → IsUndriven c → FaultlessIsUnbroken c
-faultless_is_unbroken c pos free run r k i is_run meets is none broken =
-    let same : i ≡ broken.instance = one-instance (slice_get c.instances k) i broken.instance is broken.instance_is in
-    let none' : instance_faults c (round c r) broken.instance ≡ [] =
-    subst (λ (z : Instance). instance_faults c (round c r) z ≡ []) same none in
-    let at : IsRunAt c run broken.instance broken.choice = is_run.at k broken.instance broken.choice broken.instance_is broken.choice_is in
-    unbroken broken.instance.kind c run r broken.instance broken.choice pos free meets at.wires
-    (wire-delay c c.instances k broken.instance broken.instance_is) none' broken.breaks
+none-second : (test : Fault → Bool) (fs gs all : List Fault) → all ≡ fs ++ gs → list_any test all ≡ false → list_any test gs ≡ false
+none-second test fs gs all e none = or-right (list_any test fs) (list_any test gs) (sym (list_any-append test fs gs) ∙ ap (list_any test) (sym e) ∙ none)
 
--- ---- from the text
+-- the printed tick lies a reach less one tick after the tick from which on the waves at rest permit the nets
+printed-after : (r n : ℕ) → r * n + 1 + n ≤ (r + 0 + 1) * n + 1
+printed-after r n = omega arith
 
-passed-first : (fits : Bool) (r : Refusal) (others : Option Refusal) → cond (not fits) (Some r) others ≡ None → fits ≡ true
-passed-first true r others e = refl
-passed-first false r others e = cc
+module _ (c : Circuit) (ws : Waves) (fs gs all : List Fault) (some : 0 < period c.header) (known : IsCircuit c) (long : AreLong c ws)
+    (points : KeepsConstraints c ws fs) (widths : KeepsWidths c ws gs) (are : all ≡ fs ++ gs) (r : ℕ) (permits : PermitInputs c r ws) where
+  -- What has no fault is not broken, from the tick on that is printed after so many rounds.
+  pub keeps_faultless : KeepsFaultless c all (tick (reach c) r 0)
+  keeps_faultless = record {
+    instances = λ run k is_run meets none.
+        no-instance-breaks c run ws fs (r * reach c + 1) (tick (reach c) r 0) some known long points is_run (permits run is_run meets) (omega arith) (printed-after r (reach c)) k
+        (none-first (is_of_instance k) fs gs all are none);
+    pulses = λ run k level is_run meets none.
+        widths run k level (tick (reach c) r 0) (none-second (is_of_pulse k level) fs gs all are none)
+        (all-pins-permit c run ws k (r * reach c + 1) (tick (reach c) r 0) some known long is_run (permits run is_run meets) (omega arith) (printed-after r (reach c)));
+    nets = λ run i is_run meets none.
+        no-net-breaks c run ws fs (r * reach c + 1) (tick (reach c) r 0) some known long points is_run (permits run is_run meets) (omega arith) (printed-after r (reach c)) i
+        (none-first (is_of_net i) fs gs all are none);
+  }
 
--- the period of an accepted drawing is not empty
-accepted-period : (d : OneChecker) → refusal_of d ≡ None → 0 < period (circuit_of d).header
-accepted-period d e =
-    let fits : header_fits d ≡ true = passed-first (header_fits d) _ _ e in
-    let two : 2 ≤ d.units * d.ticks =
-    leb-true 2 (d.units * d.ticks) (and_parts (nat_le 2 (d.units * d.ticks)) (nat_le (d.units * d.ticks) 4096) fits).0 in
-    omega arith
+-- waves that are those of the base at every net are the same
+pub same-waves : (ws vs : Waves) → AreSame ws vs → ws ≡ vs
+same-waves ws vs same = λ j i. same i j
 
-drawn_is_unbroken : (d : OneChecker) → refusal_of d ≡ None → FaultlessIsUnbroken (circuit_of d)
-drawn_is_unbroken d accepted = faultless_is_unbroken (circuit_of d) (accepted-period d accepted) (circuit-undriven d)
-
-draws : (d : OneChecker) (text : List ℕ) → IsTextOf d text → refusal_of d ≡ None → Draws text (circuit_of d)
-draws d text is_text accepted = record { drawing = d; is_text = is_text; accepted = accepted; circuit = refl }
-
-faultless_never_breaks : (d : OneChecker) (text : List ℕ) → IsTextOf d text → refusal_of d ≡ None → FaultlessNeverBreaks text
-faultless_never_breaks d text is_text accepted = record {
-  circuit = circuit_of d;
-  drawn = draws d text is_text accepted;
-  base = 0;
-  rests = rests_at_zero d (default_limit (circuit_of d));
-  never = λ run k i is_run meets is none. drawn_is_unbroken d accepted run 0 k i is_run meets is none;
-}
+-- what is kept by the faults of waves is kept by those of the case
+pub kept : (c : Circuit) (ws : Waves) (r : ℕ) (fs : List Fault) → AreSame ws (base_round c r) → fs ≡ faults_of c ws → KeepsFaultless c fs (tick (reach c) r 0) →
+    KeepsFaultless c (faults_of c (base_round c r)) (tick (reach c) r 0)
+kept c ws r fs same are keeps =
+    subst (λ (gs : List Fault). KeepsFaultless c gs (tick (reach c) r 0)) (are ∙ ap (faults_of c) (same-waves ws (base_round c r) same)) keeps
 
 -- ---- no fault at all
 
-append-none : (fs gs : List Fault) → fs ++ gs ≡ [] → (fs ≡ []) × (gs ≡ [])
-append-none [] gs e = (refl, e)
-append-none (f ∷ fs) gs e = cc
+unbroken : (c : Circuit) (base : ℕ) (case : Case) → faults c case ≡ [] → IsKept c base case → IsUnbroken c base case
+unbroken c base case clean keeps run is_run meets broken =
+    elim broken as (λ _. ⊥) [
+      | by_instance k b ↦ keeps.instances run k is_run meets (ap (list_any (is_of_instance k)) clean) b
+      | by_pulse k level b ↦ keeps.pulses run k level is_run meets (ap (list_any (is_of_pulse k level)) clean) b
+      | by_net i b ↦ keeps.nets run i is_run meets (ap (list_any (is_of_net i)) clean) b
+    ]
 
-no-fault : (c : Circuit) (ws : Waves) (is : List Instance) (k : ℕ) (i : Instance) → flat_map (instance_faults c ws) is ≡ [] → slice_get is k ≡ Some i →
-    instance_faults c ws i ≡ []
-no-fault c ws [] k i e at = cc
-no-fault c ws (j ∷ is) zero i e at =
-    subst (λ (z : Instance). instance_faults c ws z ≡ []) (let same : j ≡ i = cc in same)
-    (append-none (instance_faults c ws j) (flat_map (instance_faults c ws) is) e).0
-no-fault c ws (j ∷ is) (suc k) i e at =
-    no-fault c ws is k i (append-none (instance_faults c ws j) (flat_map (instance_faults c ws) is) e).1 at
+verdict-clean : (n : ℕ) (zero' : Bool) → zero' ≡ (n == 0) → cond zero' Clean (Faulty n) ≡ Clean → n ≡ 0
+verdict-clean n true is e = eqb-true n 0 (sym is)
+verdict-clean n false is e = absurd cc
 
-never_breaks : (d : OneChecker) (text : List ℕ) → IsTextOf d text → refusal_of d ≡ None →
-    faults (circuit_of d) (round (circuit_of d) 0) ≡ [] → NeverBreaks text
-never_breaks d text is_text accepted clean = record {
-  circuit = circuit_of d;
-  drawn = draws d text is_text accepted;
-  base = 0;
-  rests = rests_at_zero d (default_limit (circuit_of d));
-  never = λ run k is_run meets broken.
-      drawn_is_unbroken d accepted run 0 k broken.instance is_run meets broken.instance_is
-      (no-fault (circuit_of d) (round (circuit_of d) 0) (circuit_of d).instances k broken.instance clean broken.instance_is) broken;
-}
+none-counted : (fs : List Fault) → 0 + length fs ≡ 0 → fs ≡ []
+none-counted [] e = refl
+none-counted (f ∷ fs) e = absurd (omega arith)
 
-verdict-clean : (fs : List Fault) → verdict_of fs ≡ Clean → fs ≡ []
-verdict-clean [] e = refl
-verdict-clean (f ∷ fs) e = cc
+no-faults : (c : Circuit) (base : ℕ) → verdict_of (fault_count c base) ≡ Clean → faults c (base_case c base) ≡ []
+no-faults c base e = none-counted (faults c (base_case c base)) (verdict-clean (fault_count c base) (fault_count c base == 0) refl e)
 
--- the answer Clean speaks of every run
-pub clean_never_breaks : (text : List ℕ) (o : Outcome) (bytes : List ℕ) → Verified text o bytes → o ≡ Clean → NeverBreaks text
-clean_never_breaks text _ _ (unread none) e = cc
-clean_never_breaks text _ _ (refusal d r is_text why) e = cc
-clean_never_breaks text _ _ (judged d o bytes is_text accepted j) e =
-    let first : o ≡ verdict_of (faults (circuit_of d) (round (circuit_of d) 0)) = (judged-first (circuit_of d) _ o bytes (circuit-undriven d) j).0 in
-    never_breaks d text is_text accepted (verdict-clean (faults (circuit_of d) (round (circuit_of d) 0)) (cc (first, e)))
+-- Clean is said where no case has a fault.
+pub clean_is_safe : (mode : Mode) (c : Circuit) (limit : ℕ) (o : Outcome) (bytes : List ℕ) → Judged mode c limit o bytes →
+    (has_report o ≡ true → IsSafe c limit (IsKept c)) → o ≡ Clean → IsSafe c limit (IsUnbroken c)
+clean_is_safe mode c limit _ _ (rested base rests) keeps e =
+    let safe : IsSafe c limit (IsKept c) = keeps (ap has_report e) in
+    let same : base ≡ safe.base = one_rest (base_round c) limit limit base safe.base rests safe.rests in
+    let clean : faults c (base_case c safe.base) ≡ [] = subst (λ (b : ℕ). faults c (base_case c b) ≡ []) same (no-faults c base e) in
+    record {
+      base = safe.base;
+      rests = safe.rests;
+      each = All-cons (IsUnbroken c safe.base) (base_case c safe.base) []
+          (unbroken c safe.base (base_case c safe.base) clean (All-head (IsKept c safe.base) (base_case c safe.base) [] safe.each))
+          (All-nil (IsUnbroken c safe.base));
+    }
+clean_is_safe mode c limit _ _ (unsettled place is) keeps e = absurd cc
 
--- so does an answer with faults, of the instances that have none
-pub reported_never_breaks : (text : List ℕ) (o : Outcome) (bytes : List ℕ) → Verified text o bytes → has_report o ≡ true → FaultlessNeverBreaks text
-reported_never_breaks text _ _ (unread none) e = cc
-reported_never_breaks text _ _ (refusal d r is_text why) e = cc
-reported_never_breaks text _ _ (judged d o bytes is_text accepted j) e = faultless_never_breaks d text is_text accepted
+-- ---- of a text
+
+pub clean_made : (text : List ℕ) (mode : Mode) (c : Circuit) (limit : ℕ) (made : Result Reply OutOfMemory) → DrawsCircuit text c →
+    IfOk made (λ reply. Judged mode c limit reply.outcome reply.bytes) → IfOk made (λ reply. has_report reply.outcome ≡ true → IsSafe c limit (IsKept c)) →
+    IfOk made (λ reply. reply.outcome ≡ Clean → NeverBreaks text)
+clean_made text mode c limit (Ok reply) drawn j keeps =
+    λ clean. record { circuit = c; drawn = drawn; limit = limit; never = clean_is_safe mode c limit reply.outcome reply.bytes j keeps clean }
+clean_made text mode c limit (Err e) drawn j keeps = tt
+
+-- a period has a tick
+pub some_period : (h k : Header) → h ≡ k → 2 ≤ period h → 0 < period k
+some_period h k same two = omega (arith, ap period same, two)

@@ -1,62 +1,42 @@
 -- From what is read to what is answered and written.
-use Rattle.std.proofs.Common.{inr, ◌⊎◌, ◌≡◌, ℕ, ◌<◌, List, [], ◌++◌, length, true, sym, subst, ap, ◌∙◌, append-nil, length-append, arith, IfSome, IfNone, IfOk, Result, Ok, Err, Some, None}
-use Rattle.std.specs.Prelude.{Option, IsOk}
+use Rattle.std.proofs.Common.{inr, ◌⊎◌, ◌≡◌, ℕ, ◌<◌, Bool, List, [], ◌∷◌, ◌++◌, length, true, false, refl, sym, subst, ap, ◌∙◌, append-nil, length-append, arith, IfSome, IfOk, Result, Ok, Err, Some, None}
+use Rattle.std.specs.Prelude.{◌≢◌, ◌==◌, Option, IsOk}
+use Rattle.std.proofs.lemmas.Bool.{eqb-true}
 use Rattle.std.specs.Io.KnownBytes.{Appends}
 use Rattle.std.proofs.KnownBytes.{Appends-nil}
 use Rattle.scald_base.specs.Device.{Rose, ReadsAll, ReadsPast, TakesFront}
-use Rattle.step_values.specs.declared.value.Value.{Value}
-use Rattle.scald_tool.specs.declared.outcome.Outcome.{Outcome}
-use Rattle.scald_base.specs.declared.list.NoMemory.{NoMemory as OutOfMemory}
 use Rattle.scald_base.specs.declared.refusal.Refusal.{Refusal}
-use Rattle.scald_tool.specs.declared.reply.Reply.{Reply}
-use Rattle.scald_tool.specs.declared.outcome.Outcome.TheVariants.{Clean, Done, Refused, TooLong, WriteFault, NoMemory}
 use Rattle.scald_base.specs.declared.refusal.Stop.{Stop}
 use Rattle.scald_base.specs.declared.refusal.Stop.TheVariants.{Refused as Stopped, NoMemory as NoMore}
+use Rattle.scald_base.specs.declared.list.NoMemory.{NoMemory as OutOfMemory}
 use Rattle.scald_lex.specs.declared.token.Token.{Token}
 use Rattle.scald_lex.specs.Tokens.{AreTokens, IsRefused as AreRefused}
 use Rattle.scald_lex.specs.Scan.{IsStop as AreStopped}
+use Rattle.drawing_tree.specs.declared.drawing.CaseStmt.{CaseStmt}
 use Rattle.drawing_tree.specs.Tree.{Drawing}
 use Rattle.drawing_tree.specs.Canonical.{canonical}
 use Rattle.drawing_reader.specs.Lexeme.{lexemes}
 use Rattle.drawing_reader.specs.Drawing.{IsWrong, IsWrongStop}
 use Rattle.drawing_reader.specs.CanonicalDraws.{TextDraws}
-use Rattle.scald_tool.specs.Drawn.{IsRefusal, no_tokens, no_drawing}
+use Rattle.macro_expander.specs.Stands.{IsStopOf}
+use Rattle.listing.specs.declared.case.Mode.{Mode}
+use Rattle.flat_circuit.specs.Circuit.{Circuit}
+use Rattle.fixpoint_engine.specs.Rounds.{RestsAt, IsUnsettled}
+use Rattle.case_analysis.specs.Base.{base_round}
+use Rattle.listing.specs.Answer.{refusal_line, unsettled_line}
+use Rattle.scald_tool.specs.declared.outcome.Outcome.{Outcome}
+use Rattle.scald_tool.specs.declared.outcome.Outcome.TheVariants.{Clean, Done, Refused, Unsettled, TooLong, WriteFault, NoMemory}
+use Rattle.scald_tool.specs.declared.reply.Reply.{Reply}
 use Rattle.scald_tool.specs.declared.words.Command.{Command}
 use Rattle.scald_tool.specs.declared.words.Command.TheVariants.{Verify, Format}
-use Rattle.scald_tool.specs.declared.one_checker.OneChecker.{OneChecker}
-use Rattle.scald_tool.specs.declared.fault.PointFault.{PointFault}
-use Rattle.scald_tool.specs.Rounds.{round, default_limit}
-use Rattle.scald_tool.specs.Fault.{noted, faults, setup_hold_fault, pin_wave_at}
-use Rattle.scald_tool.specs.Text.{IsTextOf, refusal_of, circuit_of, checker_of}
-use Rattle.scald_tool.specs.Report.{report, refusal_line}
-use Rattle.scald_tool.specs.Answer.{most_bytes, verdict_of, Judged, rested, Verified, judged, Formatted, undrawn, drawn, Replied, Answer, too_long, replied}
 use Rattle.scald_tool.specs.Words.{command_of}
-use Rattle.scald_tool.specs.Promise.{IsAnswered, IsCutShort, speaks, has_report, NeverBreaks, FaultlessNeverBreaks}
-use Rattle.scald_tool.specs.Laws.{OneAnswer}
-use Rattle.scald_tool.proofs.Rest.{rests_at_zero}
-use Rattle.scald_tool.proofs.Judgement.{one_answer}
-use Rattle.scald_tool.proofs.Headline.{clean_never_breaks, reported_never_breaks}
-use Rattle.scald_tool.proofs.Reading.{one_text}
-
--- ---- a circuit of one checker
-
--- its faults are those of its checker
-pub faults-one : (d : OneChecker) (clock input slots others : List Value) (fault : Option PointFault) →
-    pin_wave_at (circuit_of d) (round (circuit_of d) 0) (checker_of d) 0 ≡ record { cells = clock; skew = 0 } →
-    pin_wave_at (circuit_of d) (round (circuit_of d) 0) (checker_of d) 1 ≡ record { cells = input; skew = 0 } →
-    slots ≡ clock → others ≡ input →
-    fault ≡ setup_hold_fault (record { cells = slots; skew = 0 }) (record { cells = others; skew = 0 }) d.setup d.hold →
-    faults (circuit_of d) (round (circuit_of d) 0) ≡ noted (checker_of d) fault
-faults-one d clock input slots others fault at_clock at_input same same' found =
-    rw (at_clock, at_input, found, same, same') (append-nil (noted (checker_of d) (setup_hold_fault (record { cells = clock; skew = 0 }) (record { cells = input; skew = 0 }) d.setup d.hold)))
-
--- it is judged by its waves at rest, which are those of round 0
-pub judged-one : (d : OneChecker) (o : Outcome) (bytes : List ℕ) → o ≡ verdict_of (faults (circuit_of d) (round (circuit_of d) 0)) →
-    bytes ≡ report (circuit_of d) 0 → Judged (circuit_of d) (default_limit (circuit_of d)) o bytes
-judged-one d o bytes outcome text =
-    subst (λ (z : Outcome). Judged (circuit_of d) (default_limit (circuit_of d)) z bytes) (sym outcome)
-    (subst (λ (z : List ℕ). Judged (circuit_of d) (default_limit (circuit_of d)) (verdict_of (faults (circuit_of d) (round (circuit_of d) 0))) z) (sym text)
-    (rested 0 (rests_at_zero d (default_limit (circuit_of d)))))
+use Rattle.scald_tool.specs.Drawn.{IsRefusal, no_tokens, no_drawing, IsTextRefused, undrawn, unexpanded, DrawsCircuit, IsLoopless}
+use Rattle.scald_tool.specs.Answer as answer
+use Rattle.scald_tool.specs.Case.{fault_count}
+use Rattle.scald_tool.specs.Report.{report}
+use Rattle.scald_tool.specs.Answer.{most_bytes, verdict_of, limit_for, Judged, rested, unsettled, Verified, judged, Formatted, Replied, Answer, too_long, replied}
+use Rattle.scald_tool.specs.Promise.{IsAnswered, IsCutShort, RestsWithoutLoops, speaks, has_report, NeverBreaks, FaultlessNeverBreaks}
+use Rattle.scald_tool.proofs.Judgement.{words_have_one_answer}
 
 -- ---- what was read
 
@@ -75,9 +55,6 @@ read-past (Some text) (Some rest) limit reads = omega (arith, reads.past, ap len
 
 -- ---- what is answered
 
-pub words_have_one_answer : OneAnswer
-words_have_one_answer = one_answer one_text
-
 pub told-map : (left : Option (List ℕ)) (P Q : List ℕ → Type 0) → ((text : List ℕ) → P text → Q text) → IfSome left P → IfSome left Q
 told-map None P Q f p = tt
 told-map (Some text) P Q f p = f text p
@@ -91,7 +68,7 @@ answered words command left left' all slice o bytes piece taken taken' form read
     read-whole left left' most_bytes all (λ text. IsAnswered words text o taken taken') reads (record {
       bytes = bytes;
       is = is;
-      only = λ p others other. one_answer one_text words all p o others bytes other is;
+      only = λ p others other. words_have_one_answer words all p o others bytes other is;
       written = subst (Appends taken taken') same' written;
     })
 
@@ -104,7 +81,7 @@ too_long_answered words command left left' taken form reads =
     record {
       bytes = [];
       is = is;
-      only = λ p others other. one_answer one_text words text p TooLong others [] other is;
+      only = λ p others other. words_have_one_answer words text p TooLong others [] other is;
       written = Appends-nil taken;
     })
     (read-past left left' most_bytes reads)
@@ -116,6 +93,12 @@ whole words left o taken taken' before now before' now' is =
     told-map left (λ text. IsAnswered words text o taken taken')
     (λ text. IsOk (command_of words) → ¬ Rose before now → ¬ Rose before' now' → (o ≡ NoMemory) ⊎ IsAnswered words text o taken taken')
     (λ text is form read written. inr is) is
+
+-- a fault of the source leaves nothing to show
+pub faulted : (words : List (List ℕ)) (left : Option (List ℕ)) (o : Outcome) (taken taken' : Option (List ℕ)) (before now before' now' : ℕ) → Rose before now →
+    IfSome left (λ text. IsOk (command_of words) → ¬ Rose before now → ¬ Rose before' now' → (o ≡ NoMemory) ⊎ IsAnswered words text o taken taken')
+faulted words None o taken taken' before now before' now' rose = tt
+faulted words (Some text) o taken taken' before now before' now' rose = λ form steady written. absurd (steady rose)
 
 pub truthful : (words : List (List ℕ)) (left : Option (List ℕ)) (o : Outcome) (taken taken' : Option (List ℕ)) →
     IfSome left (λ text. IsAnswered words text o taken taken') → IfSome left (λ text. speaks o ≡ true → IsAnswered words text o taken taken')
@@ -133,76 +116,95 @@ cut_short words command left left' all slice o bytes piece taken taken' form rea
       written = subst (TakesFront taken taken') same' written;
     })
 
--- `format` judges nothing
-formatted-clean : (text : List ℕ) (o : Outcome) (bytes : List ℕ) → Formatted text o bytes → o ≡ Clean → ⊥
-formatted-clean text _ _ (undrawn r is) e = cc
-formatted-clean text _ _ (drawn d draws) e = cc
+-- ---- what is promised of runs
 
-formatted-reports : (text : List ℕ) (o : Outcome) (bytes : List ℕ) → Formatted text o bytes → has_report o ≡ true → ⊥
-formatted-reports text _ _ (undrawn r is) e = cc
-formatted-reports text _ _ (drawn d draws) e = cc
+pub clean : (left left' : Option (List ℕ)) (all slice : List ℕ) (o : Outcome) → ReadsAll left left' most_bytes all → slice ≡ all →
+    (o ≡ Clean → NeverBreaks slice) → IfSome left (λ text. o ≡ Clean → NeverBreaks text)
+clean left left' all slice o reads same never =
+    read-whole left left' most_bytes all (λ text. o ≡ Clean → NeverBreaks text) reads (subst (λ (text : List ℕ). o ≡ Clean → NeverBreaks text) same never)
 
-clean-reply : (command : Command) (text : List ℕ) (o : Outcome) (bytes : List ℕ) → Replied command text o bytes → o ≡ Clean → NeverBreaks text
-clean-reply Verify text o bytes v clean = clean_never_breaks text o bytes v clean
-clean-reply Format text o bytes f clean = absurd (formatted-clean text o bytes f clean)
-
-faultless-reply : (command : Command) (text : List ℕ) (o : Outcome) (bytes : List ℕ) → Replied command text o bytes → has_report o ≡ true → FaultlessNeverBreaks text
-faultless-reply Verify text o bytes v reported = reported_never_breaks text o bytes v reported
-faultless-reply Format text o bytes f reported = absurd (formatted-reports text o bytes f reported)
-
-pub clean : (command : Command) (left left' : Option (List ℕ)) (all slice : List ℕ) (o : Outcome) (bytes : List ℕ) → ReadsAll left left' most_bytes all →
-    slice ≡ all → Replied command slice o bytes → IfSome left (λ text. o ≡ Clean → NeverBreaks text)
-clean command left left' all slice o bytes reads same v =
-    read-whole left left' most_bytes all (λ text. o ≡ Clean → NeverBreaks text) reads
-    (clean-reply command all o bytes (subst (λ (z : List ℕ). Replied command z o bytes) same v))
-
-pub faultless : (command : Command) (left left' : Option (List ℕ)) (all slice : List ℕ) (o : Outcome) (bytes : List ℕ) → ReadsAll left left' most_bytes all →
-    slice ≡ all → Replied command slice o bytes → IfSome left (λ text. has_report o ≡ true → FaultlessNeverBreaks text)
-faultless command left left' all slice o bytes reads same v =
+pub faultless : (left left' : Option (List ℕ)) (all slice : List ℕ) (o : Outcome) → ReadsAll left left' most_bytes all → slice ≡ all →
+    (has_report o ≡ true → FaultlessNeverBreaks slice) → IfSome left (λ text. has_report o ≡ true → FaultlessNeverBreaks text)
+faultless left left' all slice o reads same never =
     read-whole left left' most_bytes all (λ text. has_report o ≡ true → FaultlessNeverBreaks text) reads
-    (faultless-reply command all o bytes (subst (λ (z : List ℕ). Replied command z o bytes) same v))
+    (subst (λ (text : List ℕ). has_report o ≡ true → FaultlessNeverBreaks text) same never)
+
+-- ---- what is promised of loops
+
+pub loopless : (words : List (List ℕ)) (command : Command) (left left' : Option (List ℕ)) (all slice : List ℕ) (o : Outcome) → command_of words ≡ Ok command →
+    ReadsAll left left' most_bytes all → slice ≡ all →
+    ((mode : Mode) (place round : ℕ) → command ≡ Verify mode None → IsLoopless slice → o ≢ Unsettled place round) → IfSome left (λ text. RestsWithoutLoops words text o)
+loopless words command left left' all slice o form reads same rests =
+    read-whole left left' most_bytes all (λ text. RestsWithoutLoops words text o) reads
+    (λ mode place round asked free. rests mode place round (let is : command ≡ Verify mode None = cc (form, asked) in is) (subst IsLoopless (sym same) free))
+
+pub not_unsettled : (words : List (List ℕ)) (left : Option (List ℕ)) (o : Outcome) → ((place round : ℕ) → o ≢ Unsettled place round) → IfSome left (λ text. RestsWithoutLoops words text o)
+not_unsettled words None o other = tt
+not_unsettled words (Some text) o other = λ mode place round asked free. other place round
 
 -- ---- a refusal
 
-pub refused : (text : List ℕ) (r : Refusal) (made : Result Reply OutOfMemory) → Verified text (Refused r) (refusal_line r) →
+pub refused : (mode : Mode) (rounds : Option ℕ) (text : List ℕ) (r : Refusal) (made : Result Reply OutOfMemory) → IsTextRefused text r →
     IfOk made (λ reply. reply.outcome ≡ Refused r) → IfOk made (λ reply. reply.bytes ≡ refusal_line r) →
-    IfOk made (λ reply. Verified text reply.outcome reply.bytes)
-refused text r (Ok reply) v outcome bytes =
-    subst (λ (z : Outcome). Verified text z reply.bytes) (sym outcome) (subst (λ (z : List ℕ). Verified text (Refused r) z) (sym bytes) v)
-refused text r (Err e) v outcome bytes = tt
+    IfOk made (λ reply. Verified mode rounds text reply.outcome reply.bytes)
+refused mode rounds text r (Ok reply) is outcome bytes =
+    subst (λ (z : Outcome). Verified mode rounds text z reply.bytes) (sym outcome) (subst (λ (z : List ℕ). Verified mode rounds text (Refused r) z) (sym bytes) (answer.refused r is))
+refused mode rounds text r (Err e) is outcome bytes = tt
 
--- what is so of a text that was not read, and what of one that was
-pub at_none : {X : Type 0} (read : Option X) (P : Type 0) → read ≡ None → IfNone read P → P
-at_none None P e p = p
-at_none (Some x) P e p = cc
+pub text_refusal : (text : List ℕ) (stop : Stop) (r : Refusal) → ((q : Refusal) → stop ≡ Stopped q → IsRefusal text q) → stop ≡ Stopped r → IsTextRefused text r
+text_refusal text stop r told e = undrawn (told r e)
 
-pub at_some : {X : Type 0} (read : Option X) (x : X) (P : X → Type 0) → read ≡ Some x → IfSome read P → P x
-at_some None x P e p = cc
-at_some (Some y) x P e p = let same : y ≡ x = cc in subst P same p
+pub expansion_refusal : (text : List ℕ) (d : Drawing) (stop : Stop) (r : Refusal) → TextDraws text d → IsStopOf d stop → stop ≡ Stopped r → IsTextRefused text r
+expansion_refusal text d stop r draws is e = unexpanded d draws (subst (IsStopOf d) e is)
 
-pub accepted : (text : List ℕ) (d : OneChecker) (made : Result Reply OutOfMemory) → IsTextOf d text → refusal_of d ≡ None →
-    IfOk made (λ reply. Judged (circuit_of d) (default_limit (circuit_of d)) reply.outcome reply.bytes) →
-    IfOk made (λ reply. Verified text reply.outcome reply.bytes)
-accepted text d (Ok reply) is_text fine j = judged d reply.outcome reply.bytes is_text fine j
-accepted text d (Err e) is_text fine j = tt
+-- ---- cases
+
+abbrev CaseStmts : Type 0
+CaseStmts = List CaseStmt
+
+pub some_cases : (cases : CaseStmts) (empty : Bool) → empty ≡ (length cases == 0) → empty ≡ false → cases ≢ []
+some_cases [] empty is some e = absurd cc
+some_cases (x ∷ xs) empty is some e = absurd cc
+
+pub no_cases : (cases : CaseStmts) (empty : Bool) → empty ≡ (length cases == 0) → empty ≡ true → cases ≡ []
+no_cases [] empty is none = refl
+no_cases (x ∷ xs) empty is none = absurd (omega (arith, eqb-true (length (x ∷ xs)) 0 (sym is ∙ none)))
+
+-- ---- a circuit
+
+pub judged_rested : (mode : Mode) (c : Circuit) (limit base : ℕ) (made : Result Reply OutOfMemory) → RestsAt (base_round c) limit base →
+    IfOk made (λ reply. reply.outcome ≡ verdict_of (fault_count c base)) → IfOk made (λ reply. reply.bytes ≡ report mode c base) →
+    IfOk made (λ reply. Judged mode c limit reply.outcome reply.bytes)
+judged_rested mode c limit base (Ok reply) rests outcome bytes =
+    subst (λ (z : Outcome). Judged mode c limit z reply.bytes) (sym outcome)
+    (subst (λ (z : List ℕ). Judged mode c limit (verdict_of (fault_count c base)) z) (sym bytes) (rested base rests))
+judged_rested mode c limit base (Err e) rests outcome bytes = tt
+
+pub judged_unsettled : (mode : Mode) (c : Circuit) (limit net limit' place round : ℕ) (made : Result Reply OutOfMemory) → IsUnsettled c.order (base_round c) limit net → limit' ≡ limit →
+    net ≡ place → limit' ≡ round → IfOk made (λ reply. reply.outcome ≡ Unsettled place round) → IfOk made (λ reply. reply.bytes ≡ unsettled_line c place round) →
+    IfOk made (λ reply. Judged mode c limit reply.outcome reply.bytes)
+judged_unsettled mode c limit net limit' place round (Ok reply) is at same same' outcome bytes =
+    let limit-is : round ≡ limit = sym same' ∙ at in
+    subst (λ (z : Outcome). Judged mode c limit z reply.bytes) (sym (outcome ∙ ap (Unsettled place) limit-is))
+    (subst (λ (z : List ℕ). Judged mode c limit (Unsettled place limit) z) (sym (bytes ∙ ap (unsettled_line c place) limit-is))
+    (unsettled place (subst (λ (z : ℕ). IsUnsettled c.order (base_round c) limit z) same is)))
+judged_unsettled mode c limit net limit' place round (Err e) is at same same' outcome bytes = tt
+
+pub accepted : (mode : Mode) (rounds : Option ℕ) (text : List ℕ) (c : Circuit) (limit : ℕ) (made : Result Reply OutOfMemory) → DrawsCircuit text c → limit ≡ limit_for c rounds →
+    IfOk made (λ reply. Judged mode c limit reply.outcome reply.bytes) → IfOk made (λ reply. Verified mode rounds text reply.outcome reply.bytes)
+accepted mode rounds text c limit (Ok reply) drawn same j =
+    judged c reply.outcome reply.bytes drawn (subst (λ (n : ℕ). Judged mode c n reply.outcome reply.bytes) same j)
+accepted mode rounds text c limit (Err e) drawn same j = tt
 
 -- ---- forms of words
 
-pub by_verify : (command : Command) (text : List ℕ) (made : Result Reply OutOfMemory) → command ≡ Verify →
-    IfOk made (λ reply. Verified text reply.outcome reply.bytes) → IfOk made (λ reply. Replied command text reply.outcome reply.bytes)
-by_verify Verify text made form v = v
-by_verify Format text made form v = absurd (verify_not_format form)
-  where
-    verify_not_format : Format ≡ Verify → ⊥
-    verify_not_format e = cc
+pub by_verify : (command : Command) (mode : Mode) (rounds : Option ℕ) (text : List ℕ) (made : Result Reply OutOfMemory) → command ≡ Verify mode rounds →
+    IfOk made (λ reply. Verified mode rounds text reply.outcome reply.bytes) → IfOk made (λ reply. Replied command text reply.outcome reply.bytes)
+by_verify command mode rounds text made form v = subst (λ (k : Command). IfOk made (λ reply. Replied k text reply.outcome reply.bytes)) (sym form) v
 
 pub by_format : (command : Command) (text : List ℕ) (made : Result Reply OutOfMemory) → command ≡ Format →
     IfOk made (λ reply. Formatted text reply.outcome reply.bytes) → IfOk made (λ reply. Replied command text reply.outcome reply.bytes)
-by_format Format text made form f = f
-by_format Verify text made form f = absurd (format_not_verify form)
-  where
-    format_not_verify : Verify ≡ Format → ⊥
-    format_not_verify e = cc
+by_format command text made form f = subst (λ (k : Command). IfOk made (λ reply. Replied k text reply.outcome reply.bytes)) (sym form) f
 
 -- ---- canonical texts
 
@@ -219,12 +221,12 @@ pub formatted_drawing : (text : List ℕ) (d : Drawing) (made : Result Reply Out
     IfOk made (λ reply. reply.outcome ≡ Done) → IfOk made (λ reply. reply.bytes ≡ canonical d) →
     IfOk made (λ reply. Formatted text reply.outcome reply.bytes)
 formatted_drawing text d (Ok reply) draws outcome bytes =
-    subst (λ (z : Outcome). Formatted text z reply.bytes) (sym outcome) (subst (λ (z : List ℕ). Formatted text Done z) (sym bytes) (drawn d draws))
+    subst (λ (z : Outcome). Formatted text z reply.bytes) (sym outcome) (subst (λ (z : List ℕ). Formatted text Done z) (sym bytes) (answer.drawn d draws))
 formatted_drawing text d (Err e) draws outcome bytes = tt
 
 pub formatted_refusal : (text : List ℕ) (r : Refusal) (made : Result Reply OutOfMemory) → IsRefusal text r →
     IfOk made (λ reply. reply.outcome ≡ Refused r) → IfOk made (λ reply. reply.bytes ≡ refusal_line r) →
     IfOk made (λ reply. Formatted text reply.outcome reply.bytes)
 formatted_refusal text r (Ok reply) is outcome bytes =
-    subst (λ (z : Outcome). Formatted text z reply.bytes) (sym outcome) (subst (λ (z : List ℕ). Formatted text (Refused r) z) (sym bytes) (undrawn r is))
+    subst (λ (z : Outcome). Formatted text z reply.bytes) (sym outcome) (subst (λ (z : List ℕ). Formatted text (Refused r) z) (sym bytes) (answer.undrawn r is))
 formatted_refusal text r (Err e) is outcome bytes = tt

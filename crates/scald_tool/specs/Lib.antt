@@ -1,15 +1,7 @@
-pub mod Wave
-pub mod Circuit
-pub mod Run
-pub mod Interface
-pub mod Rounds
-pub mod Break
-pub mod Fault
-pub mod Text
-pub mod Reading
-pub mod Report
 pub mod Words
 pub mod Drawn
+pub mod Case
+pub mod Report
 pub mod Answer
 pub mod Status
 pub mod Promise

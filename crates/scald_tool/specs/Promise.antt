@@ -1,16 +1,26 @@
 -- What the whole call promises.
-use Rattle.std.specs.Prelude.{◌≡◌, ℕ, Bool, true, false, List, [], Option, Some, slice_get}
+use Rattle.std.specs.Prelude.{◌≡◌, ◌≢◌, ℕ, Bool, true, false, List, Option, None, Result, Ok, Err}
+use Rattle.std.specs.List.{All, list_any}
 use Rattle.std.specs.Io.KnownBytes.{Appends}
 use Rattle.scald_base.specs.Device.{TakesFront}
+use Rattle.flat_circuit.specs.declared.fault.Fault.{Fault}
+use Rattle.flat_circuit.specs.Circuit.{Circuit}
+use Rattle.flat_circuit.specs.Run.{Run, IsRun}
+use Rattle.fixpoint_engine.specs.Interface.{MeetsInterface}
+use Rattle.fixpoint_engine.specs.Rounds.{RestsAt}
+use Rattle.case_analysis.specs.Base.{base_round}
+use Rattle.point_check.specs.Faults.{is_of_instance, is_of_net}
+use Rattle.point_check.specs.Break.{BreaksInstance, BreaksNet}
+use Rattle.pulse_check.specs.Break.{BreaksPulse}
+use Rattle.pulse_check.specs.Sound.{is_of_pulse}
+use Rattle.listing.specs.declared.case.Mode.{Mode}
 use Rattle.scald_tool.specs.declared.outcome.Outcome.{Outcome}
 use Rattle.scald_tool.specs.declared.outcome.Outcome.TheVariants.{Clean, Faulty, Done, Refused, Unsettled, BadWords, TooLong, ReadFault, NoMemory}
-use Rattle.scald_tool.specs.Circuit.{Circuit, Instance}
-use Rattle.scald_tool.specs.Run.{Run, IsRun}
-use Rattle.scald_tool.specs.Interface.{MeetsInterface}
-use Rattle.scald_tool.specs.Rounds.{RestsAt, default_limit, round, printed_tick}
-use Rattle.scald_tool.specs.Break.{BreaksAt}
-use Rattle.scald_tool.specs.Fault.{instance_faults}
-use Rattle.scald_tool.specs.Text.{Draws}
+use Rattle.scald_tool.specs.declared.words.Command.{Command}
+use Rattle.scald_tool.specs.declared.words.Command.TheVariants.{Verify, Format}
+use Rattle.scald_tool.specs.Words.{command_of}
+use Rattle.scald_tool.specs.Drawn.{DrawsCircuit, IsLoopless}
+use Rattle.scald_tool.specs.Case.{Case, cases, printed_tick, faults}
 use Rattle.scald_tool.specs.Answer.{Answer}
 
 -- ---- the answer
@@ -59,23 +69,61 @@ has_report Clean = true
 has_report (Faulty n) = true
 has_report _ = false
 
+-- `verify` is asked for, in some mode and with some limit
+abbrev pub asks_verify : Command → Bool
+asks_verify (Verify mode rounds) = true
+asks_verify Format = false
+
+abbrev pub are_verify : Result Command ℕ → Bool
+are_verify (Ok command) = asks_verify command
+are_verify (Err i) = false
+
+-- Where the words set no limit, and the circuit of the text has no loop through listening pins, its waves come to rest.
+abbrev pub RestsWithoutLoops : List (List ℕ) → List ℕ → Outcome → Type 0
+RestsWithoutLoops words text o =
+    (mode : Mode) (place round : ℕ) → command_of words ≡ Ok (Verify mode None) → IsLoopless text → o ≢ Unsettled place round
+
 -- ---- the runs
 
--- The text draws a circuit, and its rounds rest. In every run of it, of any length and from any start, with delays in
--- bounds and inputs that keep their assertions, no constraint is broken from the printed tick on.
+-- A constraint of an instance, the width of a pulse or the assertion of a driven net is broken in the run, at ticks that all
+-- lie from a given one on.
+pub data Breaks (c : Circuit) (run : Run) (start : ℕ) : Type 0 where
+  by_instance : (k : ℕ) → BreaksInstance c run k start → Breaks c run start
+  by_pulse : (k : ℕ) (level : Bool) → BreaksPulse c run k level start → Breaks c run start
+  by_net : (i : ℕ) → BreaksNet c run i start → Breaks c run start
+
+-- In every run, of any length and from any start, with delays in bounds and inputs that keep their assertions, nothing is
+-- broken from the tick on that is printed for the case.
+abbrev pub IsUnbroken : Circuit → ℕ → Case → Type 0
+IsUnbroken c base case = (run : Run) → IsRun c run → MeetsInterface c run → ¬ Breaks c run (printed_tick c base case)
+
+-- In such runs what none of these faults is of is not broken, from a given tick on: an instance, its pulses at a level, and a
+-- driven net that asserts something.
+pub record KeepsFaultless (c : Circuit) (fs : List Fault) (start : ℕ) : Type 0 where
+  pub instances : (run : Run) (k : ℕ) → IsRun c run → MeetsInterface c run → list_any (is_of_instance k) fs ≡ false → ¬ BreaksInstance c run k start
+  pub pulses : (run : Run) (k : ℕ) (level : Bool) → IsRun c run → MeetsInterface c run → list_any (is_of_pulse k level) fs ≡ false → ¬ BreaksPulse c run k level start
+  pub nets : (run : Run) (i : ℕ) → IsRun c run → MeetsInterface c run → list_any (is_of_net i) fs ≡ false → ¬ BreaksNet c run i start
+
+-- The same of each element that has no fault in the case, from the tick on that is printed for it.
+abbrev pub IsKept : Circuit → ℕ → Case → Type 0
+IsKept c base case = KeepsFaultless c (faults c case) (printed_tick c base case)
+
+-- The base comes to rest within the limit, and so it is in each case then.
+pub record IsSafe (c : Circuit) (limit : ℕ) (holds : ℕ → Case → Type 0) : Type 0 where
+  pub base : ℕ
+  pub rests : RestsAt (base_round c) limit base
+  pub each : All (holds base) (cases c base)
+
+-- The text draws a circuit, and nothing of it is ever broken, in any case, from the case's printed tick on.
 pub record NeverBreaks (text : List ℕ) : Type 0 where
   pub circuit : Circuit
-  pub drawn : Draws text circuit
-  pub base : ℕ
-  pub rests : RestsAt circuit (default_limit circuit) base
-  pub never : (run : Run) (k : ℕ) → IsRun circuit run → MeetsInterface circuit run → ¬ BreaksAt circuit run k (printed_tick circuit base 0)
+  pub drawn : DrawsCircuit text circuit
+  pub limit : ℕ
+  pub never : IsSafe circuit limit (IsUnbroken circuit)
 
--- The same of each instance that has no fault in the waves at rest, whatever faults the others have.
+-- The same of what has no fault in a case, whatever faults the rest of the circuit has.
 pub record FaultlessNeverBreaks (text : List ℕ) : Type 0 where
   pub circuit : Circuit
-  pub drawn : Draws text circuit
-  pub base : ℕ
-  pub rests : RestsAt circuit (default_limit circuit) base
-  pub never : (run : Run) (k : ℕ) (i : Instance) → IsRun circuit run → MeetsInterface circuit run →
-      slice_get circuit.instances k ≡ Some i → instance_faults circuit (round circuit base) i ≡ [] →
-      ¬ BreaksAt circuit run k (printed_tick circuit base 0)
+  pub drawn : DrawsCircuit text circuit
+  pub limit : ℕ
+  pub never : IsSafe circuit limit (IsKept circuit)

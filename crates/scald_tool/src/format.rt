@@ -1,20 +1,16 @@
 //! From a text to the canonical text of its drawing.
 
-ghost use Rattle.std.specs.Prelude.{◌≡◌, ◌≢◌, ◌-◌, ◌^◌, ◌<◌, IfOk, IfErr, length, true, false};
-ghost use Rattle.scald_base.specs.declared.refusal.Refusal.{Refusal};
+ghost use Rattle.std.specs.Prelude.{◌≡◌, ◌≢◌, ◌-◌, ◌^◌, ◌<◌, IfOk, length, true, false};
 ghost use Rattle.drawing_tree.specs.Tree.{drawing_of};
 ghost use Rattle.drawing_tree.specs.Canonical.{canonical};
-ghost use Rattle.drawing_reader.specs.CanonicalDraws.{TextDraws};
-ghost use Rattle.scald_tool.specs.Drawn.{IsRefusal};
 ghost use Rattle.scald_tool.specs.Answer.{Formatted};
 ghost use Rattle.scald_tool.specs.Promise.{judges, speaks};
 
+use crate::drawn::read_text;
 use crate::outcome::Outcome;
 use crate::reply::{Reply, refused};
-use drawing_reader::read_drawing;
 use drawing_tree::{Drawing, print_drawing};
 use scald_base::{NoMemory, Stop};
-use scald_lex::tokens;
 use std::alloc::Global;
 
 /// The canonical text of a drawing, or the line of its refusal.
@@ -28,22 +24,6 @@ pub fn format(alloc: Global, text: &[u8]) -> Result<Reply, NoMemory>
         Ok(drawing) => formatted(alloc, &drawing),
         Err(Stop::Refused(refusal)) => refused(alloc, refusal),
         Err(Stop::NoMemory) => Err(NoMemory),
-    }
-}
-
-/// The drawing that a text draws, or its refusal.
-fn read_text(alloc: Global, text: &[u8]) -> Result<Drawing, Stop>
-    requires { length text.now < 2 ^ 32 - 1 }
-    ensures drawn { IfOk result (λ drawing. TextDraws text.now (drawing_of drawing)) }
-    ensures refused { IfErr result (λ stop. (r : Refusal) → stop ≡ Stop.Refused r → IsRefusal text.now r) }
-{
-    let tokens = match tokens(alloc, text) {
-        Ok(tokens) => tokens,
-        Err(stop) => return Err(stop),
-    };
-    match read_drawing(alloc, text, &tokens) {
-        Ok(drawing) => Ok(drawing),
-        Err(stop) => Err(stop),
     }
 }
 

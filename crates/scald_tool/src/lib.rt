@@ -1,29 +1,25 @@
 //! The whole call of the timing verifier: from its words and the bytes of a drawing to the bytes of a
 //! report and an outcome.
 //!
-//! The program calls `tool_main`. What it promises stands in `specs/Promise`, over the definitions of
-//! runs (`Run`, `Interface`, `Break`) and of waves (`Wave`, `Rounds`, `Fault`, `Report`, `Answer`).
+//! The program calls `tool_main`. What it promises stands in `specs/Promise`, over the answer that words
+//! and a text have (`Answer`): by the circuit that the text draws (`Drawn`), its cases at rest (`Case`)
+//! and the lines on them (`Report`).
 #![tactic(auto)]
 
 // what comes in
-mod one_checker;
-mod reader;
-mod refusal;
+mod drawn;
 mod words;
 
-// what is computed of it
-mod check;
-mod fault;
-mod waves;
+// what is made of it
+mod faults;
+mod format;
+mod verify;
 
 // what goes out
 mod answer;
-mod format;
 mod outcome;
 mod reply;
-mod report;
 mod tool;
-mod verify;
 
 // beside the call
 pub mod laws;

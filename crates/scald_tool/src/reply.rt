@@ -1,10 +1,10 @@
 //! An answer before it is written.
 
 ghost use Rattle.std.specs.Prelude.{◌≡◌, IfOk};
-ghost use Rattle.scald_tool.specs.Report.{refusal_line};
+ghost use Rattle.listing.specs.Answer.{refusal_line};
 
 use crate::outcome::Outcome;
-use crate::report::write_refusal;
+use listing::write_refusal;
 use scald_base::{Bytes, NoMemory, Refusal};
 use std::alloc::Global;
 
@@ -21,7 +21,7 @@ pub fn refused(alloc: Global, refusal: Refusal) -> Result<Reply, NoMemory>
     ensures bytes { IfOk result (λ reply. reply.bytes ≡ refusal_line refusal) }
 {
     let mut bytes = Bytes::new(alloc);
-    write_refusal(&mut bytes, &refusal)?;
+    write_refusal(&refusal, &mut bytes)?;
     Ok(Reply {
         outcome: Outcome::Refused(refusal),
         bytes,

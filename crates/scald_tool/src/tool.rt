@@ -5,7 +5,7 @@ ghost use Rattle.std.specs.Io.KnownBytes.{IsAtEnd};
 ghost use Rattle.scald_base.specs.Device.{Rose, ReadsFront, ReadsPast};
 ghost use Rattle.scald_tool.specs.Words.{command_of};
 ghost use Rattle.scald_tool.specs.Answer.{most_bytes};
-ghost use Rattle.scald_tool.specs.Promise.{IsAnswered, IsCutShort, speaks, is_silent, judges, has_report, NeverBreaks, FaultlessNeverBreaks};
+ghost use Rattle.scald_tool.specs.Promise.{IsAnswered, IsCutShort, RestsWithoutLoops, are_verify, speaks, is_silent, judges, has_report, NeverBreaks, FaultlessNeverBreaks};
 
 use crate::answer::answer;
 use crate::outcome::Outcome;
@@ -52,7 +52,7 @@ pub fn tool_main<S: Source, K: Sink>(
     ensures sink_steady { result ≢ Outcome.WriteFault → K.faults sink.new ≡ K.faults sink.old }
 
     // Why the others come. Only `verify` judges a drawing, and only `format` writes its text.
-    ensures judged { judges result ≡ true → command_of words.now ≡ Ok Command.Verify }
+    ensures judged { judges result ≡ true → are_verify (command_of words.now) ≡ true }
     ensures done { result ≡ Outcome.Done → command_of words.now ≡ Ok Command.Format }
     ensures read_fault { result ≡ Outcome.ReadFault → Rose (S.faults source.old) (S.faults source.new) }
     ensures write_fault { result ≡ Outcome.WriteFault → Rose (K.faults sink.old) (K.faults sink.new) }
@@ -62,6 +62,9 @@ pub fn tool_main<S: Source, K: Sink>(
     ensures long_text { IfSome (S.left source.old) (λ text. IsOk (command_of words.now) → most_bytes < length text →
         ¬ Rose (S.faults source.old) (S.faults source.new) →
         (result ≡ Outcome.NoMemory) ⊎ (result ≡ Outcome.TooLong)) }
+
+    // Waves without loops rest, where no other limit is asked for.
+    ensures loopless { IfSome (S.left source.old) (λ text. RestsWithoutLoops words.now text result) }
 
     // No fault, no break: in every run of the circuit that the text draws, from the printed tick on.
     ensures clean { IfSome (S.left source.old) (λ text. result ≡ Outcome.Clean → NeverBreaks text) }

@@ -1,18 +1,25 @@
 //! The words that the program is called with.
 
-ghost use Rattle.std.specs.Prelude.{◌≡◌};
-ghost use Rattle.scald_tool.specs.Words.{command_of};
+ghost use Rattle.std.specs.Prelude.{◌≡◌, ◌<◌, ◌≤◌, ◌^◌, ◌-◌, IfOk, IfSome, min};
+ghost use Rattle.scald_lex.specs.Bytes.{value_of};
+ghost use Rattle.scald_tool.specs.Words.{IsWithin, behind_mode, behind_verify, command_of, limit_in, limit_of, mode_of};
 
+use itoa::Buffer;
+use listing::Mode;
 use scald_base::{Bytes, List};
 
 /// The words behind the program's name.
 pub type Words = List<Bytes>;
 
+/// The most rounds that may be asked for.
+const MOST_ROUNDS: u32 = 10_000_000;
+
 /// What the program is asked for.
 #[derive(Clone, Copy, PartialEq, Eq, Debug)]
 pub enum Command {
-    /// `verify`: the report on a drawing.
-    Verify,
+    /// `verify`: the report on a drawing, whole or in part, and how many rounds there may be where that
+    /// is asked for, 1 to 10,000,000.
+    Verify { mode: Mode, rounds: Option<u32> },
     /// `format`: the canonical text of a drawing.
     Format,
 }
@@ -20,21 +27,111 @@ pub enum Command {
 /// What the words ask for. Where they are of no form, `Err` is the number of the first word with which
 /// no form goes on, from 0, or the count of words where one is missing.
 pub fn read_words(words: &Words) -> Result<Command, u32>
-    ensures { result ≡ command_of words.now }
+    ensures is { result ≡ command_of words.now }
+    ensures within { IfOk result IsWithin }
 {
     let [first, others @ ..] = words.as_slice() else {
         return Err(0);
     };
-    let command = if first.as_slice() == b"verify".as_slice() {
-        Command::Verify
+    if first.as_slice() == b"verify".as_slice() {
+        behind_verify(others)
     } else if first.as_slice() == b"format".as_slice() {
-        Command::Format
+        if others.is_empty() {
+            Ok(Command::Format)
+        } else {
+            Err(1)
+        }
     } else {
-        return Err(0);
-    };
-    if others.is_empty() {
-        Ok(command)
-    } else {
-        Err(1)
+        Err(0)
     }
+}
+
+/// What the words behind `verify` ask for.
+fn behind_verify(words: &[Bytes]) -> Result<Command, u32>
+    ensures is { result ≡ behind_verify words.now }
+    ensures within { IfOk result IsWithin }
+{
+    let [first, others @ ..] = words else {
+        return behind_mode(Mode::Full, 1, words);
+    };
+    match mode_of(first.as_slice()) {
+        Some(mode) => behind_mode(mode, 2, others),
+        None => behind_mode(Mode::Full, 1, words),
+    }
+}
+
+/// What the words from this number on ask for, where the mode is known.
+fn behind_mode(mode: Mode, place: u32, words: &[Bytes]) -> Result<Command, u32>
+    requires { place < 3 }
+    ensures is { result ≡ behind_mode mode place words.now }
+    ensures within { IfOk result IsWithin }
+{
+    let [first, others @ ..] = words else {
+        return Ok(Command::Verify { mode, rounds: None });
+    };
+    match limit_of(first.as_slice()) {
+        Some(limit) => {
+            if others.is_empty() {
+                Ok(Command::Verify {
+                    mode,
+                    rounds: Some(limit),
+                })
+            } else {
+                Err(place + 1)
+            }
+        }
+        None => Err(place),
+    }
+}
+
+/// The mode that a word asks for.
+fn mode_of(word: &[u8]) -> Option<Mode>
+    ensures { result ≡ mode_of word.now }
+{
+    if word == b"waves".as_slice() {
+        Some(Mode::Waves)
+    } else if word == b"faults".as_slice() {
+        Some(Mode::Faults)
+    } else {
+        None
+    }
+}
+
+/// How many rounds a word allows.
+fn limit_of(word: &[u8]) -> Option<u32>
+    ensures is { result ≡ limit_of word.now }
+    ensures within { IfSome result (λ limit. limit ≤ 10000000) }
+{
+    match word.strip_prefix(b"rounds=") {
+        Some(digits) => limit_in(digits),
+        None => None,
+    }
+}
+
+/// The number of 1 to the most rounds whose decimal text this is.
+#[tactic(auto, unfolding(crate::specs::Words::limit_in))]
+fn limit_in(digits: &[u8]) -> Option<u32>
+    ensures is { result ≡ limit_in digits.now }
+    ensures within { IfSome result (λ limit. limit ≤ 10000000) }
+{
+    let number = value(digits);
+    let is_limit = 1 <= number && number <= MOST_ROUNDS;
+    if is_limit && Buffer::new().format(number).as_bytes() == digits {
+        Some(number)
+    } else {
+        None
+    }
+}
+
+/// The value of digits, or the greatest number of 32 bits where it is greater.
+fn value(digits: &[u8]) -> u32
+    ensures { result ≡ min (value_of digits.now) (2 ^ 32 - 1) }
+{
+    let mut value: u32 = 0;
+    for digit in digits {
+        value = value
+            .saturating_mul(10)
+            .saturating_add(u32::from(digit.saturating_sub(b'0')));
+    }
+    value
 }

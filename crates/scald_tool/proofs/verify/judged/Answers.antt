@@ -1,14 +1,21 @@
-use Rattle.std.proofs.Common.{◌∙◌, ◌++◌, List, ℕ, sym, ap}
-use Rattle.scald_tool.specs.Answer.{verdict_of}
-use Rattle.scald_tool.specs.Text.{circuit_of, checker_of}
-use Rattle.scald_tool.specs.Report.{report}
-use Rattle.scald_tool.proofs.Replies.{faults-one, judged-one}
+use Rattle.std.proofs.Common.{arith, sym}
+use Rattle.scald_tool.proofs.Replies.{judged_rested, judged_unsettled}
 use Rattle.scald_tool.proofs.verify.judged.Goals as goal
 
-pub returns-clause-is : goal.returns-clause-is
-returns-clause-is c =
-    judged-one c.args.drawing.now _ _
-    (c.verdict.ensures.is (checker_of c.args.drawing.now)
-    ∙ sym (ap verdict_of (faults-one c.args.drawing.now c.in_ok-clock.clock c.in_ok-input.input _ _ _ c.in_ok-clock.ensures.pin c.in_ok-input.ensures.pin
-    c.as_slice.ensures c.as_slice-2.ensures c.setup_hold_fault-fault.ensures)))
-    (c.in_ok-write_report.ensures ∙ ap (λ (k : List ℕ). k ++ report (circuit_of c.args.drawing.now) 0) c.new-bytes.ensures)
+pub reported-requires-clause-permits : goal.reported-requires-clause-permits
+reported-requires-clause-permits g c = rw c.only_case.ensures.waves c.in-Ok.ensures.sound
+
+pub returns-in-Ok-clause-is : goal.returns-in-Ok-clause-is
+returns-in-Ok-clause-is g c =
+    judged_rested c.args.mode c.args.circuit.now c.args.limit c.in-Ok.settled.rounds _ c.in-Ok.ensures.rest.rests c.reported.ensures.outcome c.reported.ensures.bytes
+
+pub unsettled-requires : goal.unsettled-requires
+unsettled-requires g c =
+    let ends = rw c.in-Err-Unsettled.field-0-is at c.in-Err-Unsettled.ensures.unsettled in
+    omega (arith, ends.0.first.below, c.in-Err-Unsettled.net-is)
+
+pub returns-in-Err-Unsettled-clause-is : goal.returns-in-Err-Unsettled-clause-is
+returns-in-Err-Unsettled-clause-is g c =
+    let ends = rw c.in-Err-Unsettled.field-0-is at c.in-Err-Unsettled.ensures.unsettled in
+    judged_unsettled c.args.mode c.args.circuit.now c.args.limit c.in-Err-Unsettled.net c.in-Err-Unsettled.round _ _ _ ends.0 ends.1
+    (sym c.in-Err-Unsettled.net-is) (sym c.in-Err-Unsettled.round-is) c.unsettled.ensures.outcome c.unsettled.ensures.bytes

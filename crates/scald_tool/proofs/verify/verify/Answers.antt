@@ -1,21 +1,19 @@
-use Rattle.std.proofs.Common.{sym, ◌∙◌}
-use Rattle.scald_tool.specs.Answer.{unread, refusal, not_built}
-use Rattle.scald_tool.specs.Text.{IsTextOf}
-use Rattle.scald_tool.proofs.Replies.{at_none, at_some, refused, accepted}
+use Rattle.std.proofs.Common.{subst, sym}
+use Rattle.scald_tool.specs.Drawn.{IsTextRefused}
+use Rattle.scald_tool.proofs.Headline.{clean_made}
+use Rattle.scald_tool.proofs.Replies.{accepted, refused}
 use Rattle.scald_tool.proofs.verify.verify.Goals as goal
 
-pub returns-in_default-clause-is : goal.returns-in_default-clause-is
-returns-in_default-clause-is c =
-    refused c.args.text.now not_built _ (unread (at_none _ _ c.in_default.is c.in_ok-read.ensures.none)) c.refused.ensures.outcome c.refused.ensures.bytes
+pub returns-in-Ok-clause-is : goal.returns-in-Ok-clause-is
+returns-in-Ok-clause-is c =
+    accepted c.args.mode c.args.rounds c.args.text.now c.in-Ok.circuit c.limit_for-limit.result _ c.in-Ok.ensures.drawn c.limit_for-limit.ensures.is c.judged.ensures.is
 
-pub returns-in-Some-refusal-clause-is : goal.returns-in-Some-refusal-clause-is
-returns-in-Some-refusal-clause-is c =
-    refused c.args.text.now _ _
-    (refusal c.in-Some.drawing c.in-Some-refusal.refusal (at_some _ c.in-Some.drawing (λ d. IsTextOf d c.args.text.now) c.in-Some.is c.in_ok-read.ensures.found)
-    (sym c.refusal.ensures ∙ c.in-Some-refusal.is))
-    c.refused-in-Some-refusal.ensures.outcome c.refused-in-Some-refusal.ensures.bytes
+pub returns-in-Ok-clause-clean : goal.returns-in-Ok-clause-clean
+returns-in-Ok-clause-clean c =
+    clean_made c.args.text.now c.args.mode c.in-Ok.circuit c.limit_for-limit.result _ c.in-Ok.ensures.drawn c.judged.ensures.is c.judged.ensures.faultless
 
-pub returns-clause-is : goal.returns-clause-is
-returns-clause-is c =
-    accepted c.args.text.now c.in-Some.drawing _ (at_some _ c.in-Some.drawing (λ d. IsTextOf d c.args.text.now) c.in-Some.is c.in_ok-read.ensures.found)
-    (sym c.refusal.ensures ∙ c.in_default-refusal.is) c.judged.ensures.is
+pub returns-in-Err-Refused-clause-is : goal.returns-in-Err-Refused-clause-is
+returns-in-Err-Refused-clause-is c =
+    refused c.args.mode c.args.rounds c.args.text.now _ _
+    (subst (IsTextRefused c.args.text.now) (sym c.in-Err-Refused.refusal-is) (c.in-Err-Refused.ensures.refused c.in-Err-Refused.refusal c.in-Err-Refused.field-0-is))
+    c.refused.ensures.outcome c.refused.ensures.bytes

@@ -1,0 +1,51 @@
+//! The faults of a case.
+
+ghost use Rattle.std.specs.Prelude.{◌≡◌, ◌++◌, ◌<◌, ◌^◌, ℕ, IfOk, OnOk, length, map};
+ghost use Rattle.skew_algebra.specs.Wave.{skewed};
+ghost use Rattle.fixpoint_engine.specs.Reach.{reach};
+ghost use Rattle.fixpoint_engine.specs.Settled.{FitWaves, waves_of};
+ghost use Rattle.case_analysis.specs.Base.{PermitInputs};
+ghost use Rattle.case_analysis.specs.Tick.{tick};
+ghost use Rattle.scald_tool.specs.Case.{faults_of};
+ghost use Rattle.scald_tool.specs.Promise.{KeepsFaultless};
+
+use fixpoint_engine::Waves;
+use flat_circuit::{Circuit, Faults};
+use point_check::check_points;
+use pulse_check::check_pulses;
+use scald_base::NoMemory;
+use std::alloc::Global;
+use step_values::Value;
+use wave_core::CyclicWave;
+
+/// Puts more faults behind these.
+fn add_all(faults: &mut Faults, more: &Faults) -> Result<(), NoMemory>
+    ensures { OnOk result (faults.new ≡ faults.old ++ more.now) }
+{
+    for fault in more.as_slice() {
+        faults.push(*fault)?;
+    }
+    Ok(())
+}
+
+/// The faults that the waves of all nets show, at rest: about the edges of clocks, at marked pins and of
+/// assertions, and then of the widths of pulses. Where the waves permit the runs of the circuit after so
+/// many rounds, what has no fault is never broken in them from the tick on that is printed for these.
+pub fn faults<W: CyclicWave<Item = Value>>(
+    alloc: Global,
+    circuit: &Circuit,
+    waves: &Waves<W>,
+) -> Result<Faults, NoMemory>
+    requires { FitWaves circuit.now (map (λ w. skewed (W.cells w.wave) w.skew) waves.now) }
+    ensures are { IfOk result (λ faults. faults ≡ faults_of circuit.now (waves_of (map (λ w. skewed (W.cells w.wave) w.skew) waves.now))) }
+    ensures few { IfOk result (λ faults. length faults < 2 ^ 32) }
+    ensures keep { IfOk result (λ faults. (rounds : ℕ) → PermitInputs circuit.now rounds (waves_of (map (λ w. skewed (W.cells w.wave) w.skew) waves.now)) →
+        KeepsFaultless circuit.now faults (tick (reach circuit.now) rounds 0)) }
+{
+    circuit.known();
+    circuit.header().known();
+    let mut faults = check_points(alloc, circuit, waves)?;
+    let pulses = check_pulses(alloc, circuit, waves)?;
+    add_all(&mut faults, &pulses)?;
+    Ok(faults)
+}
