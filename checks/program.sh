@@ -49,12 +49,83 @@ expect "a closed input" 6 $?
 head -c 4194305 /dev/zero | "$program" verify >"$work/out"
 expect "one byte too many" 5 $?
 
-echo "REFUSED 23 NotBuilt 1:1" >"$work/want"
+echo "REFUSED 1 BadByte 1:1" >"$work/want"
 head -c 4194304 /dev/zero | "$program" verify >"$work/out"
 expect "the most bytes" 2 $?
 
+echo "REFUSED 3 Syntax 1:1" >"$work/want"
 "$program" verify </dev/null >"$work/out"
 expect "no bytes" 2 $?
+
+# drawing LINE ..: a drawing in a period of 8 units of 50 ticks, whose own lines begin on line 4
+drawing() {
+    printf 'SCALD 1;\nCLOCK 8 x 50;\nDRAWING ROW;\n'
+    printf '%s\n' "$@" 'END;'
+}
+
+# body LINE ..: a text with these lines from line 3 on
+body() {
+    printf 'SCALD 1;\nCLOCK 8 x 50;\n'
+    printf '%s\n' "$@"
+}
+
+cat >"$work/want" <<'END'
+SCALD 1 PERIOD 400
+NETS 115 INSTANCES 73 CHECKS 37
+CASE 0 BASE 3 ROUNDS 0 T 564
+CLEAN
+END
+"$program" verify faults <"$top/examples/alu.scald" >"$work/out"
+expect "a data path" 0 $?
+
+cat >"$work/want" <<'END'
+WAVE ACC<0> SKEW 59 S:264 C:1 S:135
+WAVE u1/GCK<0> SKEW 24 0:254 R:1 S:49 F:1 0:95
+WAVE u1/SUM<0> SKEW 0 C:91 S:233 C:76
+END
+"$program" verify waves <"$top/examples/alu.scald" >"$work/all"
+status=$?
+grep '^WAVE \(ACC\|u1/GCK\|u1/SUM\)<0> ' "$work/all" >"$work/out"
+expect "its waves" 0 "$status"
+
+# a text that is cut short anywhere is refused for its tokens or its grammar
+cut=0
+for length in $(seq 0 537); do
+    head -c "$length" "$top/examples/alu.scald" | "$program" verify >"$work/out"
+    [ $? -eq 2 ] && grep -q '^REFUSED [23] ' "$work/out" || cut=$((cut + 1))
+done
+: >"$work/want"
+: >"$work/out"
+expect "texts cut short" 0 "$cut"
+
+loop() {
+    drawing 'b : BUF [0:0] ("X"<0:39>) -> ("X"<1:40>);' 'a : AND [1:1] ("CK .P2-3", "X"<40>) -> ("X"<0>);'
+}
+echo "UNSETTLED X<17> ROUND 1657" >"$work/want"
+loop | "$program" verify >"$work/out"
+expect "a loop past its limit" 3 $?
+echo "UNSETTLED X<40> ROUND 2131" >"$work/want"
+loop | "$program" verify rounds=2131 >"$work/out"
+expect "a loop one round short" 3 $?
+printf 'SCALD 1 PERIOD 400\nNETS 42 INSTANCES 41 CHECKS 0\nCASE 0 BASE 2132 ROUNDS 0 T 4266\nCLEAN\n' >"$work/want"
+loop | "$program" verify faults rounds=2132 >"$work/out"
+expect "a loop at rest" 0 $?
+
+nested() {
+    body 'MACRO D {N=1} ("A") -> ("Z");' 'IF N > 1 THEN x : D {N=N-1} ("A") -> ("Z");' \
+        'ELSE b : BUF [1:1] ("A") -> ("Z"); END;' 'END;' 'DRAWING ROW;' "t : D {N=$1} (\"IN\") -> (\"OUT\");" 'END;'
+}
+printf 'SCALD 1 PERIOD 400\nNETS 2 INSTANCES 1 CHECKS 0\nSTABLE IN<0>\nCASE 0 BASE 1 ROUNDS 0 T 4\nCLEAN\n' >"$work/want"
+nested 64 | "$program" verify faults >"$work/out"
+expect "64 uses inside one another" 0 $?
+echo "REFUSED 15 TooDeep 4:15" >"$work/want"
+nested 65 | "$program" verify >"$work/out"
+expect "65 uses inside one another" 2 $?
+
+echo "REFUSED 16 TooMany 6:1" >"$work/want"
+body 'MACRO E {N=1} ();' 'IF N > 0 THEN' 'a : E {N=N-1} ();' 'b : E {N=N-1} ();' 'END;' 'END;' \
+    'DRAWING ROW;' 't : E {N=20} ();' 'END;' | "$program" verify >"$work/out"
+expect "too many statements" 2 $?
 
 {
     printf 'SCALD 1;\nCLOCK 8 x 50;\nWIRE 0:0;\nPSKEW 0:0;\nCSKEW 0:0;\nDRAWING ROW;\n'
@@ -103,6 +174,9 @@ expect "no words" 4 "$(cat "$work/status")"
 
 "$program" verify twice <"$first" >"$work/out"
 expect "a word too many" 4 $?
+
+"$program" verify rounds=5 faults <"$first" >"$work/out"
+expect "words in another order" 4 $?
 
 "$program" check <"$first" >"$work/out"
 expect "another word" 4 $?
