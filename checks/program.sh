@@ -90,8 +90,9 @@ expect "its waves" 0 "$status"
 
 # a text that is cut short anywhere is refused for its tokens or its grammar
 cut=0
-for length in $(seq 0 537); do
-    head -c "$length" "$top/examples/alu.scald" | "$program" verify >"$work/out"
+grep -v '^--' "$top/examples/alu.scald" >"$work/text"
+for length in $(seq 0 $(($(wc -c <"$work/text") - 2))); do
+    head -c "$length" "$work/text" | "$program" verify >"$work/out"
     [ $? -eq 2 ] && grep -q '^REFUSED [23] ' "$work/out" || cut=$((cut + 1))
 done
 : >"$work/want"
@@ -168,7 +169,7 @@ expect "nested IFs alone" 2 $?
     "$program" >"$work/out"
     echo $? >"$work/status"
     IFS= read -r line
-    [ "$line" = "SCALD 1;" ] || echo 99 >"$work/status"
+    [ "$line" = "$(head -n 1 "$first")" ] || echo 99 >"$work/status"
 } <"$first"
 expect "no words" 4 "$(cat "$work/status")"
 

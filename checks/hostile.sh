@@ -1,0 +1,219 @@
+#!/bin/sh
+# Tries the built program over hostile texts and with little memory. It is for the hand and no part of .ci/run,
+# since it takes long, most of it for the random texts; it ends with the time that it took.
+# Usage: checks/hostile.sh [PROGRAM [COUNT]], COUNT random texts in place of 20000. Needs python3 and GNU time.
+# A random text whose answer is wrong is kept in the folder KEPT, or else in the current one.
+set -u
+top=$(CDPATH='' cd -- "$(dirname -- "$0")/.." && pwd) || exit 2
+program=${1:-$top/crates/scald/out/scald}
+count=${2:-20000}
+if [ ! -x "$program" ]; then
+    echo "checks/hostile.sh: no program at $program (./scald builds it): nothing is tried"
+    exit 0
+fi
+work=$(mktemp -d) || exit 2
+trap 'rm -rf "$work"' EXIT
+failed=0
+begun=$(date +%s)
+
+# failure WHY
+failure() {
+    echo "FAILED $1"
+    failed=$((failed + 1))
+}
+
+# --- random and mutated texts, in four streams
+for seed in 1 2 3 4; do
+    python3 "$top/checks/hostile_texts.py" "$program" $((count / 4)) "$seed" "$top"/examples/*.scald >"$work/random$seed" &
+done
+wait
+for seed in 1 2 3 4; do
+    cat "$work/random$seed"
+    grep -q ' tried, 0 failed' "$work/random$seed" || failure "random texts from seed $seed"
+done
+
+# --- a text that is cut short anywhere is refused for its tokens or its grammar, with one line
+alu=$top/examples/alu.scald
+bytes=$(wc -c <"$alu")
+wrong=0
+for length in $(seq 0 $((bytes - 2))); do
+    head -c "$length" "$alu" | "$program" verify >"$work/out"
+    [ $? -eq 2 ] && grep -q '^REFUSED [23] ' "$work/out" && [ "$(wc -l <"$work/out")" -eq 1 ] || wrong=$((wrong + 1))
+done
+[ "$wrong" -eq 0 ] || failure "$wrong cuts of alu.scald"
+head -c $((bytes - 1)) "$alu" | "$program" verify | cmp -s - "$top/examples/alu.report" || failure "alu.scald without its last byte"
+echo "cuts of alu.scald: $bytes tried, $wrong failed"
+
+# --- memory: the answer is the drawing's own, or nothing at all with status 8
+# starts KB: whether the program starts at all within so much memory. Without words it asks for none.
+starts() {
+    (
+        ulimit -v "$1"
+        exec "$program" >"$work/out" 2>"$work/said"
+    ) 2>/dev/null
+    [ $? -eq 4 ]
+}
+least=1024
+while ! starts "$least"; do
+    least=$((least + 16))
+    [ "$least" -lt 1000000 ] || break
+done
+for name in first alu or_tree; do
+    short=0
+    own=0
+    wrong=0
+    memory=$least
+    while [ "$own" -lt 20 ] && [ "$memory" -lt $((least + 65536)) ]; do
+        (
+            ulimit -v "$memory"
+            exec "$program" verify <"$top/examples/$name.scald" >"$work/out" 2>"$work/said"
+        ) 2>/dev/null
+        status=$?
+        if [ "$status" -eq 8 ] && [ ! -s "$work/out" ]; then
+            short=$((short + 1))
+        elif [ "$status" -eq 0 ] && cmp -s "$work/out" "$top/examples/$name.report"; then
+            own=$((own + 1))
+        else
+            wrong=$((wrong + 1))
+        fi
+        memory=$((memory + 4))
+    done
+    [ "$wrong" -eq 0 ] && [ "$own" -gt 0 ] || failure "$name.scald with little memory"
+    echo "memory for $name.scald from $least KB on: $short times too little, $own times its own report, $wrong failed"
+done
+
+# --- each limit, met and passed by one; and the texts that cost most
+# many COUNT TEXT: so many times the text
+many() {
+    awk -v count="$1" -v text="$2" 'BEGIN { for (i = 0; i < count; i++) printf "%s", text }'
+}
+
+# frame: a drawing of the lines on standard input, from line 4 on
+frame() {
+    printf 'SCALD 1;\nCLOCK %s;\nDRAWING ROW;\n' "${1:-8 x 50}"
+    cat
+    printf 'END;\n'
+}
+
+# ranges COUNT BEFORE AFTER: statements labelled l0, l1 .., each with the next 256 bits between BEFORE and AFTER
+ranges() {
+    awk -v count="$1" -v before="$2" -v after="$3" 'BEGIN {
+        for (i = 0; i < count; i++) printf "l%d : %s<%d:%d>%s\n", i, before, 256 * i, 256 * i + 255, after }'
+}
+
+# tries NAME STATUS LINE [WORD ..]: the text on standard input; its last line must be LINE, or not be there where it is empty
+tries() {
+    name=$1
+    wanted=$2
+    line=$3
+    shift 3
+    cat >"$work/text"
+    (
+        ulimit -t 120
+        exec /usr/bin/time -q -f '%U %M' -o "$work/time" "$program" "${@:-verify}" <"$work/text" >"$work/out"
+    ) 2>/dev/null
+    status=$?
+    seconds=$(cut -d ' ' -f 1 "$work/time" | tail -n 1)
+    memory=$(($(cut -d ' ' -f 2 "$work/time" | tail -n 1) / 1024))
+    last=$(tail -n 1 "$work/out")
+    printf '%-44s %9d %8s %7d  %d %s\n' "$name" "$(wc -c <"$work/text")" "$seconds" "$memory" "$status" "$last"
+    if [ "$status" -ne "$wanted" ] || [ "$last" != "$line" ]; then
+        echo "FAILED $name: status $wanted and '$line' are wanted"
+        echo "$name" >>"$work/limits"
+    fi
+}
+
+: >"$work/limits"
+printf '%-44s %9s %8s %7s  %s\n' text bytes seconds MB answer
+head -c 4194304 /dev/zero | tr '\0' ' ' | tries 'the most bytes, all spaces' 2 'REFUSED 3 Syntax 1:4194305'
+head -c 4194305 /dev/zero | tr '\0' ' ' | tries 'one byte more' 5 ''
+head -c 4194304 /dev/zero | tr '\0' ';' | tries 'the most tokens' 2 'REFUSED 3 Syntax 1:1'
+head -c 4194304 /dev/zero | tr '\0' '"' | tries 'the most quotes' 2 'REFUSED 3 Syntax 1:1'
+head -c 4194304 /dev/zero | tr '\0' 'a' | tries 'the longest word' 2 'REFUSED 2 BadToken 1:1'
+head -c 4194304 /dev/zero | tr '\0' '9' | tries 'the longest number' 2 'REFUSED 2 BadToken 1:1'
+many 262144 'WIRE "A" 0:0;' | frame | tries 'the most statements' 0 CLEAN
+many 262145 'WIRE "A" 0:0;' | frame | tries 'one statement more' 2 'REFUSED 16 TooMany 4:3407873'
+awk 'BEGIN { for (i = 0; i < 130000; i++) printf "u%06d:BUF[0:0](ZERO)->(\"A\");\n", i }' | frame |
+    tries 'the most labels' 2 'REFUSED 16 TooMany 65540:1'
+awk 'BEGIN { print "SCALD 1;\nCLOCK 8 x 50;"
+    for (i = 0; i < 100000; i++) printf "MACRO m%06d();END;\n", i
+    print "DRAWING ROW;"
+    for (i = 0; i < 90000; i++) printf "u%06d:m%06d();\n", i, 99999 - i
+    print "END;" }' | tries 'many macros, and a use of each' 0 CLEAN
+awk 'BEGIN { print "SCALD 1;\nCLOCK 8 x 50;"
+    for (i = 0; i < 8000; i++) list = list sprintf("%sp%d=1", i ? "," : "", i)
+    printf "MACRO M{%s}();END;\nDRAWING ROW;\nu:M{%s}();\nEND;\n", list, list }' | tries '8000 parameters, and each given' 0 CLEAN
+awk 'BEGIN { print "SCALD 1;\nCLOCK 8 x 50;"
+    printf "MACRO M("
+    for (i = 0; i < 150000; i++) printf "%s\"f%d\"", i ? "," : "", i
+    printf ");END;\nDRAWING ROW;\nu:M("
+    for (i = 0; i < 150000; i++) printf "%s\"A\"", i ? "," : ""
+    print ");\nEND;" }' | tries '150000 formals' 0 CLEAN
+ranges 256 'MIN_PULSE_CHK ("A"' ');' | frame | tries 'the most nets and checker bits' 0 CLEAN faults
+{ ranges 256 'MIN_PULSE_CHK ("A"' ');' && echo 'WIRE "B" 0:0;'; } | frame | tries 'one net more' 2 'REFUSED 16 TooMany 260:1'
+{ ranges 256 'MIN_PULSE_CHK ("A"' ');' && echo 'c : MIN_PULSE_CHK ("A");'; } | frame |
+    tries 'one checker bit more' 2 'REFUSED 16 TooMany 260:1'
+ranges 256 'BUF [0:0] (ZERO) -> ("A"' ');' | frame | tries 'the most elements' 0 CLEAN faults
+{ ranges 256 'BUF [0:0] (ZERO) -> ("A"' ');' && echo 'b : BUF [0:0] (ONE) -> ("A");'; } | frame |
+    tries 'one element more' 2 'REFUSED 16 TooMany 260:1'
+bus=$(many 15 '"A"<0:255>, ')'"A"<0:255>'
+awk -v bus="$bus" 'BEGIN { for (i = 0; i < 256; i++) printf "l%d : CHG [0:0] (%s) -> (\"X\"<%d>);\n", i, bus, i }' | frame '2 x 1' |
+    tries 'the most pins' 0 CLEAN faults
+awk -v bus="$bus" 'BEGIN { for (i = 0; i < 256; i++) printf "l%d : CHG [0:0] (%s) -> (\"X\"<%d>);\n", i, bus, i
+    print "b : BUF [0:0] (ZERO) -> (\"Y\");" }' | frame '2 x 1' | tries 'one pin more' 2 'REFUSED 16 TooMany 260:1'
+for depth in 64 65; do
+    if [ "$depth" -eq 64 ]; then status=0 line=CLEAN; else status=2 line='REFUSED 15 TooDeep 4:644'; fi
+    {
+        printf 'SCALD 1;\nCLOCK 8 x 50;\nMACRO D {N=1} ("A") -> ("Z");\n%s' "$(many 63 'IF 1 THEN ')"
+        printf 'IF N > 1 THEN x : D {N=N-1} ("A") -> ("Z"); ELSE b : BUF [1:1] ("A") -> ("Z"); END; %s' "$(many 63 'END; ')"
+        printf 'END;\nDRAWING ROW;\nt : D {N=%d} ("A") -> ("Z");\nEND;\n' "$depth"
+    } | tries "$depth uses with 64 nested IFs in each" "$status" "$line" faults
+done
+many 65 'IF 1 THEN ' | frame | tries '65 nested IFs' 2 'REFUSED 15 TooDeep 4:641'
+for open in '(' '- '; do
+    close=''
+    [ "$open" = '(' ] && close=')'
+    echo "WIRE \"A\" 0:$(many 64 "$open")0$(many 64 "$close");" | frame | tries "64 times '$open'" 0 CLEAN faults
+    place=$((12 + 64 * ${#open}))
+    echo "WIRE \"A\" 0:$(many 65 "$open")0$(many 65 "$close");" | frame | tries "65 times '$open'" 2 "REFUSED 15 TooDeep 4:$place"
+done
+awk -v tail="$(many 64 '+0')" 'BEGIN { for (i = 0; i < 29000; i++) printf "WIRE \"A\" 0:0%s;\n", tail }' | frame |
+    tries '29000 expressions of 64 operators' 0 CLEAN faults
+echo "WIRE \"A\" 0:0$(many 65 '+0');" | frame | tries '65 operators' 2 'REFUSED 15 TooDeep 4:141'
+echo 'b : BUF [4095:4095] ("CK .P2-3(4095,4095)") -> ("X");' | frame | tries 'the greatest delay and skew' 0 CLEAN faults
+echo 'b : BUF [0:4096] ("A") -> ("X");' | frame | tries 'a greater delay' 2 'REFUSED 14 Bounds 4:1'
+echo 'b : BUF [0:0] ("CK .P2-3(4096,0)") -> ("X");' | frame | tries 'a greater skew' 2 'REFUSED 7 BadName 4:16'
+echo 'WIRE "A" 4095:4095;' | frame | tries 'the longest wire' 0 CLEAN faults
+echo 'WIRE "A" 0:4096;' | frame | tries 'a longer wire' 2 'REFUSED 14 Bounds 4:1'
+echo 'c : MIN_PULSE_CHK ("A"<0:255>);' | frame | tries 'the widest connection' 0 CLEAN faults
+echo 'c : MIN_PULSE_CHK ("A"<0:255> & "B");' | frame | tries 'one bit more' 2 'REFUSED 12 Width 4:1'
+echo 'WIRE "A"<65535> 0:0;' | frame | tries 'the greatest bit number' 0 CLEAN faults
+echo 'WIRE "A"<65536> 0:0;' | frame | tries 'a greater bit number' 2 'REFUSED 11 BadRange 4:1'
+echo "WIRE \"$(many 64 A)\" 0:0;" | frame | tries 'the longest base name' 0 CLEAN faults
+echo "WIRE \"$(many 65 A)\" 0:0;" | frame | tries 'a longer base name' 2 'REFUSED 7 BadName 4:6'
+echo "$(many 64 b) : BUF [0:0] (\"A\") -> (\"X\");" | frame | tries 'the longest word of a label' 0 CLEAN faults
+echo "$(many 65 b) : BUF [0:0] (\"A\") -> (\"X\");" | frame | tries 'a longer word' 2 'REFUSED 2 BadToken 4:1'
+echo 'WIRE "A" 0:9223372036854775807-9223372036854775807;' | frame | tries 'the greatest number' 0 CLEAN faults
+echo 'WIRE "A" 0:9223372036854775808;' | frame | tries 'a greater number' 2 'REFUSED 2 BadToken 4:12'
+frame '4096 x 1' </dev/null | tries 'the longest period' 0 CLEAN faults
+frame '4097 x 1' </dev/null | tries 'a longer period' 2 'REFUSED 4 BadHeader 2:1'
+ring() {
+    printf '%s\n' 'g : AND [1:1] ("CK .P0-7", "X"<4>) -> ("X"<0>);' 'p : BUF [0:0] ("X"<0:3>) -> ("X"<1:4>);' | frame
+}
+ring | tries 'the greatest limit of rounds' 0 CLEAN verify faults rounds=10000000
+ring | tries 'a greater limit' 4 '' verify faults rounds=10000001
+# the costliest waves and rounds
+awk 'BEGIN { printf "WIRE \"A .S0-1"; for (i = 1; i < 1000000; i++) printf ",0-1"; print "\" 0:0;" }' | frame |
+    tries 'a name of 1000000 intervals' 0 CLEAN faults
+awk 'BEGIN { printf "WIRE \"A .S0-1"; for (i = 2; i < 4096; i += 2) printf ",%d-%d", i, i + 1; print "\"<0:63> 0:0;" }' | frame '4096 x 1' |
+    tries '64 nets of 2048 intervals' 0 CLEAN faults
+printf '%s\n' 'p : BUF [0:0] ("X"<0:254>) -> ("X"<1:255>);' 'q : BUF [0:0] ("X"<255:509>) -> ("X"<256:510>);' | frame |
+    tries 'a chain of 510 elements' 0 CLEAN faults
+echo 'a : AND [1:1] ("CK .P0-7", "X"<0:15>) -> ("X"<0:15>);' | frame '8 x 512' | tries '16 loops in the longest period' 0 CLEAN faults rounds=10000
+ranges 40 'BUF [0:9] ("CK .P2-3") -> ("X"' ');' | frame '8 x 512' | tries '10240 elements in the longest period' 0 CLEAN faults
+
+while read -r name; do
+    failure "$name"
+done <"$work/limits"
+echo "checks/hostile.sh: $failed failed, in $(($(date +%s) - begun)) seconds"
+[ "$failed" -eq 0 ]

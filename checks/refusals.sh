@@ -1,0 +1,230 @@
+#!/bin/sh
+# Every refusal of docs/LANGUAGE.md with a small text that gets it: what `verify` answers, and that `format`
+# answers the same where the refusal comes before the expansion, and else formats the text.
+# Usage: checks/refusals.sh [PROGRAM]. Without a built program it says so and ends with 0.
+set -u
+top=$(CDPATH='' cd -- "$(dirname -- "$0")/.." && pwd) || exit 2
+program=${1:-$top/crates/scald/out/scald}
+if [ ! -x "$program" ]; then
+    echo "checks/refusals.sh: no program at $program (./scald builds it): nothing is tried"
+    exit 0
+fi
+work=$(mktemp -d) || exit 2
+trap 'rm -rf "$work"' EXIT
+# A line for each text, and for each wrong answer: most texts come through a pipe, whose end counts for itself.
+: >"$work/tried"
+: >"$work/failed"
+
+# answers WORD STATUS WANT: the program's answer to $work/text
+answers() {
+    "$program" "$1" <"$work/text" >"$work/out"
+    status=$?
+    if [ "$status" -ne "$2" ] || { [ -n "$3" ] && ! printf '%s\n' "$3" | cmp -s - "$work/out"; }; then
+        echo "FAILED $1: status $status in place of $2, '$(head -n 1 "$work/out")' in place of '$3':"
+        head -c 400 "$work/text" | sed 's/^/    /'
+        echo "$1" >>"$work/failed"
+    fi
+}
+
+# refused WANT: the text on standard input is refused so by both forms of words
+refused() {
+    cat >"$work/text"
+    echo "$1" >>"$work/tried"
+    answers verify 2 "REFUSED $1"
+    answers format 2 "REFUSED $1"
+}
+
+# unexpanded WANT: the text on standard input is formatted, and refused so by `verify`
+unexpanded() {
+    cat >"$work/text"
+    echo "$1" >>"$work/tried"
+    answers verify 2 "REFUSED $1"
+    answers format 0 ''
+}
+
+# text WANT LINE ..: a text of these lines, refused before the expansion
+text() {
+    want=$1
+    shift
+    printf '%s\n' "$@" | refused "$want"
+}
+
+# frame LINE ..: a drawing in a period of 8 units of 50 ticks, whose own lines begin on line 4
+frame() {
+    printf 'SCALD 1;\nCLOCK 8 x 50;\nDRAWING ROW;\n'
+    [ $# -eq 0 ] || printf '%s\n' "$@"
+    printf 'END;\n'
+}
+
+# early WANT LINE ..: a drawing of these lines, refused before the expansion
+early() {
+    want=$1
+    shift
+    frame "$@" | refused "$want"
+}
+
+# drawing WANT LINE ..: a drawing of these lines, refused by the expansion or for its circuit
+drawing() {
+    want=$1
+    shift
+    frame "$@" | unexpanded "$want"
+}
+
+# macro WANT HEAD LINE ..: a macro M with this head and body from line 3 on, refused where it is used, or before
+macro() {
+    command=$1
+    want=$2
+    shift 2
+    {
+        printf 'SCALD 1;\nCLOCK 8 x 50;\n'
+        printf '%s\n' "$@"
+    } | "$command" "$want"
+}
+
+# many COUNT TEXT: so many times the text
+many() {
+    awk -v count="$1" -v text="$2" 'BEGIN { for (i = 0; i < count; i++) printf "%s", text }'
+}
+
+# ranges COUNT BEFORE AFTER: statements labelled l0, l1 .., each with the next 256 bits between BEFORE and AFTER
+ranges() {
+    awk -v count="$1" -v before="$2" -v after="$3" 'BEGIN {
+        for (i = 0; i < count; i++) printf "l%d : %s<%d:%d>%s\n", i, before, 256 * i, 256 * i + 255, after }'
+}
+
+# --- bytes and tokens
+printf -- '-- caf\351\nSCALD 1;\n' | refused '1 BadByte 1:7'
+printf 'SCALD 1;\n\001' | refused '1 BadByte 2:1'
+printf 'SCALD 1;\nCLOCK 8 x 50;\nDRAWING ROW;\nb1 : BUF [0:0] ("CK' | refused '2 BadToken 4:17'
+early '2 BadToken 4:17' 'b1 : BUF [0:0] ("C	K") -> ("X");'
+frame 'b1 : BUF [0:0] ("CK' '") -> ("X");' | refused '2 BadToken 4:17'
+printf 'SCALD 1;\nCLOCK 8 x 50;\nDRAWING ROW;\nb1 : BUF [0:0] ("C\rK") -> ("X");\nEND;\n' | refused '2 BadToken 4:17'
+early '2 BadToken 4:1' "$(many 65 a) : BUF [0:0] (\"A\") -> (\"X\");"
+early '2 BadToken 4:13' 'b1 : BUF [0:9223372036854775808] ("A") -> ("X");'
+early '2 BadToken 4:12' 'b1 : BUF [0.5:1] ("A") -> ("X");'
+early '2 BadToken 4:4' 'b1 _: BUF [0:1] ("A") -> ("X");'
+
+# --- grammar
+printf '' | refused '3 Syntax 1:1'
+text '3 Syntax 2:1' 'SCALD 1;' 'clock 8 x 50;'
+text '3 Syntax 2:9' 'SCALD 1;' 'CLOCK 8 x50;'
+early '3 Syntax 4:4' 'IF : BUF [0:0] ("A") -> ("X");'
+early '3 Syntax 4:11' 'b1 : BUF [ONE:1] ("A") -> ("X");'
+early '15 TooDeep 4:75' "b1 : BUF [$(many 65 '(')0$(many 65 ')'):0] (\"A\") -> (\"X\");"
+early '15 TooDeep 4:139' "b1 : BUF [$(many 65 '- ')0:0] (\"A\") -> (\"X\");"
+early '15 TooDeep 4:140' "b1 : BUF [0$(many 65 '+1'):70] (\"A\") -> (\"X\");"
+early '15 TooDeep 4:641' "$(many 65 'IF 1 THEN ')b1 : BUF [0:0] (\"A\") -> (\"X\"); $(many 65 'END; ')"
+
+# --- header
+text '4 BadHeader 1:1' 'SCALD 2;' 'CLOCK 8 x 50;' 'DRAWING ROW;' 'END;'
+text '4 BadHeader 2:1' 'SCALD 1;' 'CLOCK 8 x 0;' 'DRAWING ROW;' 'END;'
+text '4 BadHeader 2:1' 'SCALD 1;' 'CLOCK 1 x 1;' 'DRAWING ROW;' 'END;'
+text '4 BadHeader 2:1' 'SCALD 1;' 'CLOCK 4097 x 1;' 'DRAWING ROW;' 'END;'
+text '4 BadHeader 3:1' 'SCALD 1;' 'CLOCK 8 x 50;' 'WIRE 2:1;' 'DRAWING ROW;' 'END;'
+text '4 BadHeader 3:1' 'SCALD 1;' 'CLOCK 8 x 50;' 'WIRE 0:4096;' 'DRAWING ROW;' 'END;'
+text '4 BadHeader 3:1' 'SCALD 1;' 'CLOCK 8 x 50;' 'PSKEW 4096:0;' 'DRAWING ROW;' 'END;'
+text '4 BadHeader 3:1' 'SCALD 1;' 'CLOCK 8 x 50;' 'CSKEW 0:4096;' 'DRAWING ROW;' 'END;'
+
+# --- names
+for name in 'CK .P2-9' 'CK .P8-3' 'CK .P3-3' 'CK .P02-3' 'CK .P2-3(4096,0)' 'A .S0-2L' 'A .S0-2(1,1)' 'CK .P' ' A' 'A ' 'A  B' '' '/' \
+    'A-B' "$(many 65 A)"; do
+    early '7 BadName 4:17' "b1 : BUF [0:0] (\"$name\") -> (\"X\");"
+done
+early '20 EdgesOverlap 4:17' 'b1 : BUF [0:0] ("CK .C2-3(25,25)") -> ("X");'
+early '20 EdgesOverlap 4:17' 'b1 : BUF [0:0] ("CK .C2-3(400,0)") -> ("X");'
+macro refused '7 BadName 3:10' 'MACRO M ("/A") -> ("Z");' 'END;' 'DRAWING ROW;' 'END;'
+macro refused '7 BadName 3:10' 'MACRO M ("A .S") -> ("Z");' 'END;' 'DRAWING ROW;' 'END;'
+
+# --- double names
+early '5 DoubleName 5:1' 'b1 : BUF [0:0] ("A") -> ("X");' 'b1 : BUF [0:0] ("B") -> ("Y");'
+early '5 DoubleName 5:21' 'b1 : BUF [0:0] ("A") -> ("X");' 'IF 0 THEN IF 1 THEN b1 : BUF [0:0] ("B") -> ("Y"); END; END;'
+macro refused '5 DoubleName 5:7' 'MACRO M ();' 'END;' 'MACRO M ();' 'END;' 'DRAWING ROW;' 'END;'
+macro refused '5 DoubleName 3:7' 'MACRO BUF ();' 'END;' 'DRAWING ROW;' 'END;'
+macro refused '5 DoubleName 3:15' 'MACRO M {N=1, N=2} ();' 'END;' 'DRAWING ROW;' 'END;'
+macro refused '5 DoubleName 3:19' 'MACRO M ("A") -> ("A");' 'END;' 'DRAWING ROW;' 'END;'
+
+# --- the expansion, in the order in which one statement is looked at
+macro unexpanded '16 TooMany 6:1' 'MACRO E {N=1} ();' 'IF N > 0 THEN' 'a : E {N=N-1} ();' 'b : E {N=N-1} ();' 'END;' 'END;' \
+    'DRAWING ROW;' 't : E {N=20} ();' 'END;'
+drawing '6 UnknownKind 4:1' 'b1 : BUFF [0:0] ("A") -> ("X");'
+drawing '14 Bounds 4:1' 'b1 : BUF ("A") -> ("X");'
+drawing '14 Bounds 4:1' 'c1 : MIN_PULSE_CHK [0:0] ("A");'
+macro unexpanded '14 Bounds 6:1' 'MACRO M ();' 'END;' 'DRAWING ROW;' 'u : M [0:0] ();' 'END;'
+drawing '9 BadParameter 4:1' 'b1 : BUF [0:0] {N=1} ("A") -> ("X");'
+drawing '9 BadParameter 4:1' 'c1 : MIN_PULSE_CHK {HIGH=1, HIGH=1} ("A");'
+macro unexpanded '9 BadParameter 6:1' 'MACRO M {N=1} ();' 'END;' 'DRAWING ROW;' 'u : M {P=1} ();' 'END;'
+drawing '10 Overflow 4:1' 'b1 : BUF [0:9223372036854775807+1] ("A") -> ("X");'
+drawing '21 ZeroDivisor 4:1' 'b1 : BUF [0:1/0] ("A") -> ("X");'
+drawing '22 UnknownName 4:1' 'b1 : BUF [0:N] ("A") -> ("X");'
+drawing '22 UnknownName 4:1' 'IF N THEN END;'
+for delay in 3:2 0:4096 0-1:0; do
+    drawing '14 Bounds 4:1' "b1 : BUF [$delay] (\"A\") -> (\"X\");"
+done
+drawing '14 Bounds 4:1' 'c1 : SETUP_HOLD_CHK {SETUP=391, HOLD=10} ("CK", "D");'
+drawing '14 Bounds 4:1' 'c1 : SETUP_RISE_HOLD_FALL_CHK {SETUP=0-1, HOLD=10} ("CK", "D");'
+drawing '14 Bounds 4:1' 'c1 : MIN_PULSE_CHK {HIGH=401} ("K");'
+drawing '14 Bounds 4:1' 'c1 : MIN_PULSE_CHK {LOW=401} ("K");'
+drawing '14 Bounds 4:1' 'WIRE "A" 2:1;'
+drawing '14 Bounds 4:1' 'WIRE "A" 0:4096;'
+drawing '13 PinCount 4:1' 'b1 : BUF [0:0] ("A", "B") -> ("X");'
+drawing '13 PinCount 4:1' 'b1 : BUF [0:0] () -> ("X");'
+drawing '13 PinCount 4:1' 'b1 : BUF [0:0] ("A");'
+drawing '13 PinCount 4:1' 'm1 : MUX4 [0:0] ("S", "A", "B", "C", "D") -> ("X");'
+drawing '13 PinCount 4:1' "a1 : AND [0:0] (\"A\"$(many 16 ', "A"')) -> (\"X\");"
+drawing '13 PinCount 4:1' 'c1 : MIN_PULSE_CHK ("A") -> ("X");'
+drawing '13 PinCount 4:1' 'b1 : BUF [0:0] ("A" !H) -> ("X");'
+drawing '13 PinCount 4:1' 'a1 : AND [0:0] ("A" !H, "B" !H) -> ("X");'
+drawing '13 PinCount 4:1' 'a1 : AND [0:0] ("A", "B") -> ("X" !H);'
+macro unexpanded '15 TooDeep 4:1' 'MACRO M ("A") -> ("Z");' 'x : M ("A") -> ("Z");' 'END;' 'DRAWING ROW;' 'u : M ("A") -> ("X");' 'END;'
+macro unexpanded '11 BadRange 6:1' 'MACRO M {N=1} ("A"<0:N>);' 'END;' 'DRAWING ROW;' 'u : M {N=256} ("A");' 'END;'
+drawing '11 BadRange 4:1' 'b1 : BUF [0:0] ("A"<65536>) -> ("X");'
+drawing '11 BadRange 4:1' 'b1 : BUF [0:0] ("A"<0-1>) -> ("X");'
+drawing '11 BadRange 4:1' 'b1 : BUF [0:0] ("A"<0:256>) -> ("X");'
+drawing '11 BadRange 4:1' 'WIRE "A"<65536> 0:0;'
+macro unexpanded '11 BadRange 4:1' 'MACRO M ("A"<1:2>) -> ("Z");' 'b1 : BUF [0:0] ("A"<0>) -> ("Z");' 'END;' 'DRAWING ROW;' \
+    'u : M ("A") -> ("X");' 'END;'
+drawing '8 AssertionClash 4:1' 'a1 : AND [0:0] ("A .S0-4", "A .S0-5") -> ("X");'
+drawing '8 AssertionClash 4:1' 'a1 : AND [0:0] ("A .S0-2,4-6", "A .S4-6,0-2"<1>) -> ("X");'
+macro unexpanded '8 AssertionClash 4:1' 'MACRO M ("A") -> ("Z");' 'b1 : BUF [0:0] ("A .S") -> ("Z");' 'END;' 'DRAWING ROW;' \
+    'u : M ("A") -> ("X");' 'END;'
+drawing '12 Width 4:1' 'c1 : MIN_PULSE_CHK ("A"<0:255> & "B");'
+drawing '12 Width 4:1' 'b1 : BUF [0:0] ("A"<0:2>) -> ("X"<0:3>);'
+drawing '12 Width 4:1' 'c1 : SETUP_HOLD_CHK ("CK"<0:1>, "D"<0:2>);'
+macro unexpanded '12 Width 6:1' 'MACRO M ("A") -> ("Z"<0:1>);' 'END;' 'DRAWING ROW;' 'u : M ("A") -> ("X");' 'END;'
+macro unexpanded '12 Width 6:1' 'MACRO M ("A"<0:2>);' 'END;' 'DRAWING ROW;' 'u : M ("A"<0:1>);' 'END;'
+{
+    printf 'SCALD 1;\nCLOCK 8 x 50;\nDRAWING ROW;\n'
+    ranges 256 'MIN_PULSE_CHK ("A"' ');'
+    printf 'WIRE "B" 0:0;\nEND;\n'
+} | unexpanded '16 TooMany 260:1'
+{
+    printf 'SCALD 1;\nCLOCK 8 x 50;\nDRAWING ROW;\n'
+    ranges 256 'BUF [0:0] (ZERO) -> ("A"' ');'
+    printf 'b1 : BUF [0:0] (ZERO) -> ("A");\nEND;\n'
+} | unexpanded '16 TooMany 260:1'
+{
+    printf 'SCALD 1;\nCLOCK 8 x 50;\nDRAWING ROW;\n'
+    ranges 256 'MIN_PULSE_CHK ("A"' ');'
+    printf 'c1 : MIN_PULSE_CHK ("A");\nEND;\n'
+} | unexpanded '16 TooMany 260:1'
+{
+    printf 'SCALD 1;\nCLOCK 8 x 50;\nDRAWING ROW;\n'
+    awk -v inputs="$(many 15 '"A"<0:255>, ')" 'BEGIN {
+        for (i = 0; i < 256; i++) printf "l%d : CHG [0:0] (%s\"A\"<0:255>) -> (\"X\"<%d>);\n", i, inputs, i }'
+    printf 'b1 : BUF [0:0] (ZERO) -> ("Y");\nEND;\n'
+} | unexpanded '16 TooMany 260:1'
+
+# --- the circuit
+drawing '17 TwoDrivers 5:1' 'b1 : BUF [0:0] ("A") -> ("X");' 'b2 : BUF [0:0] ("B") -> ("X");'
+drawing '17 TwoDrivers 4:1' 'b1 : BUF [0:0] ("A") -> (ZERO);'
+drawing '18 ZeroLoop 4:1' 'b1 : BUF [0:0] ("Y") -> ("X");' 'a1 : AND [0:0] ("CK .P2-3", "X") -> ("Y");'
+drawing '18 ZeroLoop 4:1' 'b1 : BUF [0:9] ("X") -> ("Y");' 'x1 : XOR [0:0] ("CK .P2-3", "X") -> ("X");'
+{
+    frame
+    printf 'CASE "X"=0;\n'
+} | unexpanded '23 NotBuilt 1:1'
+
+tried=$(wc -l <"$work/tried")
+failed=$(wc -l <"$work/failed")
+echo "checks/refusals.sh: $tried tried, $failed failed"
+[ "$tried" -gt 0 ] && [ "$failed" -eq 0 ]
