@@ -1,7 +1,7 @@
 -- What the report prints of a refusal's kind.
 use Rattle.std.specs.Prelude.{ℕ, List, codes}
 use Rattle.scald_base.specs.declared.refusal.RefusalKind.{RefusalKind}
-use Rattle.scald_base.specs.declared.refusal.RefusalKind.TheVariants.{BadByte, BadToken, Syntax, BadHeader, DoubleName, UnknownKind, BadName, AssertionClash, BadParameter, Overflow, BadRange, Width, PinCount, Bounds, TooDeep, TooMany, TwoDrivers, ZeroLoop, CaseNet, EdgesOverlap, ZeroDivisor, UnknownName, NotBuilt}
+use Rattle.scald_base.specs.declared.refusal.RefusalKind.TheVariants.{BadByte, BadToken, Syntax, BadHeader, DoubleName, UnknownKind, BadName, AssertionClash, BadParameter, Overflow, BadRange, Width, PinCount, Bounds, TooDeep, TooMany, TwoDrivers, ZeroLoop, CaseNet, EdgesOverlap, ZeroDivisor, UnknownName}
 
 abbrev pub number_of : RefusalKind → ℕ
 number_of BadByte = 1
@@ -26,7 +26,6 @@ number_of CaseNet = 19
 number_of EdgesOverlap = 20
 number_of ZeroDivisor = 21
 number_of UnknownName = 22
-number_of NotBuilt = 23
 
 abbrev pub name_of : RefusalKind → List ℕ
 name_of BadByte = codes "BadByte"
@@ -51,4 +50,3 @@ name_of CaseNet = codes "CaseNet"
 name_of EdgesOverlap = codes "EdgesOverlap"
 name_of ZeroDivisor = codes "ZeroDivisor"
 name_of UnknownName = codes "UnknownName"
-name_of NotBuilt = codes "NotBuilt"

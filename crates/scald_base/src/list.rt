@@ -102,8 +102,8 @@ impl<T: Drop> List<T> {
         ensures ok { OnOk result (self.new ≡ self.old ++ item ∷ []) }
         ensures err { OnErr result (self.new ≡ self.old) }
     {
-        // Most lists of a drawing have one item, and items can be large: no room is made for more yet.
-        if self.items.is_empty() {
+        // Most lists of a drawing have one item or two, and items can be large: room is made for 1, 2 and then 4.
+        if self.items.len() < 2 {
             self.items.reserve_exact(1)?;
         }
         self.items.push(item)?;

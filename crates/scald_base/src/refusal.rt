@@ -59,12 +59,10 @@ pub enum RefusalKind {
     ZeroDivisor,
     /// An expression names no parameter.
     UnknownName,
-    /// A text that this version does not evaluate yet.
-    NotBuilt,
 }
 
 impl RefusalKind {
-    /// The number that the report prints, 1 to 23.
+    /// The number that the report prints, 1 to 22.
     pub fn number(self) -> u8
         ensures { result ≡ number_of self }
     {
@@ -91,7 +89,6 @@ impl RefusalKind {
             RefusalKind::EdgesOverlap => 20,
             RefusalKind::ZeroDivisor => 21,
             RefusalKind::UnknownName => 22,
-            RefusalKind::NotBuilt => 23,
         }
     }
 
@@ -122,7 +119,6 @@ impl RefusalKind {
             RefusalKind::EdgesOverlap => "EdgesOverlap",
             RefusalKind::ZeroDivisor => "ZeroDivisor",
             RefusalKind::UnknownName => "UnknownName",
-            RefusalKind::NotBuilt => "NotBuilt",
         }
     }
 }
