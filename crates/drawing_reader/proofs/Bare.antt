@@ -9,7 +9,7 @@ use Rattle.scald_base.specs.Time.{Header}
 use Rattle.scald_base.specs.declared.refusal.Place.{Place}
 use Rattle.scald_base.specs.declared.assertion.AssertSpec.TheVariants.{None as Unasserted}
 use Rattle.assertion_syntax.specs.Name.{is_base_byte, well_spaced, IsBase}
-use Rattle.drawing_reader.specs.Names.{is_inner, named, IsGood}
+use Rattle.drawing_grammar.specs.Names.{is_inner, named, IsGood}
 
 inner_base : (b : ℕ) → is_inner b ≡ true → is_base_byte b ≡ true
 inner_base b h = grind (arith, nat_tests)

@@ -4,19 +4,20 @@ use Rattle.std.specs.Prelude.{is_some}
 use Rattle.scald_base.specs.declared.refusal.RefusalKind.TheVariants.{Syntax, TooDeep}
 use Rattle.scald_base.specs.declared.refusal.Stop.TheVariants as stop
 use Rattle.scald_lex.specs.declared.token.Token as lex
-use Rattle.drawing_reader.specs.declared.terminal.Letter.{Letter}
-use Rattle.drawing_reader.specs.declared.terminal.Terminal.{Terminal}
-use Rattle.drawing_reader.specs.declared.terminal.Terminal.TheVariants.{EndOfText, Word}
+use Rattle.drawing_grammar.specs.declared.terminal.Letter.{Letter}
+use Rattle.drawing_grammar.specs.declared.terminal.Terminal.{Terminal}
+use Rattle.drawing_grammar.specs.declared.terminal.Terminal.TheVariants.{EndOfText, Word}
 use Rattle.drawing_reader.specs.declared.cursor.Cursor.{Cursor}
-use Rattle.drawing_reader.specs.Lexeme.{Lexeme}
-use Rattle.drawing_reader.specs.Grammar.{Part, Group, Terms, Comparison, Term, Formal, MoreConns, Product, Sum, Expr, Conn, SomeConns, Conns, SomeFormals, Formals, Need, mark, item, letter, fresh, part, group, Choice, opening, following, lead, others, Cost, plain, opens, operator, cost}
-use Rattle.drawing_reader.specs.Sketch.{Meaning, GroupMeaning, front, behind, choice_value, absent_value, group_value, absent_group}
-use Rattle.drawing_reader.specs.Written.{weight, counted, limit}
-use Rattle.drawing_reader.specs.Machine.{choice, Refused, given, verdict, refusal, Moves, Fails}
-use Rattle.drawing_reader.specs.Reader.{tokens_at, ahead, at, first_terminal, first_place, first_text, Lettered}
-use Rattle.drawing_reader.proofs.Ends.{opens_no_end}
-use Rattle.drawing_reader.proofs.Choices.{is_same, chooses}
-use Rattle.drawing_reader.proofs.Moves as m
+use Rattle.drawing_grammar.specs.Lexeme.{Lexeme}
+use Rattle.drawing_grammar.specs.Grammar.{Part, Group, Terms, Comparison, Term, Formal, MoreConns, Product, Sum, Expr, Conn, SomeConns, Conns, SomeFormals, Formals, Need, mark, item, letter, fresh, part, group, Choice, opening, following, lead, others, Cost, plain, opens, operator, cost}
+use Rattle.drawing_grammar.specs.Sketch.{Meaning, GroupMeaning, front, behind, choice_value, absent_value, group_value, absent_group}
+use Rattle.drawing_grammar.specs.Written.{weight, counted, limit}
+use Rattle.drawing_grammar.specs.Machine.{choice, Refused, given, verdict, refusal, Moves, Fails}
+use Rattle.drawing_reader.specs.Reader.{tokens_at, ahead, at}
+use Rattle.drawing_grammar.specs.Front.{first_terminal, first_place, first_text, Lettered}
+use Rattle.drawing_grammar.proofs.Ends.{opens_no_end}
+use Rattle.drawing_grammar.proofs.Choices.{is_same, chooses}
+use Rattle.drawing_grammar.proofs.Moves as m
 
 no_end : {p : Part} (c : Choice p) (l : Terminal) → l ≡ opening c → l ≢ EndOfText
 no_end c l e h = let k = opens_no_end c in let i = is_same (opening c) EndOfText (sym e ∙ h) in absurd cc

@@ -9,66 +9,22 @@ use Rattle.std.specs.Str.{bytes_eq}
 use Rattle.std.proofs.lemmas.Slice.Eq.{bytes_eq-Decides}
 use Rattle.std.proofs.lemmas.Bool.Decides.{nat_tests}
 use denote.Enum.Bare.{sameb}
-use Rattle.drawing_reader.specs.contracts.declared.Kind.{the_type}
+use Rattle.drawing_grammar.specs.contracts.declared.Kind.{the_type}
 use Rattle.drawing_reader.specs.declared.declared.Declared.{Declared}
-use Rattle.drawing_reader.specs.declared.declared.Kind.{Kind}
-use Rattle.drawing_reader.specs.declared.declared.Kind.TheVariants.{Macro, Parameter, Formal, Label}
+use Rattle.drawing_grammar.specs.declared.declared.Kind.{Kind}
+use Rattle.drawing_grammar.specs.declared.declared.Kind.TheVariants.{Macro, Parameter, Formal, Label}
 use Rattle.drawing_reader.specs.contracts.declared.DeclaredPartialEq.TheImpl.{eq-value}
 use Rattle.scald_base.specs.declared.refusal.Place.{Place}
-use Rattle.drawing_reader.specs.DoubleNames.{Key, key, key_of, Declaration, declaration, double_at, primitives, Repeats, Declares}
-use Rattle.drawing_reader.proofs.Doubles.{repeats_one, declares_one}
-
-same_kind : (a b : Kind) → sameb the_type a b ≡ true → a ≡ b
-same_kind Macro Macro h = refl
-same_kind Macro Parameter h = absurd cc
-same_kind Macro Formal h = absurd cc
-same_kind Macro Label h = absurd cc
-same_kind Parameter Macro h = absurd cc
-same_kind Parameter Parameter h = refl
-same_kind Parameter Formal h = absurd cc
-same_kind Parameter Label h = absurd cc
-same_kind Formal Macro h = absurd cc
-same_kind Formal Parameter h = absurd cc
-same_kind Formal Formal h = refl
-same_kind Formal Label h = absurd cc
-same_kind Label Macro h = absurd cc
-same_kind Label Parameter h = absurd cc
-same_kind Label Formal h = absurd cc
-same_kind Label Label h = refl
-
-kind_same : (a : Kind) → sameb the_type a a ≡ true
-kind_same Macro = refl
-kind_same Parameter = refl
-kind_same Formal = refl
-kind_same Label = refl
-
-both : (a b : Bool) → (a && b) ≡ true → (a ≡ true) × (b ≡ true)
-both true b h = (refl, h)
-both false b h = absurd cc
-
-pub same_parts : (s t : ℕ) (j k : Kind) (x y : List ℕ) → (nat_eq s t && (sameb the_type j k && bytes_eq x y)) ≡ true → (s ≡ t) × (j ≡ k) × (x ≡ y)
-same_parts s t j k x y h =
-    let first = both (nat_eq s t) (sameb the_type j k && bytes_eq x y) h in
-    let second = both (sameb the_type j k) (bytes_eq x y) first.1 in
-    let p : nat_eq s t ≡ true = first.0 in
-    let q : bytes_eq x y ≡ true = second.1 in
-    (grind (arith, nat_tests), same_kind j k second.0, grind (arith, bytes_eq-Decides))
-
-pub parts_same : (s t : ℕ) (j k : Kind) (x y : List ℕ) → s ≡ t → j ≡ k → x ≡ y → (nat_eq s t && (sameb the_type j k && bytes_eq x y)) ≡ true
-parts_same s t j k x y p q r =
-    let kinds : sameb the_type j k ≡ true = subst (λ (l : Kind). sameb the_type j l ≡ true) q (kind_same j) in
-    let scopes : nat_eq s t ≡ true = grind (arith, nat_tests) in
-    let names : bytes_eq x y ≡ true = grind (arith, bytes_eq-Decides) in
-    rw (scopes, kinds) names
+use Rattle.drawing_grammar.specs.DoubleNames.{Key, key, Declaration, declaration, double_at, primitives, Repeats, Declares}
+use Rattle.drawing_reader.specs.Keys.{key_of}
+use Rattle.drawing_grammar.proofs.SameKeys.{same_parts, parts_same, later}
+use Rattle.drawing_grammar.proofs.Doubles.{repeats_one, declares_one}
 
 same_key : (a b : Declared) → eq-value.it a b ≡ true → key_of a ≡ key_of b
 same_key a b h = let e = same_parts a.scope b.scope a.kind b.kind a.name.now b.name.now h in let p = e.0 in let q = e.1 in let r = e.2 in cc
 
 key_same : (a b : Declared) → key_of a ≡ key_of b → eq-value.it a b ≡ true
 key_same a b h = parts_same a.scope b.scope a.kind b.kind a.name.now b.name.now (ap (λ (k : Key). k.scope) h) (ap (λ (k : Key). k.kind) h) (ap (λ (k : Key). k.name) h)
-
-pub later : (xs : List Key) (x y : Key) → Contains xs y → Contains (x ∷ xs) y
-later xs x y found = (suc found.0, omega (arith, found.1), found.2)
 
 or_true : (a : Bool) → (a || true) ≡ true
 or_true true = refl

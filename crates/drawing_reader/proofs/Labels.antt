@@ -11,11 +11,11 @@ use Rattle.drawing_tree.specs.declared.statement.Stmt.{Stmt}
 use Rattle.drawing_tree.specs.declared.statement.Stmt.TheVariants as stmt
 use Rattle.drawing_tree.specs.declared.drawing.Formal as written
 use Rattle.drawing_tree.specs.declared.drawing.MacroDef.{MacroDef}
-use Rattle.drawing_reader.specs.declared.head.Head.{Head}
+use Rattle.drawing_grammar.specs.declared.head.Head.{Head}
 use Rattle.drawing_tree.specs.Tree.{Macro, macro_of, assignment_of, formal_of, statement_of, statements_of, if_of, else_of}
 use Rattle.drawing_tree.proofs.Views.{view_use, view_wire, view_choice, view_if}
-use Rattle.drawing_reader.specs.declared.declared.Kind.TheVariants.{Parameter, Formal, Label}
-use Rattle.drawing_reader.specs.DoubleNames.{declaration, parameters, formals, labels, statement_labels, else_labels, head_declared, macros_declared}
+use Rattle.drawing_grammar.specs.declared.declared.Kind.TheVariants.{Parameter, Formal, Label}
+use Rattle.drawing_grammar.specs.DoubleNames.{declaration, parameters, formals, labels, statement_labels, else_labels, head_declared, macros_declared}
 
 -- the item at a place, and those behind it
 pub dropped : {A : Type 0} (xs : List A) (i : ℕ) (x : A) → i < length xs → x ≡ get_or xs i x → drop i xs ≡ x ∷ drop (i + 1) xs

@@ -5,8 +5,8 @@ use Rattle.scald_base.specs.declared.refusal.Place.{Place}
 use Rattle.drawing_tree.specs.declared.statement.Stmt.{Stmt}
 use Rattle.drawing_tree.specs.declared.drawing.MacroDef.{MacroDef}
 use Rattle.drawing_tree.specs.Tree as tree
-use Rattle.drawing_reader.specs.declared.head.Head.{Head}
-use Rattle.drawing_reader.specs.Sketch as s
+use Rattle.drawing_grammar.specs.declared.head.Head.{Head}
+use Rattle.drawing_grammar.specs.Sketch as s
 use Rattle.drawing_reader.specs.Statements.{followed}
 
 pub more_mapped : {A B : Type 0} (f : A → B) (xs : List A) (x : A) (ys : List B) → map f (xs ++ x ∷ []) ++ ys ≡ map f xs ++ f x ∷ ys

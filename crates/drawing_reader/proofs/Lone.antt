@@ -2,13 +2,14 @@
 use Rattle.std.proofs.Common.{◌≡◌, ◌≢◌, List, ◌∷◌, None, refl}
 use Rattle.scald_lex.specs.declared.token.Token as lex
 use Rattle.scald_expr.specs.Expression.{Number}
-use Rattle.drawing_reader.specs.declared.terminal.Terminal.TheVariants as is
+use Rattle.drawing_grammar.specs.declared.terminal.Terminal.TheVariants as is
 use Rattle.drawing_reader.specs.declared.cursor.Cursor.{Cursor}
-use Rattle.drawing_reader.specs.Lexeme.{kind_number}
-use Rattle.drawing_reader.specs.Grammar.{Need, part, group, number, Factors, Terms, Sum}
-use Rattle.drawing_reader.specs.Machine.{choice, Moves}
-use Rattle.drawing_reader.specs.Reader.{tokens_at, ahead, at, first_terminal}
-use Rattle.drawing_reader.proofs.Moves.{moves}
+use Rattle.drawing_grammar.specs.Lexeme.{kind_number}
+use Rattle.drawing_grammar.specs.Grammar.{Need, part, group, number, Factors, Terms, Sum}
+use Rattle.drawing_grammar.specs.Machine.{choice, Moves}
+use Rattle.drawing_reader.specs.Reader.{tokens_at, ahead, at}
+use Rattle.drawing_grammar.specs.Front.{first_terminal}
+use Rattle.drawing_grammar.proofs.Moves.{moves}
 use Rattle.drawing_reader.proofs.Cursors.{always, plainly, left_out}
 
 pub lone : (old new : Cursor) (t : lex.Token) → first_terminal (tokens_at old) ≡ is.Number → (first_terminal (tokens_at old) ≢ is.EndOfText → tokens_at old ≡ at old t ∷ tokens_at new) → new.operators ≡ old.operators → choice Factors (first_terminal (tokens_at new)) ≡ None → choice Terms (first_terminal (tokens_at new)) ≡ None → (rest : List Need) → Moves (ahead old (group Sum 0 ∷ rest)) (ahead new rest) (λ v. (Number (kind_number t.kind), v))

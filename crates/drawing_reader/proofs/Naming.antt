@@ -7,13 +7,10 @@ use Rattle.scald_base.specs.declared.refusal.Stop.{Stop}
 use Rattle.scald_base.specs.declared.refusal.Stop.TheVariants.{Refused, NoMemory}
 use Rattle.scald_lex.specs.declared.token.Token as lex
 use Rattle.scald_lex.specs.declared.token.TokenKind.TheVariants.{Word}
-use Rattle.drawing_reader.specs.Lexeme.{lexeme_of, lexemes, terminal}
-use Rattle.drawing_reader.specs.Names.{Naming, names_at, head_behind, names_from, IsFault, AreGood, IsNameStop, Judged}
+use Rattle.drawing_grammar.specs.Lexeme.{lexeme_of, lexemes, terminal}
+use Rattle.drawing_grammar.specs.Names.{Naming, names_at, head_behind, names_from, IsFault, AreGood, IsNameStop, Judged}
+use Rattle.drawing_grammar.proofs.GoodNames.{good_both}
 use Rattle.drawing_reader.proofs.Labels.{dropped}
-
-pub good_both : (h : Header) (ns ms : List Naming) → AreGood h ns → AreGood h ms → AreGood h (ns ++ ms)
-good_both h [] ms first second = second
-good_both h (n ∷ ns) ms first second = (first.0, good_both h ns ms first.1 second)
 
 -- the refusal of one name
 pub fault_stop : (h : Header) (n : Naming) (kind : RefusalKind) (s : Stop) → s ≡ Refused (record { kind = kind; place = n.place }) → IsFault h n kind → IsNameStop h (n ∷ []) s

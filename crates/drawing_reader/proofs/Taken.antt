@@ -1,9 +1,10 @@
 -- The first of the tokens before a cursor.
 use Rattle.std.proofs.Common.{◌≡◌, ℕ, List, [], ◌∷◌, Some, None, refl, ap}
 use Rattle.scald_lex.specs.declared.token.Token as lex
-use Rattle.drawing_reader.specs.declared.terminal.Terminal.TheVariants.{EndOfText}
-use Rattle.drawing_reader.specs.Lexeme.{lexeme_of, lexemes, terminal}
-use Rattle.drawing_reader.specs.Reader.{first_terminal, first_token, other_tokens}
+use Rattle.drawing_grammar.specs.declared.terminal.Terminal.TheVariants.{EndOfText}
+use Rattle.drawing_grammar.specs.Lexeme.{lexeme_of, lexemes, terminal}
+use Rattle.drawing_reader.specs.Reader.{first_token, other_tokens}
+use Rattle.drawing_grammar.specs.Front.{first_terminal}
 
 pub look_first : (text : List ℕ) (ts : List lex.Token) (t : lex.Token) → first_token ts ≡ Some t → first_terminal (lexemes text ts) ≡ terminal (lexeme_of text t)
 look_first text [] t e = absurd cc

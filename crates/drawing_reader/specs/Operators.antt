@@ -3,9 +3,9 @@ use Rattle.std.specs.Prelude.{ℕ, List, ◌∷◌, Option, Some, None, Result, 
 use Rattle.scald_base.specs.declared.refusal.Stop.{Stop}
 use Rattle.scald_expr.specs.declared.expr.Op.{Op}
 use Rattle.drawing_reader.specs.declared.cursor.Cursor.{Cursor}
-use Rattle.drawing_reader.specs.Grammar.{Need, part, group, Unary, Factors, Terms, Comparison, Product, Sum}
-use Rattle.drawing_reader.specs.Sketch.{binary}
-use Rattle.drawing_reader.specs.Machine.{Moves, Fails}
+use Rattle.drawing_grammar.specs.Grammar.{Need, part, group, Unary, Factors, Terms, Comparison, Product, Sum}
+use Rattle.drawing_grammar.specs.Sketch.{binary}
+use Rattle.drawing_grammar.specs.Machine.{Moves, Fails}
 use Rattle.drawing_reader.specs.Reader.{ahead}
 
 abbrev pub FactorAt : Result (Option Op) Stop → Cursor → Cursor → Type 0

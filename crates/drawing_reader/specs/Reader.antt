@@ -2,15 +2,15 @@
 use Rattle.std.specs.Prelude.{◌≡◌, ℕ, List, [], ◌∷◌, Option, Some, None, Result, Ok, Err}
 use Rattle.scald_base.specs.declared.refusal.Place.{Place}
 use Rattle.scald_base.specs.declared.refusal.Stop.{Stop}
-use Rattle.drawing_reader.specs.declared.header.NumberPair.{NumberPair}
+use Rattle.drawing_grammar.specs.declared.header.NumberPair.{NumberPair}
 use Rattle.scald_lex.specs.declared.token.Token as lex
-use Rattle.drawing_reader.specs.declared.terminal.Letter.{Letter}
-use Rattle.drawing_reader.specs.declared.terminal.Terminal.{Terminal}
-use Rattle.drawing_reader.specs.declared.terminal.Terminal.TheVariants.{EndOfText, Word}
+use Rattle.drawing_grammar.specs.declared.terminal.Letter.{Letter}
+use Rattle.drawing_grammar.specs.declared.terminal.Terminal.{Terminal}
+use Rattle.drawing_grammar.specs.declared.terminal.Terminal.TheVariants.{EndOfText, Word}
 use Rattle.drawing_reader.specs.declared.cursor.Cursor.{Cursor}
-use Rattle.drawing_reader.specs.Lexeme.{Lexeme, lexeme_of, lexemes, terminal, number_of}
-use Rattle.drawing_reader.specs.Grammar.{Need, mark, bounds, letter_text}
-use Rattle.drawing_reader.specs.Machine.{Verdict, Complete, verdict, nowhere, Moves, Fails}
+use Rattle.drawing_grammar.specs.Lexeme.{Lexeme, lexeme_of, lexemes, terminal, number_of}
+use Rattle.drawing_grammar.specs.Grammar.{Need, mark, bounds, letter_text}
+use Rattle.drawing_grammar.specs.Machine.{Verdict, Complete, verdict, nowhere, Moves, Fails}
 
 -- the tokens before it
 abbrev pub tokens_at : Cursor → List Lexeme
@@ -23,22 +23,6 @@ ahead c needs = verdict (tokens_at c) needs c.operators
 -- a token with its text
 abbrev pub at : Cursor → lex.Token → Lexeme
 at c t = lexeme_of c.text.now t
-
-abbrev pub first_terminal : List Lexeme → Terminal
-first_terminal [] = EndOfText
-first_terminal (t ∷ ts) = terminal t
-
-abbrev pub first_place : List Lexeme → Place
-first_place [] = nowhere
-first_place (t ∷ ts) = t.place
-
-abbrev pub first_text : List Lexeme → List ℕ
-first_text [] = []
-first_text (t ∷ ts) = t.text
-
--- this letter stands first
-abbrev pub Lettered : Letter → List Lexeme → Type 0
-Lettered x ts = (first_terminal ts ≡ Word) × (first_text ts ≡ letter_text x)
 
 abbrev pub first_token : List lex.Token → Option lex.Token
 first_token [] = None

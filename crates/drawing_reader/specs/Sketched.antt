@@ -5,10 +5,10 @@ use Rattle.scald_base.specs.declared.refusal.Stop.{Stop}
 use Rattle.scald_base.specs.declared.refusal.Stop.TheVariants as stop
 use Rattle.drawing_tree.specs.Tree.{macro_of, statements_of}
 use Rattle.drawing_reader.specs.declared.reader.Sketch as written
-use Rattle.drawing_reader.specs.Lexeme.{Lexeme}
-use Rattle.drawing_reader.specs.Sketch.{Sketch}
-use Rattle.drawing_reader.specs.Draws.{whole, IsRefused}
-use Rattle.drawing_reader.specs.Machine.{Complete, verdict, Says}
+use Rattle.drawing_grammar.specs.Lexeme.{Lexeme}
+use Rattle.drawing_grammar.specs.Sketch.{Sketch}
+use Rattle.drawing_grammar.specs.Draws.{whole, IsRefused}
+use Rattle.drawing_grammar.specs.Machine.{Complete, verdict, Says}
 
 abbrev pub sketch_of : written.Sketch → Sketch
 sketch_of x = record {
@@ -18,11 +18,6 @@ sketch_of x = record {
   body = statements_of x.body.items;
   cases = x.cases;
 }
-
--- Reading stops because the tokens are refused so, or memory ran out.
-abbrev pub IsStop : List Lexeme → Stop → Type 0
-IsStop ts (stop.Refused r) = IsRefused ts r
-IsStop ts stop.NoMemory = ⊤
 
 -- The answer is this, unless memory ran out.
 abbrev pub GivesSketch : Sketch → Result written.Sketch Stop → Type 0

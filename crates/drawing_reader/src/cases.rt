@@ -1,14 +1,14 @@
 //! Reads cases.
 
 ghost use Rattle.std.specs.Prelude.{◌≡◌, ◌≤◌, ◌<◌, ◌-◌, ◌^◌, ℕ, List, [], ◌∷◌, length, IfOk, OnOk, min};
-ghost use Rattle.drawing_reader.specs.Header.{natural};
-ghost use Rattle.drawing_reader.specs.Lexeme.{kind_number};
-ghost use Rattle.drawing_reader.specs.Grammar.{Need, part, group, Index, Entry, Entries, CaseStatement, Cases};
-ghost use Rattle.drawing_reader.specs.Machine.{Gives};
+ghost use Rattle.drawing_grammar.specs.Header.{natural};
+ghost use Rattle.drawing_grammar.specs.Lexeme.{kind_number};
+ghost use Rattle.drawing_grammar.specs.Grammar.{Need, part, group, Index, Entry, Entries, CaseStatement, Cases};
+ghost use Rattle.drawing_grammar.specs.Machine.{Gives};
 ghost use Rattle.drawing_reader.specs.Reader.{ahead};
 
 use crate::cursor::Cursor;
-use crate::terminal::Terminal;
+use drawing_grammar::Terminal;
 use drawing_tree::{CaseEntries, CaseEntry, CaseStmt, CaseStmts};
 use scald_base::{RefusalKind, Stop};
 use scald_lex::TokenKind;

@@ -3,13 +3,14 @@
 ghost use Rattle.std.specs.Prelude.{◌≡◌, ◌≢◌, ◌≤◌, ◌<◌, ℕ, List, [], ◌∷◌, ◌++◌, map, length, IfOk, OnOk, IfErr, is_some, option_map, true};
 ghost use Rattle.scald_expr.specs.Expression.{expression_of};
 ghost use Rattle.drawing_tree.specs.Tree.{range_of, item_of, term_of, connection_of};
-ghost use Rattle.drawing_reader.specs.Grammar.{Need, part, group, Range, RangeEnd, Term as TermPart, Atom, Hold, Conn as ConnGroup, SomeConns, Conns as ConnsGroup, Outputs};
-ghost use Rattle.drawing_reader.specs.Machine.{Gives, Moves, choice};
-ghost use Rattle.drawing_reader.specs.Reader.{tokens_at, ahead, first_terminal};
+ghost use Rattle.drawing_grammar.specs.Grammar.{Need, part, group, Range, RangeEnd, Term as TermPart, Atom, Hold, Conn as ConnGroup, SomeConns, Conns as ConnsGroup, Outputs};
+ghost use Rattle.drawing_grammar.specs.Machine.{Gives, Moves, choice};
+ghost use Rattle.drawing_reader.specs.Reader.{tokens_at, ahead};
+ghost use Rattle.drawing_grammar.specs.Front.{first_terminal};
 
 use crate::cursor::{Cursor, text_of};
 use crate::signal::signal;
-use crate::terminal::{Letter, Terminal};
+use drawing_grammar::{Letter, Terminal};
 use drawing_tree::{Conn, Conns, Item, RangeExpr, Term, Terms};
 use scald_base::{Place, RefusalKind, Stop};
 use scald_expr::Expr;

@@ -2,13 +2,14 @@
 
 ghost use Rattle.std.specs.Prelude.{◌≡◌, ◌≢◌, ◌↔◌, ◌≤◌, ◌<◌, ℕ, suc, List, [], ◌∷◌, ◌++◌, length, IfOk, OnOk, IfErr, IsTrue, IsFalse, Some, None, slice_range};
 ghost use Rattle.scald_lex.specs.declared.token.TokenKind.TheVariants.{End};
-ghost use Rattle.drawing_reader.specs.declared.terminal.Terminal.TheVariants.{EndOfText};
-ghost use Rattle.drawing_reader.specs.Lexeme.{lexeme_of, terminal};
-ghost use Rattle.drawing_reader.specs.Grammar.{Need, mark, item, letter as letter_need};
-ghost use Rattle.drawing_reader.specs.Machine.{Gives, refusal};
-ghost use Rattle.drawing_reader.specs.Reader.{tokens_at, ahead, at, first_terminal, first_place, first_text, Lettered, first_token, other_tokens};
+ghost use Rattle.drawing_grammar.specs.declared.terminal.Terminal.TheVariants.{EndOfText};
+ghost use Rattle.drawing_grammar.specs.Lexeme.{lexeme_of, terminal};
+ghost use Rattle.drawing_grammar.specs.Grammar.{Need, mark, item, letter as letter_need};
+ghost use Rattle.drawing_grammar.specs.Machine.{Gives, refusal};
+ghost use Rattle.drawing_reader.specs.Reader.{tokens_at, ahead, at, first_token, other_tokens};
+ghost use Rattle.drawing_grammar.specs.Front.{first_terminal, first_place, first_text, Lettered};
 
-use crate::terminal::{Letter, Terminal, symbol_terminal, word_terminal};
+use drawing_grammar::{Letter, Terminal, symbol_terminal, word_terminal};
 use scald_base::{Place, Refusal, RefusalKind, Stop};
 use scald_lex::{Token, TokenKind};
 

@@ -1,13 +1,6 @@
 //! A name that a drawing declares.
 
-/// What a name is declared as.
-#[derive(Clone, Copy, PartialEq, Eq, Hash, Debug)]
-pub enum Kind {
-    Macro,
-    Parameter,
-    Formal,
-    Label,
-}
+use drawing_grammar::Kind;
 
 /// A name as a kind of thing in a scope. Each macro is a scope, and behind all macros the drawing itself;
 /// macros are all of scope 0.

@@ -6,10 +6,10 @@ ghost use Rattle.std.specs.Str.{bytes_eq};
 ghost use Rattle.scald_base.specs.declared.refusal.Stop.TheVariants.{Refused};
 ghost use Rattle.drawing_tree.specs.Tree.{assignment_of, formal_of, statements_of, statement_of, if_of, macro_of};
 ghost use Rattle.drawing_tree.specs.WellFormed.{primitive_names};
-ghost use Rattle.drawing_reader.specs.DoubleNames.{key, declaration, parameters, formals, labels, statement_labels, head_declared, macros_declared, declared, primitives, double_at, Declares, IsStopAt, IsDistinct, IsDoubleStop};
+ghost use Rattle.drawing_grammar.specs.DoubleNames.{key, declaration, parameters, formals, labels, statement_labels, head_declared, macros_declared, declared, primitives, double_at, Declares, IsStopAt, IsDistinct, IsDoubleStop};
 
-use crate::declared::{Declared, Kind};
-use crate::head::Head;
+use crate::declared::Declared;
+use drawing_grammar::{Head, Kind};
 use drawing_tree::{Assign, Formal, IfStmt, MacroDef, MacroDefs, Stmt};
 use indexmap::IndexSet;
 use scald_base::{Place, Refusal, RefusalKind, Stop};
@@ -24,7 +24,8 @@ struct Declarations<'a> {
 
 impl<'a> Model for Declarations<'a> {
     ghost use Rattle.std.specs.Prelude.{List, map, ◌++◌};
-    ghost use Rattle.drawing_reader.specs.DoubleNames.{Key, key_of, primitives};
+    ghost use Rattle.drawing_grammar.specs.DoubleNames.{Key, primitives};
+    ghost use Rattle.drawing_reader.specs.Keys.{key_of};
 
     ghost Value = { List Key };
 

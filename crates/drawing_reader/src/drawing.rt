@@ -3,11 +3,11 @@
 ghost use Rattle.std.specs.Prelude.{IfOk, IfErr};
 ghost use Rattle.scald_lex.specs.Tokens.{AreTokens};
 ghost use Rattle.drawing_tree.specs.Tree.{drawing_of};
-ghost use Rattle.drawing_reader.specs.Lexeme.{lexemes};
+ghost use Rattle.drawing_grammar.specs.Lexeme.{lexemes};
 ghost use Rattle.drawing_tree.specs.Canonical.{canonical};
 ghost use Rattle.drawing_tree.specs.WellFormed.{IsWellFormed};
-ghost use Rattle.drawing_reader.specs.CanonicalDraws.{DrawsAgain, IsShallowDrawing};
-ghost use Rattle.drawing_reader.specs.Drawing.{Draws, IsWrongStop};
+ghost use Rattle.drawing_grammar.specs.CanonicalDraws.{DrawsAgain, IsShallowDrawing};
+ghost use Rattle.drawing_grammar.specs.Drawing.{Draws, IsWrongStop};
 
 use crate::double_names::distinct_names;
 use crate::header::judged_header;

@@ -1,30 +1,10 @@
-//! The header of a drawing: as it is written, and once its numbers are judged.
+//! The header of a drawing, once its numbers are judged.
 
 ghost use Rattle.std.specs.Prelude.{◌≡◌, true, Ok, SomeIff};
-ghost use Rattle.drawing_reader.specs.Header.{is_clock, is_bounds, is_skew, natural, pair_of, bounds_of, refused_at, judged_pair, judged};
+ghost use Rattle.drawing_grammar.specs.Header.{is_clock, is_bounds, is_skew, natural, pair_of, bounds_of, refused_at, judged_pair, judged};
 
+use drawing_grammar::{NumberPair, WrittenHeader};
 use scald_base::{Delay, Header, Place, Refusal, RefusalKind};
-
-/// Two numbers of a header statement, with the place of its first token.
-#[derive(Clone, Copy, PartialEq, Eq, Debug)]
-pub struct NumberPair {
-    pub first: i64,
-    pub second: i64,
-    pub place: Place,
-}
-
-/// A header as it is written. A bound that is not written is 0:0.
-#[derive(Clone, Copy, PartialEq, Eq, Debug)]
-pub struct WrittenHeader {
-    pub version: i64,
-    /// The place of the word SCALD.
-    pub place: Place,
-    /// How many units, and how many ticks in each.
-    pub clock: NumberPair,
-    pub wire: Option<NumberPair>,
-    pub pskew: Option<NumberPair>,
-    pub cskew: Option<NumberPair>,
-}
 
 /// The header, or `BadHeader` at the first token of the first statement that has a number which is
 /// refused: the version is not 1; units or ticks are 0, or their product is outside 2 to 4,096; a wire

@@ -1,21 +1,19 @@
 //! From the tokens of a text to the tree of its drawing.
 //!
 //! The layer above calls [`read_drawing`], which answers the one drawing that the tokens of a text draw,
-//! or its first refusal. `specs/Grammar` has the grammar, `specs/Written` what is written by it and its
-//! limits, `specs/Sketch` what that stands for; `specs/Drawing` says which drawing comes of it, and
-//! which text is refused why; `specs/CanonicalDraws` that a canonical text draws its drawing.
+//! or its first refusal; what both are is said by the crate `drawing_grammar`. The reader is a descent
+//! over the tokens, a function for each part of the grammar; behind it the header, the names and what is
+//! declared twice are judged. `specs/Reader` says what a cursor has before it, `specs/Sketched` what
+//! reading a whole text answers.
 #![tactic(auto)]
 
 // tokens
 mod cursor;
-mod terminal;
 
 // what the grammar reads, from the least part to the whole text
 mod cases;
 mod connection;
 mod expression;
-mod head;
-mod header;
 mod macros;
 mod reader;
 mod signal;
@@ -25,7 +23,7 @@ mod statement;
 mod declared;
 mod double_names;
 mod drawing;
-pub mod laws;
+mod header;
 mod names;
 
 pub use drawing::read_drawing;

@@ -2,14 +2,13 @@
 
 ghost use Rattle.std.specs.Prelude.{◌≡◌, ◌≤◌, ◌<◌, ℕ, List, [], ◌∷◌, map, length, IfOk, OnOk};
 ghost use Rattle.drawing_tree.specs.Tree.{formal_of, macro_of};
-ghost use Rattle.drawing_reader.specs.Grammar.{Need, part, group, Formal as FormalPart, SomeFormals, Formals as FormalsGroup, FormalOutputs, Macro as MacroPart, Macros as MacrosGroup};
-ghost use Rattle.drawing_reader.specs.Machine.{Gives};
+ghost use Rattle.drawing_grammar.specs.Grammar.{Need, part, group, Formal as FormalPart, SomeFormals, Formals as FormalsGroup, FormalOutputs, Macro as MacroPart, Macros as MacrosGroup};
+ghost use Rattle.drawing_grammar.specs.Machine.{Gives};
 ghost use Rattle.drawing_reader.specs.Reader.{ahead};
 
 use crate::cursor::Cursor;
-use crate::head::{Head, Places};
-use crate::terminal::Terminal;
 use assertion_syntax::SignalName;
+use drawing_grammar::{Head, Places, Terminal};
 use drawing_tree::{Formal, Formals, MacroDef, MacroDefs};
 use scald_base::{List, Place, RefusalKind, Stop};
 use std::alloc::Global;

@@ -4,13 +4,13 @@ ghost use Rattle.std.specs.Prelude.{◌≡◌, ◌↔◌, ◌∷◌, [], IsTrue,
 ghost use Rattle.std.specs.List.{list_all};
 ghost use Rattle.assertion_syntax.specs.Name.{IsBase};
 ghost use Rattle.scald_base.specs.Fitting.{Fits};
-ghost use Rattle.drawing_reader.specs.Lexeme.{lexeme_of, lexemes, terminal};
-ghost use Rattle.drawing_reader.specs.Names.{is_inner, named, names_at, head_behind, names_from, IsPlain, MayStand, IsNameFault, IsGood, AreGood, IsNameStop};
+ghost use Rattle.drawing_grammar.specs.Lexeme.{lexeme_of, lexemes, terminal};
+ghost use Rattle.drawing_grammar.specs.Names.{is_inner, named, names_at, head_behind, names_from, IsPlain, MayStand, IsNameFault, IsGood, AreGood, IsNameStop};
 
 use crate::cursor::{terminal_of, text_of};
 use crate::signal::unquoted;
-use crate::terminal::Terminal;
 use assertion_syntax::{NameEnd, NameFault, SignalName, fits, read_name};
+use drawing_grammar::Terminal;
 use scald_base::{AssertSpec, Header, Place, Refusal, RefusalKind, Stop};
 use scald_lex::Token;
 use std::alloc::Global;

@@ -1,20 +1,19 @@
 //! Reads a whole text.
 
 ghost use Rattle.std.specs.Prelude.{◌≡◌, ◌≢◌, IsTrue, IsFalse, ◌≤◌, ◌<◌, ℕ, List, [], ◌∷◌, ◌++◌, map, length, Option, Some, None, IfOk, IfErr};
-ghost use Rattle.drawing_reader.specs.Lexeme.{kind_number, lexemes};
-ghost use Rattle.drawing_reader.specs.Grammar.{Need, part, WireBounds, PrecisionSkew, ClockSkew};
-ghost use Rattle.drawing_reader.specs.Machine.{Gives};
+ghost use Rattle.drawing_grammar.specs.Lexeme.{kind_number, lexemes};
+ghost use Rattle.drawing_grammar.specs.Grammar.{Need, part, WireBounds, PrecisionSkew, ClockSkew};
+ghost use Rattle.drawing_grammar.specs.Machine.{Gives};
 ghost use Rattle.drawing_reader.specs.Reader.{tokens_at, ahead, PairAt, EndAt};
 ghost use Rattle.scald_base.specs.declared.refusal.Refusal.{Refusal};
 ghost use Rattle.scald_lex.specs.Tokens.{AreTokens};
-ghost use Rattle.drawing_reader.specs.Sketch.{Sketch as Sketched};
-ghost use Rattle.drawing_reader.specs.Draws.{Reads, IsRefused};
-ghost use Rattle.drawing_reader.specs.Sketched.{sketch_of, IsStop, GivesSketch, GivesRefusal, Answers};
+ghost use Rattle.drawing_grammar.specs.Sketch.{Sketch as Sketched};
+ghost use Rattle.drawing_grammar.specs.Draws.{Reads, IsRefused};
+ghost use Rattle.drawing_reader.specs.Sketched.{sketch_of, GivesSketch, GivesRefusal, Answers};
+ghost use Rattle.drawing_grammar.specs.Draws.{IsStop};
 
 use crate::cursor::Cursor;
-use crate::head::Head;
-use crate::header::{NumberPair, WrittenHeader};
-use crate::terminal::{Letter, Terminal};
+use drawing_grammar::{Head, Letter, NumberPair, Terminal, WrittenHeader};
 use drawing_tree::{CaseStmts, MacroDefs, Stmts};
 use scald_base::{Bytes, List, Place, RefusalKind, Stop};
 use scald_lex::{TokenKind, TokenList};

@@ -2,7 +2,7 @@
 
 ghost use Rattle.std.specs.Prelude.{◌≡◌, ◌-◌, slice_range, length, IfOk, IfErr};
 ghost use Rattle.scald_base.specs.declared.refusal.Stop.TheVariants.{NoMemory as OutOfMemory};
-ghost use Rattle.drawing_reader.specs.Sketch.{blank, unquoted, signal_named};
+ghost use Rattle.drawing_grammar.specs.Sketch.{blank, unquoted, signal_named};
 
 use crate::cursor::{Cursor, text_of};
 use assertion_syntax::{NameEnd, SignalName, read_name};

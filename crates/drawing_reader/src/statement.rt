@@ -4,14 +4,14 @@ ghost use Rattle.std.specs.Prelude.{◌≡◌, ◌≤◌, ◌<◌, ℕ, List, []
 ghost use Rattle.std.specs.Global.{Vec};
 ghost use Rattle.drawing_tree.specs.Tree as tree;
 ghost use Rattle.drawing_tree.specs.Tree.{assignment_of, both_of, use_of, wire_of, statement_of, statements_of, else_of};
-ghost use Rattle.drawing_reader.specs.Grammar.{Need, part, group, Assign as AssignPart, Assigns as AssignsGroup, Parameters, Delay as DelayPart, Statement as StatementPart, Statements as StatementsGroup, Otherwise as OtherwisePart};
+ghost use Rattle.drawing_grammar.specs.Grammar.{Need, part, group, Assign as AssignPart, Assigns as AssignsGroup, Parameters, Delay as DelayPart, Statement as StatementPart, Statements as StatementsGroup, Otherwise as OtherwisePart};
 ghost use Rattle.std.specs.Prelude.{is_some};
-ghost use Rattle.drawing_reader.specs.Machine.{Gives, choice};
-ghost use Rattle.drawing_reader.specs.Reader.{tokens_at, ahead, first_terminal};
+ghost use Rattle.drawing_grammar.specs.Machine.{Gives, choice};
+ghost use Rattle.drawing_reader.specs.Reader.{tokens_at, ahead};
+ghost use Rattle.drawing_grammar.specs.Front.{first_terminal};
 
 use crate::cursor::Cursor;
-use crate::head::Places;
-use crate::terminal::Terminal;
+use drawing_grammar::{Places, Terminal};
 use drawing_tree::{Assign, Assigns, IfStmt, Stmt, Stmts, UseStmt, WireStmt};
 use scald_base::{NoMemory, Place, RefusalKind, Stop};
 use scald_expr::Expr;

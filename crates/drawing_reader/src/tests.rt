@@ -93,6 +93,26 @@ fn statements_are_read(rt: HostRuntime) {
             "WIRE\"W\"A-B+C:1;",
             "  WIRE \"W\" A - B + C:1;\n",
         ),
+        (
+            "sums inside",
+            "WIRE\"W\"(1+2)*3-(-(4)):-(A+1);",
+            "  WIRE \"W\" (1 + 2) * 3 - -4:-(A + 1);\n",
+        ),
+        (
+            "products inside",
+            "WIRE\"W\"A/(B*2):-(A*B);",
+            "  WIRE \"W\" A / (B * 2):-(A * B);\n",
+        ),
+        (
+            "minus of a minus",
+            "WIRE\"W\"- -A:1;",
+            "  WIRE \"W\" -(-A):1;\n",
+        ),
+        (
+            "comparison inside",
+            "IF (A=1)=(B<2) THEN END;",
+            "  IF (A = 1) = (B < 2) THEN\n  END;\n",
+        ),
         ("equal", "IF A=1 THEN END;", "  IF A = 1 THEN\n  END;\n"),
         ("unequal", "IF A!=1 THEN END;", "  IF A != 1 THEN\n  END;\n"),
         ("below", "IF A<1 THEN END;", "  IF A < 1 THEN\n  END;\n"),

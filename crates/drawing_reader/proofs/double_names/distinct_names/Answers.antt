@@ -4,9 +4,9 @@ use Rattle.std.specs.Prelude.{MatchResult}
 use Rattle.std.proofs.lemmas.Result.{err_from_is_err_and}
 use Rattle.drawing_tree.specs.declared.drawing.MacroDef.{MacroDef}
 use Rattle.drawing_tree.specs.Tree.{macro_of, statements_of}
-use Rattle.drawing_reader.specs.DoubleNames.{Key, primitives, macros_declared, labels, Declares, IsStopAt}
-use Rattle.drawing_reader.proofs.Doubles.{stop_first, given_later}
-use Rattle.drawing_reader.proofs.Distinct.{distinct_stop, distinct_given}
+use Rattle.drawing_grammar.specs.DoubleNames.{Key, primitives, macros_declared, labels, Declares, IsStopAt}
+use Rattle.drawing_grammar.proofs.Doubles.{stop_first, given_later}
+use Rattle.drawing_grammar.proofs.Distinct.{distinct_stop, distinct_given}
 use Rattle.drawing_reader.proofs.double_names.distinct_names.Goals as goal
 
 pub returns-in_err-definitions : goal.returns-in_err-definitions

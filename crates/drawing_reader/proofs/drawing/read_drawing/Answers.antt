@@ -1,8 +1,9 @@
 use Rattle.std.proofs.Common.{sym, refl}
 use Rattle.drawing_reader.specs.Sketched.{sketch_of}
-use Rattle.drawing_reader.proofs.Drawn.{stop_of_grammar, header_wrong, name_wrong, double_wrong, draws_it, names_of_slice, good_of_slice, double_of_slices, distinct_of_slices}
-use Rattle.drawing_reader.proofs.Again.{law}
-use Rattle.drawing_reader.proofs.Different.{well_formed}
+use Rattle.drawing_grammar.proofs.Drawn.{stop_of_grammar, header_wrong, name_wrong, double_wrong, draws_it}
+use Rattle.drawing_reader.proofs.Slices.{names_of_slice, good_of_slice, double_of_slices, distinct_of_slices}
+use Rattle.drawing_grammar.proofs.Again.{law}
+use Rattle.drawing_grammar.proofs.Different.{well_formed}
 use Rattle.drawing_reader.proofs.drawing.read_drawing.Goals as goal
 
 pub returns-in-Err-clause-refused : goal.returns-in-Err-clause-refused

@@ -1,7 +1,7 @@
 use Rattle.std.proofs.Common.{subst}
 use Rattle.assertion_syntax.specs.declared.fitting.NameFault.{NameFault}
 use Rattle.assertion_syntax.specs.Faults.{IsFaultOf}
-use Rattle.drawing_reader.specs.Names.{no_formal, no_interval, overlapping}
+use Rattle.drawing_grammar.specs.Names.{no_formal, no_interval, overlapping}
 use Rattle.drawing_reader.proofs.names.fault.Goals as goal
 
 pub returns-then-not-may_stand : goal.returns-then-not-may_stand

@@ -1,5 +1,5 @@
 use Rattle.scald_base.specs.declared.refusal.RefusalKind.TheVariants.{BadName}
-use Rattle.drawing_reader.specs.Names.{named, no_name, bad_name}
+use Rattle.drawing_grammar.specs.Names.{named, no_name, bad_name}
 use Rattle.drawing_reader.proofs.Bare.{bare_good}
 use Rattle.drawing_reader.proofs.Naming.{fault_stop}
 use Rattle.drawing_reader.proofs.names.judge.Goals as goal

@@ -1,7 +1,7 @@
 use Rattle.std.proofs.Common.{false, ◌+◌, get_or, drop, refl}
 use Rattle.std.proofs.lemmas.Result.{err_from_is_err_and}
-use Rattle.drawing_reader.specs.Lexeme.{lexeme_of, lexemes, terminal}
-use Rattle.drawing_reader.specs.Names.{names_at, head_behind, names_from}
+use Rattle.drawing_grammar.specs.Lexeme.{lexeme_of, lexemes, terminal}
+use Rattle.drawing_grammar.specs.Names.{names_at, head_behind, names_from}
 use Rattle.drawing_reader.proofs.Naming.{blank_token, next_names, no_names, judged_on, judged_end, judged_stop}
 use Rattle.drawing_reader.proofs.names.judged_names.Goals as goal
 

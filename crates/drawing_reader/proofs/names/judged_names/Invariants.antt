@@ -1,6 +1,6 @@
 use Rattle.std.proofs.Common.{false, drop}
-use Rattle.drawing_reader.specs.Lexeme.{lexemes}
-use Rattle.drawing_reader.specs.Names.{names_from, Judged}
+use Rattle.drawing_grammar.specs.Lexeme.{lexemes}
+use Rattle.drawing_grammar.specs.Names.{names_from, Judged}
 use Rattle.drawing_reader.proofs.names.judged_names.Given as goal
 
 abbrev pub invariant-tokens : goal.invariant-tokens

@@ -1,7 +1,8 @@
 use Rattle.std.proofs.Common.{Ok, Err}
 use Rattle.std.proofs.lemmas.Result.{err_from_is_err_and}
-use Rattle.drawing_reader.specs.Lexeme.{lexemes}
-use Rattle.drawing_reader.proofs.Whole.{stops_so, only_sketch, only_refusal, found_so, ending}
+use Rattle.drawing_grammar.specs.Lexeme.{lexemes}
+use Rattle.drawing_grammar.proofs.Whole.{ending}
+use Rattle.drawing_reader.proofs.Answered.{stops_so, only_sketch, only_refusal, found_so}
 use Rattle.drawing_reader.proofs.reader.read_sketch.Goals as goal
 
 pub returns-in_err-sketch-clause-refused : goal.returns-in_err-sketch-clause-refused

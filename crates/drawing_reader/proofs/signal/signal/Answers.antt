@@ -1,5 +1,5 @@
 use Rattle.std.proofs.Common.{◌∙◌}
-use Rattle.drawing_reader.proofs.Signals.{named, unnamed}
+use Rattle.drawing_grammar.proofs.Signals.{named, unnamed}
 use Rattle.drawing_reader.proofs.signal.signal.Goals as goal
 
 pub returns-in-Ok-clause-is : goal.returns-in-Ok-clause-is

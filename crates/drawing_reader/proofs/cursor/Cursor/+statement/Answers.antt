@@ -1,16 +1,17 @@
 use Rattle.std.proofs.Common.{◌≡◌, suc, ◌∷◌, refl, sym, ap, ◌∙◌, arith}
 use Rattle.std.proofs.lemmas.Result.{err_from_is_err_and}
-use Rattle.drawing_reader.specs.Grammar.{Need, part, group, fresh, mark, item, letter}
-use Rattle.drawing_reader.specs.Grammar as g
-use Rattle.drawing_reader.specs.Machine.{choice}
-use Rattle.drawing_reader.specs.Reader.{tokens_at, ahead, first_terminal}
-use Rattle.drawing_reader.proofs.Moves.{moves, stops}
+use Rattle.drawing_grammar.specs.Grammar.{Need, part, group, fresh, mark, item, letter}
+use Rattle.drawing_grammar.specs.Grammar as g
+use Rattle.drawing_grammar.specs.Machine.{choice}
+use Rattle.drawing_reader.specs.Reader.{tokens_at, ahead}
+use Rattle.drawing_grammar.specs.Front.{first_terminal}
+use Rattle.drawing_grammar.proofs.Moves.{moves, stops}
 use Rattle.drawing_reader.proofs.Cursors.{plainly, deeper, too_deep, left_out, stuck, lacking}
-use Rattle.drawing_reader.proofs.None as none
+use Rattle.drawing_grammar.proofs.None as none
 use Rattle.drawing_tree.specs.Tree as tree
 use Rattle.std.proofs.Common.{map}
 use Rattle.drawing_tree.proofs.Views.{view_use, view_wire, view_if_parts, view_choice}
-use Rattle.drawing_reader.proofs.Moves.{reshaped, stays}
+use Rattle.drawing_grammar.proofs.Moves.{reshaped, stays}
 use Rattle.drawing_reader.proofs.Cursors.{leads_some, none_some}
 use Rattle.drawing_reader.proofs.Lists.{statements_more, statements_all}
 use Rattle.drawing_reader.proofs.cursor.Cursor.+statement.Goals as goal

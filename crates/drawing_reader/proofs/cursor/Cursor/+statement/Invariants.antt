@@ -1,7 +1,7 @@
 use Rattle.std.proofs.Common.{◌+◌, ◌-◌, ◌*◌, ◌≤◌, List, ◌∷◌, length, map}
 use Rattle.drawing_tree.specs.Tree.{statement_of}
-use Rattle.drawing_reader.specs.Grammar.{Need, group, Statements}
-use Rattle.drawing_reader.specs.Machine.{Moves}
+use Rattle.drawing_grammar.specs.Grammar.{Need, group, Statements}
+use Rattle.drawing_grammar.specs.Machine.{Moves}
 use Rattle.drawing_reader.specs.Reader.{ahead}
 use Rattle.drawing_reader.specs.Statements.{followed}
 use Rattle.drawing_reader.proofs.cursor.Cursor.+statement.Given as goal

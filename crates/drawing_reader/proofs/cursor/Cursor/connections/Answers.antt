@@ -1,10 +1,11 @@
 use Rattle.std.proofs.Common.{[], refl, sym, ◌∙◌}
 use Rattle.std.proofs.lemmas.Result.{err_from_is_err_and}
-use Rattle.drawing_reader.specs.Grammar.{Need, part, group, fresh, mark, item, letter}
-use Rattle.drawing_reader.specs.Grammar as g
-use Rattle.drawing_reader.specs.Machine.{choice}
-use Rattle.drawing_reader.specs.Reader.{tokens_at, first_terminal}
-use Rattle.drawing_reader.proofs.Moves.{moves, stops}
+use Rattle.drawing_grammar.specs.Grammar.{Need, part, group, fresh, mark, item, letter}
+use Rattle.drawing_grammar.specs.Grammar as g
+use Rattle.drawing_grammar.specs.Machine.{choice}
+use Rattle.drawing_reader.specs.Reader.{tokens_at}
+use Rattle.drawing_grammar.specs.Front.{first_terminal}
+use Rattle.drawing_grammar.proofs.Moves.{moves, stops}
 use Rattle.drawing_reader.proofs.Cursors.{lacking}
 use Rattle.drawing_reader.proofs.Cursors.{conns_some, none_some}
 use Rattle.drawing_reader.proofs.cursor.Cursor.connections.Goals as goal

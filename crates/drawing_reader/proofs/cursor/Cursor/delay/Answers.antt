@@ -1,11 +1,12 @@
 use Rattle.std.proofs.Common.{None, refl}
 use Rattle.std.proofs.lemmas.Result.{err_from_is_err_and}
-use Rattle.drawing_reader.specs.Grammar.{Need, part, group, fresh, mark, item, letter}
-use Rattle.drawing_reader.specs.Grammar as g
-use Rattle.drawing_reader.specs.Reader.{tokens_at, first_terminal}
-use Rattle.drawing_reader.proofs.Moves.{moves, stops}
+use Rattle.drawing_grammar.specs.Grammar.{Need, part, group, fresh, mark, item, letter}
+use Rattle.drawing_grammar.specs.Grammar as g
+use Rattle.drawing_reader.specs.Reader.{tokens_at}
+use Rattle.drawing_grammar.specs.Front.{first_terminal}
+use Rattle.drawing_grammar.proofs.Moves.{moves, stops}
 use Rattle.drawing_reader.proofs.Cursors.{plainly, left_out}
-use Rattle.drawing_reader.proofs.None as none
+use Rattle.drawing_grammar.proofs.None as none
 use Rattle.drawing_reader.proofs.cursor.Cursor.delay.Goals as goal
 
 pub returns-then-not-starts-clause-reads : goal.returns-then-not-starts-clause-reads

@@ -1,12 +1,13 @@
 use Rattle.std.proofs.Common.{◌≡◌, refl, sym, ap, ◌∙◌, arith}
 use Rattle.std.proofs.lemmas.Result.{err_from_is_err_and}
-use Rattle.drawing_reader.specs.declared.terminal.Terminal.TheVariants as is
-use Rattle.drawing_reader.specs.Grammar.{Need, part, group, fresh, mark, item, letter}
-use Rattle.drawing_reader.specs.Grammar as g
-use Rattle.drawing_reader.specs.Machine.{choice}
-use Rattle.drawing_reader.specs.Reader.{tokens_at, first_terminal}
+use Rattle.drawing_grammar.specs.declared.terminal.Terminal.TheVariants as is
+use Rattle.drawing_grammar.specs.Grammar.{Need, part, group, fresh, mark, item, letter}
+use Rattle.drawing_grammar.specs.Grammar as g
+use Rattle.drawing_grammar.specs.Machine.{choice}
+use Rattle.drawing_reader.specs.Reader.{tokens_at}
+use Rattle.drawing_grammar.specs.Front.{first_terminal}
 use Rattle.drawing_reader.proofs.Cursors.{operates, is_token, too_many, left_out}
-use Rattle.drawing_reader.proofs.None as none
+use Rattle.drawing_grammar.proofs.None as none
 use Rattle.drawing_reader.proofs.cursor.Cursor.factor_operator.Goals as goal
 
 pub returns-in_err-operator-in-Star-clause-reads : goal.returns-in_err-operator-in-Star-clause-reads

@@ -1,10 +1,10 @@
 use Rattle.std.proofs.Common.{ℕ, List, [], sym, ap, ◌∙◌}
-use Rattle.drawing_reader.specs.declared.terminal.Terminal.TheVariants as is
+use Rattle.drawing_grammar.specs.declared.terminal.Terminal.TheVariants as is
 use Rattle.drawing_reader.specs.Reader.{tokens_at}
-use Rattle.drawing_reader.proofs.Moves.{refuses}
-use Rattle.drawing_reader.specs.Lexeme.{lexemes}
-use Rattle.drawing_reader.proofs.Moves.{mark_stops}
-use Rattle.drawing_reader.proofs.Whole.{end_missing, end_there, more_there}
+use Rattle.drawing_grammar.proofs.Moves.{refuses}
+use Rattle.drawing_grammar.specs.Lexeme.{lexemes}
+use Rattle.drawing_grammar.proofs.Moves.{mark_stops}
+use Rattle.drawing_reader.proofs.Answered.{end_missing, end_there, more_there}
 use Rattle.drawing_reader.proofs.cursor.Cursor.finish.Goals as goal
 
 pub returns-then-is_done : goal.returns-then-is_done

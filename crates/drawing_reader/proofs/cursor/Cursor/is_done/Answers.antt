@@ -1,5 +1,5 @@
 use Rattle.std.proofs.Common.{sym, ◌∙◌}
-use Rattle.drawing_reader.proofs.Whole.{none_left, some_left}
+use Rattle.drawing_reader.proofs.Answered.{none_left, some_left}
 use Rattle.drawing_reader.proofs.cursor.Cursor.is_done.Goals as goal
 
 pub returns-in-None-clause-yes : goal.returns-in-None-clause-yes

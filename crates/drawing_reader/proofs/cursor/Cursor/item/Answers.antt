@@ -1,6 +1,6 @@
 use Rattle.std.proofs.Common.{sym, ◌∙◌, arith}
 use Rattle.drawing_reader.specs.Reader.{tokens_at}
-use Rattle.drawing_reader.proofs.Moves.{item_stops, refuses}
+use Rattle.drawing_grammar.proofs.Moves.{item_stops, refuses}
 use Rattle.drawing_reader.proofs.Cursors.{items}
 use Rattle.drawing_reader.proofs.cursor.Cursor.item.Goals as goal
 

@@ -1,6 +1,6 @@
 use Rattle.drawing_reader.specs.Reader.{tokens_at}
-use Rattle.drawing_reader.proofs.Moves.{refuses}
-use Rattle.drawing_reader.proofs.Moves.{letter_stops}
+use Rattle.drawing_grammar.proofs.Moves.{refuses}
+use Rattle.drawing_grammar.proofs.Moves.{letter_stops}
 use Rattle.drawing_reader.proofs.Cursors.{letters}
 use Rattle.drawing_reader.proofs.cursor.Cursor.letter.Goals as goal
 

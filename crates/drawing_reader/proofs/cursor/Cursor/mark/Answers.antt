@@ -1,6 +1,6 @@
 use Rattle.std.proofs.Common.{sym, ◌∙◌, arith}
 use Rattle.drawing_reader.specs.Reader.{tokens_at}
-use Rattle.drawing_reader.proofs.Moves.{mark_stops, refuses}
+use Rattle.drawing_grammar.proofs.Moves.{mark_stops, refuses}
 use Rattle.drawing_reader.proofs.Cursors.{marks}
 use Rattle.drawing_reader.proofs.cursor.Cursor.mark.Goals as goal
 

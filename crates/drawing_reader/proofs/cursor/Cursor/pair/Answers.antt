@@ -1,10 +1,10 @@
 use Rattle.std.proofs.Common.{◌∷◌}
 use Rattle.std.proofs.lemmas.Result.{err_from_is_err_and}
-use Rattle.drawing_reader.specs.declared.terminal.Terminal.TheVariants as is
-use Rattle.drawing_reader.specs.Grammar.{mark, item}
+use Rattle.drawing_grammar.specs.declared.terminal.Terminal.TheVariants as is
+use Rattle.drawing_grammar.specs.Grammar.{mark, item}
 use Rattle.drawing_reader.specs.Reader.{ahead, at}
-use Rattle.drawing_reader.proofs.Moves.{moves, stops}
-use Rattle.drawing_reader.proofs.Moves.{stays}
+use Rattle.drawing_grammar.proofs.Moves.{moves, stops}
+use Rattle.drawing_grammar.proofs.Moves.{stays}
 use Rattle.drawing_reader.proofs.cursor.Cursor.pair.Goals as goal
 
 pub returns-in_err-first : goal.returns-in_err-first

@@ -1,14 +1,15 @@
 use Rattle.std.proofs.Common.{[], refl, sym, ap, arith}
 use Rattle.std.proofs.lemmas.Result.{err_from_is_err_and}
-use Rattle.drawing_reader.specs.Grammar.{Need, part, group, fresh, mark, item, letter}
-use Rattle.drawing_reader.specs.Grammar as g
-use Rattle.drawing_reader.specs.Reader.{tokens_at, first_terminal}
-use Rattle.drawing_reader.proofs.Moves.{moves, stops}
+use Rattle.drawing_grammar.specs.Grammar.{Need, part, group, fresh, mark, item, letter}
+use Rattle.drawing_grammar.specs.Grammar as g
+use Rattle.drawing_reader.specs.Reader.{tokens_at}
+use Rattle.drawing_grammar.specs.Front.{first_terminal}
+use Rattle.drawing_grammar.proofs.Moves.{moves, stops}
 use Rattle.drawing_reader.proofs.Cursors.{plainly, is_token, left_out}
-use Rattle.drawing_reader.proofs.None as none
+use Rattle.drawing_grammar.proofs.None as none
 use Rattle.std.proofs.Common.{map}
 use Rattle.drawing_tree.specs.Tree as tree
-use Rattle.drawing_reader.proofs.Moves.{reshaped}
+use Rattle.drawing_grammar.proofs.Moves.{reshaped}
 use Rattle.drawing_reader.proofs.Lists.{more_mapped, none_more}
 use Rattle.drawing_reader.proofs.Cursors.{some_conn}
 use Rattle.drawing_reader.proofs.cursor.Cursor.some_connections.Goals as goal

@@ -1,7 +1,7 @@
 use Rattle.std.proofs.Common.{◌≤◌, List, ◌∷◌, ◌++◌, length, map}
-use Rattle.drawing_reader.specs.Grammar.{Need, part, group}
-use Rattle.drawing_reader.specs.Grammar as g
-use Rattle.drawing_reader.specs.Machine.{Moves}
+use Rattle.drawing_grammar.specs.Grammar.{Need, part, group}
+use Rattle.drawing_grammar.specs.Grammar as g
+use Rattle.drawing_grammar.specs.Machine.{Moves}
 use Rattle.drawing_reader.specs.Reader.{ahead}
 use Rattle.drawing_tree.specs.Tree as tree
 use Rattle.drawing_reader.proofs.cursor.Cursor.some_connections.Given as goal

@@ -1,14 +1,15 @@
 use Rattle.std.proofs.Common.{◌≡◌, ℕ, List, refl, sym, ap, ◌∙◌, arith}
 use Rattle.std.proofs.lemmas.Result.{err_from_is_err_and}
-use Rattle.drawing_reader.specs.declared.terminal.Terminal.TheVariants as is
-use Rattle.drawing_reader.specs.Grammar.{Need, part, group, fresh, mark, item, letter}
-use Rattle.drawing_reader.specs.Grammar as g
-use Rattle.drawing_reader.specs.Sketch as s
-use Rattle.drawing_reader.specs.Machine.{choice}
-use Rattle.drawing_reader.specs.Reader.{tokens_at, at, first_terminal}
-use Rattle.drawing_reader.proofs.Moves.{moves, stops}
+use Rattle.drawing_grammar.specs.declared.terminal.Terminal.TheVariants as is
+use Rattle.drawing_grammar.specs.Grammar.{Need, part, group, fresh, mark, item, letter}
+use Rattle.drawing_grammar.specs.Grammar as g
+use Rattle.drawing_grammar.specs.Sketch as s
+use Rattle.drawing_grammar.specs.Machine.{choice}
+use Rattle.drawing_reader.specs.Reader.{tokens_at, at}
+use Rattle.drawing_grammar.specs.Front.{first_terminal}
+use Rattle.drawing_grammar.proofs.Moves.{moves, stops}
 use Rattle.drawing_reader.proofs.Cursors.{plainly, stuck}
-use Rattle.drawing_reader.proofs.None as none
+use Rattle.drawing_grammar.proofs.None as none
 use Rattle.std.specs.Prelude.{slice_range}
 use Rattle.drawing_reader.proofs.cursor.Cursor.term.Goals as goal
 

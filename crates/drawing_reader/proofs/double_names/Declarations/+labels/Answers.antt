@@ -1,9 +1,9 @@
 use Rattle.std.proofs.Common.{[], ◌∷◌, ◌++◌, ◌+◌, drop, sym, ap, ◌∙◌}
 use Rattle.std.proofs.lemmas.Result.{err_from_is_err_and}
 use Rattle.drawing_tree.specs.Tree.{statements_of, statement_of, if_of, else_of}
-use Rattle.drawing_reader.specs.declared.declared.Kind.TheVariants.{Label}
-use Rattle.drawing_reader.specs.DoubleNames.{declaration, labels, statement_labels, else_labels}
-use Rattle.drawing_reader.proofs.Doubles.{goes_on, goes_end, stop_there, stop_first, declares_none, declared_as, stopped_as, given_as, given_later}
+use Rattle.drawing_grammar.specs.declared.declared.Kind.TheVariants.{Label}
+use Rattle.drawing_grammar.specs.DoubleNames.{declaration, labels, statement_labels, else_labels}
+use Rattle.drawing_grammar.proofs.Doubles.{goes_on, goes_end, stop_there, stop_first, declares_none, declared_as, stopped_as, given_as, given_later}
 use Rattle.drawing_reader.proofs.Labels.{next_statement, no_labels, if_labels, then_labels, both_labels, label_of, no_label}
 use Rattle.drawing_reader.proofs.double_names.Declarations.+labels.Goals as goal
 

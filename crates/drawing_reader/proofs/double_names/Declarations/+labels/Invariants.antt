@@ -1,6 +1,6 @@
 use Rattle.std.proofs.Common.{drop}
 use Rattle.drawing_tree.specs.Tree.{statements_of}
-use Rattle.drawing_reader.specs.DoubleNames.{labels, Goes}
+use Rattle.drawing_grammar.specs.DoubleNames.{labels, Goes}
 use Rattle.drawing_reader.proofs.double_names.Declarations.+labels.Given as goal
 
 abbrev pub invariant-statements-statements : goal.invariant-statements-statements

@@ -1,5 +1,6 @@
 use Rattle.std.proofs.Common.{List, [], ◌∷◌, ◌++◌, map, subst}
-use Rattle.drawing_reader.specs.DoubleNames.{Key, key_of, declaration, primitives, Declares, IsStopAt}
+use Rattle.drawing_grammar.specs.DoubleNames.{Key, declaration, primitives, Declares, IsStopAt}
+use Rattle.drawing_reader.specs.Keys.{key_of}
 use Rattle.drawing_reader.proofs.Keys.{taken_again, taken_before, taken_new}
 use Rattle.drawing_reader.proofs.double_names.Declarations.declare.Goals as goal
 

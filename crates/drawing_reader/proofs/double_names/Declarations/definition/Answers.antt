@@ -1,7 +1,7 @@
 use Rattle.std.proofs.lemmas.Result.{err_from_is_err_and}
 use Rattle.drawing_tree.specs.Tree.{macro_of}
-use Rattle.drawing_reader.specs.DoubleNames.{head_declared, labels}
-use Rattle.drawing_reader.proofs.Doubles.{stop_first, given_later}
+use Rattle.drawing_grammar.specs.DoubleNames.{head_declared, labels}
+use Rattle.drawing_grammar.proofs.Doubles.{stop_first, given_later}
 use Rattle.drawing_reader.proofs.double_names.Declarations.definition.Goals as goal
 
 pub returns-in_err-head : goal.returns-in_err-head

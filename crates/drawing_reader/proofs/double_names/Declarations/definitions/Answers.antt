@@ -2,8 +2,8 @@ use Rattle.std.proofs.Common.{◌++◌, map}
 use Rattle.std.proofs.lemmas.Result.{err_from_is_err_and}
 use Rattle.std.proofs.Common.{ℕ, ◌+◌, drop, arith, subst}
 use Rattle.drawing_tree.specs.Tree.{macro_of}
-use Rattle.drawing_reader.specs.DoubleNames.{head_declared, labels, macros_declared, Declares, IsStopAt}
-use Rattle.drawing_reader.proofs.Doubles.{goes_on, stop_there}
+use Rattle.drawing_grammar.specs.DoubleNames.{head_declared, labels, macros_declared, Declares, IsStopAt}
+use Rattle.drawing_grammar.proofs.Doubles.{goes_on, stop_there}
 use Rattle.drawing_reader.proofs.Labels.{next_macro}
 use Rattle.drawing_reader.proofs.double_names.Declarations.definitions.Goals as goal
 

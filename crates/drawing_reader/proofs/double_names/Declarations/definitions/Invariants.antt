@@ -1,6 +1,6 @@
 use Rattle.std.proofs.Common.{◌≡◌, drop, map}
 use Rattle.drawing_tree.specs.Tree.{macro_of}
-use Rattle.drawing_reader.specs.DoubleNames.{macros_declared, Goes}
+use Rattle.drawing_grammar.specs.DoubleNames.{macros_declared, Goes}
 use Rattle.drawing_reader.proofs.double_names.Declarations.definitions.Given as goal
 
 abbrev pub invariant-definitions : goal.invariant-definitions

@@ -1,9 +1,9 @@
 use Rattle.std.proofs.Common.{[], ◌∷◌, ◌+◌, map, drop}
 use Rattle.std.proofs.lemmas.Result.{err_from_is_err_and}
 use Rattle.drawing_tree.specs.Tree.{formal_of}
-use Rattle.drawing_reader.specs.declared.declared.Kind.TheVariants.{Formal}
-use Rattle.drawing_reader.specs.DoubleNames.{declaration, formals}
-use Rattle.drawing_reader.proofs.Doubles.{goes_on, stop_there}
+use Rattle.drawing_grammar.specs.declared.declared.Kind.TheVariants.{Formal}
+use Rattle.drawing_grammar.specs.DoubleNames.{declaration, formals}
+use Rattle.drawing_grammar.proofs.Doubles.{goes_on, stop_there}
 use Rattle.drawing_reader.proofs.Labels.{next_formal}
 use Rattle.drawing_reader.proofs.double_names.Declarations.formals.Goals as goal
 

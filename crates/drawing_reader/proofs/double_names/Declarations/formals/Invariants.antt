@@ -1,6 +1,6 @@
 use Rattle.std.proofs.Common.{drop, map}
 use Rattle.drawing_tree.specs.Tree.{formal_of}
-use Rattle.drawing_reader.specs.DoubleNames.{formals, Goes}
+use Rattle.drawing_grammar.specs.DoubleNames.{formals, Goes}
 use Rattle.drawing_reader.proofs.double_names.Declarations.formals.Given as goal
 
 abbrev pub invariant-signals : goal.invariant-signals

@@ -1,9 +1,9 @@
 use Rattle.std.proofs.Common.{[], ◌∷◌, ◌++◌, map}
 use Rattle.std.proofs.lemmas.Result.{err_from_is_err_and}
 use Rattle.drawing_tree.specs.Tree.{assignment_of, formal_of}
-use Rattle.drawing_reader.specs.declared.declared.Kind.TheVariants.{Macro}
-use Rattle.drawing_reader.specs.DoubleNames.{declaration, parameters, formals}
-use Rattle.drawing_reader.proofs.Doubles.{stop_first, stop_later, given_later}
+use Rattle.drawing_grammar.specs.declared.declared.Kind.TheVariants.{Macro}
+use Rattle.drawing_grammar.specs.DoubleNames.{declaration, parameters, formals}
+use Rattle.drawing_grammar.proofs.Doubles.{stop_first, stop_later, given_later}
 use Rattle.drawing_reader.proofs.double_names.Declarations.head.Goals as goal
 
 pub returns-in_err-declare : goal.returns-in_err-declare

@@ -1,9 +1,9 @@
 use Rattle.std.proofs.Common.{[], ◌∷◌, ◌+◌, map, drop}
 use Rattle.std.proofs.lemmas.Result.{err_from_is_err_and}
 use Rattle.drawing_tree.specs.Tree.{assignment_of}
-use Rattle.drawing_reader.specs.declared.declared.Kind.TheVariants.{Parameter}
-use Rattle.drawing_reader.specs.DoubleNames.{declaration, parameters}
-use Rattle.drawing_reader.proofs.Doubles.{goes_on, stop_there}
+use Rattle.drawing_grammar.specs.declared.declared.Kind.TheVariants.{Parameter}
+use Rattle.drawing_grammar.specs.DoubleNames.{declaration, parameters}
+use Rattle.drawing_grammar.proofs.Doubles.{goes_on, stop_there}
 use Rattle.drawing_reader.proofs.Labels.{next_parameter}
 use Rattle.drawing_reader.proofs.double_names.Declarations.parameters.Goals as goal
 

@@ -1,6 +1,6 @@
 use Rattle.std.proofs.Common.{drop, map}
 use Rattle.drawing_tree.specs.Tree.{assignment_of}
-use Rattle.drawing_reader.specs.DoubleNames.{parameters, Goes}
+use Rattle.drawing_grammar.specs.DoubleNames.{parameters, Goes}
 use Rattle.drawing_reader.proofs.double_names.Declarations.parameters.Given as goal
 
 abbrev pub invariant-params : goal.invariant-params

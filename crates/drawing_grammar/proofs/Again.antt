@@ -1,0 +1,112 @@
+-- The canonical text of a drawing draws it.
+use Rattle.std.proofs.Common.{◌≡◌, ℕ, false, List, [], ◌∷◌, ◌++◌, map, refl, sym, ap, ◌∙◌, subst}
+use Rattle.std.specs.Prelude.{Ok}
+use Rattle.scald_base.specs.Time.{Header, IsHeader}
+use Rattle.scald_lex.specs.declared.token.Token as lex
+use Rattle.scald_lex.specs.Tokens.{AreTokens}
+use Rattle.drawing_tree.specs.Tree as tree
+use Rattle.drawing_tree.specs.WellFormed.{IsGoodName}
+use Rattle.drawing_tree.specs.Places.{unplaced_macro, unplaced_statements, unplaced_case, SameButPlaces}
+use Rattle.drawing_tree.specs.Canonical.{canonical}
+use Rattle.drawing_grammar.specs.Lexeme.{Lexeme, lexemes}
+use Rattle.drawing_grammar.specs.Header.{natural, header_of, judged}
+use Rattle.drawing_grammar.specs.Names.{Naming, names, names_from, AreGood}
+use Rattle.drawing_grammar.specs.DoubleNames.{IsDistinct}
+use Rattle.drawing_grammar.specs.Sketch.{Sketch}
+use Rattle.drawing_grammar.specs.Written.{Written, spelling, weights, values, Within}
+use Rattle.drawing_grammar.specs.Draws.{whole}
+use Rattle.drawing_grammar.specs.Drawing.{drawing_of_sketch, declared_by}
+use Rattle.drawing_grammar.specs.CanonicalDraws.{IsShallowDrawing, DrawsAgain, CanonicalDraws}
+use Rattle.drawing_grammar.proofs.Cutting.{Bare}
+use Rattle.drawing_grammar.proofs.CanonicalTokens.{drawing_tokens, end_of_text}
+use Rattle.drawing_grammar.proofs.CanonicalText.{bare_at, canonical_has}
+use Rattle.drawing_grammar.proofs.Drawable.{IsDrawnDrawing}
+use Rattle.drawing_grammar.proofs.Heads.{names_of_text}
+use Rattle.drawing_grammar.proofs.Formed.{judged_ok, sketch_proper, sketch_drawn}
+use Rattle.drawing_grammar.proofs.Matching.{bare, Are}
+use Rattle.drawing_grammar.proofs.Modest.{sketch_modest}
+use Rattle.drawing_grammar.proofs.Proper.{IsSketchOf}
+use Rattle.drawing_grammar.proofs.Short.{drawing_short}
+use Rattle.drawing_grammar.proofs.PhraseText.{IsShortDrawing, TextBuilt, text_built}
+use Rattle.drawing_grammar.proofs.SameHeader.{header_may_be, judged_again, header_again}
+use Rattle.drawing_grammar.proofs.SameDeclared.{distinct_again}
+use Rattle.drawing_grammar.proofs.SameNamesText.{text_names}
+
+-- ---- tokens with and without their places
+
+are_bare : (text : List ℕ) (tokens : List lex.Token) → map bare (lexemes text tokens) ≡ map (bare_at text) tokens
+are_bare text [] = refl
+are_bare text (t ∷ ts) = ap (λ (bs : List Bare). bare_at text t ∷ bs) (are_bare text ts)
+
+-- the names of a text are those of its tokens
+names_spelled : (w : Written whole) (ts : List Lexeme) → spelling w ≡ ts → names w ≡ names_from false ts
+names_spelled w ts e = names_of_text w ∙ ap (λ (xs : List Lexeme). names_from false xs) e
+
+drawing_same : (d e : tree.Drawing) → e.version ≡ d.version → e.header ≡ d.header → map unplaced_macro e.macros ≡ map unplaced_macro d.macros → e.name ≡ d.name → unplaced_statements e.body ≡ unplaced_statements d.body → map unplaced_case e.cases ≡ map unplaced_case d.cases → SameButPlaces d e
+drawing_same d e a b c f g h = rw (a, b, c, f, g, h) refl
+
+-- ---- the law of one text
+
+-- what is known of a text that draws
+record Known (h : Header) (s : Sketch) : Type 0 where
+  header : header_of s.header ≡ h
+  version : natural s.header.version ≡ 1
+  may_be : IsHeader h
+  proper : IsSketchOf (λ n. IsGoodName h n) s
+  distinct : IsDistinct (declared_by s)
+
+drawn_again : (h : Header) (s : Sketch) → Known h s → (text : List ℕ) (tokens : List lex.Token) → AreTokens text tokens → TextBuilt (drawing_of_sketch s) (lexemes text tokens) → AreGood h (names_from false (lexemes text tokens)) → (e : tree.Drawing) → e ≡ drawing_of_sketch s → DrawsAgain text e
+drawn_again h s known text tokens are built good e is =
+    let ts = lexemes text tokens in
+    let d = drawing_of_sketch s in
+    let w = built.written in
+    let again = built.again in
+    let found : Sketch = (values w).0 in
+    let same : header_of found.header ≡ d.header = header_again found.header d.header (subst IsHeader (sym known.header) known.may_be) again.units again.ticks again.wire again.pskew again.cskew in
+    let judged_so : judged found.header ≡ Ok d.header = judged_again found.header d.version d.header (subst IsHeader (sym known.header) known.may_be) known.version again.version again.units again.ticks again.wire again.pskew again.cskew in
+    let to_h : h ≡ header_of found.header = sym (same ∙ known.header) in
+    let N : List Naming → Type 0 = λ ns. AreGood h ns in
+    let named : AreGood h (names w) = subst N (sym (names_spelled w ts built.spelled)) good in
+    let H : Header → Type 0 = λ x. AreGood x (names w) in
+    let W : List Lexeme → Type 0 = λ xs. Within xs (weights w 0) in
+    let proper : IsSketchOf (λ n. IsGoodName h n) found = sketch_proper h text tokens w are built.spelled good in
+    let D : tree.Drawing → Type 0 = λ x. DrawsAgain text x in
+    subst D (sym is) (record {
+      drawing = drawing_of_sketch found;
+      draws = record {
+        tokens = tokens;
+        are = are;
+        draws = record {
+          written = w;
+          text = record { spelled = built.spelled; within = subst W built.spelled built.fits };
+          header = judged_so ∙ ap (λ (x : Header). Ok x) (sym same);
+          names = subst H to_h named;
+          distinct = distinct_again s.macros.macros found.macros.macros s.macros.heads found.macros.heads s.body found.body known.proper.macros.heads proper.macros.heads again.macros again.body known.distinct;
+          stands = refl;
+        };
+      };
+      same = drawing_same d (drawing_of_sketch found) (ap natural again.version) same again.macros again.name again.body again.cases;
+    })
+
+pub law : CanonicalDraws
+law text d x shallow =
+    let ts = lexemes text x.tokens in
+    let draws = x.draws in
+    let w = draws.written in
+    let s : Sketch = (values w).0 in
+    let h = d.header in
+    let N : List Naming → Type 0 = λ ns. AreGood h ns in
+    let good : AreGood h (names_from false ts) = subst N (names_spelled w ts draws.text.spelled) draws.names in
+    let said = judged_ok s.header h draws.header in
+    let may_be : IsHeader h = header_may_be s.header h draws.header in
+    let proper : IsSketchOf (λ n. IsGoodName h n) s = sketch_proper h text x.tokens w x.are draws.text.spelled good in
+    let known : Known h s = record { header = said.0; version = said.1; may_be = may_be; proper = proper; distinct = draws.distinct } in
+    let drawn : IsDrawnDrawing (drawing_of_sketch s) = sketch_drawn h s may_be draws.header proper in
+    let W : List Lexeme → Type 0 = λ xs. Within xs (weights w 0) in
+    let modest = sketch_modest w (subst W (sym draws.text.spelled) draws.text.within) in
+    let short : IsShortDrawing (drawing_of_sketch s) = drawing_short s drawn (subst IsShallowDrawing (sym draws.stands) shallow) modest in
+    let has = canonical_has d (subst IsDrawnDrawing draws.stands drawn) in
+    let B : tree.Drawing → Type 0 = λ y. Are (lexemes (canonical d) has.tokens) (drawing_tokens y ++ end_of_text) in
+    let bares : Are (lexemes (canonical d) has.tokens) (drawing_tokens (drawing_of_sketch s) ++ end_of_text) = subst B (sym draws.stands) (are_bare (canonical d) has.tokens ∙ has.bare) in
+    drawn_again h s known (canonical d) has.tokens has.are (text_built (drawing_of_sketch s) short (lexemes (canonical d) has.tokens) bares)
+    (text_names h (drawing_of_sketch s) proper.name proper.macros.macros proper.body proper.cases (lexemes (canonical d) has.tokens) bares) d (sym draws.stands)

@@ -1,0 +1,282 @@
+-- The grammar of drawings: what each part of a text begins with, and what follows.
+use Rattle.std.specs.Prelude.{ℕ, suc, List, [], ◌∷◌, codes}
+use Rattle.drawing_grammar.specs.declared.terminal.Letter.{Letter}
+use Rattle.drawing_grammar.specs.declared.terminal.Letter.TheVariants.{By, Hazard}
+use Rattle.drawing_grammar.specs.declared.terminal.Terminal.{Terminal}
+use Rattle.drawing_grammar.specs.declared.terminal.Terminal.TheVariants.{Scald, Clock, Wire, Pskew, Cskew, Drawing, Case, If, Then, Else, End, Zero, One, Word, Number, Name, Arrow, Semicolon, Colon, Comma, OpenParenthesis, CloseParenthesis, Less, Greater, OpenBracket, CloseBracket, OpenBrace, CloseBrace, Equals, Plus, Minus, Star, Slash, Ampersand, Exclamation, EndOfText}
+use Rattle.drawing_grammar.specs.declared.terminal.Terminal.TheVariants.{Macro as MacroWord}
+
+-- Parts of a text that begin with a token of their own, by which they are known.
+pub data Part : Type 0 where
+  Unary : Part
+  Factors : Part
+  Terms : Part
+  Comparison : Part
+  OrEqual : Part
+  Range : Part
+  RangeEnd : Part
+  Parameters : Part
+  Assign : Part
+  MoreAssigns : Part
+  Formal : Part
+  MoreFormals : Part
+  FormalOutputs : Part
+  Delay : Part
+  Term : Part
+  Atom : Part
+  MoreTerms : Part
+  Hold : Part
+  MoreConns : Part
+  Outputs : Part
+  Statement : Part
+  Otherwise : Part
+  Macro : Part
+  Index : Part
+  Entry : Part
+  MoreEntries : Part
+  CaseStatement : Part
+  WireBounds : Part
+  PrecisionSkew : Part
+  ClockSkew : Part
+  Text : Part
+
+-- Parts of a text that begin as the first of their members does.
+pub data Group : Type 0 where
+  Product : Group
+  Sum : Group
+  Expr : Group
+  Conn : Group
+  SomeConns : Group
+  Conns : Group
+  SomeFormals : Group
+  Formals : Group
+  Assigns : Group
+  Entries : Group
+  Statements : Group
+  Macros : Group
+  Cases : Group
+
+-- the letters that are words of their own
+abbrev pub letter_text : Letter → List ℕ
+letter_text By = codes "x"
+letter_text Hazard = codes "H"
+
+-- What has to be written: a token that stands for itself, one whose text counts, a word of one letter, an
+-- expression of its own, or a part or a group where so many parentheses and minus signs, or IFs, are open.
+pub data Need : Type 0 where
+  mark : Terminal → Need
+  item : Terminal → Need
+  letter : Letter → Need
+  fresh : Need
+  part : Part → ℕ → Need
+  group : Group → ℕ → Need
+
+-- The choices of each part.
+pub data Choice : Part → Type 0 where
+  number : Choice Unary
+  parameter : Choice Unary
+  negated : Choice Unary
+  bracketed : Choice Unary
+  times : Choice Factors
+  divided : Choice Factors
+  plus : Choice Terms
+  less : Choice Terms
+  equal : Choice Comparison
+  unequal : Choice Comparison
+  below : Choice Comparison
+  above : Choice Comparison
+  or_equal : Choice OrEqual
+  range : Choice Range
+  last : Choice RangeEnd
+  parameters : Choice Parameters
+  assign : Choice Assign
+  next_assign : Choice MoreAssigns
+  formal : Choice Formal
+  next_formal : Choice MoreFormals
+  formal_outputs : Choice FormalOutputs
+  delay : Choice Delay
+  complement : Choice Term
+  zero_term : Choice Term
+  one_term : Choice Term
+  named_term : Choice Term
+  zero_atom : Choice Atom
+  one_atom : Choice Atom
+  named_atom : Choice Atom
+  next_term : Choice MoreTerms
+  hold : Choice Hold
+  next_conn : Choice MoreConns
+  outputs : Choice Outputs
+  use_ : Choice Statement
+  wire : Choice Statement
+  if_ : Choice Statement
+  else_ : Choice Otherwise
+  macro : Choice Macro
+  index : Choice Index
+  entry : Choice Entry
+  next_entry : Choice MoreEntries
+  case_ : Choice CaseStatement
+  wire_bounds : Choice WireBounds
+  precision_skew : Choice PrecisionSkew
+  clock_skew : Choice ClockSkew
+  text : Choice Text
+
+-- the token that a choice begins with
+abbrev pub opening : {p : Part} → Choice p → Terminal
+opening number = Number
+opening parameter = Word
+opening negated = Minus
+opening bracketed = OpenParenthesis
+opening times = Star
+opening divided = Slash
+opening plus = Plus
+opening less = Minus
+opening equal = Equals
+opening unequal = Exclamation
+opening below = Less
+opening above = Greater
+opening or_equal = Equals
+opening range = Less
+opening last = Colon
+opening parameters = OpenBrace
+opening assign = Word
+opening next_assign = Comma
+opening formal = Name
+opening next_formal = Comma
+opening formal_outputs = Arrow
+opening delay = OpenBracket
+opening complement = Minus
+opening zero_term = Zero
+opening one_term = One
+opening named_term = Name
+opening zero_atom = Zero
+opening one_atom = One
+opening named_atom = Name
+opening next_term = Ampersand
+opening hold = Exclamation
+opening next_conn = Comma
+opening outputs = Arrow
+opening use_ = Word
+opening wire = Wire
+opening if_ = If
+opening else_ = Else
+opening macro = MacroWord
+opening index = Less
+opening entry = Name
+opening next_entry = Comma
+opening case_ = Case
+opening wire_bounds = Wire
+opening precision_skew = Pskew
+opening clock_skew = Cskew
+opening text = Scald
+
+-- a sum that is an expression of its own
+abbrev pub own_sum : List Need → List Need
+own_sum rest = fresh ∷ group Sum 0 ∷ rest
+
+-- two numbers
+abbrev pub bounds : List Need → List Need
+bounds rest = item Number ∷ mark Colon ∷ item Number ∷ mark Semicolon ∷ rest
+
+-- What follows that token, where n are open.
+abbrev pub following : {p : Part} → Choice p → ℕ → List Need
+following number n = []
+following parameter n = []
+following negated n = part Unary (suc n) ∷ []
+following bracketed n = group Expr (suc n) ∷ mark CloseParenthesis ∷ []
+following times n = part Unary n ∷ part Factors n ∷ []
+following divided n = part Unary n ∷ part Factors n ∷ []
+following plus n = group Product n ∷ part Terms n ∷ []
+following less n = group Product n ∷ part Terms n ∷ []
+following equal n = group Sum n ∷ []
+following unequal n = mark Equals ∷ group Sum n ∷ []
+following below n = part OrEqual n ∷ group Sum n ∷ []
+following above n = part OrEqual n ∷ group Sum n ∷ []
+following or_equal n = []
+following range n = own_sum (part RangeEnd 0 ∷ mark Greater ∷ [])
+following last n = own_sum []
+following parameters n = group Assigns 0 ∷ mark CloseBrace ∷ []
+following assign n = mark Equals ∷ own_sum []
+following next_assign n = part Assign 0 ∷ part MoreAssigns 0 ∷ []
+following formal n = part Range 0 ∷ []
+following next_formal n = part Formal 0 ∷ part MoreFormals 0 ∷ []
+following formal_outputs n = mark OpenParenthesis ∷ group SomeFormals 0 ∷ mark CloseParenthesis ∷ []
+following delay n = own_sum (mark Colon ∷ own_sum (mark CloseBracket ∷ []))
+following complement n = part Atom 0 ∷ []
+following zero_term n = []
+following one_term n = []
+following named_term n = part Range 0 ∷ []
+following zero_atom n = []
+following one_atom n = []
+following named_atom n = part Range 0 ∷ []
+following next_term n = part Term 0 ∷ part MoreTerms 0 ∷ []
+following hold n = letter Hazard ∷ []
+following next_conn n = group Conn 0 ∷ part MoreConns 0 ∷ []
+following outputs n = mark OpenParenthesis ∷ group SomeConns 0 ∷ mark CloseParenthesis ∷ []
+following use_ n = mark Colon ∷ item Word ∷ part Delay 0 ∷ part Parameters 0 ∷ mark OpenParenthesis ∷ group Conns 0 ∷ mark CloseParenthesis ∷ part Outputs 0 ∷ mark Semicolon ∷ []
+following wire n = item Name ∷ part Range 0 ∷ own_sum (mark Colon ∷ own_sum (mark Semicolon ∷ []))
+following if_ n = fresh ∷ group Expr 0 ∷ mark Then ∷ group Statements (suc n) ∷ part Otherwise (suc n) ∷ mark End ∷ mark Semicolon ∷ []
+following else_ n = group Statements n ∷ []
+following macro n = item Word ∷ part Parameters 0 ∷ mark OpenParenthesis ∷ group Formals 0 ∷ mark CloseParenthesis ∷ part FormalOutputs 0 ∷ mark Semicolon ∷ group Statements 0 ∷ mark End ∷ mark Semicolon ∷ []
+following index n = item Number ∷ mark Greater ∷ []
+following entry n = part Index 0 ∷ mark Equals ∷ item Number ∷ []
+following next_entry n = part Entry 0 ∷ part MoreEntries 0 ∷ []
+following case_ n = group Entries 0 ∷ mark Semicolon ∷ []
+following wire_bounds n = bounds []
+following precision_skew n = bounds []
+following clock_skew n = bounds []
+following text n =
+    item Number ∷ mark Semicolon ∷ item Clock ∷ item Number ∷ letter By ∷ item Number ∷ mark Semicolon
+    ∷ part WireBounds 0 ∷ part PrecisionSkew 0 ∷ part ClockSkew 0 ∷ group Macros 0
+    ∷ mark Drawing ∷ item Word ∷ mark Semicolon ∷ group Statements 0 ∷ mark End ∷ mark Semicolon ∷ group Cases 0 ∷ mark EndOfText ∷ []
+
+-- what a group begins with
+abbrev pub lead : Group → Part
+lead Product = Unary
+lead Sum = Unary
+lead Expr = Unary
+lead Conn = Term
+lead SomeConns = Term
+lead Conns = Term
+lead SomeFormals = Formal
+lead Formals = Formal
+lead Assigns = Assign
+lead Entries = Entry
+lead Statements = Statement
+lead Macros = Macro
+lead Cases = CaseStatement
+
+-- and what follows it
+abbrev pub others : Group → ℕ → List Need
+others Product n = part Factors n ∷ []
+others Sum n = part Factors n ∷ part Terms n ∷ []
+others Expr n = part Factors n ∷ part Terms n ∷ part Comparison n ∷ []
+others Conn n = part MoreTerms n ∷ part Hold n ∷ []
+others SomeConns n = part MoreTerms n ∷ part Hold n ∷ part MoreConns n ∷ []
+others Conns n = part MoreTerms n ∷ part Hold n ∷ part MoreConns n ∷ []
+others SomeFormals n = part MoreFormals n ∷ []
+others Formals n = part MoreFormals n ∷ []
+others Assigns n = part MoreAssigns n ∷ []
+others Entries n = part MoreEntries n ∷ []
+others Statements n = group Statements n ∷ []
+others Macros n = group Macros n ∷ []
+others Cases n = group Cases n ∷ []
+
+-- What a choice costs: it opens one more parenthesis, minus sign or IF, it is a binary operator, or nothing.
+pub data Cost : Type 0 where
+  plain : Cost
+  opens : Cost
+  operator : Cost
+
+abbrev pub cost : {p : Part} → Choice p → Cost
+cost negated = opens
+cost bracketed = opens
+cost if_ = opens
+cost times = operator
+cost divided = operator
+cost plus = operator
+cost less = operator
+cost equal = operator
+cost unequal = operator
+cost below = operator
+cost above = operator
+cost _ = plain

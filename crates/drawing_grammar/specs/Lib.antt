@@ -1,0 +1,14 @@
+pub mod Lexeme
+pub mod Grammar
+pub mod Sketch
+pub mod Written
+pub mod Draws
+pub mod Names
+pub mod Machine
+pub mod Drawing
+pub mod Header
+pub mod DoubleNames
+pub mod Laws
+pub mod CanonicalDraws
+pub mod Nesting
+pub mod Front

@@ -1,0 +1,296 @@
+-- What a part of a text stands for: the tree of its drawing, with the numbers of the header as they are written.
+use Rattle.std.specs.Prelude.{ℕ, ◌-◌, ◌^◌, min, Bool, true, false, List, [], ◌∷◌, ◌++◌, length, slice_range, Option, Some, None}
+use Rattle.scald_base.specs.declared.refusal.Place.{Place}
+use Rattle.scald_base.specs.declared.assertion.AssertSpec.TheVariants.{None as Unasserted}
+use Rattle.assertion_syntax.specs.declared.name.SignalName.{SignalName}
+use Rattle.assertion_syntax.specs.Reading.{name_at, either}
+use Rattle.scald_expr.specs.declared.expr.Op.{Op}
+use Rattle.scald_expr.specs.declared.expr.Op.TheVariants as op
+use Rattle.scald_expr.specs.Expression.{Expression}
+use Rattle.scald_expr.specs.Expression as e
+use Rattle.drawing_tree.specs.declared.drawing.CaseEntry.{CaseEntry}
+use Rattle.drawing_tree.specs.declared.drawing.CaseStmt.{CaseStmt}
+use Rattle.drawing_tree.specs.Tree as tree
+use Rattle.drawing_grammar.specs.declared.head.Head.{Head}
+use Rattle.drawing_grammar.specs.declared.header.NumberPair.{NumberPair}
+use Rattle.drawing_grammar.specs.declared.header.WrittenHeader.{WrittenHeader}
+use Rattle.drawing_grammar.specs.Header.{natural}
+use Rattle.drawing_grammar.specs.Lexeme.{Lexeme, number_of}
+use Rattle.drawing_grammar.specs.Grammar.{Part, Group, Need, mark, item, letter, fresh, part, group, Choice, following, others, lead}
+use Rattle.drawing_grammar.specs.Grammar as g
+
+-- ---- what tokens stand for
+
+-- the name that stands in for one that has not the form of a name
+abbrev pub blank : SignalName
+blank = record { base = []; global = false; spec = Unasserted }
+
+abbrev pub unquoted : List ℕ → List ℕ
+unquoted text = slice_range text 1 (length text - 1)
+
+-- the name between the quotes
+unfoldable pub signal_named : List ℕ → SignalName
+signal_named text = either (name_at (unquoted text)) blank (λ name. name)
+
+abbrev pub signal_of : Lexeme → SignalName
+signal_of t = signal_named t.text
+
+-- the number, and the greatest of 32 bits for one above it
+abbrev pub capped : Lexeme → ℕ
+capped t = min (natural (number_of t)) (2 ^ 32 - 1)
+
+-- ---- what parts stand for
+
+-- with the place of its first token
+pub record Placed (A : Type 0) : Type 0 where
+  pub item : A
+  pub place : Place
+
+-- a list, with the places of its items beside it
+pub record PlacedList (A : Type 0) : Type 0 where
+  pub items : List A
+  pub places : List Place
+
+abbrev pub no_items : {A : Type 0} → PlacedList A
+no_items = record { items = []; places = [] }
+
+abbrev pub with_item : {A : Type 0} → Placed A → PlacedList A → PlacedList A
+with_item first more = record { items = first.item ∷ more.items; places = first.place ∷ more.places }
+
+-- a macro, and where its head names what it declares
+pub record HeadedMacro : Type 0 where
+  pub macro : tree.Macro
+  pub head : Head
+
+pub record HeadedMacros : Type 0 where
+  pub macros : List tree.Macro
+  pub heads : List Head
+
+-- A text's drawing, before its numbers and names are judged.
+pub record Sketch : Type 0 where
+  pub header : WrittenHeader
+  pub macros : HeadedMacros
+  pub name : List ℕ
+  pub body : tree.Statements
+  pub cases : List CaseStmt
+
+-- What follows an operand takes the tree so far: so operators group from the left.
+abbrev pub Meaning : Part → Type 0
+Meaning g.Unary = Expression
+Meaning g.Factors = Expression → Expression
+Meaning g.Terms = Expression → Expression
+Meaning g.Comparison = Expression → Expression
+Meaning g.OrEqual = Bool
+Meaning g.Range = Option tree.Range
+Meaning g.RangeEnd = Option Expression
+Meaning g.Parameters = PlacedList tree.Assignment
+Meaning g.Assign = Placed tree.Assignment
+Meaning g.MoreAssigns = PlacedList tree.Assignment
+Meaning g.Formal = Placed tree.Formal
+Meaning g.MoreFormals = PlacedList tree.Formal
+Meaning g.FormalOutputs = PlacedList tree.Formal
+Meaning g.Delay = Option (Expression × Expression)
+Meaning g.Term = Placed tree.Term
+Meaning g.Atom = tree.Item
+Meaning g.MoreTerms = List tree.Term
+Meaning g.Hold = Bool
+Meaning g.MoreConns = List tree.Connection
+Meaning g.Outputs = List tree.Connection
+Meaning g.Statement = tree.Statement
+Meaning g.Otherwise = tree.Otherwise
+Meaning g.Macro = HeadedMacro
+Meaning g.Index = ℕ
+Meaning g.Entry = CaseEntry
+Meaning g.MoreEntries = List CaseEntry
+Meaning g.CaseStatement = CaseStmt
+Meaning g.WireBounds = Option NumberPair
+Meaning g.PrecisionSkew = Option NumberPair
+Meaning g.ClockSkew = Option NumberPair
+Meaning g.Text = Sketch
+
+abbrev pub GroupMeaning : Group → Type 0
+GroupMeaning g.Product = Expression
+GroupMeaning g.Sum = Expression
+GroupMeaning g.Expr = Expression
+GroupMeaning g.Conn = tree.Connection
+GroupMeaning g.SomeConns = List tree.Connection
+GroupMeaning g.Conns = List tree.Connection
+GroupMeaning g.SomeFormals = PlacedList tree.Formal
+GroupMeaning g.Formals = PlacedList tree.Formal
+GroupMeaning g.Assigns = PlacedList tree.Assignment
+GroupMeaning g.Entries = List CaseEntry
+GroupMeaning g.Statements = tree.Statements
+GroupMeaning g.Macros = HeadedMacros
+GroupMeaning g.Cases = List CaseStmt
+
+-- what all that is needed stands for, one after another
+abbrev pub Values : List Need → Type 0
+Values [] = Unit {0}
+Values (mark l ∷ rest) = Values rest
+Values (item l ∷ rest) = Lexeme × Values rest
+Values (letter w ∷ rest) = Values rest
+Values (fresh ∷ rest) = Values rest
+Values (part p n ∷ rest) = Meaning p × Values rest
+Values (group g n ∷ rest) = GroupMeaning g × Values rest
+
+-- the values of the first needs, and of those behind them
+abbrev pub front : (needs rest : List Need) → Values (needs ++ rest) → Values needs
+front [] rest v = tt
+front (mark l ∷ needs) rest v = front needs rest v
+front (item l ∷ needs) rest v = (v.0, front needs rest v.1)
+front (letter w ∷ needs) rest v = front needs rest v
+front (fresh ∷ needs) rest v = front needs rest v
+front (part p n ∷ needs) rest v = (v.0, front needs rest v.1)
+front (group g n ∷ needs) rest v = (v.0, front needs rest v.1)
+
+abbrev pub behind : (needs rest : List Need) → Values (needs ++ rest) → Values rest
+behind [] rest v = v
+behind (mark l ∷ needs) rest v = behind needs rest v
+behind (item l ∷ needs) rest v = behind needs rest v.1
+behind (letter w ∷ needs) rest v = behind needs rest v
+behind (fresh ∷ needs) rest v = behind needs rest v
+behind (part p n ∷ needs) rest v = behind needs rest v.1
+behind (group g n ∷ needs) rest v = behind needs rest v.1
+
+-- ---- the trees
+
+abbrev pub binary : Op → Expression → Expression → Expression
+binary o a b = e.Binary o a b
+
+abbrev pub placed_term : Bool → tree.Item → Lexeme → Placed tree.Term
+placed_term minus what t = record { item = record { minus = minus; item = what }; place = t.place }
+
+abbrev pub less_or : Bool → Op
+less_or true = op.Le
+less_or false = op.Lt
+
+abbrev pub greater_or : Bool → Op
+greater_or true = op.Ge
+greater_or false = op.Gt
+
+abbrev pub connection : Placed tree.Term → List tree.Term → Bool → tree.Connection
+connection first more hold = record { terms = first.item ∷ more; hold = hold; place = first.place }
+
+-- two numbers of the header, in the statement that begins with this token
+abbrev pub number_pair : Lexeme → Lexeme → Lexeme → NumberPair
+number_pair begin first second = record { first = number_of first; second = number_of second; place = begin.place }
+
+abbrev pub headed_macro : Lexeme → PlacedList tree.Assignment → PlacedList tree.Formal → PlacedList tree.Formal → tree.Statements → HeadedMacro
+headed_macro name params ins outs body = record {
+  macro = record { name = name.text; params = params.items; ins = ins.items; outs = outs.items; body = body; place = name.place };
+  head = record { parameters = params.places; ins = ins.places; outs = outs.places };
+}
+
+abbrev pub with_macro : HeadedMacro → HeadedMacros → HeadedMacros
+with_macro first more = record { macros = first.macro ∷ more.macros; heads = first.head ∷ more.heads }
+
+-- What a choice stands for: its first token, and the values of what follows.
+abbrev pub choice_value : {p : Part} (c : Choice p) (n : ℕ) → Lexeme → Values (following c n) → Meaning p
+choice_value g.number n t v = e.Number (number_of t)
+choice_value g.parameter n t v = e.Param t.text
+choice_value g.negated n t v = e.Negate v.0
+choice_value g.bracketed n t v = v.0
+choice_value g.times n t v = λ left. v.1.0 (binary op.Mul left v.0)
+choice_value g.divided n t v = λ left. v.1.0 (binary op.Div left v.0)
+choice_value g.plus n t v = λ left. v.1.0 (binary op.Add left v.0)
+choice_value g.less n t v = λ left. v.1.0 (binary op.Sub left v.0)
+choice_value g.equal n t v = λ left. binary op.Eq left v.0
+choice_value g.unequal n t v = λ left. binary op.Ne left v.0
+choice_value g.below n t v = λ left. binary (less_or v.0) left v.1.0
+choice_value g.above n t v = λ left. binary (greater_or v.0) left v.1.0
+choice_value g.or_equal n t v = true
+choice_value g.range n t v = Some (record { first = v.0; last = v.1.0 })
+choice_value g.last n t v = Some v.0
+choice_value g.parameters n t v = v.0
+choice_value g.assign n t v = record { item = record { name = t.text; value = v.0 }; place = t.place }
+choice_value g.next_assign n t v = with_item v.0 v.1.0
+choice_value g.formal n t v = record { item = record { base = (signal_of t).base; range = v.0 }; place = t.place }
+choice_value g.next_formal n t v = with_item v.0 v.1.0
+choice_value g.formal_outputs n t v = v.0
+choice_value g.delay n t v = Some (v.0, v.1.0)
+choice_value g.complement n t v = placed_term true v.0 t
+choice_value g.zero_term n t v = placed_term false tree.Zero t
+choice_value g.one_term n t v = placed_term false tree.One t
+choice_value g.named_term n t v = placed_term false (tree.Named (signal_of t) v.0) t
+choice_value g.zero_atom n t v = tree.Zero
+choice_value g.one_atom n t v = tree.One
+choice_value g.named_atom n t v = tree.Named (signal_of t) v.0
+choice_value g.next_term n t v = v.0.item ∷ v.1.0
+choice_value g.hold n t v = true
+choice_value g.next_conn n t v = v.0 ∷ v.1.0
+choice_value g.outputs n t v = v.0
+choice_value g.use_ n t v = tree.Use (record { label = t.text; kind = v.0.text; delay = v.1.0; params = v.1.1.0.items; ins = v.1.1.1.0; outs = v.1.1.1.1.0; place = t.place })
+choice_value g.wire n t v = tree.Wire (record { name = signal_of v.0; range = v.1.0; min = v.1.1.0; max = v.1.1.1.0; place = t.place })
+choice_value g.if_ n t v = tree.If v.0 v.1.0 v.1.1.0 t.place
+choice_value g.else_ n t v = tree.else_ v.0
+choice_value g.macro n t v = headed_macro v.0 v.1.0 v.1.1.0 v.1.1.1.0 v.1.1.1.1.0
+choice_value g.index n t v = capped v.0
+choice_value g.entry n t v = record { name = signal_of t; bit = v.0; value = capped v.1.0; place = t.place }
+choice_value g.next_entry n t v = v.0 ∷ v.1.0
+choice_value g.case_ n t v = record { entries = v.0; place = t.place }
+choice_value g.wire_bounds n t v = Some (number_pair t v.0 v.1.0)
+choice_value g.precision_skew n t v = Some (number_pair t v.0 v.1.0)
+choice_value g.clock_skew n t v = Some (number_pair t v.0 v.1.0)
+choice_value g.text n t v = record {
+  header = record {
+    version = number_of v.0;
+    place = t.place;
+    clock = number_pair v.1.0 v.1.1.0 v.1.1.1.0;
+    wire = v.1.1.1.1.0;
+    pskew = v.1.1.1.1.1.0;
+    cskew = v.1.1.1.1.1.1.0;
+  };
+  macros = v.1.1.1.1.1.1.1.0;
+  name = v.1.1.1.1.1.1.1.1.0.text;
+  body = v.1.1.1.1.1.1.1.1.1.0;
+  cases = v.1.1.1.1.1.1.1.1.1.1.0;
+}
+
+-- What a part stands for where it is left out; a part without such a value is never left out.
+abbrev pub absent_value : (p : Part) → Option (Meaning p)
+absent_value g.Factors = Some (λ left. left)
+absent_value g.Terms = Some (λ left. left)
+absent_value g.Comparison = Some (λ left. left)
+absent_value g.OrEqual = Some false
+absent_value g.Range = Some None
+absent_value g.RangeEnd = Some None
+absent_value g.Parameters = Some no_items
+absent_value g.MoreAssigns = Some no_items
+absent_value g.MoreFormals = Some no_items
+absent_value g.FormalOutputs = Some no_items
+absent_value g.Delay = Some None
+absent_value g.MoreTerms = Some []
+absent_value g.Hold = Some false
+absent_value g.MoreConns = Some []
+absent_value g.Outputs = Some []
+absent_value g.Otherwise = Some tree.no_else
+absent_value g.Index = Some 0
+absent_value g.MoreEntries = Some []
+absent_value g.WireBounds = Some None
+absent_value g.PrecisionSkew = Some None
+absent_value g.ClockSkew = Some None
+absent_value _ = None
+
+abbrev pub group_value : (g : Group) (n : ℕ) → Meaning (lead g) → Values (others g n) → GroupMeaning g
+group_value g.Product n first v = v.0 first
+group_value g.Sum n first v = v.1.0 (v.0 first)
+group_value g.Expr n first v = v.1.1.0 (v.1.0 (v.0 first))
+group_value g.Conn n first v = connection first v.0 v.1.0
+group_value g.SomeConns n first v = connection first v.0 v.1.0 ∷ v.1.1.0
+group_value g.Conns n first v = connection first v.0 v.1.0 ∷ v.1.1.0
+group_value g.SomeFormals n first v = with_item first v.0
+group_value g.Formals n first v = with_item first v.0
+group_value g.Assigns n first v = with_item first v.0
+group_value g.Entries n first v = first ∷ v.0
+group_value g.Statements n first v = tree.cons first v.0
+group_value g.Macros n first v = with_macro first v.0
+group_value g.Cases n first v = first ∷ v.0
+
+-- What a group stands for where it is left out; a group without such a value is never left out.
+abbrev pub absent_group : (g : Group) → Option (GroupMeaning g)
+absent_group g.Conns = Some []
+absent_group g.Formals = Some no_items
+absent_group g.Statements = Some tree.nil
+absent_group g.Macros = Some (record { macros = []; heads = [] })
+absent_group g.Cases = Some []
+absent_group _ = None

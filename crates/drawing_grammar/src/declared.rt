@@ -1,0 +1,10 @@
+//! What a drawing declares.
+
+/// What a name is declared as.
+#[derive(Clone, Copy, PartialEq, Eq, Hash, Debug)]
+pub enum Kind {
+    Macro,
+    Parameter,
+    Formal,
+    Label,
+}

@@ -1,0 +1,35 @@
+//! Laws of drawings and their texts. The functions do nothing: what each states is its contract.
+
+ghost use Rattle.drawing_grammar.specs.CanonicalDraws.{CanonicalDraws};
+ghost use Rattle.drawing_grammar.specs.Laws.{DrawnOrRefused, NamesAreSpelled, NotBoth, OneDrawing, OneRefusal};
+
+/// Tokens draw one drawing alone.
+pub fn one_drawing()
+    ensures { OneDrawing }
+{}
+
+/// Tokens that draw a drawing are not refused.
+pub fn not_both()
+    ensures { NotBoth }
+{}
+
+/// Tokens are refused for one reason, at one place.
+pub fn one_refusal()
+    ensures { OneRefusal }
+{}
+
+/// The tokens of a text draw a drawing, or they are refused.
+pub fn drawn_or_refused()
+    ensures { DrawnOrRefused }
+{}
+
+/// The names of a drawing are those that its text spells between quotes.
+pub fn names_are_spelled()
+    ensures { NamesAreSpelled }
+{}
+
+/// What some text draws, its canonical text draws too, places aside, where that text does not nest
+/// too deep: at most 64 parentheses and minus signs are open at once in an expression.
+pub fn canonical_draws()
+    ensures { CanonicalDraws }
+{}

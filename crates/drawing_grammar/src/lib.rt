@@ -1,0 +1,20 @@
+//! The grammar of a drawing: what is written by it, which tokens spell it, and which drawing it draws.
+//!
+//! `specs/Lexeme` says what the grammar takes a token for, and `specs/Grammar` has its table; `specs/Written`
+//! has what is written by it and its limits, `specs/Sketch` what that stands for, `specs/Draws` and
+//! `specs/Drawing` which drawing comes of the tokens of a text, or why they are refused, and
+//! `specs/CanonicalDraws` that a canonical text draws its drawing. Beside this family stands a machine on a
+//! stack of what is still needed (`specs/Machine`), which reads token by token. The layer above, which reads
+//! a text, uses the few types that the table speaks of; [`laws`] has what holds of every text.
+#![tactic(auto)]
+
+mod declared;
+mod head;
+mod header;
+pub mod laws;
+mod terminal;
+
+pub use declared::Kind;
+pub use head::{Head, Places};
+pub use header::{NumberPair, WrittenHeader};
+pub use terminal::{Letter, Terminal, symbol_terminal, word_terminal};

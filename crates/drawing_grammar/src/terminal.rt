@@ -1,0 +1,167 @@
+//! What the grammar tells apart among tokens.
+
+ghost use Rattle.std.specs.Prelude.{◌≡◌};
+ghost use Rattle.drawing_grammar.specs.Grammar.{letter_text};
+ghost use Rattle.drawing_grammar.specs.Lexeme.{is_first, begins_reserved, word_terminal, symbol_terminal};
+
+/// A token as the grammar sees it: a word that stands for itself, any other word, a number, a name, a symbol or
+/// the end.
+#[derive(Clone, Copy, PartialEq, Eq, Debug)]
+pub enum Terminal {
+    Scald,
+    Clock,
+    Wire,
+    Pskew,
+    Cskew,
+    Macro,
+    Drawing,
+    Case,
+    If,
+    Then,
+    Else,
+    End,
+    Zero,
+    One,
+    /// A word that is not reserved.
+    Word,
+    Number,
+    Name,
+    /// `->`
+    Arrow,
+    Semicolon,
+    Colon,
+    Comma,
+    OpenParenthesis,
+    CloseParenthesis,
+    Less,
+    Greater,
+    OpenBracket,
+    CloseBracket,
+    OpenBrace,
+    CloseBrace,
+    Equals,
+    Plus,
+    Minus,
+    Star,
+    Slash,
+    Ampersand,
+    Exclamation,
+    /// Behind the last byte.
+    EndOfText,
+}
+
+/// A letter that is a word of its own.
+#[derive(Clone, Copy, PartialEq, Eq, Debug)]
+pub enum Letter {
+    /// `x`, between two numbers.
+    By,
+    /// `H`, behind an exclamation mark.
+    Hazard,
+}
+
+impl Letter {
+    /// Its text.
+    pub fn text(self) -> &'static [u8]
+        ensures { result.now ≡ letter_text self }
+    {
+        match self {
+            Letter::By => b"x",
+            Letter::Hazard => b"H",
+        }
+    }
+}
+
+/// Whether a reserved word begins as this one does.
+fn begins_reserved(word: &[u8]) -> bool
+    ensures { result ≡ begins_reserved word.now }
+{
+    match word {
+        [] => false,
+        [first, ..] => is_first(*first),
+    }
+}
+
+fn is_first(byte: u8) -> bool
+    ensures { result ≡ is_first byte }
+{
+    byte == b'C'
+        || byte == b'D'
+        || byte == b'E'
+        || byte == b'I'
+        || byte == b'M'
+        || byte == b'O'
+        || byte == b'P'
+        || byte == b'S'
+        || byte == b'T'
+        || byte == b'W'
+        || byte == b'Z'
+}
+
+/// What the grammar takes a word for.
+#[tactic(auto, unfolding(crate::specs::Lexeme::word_terminal))]
+pub fn word_terminal(word: &[u8]) -> Terminal
+    ensures { result ≡ word_terminal word.now }
+{
+    // Most words are told by their first letter.
+    if !begins_reserved(word) {
+        return Terminal::Word;
+    }
+    if word == b"SCALD".as_slice() {
+        Terminal::Scald
+    } else if word == b"CLOCK".as_slice() {
+        Terminal::Clock
+    } else if word == b"WIRE".as_slice() {
+        Terminal::Wire
+    } else if word == b"PSKEW".as_slice() {
+        Terminal::Pskew
+    } else if word == b"CSKEW".as_slice() {
+        Terminal::Cskew
+    } else if word == b"MACRO".as_slice() {
+        Terminal::Macro
+    } else if word == b"DRAWING".as_slice() {
+        Terminal::Drawing
+    } else if word == b"CASE".as_slice() {
+        Terminal::Case
+    } else if word == b"IF".as_slice() {
+        Terminal::If
+    } else if word == b"THEN".as_slice() {
+        Terminal::Then
+    } else if word == b"ELSE".as_slice() {
+        Terminal::Else
+    } else if word == b"END".as_slice() {
+        Terminal::End
+    } else if word == b"ZERO".as_slice() {
+        Terminal::Zero
+    } else if word == b"ONE".as_slice() {
+        Terminal::One
+    } else {
+        Terminal::Word
+    }
+}
+
+/// What the grammar takes a symbol for.
+#[tactic(auto, unfolding(crate::specs::Lexeme::symbol_terminal))]
+pub fn symbol_terminal(byte: u8) -> Terminal
+    ensures { result ≡ symbol_terminal byte }
+{
+    match byte {
+        b';' => Terminal::Semicolon,
+        b':' => Terminal::Colon,
+        b',' => Terminal::Comma,
+        b'(' => Terminal::OpenParenthesis,
+        b')' => Terminal::CloseParenthesis,
+        b'<' => Terminal::Less,
+        b'>' => Terminal::Greater,
+        b'[' => Terminal::OpenBracket,
+        b']' => Terminal::CloseBracket,
+        b'{' => Terminal::OpenBrace,
+        b'}' => Terminal::CloseBrace,
+        b'=' => Terminal::Equals,
+        b'+' => Terminal::Plus,
+        b'-' => Terminal::Minus,
+        b'*' => Terminal::Star,
+        b'/' => Terminal::Slash,
+        b'&' => Terminal::Ampersand,
+        _ => Terminal::Exclamation,
+    }
+}

@@ -1,0 +1,43 @@
+-- What holds of a slice holds of the list that it is of.
+use Rattle.std.proofs.Common.{◌≡◌, ℕ, List, false, refl, sym, ap, ◌∙◌, subst}
+use Rattle.std.specs.Prelude.{Ok, Err}
+use Rattle.scald_base.specs.Time.{Header}
+use Rattle.scald_base.specs.declared.refusal.Refusal.{Refusal}
+use Rattle.scald_base.specs.declared.refusal.Stop.{Stop}
+use Rattle.scald_base.specs.declared.refusal.Stop.TheVariants.{Refused, NoMemory}
+use Rattle.drawing_tree.specs.Tree as tree
+use Rattle.scald_lex.specs.declared.token.Token as lex
+use Rattle.drawing_grammar.specs.Lexeme.{Lexeme, lexemes}
+use Rattle.drawing_grammar.specs.Header.{judged}
+use Rattle.drawing_grammar.specs.Names.{Naming, names, names_from, AreGood, IsBadName, IsNameStop}
+use Rattle.drawing_grammar.specs.DoubleNames.{Declaration, declared, IsDistinct, IsDoubleName, IsDoubleStop}
+use Rattle.drawing_grammar.specs.declared.head.Head.{Head}
+use Rattle.drawing_tree.specs.declared.statement.Stmt.{Stmt}
+use Rattle.drawing_grammar.specs.Sketch.{Sketch}
+use Rattle.drawing_grammar.specs.Draws.{IsStop}
+use Rattle.drawing_grammar.specs.Draws.{Reads}
+use Rattle.drawing_grammar.specs.Drawing.{drawing_of_sketch, declared_by, IsText, Draws, IsWrong, grammar, header, name, double, IsWrongStop}
+use Rattle.drawing_grammar.proofs.Heads.{names_of_text}
+use Rattle.drawing_grammar.proofs.Formed.{judged_ok}
+
+pub names_of_slice : (h : Header) (text : List ℕ) (slice tokens : List lex.Token) (stop : Stop) → slice ≡ tokens → IsNameStop h (names_from false (lexemes text slice)) stop → IsNameStop h (names_from false (lexemes text tokens)) stop
+names_of_slice h text slice tokens stop same found =
+    let F : List lex.Token → Type 0 = λ ts. IsNameStop h (names_from false (lexemes text ts)) stop in subst F same found
+
+pub good_of_slice : (h : Header) (text : List ℕ) (slice tokens : List lex.Token) → slice ≡ tokens → AreGood h (names_from false (lexemes text slice)) → AreGood h (names_from false (lexemes text tokens))
+good_of_slice h text slice tokens same good =
+    let F : List lex.Token → Type 0 = λ ts. AreGood h (names_from false (lexemes text ts)) in subst F same good
+
+doubles_same : (macros : List tree.Macro) (slice heads : List Head) (body items : List Stmt) → slice ≡ heads → body ≡ items →
+    declared macros slice (tree.statements_of body) ≡ declared macros heads (tree.statements_of items)
+doubles_same macros slice heads body items a b = rw (a, b) refl
+
+pub double_of_slices : (macros : List tree.Macro) (slice heads : List Head) (body items : List Stmt) (stop : Stop) → slice ≡ heads → body ≡ items →
+    IsDoubleStop (declared macros slice (tree.statements_of body)) stop → IsDoubleStop (declared macros heads (tree.statements_of items)) stop
+double_of_slices macros slice heads body items stop a b found =
+    let F : List Declaration → Type 0 = λ ds. IsDoubleStop ds stop in subst F (doubles_same macros slice heads body items a b) found
+
+pub distinct_of_slices : (macros : List tree.Macro) (slice heads : List Head) (body items : List Stmt) → slice ≡ heads → body ≡ items →
+    IsDistinct (declared macros slice (tree.statements_of body)) → IsDistinct (declared macros heads (tree.statements_of items))
+distinct_of_slices macros slice heads body items a b distinct =
+    let F : List Declaration → Type 0 = λ ds. IsDistinct ds in subst F (doubles_same macros slice heads body items a b) distinct

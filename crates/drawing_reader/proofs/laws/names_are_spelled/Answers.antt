@@ -1,5 +1,0 @@
-use Rattle.drawing_reader.proofs.SpelledNames.{names_are_spelled}
-use Rattle.drawing_reader.proofs.laws.names_are_spelled.Goals as goal
-
-pub returns : goal.returns
-returns c = names_are_spelled

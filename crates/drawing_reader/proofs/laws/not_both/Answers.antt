@@ -1,5 +1,0 @@
-use Rattle.drawing_reader.proofs.Unique.{draws_is_not_wrong}
-use Rattle.drawing_reader.proofs.laws.not_both.Goals as goal
-
-pub returns : goal.returns
-returns c = draws_is_not_wrong

@@ -1,5 +1,0 @@
-use Rattle.drawing_reader.proofs.Unique.{one_drawing}
-use Rattle.drawing_reader.proofs.laws.one_drawing.Goals as goal
-
-pub returns : goal.returns
-returns c = one_drawing
