@@ -102,13 +102,14 @@ fn differ(spec: &AssertSpec, before: &AssertSpec) -> bool
     ensures { MatchBool result (Differ spec.now before.now) (¬ (Differ spec.now before.now)) }
 {
     if is_asserted(spec) && is_asserted(before) {
-        !is_same(spec, before)
+        !is_same_assertion(spec, before)
     } else {
         false
     }
 }
 
-fn is_same(a: &AssertSpec, b: &AssertSpec) -> bool
+/// Whether the two assert the same, spelled alike.
+pub fn is_same_assertion(a: &AssertSpec, b: &AssertSpec) -> bool
     ensures { MatchBool result (a.now ≡ b.now) (a.now ≢ b.now) }
 {
     match a {

@@ -23,6 +23,7 @@ mod readers;
 mod refused;
 mod search;
 
+pub use assertions::is_same_assertion;
 pub use builder::Builder;
 pub use case::{Case, CaseList, CaseValue};
 pub use circuit::Circuit;
