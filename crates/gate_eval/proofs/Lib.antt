@@ -1,10 +1,12 @@
 pub mod Fitting
 pub mod Movers
+pub mod Passed
 pub mod Meets
 pub mod Scanned
 pub mod Gathered
 pub mod Windows
 pub mod Seen
+pub mod Gathering
 pub mod Bits
 pub mod Held
 pub mod Sound

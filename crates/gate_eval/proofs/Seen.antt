@@ -1,7 +1,7 @@
 -- What a change function sees of all its pins.
 use Rattle.std.proofs.Common.{◌≡◌, ℕ, zero, suc, ◌+◌, ◌-◌, ◌<◌, min, Bool, true, ◌&&◌, cond, List, [], ◌∷◌, ◌++◌, length, map, take, get_or, refl, sym, ap, ◌∙◌, arith, Result}
 use Rattle.std.specs.Prelude.{IfOk}
-use Rattle.std.specs.List.{list_all, fold, All, AllZip, zip}
+use Rattle.std.specs.List.{list_all, fold, All, AllZip}
 use Rattle.std.proofs.lemmas.Result.{IfOk-weaker}
 use Rattle.std.proofs.lemmas.List.Elements.{All-head, All-tail}
 use Rattle.std.proofs.lemmas.List.Folds.{list_all-map}
@@ -26,11 +26,6 @@ use Rattle.gate_eval.proofs.Scanned.{map-next}
 
 -- ---- lists of slots
 
-slots_from-zip : {A B C : Type 0} (h : A → B → C) (n i : ℕ) (f : ℕ → A) (g : ℕ → B) →
-    map (λ (q : A × B). h q.0 q.1) (zip (slots_from n i f) (slots_from n i g)) ≡ slots_from n i (λ p. h (f p) (g p))
-slots_from-zip h zero i f g = refl
-slots_from-zip h (suc n) i f g = ap (λ l. h (f i) (g i) ∷ l) (slots_from-zip h n (i + 1) f g)
-
 slots_from-map : {A B : Type 0} (h : A → B) (n i : ℕ) (f : ℕ → A) → map h (slots_from n i f) ≡ slots_from n i (λ p. h (f p))
 slots_from-map h zero i f = refl
 slots_from-map h (suc n) i f = ap (λ l. h (f i) ∷ l) (slots_from-map h n (i + 1) f)
@@ -45,17 +40,12 @@ fold-push f b [] x = refl
 fold-push f b (y ∷ xs) x = fold-push f (f b y) xs x
 
 -- one pin more
-pub seen-next : {P : Type 0} (pins : List P) (i : ℕ) (pin : P) (wave : P → Wave Value) (d : Bounds) (n : ℕ) (seen cells next : List Value) →
-    i < length pins → pin ≡ get_or pins i pin → seen ≡ slots n (seen_at (map wave (take i pins)) d) → cells ≡ slots n (window (wave pin) d) →
-    next ≡ map (λ (q : Value × Value). join q.0 q.1) (zip seen cells) → next ≡ slots n (seen_at (map wave (take (i + 1) pins)) d)
-seen-next pins i pin wave d n seen cells next below is so_far here joins =
-    joins
-    ∙ (λ j. map (λ (q : Value × Value). join q.0 q.1) (zip (so_far j) (here j)))
-    ∙ slots_from-zip join n 0 (seen_at (map wave (take i pins)) d) (window (wave pin) d)
-    ∙ slots-same n (λ p. join (seen_at (map wave (take i pins)) d p) (window (wave pin) d p)) (seen_at (map wave (take (i + 1) pins)) d)
-    (λ p below'. sym (fold-push join S (map (λ w. window w d p) (map wave (take i pins))) (window (wave pin) d p))
-    ∙ ap (fold join S) (sym (map-append (λ w. window w d p) (map wave (take i pins)) (wave pin ∷ [])))
-    ∙ ap (λ l. fold join S (map (λ w. window w d p) l)) (map-next wave pins i pin (map wave (take i pins)) (wave pin) below is refl refl))
+pub seen-next : {P : Type 0} (pins : List P) (i : ℕ) (pin : P) (wave : P → Wave Value) (d : Bounds) (p : ℕ) → i < length pins → pin ≡ get_or pins i pin →
+    seen_at (map wave (take (i + 1) pins)) d p ≡ join (seen_at (map wave (take i pins)) d p) (window (wave pin) d p)
+seen-next pins i pin wave d p below is =
+    ap (λ l. fold join S (map (λ w. window w d p) l)) (sym (map-next wave pins i pin (map wave (take i pins)) (wave pin) below is refl refl))
+    ∙ ap (fold join S) (map-append (λ w. window w d p) (map wave (take i pins)) (wave pin ∷ []))
+    ∙ fold-push join S (map (λ w. window w d p) (map wave (take i pins))) (window (wave pin) d p)
 
 -- ---- tests of the joins
 

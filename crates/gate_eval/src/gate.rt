@@ -4,7 +4,8 @@ ghost use Rattle.std.specs.Prelude.{◌≡◌, ◌<◌, [], ◌∷◌, IfOk, Som
 ghost use Rattle.step_values.specs.declared.value.Value.TheVariants.{S};
 ghost use Rattle.step_values.specs.Cell.{values};
 ghost use Rattle.skew_algebra.specs.Wave.{moved, skewed};
-ghost use Rattle.gate_eval.specs.Meeting.{HaveOnePeriod};
+ghost use Rattle.gate_eval.specs.Meeting.{HaveOnePeriod, meeting};
+ghost use Rattle.gate_eval.specs.Gates.{passed_on};
 ghost use Rattle.gate_eval.specs.Hold.{hazard};
 ghost use Rattle.gate_eval.specs.Instance.{CountsFit, IsSound, MarkFits, gate_wave, held_wave, image_by, is_gate};
 
@@ -76,6 +77,35 @@ fn markable_gate<W: CyclicWave<Item = Value>, I: Image>(
     }
 }
 
+/// What a buffer makes of its only pin's wave: the same, late by its delay.
+fn passed<W: CyclicWave<Item = Value>>(
+    alloc: Global,
+    pins: &[PinWave<W>],
+    d: Delay,
+) -> Result<Skewed<W>, NoMemory>
+    requires { length pins.now ≡ 1 }
+    ensures { IfOk result (λ s. skewed (W.cells s.wave) s.skew ≡ moved values (meeting values passed_on (map (λ p. skewed (W.cells p.wave.wave) p.wave.skew) pins.now)) d) }
+{
+    pins[0].wave.moved(alloc, d)
+}
+
+/// What a buffer makes of its pins' waves.
+fn buffered<W: CyclicWave<Item = Value>>(
+    alloc: Global,
+    pins: &[PinWave<W>],
+    d: Delay,
+) -> Result<Skewed<W>, NoMemory>
+    requires some { 0 < length pins.now }
+    requires periods { HaveOnePeriod (map (λ p. skewed (W.cells p.wave.wave) p.wave.skew) pins.now) }
+    ensures { IfOk result (λ s. skewed (W.cells s.wave) s.skew ≡ moved values (meeting values passed_on (map (λ p. skewed (W.cells p.wave.wave) p.wave.skew) pins.now)) d) }
+{
+    if pins.len() == 1 {
+        passed(alloc, pins, d)
+    } else {
+        met(alloc, &PassedOn, pins, d)
+    }
+}
+
 /// What a gate or change function makes of these pins' waves.
 fn evaluated<W: CyclicWave<Item = Value>>(
     alloc: Global,
@@ -90,7 +120,7 @@ fn evaluated<W: CyclicWave<Item = Value>>(
     ensures { IfOk result (λ s. skewed (W.cells s.wave) s.skew ≡ gate_wave kind (map (λ p. skewed (W.cells p.wave.wave) p.wave.skew) pins.now) (position (λ p. p.hold) pins.now) d) }
 {
     match kind {
-        Kind::Buf => met(alloc, &PassedOn, pins, d),
+        Kind::Buf => buffered(alloc, pins, d),
         Kind::And => markable_gate(alloc, kind, &FromLeft { table: and2() }, pins, d),
         Kind::Or => markable_gate(alloc, kind, &FromLeft { table: or2() }, pins, d),
         Kind::Xor => met(alloc, &FromLeft { table: xor2() }, pins, d),

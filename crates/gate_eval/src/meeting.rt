@@ -1,9 +1,9 @@
 //! What an element makes of its pins' waves, slot by slot.
 
-ghost use Rattle.std.specs.Prelude.{◌≡◌, ◌-◌, ◌<◌, List, [], All, Option, map, length, IfOk, IfSome, OnOk};
+ghost use Rattle.std.specs.Prelude.{◌≡◌, ◌-◌, ◌<◌, List, [], All, Option, map, length, IfOk, IfSome, OnOk, true};
 ghost use Rattle.wave_core.specs.Slots.{IsPeriod, slots};
 ghost use Rattle.step_values.specs.declared.value.Value.{Value};
-ghost use Rattle.step_values.specs.Cell.{values};
+ghost use Rattle.step_values.specs.Cell.{same, values};
 ghost use Rattle.skew_algebra.specs.Wave.{skewed, cell_at, folded, moved};
 ghost use Rattle.skew_algebra.specs.Permits.{KeepsMoved};
 ghost use Rattle.gate_eval.specs.Meeting.{HaveOnePeriod, cells_in, folds_in, kept_skew as kept, meeting, movers, period_of};
@@ -13,7 +13,7 @@ use scald_base::{Delay, NoMemory};
 use skew_algebra::Skewed;
 use std::alloc::Global;
 use step_values::Value;
-use wave_core::CyclicWave;
+use wave_core::{Cell, CyclicWave};
 
 /// What a kind of element makes of one value for each of its pins.
 pub trait Image {
@@ -102,6 +102,57 @@ fn read_slot<W: CyclicWave<Item = Value>>(
     Ok(())
 }
 
+/// Whether the two are one cell.
+fn are_same<T: Cell>(v: T, w: T) -> bool
+    ensures { result ≡ T.kind.same v w }
+{
+    v == w
+}
+
+/// Whether a wave has this value in a slot.
+fn has_value<W: CyclicWave<Item = Value>>(wave: &W, slot: u16, value: Value) -> bool
+    requires { slot < length (W.cells wave.now) }
+    ensures { result ≡ same value (cell_at values (W.cells wave.now) slot) }
+{
+    are_same(value, wave.at(slot))
+}
+
+/// Whether these are the values that the waves have in a slot.
+fn stand_in<W: CyclicWave<Item = Value>>(found: &[Value], waves: &[W], slot: u16) -> bool
+    requires long { length found.now ≡ length waves.now }
+    requires slot { All (λ w. slot < length (W.cells w)) waves.now }
+    ensures { result ≡ true → found.now ≡ map (λ w. cell_at values (W.cells w) slot) waves.now }
+{
+    for (place, wave) in waves.iter().enumerate() {
+        if !has_value(wave, slot, found[place]) {
+            return false;
+        }
+    }
+    true
+}
+
+/// What an element makes of the waves in a slot, whose values are put in place of what was found
+/// before. Where nothing changed it is what was made before.
+fn made_in<W: CyclicWave<Item = Value>, I: Image>(
+    image: &I,
+    found: &mut Vec<Value>,
+    before: Value,
+    waves: &[W],
+    slot: u16,
+) -> Result<Value, NoMemory>
+    requires long { length found.old.items ≡ length waves.now }
+    requires slot { All (λ w. slot < length (W.cells w)) waves.now }
+    requires before { before ≡ I.value_of image.now found.old.items }
+    ensures found { OnOk result (found.new.items ≡ map (λ w. cell_at values (W.cells w) slot) waves.now) }
+    ensures made { IfOk result (λ v. v ≡ I.value_of image.now found.new.items) }
+{
+    if stand_in(found, waves, slot) {
+        return Ok(before);
+    }
+    read_slot(found, waves, slot)?;
+    Ok(image.value(found))
+}
+
 /// What an element makes of the waves in each slot of the period.
 fn imaged<W: CyclicWave<Item = Value>, I: Image>(
     alloc: Global,
@@ -115,9 +166,11 @@ fn imaged<W: CyclicWave<Item = Value>, I: Image>(
 {
     let mut cells = Vec::with_capacity(alloc, period as usize)?;
     let mut found = Vec::with_capacity(alloc, waves.len())?;
+    read_slot(&mut found, waves, 0)?;
+    let mut made = image.value(&found);
     for slot in 0..period {
-        read_slot(&mut found, waves, slot)?;
-        cells.push(image.value(&found))?;
+        made = made_in(image, &mut found, made, waves, slot)?;
+        cells.push(made)?;
     }
     W::from_slots(alloc, &cells)
 }

@@ -18,15 +18,34 @@ impl Cell for Value {
     /// The least value that permits what either permits; U where one of them is U.
     #[inline]
     fn join(self, other: Value) -> Value {
-        match (self, other) {
-            (Value::U, _) | (_, Value::U) => Value::U,
-            (Value::C, _) | (_, Value::C) => Value::C,
-            (Value::R, Value::F) | (Value::F, Value::R) => Value::C,
-            (Value::R, _) | (_, Value::R) => Value::R,
-            (Value::F, _) | (_, Value::F) => Value::F,
-            (Value::Zero, Value::Zero) => Value::Zero,
-            (Value::One, Value::One) => Value::One,
-            _ => Value::S,
+        match self {
+            Value::U => Value::U,
+            Value::C => match other {
+                Value::U => other,
+                _ => Value::C,
+            },
+            Value::R => match other {
+                Value::F | Value::C => Value::C,
+                Value::U => Value::U,
+                _ => Value::R,
+            },
+            Value::F => match other {
+                Value::R | Value::C => Value::C,
+                Value::U => Value::U,
+                _ => Value::F,
+            },
+            Value::S => match other {
+                Value::Zero | Value::One => Value::S,
+                _ => other,
+            },
+            Value::Zero => match other {
+                Value::One => Value::S,
+                _ => other,
+            },
+            Value::One => match other {
+                Value::Zero => Value::S,
+                _ => other,
+            },
         }
     }
 

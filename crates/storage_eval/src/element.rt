@@ -1,11 +1,11 @@
 //! What each kind of storage element makes of one value for each of its listening pins.
 
-ghost use Rattle.step_values.specs.Image.{reg_of};
-ghost use Rattle.step_values.specs.Table.{entry2, entry3, entry4};
+ghost use Rattle.step_values.specs.Image.{latch_rs_of, reg_of, reg_rs_of};
+ghost use Rattle.step_values.specs.Table.{entry2};
 ghost use Rattle.storage_eval.specs.Storage.{of_clock, of_four, of_three, of_two};
 
 use gate_eval::Image;
-use step_values::{Table, Value, look2, look3, look4, reg};
+use step_values::{Table, Value, latch_rs_value, look2, reg, reg_rs_value};
 
 /// A register, by its clock.
 #[derive(Drop)]
@@ -40,37 +40,32 @@ impl Image for OfTwo {
     }
 }
 
-/// An element of three listening pins, by the table of its values.
+/// A register with set and reset, by its clock, set and reset.
 #[derive(Drop)]
-pub struct OfThree {
-    /// The value for each three.
-    pub table: Table<343>,
-}
+pub struct RegisterRs;
 
-impl Image for OfThree {
-    ghost value_of = { λ element found. of_three (entry3 element.table.entries) found };
+impl Image for RegisterRs {
+    ghost value_of = { λ element found. of_three reg_rs_of found };
 
     fn value(&self, found: &[Value]) -> Value {
         match found {
-            [a, b, c] => look3(&self.table, *a, *b, *c),
+            [clock, set, reset] => reg_rs_value(*clock, *set, *reset),
             _ => Value::U,
         }
     }
 }
 
-/// An element of four listening pins, by the table of its values.
+/// A latch with set and reset, by its enable, its input, set and reset. Its table would have an entry
+/// for each of 2,401 choices, of which a wave shows few.
 #[derive(Drop)]
-pub struct OfFour {
-    /// The value for each four.
-    pub table: Table<2401>,
-}
+pub struct LatchRs;
 
-impl Image for OfFour {
-    ghost value_of = { λ element found. of_four (entry4 element.table.entries) found };
+impl Image for LatchRs {
+    ghost value_of = { λ element found. of_four latch_rs_of found };
 
     fn value(&self, found: &[Value]) -> Value {
         match found {
-            [a, b, c, d] => look4(&self.table, *a, *b, *c, *d),
+            [enable, input, set, reset] => latch_rs_value(*enable, *input, *set, *reset),
             _ => Value::U,
         }
     }

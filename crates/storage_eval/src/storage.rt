@@ -9,14 +9,14 @@ ghost use Rattle.storage_eval.specs.Storage.{is_storage, storage_value};
 ghost use Rattle.gate_eval.specs.Instance.{CountsFit, IsSound};
 ghost use Rattle.storage_eval.specs.Instance.{storage_wave};
 
-use crate::element::{OfFour, OfThree, OfTwo, Register};
+use crate::element::{LatchRs, OfTwo, Register, RegisterRs};
 use crate::pins::listening;
 use flat_circuit::Kind;
 use gate_eval::{Image, PinWave, PinWaves, met};
 use scald_base::{Delay, NoMemory};
 use skew_algebra::Skewed;
 use std::alloc::Global;
-use step_values::{Value, latch, latch_rs, reg_rs};
+use step_values::{Value, latch};
 use wave_core::CyclicWave;
 
 /// What an element makes of the waves at its listening pins, late by its delay, where `image` gives
@@ -56,8 +56,8 @@ pub fn eval_storage<W: CyclicWave<Item = Value>>(
     let pins = pins.as_slice();
     match kind {
         Kind::Reg => element_wave(alloc, kind, &Register, pins, d),
-        Kind::RegRs => element_wave(alloc, kind, &OfThree { table: reg_rs() }, pins, d),
+        Kind::RegRs => element_wave(alloc, kind, &RegisterRs, pins, d),
         Kind::Latch => element_wave(alloc, kind, &OfTwo { table: latch() }, pins, d),
-        _ => element_wave(alloc, kind, &OfFour { table: latch_rs() }, pins, d),
+        _ => element_wave(alloc, kind, &LatchRs, pins, d),
     }
 }

@@ -1,8 +1,8 @@
 -- Joins over ranges of slots.
-use Rattle.std.proofs.Common.{◌≡◌, ℕ, zero, suc, ◌+◌, ◌-◌, ◌<◌, ◌≤◌, List, length, get_or, refl, sym, ap, ◌∙◌, arith, add-one}
+use Rattle.std.proofs.Common.{◌≡◌, ℕ, zero, suc, ◌+◌, ◌-◌, ◌<◌, ◌≤◌, List, length, get_or, refl, sym, ap, ◌∙◌, arith}
 use Rattle.scald_base.specs.Clock.{back}
 use Rattle.wave_core.specs.Cell.{Cells, IsLawful}
-use Rattle.wave_core.specs.Slots.{slots, earlier, join_to, fold_at}
+use Rattle.wave_core.specs.Slots.{earlier, join_to, fold_at}
 use Rattle.wave_core.specs.Fold.{span, tail, tails}
 use Rattle.scald_base.proofs.Back.{back-later}
 use Rattle.wave_core.proofs.Slots.{get_or-slots, length-slots}

@@ -1,8 +1,12 @@
 -- How a fold is put together, block by block of back + 1 slots: the last cells of one block joined with the
 -- first cells of the next.
-use Rattle.std.specs.Prelude.{ℕ, ◌+◌, ◌-◌, List}
+use Rattle.std.specs.Prelude.{ℕ, ◌+◌, ◌*◌, ◌-◌, List, length}
 use Rattle.wave_core.specs.Cell.{Cells}
 use Rattle.wave_core.specs.Slots.{earlier, join_to, slots}
+
+-- the cells of two periods, each taken `back` slots before
+unfoldable pub line : {T : Type 0} → Cells T → List T → ℕ → List T
+line k cells back = slots (2 * length cells) (λ t. earlier k cells t back)
 
 -- the join of the cells of n + 1 slots from slot `from` on, each taken `back` slots before
 unfoldable pub span : {T : Type 0} → Cells T → List T → ℕ → ℕ → ℕ → T

@@ -1,5 +1,5 @@
 -- Lists with a cell for each slot of a period, read backwards in time over its beginning.
-use Rattle.std.specs.Prelude.{◌≡◌, ℕ, zero, suc, ◌+◌, ◌≤◌, List, [], ◌∷◌, length, slice_index_or}
+use Rattle.std.specs.Prelude.{ℕ, zero, suc, ◌+◌, ◌≤◌, List, [], ◌∷◌, length, slice_index_or}
 use Rattle.scald_base.specs.Clock.{back}
 use Rattle.wave_core.specs.Cell.{Cells}
 

@@ -1,31 +1,64 @@
-use Rattle.std.proofs.Common.{ℕ, length, map, take, arith, sym, ap, ◌∙◌}
+use Rattle.std.proofs.Common.{◌≡◌, ◌+◌, ℕ, length, map, take, get_or, arith, sym, ap, ◌∙◌, subst}
+use Rattle.std.proofs.lemmas.Result.{IfOk-weaker}
+use Rattle.std.proofs.lemmas.List.{take_more, take_all}
 use Rattle.wave_core.specs.Slots.{slots}
-use Rattle.wave_core.proofs.Slots.{length-slots}
 use Rattle.skew_algebra.specs.Wave.{skewed}
 use Rattle.gate_eval.specs.Meeting.{period_of}
-use Rattle.gate_eval.specs.Window.{window, seen_at}
-use Rattle.gate_eval.proofs.Gathered.{pin-long}
+use Rattle.gate_eval.specs.Window.{seen_at, found_at}
+use Rattle.gate_eval.proofs.Gathered.{period-any, slots-same}
 use Rattle.gate_eval.proofs.Seen.{seen-next}
+use Rattle.gate_eval.proofs.Gathering.{StandsFor, stands-first, stands-next}
 use Rattle.gate_eval.proofs.change.seen.Goals as goal
 
-pub joined-requires : goal.joined-requires
-joined-requires g c =
-    ap length c.loop-pin.invariant
-    ∙ length-slots (period_of (map (λ p. skewed (g.W.CyclicWave.cells p.wave.wave) p.wave.skew) c.args.pins.now))
-    (seen_at (map (λ p. skewed (g.W.CyclicWave.cells p.wave.wave) p.wave.skew) (take c.loop-pin.pin-index c.args.pins.now)) c.args.d)
-    ∙ sym (pin-long c.args.pins.now c.loop-pin.pin-index c.pin-item.result (λ p. skewed (g.W.CyclicWave.cells p.wave.wave) p.wave.skew)
-    (omega arith) c.pin-item.is c.requires.periods)
-    ∙ sym (length-slots (length (g.W.CyclicWave.cells c.pin-item.result.wave.wave)) (window (skewed (g.W.CyclicWave.cells c.pin-item.result.wave.wave) c.pin-item.result.wave.skew) c.args.d))
-    ∙ sym (ap length c.in_ok-window.ensures)
-
-pub loop-pin-preserved : goal.loop-pin-preserved
-loop-pin-preserved g c =
-    seen-next c.args.pins.now c.loop-pin.pin-index c.pin-item.result (λ p. skewed (g.W.CyclicWave.cells p.wave.wave) p.wave.skew) c.args.d
+pub loop-place-init : goal.loop-place-init
+loop-place-init g c =
+    subst (λ ps. StandsFor (map (λ p. skewed (g.W.CyclicWave.cells p.wave.wave) p.wave.skew) ps) c.args.d
     (period_of (map (λ p. skewed (g.W.CyclicWave.cells p.wave.wave) p.wave.skew) c.args.pins.now))
-    (g.W.CyclicWave.cells c.loop-pin.seen) (g.W.CyclicWave.cells c.in_ok-window.window) (g.W.CyclicWave.cells c.in_ok-seen-2.seen)
-    (omega arith) c.pin-item.is c.loop-pin.invariant
-    (c.in_ok-window.ensures
-    ∙ ap (λ (n : ℕ). slots n (window (skewed (g.W.CyclicWave.cells c.pin-item.result.wave.wave) c.pin-item.result.wave.skew) c.args.d))
-    (pin-long c.args.pins.now c.loop-pin.pin-index c.pin-item.result (λ p. skewed (g.W.CyclicWave.cells p.wave.wave) p.wave.skew)
-    (omega arith) c.pin-item.is c.requires.periods))
-    c.in_ok-seen-2.ensures
+    (g.W.CyclicWave.cells c.in_ok-gathered.gathered.seen) (skewed (g.W.CyclicWave.cells c.in_ok-gathered.gathered.last) c.in_ok-gathered.gathered.skew))
+    (sym (take_more c.args.pins.now 0 c.index-pins-0.result c.requires.some))
+    (stands-first (skewed (g.W.CyclicWave.cells (get_or c.args.pins.now 0 c.index-pins-0.result).wave.wave) (get_or c.args.pins.now 0 c.index-pins-0.result).wave.skew)
+    (skewed (g.W.CyclicWave.cells c.in_ok-gathered.gathered.last) c.in_ok-gathered.gathered.skew) c.args.d
+    (period_of (map (λ p. skewed (g.W.CyclicWave.cells p.wave.wave) p.wave.skew) c.args.pins.now))
+    (g.W.CyclicWave.cells c.in_ok-gathered.gathered.seen)
+    (period-any c.args.pins.now 0 c.index-pins-0.result (λ p. skewed (g.W.CyclicWave.cells p.wave.wave) p.wave.skew) c.requires.some c.requires.periods)
+    c.in_ok-gathered.ensures.short c.in_ok-gathered.ensures.seen c.in_ok-gathered.ensures.last)
+
+pub counted-requires-clause-one : goal.counted-requires-clause-one
+counted-requires-clause-one g c = c.loop-place.invariant.seen_long ∙ sym c.loop-place.invariant.last_long
+
+pub counted-requires-clause-pin : goal.counted-requires-clause-pin
+counted-requires-clause-pin g c =
+    c.loop-place.invariant.last_long
+    ∙ sym (period-any c.args.pins.now c.loop-place.place c.index-pins-place.result (λ p. skewed (g.W.CyclicWave.cells p.wave.wave) p.wave.skew)
+    (omega arith) c.requires.periods)
+
+pub loop-place-preserved : goal.loop-place-preserved
+loop-place-preserved g c =
+    stands-next (map (λ p. skewed (g.W.CyclicWave.cells p.wave.wave) p.wave.skew) (take c.loop-place.place c.args.pins.now))
+    (map (λ p. skewed (g.W.CyclicWave.cells p.wave.wave) p.wave.skew) (take (c.loop-place.place + 1) c.args.pins.now))
+    (skewed (g.W.CyclicWave.cells (get_or c.args.pins.now c.loop-place.place c.index-pins-place.result).wave.wave) (get_or c.args.pins.now c.loop-place.place c.index-pins-place.result).wave.skew) c.args.d
+    (period_of (map (λ p. skewed (g.W.CyclicWave.cells p.wave.wave) p.wave.skew) c.args.pins.now))
+    (g.W.CyclicWave.cells c.loop-place.gathered.seen) (g.W.CyclicWave.cells c.in_ok-gathered-2.gathered.seen)
+    (skewed (g.W.CyclicWave.cells c.loop-place.gathered.last) c.loop-place.gathered.skew)
+    (skewed (g.W.CyclicWave.cells c.in_ok-gathered-2.gathered.last) c.in_ok-gathered-2.gathered.skew)
+    (λ p. seen-next c.args.pins.now c.loop-place.place (get_or c.args.pins.now c.loop-place.place c.index-pins-place.result) (λ p. skewed (g.W.CyclicWave.cells p.wave.wave) p.wave.skew) c.args.d p
+    (omega arith) (ap (get_or c.args.pins.now c.loop-place.place) c.index-pins-place.is))
+    c.loop-place.invariant c.in_ok-gathered-2.ensures
+
+pub all-requires-clause-one : goal.all-requires-clause-one
+all-requires-clause-one g c = c.loop-place.invariant.seen_long ∙ sym c.loop-place.invariant.last_long
+
+pub returns : goal.returns
+returns g c =
+    let n = period_of (map (λ p. skewed (g.W.CyclicWave.cells p.wave.wave) p.wave.skew) c.args.pins.now) in
+    let seen = g.W.CyclicWave.cells c.loop-place.gathered.seen in
+    let last = skewed (g.W.CyclicWave.cells c.loop-place.gathered.last) c.loop-place.gathered.skew in
+    let every : take c.loop-place.place c.args.pins.now ≡ c.args.pins.now = take_all c.loop-place.place c.args.pins.now (omega arith) in
+    IfOk-weaker c.all.result
+    (λ w. g.W.CyclicWave.cells w ≡ slots (length seen) (found_at seen last c.args.d))
+    (λ w. g.W.CyclicWave.cells w ≡ slots n (seen_at (map (λ p. skewed (g.W.CyclicWave.cells p.wave.wave) p.wave.skew) c.args.pins.now) c.args.d))
+    (λ w e. e ∙ ap (λ (m : ℕ). slots m (found_at seen last c.args.d)) c.loop-place.invariant.seen_long
+    ∙ slots-same n (found_at seen last c.args.d) (seen_at (map (λ p. skewed (g.W.CyclicWave.cells p.wave.wave) p.wave.skew) c.args.pins.now) c.args.d)
+    (λ p below. c.loop-place.invariant.found p below
+    ∙ ap (λ ps. seen_at (map (λ p. skewed (g.W.CyclicWave.cells p.wave.wave) p.wave.skew) ps) c.args.d p) every))
+    c.all.ensures

@@ -17,11 +17,11 @@ pub returns-in-Buf : goal.returns-in-Buf
 returns-in-Buf g c =
     let image : List Value → Value = λ found. passed_on found in
     let same : image ≡ gate_value c.args.kind = (λ i found. passed_on found) ∙ ap gate_value (sym c.in-Buf.is) in
-    IfOk-weaker c.met.result
+    IfOk-weaker c.buffered.result
     (λ s. skewed (g.W.CyclicWave.cells s.wave) s.skew ≡ moved values (meeting values image (map (λ p. skewed (g.W.CyclicWave.cells p.wave.wave) p.wave.skew) c.args.pins.now)) c.args.d)
     (λ s. skewed (g.W.CyclicWave.cells s.wave) s.skew ≡ gate_wave c.args.kind (map (λ p. skewed (g.W.CyclicWave.cells p.wave.wave) p.wave.skew) c.args.pins.now) (position (λ p. p.hold) c.args.pins.now) c.args.d)
     (λ s e. e ∙ plain-is c.args.kind image (map (λ p. skewed (g.W.CyclicWave.cells p.wave.wave) p.wave.skew) c.args.pins.now) (position (λ p. p.hold) c.args.pins.now) c.args.d _ same (ap is_plain c.in-Buf.is) c.requires.mark)
-    c.met.ensures
+    c.buffered.ensures
 
 pub returns-in-And : goal.returns-in-And
 returns-in-And g c =
@@ -47,11 +47,11 @@ pub returns-in-Xor : goal.returns-in-Xor
 returns-in-Xor g c =
     let image : List Value → Value = λ found. from_left (entry2 c.xor2.result.entries) found in
     let same : image ≡ gate_value c.args.kind = (λ i found. from_left (λ v w. c.xor2.ensures v w i) found) ∙ ap gate_value (sym c.in-Xor.is) in
-    IfOk-weaker c.met-in-Xor.result
+    IfOk-weaker c.met.result
     (λ s. skewed (g.W.CyclicWave.cells s.wave) s.skew ≡ moved values (meeting values image (map (λ p. skewed (g.W.CyclicWave.cells p.wave.wave) p.wave.skew) c.args.pins.now)) c.args.d)
     (λ s. skewed (g.W.CyclicWave.cells s.wave) s.skew ≡ gate_wave c.args.kind (map (λ p. skewed (g.W.CyclicWave.cells p.wave.wave) p.wave.skew) c.args.pins.now) (position (λ p. p.hold) c.args.pins.now) c.args.d)
     (λ s e. e ∙ plain-is c.args.kind image (map (λ p. skewed (g.W.CyclicWave.cells p.wave.wave) p.wave.skew) c.args.pins.now) (position (λ p. p.hold) c.args.pins.now) c.args.d _ same (ap is_plain c.in-Xor.is) c.requires.mark)
-    c.met-in-Xor.ensures
+    c.met.ensures
 
 pub returns-in-Mux2 : goal.returns-in-Mux2
 returns-in-Mux2 g c =

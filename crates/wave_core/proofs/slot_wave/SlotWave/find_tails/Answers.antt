@@ -1,5 +1,4 @@
-use Rattle.std.proofs.Common.{◌≡◌, ◌+◌, ◌++◌, [], ◌∷◌, refl, rules, arith, sym, ap, ◌∙◌}
-use Rattle.wave_core.specs.Slots.{earlier, slots}
+use Rattle.std.proofs.Common.{◌≡◌, ◌+◌, ◌++◌, [], ◌∷◌, rules, arith, ◌∙◌}
 use Rattle.wave_core.specs.Fold.{tail, tails}
 use Rattle.wave_core.proofs.Fold.{tail-last, tail-first}
 use Rattle.wave_core.proofs.Slots.{slots-push}

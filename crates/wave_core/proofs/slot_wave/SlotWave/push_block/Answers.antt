@@ -1,5 +1,5 @@
 use Rattle.std.proofs.Common.{◌≡◌, ◌+◌, ◌-◌, ◌<◌, ◌≤◌, ◌++◌, [], ◌∷◌, length, min, rules, arith, sym, ap, ◌∙◌}
-use Rattle.wave_core.specs.Slots.{earlier, slots, fold_at}
+use Rattle.wave_core.specs.Slots.{slots, fold_at}
 use Rattle.wave_core.specs.Fold.{span, tails}
 use Rattle.wave_core.proofs.Fold.{first-of-block, other-of-block, ahead-next, span-one, length-tails}
 use Rattle.wave_core.proofs.Slots.{slots-push}

@@ -1,4 +1,4 @@
-use Rattle.std.proofs.Common.{◌≡◌, ◌+◌, ◌-◌, ◌<◌, ◌≤◌, length, min, rules, arith, sym, ap, ◌∙◌}
+use Rattle.std.proofs.Common.{◌≡◌, ◌+◌, length, min, arith, sym, ap, ◌∙◌}
 use Rattle.wave_core.specs.Slots.{slots, fold_at}
 use Rattle.wave_core.proofs.Slots.{length-slots}
 use Rattle.wave_core.proofs.slot_wave.SlotWaveCyclicWave.fold.Goals as goal

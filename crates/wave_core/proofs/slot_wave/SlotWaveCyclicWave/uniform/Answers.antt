@@ -1,5 +1,4 @@
-use Rattle.std.proofs.Common.{◌≡◌, length, refl, arith, rules, subst, sym, ap, ◌∙◌}
-use Rattle.wave_core.specs.Slots.{IsPeriod, slots}
+use Rattle.std.proofs.Common.{◌≡◌, length, refl, arith, rules, ap, ◌∙◌}
 use Rattle.wave_core.proofs.Slots.{length-slots, slots-push}
 use Rattle.wave_core.proofs.slot_wave.SlotWaveCyclicWave.uniform.Goals as goal
 
