@@ -1,5 +1,5 @@
 -- What a formal's name means, by numbers and by names.
-use Rattle.std.proofs.Common.{◌≡◌, ℕ, zero, suc, ℤ, Bool, true, false, cond, List, [], ◌∷◌, ◌++◌, map, Option, Some, None, Result, Ok, Err, refl, ap, sym, ◌∙◌, subst}
+use Rattle.std.proofs.Common.{◌≡◌, ℕ, zero, suc, ℤ, Bool, true, false, List, [], ◌∷◌, ◌++◌, map, Option, Some, None, Result, Ok, Err, refl, ap, sym, ◌∙◌, subst}
 use Rattle.std.specs.Option.{option_map}
 use Rattle.std.specs.List.{All, find, position, slice_get}
 use Rattle.std.specs.Prelude.{◌==◌, if◌then◌else◌}
@@ -23,7 +23,7 @@ use Rattle.macro_expander.specs.Outcome.{Judged, judging, or_refuse, collected}
 use Rattle.macro_expander.specs.Steps.{JudgedAt}
 use Rattle.macro_expander.specs.Terms.{Bound, bit_at_place, bit_numbered, outer_bit, outer_bits, formal_bits, if_unasserted, formal_term, formal_of, net_text, meant, named_bits, numbers_between}
 use Rattle.macro_expander.specs.Numbered.{bit_of, bound_of, scope_of, BitExists, BoundExists, ScopeExists, BitsAt, nets_in, names_in, state_of}
-use Rattle.macro_expander.proofs.Lists.{find-map}
+use Rattle.macro_expander.proofs.Lists.{find-map, found_is}
 use Rattle.macro_expander.proofs.Nets.{grows_refl}
 
 -- ---- judgements of bits that are seen otherwise
@@ -143,20 +143,12 @@ formal_of-map names formals name = by name.global
     by true = refl
     by false = find-map (λ f. bytes_eq f.base name.base) (bound_of names) formals
 
-found-step : (P : numbered_bound.Bound → Type 0) (b : Bool) (x f : numbered_bound.Bound) (o : Option numbered_bound.Bound) → P x → (o ≡ Some f → P f) → cond b (Some x) o ≡ Some f → P f
-found-step P true x f o h k q = let s : x ≡ f = cc in subst P s h
-found-step P false x f o h k q = k q
-
-found-is : (P : numbered_bound.Bound → Type 0) (test : numbered_bound.Bound → Bool) (fs : List numbered_bound.Bound) (f : numbered_bound.Bound) → All P fs → find test fs ≡ Some f → P f
-found-is P test [] f h e = absurd (cc)
-found-is P test (x ∷ xs) f h e = found-step P (test x) x f (find test xs) (All-head P x xs h) (found-is P test xs f (All-tail P x xs h)) e
-
 formal-is : (P : numbered_bound.Bound → Type 0) (formals : List numbered_bound.Bound) (name : SignalName) (f : numbered_bound.Bound) → All P formals → numbered_formal formals name ≡ Some f → P f
 formal-is P formals name f h e = by name.global e
   where
     by : (g : Bool) → (if g then None else find (λ x. bytes_eq x.base name.base) formals) ≡ Some f → P f
     by true q = absurd (cc)
-    by false q = found-is P (λ x. bytes_eq x.base name.base) formals f h q
+    by false q = found_is P (λ x. bytes_eq x.base name.base) formals f h q
 
 module _ (e : Expansion) (s : numbered_scope.Scope) (name : SignalName) (ends : Option (ℤ × ℤ)) (place : Place) where
   -- a formal's name

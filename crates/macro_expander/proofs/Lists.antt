@@ -1,7 +1,10 @@
 -- Lists whose items are seen otherwise.
-use Rattle.std.proofs.Common.{◌≡◌, ℕ, ◌+◌, Bool, true, false, cond, List, [], ◌∷◌, map, Some, refl, ap, ◌∙◌}
-use Rattle.std.specs.List.{find, fold, count_by, sum_by}
-use Rattle.std.specs.Option.{option_map}
+use Rattle.std.proofs.Common.{◌≡◌, ℕ, ◌+◌, Bool, true, false, cond, List, [], ◌∷◌, map, Option, Some, None, refl, ap, sym, subst, ◌∙◌}
+use Rattle.std.specs.Prelude.{IfSome}
+use Rattle.std.specs.List.{All, find, fold, count_by, sum_by}
+use Rattle.std.specs.Option.{option_map, option_copied}
+use Rattle.std.proofs.lemmas.List.Elements.{All-head, All-tail}
+use denote.Ref.{Bor}
 
 pub two : {A B C : Type 0} (f : A → B → C) {a a' : A} {b b' : B} → a ≡ a' → b ≡ b' → f a b ≡ f a' b'
 two f {a} {a'} {b} {b'} p q = ap (λ x. f x b) p ∙ ap (λ y. f a' y) q
@@ -23,3 +26,16 @@ find-map p f (x ∷ xs) = step (p (f x)) (find-map p f xs)
     step : (b : Bool) → find p (map f xs) ≡ option_map f (find (λ z. p (f z)) xs) → cond b (Some (f x)) (find p (map f xs)) ≡ option_map f (cond b (Some x) (find (λ z. p (f z)) xs))
     step true h = refl
     step false h = h
+
+-- what is found is one of the list
+found-step : {X : Type 0} (P : X → Type 0) (b : Bool) (x f : X) (o : Option X) → P x → (o ≡ Some f → P f) → cond b (Some x) o ≡ Some f → P f
+found-step P true x f o h k q = let s : x ≡ f = cc in subst P s h
+found-step P false x f o h k q = k q
+
+pub found_is : {X : Type 0} (P : X → Type 0) (test : X → Bool) (xs : List X) (f : X) → All P xs → find test xs ≡ Some f → P f
+found_is P test [] f h e = absurd (cc)
+found_is P test (x ∷ xs) f h e = found-step P (test x) x f (find test xs) (All-head P x xs h) (found_is P test xs f (All-tail P x xs h)) e
+
+pub found_has : {X : Type 0} (P : X → Type 0) (test : X → Bool) (xs : List X) (r : Option (Bor X)) → option_copied r ≡ find test xs → All P xs → IfSome r (λ b. P b.now)
+found_has P test xs None e h = tt
+found_has P test xs (Some b) e h = found_is P test xs b.now h (sym e)

@@ -1,21 +1,10 @@
 -- Where a number stands among numbers that follow one another.
-use Rattle.std.proofs.Common.{◌≡◌, ℕ, zero, suc, ◌+◌, ◌<◌, ◌≤◌, Bool, true, false, cond, not, nat_lt, ◌==◌, List, [], ◌∷◌, length, get_or, position, Option, Some, None, IfSome, option_copied, refl, ap, sym, ◌∙◌, subst, arith}
-use Rattle.std.specs.Prelude.{slice_get}
+use Rattle.std.proofs.Common.{◌≡◌, ℕ, zero, suc, ◌+◌, ◌<◌, ◌≤◌, Bool, true, false, cond, not, nat_lt, ◌==◌, List, [], ◌∷◌, length, get_or, position, Option, Some, None, refl, ap, sym, ◌∙◌, subst, arith}
 use Rattle.std.specs.Int.{abs_diff}
-use Rattle.std.specs.List.{All, position_or_len}
+use Rattle.std.specs.List.{position_or_len}
 use Rattle.std.proofs.lemmas.Bool.Decides.{nat_tests}
-use Rattle.std.proofs.lemmas.List.Elements.{All-get_or}
 use Rattle.std.proofs.lemmas.List.Quantifiers.{position-Some}
-use Rattle.std.proofs.lemmas.Option.{slice_get_within, get_or_from_slice_get}
 use Rattle.macro_expander.specs.Runs.{IsRun}
-use denote.Ref.{Bor}
-
--- what a look-up lends is one of the list
-pub got_has : {A : Type 0} (P : A → Type 0) (xs : List A) (k : ℕ) (r : Option (Bor A)) → option_copied r ≡ slice_get xs k → All P xs → IfSome r (λ b. P b.now)
-got_has P xs k None e h = tt
-got_has P xs k (Some b) e h =
-    let at : slice_get xs k ≡ Some b.now = sym e in
-    subst P (get_or_from_slice_get xs k b.now b.now at) (All-get_or P xs k b.now (slice_get_within xs k b.now at) h)
 
 -- ---- the place of a number
 

@@ -6,14 +6,14 @@ use Rattle.drawing_tree.specs.declared.drawing.MacroDef.{MacroDef}
 use Rattle.drawing_tree.specs.Tree.{Macro, macro_of}
 use Rattle.macro_expander.specs.declared.library.Library.{Library}
 use Rattle.macro_expander.specs.Fitting.{MacroFits}
-use Rattle.macro_expander.specs.Places.{LeadTo}
+use Rattle.macro_expander.specs.Places.{LeadWhereMany}
 
 abbrev pub macros_in : Library → List Macro
 macros_in l = map macro_of l.macros.now
 
--- each name leads to the first macro of that name
+-- each name leads to the first macro of that name, where there are many
 abbrev pub LeadToMacros : Library → Type 0
-LeadToMacros l = LeadTo (λ (m : MacroDef). m.name) l.places.entries l.macros.now l.macros.now
+LeadToMacros l = LeadWhereMany (λ (m : MacroDef). m.name) l.places.entries l.macros.now
 
 -- the library of these macros, in a drawing with a period of so many ticks
 pub record HoldsMacros (n : ℕ) (ms : List MacroDef) (l : Library) : Type 0 where

@@ -1,9 +1,10 @@
 -- Where items stand, by their names.
-use Rattle.std.specs.Prelude.{◌≡◌, ℕ, List}
+use Rattle.std.specs.Prelude.{◌≡◌, ℕ, ◌<◌, List, length}
 use Rattle.std.specs.List.{find}
 use Rattle.std.specs.Map.{lookup}
 use Rattle.std.specs.Str.{bytes_eq}
 use Rattle.std.specs.Global.{Vec}
+use Rattle.scald_expr.specs.declared.environment.Binding.{Binding}
 use Rattle.macro_expander.specs.declared.scope.Bound.{Bound}
 use Rattle.macro_expander.specs.Terms.{bit_at_place}
 
@@ -11,6 +12,18 @@ use Rattle.macro_expander.specs.Terms.{bit_at_place}
 abbrev pub base_of : Bound → List ℕ
 base_of f = f.base
 
+-- the name of a parameter that has a value
+abbrev pub binding_name : Binding → List ℕ
+binding_name b = b.name
+
+-- the most items that are gone through one by one
+abbrev pub few : ℕ
+few = 8
+
 -- Each name leads to its first item among those that are looked at.
 pub record LeadTo {X : Type 0} (name_of : X → List ℕ) (entries : List (Vec ℕ × ℕ)) (items seen : List X) : Type 0 where
   pub first : (name : List ℕ) → bit_at_place items (lookup (λ k. bytes_eq name k.items) entries) ≡ find (λ x. bytes_eq (name_of x) name) seen
+
+-- The same of all items, where they are many. Few are found without their places.
+pub record LeadWhereMany {X : Type 0} (name_of : X → List ℕ) (entries : List (Vec ℕ × ℕ)) (items : List X) : Type 0 where
+  pub many : few < length items → LeadTo name_of entries items items

@@ -5,12 +5,15 @@ ghost use Rattle.std.specs.List.{find, list_any};
 ghost use Rattle.drawing_tree.specs.Tree.{assignment_of, formal_of, macro_of, use_of};
 ghost use Rattle.macro_expander.specs.Primitives.{are_of};
 ghost use Rattle.macro_expander.specs.Macros.{value_given as spec_value_given, value_or_default as spec_value_or_default, parameter as spec_parameter, parameters_of, shape_of, shapes_of, has_parameter, fits_formals as spec_fits_formals, given_to as spec_given_to, inside_of as spec_inside_of};
+ghost use Rattle.macro_expander.specs.Places.{LeadWhereMany, binding_name};
 ghost use Rattle.macro_expander.specs.Steps.{JudgedAt};
 
-use crate::parameter::{comes_again, find_given, values_given};
+use crate::parameter::{comes_again, values_given};
+use crate::places::{named, places};
 use crate::primitive::marks;
 use crate::range::{at, numbers, refused, value, written_ends};
 use drawing_tree::{Assign, Assigns, Defaults, Formal, Formals, MacroDef, UseStmt};
+use indexmap::IndexMap;
 use scald_base::{Bytes, List, Place, RefusalKind, Stop};
 use scald_expr::{Binding, Env};
 use std::alloc::Global;
@@ -31,10 +34,12 @@ pub struct Inside {
     pub outs: List<Shape>,
 }
 
-fn value_given(given: &Env, name: &[u8]) -> Option<i64>
+/// The value that a use gives to a parameter, by the places of what it gives.
+fn value_given(given: &Env, places: &IndexMap<Vec<u8>, usize>, name: &[u8]) -> Option<i64>
+    requires { LeadWhereMany binding_name places.now.entries given.now }
     ensures { result ≡ spec_value_given given.now name.now }
 {
-    match find_given(given, name) {
+    match named(places, given.as_slice(), name) {
         Some(binding) => Some(binding.value),
         None => None,
     }
@@ -57,27 +62,44 @@ fn value_or_default(
     }
 }
 
-fn parameter(alloc: Global, given: &Env, param: &Assign, place: Place) -> Result<Binding, Stop>
+fn parameter(
+    alloc: Global,
+    given: &Env,
+    places: &IndexMap<Vec<u8>, usize>,
+    param: &Assign,
+    place: Place,
+) -> Result<Binding, Stop>
+    requires { LeadWhereMany binding_name places.now.entries given.now }
     ensures { JudgedAt place result (spec_parameter given.now (assignment_of param.now)) }
 {
-    let value = value_or_default(
-        alloc,
-        value_given(given, param.name.as_slice()),
-        param,
-        place,
-    )?;
+    let told = value_given(given, places, param.name.as_slice());
+    let value = value_or_default(alloc, told, param, place)?;
     let name = Bytes::of(alloc, param.name.as_slice())?;
     Ok(Binding { name, value })
+}
+
+fn parameters_by(
+    alloc: Global,
+    given: &Env,
+    places: &IndexMap<Vec<u8>, usize>,
+    params: &Defaults,
+    place: Place,
+) -> Result<Env, Stop>
+    requires { LeadWhereMany binding_name places.now.entries given.now }
+    ensures { JudgedAt place result (parameters_of given.now (map assignment_of params.now)) }
+{
+    let mut env = List::new(alloc);
+    for param in params.as_slice() {
+        env.push(parameter(alloc, given, places, param, place)?)?;
+    }
+    Ok(env)
 }
 
 fn parameters(alloc: Global, given: &Env, params: &Defaults, place: Place) -> Result<Env, Stop>
     ensures { JudgedAt place result (parameters_of given.now (map assignment_of params.now)) }
 {
-    let mut env = List::new(alloc);
-    for param in params.as_slice() {
-        env.push(parameter(alloc, given, param, place)?)?;
-    }
-    Ok(env)
+    let places = places(alloc, given.as_slice())?;
+    parameters_by(alloc, given, &places, params, place)
 }
 
 fn shaped(alloc: Global, env: &Env, formal: &Formal, place: Place) -> Result<Shape, Stop>

@@ -6,7 +6,7 @@ ghost use Rattle.drawing_tree.specs.Tree.{macro_of};
 ghost use Rattle.macro_expander.specs.Macros.{macro_of as first_called};
 ghost use Rattle.macro_expander.specs.Library.{LeadToMacros, HoldsMacros, macros_in};
 
-use crate::places::{Called, places};
+use crate::places::{Called, named, places};
 use drawing_tree::{MacroDef, MacroDefs};
 use indexmap::IndexMap;
 use scald_base::NoMemory;
@@ -17,7 +17,7 @@ use std::alloc::Global;
 pub struct Library<'a> {
     pub(crate) ticks: u16,
     pub(crate) macros: &'a MacroDefs,
-    /// The place of each name's first macro.
+    /// The place of each name's first macro, where there are many.
     pub(crate) places: IndexMap<Vec<u8>, usize>,
 }
 
@@ -51,9 +51,6 @@ impl<'a> Library<'a> {
         requires { LeadToMacros self.now }
         ensures { option_map macro_of (option_copied result) ≡ first_called name.now (macros_in self.now) }
     {
-        match self.places.get(name) {
-            Some(place) => self.macros.get(*place),
-            None => None,
-        }
+        named(&self.places, self.macros.as_slice(), name)
     }
 }

@@ -7,11 +7,20 @@ ghost use Rattle.drawing_tree.specs.Tree.{assignment_of};
 ghost use Rattle.macro_expander.specs.Primitives.{assigned as spec_assigned, values_given as spec_values_given, is_named, assigns, given_or_zero};
 ghost use Rattle.macro_expander.specs.Steps.{JudgedAt};
 
+use crate::places::Called;
 use crate::range::{at, value};
 use drawing_tree::{Assign, Assigns};
 use scald_base::{Bytes, List, Place, Stop};
 use scald_expr::{Binding, Env};
 use std::alloc::Global;
+
+impl Called for Binding {
+    ghost name = { λ b. b.name };
+
+    fn name(&self) -> &[u8] {
+        self.name.as_slice()
+    }
+}
 
 fn assigned(alloc: Global, param: &Assign, env: &Env, place: Place) -> Result<Binding, Stop>
     ensures { JudgedAt place result (spec_assigned env.now (assignment_of param.now)) }

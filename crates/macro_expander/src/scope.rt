@@ -9,7 +9,7 @@ ghost use Rattle.macro_expander.specs.Steps.{JudgedAt};
 ghost use Rattle.macro_expander.specs.Runs.{IsRun, HasRun};
 
 use crate::list::copied;
-use crate::places::{Called, places};
+use crate::places::{Called, named, places};
 use crate::range::{numbers, refused};
 use indexmap::IndexMap;
 use scald_base::{AssertSpec, Bytes, List, NoMemory, Place, RefusalKind, Stop};
@@ -46,14 +46,14 @@ impl Model for Formals {
     ghost use Rattle.std.specs.Prelude.{List};
     ghost use Rattle.macro_expander.specs.declared.scope.Bound.{Bound};
     ghost use Rattle.std.specs.List.{All};
-    ghost use Rattle.macro_expander.specs.Places.{LeadTo, base_of};
+    ghost use Rattle.macro_expander.specs.Places.{LeadWhereMany, base_of};
     ghost use Rattle.macro_expander.specs.Runs.{HasRun};
 
     ghost Value = { List Bound };
 
     ghost view = { λ f. f.items };
 
-    ghost invariant = { λ f. LeadTo base_of f.places.entries f.items f.items × All HasRun f.items };
+    ghost invariant = { λ f. LeadWhereMany base_of f.places.entries f.items × All HasRun f.items };
 }
 
 impl Formals {
@@ -81,10 +81,7 @@ impl Formals {
         ensures first { option_copied result ≡ find (λ f. bytes_eq f.base base.now) self.now }
         ensures run { IfSome result (λ f. HasRun f.now) }
     {
-        match self.places.get(base) {
-            Some(place) => self.items.get(*place),
-            None => None,
-        }
+        named(&self.places, self.items.as_slice(), base)
     }
 }
 

@@ -68,6 +68,34 @@ fn slashed(alloc: Global, base: &[u8]) -> Result<Bytes, NoMemory>
     Ok(text)
 }
 
+/// The bits of these numbers of a net's name.
+fn numbered_bits(
+    expansion: &mut Expansion,
+    alloc: Global,
+    path: &[u8],
+    name: &SignalName,
+    numbers: &[u16],
+    place: Place,
+) -> Result<Bits, Stop>
+    requires { Fits expansion.old.builder.header name.now.spec }
+    ensures { BitsAt expansion.old expansion.new result (spec_net_bits (net_text path.now name.now) name.now.spec place numbers.now (state_of expansion.old)) }
+{
+    let base = name.base.as_slice();
+    if !name.global {
+        return net_bits(expansion, alloc, path, base, &name.spec, place, numbers);
+    }
+    let base = slashed(alloc, base)?;
+    net_bits(
+        expansion,
+        alloc,
+        &[],
+        base.as_slice(),
+        &name.spec,
+        place,
+        numbers,
+    )
+}
+
 /// The bits of a net's name, a range with these ends standing behind it.
 fn fresh_bits(
     expansion: &mut Expansion,
@@ -80,28 +108,11 @@ fn fresh_bits(
     requires { Fits expansion.old.builder.header name.now.spec }
     ensures { BitsAt expansion.old expansion.new result (meant None (net_text path.now name.now) name.now.spec ends place (state_of expansion.old)) }
 {
-    let numbers = numbers(alloc, ends, place)?;
-    if name.global {
-        let base = slashed(alloc, name.base.as_slice())?;
-        return net_bits(
-            expansion,
-            alloc,
-            &[],
-            base.as_slice(),
-            &name.spec,
-            place,
-            numbers.as_slice(),
-        );
+    if ends.is_none() {
+        return numbered_bits(expansion, alloc, path, name, &[0], place);
     }
-    net_bits(
-        expansion,
-        alloc,
-        path,
-        name.base.as_slice(),
-        &name.spec,
-        place,
-        numbers.as_slice(),
-    )
+    let numbers = numbers(alloc, ends, place)?;
+    numbered_bits(expansion, alloc, path, name, numbers.as_slice(), place)
 }
 
 fn local_formal<'a>(scope: &'a Scope, name: &SignalName) -> Option<&'a Bound>

@@ -1,7 +1,7 @@
 use Rattle.std.proofs.Common.{◌≡◌, ◌+◌, ◌-◌, ◌<◌, ◌∙◌, length, drop, subst, sym, ℕ, List, arith}
 use Rattle.macro_expander.specs.Places.{LeadTo}
 use Rattle.macro_expander.proofs.Leading.{Place, leads_more}
-use Rattle.macro_expander.proofs.places.places.Goals as goal
+use Rattle.macro_expander.proofs.places.all_places.Goals as goal
 
 pub loop-place-preserved : goal.loop-place-preserved
 loop-place-preserved g c =

@@ -1,6 +1,6 @@
 use Rattle.std.proofs.Common.{◌≤◌, length, drop}
 use Rattle.macro_expander.specs.Places.{LeadTo}
-use Rattle.macro_expander.proofs.places.places.Given as goal
+use Rattle.macro_expander.proofs.places.all_places.Given as goal
 
 abbrev pub decreases-loop-place : goal.decreases-loop-place
 decreases-loop-place g l = l.place

@@ -2,7 +2,7 @@ use Rattle.std.proofs.Common.{map, drop}
 use Rattle.drawing_tree.specs.Tree.{term_of}
 use Rattle.macro_expander.specs.Terms.{term_bits, terms_bits}
 use Rattle.macro_expander.specs.Numbered.{Gathered, scope_of, names_in, state_of}
-use Rattle.macro_expander.proofs.connection.terms_bits.Given as goal
+use Rattle.macro_expander.proofs.connection.many_bits.Given as goal
 
 abbrev pub invariant-loop-term : goal.invariant-loop-term
 invariant-loop-term l =
