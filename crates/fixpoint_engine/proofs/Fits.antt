@@ -20,6 +20,7 @@ use Rattle.flat_circuit.specs.Circuit.{Circuit}
 use Rattle.flat_circuit.specs.Instances.{PinExists, TargetExists}
 use Rattle.gate_eval.proofs.Fitting.{Fits, AllFit}
 use Rattle.pin_waves.specs.Pin.{pin_wave as wave_behind}
+use Rattle.pin_waves.proofs.Pins.{length-pin}
 use Rattle.fixpoint_engine.specs.Value.{Waves, target_wave, target_wire, pin_wave, turned_wave}
 
 -- the nets' waves fit
@@ -48,9 +49,20 @@ behind-fits : (p : ℕ) (w : Wave Value) (wire : Bounds) (inverted : Bool) → 0
 behind-fits p w wire true some long = flipped-fits p true (moved values w wire) (moved-fits p w wire some long)
 behind-fits p w wire false some long = moved-fits p w wire some long
 
+-- each net's wave has the circuit's period
+abbrev pub AreLong : Circuit → Waves → Type 0
+AreLong c ws = (i : ℕ) → i < length c.nets → length (ws i).cells ≡ period c.header
+
+pub long-target : (c : Circuit) (ws : Waves) (t : Target) → AreLong c ws → TargetExists (length c.nets) t → length (target_wave c.header ws t).cells ≡ period c.header
+long-target c ws (OnNet i) long exists = long i exists
+long-target c ws (Constant one) long exists = length-slots (period c.header) (λ p. cond one One Zero)
+
+pub long-pin : (c : Circuit) (ws : Waves) (p : Pin) → AreLong c ws → PinExists (length c.nets) p → length (pin_wave c ws p).cells ≡ period c.header
+long-pin c ws p long exists =
+    length-pin (target_wave c.header ws p.target) (target_wire c.nets p.target) p.inverted ∙ long-target c ws p.target long exists
+
 pub length-target : (c : Circuit) (ws : Waves) (t : Target) → NetsFit c ws → TargetExists (length c.nets) t → length (target_wave c.header ws t).cells ≡ period c.header
-length-target c ws (OnNet i) fit exists = (fit i exists).long
-length-target c ws (Constant one) fit exists = length-slots (period c.header) (λ p. cond one One Zero)
+length-target c ws t fit exists = long-target c ws t (λ i below. (fit i below).long) exists
 
 pub pin-fits : (c : Circuit) (ws : Waves) (p : Pin) → 0 < period c.header → NetsFit c ws → PinExists (length c.nets) p → Fits values (period c.header) (pin_wave c ws p)
 pin-fits c ws p some fit exists =

@@ -1,6 +1,7 @@
 pub mod Same
 pub mod Hearing
 pub mod Fits
+pub mod ReadSlots
 pub mod Asked
 pub mod Made
 pub mod Drivers

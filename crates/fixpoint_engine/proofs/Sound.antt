@@ -36,7 +36,7 @@ use Rattle.fixpoint_engine.proofs.Made.{made-sound, made-long, instance-fits}
 
 -- ---- pins
 
-target-permits : (c : Circuit) (run : Run) (ws : Waves) (t : Target) (v : ℕ) → 0 < period c.header → TargetExists (length c.nets) t → PermitRun c run ws v →
+pub target-permits : (c : Circuit) (run : Run) (ws : Waves) (t : Target) (v : ℕ) → 0 < period c.header → TargetExists (length c.nets) t → PermitRun c run ws v →
     Permits values (target_wave c.header ws t) run.ticks (target_signal run t 0) v
 target-permits c run ws (OnNet i) v some exists permits =
     let same : net_signal run i ≡ (λ s. net_signal run i (s - 0)) = λ k s. net_signal run i (minus-zero s k) in
@@ -46,7 +46,7 @@ target-permits c run ws (OnNet i) v some exists permits =
     minus-zero s = omega arith
 target-permits c run ws (Constant one) v some exists permits = Permits-constant c.header one run.ticks v some
 
-shown : (run : Run) (t : Target) (w s : ℕ) → target_signal run t w s ≡ target_signal run t 0 (s - w)
+pub shown : (run : Run) (t : Target) (w s : ℕ) → target_signal run t w s ≡ target_signal run t 0 (s - w)
 shown run (OnNet i) w s = ap (net_signal run i) (omega arith)
 shown run (Constant one) w s = refl
 

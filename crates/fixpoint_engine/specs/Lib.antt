@@ -5,6 +5,7 @@ pub mod Work
 pub mod Reach
 pub mod Loops
 pub mod Interface
+pub mod Pins
 pub mod Settled
 pub mod End
 pub mod Worklist

@@ -14,7 +14,7 @@ use Rattle.flat_circuit.specs.declared.kind.Kind.TheVariants.{SetupHold, RiseFal
 use Rattle.flat_circuit.specs.declared.fault.PointKind.TheVariants.{Setup, High, Hold}
 use Rattle.flat_circuit.specs.declared.fault.Fault.{Fault}
 use Rattle.flat_circuit.specs.declared.fault.Fault.TheVariants.{Point, Assertion}
-use Rattle.point_check.specs.Folds.{read}
+use Rattle.fixpoint_engine.specs.Pins.{read}
 use Rattle.point_check.specs.Point.{high_window, checker_fault}
 use Rattle.point_check.specs.Assertion.{assertion_fault}
 

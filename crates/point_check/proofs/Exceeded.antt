@@ -15,10 +15,10 @@ use Rattle.skew_algebra.specs.Wave.{Wave, fold, folded, cell_at}
 use Rattle.pin_waves.specs.Interface.{wide_wave}
 use Rattle.flat_circuit.specs.declared.fault.Fault.TheVariants.{Assertion}
 use Rattle.gate_eval.proofs.Found.{first_some-at, first_some-nowhere}
+use Rattle.fixpoint_engine.specs.Pins.{read}
+use Rattle.fixpoint_engine.proofs.ReadSlots.{read-at, read-folded, length-folded}
 use Rattle.point_check.specs.Window.{Folds}
-use Rattle.point_check.specs.Folds.{read}
 use Rattle.point_check.specs.Assertion.{exceeds, first_excess, fault_in, assertion_fault}
-use Rattle.point_check.proofs.ReadSlots.{read-at, read-folded, length-folded}
 
 pub exceeds-read : (found wide : List Value) (s : ℕ) (v w : Value) → s < length found → s < length wide → slice_get found s ≡ Some v → slice_get wide s ≡ Some w →
     exceeds (read found s) (read wide s) ≡ exceeds v w

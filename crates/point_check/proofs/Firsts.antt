@@ -5,22 +5,6 @@ use Rattle.std.proofs.lemmas.Bool.{cases_eq}
 use Rattle.gate_eval.specs.Hold.{first_some}
 use Rattle.point_check.specs.Point.{last_to}
 
--- none from i on before j, and j
-pub first_some-from : {A : Type 0} (f : ℕ → Option A) (n i j : ℕ) (x : A) → ((k : ℕ) → i ≤ k → k < j → f k ≡ None) → i ≤ j → j < i + n → f j ≡ Some x →
-    first_some f n i ≡ Some x
-first_some-from f zero i j x before after within here = absurd (omega arith)
-first_some-from f (suc n) i j x before after within here = elim (cases_eq i j) [
-  | inl e ↦ ap (λ o. option_or o (first_some f n (i + 1))) (ap f e ∙ here)
-  | inr ne ↦ ap (λ o. option_or o (first_some f n (i + 1))) (before i (omega arith) (omega arith))
-      ∙ first_some-from f n (i + 1) j x (λ k above below. before k (omega arith) below) (omega arith) (omega arith) here
-]
-
-pub first_some-beyond : {A : Type 0} (f : ℕ → Option A) (n i : ℕ) → ((k : ℕ) → i ≤ k → k < i + n → f k ≡ None) → first_some f n i ≡ None
-first_some-beyond f zero i nowhere = refl
-first_some-beyond f (suc n) i nowhere =
-    ap (λ o. option_or o (first_some f n (i + 1))) (nowhere i (omega arith) (omega arith))
-    ∙ first_some-beyond f n (i + 1) (λ k above below. nowhere k (omega arith) (omega arith))
-
 -- what is found is found somewhere
 pub record IsFoundAt {A : Type 0} (f : ℕ → Option A) (n i : ℕ) (x : A) : Type 0 where
   pub at : ℕ

@@ -10,11 +10,11 @@ use Rattle.flat_circuit.specs.declared.fault.PointKind.{PointKind}
 use Rattle.flat_circuit.specs.declared.fault.PointKind.TheVariants.{Setup, High, Hold}
 use Rattle.flat_circuit.specs.declared.fault.Fault.{Fault}
 use Rattle.flat_circuit.specs.declared.fault.Fault.TheVariants.{Point}
-use Rattle.gate_eval.proofs.Found.{first_some-at, first_some-nowhere}
+use Rattle.gate_eval.proofs.Found.{first_some-at, first_some-from, first_some-beyond, first_some-nowhere}
 use Rattle.point_check.specs.declared.window.Window.{Window}
 use Rattle.point_check.specs.Window.{Folds, places, slot_at, kind_at, mover_at, first_mover, fault_at, window_fault}
 use Rattle.point_check.specs.Point.{first_low, last_fall, falls_somewhere, to_last_fall, all_round, high_window_to, high_window, window_of, edge_fault, first_fault}
-use Rattle.point_check.proofs.Firsts.{first_some-from, first_some-beyond, last_to-at, last_to-nowhere}
+use Rattle.point_check.proofs.Firsts.{last_to-at, last_to-nowhere}
 
 -- ---- one place of a window
 

@@ -23,10 +23,10 @@ use Rattle.gate_eval.specs.Hold.{hazard}
 use Rattle.gate_eval.specs.Instance.{wave_of_pin}
 use Rattle.fixpoint_engine.specs.Value.{Waves, pin_wave, pin_waves, marked_pin}
 use Rattle.fixpoint_engine.specs.Settled.{FitWaves, waves_of}
-use Rattle.point_check.specs.Folds.{read}
+use Rattle.fixpoint_engine.specs.Pins.{read}
+use Rattle.fixpoint_engine.proofs.ReadSlots.{read-folded, length-folded}
 use Rattle.point_check.specs.Point.{first_fault, checker_fault}
 use Rattle.point_check.specs.Assertion.{is_held}
-use Rattle.point_check.proofs.ReadSlots.{read-folded, length-folded}
 use Rattle.point_check.specs.Faults.{checks_points, hazard_at, mark_fault, fault_by_kind, fault_of, instance_fault, fault_if_held, fault_of_net, net_fault}
 
 range-next : (a n : ℕ) → range_with_len a (suc n) ≡ range_with_len a n ++ (a + n) ∷ []

@@ -1,5 +1,6 @@
 -- Where a net that is held has no fault, what its wave permits keeps its assertion.
-use Rattle.std.proofs.Common.{◌≡◌, ℕ, ◌-◌, ◌%◌, ◌<◌, ◌≤◌, Bool, true, false, not, ◌&&◌, ◌||◌, cond, length, refl, ap, ◌∙◌, arith, Some, None}
+use Rattle.std.proofs.Common.{◌≡◌, ℕ, ◌-◌, ◌%◌, ◌<◌, ◌≤◌, Bool, true, false, not, ◌&&◌, cond, length, refl, ap, ◌∙◌, arith, Some, None}
+use Rattle.std.proofs.lemmas.Bool.{or_parts}
 use Rattle.std.proofs.Math.Nat.{mod-lt}
 use Rattle.scald_base.specs.declared.assertion.AssertSpec.{AssertSpec}
 use Rattle.scald_base.specs.Time.{Header, period}
@@ -17,17 +18,9 @@ use Rattle.gate_eval.proofs.Fitting.{fold-mod}
 use Rattle.gate_eval.proofs.Held.{first_some-none, map-none}
 use Rattle.point_check.specs.Assertion.{exceeds, first_excess, fault_in, assertion_fault}
 
-pub or-left : (a b : Bool) → (a || b) ≡ false → a ≡ false
-or-left false b e = refl
-or-left true b e = cc
-
-pub or-right : (a b : Bool) → (a || b) ≡ false → b ≡ false
-or-right false b e = e
-or-right true b e = cc
-
 bit-none : (f : Bool → Bool) (b : Bool) → some_bit f ≡ false → f b ≡ false
-bit-none f false e = or-left (f false) (f true) e
-bit-none f true e = or-right (f false) (f true) e
+bit-none f false e = (or_parts (f false) (f true) e).0
+bit-none f true e = (or_parts (f false) (f true) e).1
 
 both-left : (a b : Bool) → (a && not b) ≡ false → a ≡ true → b ≡ true
 both-left true true e h = refl

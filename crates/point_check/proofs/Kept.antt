@@ -7,14 +7,10 @@ use Rattle.std.proofs.lemmas.List.Quantifiers.{position-Some}
 use Rattle.std.proofs.lemmas.Option.{slice_get_within}
 use Rattle.std.proofs.Math.Nat.{mod-lt}
 use Rattle.scald_base.specs.Time.{period}
-use Rattle.vector_names.specs.declared.bits.Target.{Target}
-use Rattle.vector_names.specs.declared.bits.Target.TheVariants.{Net as OnNet, Constant}
 use Rattle.step_values.specs.declared.value.Value.{Value}
-use Rattle.step_values.specs.declared.value.Value.TheVariants.{Zero, One}
 use Rattle.step_values.specs.Steps.{has}
 use Rattle.step_values.specs.Cell.{values}
 use Rattle.step_values.specs.Lawful.{values_lawful}
-use Rattle.wave_core.proofs.Slots.{length-slots}
 use Rattle.skew_algebra.specs.Wave.{fold}
 use Rattle.skew_algebra.specs.Permits.{Permits}
 use Rattle.skew_algebra.proofs.Moves.{fold-has}
@@ -25,41 +21,29 @@ use Rattle.flat_circuit.specs.declared.instance.Instance.{Instance}
 use Rattle.flat_circuit.specs.declared.net.Net.{Net}
 use Rattle.flat_circuit.specs.declared.fault.Fault.{Fault}
 use Rattle.flat_circuit.specs.Kind.{pin_counts}
-use Rattle.flat_circuit.specs.Instances.{InstanceFits, PinExists, TargetExists}
+use Rattle.flat_circuit.specs.Instances.{InstanceFits, PinExists}
 use Rattle.flat_circuit.specs.Circuit.{Circuit, IsCircuit}
 use Rattle.flat_circuit.specs.Run.{Run, Choice, net_signal}
-use Rattle.pin_waves.proofs.Pins.{length-pin}
 use Rattle.gate_eval.specs.Meeting.{period_of}
 use Rattle.gate_eval.specs.Instance.{wave_of_pin}
 use Rattle.gate_eval.specs.Hold.{hazard}
 use Rattle.gate_eval.proofs.Fitting.{fold-mod}
 use Rattle.gate_eval.proofs.Held.{map-none}
-use Rattle.fixpoint_engine.specs.Value.{Waves, target_wave, target_wire, pin_wave, pin_waves, marked_pin}
+use Rattle.fixpoint_engine.specs.Value.{Waves, pin_wave, pin_waves, marked_pin}
+use Rattle.fixpoint_engine.specs.Pins.{wire_to, pin_at, StepsFrom, PinsPermit, PinsPermitAt}
 use Rattle.fixpoint_engine.proofs.Drivers.{fits-of}
+use Rattle.fixpoint_engine.proofs.Fits.{AreLong, long-pin}
 use Rattle.point_check.specs.Point.{checker_fault}
 use Rattle.point_check.specs.Assertion.{is_held}
 use Rattle.point_check.specs.Faults.{hazard_at, mark_fault, fault_by_kind, fault_of, instance_fault, fault_if_held, fault_of_net, net_fault, point_faults, is_of_instance, is_of_net}
-use Rattle.point_check.specs.Break.{wire_to, pin_at, StepsFrom, BreaksSetupHold, BreaksRiseFall, BreaksMark, BreaksKind, BreaksInstance, BreaksNet}
-use Rattle.point_check.specs.Sound.{PinsPermit, PinsPermitAt, KeepsConstraints}
+use Rattle.point_check.specs.Break.{BreaksSetupHold, BreaksRiseFall, BreaksMark, BreaksKind, BreaksInstance, BreaksNet}
+use Rattle.point_check.specs.Sound.{KeepsConstraints}
 use Rattle.point_check.proofs.Near.{setup_hold-kept, rise_fall-kept}
 use Rattle.point_check.proofs.Marks.{mark-kept}
 use Rattle.point_check.proofs.Held.{assertion-kept}
 use Rattle.point_check.proofs.Whose.{no_instance_fault, no_net_fault}
 
 -- ---- the period of the waves at pins
-
--- each net's wave has the circuit's period
-abbrev pub AreLong : Circuit → Waves → Type 0
-AreLong c ws = (i : ℕ) → i < length c.nets → length (ws i).cells ≡ period c.header
-
-pub long-target : (c : Circuit) (ws : Waves) (t : Target) → AreLong c ws → TargetExists (length c.nets) t → length (target_wave c.header ws t).cells ≡ period c.header
-long-target c ws (OnNet i) long exists = long i exists
-long-target c ws (Constant true) long exists = length-slots (period c.header) (λ p. One)
-long-target c ws (Constant false) long exists = length-slots (period c.header) (λ p. Zero)
-
-pub long-pin : (c : Circuit) (ws : Waves) (p : Pin) → AreLong c ws → PinExists (length c.nets) p → length (pin_wave c ws p).cells ≡ period c.header
-long-pin c ws p long exists =
-    length-pin (target_wave c.header ws p.target) (target_wire c.nets p.target) p.inverted ∙ long-target c ws p.target long exists
 
 long-at : (c : Circuit) (ws : Waves) (ps : List Pin) (i : ℕ) → AreLong c ws → All (PinExists (length c.nets)) ps → i < length ps →
     length (wave_of_pin (map (pin_wave c ws) ps) i).cells ≡ period c.header

@@ -1,14 +1,12 @@
 -- Where waves permit the nets of a run from a tick on, those at pins permit the pins as much later as instances look back;
 -- so nothing is broken from there on by what has no fault.
-use Rattle.std.proofs.Common.{◌≡◌, ℕ, zero, suc, ◌+◌, ◌-◌, ◌<◌, ◌≤◌, max, false, List, [], ◌∷◌, length, map, refl, ap, subst, arith, All, slice_get, Some}
+use Rattle.std.proofs.Common.{◌≡◌, ℕ, zero, suc, ◌+◌, ◌-◌, ◌<◌, ◌≤◌, max, false, List, [], ◌∷◌, length, map, ap, arith, All, slice_get, Some}
 use Rattle.std.specs.Prelude.{slice_index_or}
 use Rattle.std.specs.List.{list_any}
 use Rattle.std.proofs.lemmas.List.Elements.{All-head, All-tail}
 use Rattle.std.proofs.lemmas.Option.{slice_get_within}
 use Rattle.scald_base.specs.Time.{period}
-use Rattle.scald_base.specs.Signal.{Signal, turned}
-use Rattle.vector_names.specs.declared.bits.Target.{Target}
-use Rattle.vector_names.specs.declared.bits.Target.TheVariants.{Net as OnNet, Constant}
+use Rattle.scald_base.specs.Signal.{turned}
 use Rattle.step_values.specs.Cell.{values}
 use Rattle.skew_algebra.specs.Permits.{Permits}
 use Rattle.skew_algebra.proofs.Moves.{Permits-after}
@@ -16,36 +14,23 @@ use Rattle.flat_circuit.specs.declared.instance.Pin.{Pin}
 use Rattle.flat_circuit.specs.declared.instance.Instance.{Instance}
 use Rattle.flat_circuit.specs.declared.net.Net.{Net}
 use Rattle.flat_circuit.specs.declared.fault.Fault.{Fault}
-use Rattle.flat_circuit.specs.Instances.{PinExists, TargetExists}
+use Rattle.flat_circuit.specs.Instances.{PinExists}
 use Rattle.flat_circuit.specs.Circuit.{Circuit, IsCircuit}
 use Rattle.flat_circuit.specs.Equation.{nth_signal}
 use Rattle.flat_circuit.specs.Run.{Run, IsRun, net_signal, target_signal, pin_signal, pin_signals, WireFits, WiresFit}
 use Rattle.pin_waves.proofs.Pins.{Permits-pin}
-use Rattle.pin_waves.proofs.CodeSlots.{Permits-constant}
 use Rattle.gate_eval.specs.Instance.{wave_of_pin}
 use Rattle.fixpoint_engine.specs.Value.{Waves, target_wave, target_wire, pin_wave}
 use Rattle.fixpoint_engine.specs.Reach.{greatest_wire, farthest, reach}
 use Rattle.fixpoint_engine.specs.Interface.{PermitRun}
+use Rattle.fixpoint_engine.specs.Pins.{PinsPermitAt}
 use Rattle.fixpoint_engine.proofs.Asked.{wire-within}
 use Rattle.fixpoint_engine.proofs.Drivers.{fits-of}
+use Rattle.fixpoint_engine.proofs.Sound.{target-permits, shown}
+use Rattle.fixpoint_engine.proofs.Fits.{AreLong, long-target}
 use Rattle.point_check.specs.Faults.{is_of_instance, is_of_net}
 use Rattle.point_check.specs.Break.{BreaksInstance, BreaksNet}
-use Rattle.point_check.specs.Sound.{PinsPermitAt, KeepsConstraints}
-use Rattle.point_check.proofs.Kept.{AreLong, long-target}
-
-target-permits : (c : Circuit) (run : Run) (ws : Waves) (t : Target) (v : ℕ) → 0 < period c.header → TargetExists (length c.nets) t → PermitRun c run ws v →
-    Permits values (target_wave c.header ws t) run.ticks (target_signal run t 0) v
-target-permits c run ws (OnNet i) v some exists permits =
-    let same : net_signal run i ≡ (λ s. net_signal run i (s - 0)) = λ k s. net_signal run i (minus-zero s k) in
-    subst (λ (x : Signal). Permits values (ws i) run.ticks x v) same (permits i exists)
-  where
-    minus-zero : (s : ℕ) → s ≡ s - 0
-    minus-zero s = omega arith
-target-permits c run ws (Constant one) v some exists permits = Permits-constant c.header one run.ticks v some
-
-shown : (run : Run) (t : Target) (w s : ℕ) → target_signal run t w s ≡ target_signal run t 0 (s - w)
-shown run (OnNet i) w s = ap (net_signal run i) (omega arith)
-shown run (Constant one) w s = refl
+use Rattle.point_check.specs.Sound.{KeepsConstraints}
 
 pin-permits : (c : Circuit) (run : Run) (ws : Waves) (p : Pin) (w v start : ℕ) → 0 < period c.header → AreLong c ws → PinExists (length c.nets) p → PermitRun c run ws v → 1 ≤ v →
     WireFits c.nets p.target w → v + (target_wire c.nets p.target).max ≤ start →

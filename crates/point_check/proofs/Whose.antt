@@ -3,6 +3,7 @@ use Rattle.std.proofs.Common.{◌≡◌, ℕ, zero, suc, ◌+◌, ◌<◌, Bool,
 use Rattle.std.specs.Prelude.{IfSome, filter_map, slice_get}
 use Rattle.std.specs.List.{Contains, list_any, cons_option, range_with_len}
 use Rattle.std.specs.Option.{option_or, option_map}
+use Rattle.std.proofs.lemmas.Bool.{or_parts}
 use Rattle.std.proofs.lemmas.List.Folds.{list_any-append}
 use Rattle.std.proofs.lemmas.List.FromFn.{length-range_with_len, get_or-range_with_len}
 use Rattle.std.proofs.lemmas.List.{length-map}
@@ -26,7 +27,6 @@ use Rattle.point_check.specs.Window.{Folds, first_mover, fault_at, window_fault}
 use Rattle.point_check.specs.Point.{window_of, edge_fault, checker_fault}
 use Rattle.point_check.specs.Assertion.{is_held, first_excess, fault_in, assertion_fault}
 use Rattle.point_check.specs.Faults.{hazard_at, mark_fault, fault_by_kind, fault_of, instance_fault, fault_if_held, fault_of_net, net_fault, point_faults, is_of_instance, is_of_net}
-use Rattle.point_check.proofs.Held.{or-left, or-right}
 
 -- ---- what holds of whatever is found
 
@@ -99,14 +99,14 @@ net-of c ws i = by (slice_get c.nets i)
 
 head-none : (test : Fault → Bool) (o : Option Fault) (rest : List Fault) → list_any test (cons_option o rest) ≡ false → IfSome o (λ f. test f ≡ true) → o ≡ None
 head-none test None rest none each = refl
-head-none test (Some f) rest none each = absurd (both (test f) each (or-left (test f) (list_any test rest) none))
+head-none test (Some f) rest none each = absurd (both (test f) each (or_parts (test f) (list_any test rest) none).0)
   where
     both : (b : Bool) → b ≡ true → b ≡ false → ⊥
     both b t f = cc
 
 tail-none : (test : Fault → Bool) (o : Option Fault) (rest : List Fault) → list_any test (cons_option o rest) ≡ false → list_any test rest ≡ false
 tail-none test None rest none = none
-tail-none test (Some f) rest none = or-right (test f) (list_any test rest) none
+tail-none test (Some f) rest none = (or_parts (test f) (list_any test rest) none).1
 
 none-at : (find : ℕ → Option Fault) (test : Fault → Bool) (xs : List ℕ) (place d x : ℕ) → place < length xs → get_or xs place d ≡ x → list_any test (filter_map find xs) ≡ false →
     IfSome (find x) (λ f. test f ≡ true) → find x ≡ None
@@ -120,10 +120,8 @@ none-at find test (y ∷ ys) (suc place) d x below is none each = none-at find t
 both-none : (c : Circuit) (ws : Waves) (test : Fault → Bool) → list_any test (point_faults c ws) ≡ false →
     (list_any test (filter_map (instance_fault c ws) (range_with_len 0 (length c.instances))) ≡ false) × (list_any test (filter_map (net_fault c ws) c.order) ≡ false)
 both-none c ws test none =
-    let e = sym (list_any-append test (filter_map (instance_fault c ws) (range_with_len 0 (length c.instances))) (filter_map (net_fault c ws) c.order)) ∙ none in (
-      or-left (list_any test (filter_map (instance_fault c ws) (range_with_len 0 (length c.instances)))) (list_any test (filter_map (net_fault c ws) c.order)) e,
-      or-right (list_any test (filter_map (instance_fault c ws) (range_with_len 0 (length c.instances)))) (list_any test (filter_map (net_fault c ws) c.order)) e,
-    )
+    or_parts (list_any test (filter_map (instance_fault c ws) (range_with_len 0 (length c.instances)))) (list_any test (filter_map (net_fault c ws) c.order))
+    (sym (list_any-append test (filter_map (instance_fault c ws) (range_with_len 0 (length c.instances))) (filter_map (net_fault c ws) c.order)) ∙ none)
 
 -- an instance of which there is no fault has none
 pub no_instance_fault : (c : Circuit) (ws : Waves) (k : ℕ) → k < length c.instances → list_any (is_of_instance k) (point_faults c ws) ≡ false → instance_fault c ws k ≡ None

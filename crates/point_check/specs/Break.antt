@@ -1,5 +1,5 @@
 -- Constraints of a run that are broken: at ticks of the run, with no period and no wave.
-use Rattle.std.specs.Prelude.{◌≡◌, ◌≢◌, ℕ, ◌+◌, ◌-◌, ◌%◌, ◌<◌, ◌≤◌, Bool, true, false, length, slice_get, slice_index_or, Some}
+use Rattle.std.specs.Prelude.{◌≡◌, ◌≢◌, ℕ, ◌+◌, ◌-◌, ◌%◌, ◌<◌, ◌≤◌, Bool, true, false, length, slice_get, Some}
 use Rattle.scald_base.specs.Time.{period}
 use Rattle.scald_base.specs.Signal.{Signal}
 use Rattle.step_values.specs.Steps.{has}
@@ -10,27 +10,14 @@ use Rattle.flat_circuit.specs.declared.kind.Kind.TheVariants.{And, Or, SetupHold
 use Rattle.flat_circuit.specs.declared.instance.Instance.{Instance}
 use Rattle.flat_circuit.specs.declared.net.Net.{Net}
 use Rattle.flat_circuit.specs.Circuit.{Circuit}
-use Rattle.flat_circuit.specs.Equation.{nth_signal}
-use Rattle.flat_circuit.specs.Run.{Run, Choice, net_signal, pin_signals}
+use Rattle.flat_circuit.specs.Run.{Run, Choice, net_signal}
 use Rattle.pin_waves.specs.Interface.{wide_wave}
 use Rattle.gate_eval.specs.Hold.{closed_bit}
 use Rattle.fixpoint_engine.specs.Value.{marked_pin}
+use Rattle.fixpoint_engine.specs.Pins.{pin_at, StepsFrom}
 use Rattle.point_check.specs.Assertion.{is_held}
 
--- ---- steps of pins
-
-abbrev pub wire_to : Choice → ℕ → ℕ
-wire_to choice i = slice_index_or choice.wires i 0
-
--- what pin i of an instance shows
-abbrev pub pin_at : Run → Instance → Choice → ℕ → Signal
-pin_at run j choice i = nth_signal (pin_signals run j.pins choice.wires) i
-
--- The step of pin i at tick t lies at a given tick or later, and in the run: its net has both bits, a wire's delay before.
-pub record StepsFrom (run : Run) (choice : Choice) (i start t : ℕ) : Type 0 where
-  pub after : start ≤ t
-  pub begins : wire_to choice i + 1 ≤ t
-  pub ends : t < run.ticks
+-- ---- steps of a signal
 
 abbrev pub Rises : Signal → ℕ → Type 0
 Rises x t = (x (t - 1) ≡ false) × (x t ≡ true)

@@ -16,8 +16,8 @@ use Rattle.flat_circuit.specs.Kind.{PinsFit}
 use Rattle.flat_circuit.specs.Instances.{InstanceFits, PinExists}
 use Rattle.flat_circuit.specs.Circuit.{Circuit}
 use Rattle.fixpoint_engine.specs.Value.{Waves, pin_wave}
-use Rattle.point_check.specs.Folds.{read}
-use Rattle.point_check.proofs.Kept.{AreLong, long-pin}
+use Rattle.fixpoint_engine.specs.Pins.{read}
+use Rattle.fixpoint_engine.proofs.Fits.{AreLong, long-pin}
 use Rattle.pulse_check.specs.Pulse.{first_narrow}
 use Rattle.pulse_check.specs.Faults.{fault_at, width_fault, checks_pulses, faults_by_kind, faults_of, instance_faults}
 

@@ -2,6 +2,7 @@
 use Rattle.std.proofs.Common.{◌≡◌, ℕ, zero, suc, ◌+◌, ◌<◌, Bool, true, false, ◌&&◌, eq-eqb, List, [], ◌∷◌, ◌++◌, length, get_or, refl, sym, ap, subst, ◌∙◌, arith, slice_get, Option, Some, None}
 use Rattle.std.specs.List.{list_any, flat_map, range_with_len}
 use Rattle.std.specs.Option.{option_map}
+use Rattle.std.proofs.lemmas.Bool.{or_parts}
 use Rattle.std.proofs.lemmas.List.Folds.{list_any-append}
 use Rattle.std.proofs.lemmas.List.FromFn.{length-range_with_len, get_or-range_with_len}
 use Rattle.scald_base.specs.Time.{period}
@@ -12,8 +13,7 @@ use Rattle.flat_circuit.specs.declared.instance.Instance.{Instance}
 use Rattle.flat_circuit.specs.declared.fault.Fault.{Fault}
 use Rattle.flat_circuit.specs.Circuit.{Circuit}
 use Rattle.fixpoint_engine.specs.Value.{Waves}
-use Rattle.point_check.specs.Folds.{read}
-use Rattle.point_check.proofs.Held.{or-left, or-right}
+use Rattle.fixpoint_engine.specs.Pins.{read}
 use Rattle.pulse_check.specs.Pulse.{first_narrow}
 use Rattle.pulse_check.specs.Break.{limit_of}
 use Rattle.pulse_check.specs.Faults.{fault_at, width_fault, limited_fault, listed, faults_by_kind, faults_of, instance_faults, width_faults}
@@ -32,7 +32,7 @@ clash b t f = cc
 -- a fault that is listed is not missing
 none-listed : (k : ℕ) (level : Bool) (o : Option (ℕ × ℕ)) → list_any (is_of_pulse k level) (listed (option_map (fault_at k level) o)) ≡ false → o ≡ None
 none-listed k level None none = refl
-none-listed k level (Some found) none = absurd (clash (is_of_pulse k level (fault_at k level found)) (is-own k level found) (or-left (is_of_pulse k level (fault_at k level found)) false none))
+none-listed k level (Some found) none = absurd (clash (is_of_pulse k level (fault_at k level found)) (is-own k level found) (or_parts (is_of_pulse k level (fault_at k level found)) false none).0)
 
 pub none-limited : (c : Circuit) (ws : Waves) (k : ℕ) (j : Instance) (level : Bool) (limit : ℕ) (wave : Wave Value) → list_any (is_of_pulse k level) (listed (width_fault (period c.header) k wave level limit)) ≡ false →
     first_narrow (period c.header) level (read wave.cells) limit ≡ None
@@ -42,7 +42,7 @@ none-limited c ws k j level limit wave none = none-listed k level (first_narrow 
 either : (test : Fault → Bool) (xs ys : List Fault) → list_any test (xs ++ ys) ≡ false → (list_any test xs ≡ false) × (list_any test ys ≡ false)
 either test xs ys none =
     let e = sym (list_any-append test xs ys) ∙ none in
-    (or-left (list_any test xs) (list_any test ys) e, or-right (list_any test xs) (list_any test ys) e)
+    or_parts (list_any test xs) (list_any test ys) e
 
 -- of both levels
 pub none-of-checker : (c : Circuit) (ws : Waves) (k : ℕ) (j : Instance) (level : Bool) → list_any (is_of_pulse k level) (faults_by_kind MinPulse c ws k j) ≡ false →

@@ -3,7 +3,7 @@ use Rattle.std.proofs.Common.{inl, inr, ◌⊎◌, ◌≡◌, ℕ, zero, suc, �
 use Rattle.std.specs.Option.{option_map}
 use Rattle.std.proofs.lemmas.Bool.{cases_lt}
 use Rattle.step_values.specs.declared.value.Value.{Value}
-use Rattle.point_check.proofs.Firsts.{first_some-from, first_some-beyond}
+use Rattle.gate_eval.proofs.Found.{first_some-from, first_some-beyond}
 use Rattle.pulse_check.specs.Pulse.{Slots, may_begin, may_end, may_last, lasts_for, may_be_wide, least_width, narrow_at, first_narrow}
 
 both-true : (a b : Bool) → a ≡ true → b ≡ true → (a && b) ≡ true

@@ -13,7 +13,7 @@ use Rattle.flat_circuit.specs.declared.fault.Fault.TheVariants.{Width}
 use Rattle.flat_circuit.specs.Circuit.{Circuit}
 use Rattle.gate_eval.specs.Instance.{wave_of_pin}
 use Rattle.fixpoint_engine.specs.Value.{Waves, pin_waves}
-use Rattle.point_check.specs.Folds.{read}
+use Rattle.fixpoint_engine.specs.Pins.{read}
 use Rattle.pulse_check.specs.Pulse.{first_narrow}
 
 abbrev pub fault_at : ℕ → Bool → ℕ × ℕ → Fault

@@ -6,7 +6,7 @@ use Rattle.flat_circuit.specs.declared.fault.Fault.TheVariants.{Point, Width, Ha
 use Rattle.flat_circuit.specs.Circuit.{Circuit}
 use Rattle.flat_circuit.specs.Run.{Run}
 use Rattle.fixpoint_engine.specs.Value.{Waves}
-use Rattle.point_check.specs.Sound.{PinsPermitAt}
+use Rattle.fixpoint_engine.specs.Pins.{PinsPermitAt}
 use Rattle.pulse_check.specs.Break.{BreaksPulse}
 
 abbrev pub same_level : Bool → Bool → Bool

@@ -1,5 +1,5 @@
 use Rattle.std.proofs.Common.{length, arith, sym, ◌∙◌, below_more}
-use Rattle.point_check.specs.Folds.{read}
+use Rattle.fixpoint_engine.specs.Pins.{read}
 use Rattle.point_check.proofs.Exceeded.{excess-here, excess-nowhere, exceeds-read}
 use Rattle.point_check.proofs.assertion.first_excess.Goals as goal
 

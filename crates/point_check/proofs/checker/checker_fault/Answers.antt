@@ -4,7 +4,7 @@ use Rattle.skew_algebra.specs.Wave.{Wave, skewed}
 use Rattle.scald_base.specs.Time.{period}
 use Rattle.fixpoint_engine.specs.Value.{pin_wave}
 use Rattle.fixpoint_engine.specs.Settled.{waves_of}
-use Rattle.point_check.proofs.Kept.{long-pin}
+use Rattle.fixpoint_engine.proofs.Fits.{long-pin}
 use Rattle.point_check.proofs.Gathered.{same-checker}
 use Rattle.point_check.proofs.checker.checker_fault.Goals as goal
 

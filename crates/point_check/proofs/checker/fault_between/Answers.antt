@@ -1,6 +1,6 @@
 use Rattle.std.proofs.Common.{◌∙◌, length, sym, arith}
 use Rattle.skew_algebra.specs.Wave.{skewed}
-use Rattle.point_check.proofs.ReadSlots.{length-folded}
+use Rattle.fixpoint_engine.proofs.ReadSlots.{length-folded}
 use Rattle.point_check.proofs.Steady.{still_input}
 use Rattle.point_check.proofs.Gathered.{checker-is}
 use Rattle.point_check.proofs.checker.fault_between.Goals as goal

@@ -1,8 +1,8 @@
 use Rattle.std.proofs.Common.{true, false, length, arith, sym, ap, refl, ◌∙◌, below_more}
 use Rattle.step_values.specs.declared.value.Value.{Value}
 use Rattle.step_values.specs.Steps.{has}
-use Rattle.point_check.specs.Folds.{read}
-use Rattle.point_check.proofs.ReadSlots.{read-at}
+use Rattle.fixpoint_engine.specs.Pins.{read}
+use Rattle.fixpoint_engine.proofs.ReadSlots.{read-at}
 use Rattle.point_check.proofs.Found.{falls-here, falls-nowhere}
 use Rattle.point_check.proofs.edges.falls_somewhere.Goals as goal
 

@@ -1,5 +1,5 @@
 use Rattle.std.proofs.Common.{length, arith, rules, below_more}
-use Rattle.point_check.specs.Folds.{read}
+use Rattle.fixpoint_engine.specs.Pins.{read}
 use Rattle.point_check.proofs.Found.{first_fault-here, first_fault-nowhere}
 use Rattle.point_check.proofs.edges.first_fault.Goals as goal
 

@@ -1,6 +1,6 @@
 use Rattle.std.proofs.Common.{◌+◌, ◌≤◌, length, arith, sym, ◌∙◌, below_more}
-use Rattle.point_check.specs.Folds.{read}
-use Rattle.point_check.proofs.ReadSlots.{read-mod}
+use Rattle.fixpoint_engine.specs.Pins.{read}
+use Rattle.fixpoint_engine.proofs.ReadSlots.{read-mod}
 use Rattle.point_check.proofs.Found.{stays_high, gets_low, first_low-here, first_low-nowhere}
 use Rattle.point_check.proofs.edges.first_low.Goals as goal
 

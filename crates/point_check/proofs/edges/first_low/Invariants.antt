@@ -1,6 +1,6 @@
 use Rattle.std.proofs.Common.{◌≡◌, ℕ, ◌+◌, ◌<◌, ◌≤◌, None, Some, true, cond}
 use Rattle.step_values.specs.Steps.{has}
-use Rattle.point_check.specs.Folds.{read}
+use Rattle.fixpoint_engine.specs.Pins.{read}
 use Rattle.point_check.proofs.edges.first_low.Given as goal
 
 abbrev pub invariant-loop-low : goal.invariant-loop-low

@@ -1,7 +1,7 @@
 use Rattle.std.proofs.Common.{length, arith, sym, ap, ◌∙◌, below_more, ℕ}
-use Rattle.point_check.specs.Folds.{read}
+use Rattle.fixpoint_engine.specs.Pins.{read}
+use Rattle.fixpoint_engine.proofs.ReadSlots.{read-at}
 use Rattle.point_check.specs.Window.{slot_at}
-use Rattle.point_check.proofs.ReadSlots.{read-at}
 use Rattle.point_check.proofs.Found.{no_mover, a_mover, first_mover-here, first_mover-nowhere}
 use Rattle.point_check.proofs.edges.first_mover.Goals as goal
 

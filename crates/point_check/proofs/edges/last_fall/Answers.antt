@@ -1,8 +1,8 @@
 use Rattle.std.proofs.Common.{◌≡◌, ℕ, ◌+◌, ◌-◌, true, false, arith, sym, ap, subst, ◌∙◌, below_more}
 use Rattle.step_values.specs.declared.value.Value.{Value}
 use Rattle.step_values.specs.Steps.{has}
-use Rattle.point_check.specs.Folds.{read}
-use Rattle.point_check.proofs.ReadSlots.{read-mod}
+use Rattle.fixpoint_engine.specs.Pins.{read}
+use Rattle.fixpoint_engine.proofs.ReadSlots.{read-mod}
 use Rattle.point_check.proofs.Found.{last_fall-here, last_fall-nowhere}
 use Rattle.point_check.proofs.edges.last_fall.Goals as goal
 

@@ -1,6 +1,6 @@
 use Rattle.std.proofs.Common.{◌≡◌, ℕ, ◌+◌, ◌-◌, ◌<◌, true, false}
 use Rattle.step_values.specs.Steps.{has}
-use Rattle.point_check.specs.Folds.{read}
+use Rattle.fixpoint_engine.specs.Pins.{read}
 use Rattle.point_check.proofs.edges.last_fall.Given as goal
 
 abbrev pub invariant-loop-sooner : goal.invariant-loop-sooner

@@ -1,8 +1,8 @@
 use Rattle.std.proofs.Common.{length, arith, ap, ◌∙◌, ℕ}
 use Rattle.flat_circuit.specs.declared.fault.Fault.TheVariants.{Point}
-use Rattle.point_check.specs.Folds.{read}
+use Rattle.fixpoint_engine.specs.Pins.{read}
+use Rattle.fixpoint_engine.proofs.ReadSlots.{read-at}
 use Rattle.point_check.specs.Window.{slot_at}
-use Rattle.point_check.proofs.ReadSlots.{read-at}
 use Rattle.point_check.proofs.Found.{no_window_fault, a_window_fault, same_fault}
 use Rattle.point_check.proofs.edges.window_fault.Goals as goal
 

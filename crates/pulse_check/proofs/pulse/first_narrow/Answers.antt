@@ -1,6 +1,6 @@
 use Rattle.std.proofs.Common.{length, arith, refl, sym, ap, ◌∙◌, below_more}
-use Rattle.point_check.specs.Folds.{read}
-use Rattle.point_check.proofs.ReadSlots.{read-at}
+use Rattle.fixpoint_engine.specs.Pins.{read}
+use Rattle.fixpoint_engine.proofs.ReadSlots.{read-at}
 use Rattle.pulse_check.specs.Pulse.{may_begin}
 use Rattle.pulse_check.proofs.Narrow.{narrow-here, narrow-not, narrow-wide, first-here, first-nowhere}
 use Rattle.pulse_check.proofs.pulse.first_narrow.Goals.{then-may_begin+in_default, else-may_begin}

@@ -1,6 +1,6 @@
 use Rattle.std.proofs.Common.{◌+◌, ◌≤◌, arith, sym, ap, ◌∙◌, below_more}
-use Rattle.point_check.specs.Folds.{read}
-use Rattle.point_check.proofs.ReadSlots.{read-mod}
+use Rattle.fixpoint_engine.specs.Pins.{read}
+use Rattle.fixpoint_engine.proofs.ReadSlots.{read-mod}
 use Rattle.pulse_check.specs.Pulse.{may_end, may_last}
 use Rattle.pulse_check.proofs.Narrow.{unended-on, ends-here, stops-here, never-ends}
 use Rattle.pulse_check.proofs.pulse.least_width.Goals as goal
