@@ -1,5 +1,6 @@
 -- The waves that a case begins with, and the runs that they permit.
 use Rattle.std.proofs.Common.{◌≡◌, ℕ, ◌+◌, ◌-◌, ◌*◌, ◌<◌, ◌≤◌, ◌==◌, ◌&&◌, Bool, true, false, cond, List, [], ◌∷◌, ◌++◌, length, map, take, set, get_or, refl, sym, ap, subst, ◌∙◌, arith, Option, Some, None}
+use Rattle.std.specs.Prelude.{Result, Ok, Err, MatchResult}
 use Rattle.std.proofs.lemmas.Bool.{eqb-true, eqb-false}
 use Rattle.std.proofs.lemmas.List.{get_or_past, get_or-set_same, get_or-set_other, length-set, length-map, map-set, take_more}
 use Rattle.std.proofs.lemmas.List.Elements.{All-head, All-tail}
@@ -23,7 +24,9 @@ use Rattle.fixpoint_engine.specs.Settled.{waves_of, FitWaves, KeepRuns}
 use Rattle.fixpoint_engine.specs.Interface.{PermitRun}
 use Rattle.fixpoint_engine.proofs.Listening.{same-tests}
 use Rattle.case_analysis.specs.Base.{PermitInputs}
-use Rattle.case_analysis.specs.Case.{value_after, value_of, NetsExist, IsInCase, IsCone, case_wave, case_start, case_active, PermitCase}
+use Rattle.fixpoint_engine.specs.declared.rounds.EngineEnd.{EngineEnd}
+use Rattle.fixpoint_engine.specs.declared.rounds.EngineEnd.TheVariants.{Unsettled, NoMemory}
+use Rattle.case_analysis.specs.Case.{HasCone, EndsInCone, value_after, value_of, NetsExist, IsInCase, IsCone, case_wave, case_start, case_active, PermitCase}
 use Rattle.case_analysis.proofs.Start.{length-unknown, Permits-unknown}
 use Rattle.case_analysis.proofs.Inputs.{as-same}
 
@@ -42,6 +45,12 @@ as-case c vs marks active base first P marked of from holds cone is =
     as-same active (case_active c cone) first (case_start c vs cone base) P
     (λ i. of i ∙ ap (λ b. b && is_driven c i) (one-cone c vs marks cone marked is i))
     (λ i. from i ∙ start-same c vs marks cone base (one-cone c vs marks cone marked is) i) holds
+
+-- rounds in a cone, whichever way they end
+pub in-cone : {X : Type 0} (c : Circuit) (vs : List CaseValue) (cone : ℕ → Bool) → IsCone c vs cone → (end : Result X EngineEnd) → MatchResult end (λ _. HasCone c vs) (EndsInCone c vs)
+in-cone c vs cone is (Ok x) = record { cone = cone; is = is }
+in-cone c vs cone is (Err NoMemory) = tt
+in-cone c vs cone is (Err (Unsettled net limit)) = record { cone = cone; is = is }
 
 -- ---- one value more
 

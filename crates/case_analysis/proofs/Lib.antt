@@ -4,3 +4,5 @@ pub mod Marked
 pub mod Coning
 pub mod Cases
 pub mod Far
+pub mod Entries
+pub mod Listing

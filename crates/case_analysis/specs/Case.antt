@@ -8,6 +8,8 @@ use Rattle.flat_circuit.specs.declared.case.CaseValue.{CaseValue}
 use Rattle.flat_circuit.specs.Circuit.{Circuit}
 use Rattle.flat_circuit.specs.Run.{Run, IsRun, net_signal}
 use Rattle.pin_waves.specs.Interface.{constant_wave}
+use Rattle.fixpoint_engine.specs.declared.rounds.EngineEnd.{EngineEnd}
+use Rattle.fixpoint_engine.specs.declared.rounds.EngineEnd.TheVariants.{Unsettled, NoMemory}
 use Rattle.fixpoint_engine.specs.Value.{Waves}
 use Rattle.fixpoint_engine.specs.Rounds.{round}
 use Rattle.fixpoint_engine.specs.Start.{unknown_wave, is_driven}
@@ -46,6 +48,16 @@ pub data InCone (c : Circuit) (values : List CaseValue) : ℕ → Type 0 where
 -- a set of nets is the cone of a case
 abbrev pub IsCone : Circuit → List CaseValue → (ℕ → Bool) → Type 0
 IsCone c values cone = (i : ℕ) → (cone i ≡ true) ↔ InCone c values i
+
+-- A case has a cone.
+pub record HasCone (c : Circuit) (values : List CaseValue) : Type 0 where
+  pub cone : ℕ → Bool
+  pub is : IsCone c values cone
+
+-- what ends the rounds of a case, but for want of memory, ends them in a cone
+abbrev pub EndsInCone : Circuit → List CaseValue → EngineEnd → Type 0
+EndsInCone c values NoMemory = Unit {0}
+EndsInCone c values (Unsettled net limit) = HasCone c values
 
 -- ---- its rounds
 

@@ -2,3 +2,4 @@ pub mod Base
 pub mod Tick
 pub mod Case
 pub mod Found
+pub mod Listed

@@ -8,7 +8,7 @@ ghost use Rattle.fixpoint_engine.specs.Loops.{HasNoLoop};
 ghost use Rattle.fixpoint_engine.specs.Settled.{FitWaves, marked_in, waves_of};
 ghost use Rattle.fixpoint_engine.specs.Work.{work_to};
 ghost use Rattle.case_analysis.specs.Base.{IsBase};
-ghost use Rattle.case_analysis.specs.Case.{IsCase, IsCone, NetsExist, PermitCase, case_active, case_round, case_start, case_wave};
+ghost use Rattle.case_analysis.specs.Case.{EndsInCone, HasCone, IsCase, IsCone, NetsExist, PermitCase, case_active, case_round, case_start, case_wave};
 
 use crate::base_rounds::unknown_wave;
 use crate::cones::cone;
@@ -123,6 +123,7 @@ pub fn case_waves<W: CyclicWave<Item = Value>>(
     ensures sound { IfOk result (λ s. PermitCase c.now case.now (base.now.rounds + s.rounds) (waves_of (map (λ w. skewed (W.cells w.wave) w.skew) s.waves))) }
     ensures unsettled { let before = waves_of (map (λ s. skewed (W.cells s.wave) s.skew) base.now.waves) in
         IfErr result (λ e. (cone : ℕ → Bool) → IsCone c.now case.now cone → EndsFor c.now.order (case_round c.now case.now cone before) limit e) }
+    ensures cone { MatchResult result (λ _. HasCone c.now case.now) (EndsInCone c.now case.now) }
     ensures loopless { HasNoLoop c.now → outputs c.now.instances ≤ limit → MatchResult result (λ s. s.rounds ≤ outputs c.now.instances) (λ e. e ≡ EngineEnd.NoMemory) }
 {
     c.known();

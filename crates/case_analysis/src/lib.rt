@@ -3,15 +3,21 @@
 //!
 //! The layer above calls [`base`] for the waves, and [`reach`] and [`tick`] for that tick. `specs/Base`
 //! says which runs the waves permit, and `specs/Tick` from which tick on checks may rest on them.
+//!
+//! [`check_cases`] gives the cases that a drawing lists, and [`case_waves`] the waves of one of them at
+//! rest, from those of the base. `specs/Listed` says which nets a case sets, and `specs/Case` what its
+//! cone and its rounds are.
 #![tactic(auto)]
 
 mod base_rounds;
+mod case_list;
 mod case_rounds;
 mod cones;
 mod parts;
 mod printed_tick;
 
 pub use base_rounds::{base, default_limit};
+pub use case_list::check_cases;
 pub use case_rounds::case_waves;
 pub use cones::cone;
 pub use printed_tick::{reach, tick};

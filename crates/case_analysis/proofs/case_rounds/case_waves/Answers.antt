@@ -12,7 +12,7 @@ use Rattle.fixpoint_engine.specs.Work.{work_to}
 use Rattle.fixpoint_engine.proofs.Rest.{rests-soon, rests-within}
 use Rattle.case_analysis.specs.Case.{IsCase, IsCone, PermitCase, case_active, case_round}
 use Rattle.case_analysis.proofs.Inputs.{base-permits}
-use Rattle.case_analysis.proofs.Cases.{as-case, case-fits, case-permitted}
+use Rattle.case_analysis.proofs.Cases.{in-cone, as-case, case-fits, case-permitted}
 use Rattle.case_analysis.proofs.case_rounds.case_waves.Goals as goal
 
 pub settle-requires-clause-waves : goal.settle-requires-clause-waves
@@ -79,3 +79,6 @@ returns-clause-loopless g c none within =
     (λ e. e ≡ NoMemory)
     (λ e ends. rests-within c.args.c.now (marked_in c.in_ok-active.active) (waves_of (map (λ s. skewed (g.W.CyclicWave.cells s.wave) s.skew) c.in_ok-start.start)) c.args.limit e c.known.ensures none within ends)
     c.settle.ensures.unsettled)
+
+pub returns-clause-cone : goal.returns-clause-cone
+returns-clause-cone g c = in-cone c.args.c.now c.args.case.now (marked_in c.in_ok-cone.cone) c.in_ok-cone.ensures.is c.settle.result

@@ -1,0 +1,212 @@
+-- The entries of a case one after the other, and the cases of a drawing.
+use Rattle.std.proofs.Common.{◌≡◌, ℕ, ◌+◌, ◌<◌, ◌≤◌, ◌==◌, ◌||◌, Bool, true, false, List, [], ◌∷◌, ◌++◌, length, map, set, replicate, refl, sym, ap, subst, ◌∙◌, arith, slice_get, Option, Some, None, cond}
+use Rattle.std.specs.Prelude.{Result, Ok, Err, IfOk, MatchResult}
+use Rattle.std.specs.List.{All}
+use Rattle.std.proofs.lemmas.Bool.{eqb-true, eqb-false}
+use Rattle.std.proofs.lemmas.Bool.Decides.{nat_tests}
+use Rattle.std.proofs.lemmas.List.{length-map, length-append, map_push, length-set}
+use Rattle.std.proofs.lemmas.List.Elements.{All-head, All-tail, All-cons, All-nil}
+use Rattle.scald_base.specs.declared.refusal.Refusal.{Refusal}
+use Rattle.scald_base.specs.declared.refusal.RefusalKind.TheVariants.{CaseNet, TooMany}
+use Rattle.scald_base.specs.declared.refusal.Stop.{Stop}
+use Rattle.scald_base.specs.declared.refusal.Stop.TheVariants.{Refused, NoMemory}
+use Rattle.flat_circuit.specs.declared.case.CaseValue.{CaseValue}
+use Rattle.flat_circuit.specs.Name.{Name, name_at}
+use Rattle.flat_circuit.specs.Builder.{same_name}
+use Rattle.flat_circuit.specs.Circuit.{Circuit, IsCircuit, net_name, net_names}
+use Rattle.flat_circuit.proofs.Tables.{same_name-is, same_name-refl}
+use Rattle.fixpoint_engine.specs.Settled.{marked_in}
+use Rattle.fixpoint_engine.proofs.Waiting.{unmarked, marked-set}
+use Rattle.drawing_tree.specs.declared.drawing.CaseEntry.{CaseEntry}
+use Rattle.drawing_tree.specs.declared.drawing.CaseStmt.{CaseStmt}
+use Rattle.drawing_tree.specs.Tree.{Drawing}
+use Rattle.macro_expander.specs.Named.{State}
+use Rattle.macro_expander.specs.Cases.{CaseBit, entry_bit, is_set as is_named, may_set, case_bits, cases_behind, most_cases, unless_many, cases_of}
+use Rattle.macro_expander.specs.Stands.{Stands}
+use Rattle.case_analysis.specs.Case.{NetsExist, is_set}
+use Rattle.case_analysis.proofs.Entries.{none-past}
+use Rattle.case_analysis.specs.Listed.{is_free, bit_of, bits_of, AreOnce, none, one_more, IsListed, AreNamed, IsJudged, MaySet, IsCaseOf, IsCaseStop, AreCases, AreCasesOf, AreCasesStop, AreNoCases}
+
+-- ---- values behind others
+
+set-push : (vs : List CaseValue) (v : CaseValue) (i : ℕ) → is_set (vs ++ v ∷ []) i ≡ (is_set vs i || (v.net == i))
+set-push [] v i = turned (v.net == i)
+  where
+    turned : (b : Bool) → (b || false) ≡ b
+    turned true = refl
+    turned false = refl
+set-push (w ∷ vs) v i = ap (λ b. (w.net == i) || b) (set-push vs v i) ∙ turned (w.net == i) (is_set vs i) (v.net == i)
+  where
+    turned : (a b c : Bool) → (a || (b || c)) ≡ ((a || b) || c)
+    turned true b c = refl
+    turned false b c = refl
+
+eq-turned : (a b : ℕ) → (a == b) ≡ false → (b == a) ≡ false
+eq-turned a b h = grind (arith, nat_tests)
+
+once-push : (vs : List CaseValue) (v : CaseValue) → AreOnce vs → is_set vs v.net ≡ false → AreOnce (vs ++ v ∷ [])
+once-push [] v once free = one_more refl none
+once-push (w ∷ vs) v (one_more first others) free =
+    let apart : (w.net == v.net) ≡ false = left (w.net == v.net) (is_set vs v.net) free in
+    let later : is_set vs v.net ≡ false = right (w.net == v.net) (is_set vs v.net) free in
+    one_more (set-push vs v w.net ∙ (λ k. first k || eq-turned w.net v.net apart k)) (once-push vs v others later)
+  where
+    left : (a b : Bool) → (a || b) ≡ false → a ≡ false
+    left true b h = h
+    left false b h = refl
+
+    right : (a b : Bool) → (a || b) ≡ false → b ≡ false
+    right true b h = cc
+    right false b h = h
+
+all-push : {X : Type 0} (P : X → Type 0) (xs : List X) (x : X) → All P xs → P x → All P (xs ++ x ∷ [])
+all-push P [] x all p = All-cons P x [] p (All-nil P)
+all-push P (y ∷ xs) x all p = All-cons P y (xs ++ x ∷ []) (All-head P y xs all) (all-push P xs x (All-tail P y xs all) p)
+
+-- ---- nets that were named before
+
+module _ (c : Circuit) (known : IsCircuit c) where
+  abbrev names : List Name
+  names = net_names c.nets
+
+  seen-set : (vs : List CaseValue) (i : ℕ) → NetsExist c vs → i < length c.nets → is_named (bits_of c.nets vs) (name_at names i) ≡ is_set vs i
+  seen-set [] i exist below = refl
+  seen-set (v ∷ vs) i exist below =
+      let here : v.net < length c.nets = All-head (λ (x : CaseValue). x.net < length c.nets) v vs exist in
+      (λ k. one v.net i here below k || seen-set vs i (All-tail (λ (x : CaseValue). x.net < length c.nets) v vs exist) below k)
+    where
+      one : (a b : ℕ) → a < length c.nets → b < length c.nets → same_name (name_at names b) (name_at names a) ≡ (a == b)
+      one a b p q = by (a == b) refl (same_name (name_at names b) (name_at names a)) refl
+        where
+          by : (x : Bool) → (a == b) ≡ x → (y : Bool) → same_name (name_at names b) (name_at names a) ≡ y → y ≡ x
+          by true e true f = refl
+          by false e false f = refl
+          by true e false f =
+              let is : same_name (name_at names b) (name_at names a) ≡ true = subst (λ (k : ℕ). same_name (name_at names b) (name_at names k) ≡ true) (sym (eqb-true a b e)) (same_name-refl (name_at names b)) in
+              let clash : false ≡ true = sym f ∙ is in cc
+          by false e true f =
+              let long = length-map c.nets net_name in
+              let same : a ≡ b = known.distinct a b (omega (arith, long, p)) (omega (arith, long, q)) (same_name-is (name_at names b) (name_at names a) f) in
+              absurd (eqb-false a b e same)
+
+-- Of the entries of a case, the rest is still to be looked at.
+pub record Going (c : Circuit) (entries rest : List CaseEntry) (marks : List Bool) (case : List CaseValue) : Type 0 where
+  pub each_net : length marks ≡ length c.nets
+  pub listed : IsListed c case
+  pub marks_are : (i : ℕ) → marked_in marks i ≡ is_set case i
+  pub left : (s : State) → Stands s c → case_bits s [] entries ≡ case_bits s (bits_of c.nets case) rest
+
+pub going-start : (c : Circuit) (entries rest : List CaseEntry) (marks : List Bool) (n : ℕ) → n ≡ length c.nets → marks ≡ replicate n false → length marks ≡ n → rest ≡ entries → Going c entries rest marks []
+going-start c entries rest marks n count is long whole = record {
+  each_net = long ∙ count;
+  listed = record { exist = All-nil (λ (v : CaseValue). v.net < length c.nets); free = All-nil (λ (v : CaseValue). is_free (slice_get c.nets v.net) ≡ true); once = none };
+  marks_are = λ i. ap (λ (ms : List Bool). marked_in ms i) is ∙ unmarked n i;
+  left = λ s stands. ap (case_bits s []) (sym whole);
+}
+
+pub named-so : (c : Circuit) (entries rest : List CaseEntry) (marks : List Bool) (case : List CaseValue) → IsCircuit c → Going c entries rest marks case → AreNamed c marks (bits_of c.nets case)
+named-so c entries rest marks case known going = record {
+  each_net = going.each_net;
+  are = λ i below. going.marks_are i ∙ sym (seen-set c known case i going.listed.exist below);
+}
+
+module _ (c : Circuit) (known : IsCircuit c) (entries rest later : List CaseEntry) (marks : List Bool) (case : List CaseValue) (e : CaseEntry) (next : rest ≡ e ∷ later) (going : Going c entries rest marks case) where
+  value-below : (v : CaseValue) → MaySet c marks e v → v.net < length c.nets
+  value-below v may = let long = length-map c.nets net_name in let below = may.number.below in omega (arith, long, below)
+
+  pub going-more : (after : List Bool) (v : CaseValue) → IsJudged c marks e true → MaySet c marks e v → after ≡ set marks v.net true → Going c entries later after (case ++ v ∷ [])
+  going-more after v judged may is = record {
+    each_net = ap length is ∙ length-set marks v.net true ∙ going.each_net;
+    listed = record {
+      exist = all-push (λ (x : CaseValue). x.net < length c.nets) case v going.listed.exist (value-below v may);
+      free = all-push (λ (x : CaseValue). is_free (slice_get c.nets x.net) ≡ true) case v going.listed.free may.free;
+      once = once-push case v going.listed.once (sym (going.marks_are v.net) ∙ may.first);
+    };
+    marks_are = λ i.
+        let long = going.each_net in let below = value-below v may in
+        ap (λ (ms : List Bool). marked_in ms i) is ∙ marked-set marks v.net i true (omega (arith, long, below)) ∙ ap (λ b. cond (v.net == i) true b) (going.marks_are i) ∙ turned (v.net == i) (is_set case i) ∙ sym (set-push case v i);
+    left = λ s stands.
+        let may_be : may_set s (bits_of c.nets case) e ≡ true = judged s (bits_of c.nets case) stands (named-so c entries rest marks case known going) in
+        going.left s stands ∙ ap (case_bits s (bits_of c.nets case)) next ∙ taken s may_be ∙ ap (λ (bs : List CaseBit). case_bits s bs later) (bits s);
+  }
+    where
+      turned : (a b : Bool) → cond a true b ≡ (b || a)
+      turned true true = refl
+      turned true false = refl
+      turned false true = refl
+      turned false false = refl
+
+      taken : (s : State) → may_set s (bits_of c.nets case) e ≡ true → case_bits s (bits_of c.nets case) (e ∷ later) ≡ case_bits s (bits_of c.nets case ++ entry_bit e ∷ []) later
+      taken s h = rw h refl
+
+      bit : entry_bit e ≡ bit_of c.nets v
+      bit = (λ k. record { name = sym may.number.is k; one = sym may.one k })
+
+      bits : State → (bits_of c.nets case ++ entry_bit e ∷ []) ≡ bits_of c.nets (case ++ v ∷ [])
+      bits s = ap (λ (b : CaseBit). bits_of c.nets case ++ b ∷ []) bit ∙ sym (map_push (bit_of c.nets) case v)
+
+  pub going-wrong : IsJudged c marks e false → (s : State) → Stands s c → case_bits s [] entries ≡ Err (record { kind = CaseNet; place = e.place })
+  going-wrong judged s stands =
+      let may_not : may_set s (bits_of c.nets case) e ≡ false = judged s (bits_of c.nets case) stands (named-so c entries rest marks case known going) in
+      going.left s stands ∙ ap (case_bits s (bits_of c.nets case)) next ∙ refused may_not
+    where
+      refused : may_set s (bits_of c.nets case) e ≡ false → case_bits s (bits_of c.nets case) (e ∷ later) ≡ Err (record { kind = CaseNet; place = e.place })
+      refused h = rw h refl
+
+pub going-end : (c : Circuit) (entries rest : List CaseEntry) (marks : List Bool) (case : List CaseValue) → rest ≡ [] → Going c entries rest marks case → IsCaseOf c entries case
+going-end c entries rest marks case done going = λ s stands. going.left s stands ∙ ap (case_bits s (bits_of c.nets case)) done
+
+-- ---- cases
+
+-- Of the cases of a drawing, the rest is still to be looked at.
+pub record Passing (c : Circuit) (written rest : List CaseStmt) (cases : List (List CaseValue)) : Type 0 where
+  pub each : length cases + length rest ≡ length written
+  pub listed : All (IsListed c) cases
+  pub left : (s : State) → Stands s c → cases_behind s [] written ≡ cases_behind s (map (bits_of c.nets) cases) rest
+
+pub passing-start : (c : Circuit) (written : List CaseStmt) → Passing c written written []
+passing-start c written = record { each = omega arith; listed = All-nil (IsListed c); left = λ s stands. refl }
+
+module _ (c : Circuit) (written rest later : List CaseStmt) (cases : List (List CaseValue)) (w : CaseStmt) (next : rest ≡ w ∷ later) (passing : Passing c written rest cases) where
+  pub passing-more : (case : List CaseValue) → IsCaseOf c w.entries case → IsListed c case → Passing c written later (cases ++ case ∷ [])
+  passing-more case is listed = record {
+    each = let before = passing.each in omega (arith, length-append cases (case ∷ []), ap length next, before);
+    listed = all-push (IsListed c) cases case passing.listed listed;
+    left = λ s stands. passing.left s stands ∙ ap (cases_behind s (map (bits_of c.nets) cases)) next ∙ taken s (is s stands) ∙ ap (λ (bs : List (List CaseBit)). cases_behind s bs later) (sym (map_push (bits_of c.nets) cases case));
+  }
+    where
+      taken : (s : State) → case_bits s [] w.entries ≡ Ok (bits_of c.nets case) → cases_behind s (map (bits_of c.nets) cases) (w ∷ later) ≡ cases_behind s (map (bits_of c.nets) cases ++ bits_of c.nets case ∷ []) later
+      taken s h = rw h refl
+
+  pub passing-wrong : (stop : Stop) → IsCaseStop c w.entries stop → AreNoCases c written stop
+  passing-wrong NoMemory is = tt
+  passing-wrong (Refused r) is = λ s stands. passing.left s stands ∙ ap (cases_behind s (map (bits_of c.nets) cases)) next ∙ refused r s (is s stands)
+    where
+      refused : (r : Refusal) (s : State) → case_bits s [] w.entries ≡ Err r → cases_behind s (map (bits_of c.nets) cases) (w ∷ later) ≡ Err r
+      refused r s h = rw h refl
+
+pub passing-end : (c : Circuit) (written rest : List CaseStmt) (cases : List (List CaseValue)) → rest ≡ [] → Passing c written rest cases → AreCases c written cases
+passing-end c written rest cases done passing s stands = passing.left s stands ∙ ap (cases_behind s (map (bits_of c.nets) cases)) done
+
+module _ (c : Circuit) (d : Drawing) where
+  pub too-many : (w : CaseStmt) → slice_get d.cases most_cases ≡ Some w → AreCasesStop c d (Refused (record { kind = TooMany; place = w.place }))
+  unfolding cases_of
+  too-many w at s stands = ap (λ (o : Option CaseStmt). unless_many o (cases_behind s [] d.cases)) at
+
+  pub first-wrong : (stop : Stop) → slice_get d.cases most_cases ≡ None → AreNoCases c d.cases stop → AreCasesStop c d stop
+  unfolding cases_of
+  first-wrong NoMemory few wrong = tt
+  first-wrong (Refused r) few wrong = λ s stands. ap (λ (o : Option CaseStmt). unless_many o (cases_behind s [] d.cases)) few ∙ wrong s stands
+
+  pub all-listed : (cases : List (List CaseValue)) → slice_get d.cases most_cases ≡ None → AreCases c d.cases cases → AreCasesOf c d cases
+  unfolding cases_of
+  all-listed cases few are s stands = ap (λ (o : Option CaseStmt). unless_many o (cases_behind s [] d.cases)) few ∙ are s stands
+
+  pub whole-answer : (answer : Result (List (List CaseValue)) Stop) → slice_get d.cases most_cases ≡ None → MatchResult answer (AreCases c d.cases) (AreNoCases c d.cases) → MatchResult answer (AreCasesOf c d) (AreCasesStop c d)
+  whole-answer (Ok cases) few is = all-listed cases few is
+  whole-answer (Err stop) few is = first-wrong stop few is
+
+-- no more than the most cases
+pub few-listed : (written : List CaseStmt) (answer : Result (List (List CaseValue)) Stop) → slice_get written most_cases ≡ None → IfOk answer (λ cases. length cases ≡ length written) → IfOk answer (λ cases. length cases ≤ 256)
+few-listed written (Ok cases) few each = let most = none-past written most_cases few in omega (arith, each, most)
+few-listed written (Err stop) few each = tt
