@@ -26,7 +26,7 @@ use Rattle.listing.specs.Wave.{wave_line}
 use Rattle.listing.specs.Fault.{fault_line}
 use Rattle.listing.specs.Case.{case_line, case_lines}
 use Rattle.listing.specs.End.{last_line}
-use Rattle.listing.specs.Answer.{refusal_line, unsettled_line}
+use Rattle.listing.specs.Answer.{refusal_line, unsettled_line, summary_line}
 
 abbrev header : Header
 header = record { units = 8; ticks = 50; wire = record { min = 0; max = 0 }; pskew = (0, 0); cskew = (0, 0) }
@@ -156,3 +156,8 @@ chain = circuit (map (λ bit. net (codes "X") bit Unasserted (Some 0)) (range_wi
 pub unsettled : unsettled_line chain 18 1657 ≡ codes "UNSETTLED X<17> ROUND 1657\n"
 unfolding digits unsettled_line
 unsettled = refl
+
+-- two nets, a buffer and a checker
+pub summary : summary_line pulsed 3 2 189 4 ≡ codes "BENCH 3 NETS 2 INSTANCES 1 CHECKS 1 ROUNDS 2 T 189 FAULTS 4\n"
+unfolding digits summary_line
+summary = refl

@@ -1,9 +1,10 @@
 //! The lines that stand in place of a report.
 
 ghost use Rattle.std.specs.Prelude.{◌≡◌, ◌++◌, ◌<◌, length, OnErr, OnOk};
-ghost use Rattle.listing.specs.Answer.{refusal_line, unsettled_line};
+ghost use Rattle.listing.specs.Answer.{refusal_line, summary_line, unsettled_line};
 ghost use Rattle.listing.specs.Text.{HasPart};
 
+use crate::count::counts_of;
 use crate::names::{net_at, net_piece};
 use crate::piece::{Piece, add_line};
 use flat_circuit::Circuit;
@@ -47,6 +48,44 @@ pub fn write_unsettled(c: &Circuit, net: u32, round: u32, out: &mut Bytes) -> Re
             net_piece(c, net_at(c, net)),
             Piece::Text(b" ROUND "),
             Piece::Number(u64::from(round)),
+        ],
+    )
+}
+
+/// Puts the line of the numbers of a report at the end of `out`, for a circuit of so many sections: its
+/// bits of nets, of instances with an output and of checkers, the rounds of its base, the tick from which
+/// on its waves hold, and how many faults it has. Where memory runs out, a part of the line may stand
+/// there.
+#[tactic(auto, unfolding(crate::specs::Answer::summary_line))]
+pub fn write_summary(
+    c: &Circuit,
+    sections: u16,
+    base: u32,
+    tick: u64,
+    faults: u32,
+    out: &mut Bytes,
+) -> Result<(), NoMemory>
+    ensures ok { OnOk result (out.new ≡ out.old ++ summary_line c.now sections base tick faults) }
+    ensures err { OnErr result (HasPart out.old out.new (summary_line c.now sections base tick faults)) }
+{
+    let counts = counts_of(c);
+    add_line(
+        out,
+        &[
+            Piece::Text(b"BENCH "),
+            Piece::Number(u64::from(sections)),
+            Piece::Text(b" NETS "),
+            Piece::Number(u64::from(counts.nets)),
+            Piece::Text(b" INSTANCES "),
+            Piece::Number(u64::from(counts.outputs)),
+            Piece::Text(b" CHECKS "),
+            Piece::Number(u64::from(counts.checkers)),
+            Piece::Text(b" ROUNDS "),
+            Piece::Number(u64::from(base)),
+            Piece::Text(b" T "),
+            Piece::Number(tick),
+            Piece::Text(b" FAULTS "),
+            Piece::Number(u64::from(faults)),
         ],
     )
 }

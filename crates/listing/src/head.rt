@@ -1,35 +1,14 @@
 //! The head of the report.
 
-ghost use Rattle.std.specs.Prelude.{◌≡◌, ◌<◌, ◌++◌, length, slice_get, OnErr, OnOk};
-ghost use Rattle.flat_circuit.specs.declared.instance.Instance.{Instance};
-ghost use Rattle.flat_circuit.specs.Kind.{has_output};
-ghost use Rattle.flat_circuit.specs.Instances.{outputs};
+ghost use Rattle.std.specs.Prelude.{◌≡◌, ◌++◌, slice_get, OnErr, OnOk};
 ghost use Rattle.listing.specs.Head.{counts_line, head, is_taken_stable, period_line, stable_line, stable_lines};
 ghost use Rattle.listing.specs.Text.{HasPart};
 
+use crate::count::counts_of;
 use crate::names::{net_at, net_piece};
 use crate::piece::{Piece, add_line};
 use flat_circuit::Circuit;
 use scald_base::{AssertSpec, Bytes, NoMemory};
-
-/// Whether an instance has an output.
-fn has_output(c: &Circuit, instance: u32) -> bool
-    requires { instance < length c.now.instances }
-    ensures { (j : Instance) → slice_get c.now.instances instance ≡ Some j → result ≡ has_output j.kind }
-{
-    c.instance(instance).unwrap().kind.has_output()
-}
-
-/// How many instances have an output.
-fn output_count(c: &Circuit) -> u32
-    ensures { result ≡ outputs c.now.instances }
-{
-    let mut count = 0;
-    for k in 0..c.instance_count() {
-        count += u32::from(has_output(c, k));
-    }
-    count
-}
 
 /// The line with the period, in ticks.
 #[tactic(auto, unfolding(crate::specs::Head::period_line))]
@@ -52,16 +31,16 @@ fn add_counts(out: &mut Bytes, c: &Circuit) -> Result<(), NoMemory>
     ensures ok { OnOk result (out.new ≡ out.old ++ counts_line c.now) }
     ensures err { OnErr result (HasPart out.old out.new (counts_line c.now)) }
 {
-    let outputs = output_count(c);
+    let counts = counts_of(c);
     add_line(
         out,
         &[
             Piece::Text(b"NETS "),
-            Piece::Number(u64::from(c.net_count())),
+            Piece::Number(u64::from(counts.nets)),
             Piece::Text(b" INSTANCES "),
-            Piece::Number(u64::from(outputs)),
+            Piece::Number(u64::from(counts.outputs)),
             Piece::Text(b" CHECKS "),
-            Piece::Number(u64::from(c.instance_count() - outputs)),
+            Piece::Number(u64::from(counts.checkers)),
         ],
     )
 }

@@ -1,6 +1,6 @@
 //! The report on a circuit, line by line: its head, the lines of each case with waves and faults as
 //! the mode asks, and the last line; and the one line that stands in place of a report where a text is
-//! refused or rounds do not come to rest.
+//! refused, rounds do not come to rest, or the numbers of a report are asked for alone.
 //!
 //! The layer above composes a report of [`begin_report`], [`write_case`] for each case, and
 //! [`end_report`]. Each call puts exactly its lines behind the bytes that it is given. `specs/Head`,
@@ -9,6 +9,7 @@
 #![tactic(auto)]
 
 // pieces of lines
+mod count;
 mod names;
 mod piece;
 
@@ -23,7 +24,7 @@ mod wave;
 // in place of a report
 mod answer;
 
-pub use answer::{write_refusal, write_unsettled};
+pub use answer::{write_refusal, write_summary, write_unsettled};
 pub use case::{Mode, write_case};
 pub use end::end_report;
 pub use head::begin_report;

@@ -5,7 +5,9 @@ ghost use Rattle.wave_core.specs.Slots.{IsPeriod};
 ghost use Rattle.skew_algebra.specs.Wave.{skewed};
 ghost use Rattle.fixpoint_engine.specs.Settled.{FitWaves};
 
-use crate::{Mode, begin_report, end_report, write_case, write_refusal, write_unsettled};
+use crate::{
+    Mode, begin_report, end_report, write_case, write_refusal, write_summary, write_unsettled,
+};
 use fixpoint_engine::{Settled, Waves};
 use flat_circuit::{Builder, Circuit, Fault, Faults};
 use scald_base::{
@@ -128,6 +130,7 @@ fn single_lines(alloc: Global, c: &Circuit) -> Result<Bytes, NoMemory> {
     if c.by_name(0).is_some() {
         write_unsettled(c, 0, 1657, &mut out)?;
     }
+    write_summary(c, 3, 2, 189, 4, &mut out)?;
     Ok(out)
 }
 
@@ -135,7 +138,8 @@ fn single_lines(alloc: Global, c: &Circuit) -> Result<Bytes, NoMemory> {
 fn lines_by_themselves(rt: HostRuntime) -> Result<(), Fail> {
     let c = one_net(rt.alloc())?;
     let out = single_lines(rt.alloc(), &c)?;
-    let expected = b"CLEAN\nREFUSED 18 ZeroLoop 4:1\nUNSETTLED u1/K<3> ROUND 1657\n";
+    let expected = b"CLEAN\nREFUSED 18 ZeroLoop 4:1\nUNSETTLED u1/K<3> ROUND 1657\n\
+        BENCH 3 NETS 1 INSTANCES 0 CHECKS 0 ROUNDS 2 T 189 FAULTS 4\n";
     assert_eq!(rt; out.as_slice(), expected.as_slice());
     Ok(())
 }

@@ -1,7 +1,7 @@
 use Rattle.std.proofs.Common.{ℕ, ◌∙◌, ◌+◌, ◌<◌, ◌≤◌, length, take, arith, sym, ap, subst}
 use Rattle.flat_circuit.specs.Instances.{outputs}
 use Rattle.listing.proofs.Numbers.{outputs-more, byte-is, one-at-most}
-use Rattle.listing.proofs.head.output_count.Goals as goal
+use Rattle.listing.proofs.count.output_count.Goals as goal
 
 pub loop-k-preserved : goal.loop-k-preserved
 loop-k-preserved c =

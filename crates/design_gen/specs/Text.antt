@@ -1,0 +1,7 @@
+-- Lines. A text is the list of its bytes.
+use Rattle.std.specs.Prelude.{ℕ, List, [], ◌∷◌, ◌++◌}
+use Rattle.std.specs.List.{concat}
+
+-- texts behind one another, and byte 10 at the end
+abbrev pub line : List (List ℕ) → List ℕ
+line texts = concat texts ++ 10 ∷ []
