@@ -1,0 +1,7 @@
+mod Runs
+mod Search
+mod Unique
+mod Turned
+mod Marks
+mod Zipped
+mod Doubled

@@ -1,0 +1,9 @@
+use Rattle.std.proofs.Common.{◌≡◌, ◌-◌, ◌++◌, length, take}
+use Rattle.run_wave.specs.Run.{cells_of}
+use Rattle.run_wave.proofs.run_list.RunList.push_until.Given as goal
+
+abbrev pub invariant-loop-run : goal.invariant-loop-run
+invariant-loop-run g l = record {
+  so_far : cells_of l.self.runs.items ≡ cells_of l.fn.self.runs.items ++ take l.end (cells_of (take l.run-index l.other.runs.items));
+  left : l.kept ≡ l.end - length (cells_of (take l.run-index l.other.runs.items));
+}

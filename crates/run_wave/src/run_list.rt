@@ -1,0 +1,210 @@
+//! A list of runs that grows.
+
+ghost use Rattle.std.specs.Prelude.{◌≡◌, ◌≤◌, ◌<◌, ◌+◌, ◌-◌, ◌^◌, ◌++◌, ◌∷◌, [], ◌↔◌, IsTrue, OnOk, IfOk, length, replicate, take, drop, slice_get};
+ghost use Rattle.std.proofs.Props.{props};
+ghost use Rattle.run_wave.specs.Mark.{AreMarks};
+ghost use Rattle.run_wave.specs.Run.{EndsWith, IsRuns, IsRuns-prop, cells_of};
+
+use crate::run::Run;
+use scald_base::NoMemory;
+use std::alloc::Global;
+use std::cmp::min;
+use wave_core::Cell;
+
+/// One run in so many is marked.
+const STRIDE: usize = 16;
+
+/// The runs of some slots in a row: none is empty, and each has another cell than the one before.
+#[derive(Drop, Debug)]
+pub struct RunList<T> {
+    pub runs: Vec<Run<T>>,
+    /// How many slots there are.
+    pub slots: u16,
+    /// The slots at which every `STRIDE`th run begins: few runs have none, and of many a search
+    /// goes over the marks and then over one stride.
+    marks: Vec<u16>,
+    ghost is_runs: { IsRuns runs.items } by { IsRuns-prop runs.items },
+    ghost counted: { slots ≡ length (cells_of runs.items) },
+    ghost marked: { AreMarks runs.items marks.items } by { Prim.hlevel props },
+}
+
+/// What is still to come of a list of runs: what is left of one, and the runs from `next` on.
+#[derive(Clone, Copy)]
+pub struct Rest<T> {
+    pub run: Run<T>,
+    pub next: usize,
+}
+
+impl<T: Cell> Rest<T> {
+    /// What the next slots have.
+    pub fn cell(&self) -> T
+        ensures { result ≡ self.now.run.cell }
+    {
+        self.run.cell
+    }
+}
+
+impl<T: Cell + Drop> RunList<T> {
+    /// No slots.
+    pub fn new(alloc: Global) -> RunList<T>
+        ensures { result.runs.items ≡ [] }
+    {
+        RunList {
+            runs: Vec::new(alloc),
+            slots: 0,
+            marks: Vec::new(alloc),
+        }
+    }
+
+    /// Whether the last run has this cell.
+    fn ends_with(&self, cell: T) -> bool
+        ensures { IsTrue result ↔ EndsWith self.now.runs.items cell }
+    {
+        let count = self.runs.len();
+        if count == 0 {
+            return false;
+        }
+        self.runs[count - 1].cell == cell
+    }
+
+    /// Puts `width` slots of a cell behind the others.
+    pub fn push(&mut self, cell: T, width: u16) -> Result<(), NoMemory>
+        requires { self.old.slots + width < 2 ^ 16 }
+        ensures { OnOk result (cells_of self.new.runs.items ≡ cells_of self.old.runs.items ++ replicate width cell) }
+    {
+        if width == 0 {
+            return Ok(());
+        }
+        if self.ends_with(cell) {
+            let last = self.runs.len() - 1;
+            self.runs[last].width += width;
+            self.slots += width;
+            return Ok(());
+        }
+        self.push_run(Run { cell, width })
+    }
+
+    /// Puts a run behind the others, and marks it where its turn has come.
+    fn push_run(&mut self, run: Run<T>) -> Result<(), NoMemory>
+        requires room { self.old.slots + run.width < 2 ^ 16 }
+        requires some { 0 < run.width }
+        requires other { EndsWith self.old.runs.items run.cell → ⊥ }
+        ensures { OnOk result (self.new.runs.items ≡ self.old.runs.items ++ run ∷ []) }
+    {
+        let count = self.runs.len();
+        let begin = self.slots;
+        self.runs.push(run)?;
+        self.slots += run.width;
+        if count % STRIDE == 0 && count / STRIDE == self.marks.len() + 1 {
+            self.marks.push(begin)?;
+        }
+        Ok(())
+    }
+
+    /// Puts the slots of another list behind the others, from one of them on.
+    pub fn push_from(&mut self, other: &RunList<T>, start: u16) -> Result<(), NoMemory>
+        requires { self.old.slots + (other.now.slots - start) < 2 ^ 16 }
+        ensures { OnOk result (cells_of self.new.runs.items ≡ cells_of self.old.runs.items ++ drop start (cells_of other.now.runs.items)) }
+    {
+        let mut skipped = start;
+        for run in &other.runs {
+            let part = min(skipped, run.width);
+            self.push(run.cell, run.width - part)?;
+            skipped -= part;
+        }
+        Ok(())
+    }
+
+    /// Puts the first slots of another list behind the others, up to one of them.
+    pub fn push_until(&mut self, other: &RunList<T>, end: u16) -> Result<(), NoMemory>
+        requires { self.old.slots + end < 2 ^ 16 }
+        ensures { OnOk result (cells_of self.new.runs.items ≡ cells_of self.old.runs.items ++ take end (cells_of other.now.runs.items)) }
+    {
+        let mut kept = end;
+        for run in &other.runs {
+            let part = min(kept, run.width);
+            self.push(run.cell, part)?;
+            kept -= part;
+        }
+        Ok(())
+    }
+
+    /// A run at or before that of a slot, fewer than two strides before it, and the slots that
+    /// come before that run.
+    fn mark_before(&self, slot: u16) -> (usize, u16)
+        ensures known { result.0 ≤ length self.now.runs.items }
+        ensures before { result.1 ≤ slot }
+        ensures counted { result.1 ≡ length (cells_of (take result.0 self.now.runs.items)) }
+    {
+        let marks = self.marks.partition_point(|mark| *mark <= slot);
+        if marks == 0 {
+            return (0, 0);
+        }
+        (STRIDE * marks, self.marks[marks - 1])
+    }
+
+    /// The cell of a slot.
+    pub fn at(&self, slot: u16) -> T
+        requires { slot < length (cells_of self.now.runs.items) }
+        ensures { slice_get (cells_of self.now.runs.items) slot ≡ Some result }
+    {
+        let (first, before) = self.mark_before(slot);
+        let mut ahead = slot - before;
+        for place in first..self.runs.len() {
+            let run = self.runs[place];
+            if ahead < run.width {
+                return run.cell;
+            }
+            ahead -= run.width;
+        }
+        unreachable!()
+    }
+
+    /// The same slots once more.
+    pub fn copy(&self, alloc: Global) -> Result<RunList<T>, NoMemory>
+        ensures { IfOk result (λ l. l.runs.items ≡ self.now.runs.items) }
+    {
+        let runs = Vec::from_slice(alloc, &self.runs)?;
+        let marks = Vec::from_slice(alloc, &self.marks)?;
+        Ok(RunList {
+            runs,
+            slots: self.slots,
+            marks,
+        })
+    }
+
+    /// All slots, of which there are some.
+    pub fn whole(&self) -> Rest<T>
+        requires { 0 < self.now.slots }
+        ensures cells { cells_of (result.run ∷ drop result.next self.now.runs.items) ≡ cells_of self.now.runs.items }
+        ensures some { 0 < result.run.width }
+    {
+        Rest {
+            run: self.runs[0],
+            next: 1,
+        }
+    }
+
+    /// What is to come after `width` slots of the run that comes next.
+    pub fn after(&self, rest: &Rest<T>, width: u16) -> Rest<T>
+        requires { width ≤ rest.now.run.width }
+        ensures cells { cells_of (rest.now.run ∷ drop rest.now.next self.now.runs.items) ≡ replicate width rest.now.run.cell ++ cells_of (result.run ∷ drop result.next self.now.runs.items) }
+        ensures some { 0 < length (cells_of (result.run ∷ drop result.next self.now.runs.items)) → 0 < result.run.width }
+    {
+        let left = rest.run.width - width;
+        if left == 0 && rest.next < self.runs.len() {
+            return Rest {
+                run: self.runs[rest.next],
+                next: rest.next + 1,
+            };
+        }
+        let run = Run {
+            cell: rest.run.cell,
+            width: left,
+        };
+        Rest {
+            run,
+            next: rest.next,
+        }
+    }
+}

@@ -1,0 +1,119 @@
+//! A wave that keeps its cells as runs.
+
+ghost use Rattle.std.specs.Prelude.{◌≡◌, length};
+ghost use Rattle.run_wave.specs.Run.{IsRuns, cells_of};
+ghost use Rattle.wave_core.specs.Slots.{IsPeriod};
+
+use crate::run::Run;
+use crate::run_list::RunList;
+use scald_base::NoMemory;
+use std::alloc::Global;
+use std::cmp::min;
+use wave_core::{Cell, CyclicWave};
+
+/// The runs of a wave, from slot 0 on: as few as there can be.
+#[derive(Drop, Debug)]
+pub struct RunWave<T> {
+    list: RunList<T>,
+    ghost sized: { IsPeriod (length (cells_of list.runs.items)) },
+}
+
+impl<T: Cell + Drop> RunWave<T> {
+    /// The runs: their widths sum to the period, none is empty, and each has another cell than the
+    /// one before. The last may have the cell of the first.
+    pub fn runs(&self) -> &[Run<T>]
+        ensures is { result.now ≡ self.now.list.runs.items }
+        ensures whole { length (cells_of result.now) ≡ self.now.list.slots }
+        ensures few { IsRuns result.now }
+    {
+        &self.list.runs
+    }
+}
+
+impl<T: Cell + Drop> CyclicWave for RunWave<T> {
+    type Item = T;
+
+    ghost cells = { λ w. cells_of w.list.runs.items };
+
+    ghost sized = { λ w. w.sized };
+
+    fn uniform(alloc: Global, period: u16, cell: T) -> Result<RunWave<T>, NoMemory> {
+        let mut list = RunList::new(alloc);
+        list.push(cell, period)?;
+        Ok(RunWave { list })
+    }
+
+    fn from_slots(alloc: Global, slots: &[T]) -> Result<RunWave<T>, NoMemory> {
+        let mut list = RunList::new(alloc);
+        for cell in slots {
+            list.push(*cell, 1)?;
+        }
+        Ok(RunWave { list })
+    }
+
+    fn period(&self) -> u16 {
+        self.list.slots
+    }
+
+    fn at(&self, slot: u16) -> T {
+        self.list.at(slot)
+    }
+
+    fn equal(&self, other: &RunWave<T>) -> bool {
+        self.list.runs == other.list.runs
+    }
+
+    fn rotate(&self, alloc: Global, by: u16) -> Result<RunWave<T>, NoMemory> {
+        let period = self.list.slots;
+        let first = period - by % period;
+        let mut list = RunList::new(alloc);
+        list.push_from(&self.list, first)?;
+        list.push_until(&self.list, first)?;
+        Ok(RunWave { list })
+    }
+
+    fn map<F: Fn(T) -> T>(&self, alloc: Global, f: F) -> Result<RunWave<T>, NoMemory> {
+        let mut list = RunList::new(alloc);
+        for run in &self.list.runs {
+            list.push(f(run.cell), run.width)?;
+        }
+        Ok(RunWave { list })
+    }
+
+    fn zip<F: Fn(T, T) -> T>(
+        &self,
+        alloc: Global,
+        other: &RunWave<T>,
+        f: F,
+    ) -> Result<RunWave<T>, NoMemory> {
+        let mut list = RunList::new(alloc);
+        let mut mine = self.list.whole();
+        let mut theirs = other.list.whole();
+        'parts: while mine.run.width > 0 {
+            let width = min(mine.run.width, theirs.run.width);
+            list.push(f(mine.cell(), theirs.cell()), width)?;
+            mine = self.list.after(&mine, width);
+            theirs = other.list.after(&theirs, width);
+        }
+        Ok(RunWave { list })
+    }
+
+    /// By doubling: the folds over twice as many slots are those over half of them, joined with
+    /// themselves that much later.
+    fn fold(&self, alloc: Global, back: u16) -> Result<RunWave<T>, NoMemory> {
+        let mut wave = self.copy(alloc)?;
+        let mut reach = 0;
+        while reach < back {
+            let by = min(reach + 1, back - reach);
+            let before = wave.rotate(alloc, by)?;
+            wave = wave.zip(alloc, &before, |cell, earlier| cell.join(earlier))?;
+            reach += by;
+        }
+        Ok(wave)
+    }
+
+    fn copy(&self, alloc: Global) -> Result<RunWave<T>, NoMemory> {
+        let list = self.list.copy(alloc)?;
+        Ok(RunWave { list })
+    }
+}
