@@ -1,0 +1,3 @@
+mod Lists
+mod Alike
+mod Pairs

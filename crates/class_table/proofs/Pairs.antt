@@ -1,0 +1,58 @@
+-- Which pairs of nets have to be looked at.
+use Rattle.std.proofs.Common.{◌≡◌, ℕ, zero, suc, ◌+◌, ◌<◌, ◌≤◌, ◌⊎◌, inl, inr, List, [], ◌∷◌, length, All, Option, Some, None, get_or, refl, sym, ap, ◌∙◌, arith, subst}
+use Rattle.std.specs.Prelude.{slice_get, slice_index_or}
+use Rattle.std.proofs.lemmas.Bool.{cases_lt}
+use Rattle.std.proofs.lemmas.Option.{slice_get_within, slice_get-get_or, get_or_from_slice_get}
+use Rattle.flat_circuit.specs.declared.case.CaseValue.{CaseValue}
+use Rattle.flat_circuit.specs.declared.net.Net.{Net}
+use Rattle.flat_circuit.specs.Circuit.{Circuit}
+use Rattle.class_table.specs.Alike.{class_of, NetsAlike}
+use Rattle.class_table.specs.Stable.{AreAlikeAt, AreAlikeBefore, IsStable, AreNumbersOfNets}
+use Rattle.class_table.proofs.Alike.{nets-self, nets-back, nets-both}
+
+some-same : (m n : Net) → ◌≡◌ {A = Option Net} (Some m) (Some n) → m ≡ n
+some-same m n e = cc
+
+-- a loop that looks at one number more
+pub next-one : (P : ℕ → Type 0) (n : ℕ) → ((i : ℕ) → i < n → P i) → P n → (i : ℕ) → i < n + 1 → P i
+next-one P n before here i within = go (cases_lt i n)
+  where
+    go : (i < n) ⊎ (n ≤ i) → P i
+    go (inl less) = before i less
+    go (inr last) = let there : n ≡ i = omega arith in subst P there here
+
+module _ (c : Circuit) (cases : List (List CaseValue)) (k : List ℕ) where
+  -- ---- classes that have the number of one of their nets
+
+  is-number : (i : ℕ) → AreNumbersOfNets k → i < length k → slice_get k (class_of k i) ≡ Some (class_of k i)
+  is-number i numbers below = numbers i 0 below
+
+  pub as-its-number : (i : ℕ) → AreNumbersOfNets k → i < length k → IsStable c cases k → AreAlikeAt c cases k i (class_of k i)
+  as-its-number i numbers below stable =
+      stable i (class_of k i) (sym (get_or_from_slice_get k (class_of k i) (class_of k i) 0 (is-number i numbers below)))
+
+  pub stable-by-numbers : length k ≡ length c.nets → AreNumbersOfNets k → ((i : ℕ) → i < length c.nets → AreAlikeAt c cases k i (class_of k i)) → IsStable c cases k
+  stable-by-numbers one_each numbers each i j same m n is_m is_n =
+      let below_i : i < length c.nets = slice_get_within c.nets i m is_m in
+      let below_j : j < length c.nets = slice_get_within c.nets j n is_n in
+      let there : class_of k i < length k =
+      slice_get_within k (class_of k i) (class_of k i) (is-number i numbers (omega (arith, one_each, below_i))) in
+      let is_first : slice_get c.nets (class_of k i) ≡ Some (get_or c.nets (class_of k i) m) =
+      slice_get-get_or c.nets (class_of k i) m (omega (arith, one_each, there)) in
+      nets-both c cases k i j (class_of k i) m n (get_or c.nets (class_of k i) m)
+      (each i below_i m (get_or c.nets (class_of k i) m) is_m is_first)
+      (subst (λ (r : ℕ). AreAlikeAt c cases k j r) (sym same) (each j below_j) n (get_or c.nets (class_of k i) m) is_n is_first)
+
+  -- ---- whatever the numbers are
+
+  pub stable-by-pairs : ((i : ℕ) → i < length c.nets → AreAlikeBefore c cases k i) → IsStable c cases k
+  stable-by-pairs each i j same m n is_m is_n = go (cases_lt i j) (cases_lt j i)
+    where
+      go : (i < j) ⊎ (j ≤ i) → (j < i) ⊎ (i ≤ j) → NetsAlike c cases k i j m n
+      go (inl before) either = nets-back c cases k j i n m (each j (slice_get_within c.nets j n is_n) i before (sym same) n m is_n is_m)
+      go (inr up_to) (inl after) = each i (slice_get_within c.nets i m is_m) j after same m n is_m is_n
+      go (inr up_to) (inr down_to) =
+          let there : i ≡ j = omega arith in
+          let one : slice_get c.nets i ≡ slice_get c.nets j = ap (slice_get c.nets) there in
+          let net : m ≡ n = some-same m n (sym is_m ∙ one ∙ is_n) in
+          subst (λ (l : ℕ). NetsAlike c cases k i l m n) there (subst (λ (o : Net). NetsAlike c cases k i i m o) net (nets-self c cases k i m))

@@ -1,0 +1,13 @@
+use Rattle.std.proofs.Common.{List, ℕ, MatchBool, subst}
+use Rattle.class_table.specs.Stable.{IsStable}
+use Rattle.class_table.proofs.stability.stable.Goals as goal
+
+pub returns-then-are_numbers_of_nets : goal.returns-then-are_numbers_of_nets
+returns-then-are_numbers_of_nets c =
+    subst (λ (k : List ℕ). MatchBool c.are_as_their_numbers.result (IsStable c.args.c.now c.args.cases.now k) (IsStable c.args.c.now c.args.cases.now k → ⊥))
+    c.as_slice-classes.ensures c.are_as_their_numbers.ensures
+
+pub returns-else-are_numbers_of_nets : goal.returns-else-are_numbers_of_nets
+returns-else-are_numbers_of_nets c =
+    subst (λ (k : List ℕ). MatchBool c.are_alike_in_pairs.result (IsStable c.args.c.now c.args.cases.now k) (IsStable c.args.c.now c.args.cases.now k → ⊥))
+    c.as_slice-classes.ensures c.are_alike_in_pairs.ensures

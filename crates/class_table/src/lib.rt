@@ -1,0 +1,20 @@
+//! Classes of nets that nothing tells apart: the bits of a bus mostly have one wave in every round, so
+//! one of them stands for all.
+//!
+//! `classes` numbers the nets, and whoever uses its numbers asks `stable` first, which is exact:
+//! `specs/Alike` says what two nets have in common, and `specs/Stable` when nets of one class may be
+//! taken one for another.
+#![tactic(auto)]
+
+mod class_map;
+mod likeness;
+mod order;
+mod partition;
+mod stability;
+
+pub use class_map::ClassMap;
+pub use partition::classes;
+pub use stability::stable;
+
+#[cfg(test)]
+mod tests;
