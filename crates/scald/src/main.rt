@@ -1,9 +1,13 @@
 //! The timing verifier as a program: it reads a drawing from standard input and writes the report to
-//! standard output. Its words are its arguments, and it ends with the status of the outcome.
+//! standard output. Its words are its arguments, and it ends with the status of the outcome. Where there
+//! is no answer to the drawing, a line on standard error says why; standard output has the answer alone.
 //!
 //! The work is that of `scald_tool::tool_main`, whose contract says what the answer means.
 #![tactic(auto)]
 
+mod said;
+
+use said::{NO_ARGUMENTS, NO_MEMORY, say, say_outcome};
 use scald_base::{Bytes, NoMemory, StdSink, StdSource};
 use scald_tool::{Words, status, tool_main};
 use std::process::ExitCode;
@@ -25,6 +29,14 @@ impl Unstarted {
         match self {
             Unstarted::NoArguments => 20,
             Unstarted::NoMemory => 8,
+        }
+    }
+
+    /// The line that says so on standard error.
+    fn why(self) -> &'static str {
+        match self {
+            Unstarted::NoArguments => NO_ARGUMENTS,
+            Unstarted::NoMemory => NO_MEMORY,
         }
     }
 }
@@ -58,10 +70,14 @@ fn words(rt: &(impl Env + AllocGlobal)) -> Result<Words, Unstarted> {
 fn main(rt: HostRuntime) -> ExitCode {
     let words = match words(&rt) {
         Ok(words) => words,
-        Err(e) => return ExitCode::from(e.status()),
+        Err(e) => {
+            say(&rt, e.why());
+            return ExitCode::from(e.status());
+        }
     };
     let mut source = StdSource::new(rt.reader());
     let mut sink = StdSink::new(io::writer(&rt));
     let outcome = tool_main(rt.alloc(), &words, &mut source, &mut sink);
+    say_outcome(&rt, &outcome);
     ExitCode::from(status(&outcome))
 }

@@ -1,5 +1,5 @@
 -- There are few faults: one at most of each instance and each net, and two of each checker of pulses.
-use Rattle.std.proofs.Common.{◌≡◌, ℕ, suc, ◌+◌, ◌*◌, ◌^◌, ◌<◌, ◌≤◌, List, [], ◌∷◌, ◌++◌, length, length-append, ap, ◌∙◌, arith, true, false, Option, Some, None}
+use Rattle.std.proofs.Common.{◌≡◌, ℕ, suc, ◌+◌, ◌*◌, ◌≤◌, List, [], ◌∷◌, ◌++◌, length, length-append, ap, ◌∙◌, arith, true, false, Option, Some, None}
 use Rattle.std.specs.Prelude.{filter_map, slice_get}
 use Rattle.std.specs.List.{cons_option, flat_map, range_with_len}
 use Rattle.std.proofs.lemmas.List.{length-map}
@@ -50,8 +50,8 @@ length-all : {X Y : Type 0} (make : X → List Y) → ((x : X) → length (make 
 length-all make few [] = omega arith
 length-all make few (x ∷ xs) = omega (arith, length-append (make x) (flat_map make xs), few x, length-all make few xs)
 
--- The faults of a circuit are fewer than 32 bits count.
-pub few-faults : (c : Circuit) (ws : Waves) → IsCircuit c → length (all_faults.faults_of c ws) < 2 ^ 32
+-- The faults of a circuit in one case are so few.
+pub few-faults : (c : Circuit) (ws : Waves) → IsCircuit c → length (all_faults.faults_of c ws) ≤ 458752
 few-faults c ws known =
     let instances : length c.instances ≤ 131072 = length-few c.instances known.few in
     let order : length c.order ≡ length c.nets =
@@ -66,7 +66,7 @@ few-faults c ws known =
     length-append (filter_map (instance_fault c ws) (range_with_len 0 (length c.instances))) (filter_map (net_fault c ws) c.order) in
     omega (arith, length-append (point_faults c ws) (width_faults c ws), points, instances, order, each, nets, of_instances, of_nets, of_pulses)
 
-pub few-both : (c : Circuit) (ws : Waves) (fs gs all : List Fault) → fs ≡ point_faults c ws → gs ≡ width_faults c ws → all ≡ fs ++ gs → IsCircuit c → length all < 2 ^ 32
+pub few-both : (c : Circuit) (ws : Waves) (fs gs all : List Fault) → fs ≡ point_faults c ws → gs ≡ width_faults c ws → all ≡ fs ++ gs → IsCircuit c → length all ≤ 458752
 few-both c ws fs gs all points widths are known =
     let same : all ≡ all_faults.faults_of c ws = are ∙ ap (λ (xs : List Fault). xs ++ gs) points ∙ ap (λ (xs : List Fault). point_faults c ws ++ xs) widths in
     omega (arith, ap length same, few-faults c ws known)

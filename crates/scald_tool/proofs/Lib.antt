@@ -1,8 +1,15 @@
 pub mod Trees
 pub mod OneOrder
 pub mod OneCircuit
+pub mod OneRest
 pub mod Judgement
 pub mod Counts
+pub mod Added
 pub mod Headline
-pub mod Reports
+pub mod Telling
+pub mod Going
 pub mod Replies
+pub mod Given
+pub mod Told
+pub mod Ending
+pub mod Forming

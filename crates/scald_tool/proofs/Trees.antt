@@ -5,10 +5,10 @@ use Rattle.scald_lex.specs.declared.token.Token.{Token}
 use Rattle.scald_lex.specs.Tokens.{AreTokens}
 use Rattle.scald_lex.proofs.Unique.{one_list, not_both, one_refusal}
 use Rattle.drawing_tree.specs.Tree.{Drawing}
-use Rattle.drawing_reader.specs.Lexeme.{lexemes}
-use Rattle.drawing_reader.specs.Drawing.{Draws, IsWrong}
-use Rattle.drawing_reader.proofs.Unique.{one_drawing, draws_is_not_wrong, one_wrong}
-use Rattle.drawing_reader.specs.CanonicalDraws.{TextDraws}
+use Rattle.drawing_grammar.specs.Lexeme.{lexemes}
+use Rattle.drawing_grammar.specs.Drawing.{Draws, IsWrong}
+use Rattle.drawing_grammar.proofs.Unique.{one_drawing, draws_is_not_wrong, one_wrong}
+use Rattle.drawing_grammar.specs.CanonicalDraws.{TextDraws}
 use Rattle.scald_tool.specs.Drawn.{IsRefusal, no_tokens, no_drawing}
 
 -- what one list of a text's tokens draws or is refused for, the other is

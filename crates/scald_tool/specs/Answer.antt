@@ -1,61 +1,93 @@
 -- What the program answers to its words and to the bytes that it is given.
-use Rattle.std.specs.Prelude.{◌≡◌, ℕ, ◌<◌, ◌≤◌, ◌==◌, List, [], length, Option, Some, None, Ok, Err, if◌then◌else◌}
+use Rattle.std.specs.Prelude.{◌≡◌, ℕ, ◌<◌, ◌≤◌, true, List, [], length, Option, Some, None, Ok, Err}
 use Rattle.scald_base.specs.declared.refusal.Refusal.{Refusal}
 use Rattle.drawing_tree.specs.Tree.{Drawing}
 use Rattle.drawing_tree.specs.Canonical.{canonical}
-use Rattle.drawing_reader.specs.CanonicalDraws.{TextDraws}
+use Rattle.drawing_grammar.specs.CanonicalDraws.{TextDraws}
+use Rattle.flat_circuit.specs.declared.case.CaseValue.{CaseValue}
 use Rattle.flat_circuit.specs.Circuit.{Circuit}
 use Rattle.fixpoint_engine.specs.Rounds.{RestsAt, IsUnsettled}
 use Rattle.fixpoint_engine.specs.Start.{default_limit}
 use Rattle.case_analysis.specs.Base.{base_round}
 use Rattle.listing.specs.declared.case.Mode.{Mode}
-use Rattle.listing.specs.Answer.{refusal_line, unsettled_line}
+use Rattle.fixpoint_engine.specs.Reach.{reach}
+use Rattle.case_analysis.specs.Tick.{tick}
+use Rattle.listing.specs.Answer.{refusal_line, summary_line, unsettled_line}
+use Rattle.design_gen.specs.Datapath.{datapath}
 use Rattle.scald_tool.specs.declared.outcome.Outcome.{Outcome}
-use Rattle.scald_tool.specs.declared.outcome.Outcome.TheVariants.{Clean, Faulty, Done, Refused, Unsettled, BadWords, TooLong}
+use Rattle.scald_tool.specs.declared.outcome.Outcome.TheVariants.{Done, Refused, Unsettled, BadWords, TooLong}
 use Rattle.scald_tool.specs.declared.words.Command.{Command}
-use Rattle.scald_tool.specs.declared.words.Command.TheVariants.{Verify, Format}
-use Rattle.scald_tool.specs.Words.{command_of}
+use Rattle.scald_tool.specs.declared.words.Command.TheVariants.{Verify, Format, Bench}
+use Rattle.scald_tool.specs.Words.{command_of, reads}
 use Rattle.scald_tool.specs.Drawn.{IsRefusal, IsTextRefused, DrawsCircuit}
-use Rattle.scald_tool.specs.Case.{fault_count}
-use Rattle.scald_tool.specs.Report.{report}
+use Rattle.scald_tool.specs.Case.{Case, AreAtRest, StopsAt, listed_cases, fault_count}
+use Rattle.scald_tool.specs.Report.{report, verdict_of}
 
 -- the most bytes that are read
 abbrev pub most_bytes : ℕ
 most_bytes = 4194304
-
--- no fault, or so many
-abbrev pub verdict_of : ℕ → Outcome
-verdict_of count = if count == 0 then Clean else Faulty count
 
 -- how many rounds there may be: as many as the words allow, or else the circuit's own limit
 abbrev pub limit_for : Circuit → Option ℕ → ℕ
 limit_for c (Some limit) = limit
 limit_for c None = default_limit c
 
--- What is answered on a circuit, with which bytes: the report on its waves at rest; or, where they are not at rest by the
--- limit, the first net in the order of names that still changes there.
-pub data Judged (mode : Mode) (c : Circuit) (limit : ℕ) : Outcome → List ℕ → Type 0 where
-  rested : (base : ℕ) → RestsAt (base_round c) limit base → Judged mode c limit (verdict_of (fault_count c base)) (report mode c base)
-  unsettled : (place : ℕ) → IsUnsettled c.order (base_round c) limit place → Judged mode c limit (Unsettled place limit) (unsettled_line c place limit)
+-- What is told of a circuit at rest, by the round in which its base came to rest and by its cases: an outcome and bytes.
+abbrev pub Telling : Type 0
+Telling = Circuit → ℕ → List Case → Outcome × List ℕ
+
+-- the report, and how many faults there are
+abbrev pub reported : Mode → Telling
+reported mode c base cases = (verdict_of (fault_count c cases), report mode c base cases)
+
+-- The numbers of the report on so many sections: the rounds of the base, the tick that is printed for case 0, which takes no
+-- rounds, and the faults.
+abbrev pub measured : ℕ → Telling
+measured sections c base cases = (Done, summary_line c sections base (tick (reach c) base 0) (fault_count c cases))
+
+-- What is answered on a circuit and its cases, with which bytes: what is told of the base and each case at rest; or, where
+-- the base or else a case is not at rest by the limit, and every case before it is, the first net in the order of names
+-- that still changes there.
+pub data Concluded (tell : Telling) (c : Circuit) (values : List (List CaseValue)) (limit : ℕ) : Outcome → List ℕ → Type 0 where
+  rested : (base : ℕ) (cases : List Case) → RestsAt (base_round c) limit base → AreAtRest c limit base (listed_cases values) cases →
+      Concluded tell c values limit (tell c base cases).0 (tell c base cases).1
+  unsettled : (place : ℕ) → IsUnsettled c.order (base_round c) limit place → Concluded tell c values limit (Unsettled place limit) (unsettled_line c place limit)
+  case_unsettled : (base place : ℕ) → RestsAt (base_round c) limit base → StopsAt c limit base (listed_cases values) place →
+      Concluded tell c values limit (Unsettled place limit) (unsettled_line c place limit)
+
+abbrev pub Judged : Mode → Circuit → List (List CaseValue) → ℕ → Outcome → List ℕ → Type 0
+Judged mode = Concluded (reported mode)
+
+-- What is answered on a text whose circuit is evaluated.
+pub data Evaluated (tell : Telling) (rounds : Option ℕ) (text : List ℕ) : Outcome → List ℕ → Type 0 where
+  refused : (r : Refusal) → IsTextRefused text r → Evaluated tell rounds text (Refused r) (refusal_line r)
+  judged : (c : Circuit) (values : List (List CaseValue)) (o : Outcome) (bytes : List ℕ) → DrawsCircuit text c values → Concluded tell c values (limit_for c rounds) o bytes →
+      Evaluated tell rounds text o bytes
 
 -- What `verify` answers on a text.
-pub data Verified (mode : Mode) (rounds : Option ℕ) (text : List ℕ) : Outcome → List ℕ → Type 0 where
-  refused : (r : Refusal) → IsTextRefused text r → Verified mode rounds text (Refused r) (refusal_line r)
-  judged : (c : Circuit) (o : Outcome) (bytes : List ℕ) → DrawsCircuit text c → Judged mode c (limit_for c rounds) o bytes → Verified mode rounds text o bytes
+abbrev pub Verified : Mode → Option ℕ → List ℕ → Outcome → List ℕ → Type 0
+Verified mode = Evaluated (reported mode)
+
+-- What `bench` answers, on the drawing of so many sections and at its own limit: what `verify` does where that is refused or
+-- does not rest, and else its numbers.
+abbrev pub Benched : ℕ → Outcome → List ℕ → Type 0
+Benched sections = Evaluated (measured sections) None (datapath sections)
 
 -- What `format` answers on a text: the canonical text of the drawing that it draws, or why it draws none.
 pub data Formatted (text : List ℕ) : Outcome → List ℕ → Type 0 where
   undrawn : (r : Refusal) → IsRefusal text r → Formatted text (Refused r) (refusal_line r)
   drawn : (d : Drawing) → TextDraws text d → Formatted text Done (canonical d)
 
--- what each form answers on a text
+-- what each form answers on a text, `bench` on any
 abbrev pub Replied : Command → List ℕ → Outcome → List ℕ → Type 0
-Replied (Verify mode rounds) = Verified mode rounds
-Replied Format = Formatted
+Replied (Verify mode rounds) text = Verified mode rounds text
+Replied Format text = Formatted text
+Replied (Bench sections) text = Benched sections
 
--- The outcome and the bytes that are written, to words and to the bytes of the input.
+-- The outcome and the bytes that are written, to words and to the bytes of the input. A form that does not read takes no
+-- text to be too long.
 pub data Answer (words : List (List ℕ)) (text : List ℕ) : Outcome → List ℕ → Type 0 where
   no_form : (i : ℕ) → command_of words ≡ Err i → Answer words text (BadWords i) []
-  too_long : (command : Command) → command_of words ≡ Ok command → most_bytes < length text → Answer words text TooLong []
-  replied : (command : Command) (o : Outcome) (bytes : List ℕ) → command_of words ≡ Ok command → length text ≤ most_bytes →
+  too_long : (command : Command) → command_of words ≡ Ok command → reads command ≡ true → most_bytes < length text → Answer words text TooLong []
+  replied : (command : Command) (o : Outcome) (bytes : List ℕ) → command_of words ≡ Ok command → (reads command ≡ true → length text ≤ most_bytes) →
       Replied command text o bytes → Answer words text o bytes

@@ -1,28 +1,71 @@
 -- The cases of a circuit at rest, and their faults.
-use Rattle.std.specs.Prelude.{ℕ, List, [], ◌∷◌, ◌++◌, length}
-use Rattle.std.specs.List.{sum_by}
+use Rattle.std.specs.Prelude.{◌≡◌, ℕ, ◌+◌, Bool, List, [], ◌∷◌, ◌++◌, length, map}
+use Rattle.std.specs.List.{All, sum_by}
+use Rattle.flat_circuit.specs.declared.case.CaseValue.{CaseValue}
 use Rattle.flat_circuit.specs.declared.fault.Fault.{Fault}
 use Rattle.flat_circuit.specs.Circuit.{Circuit}
 use Rattle.fixpoint_engine.specs.Value.{Waves}
 use Rattle.fixpoint_engine.specs.Reach.{reach}
+use Rattle.fixpoint_engine.specs.Rounds.{IsUnsettled}
 use Rattle.case_analysis.specs.Base.{base_round}
+use Rattle.case_analysis.specs.Case.{IsCone, IsCase, case_round}
 use Rattle.case_analysis.specs.Tick.{tick}
 use Rattle.point_check.specs.Faults.{point_faults}
 use Rattle.pulse_check.specs.Faults.{width_faults}
 
--- a case: its number, the rounds that it takes from the base on, and the waves of the nets when it is at rest
-pub record Case : Type 0 where
+-- ---- which cases there are
+
+-- a case with its number, and the nets that it sets
+pub record Listed : Type 0 where
   pub number : ℕ
+  pub values : List CaseValue
+
+abbrev pub numbered : ℕ → List (List CaseValue) → List Listed
+numbered from [] = []
+numbered from (vs ∷ cases) = record { number = from; values = vs } ∷ numbered (from + 1) cases
+
+-- A drawing's cases count from 1. Where it has none there is one case, of number 0, in which no net is set.
+abbrev pub listed_cases : List (List CaseValue) → List Listed
+listed_cases [] = record { number = 0; values = [] } ∷ []
+listed_cases (vs ∷ cases) = numbered 1 (vs ∷ cases)
+
+-- ---- cases at rest
+
+-- a case, the rounds that it takes from the base on, and the waves of the nets when it is at rest
+pub record Case : Type 0 where
+  pub listed : Listed
   pub rounds : ℕ
   pub waves : Waves
 
--- A drawing without cases of its own has one, in which no net is set, so it is the base itself.
-abbrev pub base_case : Circuit → ℕ → Case
-base_case c base = record { number = 0; rounds = 0; waves = base_round c base }
+-- The case's rounds go on from a base that came to rest in this round; they come to rest in the round that is given, and
+-- within the limit, with the waves that are given.
+pub record IsAtRest (c : Circuit) (limit base : ℕ) (case : Case) : Type 0 where
+  pub cone : ℕ → Bool
+  pub is_cone : IsCone c case.listed.values cone
+  pub is : IsCase c case.listed.values cone (base_round c base) limit case.rounds case.waves
 
--- the cases of a circuit whose base comes to rest in this round
-abbrev pub cases : Circuit → ℕ → List Case
-cases c base = base_case c base ∷ []
+-- these cases, one after the other, at rest
+pub record AreAtRest (c : Circuit) (limit base : ℕ) (listed : List Listed) (cases : List Case) : Type 0 where
+  pub each : map (λ (case : Case). case.listed) cases ≡ listed
+  pub rest : All (IsAtRest c limit base) cases
+
+-- The case does not come to rest within the limit, and at the limit the net at this place in the order of names is the
+-- first that still changes.
+pub record NeverRests (c : Circuit) (limit base : ℕ) (listed : Listed) (place : ℕ) : Type 0 where
+  pub cone : ℕ → Bool
+  pub is_cone : IsCone c listed.values cone
+  pub is : IsUnsettled c.order (case_round c listed.values cone (base_round c base)) limit place
+
+-- Of the cases in their order, this one is the first that never rests.
+pub record StopsAt (c : Circuit) (limit base : ℕ) (listed : List Listed) (place : ℕ) : Type 0 where
+  pub before : List Case
+  pub case : Listed
+  pub after : List Listed
+  pub order : map (λ (k : Case). k.listed) before ++ case ∷ after ≡ listed
+  pub rest : All (IsAtRest c limit base) before
+  pub never : NeverRests c limit base case place
+
+-- ---- their faults
 
 -- the tick from which on a case's waves hold at each pin, which is printed
 abbrev pub printed_tick : Circuit → ℕ → Case → ℕ
@@ -36,5 +79,5 @@ abbrev pub faults : Circuit → Case → List Fault
 faults c case = faults_of c case.waves
 
 -- how many there are over all cases
-abbrev pub fault_count : Circuit → ℕ → ℕ
-fault_count c base = sum_by (λ (case : Case). length (faults c case)) (cases c base)
+abbrev pub fault_count : Circuit → List Case → ℕ
+fault_count c cases = sum_by (λ (case : Case). length (faults c case)) cases

@@ -1,13 +1,16 @@
 -- Laws of texts and answers on which the promise of the whole call rests.
 use Rattle.std.specs.Prelude.{◌≡◌, ℕ, List}
+use Rattle.flat_circuit.specs.declared.case.CaseValue.{CaseValue}
 use Rattle.flat_circuit.specs.Circuit.{Circuit}
 use Rattle.scald_tool.specs.declared.outcome.Outcome.{Outcome}
 use Rattle.scald_tool.specs.Drawn.{DrawsCircuit}
 use Rattle.scald_tool.specs.Answer.{Answer}
 
--- a text draws one circuit at most
+-- a text draws one circuit at most, with the same cases
 abbrev pub OneCircuit : Type 0
-OneCircuit = (text : List ℕ) (c c' : Circuit) → DrawsCircuit text c → DrawsCircuit text c' → c ≡ c'
+OneCircuit =
+    (text : List ℕ) (c c' : Circuit) (cases cases' : List (List CaseValue)) →
+    DrawsCircuit text c cases → DrawsCircuit text c' cases' → (c ≡ c') × (cases ≡ cases')
 
 -- words and a text have one answer at most
 abbrev pub OneAnswer : Type 0

@@ -1,4 +1,5 @@
 pub mod Words
+pub mod Forms
 pub mod Drawn
 pub mod Case
 pub mod Report
@@ -6,3 +7,5 @@ pub mod Answer
 pub mod Status
 pub mod Promise
 pub mod Laws
+pub mod Reported
+pub mod Ended

@@ -1,30 +1,34 @@
 -- The forms of words that the program has: `verify`, then `waves` or `faults` where one is asked for alone, then `rounds=N`
--- where the rounds are to be so many at most; and `format`.
-use Rattle.std.specs.Prelude.{ℕ, ◌+◌, ◌≤◌, ◌&&◌, nat_le, List, [], ◌∷◌, length, take, drop, codes, decimal, Option, Some, None, IfSome, Result, Ok, Err, if◌then◌else◌, ⊤}
+-- where the rounds are to be so many at most; `format`; and `bench N`.
+use Rattle.std.specs.Prelude.{ℕ, ◌+◌, ◌≤◌, ◌&&◌, nat_le, Bool, true, false, List, [], ◌∷◌, length, take, drop, codes, decimal, Option, Some, None, IfSome, Result, Ok, Err, if◌then◌else◌, ⊤}
 use Rattle.std.specs.Str.{bytes_eq}
 use Rattle.scald_lex.specs.Bytes.{value_of}
 use Rattle.listing.specs.declared.case.Mode.{Mode}
 use Rattle.listing.specs.declared.case.Mode.TheVariants.{Full, Waves, Faults}
 use Rattle.scald_tool.specs.declared.words.Command.{Command}
-use Rattle.scald_tool.specs.declared.words.Command.TheVariants.{Verify, Format}
+use Rattle.scald_tool.specs.declared.words.Command.TheVariants.{Verify, Format, Bench}
 
 -- the most rounds that may be asked for
 abbrev pub most_rounds : ℕ
 most_rounds = 10000000
 
+-- the most sections that a generated drawing may have
+abbrev pub most_sections : ℕ
+most_sections = 200
+
 -- what stands behind a front
 abbrev pub behind : List ℕ → List ℕ → Option (List ℕ)
 behind front word = if bytes_eq (take (length front) word) front then Some (drop (length front) word) else None
 
--- the number, 1 or more, whose decimal text this is
-unfoldable pub limit_in : List ℕ → Option ℕ
-limit_in digits =
-    if bytes_eq digits (decimal (value_of digits)) && (nat_le 1 (value_of digits) && nat_le (value_of digits) most_rounds)
+-- the number of 1 to the most whose decimal text this is
+unfoldable pub number_in : ℕ → List ℕ → Option ℕ
+number_in most digits =
+    if bytes_eq digits (decimal (value_of digits)) && (nat_le 1 (value_of digits) && nat_le (value_of digits) most)
     then Some (value_of digits) else None
 
 abbrev pub limit_behind : Option (List ℕ) → Option ℕ
 limit_behind None = None
-limit_behind (Some digits) = limit_in digits
+limit_behind (Some digits) = number_in most_rounds digits
 
 -- the N of `rounds=N`
 abbrev pub limit_of : List ℕ → Option ℕ
@@ -55,6 +59,14 @@ abbrev pub behind_verify : List (List ℕ) → Result Command ℕ
 behind_verify [] = Ok (Verify Full None)
 behind_verify (w ∷ ws) = from_mode (mode_of w) w ws
 
+abbrev pub with_sections : Option ℕ → List (List ℕ) → Result Command ℕ
+with_sections None others = Err 1
+with_sections (Some n) others = alone (Bench n) 2 others
+
+abbrev pub behind_bench : List (List ℕ) → Result Command ℕ
+behind_bench [] = Err 1
+behind_bench (w ∷ ws) = with_sections (number_in most_sections w) ws
+
 -- The form that the words have. Of other words it is the number of the first with which no form goes on, or the count of
 -- words where one is missing.
 abbrev pub command_of : List (List ℕ) → Result Command ℕ
@@ -62,9 +74,23 @@ command_of [] = Err 0
 command_of (w ∷ ws) =
     if bytes_eq w (codes "verify") then behind_verify ws
     else if bytes_eq w (codes "format") then alone Format 1 ws
+    else if bytes_eq w (codes "bench") then behind_bench ws
     else Err 0
 
--- no more rounds are asked for than may be
+-- ---- what is asked for
+
+-- no more rounds or sections are asked for than may be
 abbrev pub IsWithin : Command → Type 0
 IsWithin (Verify mode rounds) = IfSome rounds (λ limit. limit ≤ most_rounds)
 IsWithin Format = ⊤
+IsWithin (Bench n) = (1 ≤ n) × (n ≤ most_sections)
+
+-- the form reads the source
+abbrev pub reads : Command → Bool
+reads (Bench n) = false
+reads command = true
+
+-- the words are of a form that reads
+abbrev pub are_reading : Result Command ℕ → Bool
+are_reading (Ok command) = reads command
+are_reading (Err i) = false

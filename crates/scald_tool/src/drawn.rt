@@ -1,25 +1,20 @@
-//! From a text to the drawing and the circuit that it draws.
+//! From a text to the drawing that it draws, and to its circuit and cases.
 
-ghost use Rattle.std.specs.Prelude.{◌≡◌, ◌-◌, ◌^◌, ◌<◌, IfOk, IfErr, length};
+ghost use Rattle.std.specs.Prelude.{◌≡◌, ◌-◌, ◌^◌, ◌<◌, ◌≤◌, IfOk, IfErr, length};
 ghost use Rattle.scald_base.specs.declared.refusal.Refusal.{Refusal};
 ghost use Rattle.drawing_tree.specs.Tree.{drawing_of};
 ghost use Rattle.drawing_tree.specs.WellFormed.{IsWellFormed};
-ghost use Rattle.drawing_reader.specs.CanonicalDraws.{TextDraws};
+ghost use Rattle.drawing_grammar.specs.CanonicalDraws.{TextDraws};
 ghost use Rattle.scald_tool.specs.Drawn.{DrawsCircuit, IsRefusal, IsTextRefused};
 
+use case_analysis::check_cases;
 use drawing_reader::read_drawing;
 use drawing_tree::Drawing;
-use flat_circuit::Circuit;
+use flat_circuit::{CaseList, Circuit};
 use macro_expander::expand;
-use scald_base::{Place, Refusal, RefusalKind, Stop};
+use scald_base::Stop;
 use scald_lex::tokens;
 use std::alloc::Global;
-
-/// What is said of a drawing with cases, which are not evaluated yet.
-const NOT_BUILT: Refusal = Refusal {
-    kind: RefusalKind::NotBuilt,
-    place: Place { line: 1, col: 1 },
-};
 
 /// The drawing that a text draws, or its refusal.
 pub fn read_text(alloc: Global, text: &[u8]) -> Result<Drawing, Stop>
@@ -38,10 +33,18 @@ pub fn read_text(alloc: Global, text: &[u8]) -> Result<Drawing, Stop>
     }
 }
 
-/// The circuit that a text draws, or its refusal.
-pub fn read_circuit(alloc: Global, text: &[u8]) -> Result<Circuit, Stop>
+/// A circuit and the cases in which it is looked at.
+#[derive(Drop)]
+pub struct Drawn {
+    pub circuit: Circuit,
+    pub cases: CaseList,
+}
+
+/// The circuit that a text draws, with its cases, or the text's refusal.
+pub fn read_circuit(alloc: Global, text: &[u8]) -> Result<Drawn, Stop>
     requires { length text.now < 2 ^ 32 - 1 }
-    ensures drawn { IfOk result (λ circuit. DrawsCircuit text.now circuit) }
+    ensures drawn { IfOk result (λ drawn. DrawsCircuit text.now drawn.circuit drawn.cases) }
+    ensures few { IfOk result (λ drawn. length drawn.cases ≤ 256) }
     ensures refused { IfErr result (λ stop. (r : Refusal) → stop ≡ Stop.Refused r → IsTextRefused text.now r) }
 {
     let drawing = match read_text(alloc, text) {
@@ -53,8 +56,8 @@ pub fn read_circuit(alloc: Global, text: &[u8]) -> Result<Circuit, Stop>
         Err(stop) => return Err(stop),
     };
     circuit.known();
-    if !drawing.cases.is_empty() {
-        return Err(Stop::Refused(NOT_BUILT));
+    match check_cases(alloc, &circuit, &drawing) {
+        Ok(cases) => Ok(Drawn { circuit, cases }),
+        Err(stop) => Err(stop),
     }
-    Ok(circuit)
 }

@@ -1,10 +1,11 @@
 //! The faults of a case.
 
-ghost use Rattle.std.specs.Prelude.{◌≡◌, ◌++◌, ◌<◌, ◌^◌, ℕ, IfOk, OnOk, length, map};
+ghost use Rattle.std.specs.Prelude.{◌≡◌, ◌+◌, ◌++◌, ◌≤◌, ℕ, List, IfOk, OnOk, length, map};
 ghost use Rattle.skew_algebra.specs.Wave.{skewed};
 ghost use Rattle.fixpoint_engine.specs.Reach.{reach};
 ghost use Rattle.fixpoint_engine.specs.Settled.{FitWaves, waves_of};
-ghost use Rattle.case_analysis.specs.Base.{PermitInputs};
+ghost use Rattle.flat_circuit.specs.declared.case.CaseValue.{CaseValue};
+ghost use Rattle.case_analysis.specs.Case.{PermitCase};
 ghost use Rattle.case_analysis.specs.Tick.{tick};
 ghost use Rattle.scald_tool.specs.Case.{faults_of};
 ghost use Rattle.scald_tool.specs.Promise.{KeepsFaultless};
@@ -29,8 +30,9 @@ fn add_all(faults: &mut Faults, more: &Faults) -> Result<(), NoMemory>
 }
 
 /// The faults that the waves of all nets show, at rest: about the edges of clocks, at marked pins and of
-/// assertions, and then of the widths of pulses. Where the waves permit the runs of the circuit after so
-/// many rounds, what has no fault is never broken in them from the tick on that is printed for these.
+/// assertions, and then of the widths of pulses. Where the waves permit the runs of a case after so many
+/// rounds of the base and of the case, what has no fault is never broken in them from the tick on that is
+/// printed for these.
 pub fn faults<W: CyclicWave<Item = Value>>(
     alloc: Global,
     circuit: &Circuit,
@@ -38,9 +40,9 @@ pub fn faults<W: CyclicWave<Item = Value>>(
 ) -> Result<Faults, NoMemory>
     requires { FitWaves circuit.now (map (λ w. skewed (W.cells w.wave) w.skew) waves.now) }
     ensures are { IfOk result (λ faults. faults ≡ faults_of circuit.now (waves_of (map (λ w. skewed (W.cells w.wave) w.skew) waves.now))) }
-    ensures few { IfOk result (λ faults. length faults < 2 ^ 32) }
-    ensures keep { IfOk result (λ faults. (rounds : ℕ) → PermitInputs circuit.now rounds (waves_of (map (λ w. skewed (W.cells w.wave) w.skew) waves.now)) →
-        KeepsFaultless circuit.now faults (tick (reach circuit.now) rounds 0)) }
+    ensures few { IfOk result (λ faults. length faults ≤ 458752) }
+    ensures keep { IfOk result (λ faults. (values : List CaseValue) (base rounds : ℕ) → PermitCase circuit.now values (base + rounds) (waves_of (map (λ w. skewed (W.cells w.wave) w.skew) waves.now)) →
+        KeepsFaultless circuit.now values faults (tick (reach circuit.now) base rounds)) }
 {
     circuit.known();
     circuit.header().known();

@@ -1,14 +1,15 @@
 //! From a text to the canonical text of its drawing.
 
-ghost use Rattle.std.specs.Prelude.{◌≡◌, ◌≢◌, ◌-◌, ◌^◌, ◌<◌, IfOk, length, true, false};
+ghost use Rattle.std.specs.Prelude.{◌≡◌, ◌≢◌, ◌-◌, ◌^◌, ◌<◌, IfOk, length, true};
 ghost use Rattle.drawing_tree.specs.Tree.{drawing_of};
 ghost use Rattle.drawing_tree.specs.Canonical.{canonical};
 ghost use Rattle.scald_tool.specs.Answer.{Formatted};
-ghost use Rattle.scald_tool.specs.Promise.{judges, speaks};
+ghost use Rattle.scald_tool.specs.Promise.{may_give};
 
 use crate::drawn::read_text;
 use crate::outcome::Outcome;
 use crate::reply::{Reply, refused};
+use crate::words::Command;
 use drawing_tree::{Drawing, print_drawing};
 use scald_base::{NoMemory, Stop};
 use std::alloc::Global;
@@ -17,8 +18,7 @@ use std::alloc::Global;
 pub fn format(alloc: Global, text: &[u8]) -> Result<Reply, NoMemory>
     requires { length text.now < 2 ^ 32 - 1 }
     ensures is { IfOk result (λ reply. Formatted text.now reply.outcome reply.bytes) }
-    ensures speaks { IfOk result (λ reply. speaks reply.outcome ≡ true) }
-    ensures unjudged { IfOk result (λ reply. judges reply.outcome ≡ false) }
+    ensures given { IfOk result (λ reply. may_give Command.Format reply.outcome ≡ true) }
 {
     match read_text(alloc, text) {
         Ok(drawing) => formatted(alloc, &drawing),

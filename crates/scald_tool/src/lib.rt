@@ -11,8 +11,10 @@ mod drawn;
 mod words;
 
 // what is made of it
+mod bench;
 mod faults;
 mod format;
+mod report;
 mod verify;
 
 // what goes out

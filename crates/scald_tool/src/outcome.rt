@@ -1,6 +1,7 @@
 //! How a call of the program ends.
 
 ghost use Rattle.std.specs.Prelude.{◌≡◌};
+ghost use Rattle.scald_tool.specs.Report.{faults_in};
 ghost use Rattle.scald_tool.specs.Status.{status_of};
 
 use scald_base::Refusal;
@@ -48,5 +49,15 @@ pub fn status(outcome: &Outcome) -> u8
         Outcome::ReadFault => 6,
         Outcome::WriteFault => 7,
         Outcome::NoMemory => 8,
+    }
+}
+
+/// How many faults an outcome counts.
+pub fn faults_in(outcome: Outcome) -> u32
+    ensures { result ≡ faults_in outcome }
+{
+    match outcome {
+        Outcome::Faulty(count) => count,
+        _ => 0,
     }
 }

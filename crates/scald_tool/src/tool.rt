@@ -1,70 +1,72 @@
 //! The whole call: words and bytes in, bytes and an outcome out.
 
-ghost use Rattle.std.specs.Prelude.{◌≡◌, ◌≢◌, ℕ, ◌<◌, length, true, Ok, Err, IsOk, IsErr, IfSome, ◌⊎◌};
+ghost use Rattle.std.specs.Prelude.{◌≡◌, ◌≢◌, ℕ, List, ◌≤◌, ◌<◌, length, true, false, Ok, Err, IfOk, IsErr, IsErrOf, IfSome, ◌⊎◌};
 ghost use Rattle.std.specs.Io.KnownBytes.{IsAtEnd};
-ghost use Rattle.scald_base.specs.Device.{Rose, ReadsFront, ReadsPast};
-ghost use Rattle.scald_tool.specs.Words.{command_of};
+ghost use Rattle.scald_base.specs.Device.{Rose, ReadsAll, ReadsFront, ReadsPast};
+ghost use Rattle.scald_tool.specs.Words.{are_reading, command_of, reads};
 ghost use Rattle.scald_tool.specs.Answer.{most_bytes};
-ghost use Rattle.scald_tool.specs.Promise.{IsAnswered, IsCutShort, RestsWithoutLoops, are_verify, speaks, is_silent, judges, has_report, NeverBreaks, FaultlessNeverBreaks};
+ghost use Rattle.scald_tool.specs.Promise.{AreTold, IsAnswered, IsCutShort, RestsWithoutLoops, FaultlessNeverBreaks, NeverBreaks, has_read, has_report, is_silent, may_answer, speaks};
 
 use crate::answer::answer;
 use crate::outcome::Outcome;
 use crate::words::{Command, Words, read_words};
-use scald_base::{ReadEnd, Sink, Source, read_all, write_all};
+use scald_base::{Bytes, ReadEnd, Sink, Source, read_all, write_all};
 use std::alloc::Global;
 
 /// The most bytes of a text.
 const MOST_BYTES: u32 = 4_194_304;
 
-/// Reads the drawing that the source gives, and writes to the sink what the words ask for: the report
-/// on it, or its canonical text.
+/// Answers what the words ask for and writes it to the sink: the report on the drawing that the source
+/// gives, or its canonical text, or the numbers of the report on a generated drawing.
 ///
-/// The source is read to its end, or to the first byte past 4,194,304, or to its first fault. All of
-/// the answer is made before the first byte of it is written.
+/// Where the words are of a form that reads, the source is read to its end, or to the first byte past
+/// 4,194,304, or to its first fault. All of the answer is made before the first byte of it is written.
 pub fn tool_main<S: Source, K: Sink>(
     alloc: Global,
     words: &Words,
     source: &mut S,
     sink: &mut K,
 ) -> Outcome
-    // Words of no form: the answer is their own, and nothing is read or written.
+    // Words of no form: the answer is their own. Nothing is read for them, nor for a form that does not
+    // read, and nothing is written where the outcome is silent.
     ensures bad_words { (i : ℕ) → command_of words.now ≡ Err i → result ≡ Outcome.BadWords i }
     ensures bad_words_only { (i : ℕ) → result ≡ Outcome.BadWords i → command_of words.now ≡ Err i }
-    ensures unread { IsErr (command_of words.now) → source.new ≡ source.old }
+    ensures unread { are_reading (command_of words.now) ≡ false → source.new ≡ source.old }
     ensures unwritten { is_silent result ≡ true → sink.new ≡ sink.old }
 
-    // Told bytes and no fault of a device: the answer that the words and the bytes have, with exactly
-    // its bytes, or no memory.
-    ensures whole { IfSome (S.left source.old) (λ text. IsOk (command_of words.now) →
-        ¬ Rose (S.faults source.old) (S.faults source.new) → ¬ Rose (K.faults sink.old) (K.faults sink.new) →
-        (result ≡ Outcome.NoMemory) ⊎ IsAnswered words.now text result (K.taken sink.old) (K.taken sink.new)) }
+    // Told bytes and no fault of a device that is used: the answer that the words and the bytes have,
+    // with exactly its bytes, or no memory.
+    ensures whole { (text : List ℕ) → AreTold words.now (S.left source.old) text →
+        (are_reading (command_of words.now) ≡ true → ¬ Rose (S.faults source.old) (S.faults source.new)) → ¬ Rose (K.faults sink.old) (K.faults sink.new) →
+        (result ≡ Outcome.NoMemory) ⊎ IsAnswered words.now text result (K.taken sink.old) (K.taken sink.new) }
 
     // Whatever the devices did, an outcome that speaks of the text comes only where it is the text's
     // own, all of the text was read, and all of the answer was written. No more than one byte past the
     // limit is read.
-    ensures truthful { IfSome (S.left source.old) (λ text. speaks result ≡ true →
-        IsAnswered words.now text result (K.taken sink.old) (K.taken sink.new)) }
+    ensures truthful { (text : List ℕ) → AreTold words.now (S.left source.old) text → speaks result ≡ true →
+        IsAnswered words.now text result (K.taken sink.old) (K.taken sink.new) }
     ensures front { ReadsFront (S.left source.old) (S.left source.new) most_bytes }
-    ensures to_end { IfSome (S.left source.old) (λ text. speaks result ≡ true → IsAtEnd (S.left source.new)) }
+    ensures to_end { IfSome (S.left source.old) (λ text. are_reading (command_of words.now) ≡ true → speaks result ≡ true → IsAtEnd (S.left source.new)) }
 
     // No fault of a device is hidden.
     ensures source_steady { result ≢ Outcome.ReadFault → S.faults source.new ≡ S.faults source.old }
     ensures sink_steady { result ≢ Outcome.WriteFault → K.faults sink.new ≡ K.faults sink.old }
 
-    // Why the others come. Only `verify` judges a drawing, and only `format` writes its text.
-    ensures judged { judges result ≡ true → are_verify (command_of words.now) ≡ true }
-    ensures done { result ≡ Outcome.Done → command_of words.now ≡ Ok Command.Format }
+    // Why the others come, and of which forms. No other form judges a drawing than `verify`, and it alone
+    // is never done with one.
+    ensures given { speaks result ≡ true → may_answer (command_of words.now) result ≡ true }
+    ensures read_first { has_read result ≡ true → are_reading (command_of words.now) ≡ true }
     ensures read_fault { result ≡ Outcome.ReadFault → Rose (S.faults source.old) (S.faults source.new) }
     ensures write_fault { result ≡ Outcome.WriteFault → Rose (K.faults sink.old) (K.faults sink.new) }
-    ensures cut_short { IfSome (S.left source.old) (λ text. result ≡ Outcome.WriteFault →
-        IsCutShort words.now text (K.taken sink.old) (K.taken sink.new)) }
+    ensures cut_short { (text : List ℕ) → AreTold words.now (S.left source.old) text → result ≡ Outcome.WriteFault →
+        IsCutShort words.now text (K.taken sink.old) (K.taken sink.new) }
     ensures too_long { result ≡ Outcome.TooLong → ReadsPast (S.left source.old) (S.left source.new) most_bytes }
-    ensures long_text { IfSome (S.left source.old) (λ text. IsOk (command_of words.now) → most_bytes < length text →
+    ensures long_text { IfSome (S.left source.old) (λ text. are_reading (command_of words.now) ≡ true → most_bytes < length text →
         ¬ Rose (S.faults source.old) (S.faults source.new) →
         (result ≡ Outcome.NoMemory) ⊎ (result ≡ Outcome.TooLong)) }
 
     // Waves without loops rest, where no other limit is asked for.
-    ensures loopless { IfSome (S.left source.old) (λ text. RestsWithoutLoops words.now text result) }
+    ensures loopless { (text : List ℕ) → AreTold words.now (S.left source.old) text → RestsWithoutLoops words.now text result }
 
     // No fault, no break: in every run of the circuit that the text draws, from the printed tick on.
     ensures clean { IfSome (S.left source.old) (λ text. result ≡ Outcome.Clean → NeverBreaks text) }
@@ -74,7 +76,7 @@ pub fn tool_main<S: Source, K: Sink>(
         Ok(command) => command,
         Err(i) => return Outcome::BadWords(i),
     };
-    let text = match read_all(alloc, source, MOST_BYTES) {
+    let text = match text_for(alloc, command, source) {
         Ok(text) => text,
         Err(ReadEnd::TooLong) => return Outcome::TooLong,
         Err(ReadEnd::ReadFault) => return Outcome::ReadFault,
@@ -87,5 +89,23 @@ pub fn tool_main<S: Source, K: Sink>(
     match write_all(sink, reply.bytes.as_slice()) {
         Ok(()) => reply.outcome,
         Err(_) => Outcome::WriteFault,
+    }
+}
+
+/// All bytes of the source where the command reads them, and no bytes where it does not.
+fn text_for<S: Source>(alloc: Global, command: Command, source: &mut S) -> Result<Bytes, ReadEnd>
+    ensures all { reads command ≡ true → IfOk result (λ text. ReadsAll (S.left source.old) (S.left source.new) most_bytes text) }
+    ensures short { IfOk result (λ text. length text ≤ most_bytes) }
+    ensures unread { reads command ≡ false → source.new ≡ source.old }
+    ensures asked { IsErr result → reads command ≡ true }
+    ensures too_long { IsErrOf result ReadEnd.TooLong → ReadsPast (S.left source.old) (S.left source.new) most_bytes }
+    ensures front { ReadsFront (S.left source.old) (S.left source.new) most_bytes }
+    ensures fault { IsErrOf result ReadEnd.ReadFault → Rose (S.faults source.old) (S.faults source.new) }
+    ensures steady { ¬ IsErrOf result ReadEnd.ReadFault → S.faults source.new ≡ S.faults source.old }
+{
+    if command.reads() {
+        read_all(alloc, source, MOST_BYTES)
+    } else {
+        Ok(Bytes::new(alloc))
     }
 }

@@ -1,35 +1,37 @@
 //! From a text to the outcome and the bytes of the report on its circuit.
 
-ghost use Rattle.std.specs.Prelude.{◌≡◌, ◌≢◌, ◌-◌, ◌^◌, ◌<◌, ◌≤◌, ℕ, true, None, IfOk, IfSome, length, map};
+ghost use Rattle.std.specs.Prelude.{◌≡◌, ◌≢◌, ◌+◌, ◌-◌, ◌^◌, ◌<◌, ◌≤◌, ℕ, [], true, None, IfOk, IfErr, IfSome, OnOk, length, map};
 ghost use Rattle.std.specs.List.{All};
 ghost use Rattle.skew_algebra.specs.Wave.{skewed};
-ghost use Rattle.fixpoint_engine.specs.Loops.{HasNoLoop};
-ghost use Rattle.fixpoint_engine.specs.Rounds.{AreSame};
-ghost use Rattle.fixpoint_engine.specs.Settled.{FitWaves, waves_of};
 ghost use Rattle.flat_circuit.specs.Instances.{outputs};
-ghost use Rattle.case_analysis.specs.Base.{PermitInputs, base_round};
-ghost use Rattle.scald_tool.specs.Answer.{Judged, Verified, limit_for, verdict_of};
-ghost use Rattle.scald_tool.specs.Case.{base_case, fault_count};
-ghost use Rattle.scald_tool.specs.Drawn.{IsLoopless};
-ghost use Rattle.scald_tool.specs.Report.{report};
+ghost use Rattle.fixpoint_engine.specs.Loops.{HasNoLoop};
+ghost use Rattle.fixpoint_engine.specs.Settled.{FitWaves, waves_of};
+ghost use Rattle.fixpoint_engine.specs.Rounds.{RestsAt};
+ghost use Rattle.case_analysis.specs.Base.{IsBase, PermitInputs, base_round};
+ghost use Rattle.case_analysis.specs.Case.{NetsExist};
 ghost use Rattle.listing.specs.Answer.{unsettled_line};
+ghost use Rattle.scald_tool.specs.Answer.{Judged, Verified, limit_for};
+ghost use Rattle.scald_tool.specs.Case.{listed_cases, numbered};
+ghost use Rattle.scald_tool.specs.Drawn.{IsLoopless};
+ghost use Rattle.scald_tool.specs.Ended.{EndsEarly, IsEnded};
+ghost use Rattle.scald_tool.specs.Reported.{EndsCase, EndsCases, IsReported, Tells};
 ghost use Rattle.scald_tool.specs.Promise.{FaultlessNeverBreaks, IsKept, IsSafe, NeverBreaks, has_report, speaks};
 
 use crate::drawn::read_circuit;
-use crate::faults::faults;
 use crate::outcome::Outcome;
 use crate::reply::{Reply, refused};
-use case_analysis::{base, default_limit, reach, tick};
+use crate::report::Report;
+use case_analysis::{base, case_waves, default_limit};
 use fixpoint_engine::{EngineEnd, Settled};
-use flat_circuit::Circuit;
-use listing::{Mode, begin_report, end_report, write_case, write_unsettled};
+use flat_circuit::{Case, CaseList, Circuit};
+use listing::{Mode, write_unsettled};
 use scald_base::{Bytes, NoMemory, Stop};
 use std::alloc::Global;
 use step_values::Value;
 use wave_core::{CyclicWave, SlotWave};
 
-/// The answer to a text: the report that the mode asks for, after at most so many rounds where the
-/// number is given.
+/// The answer to a text: the report that the mode asks for, after at most so many rounds of the base and
+/// of each case where the number is given.
 pub fn verify(
     alloc: Global,
     text: &[u8],
@@ -46,9 +48,9 @@ pub fn verify(
     ensures loopless { IfOk result (λ reply. (place round : ℕ) → rounds ≡ None → IsLoopless text.now → reply.outcome ≢ Outcome.Unsettled place round) }
 {
     match read_circuit(alloc, text) {
-        Ok(circuit) => {
-            let limit = limit_for(&circuit, rounds);
-            judged::<SlotWave<Value>>(alloc, &circuit, mode, limit)
+        Ok(drawn) => {
+            let limit = limit_for(&drawn.circuit, rounds);
+            judged::<SlotWave<Value>>(alloc, &drawn.circuit, &drawn.cases, mode, limit)
         }
         Err(Stop::Refused(refusal)) => refused(alloc, refusal),
         Err(Stop::NoMemory) => Err(NoMemory),
@@ -67,28 +69,161 @@ fn limit_for(circuit: &Circuit, rounds: Option<u32>) -> u32
     }
 }
 
-/// The report on a circuit, or the net that does not rest within so many rounds.
+/// The report on a circuit and its cases, or the net that does not rest within so many rounds.
 fn judged<W: CyclicWave<Item = Value>>(
+    alloc: Global,
+    circuit: &Circuit,
+    cases: &CaseList,
+    mode: Mode,
+    limit: u32,
+) -> Result<Reply, NoMemory>
+    requires few { limit ≤ 10000000 }
+    requires not_many { length cases.now ≤ 256 }
+    requires exist { All (NetsExist circuit.now) cases.now }
+    ensures is { IfOk result (λ reply. Judged mode circuit.now cases.now limit reply.outcome reply.bytes) }
+    ensures speaks { IfOk result (λ reply. speaks reply.outcome ≡ true) }
+    ensures not_done { IfOk result (λ reply. reply.outcome ≢ Outcome.Done) }
+    ensures faultless { IfOk result (λ reply. has_report reply.outcome ≡ true → IsSafe circuit.now cases.now limit (IsKept circuit.now)) }
+    ensures loopless { IfOk result (λ reply. (place round : ℕ) → HasNoLoop circuit.now → outputs circuit.now.instances ≤ limit → reply.outcome ≢ Outcome.Unsettled place round) }
+{
+    match rested::<W>(alloc, circuit, cases, mode, limit) {
+        Ok(rested) => Ok(rested.reply),
+        Err(end) => ended(alloc, circuit, end),
+    }
+}
+
+/// A report, and the round in which the base of its circuit came to rest.
+#[derive(Drop)]
+pub struct AtRest {
+    pub reply: Reply,
+    pub base: u32,
+}
+
+/// The report on a circuit and its cases, or the end of the base or of the first case that does not rest
+/// within so many rounds.
+pub fn rested<W: CyclicWave<Item = Value>>(
+    alloc: Global,
+    circuit: &Circuit,
+    cases: &CaseList,
+    mode: Mode,
+    limit: u32,
+) -> Result<AtRest, EngineEnd>
+    requires few { limit ≤ 10000000 }
+    requires not_many { length cases.now ≤ 256 }
+    requires exist { All (NetsExist circuit.now) cases.now }
+    ensures rests { IfOk result (λ rested. RestsAt (base_round circuit.now) limit rested.base) }
+    ensures told { IfOk result (λ rested. IsReported mode circuit.now limit rested.base (listed_cases cases.now) rested.reply.outcome rested.reply.bytes) }
+    ensures ended { IfErr result (EndsEarly circuit.now cases.now limit) }
+    ensures loopless { HasNoLoop circuit.now → outputs circuit.now.instances ≤ limit → IfErr result (λ end. end ≡ EngineEnd.NoMemory) }
+{
+    let base = base::<W>(alloc, circuit, limit)?;
+    let rounds = base.rounds;
+    let reply = reported(alloc, circuit, cases, mode, limit, base)?;
+    Ok(AtRest {
+        reply,
+        base: rounds,
+    })
+}
+
+/// The report on a circuit whose base is at rest, or the end of the first case that never rests.
+fn reported<W: CyclicWave<Item = Value>>(
+    alloc: Global,
+    circuit: &Circuit,
+    cases: &CaseList,
+    mode: Mode,
+    limit: u32,
+    base: Settled<W>,
+) -> Result<Reply, EngineEnd>
+    requires few { limit ≤ 10000000 }
+    requires not_many { length cases.now ≤ 256 }
+    requires exist { All (NetsExist circuit.now) cases.now }
+    requires fit { FitWaves circuit.now (map (λ w. skewed (W.cells w.wave) w.skew) base.waves) }
+    requires rest { IsBase circuit.now limit base.rounds (waves_of (map (λ w. skewed (W.cells w.wave) w.skew) base.waves)) }
+    requires permits { PermitInputs circuit.now base.rounds (waves_of (map (λ w. skewed (W.cells w.wave) w.skew) base.waves)) }
+    ensures told { IfOk result (λ reply. IsReported mode circuit.now limit base.rounds (listed_cases cases.now) reply.outcome reply.bytes) }
+    ensures ended { IfErr result (EndsCases circuit.now limit base.rounds (listed_cases cases.now)) }
+    ensures loopless { HasNoLoop circuit.now → outputs circuit.now.instances ≤ limit → IfErr result (λ end. end ≡ EngineEnd.NoMemory) }
+{
+    if cases.is_empty() {
+        Ok(base_alone(alloc, circuit, mode, limit, base)?)
+    } else {
+        each_case(alloc, circuit, cases.as_slice(), mode, limit, &base)
+    }
+}
+
+/// The report on a circuit without cases of its own.
+fn base_alone<W: CyclicWave<Item = Value>>(
     alloc: Global,
     circuit: &Circuit,
     mode: Mode,
     limit: u32,
+    base: Settled<W>,
 ) -> Result<Reply, NoMemory>
-    requires { limit ≤ 10000000 }
-    ensures is { IfOk result (λ reply. Judged mode circuit.now limit reply.outcome reply.bytes) }
-    ensures speaks { IfOk result (λ reply. speaks reply.outcome ≡ true) }
-    ensures not_done { IfOk result (λ reply. reply.outcome ≢ Outcome.Done) }
-    ensures faultless { IfOk result (λ reply. has_report reply.outcome ≡ true → IsSafe circuit.now limit (IsKept circuit.now)) }
-    ensures loopless { IfOk result (λ reply. (place round : ℕ) → HasNoLoop circuit.now → outputs circuit.now.instances ≤ limit → reply.outcome ≢ Outcome.Unsettled place round) }
+    requires few { limit ≤ 10000000 }
+    requires fit { FitWaves circuit.now (map (λ w. skewed (W.cells w.wave) w.skew) base.waves) }
+    requires rest { IsBase circuit.now limit base.rounds (waves_of (map (λ w. skewed (W.cells w.wave) w.skew) base.waves)) }
+    requires permits { PermitInputs circuit.now base.rounds (waves_of (map (λ w. skewed (W.cells w.wave) w.skew) base.waves)) }
+    ensures { IfOk result (λ reply. IsReported mode circuit.now limit base.rounds (listed_cases []) reply.outcome reply.bytes) }
 {
-    match base::<W>(alloc, circuit, limit) {
-        Ok(settled) => {
-            let base = settled.rounds;
-            reported(alloc, circuit, mode, base, &only_case(settled))
-        }
-        Err(EngineEnd::Unsettled { net, round }) => unsettled(alloc, circuit, net, round),
-        Err(EngineEnd::NoMemory) => Err(NoMemory),
+    let mut report = Report::begin(alloc, circuit)?;
+    let rounds = base.rounds;
+    report.add_case(alloc, circuit, mode, 0, rounds, &only_case(base))?;
+    report.end()
+}
+
+/// The report on a circuit with cases, or the end of the first that never rests. Nothing of a case is kept
+/// but its lines and how many faults it has.
+fn each_case<W: CyclicWave<Item = Value>>(
+    alloc: Global,
+    circuit: &Circuit,
+    cases: &[Case],
+    mode: Mode,
+    limit: u32,
+    base: &Settled<W>,
+) -> Result<Reply, EngineEnd>
+    requires few { limit ≤ 10000000 }
+    requires not_many { length cases.now ≤ 256 }
+    requires exist { All (NetsExist circuit.now) cases.now }
+    requires fit { FitWaves circuit.now (map (λ w. skewed (W.cells w.wave) w.skew) base.now.waves) }
+    requires rest { IsBase circuit.now limit base.now.rounds (waves_of (map (λ w. skewed (W.cells w.wave) w.skew) base.now.waves)) }
+    ensures told { IfOk result (λ reply. IsReported mode circuit.now limit base.now.rounds (numbered 1 cases.now) reply.outcome reply.bytes) }
+    ensures ended { IfErr result (EndsCases circuit.now limit base.now.rounds (numbered 1 cases.now)) }
+    ensures loopless { HasNoLoop circuit.now → outputs circuit.now.instances ≤ limit → IfErr result (λ end. end ≡ EngineEnd.NoMemory) }
+{
+    let mut report = Report::begin(alloc, circuit)?;
+    let mut number = 0;
+    for case in cases {
+        number += 1;
+        tell_case(alloc, circuit, case, number, mode, limit, base, &mut report)?;
     }
+    Ok(report.end()?)
+}
+
+/// Puts the lines of a case, which has this number, behind those of the others, or says where it never
+/// rests.
+fn tell_case<W: CyclicWave<Item = Value>>(
+    alloc: Global,
+    circuit: &Circuit,
+    case: &Case,
+    number: u32,
+    mode: Mode,
+    limit: u32,
+    base: &Settled<W>,
+    report: &mut Report,
+) -> Result<(), EngineEnd>
+    requires few { limit ≤ 10000000 }
+    requires room { report.old.total + 458752 < 2 ^ 32 }
+    requires exist { NetsExist circuit.now case.now }
+    requires fit { FitWaves circuit.now (map (λ w. skewed (W.cells w.wave) w.skew) base.now.waves) }
+    requires rest { IsBase circuit.now limit base.now.rounds (waves_of (map (λ w. skewed (W.cells w.wave) w.skew) base.now.waves)) }
+    ensures told { OnOk result (Tells mode circuit.now limit base.now.rounds (record { number = number; values = case.now }) report.old.bytes report.new.bytes report.old.total report.new.total) }
+    ensures few { OnOk result (report.new.total ≤ report.old.total + 458752) }
+    ensures ended { IfErr result (EndsCase circuit.now limit base.now.rounds (record { number = number; values = case.now })) }
+    ensures loopless { HasNoLoop circuit.now → outputs circuit.now.instances ≤ limit → IfErr result (λ end. end ≡ EngineEnd.NoMemory) }
+{
+    let settled = case_waves(alloc, circuit, base, case, limit)?;
+    report.add_case(alloc, circuit, mode, number, base.rounds, &settled)?;
+    Ok(())
 }
 
 /// The one case of a drawing without cases of its own: the base, from which it takes no more rounds.
@@ -108,44 +243,15 @@ fn only_case<W: CyclicWave<Item = Value>>(base: Settled<W>) -> Settled<W>
     }
 }
 
-/// The report on a circuit whose base is at rest in this round, and its one case.
-fn reported<W: CyclicWave<Item = Value>>(
-    alloc: Global,
-    circuit: &Circuit,
-    mode: Mode,
-    base: u32,
-    case: &Settled<W>,
-) -> Result<Reply, NoMemory>
-    requires few { base ≤ 10000000 }
-    requires rounds { case.now.rounds ≡ 0 }
-    requires fit { FitWaves circuit.now (map (λ w. skewed (W.cells w.wave) w.skew) case.now.waves) }
-    requires waves { AreSame (waves_of (map (λ w. skewed (W.cells w.wave) w.skew) case.now.waves)) (base_round circuit.now base) }
-    requires permits { PermitInputs circuit.now base (waves_of (map (λ w. skewed (W.cells w.wave) w.skew) case.now.waves)) }
-    ensures outcome { IfOk result (λ reply. reply.outcome ≡ verdict_of (fault_count circuit.now base)) }
-    ensures bytes { IfOk result (λ reply. reply.bytes ≡ report mode circuit.now base) }
-    ensures kept { IfOk result (λ _. IsKept circuit.now base (base_case circuit.now base)) }
+/// What is answered where a circuit or a case of it does not rest: the line of the first net that still
+/// changes in the round at the limit.
+pub fn ended(alloc: Global, circuit: &Circuit, end: EngineEnd) -> Result<Reply, NoMemory>
+    requires { (place round : ℕ) → end ≡ EngineEnd.Unsettled place round → place < length circuit.now.order }
+    ensures { IfOk result (λ reply. IsEnded circuit.now end reply.outcome reply.bytes) }
 {
-    let faults = faults(alloc, circuit, &case.waves)?;
-    let total = faults.len() as u32;
-    let tick = tick(reach(circuit), base, case.rounds);
-    let mut bytes = Bytes::new(alloc);
-    begin_report(circuit, &mut bytes)?;
-    write_case(circuit, 0, base, case, tick, &faults, mode, &mut bytes)?;
-    end_report(total, &mut bytes)?;
-    Ok(Reply {
-        outcome: verdict(total),
-        bytes,
-    })
-}
-
-/// The outcome of a circuit with so many faults.
-fn verdict(total: u32) -> Outcome
-    ensures { result ≡ verdict_of total }
-{
-    if total == 0 {
-        Outcome::Clean
-    } else {
-        Outcome::Faulty(total)
+    match end {
+        EngineEnd::Unsettled { net, round } => unsettled(alloc, circuit, net, round),
+        EngineEnd::NoMemory => Err(NoMemory),
     }
 }
 

@@ -2,7 +2,7 @@
 
 ghost use Rattle.std.specs.Prelude.{◌≡◌, ◌<◌, ◌≤◌, ◌^◌, ◌-◌, IfOk, IfSome, min};
 ghost use Rattle.scald_lex.specs.Bytes.{value_of};
-ghost use Rattle.scald_tool.specs.Words.{IsWithin, behind_mode, behind_verify, command_of, limit_in, limit_of, mode_of};
+ghost use Rattle.scald_tool.specs.Words.{IsWithin, alone, behind_bench, behind_mode, behind_verify, command_of, limit_of, mode_of, number_in, reads};
 
 use itoa::Buffer;
 use listing::Mode;
@@ -14,6 +14,9 @@ pub type Words = List<Bytes>;
 /// The most rounds that may be asked for.
 const MOST_ROUNDS: u32 = 10_000_000;
 
+/// The most sections that a generated drawing may have.
+const MOST_SECTIONS: u32 = 200;
+
 /// What the program is asked for.
 #[derive(Clone, Copy, PartialEq, Eq, Debug)]
 pub enum Command {
@@ -22,6 +25,18 @@ pub enum Command {
     Verify { mode: Mode, rounds: Option<u32> },
     /// `format`: the canonical text of a drawing.
     Format,
+    /// `bench`: the numbers of the report on the generated drawing of so many sections, 1 to 200. It reads
+    /// nothing.
+    Bench(u16),
+}
+
+impl Command {
+    /// Whether the source is read.
+    pub fn reads(self) -> bool
+        ensures { result ≡ reads self }
+    {
+        !matches!(self, Command::Bench(_))
+    }
 }
 
 /// What the words ask for. Where they are of no form, `Err` is the number of the first word with which
@@ -36,13 +51,24 @@ pub fn read_words(words: &Words) -> Result<Command, u32>
     if first.as_slice() == b"verify".as_slice() {
         behind_verify(others)
     } else if first.as_slice() == b"format".as_slice() {
-        if others.is_empty() {
-            Ok(Command::Format)
-        } else {
-            Err(1)
-        }
+        alone(Command::Format, 1, others)
+    } else if first.as_slice() == b"bench".as_slice() {
+        behind_bench(others)
     } else {
         Err(0)
+    }
+}
+
+/// The command, where no word stands behind those that ask for it. Such a word would have this number.
+fn alone(command: Command, place: u32, others: &[Bytes]) -> Result<Command, u32>
+    requires { IsWithin command }
+    ensures is { result ≡ alone command place others.now }
+    ensures within { IfOk result IsWithin }
+{
+    if others.is_empty() {
+        Ok(command)
+    } else {
+        Err(place)
     }
 }
 
@@ -71,16 +97,24 @@ fn behind_mode(mode: Mode, place: u32, words: &[Bytes]) -> Result<Command, u32>
     };
     match limit_of(first.as_slice()) {
         Some(limit) => {
-            if others.is_empty() {
-                Ok(Command::Verify {
-                    mode,
-                    rounds: Some(limit),
-                })
-            } else {
-                Err(place + 1)
-            }
+            let rounds = Some(limit);
+            alone(Command::Verify { mode, rounds }, place + 1, others)
         }
         None => Err(place),
+    }
+}
+
+/// What the words behind `bench` ask for.
+fn behind_bench(words: &[Bytes]) -> Result<Command, u32>
+    ensures is { result ≡ behind_bench words.now }
+    ensures within { IfOk result IsWithin }
+{
+    let [first, others @ ..] = words else {
+        return Err(1);
+    };
+    match number_in(MOST_SECTIONS, first.as_slice()) {
+        Some(sections) => alone(Command::Bench(sections as u16), 2, others),
+        None => Err(1),
     }
 }
 
@@ -103,20 +137,21 @@ fn limit_of(word: &[u8]) -> Option<u32>
     ensures within { IfSome result (λ limit. limit ≤ 10000000) }
 {
     match word.strip_prefix(b"rounds=") {
-        Some(digits) => limit_in(digits),
+        Some(digits) => number_in(MOST_ROUNDS, digits),
         None => None,
     }
 }
 
-/// The number of 1 to the most rounds whose decimal text this is.
-#[tactic(auto, unfolding(crate::specs::Words::limit_in))]
-fn limit_in(digits: &[u8]) -> Option<u32>
-    ensures is { result ≡ limit_in digits.now }
-    ensures within { IfSome result (λ limit. limit ≤ 10000000) }
+/// The number of 1 to the most whose decimal text this is.
+#[tactic(auto, unfolding(crate::specs::Words::number_in))]
+fn number_in(most: u32, digits: &[u8]) -> Option<u32>
+    requires { most < 2 ^ 32 - 1 }
+    ensures is { result ≡ number_in most digits.now }
+    ensures within { IfSome result (λ number. (1 ≤ number) × (number ≤ most)) }
 {
     let number = value(digits);
-    let is_limit = 1 <= number && number <= MOST_ROUNDS;
-    if is_limit && Buffer::new().format(number).as_bytes() == digits {
+    let is_within = 1 <= number && number <= most;
+    if is_within && Buffer::new().format(number).as_bytes() == digits {
         Some(number)
     } else {
         None

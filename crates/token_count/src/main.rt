@@ -1,5 +1,5 @@
 //! Counts the tokens of the text on standard input, so that the cost of a token can be measured on a
-//! built program: `bench/tokens.sh`.
+//! built program: `bench/run tokens`.
 #![tactic(auto)]
 
 use scald_base::{Bytes, ReadEnd, StdSource, Stop, read_all};

@@ -1,0 +1,26 @@
+use Rattle.std.proofs.Common.{◌∙◌, refl, sym, subst, ap, arith, length, None}
+use Rattle.design_gen.proofs.Sections.{datapath-short}
+use Rattle.scald_tool.specs.Answer.{measured}
+use Rattle.scald_tool.specs.Drawn.{IsTextRefused}
+use Rattle.scald_tool.proofs.Replies.{accepted, refused}
+use Rattle.scald_tool.proofs.Telling.{all-exist}
+use Rattle.scald_tool.proofs.bench.bench.Goals as goal
+
+pub read_circuit-requires : goal.read_circuit-requires
+read_circuit-requires c =
+    omega (arith, ap length c.as_slice.ensures, ap length c.in_ok-text.ensures, datapath-short c.args.sections (omega (arith, c.ranges.sections)))
+
+pub measured-requires-clause-exist : goal.measured-requires-clause-exist
+measured-requires-clause-exist c = all-exist c.in-Ok.drawn.circuit c.in-Ok.drawn.cases c.in-Ok.ensures.drawn.listed
+
+pub returns-in-Ok-clause-is : goal.returns-in-Ok-clause-is
+returns-in-Ok-clause-is c =
+    let same = c.as_slice.ensures ∙ c.in_ok-text.ensures in
+    rw same at (accepted (measured c.args.sections) None c.as_slice.result.now c.in-Ok.drawn.circuit c.in-Ok.drawn.cases _ _ c.in-Ok.ensures.drawn refl c.measured.ensures.is)
+
+pub returns-in-Err-Refused-clause-is : goal.returns-in-Err-Refused-clause-is
+returns-in-Err-Refused-clause-is c =
+    let same = c.as_slice.ensures ∙ c.in_ok-text.ensures in
+    rw same at (refused (measured c.args.sections) None c.as_slice.result.now _ _
+    (subst (IsTextRefused c.as_slice.result.now) (sym c.in-Err-Refused.refusal-is) (c.in-Err-Refused.ensures.refused c.in-Err-Refused.refusal c.in-Err-Refused.field-0-is))
+    c.refused.ensures.outcome c.refused.ensures.bytes)

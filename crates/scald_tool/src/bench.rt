@@ -1,0 +1,86 @@
+//! From a number of sections to the numbers of the report on the drawing that has so many.
+
+ghost use Rattle.std.specs.Prelude.{◌≡◌, ◌≢◌, ◌≤◌, ℕ, true, IfOk, length};
+ghost use Rattle.std.specs.List.{All};
+ghost use Rattle.fixpoint_engine.specs.Loops.{HasNoLoop};
+ghost use Rattle.fixpoint_engine.specs.Reach.{reach};
+ghost use Rattle.fixpoint_engine.specs.Start.{default_limit};
+ghost use Rattle.case_analysis.specs.Case.{NetsExist};
+ghost use Rattle.case_analysis.specs.Tick.{tick};
+ghost use Rattle.design_gen.specs.Datapath.{datapath};
+ghost use Rattle.listing.specs.Answer.{summary_line};
+ghost use Rattle.scald_tool.specs.Answer.{Benched, Concluded, measured};
+ghost use Rattle.scald_tool.specs.Drawn.{IsLoopless};
+ghost use Rattle.scald_tool.specs.Promise.{may_give};
+ghost use Rattle.scald_tool.specs.Report.{faults_in};
+
+use crate::drawn::read_circuit;
+use crate::outcome::{Outcome, faults_in};
+use crate::reply::{Reply, refused};
+use crate::verify::{AtRest, ended, rested};
+use crate::words::Command;
+use case_analysis::{default_limit, reach, tick};
+use design_gen::generate;
+use flat_circuit::{CaseList, Circuit};
+use listing::{Mode, write_summary};
+use scald_base::{Bytes, NoMemory, Stop};
+use std::alloc::Global;
+use step_values::Value;
+use wave_core::{CyclicWave, SlotWave};
+
+/// The numbers of the report on the generated drawing of so many sections, at its own limit of rounds;
+/// or, as `verify` has it, why that is refused or which net does not rest.
+pub fn bench(alloc: Global, sections: u16) -> Result<Reply, NoMemory>
+    ensures is { IfOk result (λ reply. Benched sections reply.outcome reply.bytes) }
+    ensures given { IfOk result (λ reply. may_give (Command.Bench sections) reply.outcome ≡ true) }
+    ensures loopless { IfOk result (λ reply. (place round : ℕ) → IsLoopless (datapath sections) → reply.outcome ≢ Outcome.Unsettled place round) }
+{
+    let text = generate(alloc, sections)?;
+    match read_circuit(alloc, text.as_slice()) {
+        Ok(drawn) => { measured::<SlotWave<Value>>(alloc, sections, &drawn.circuit, &drawn.cases) }
+        Err(Stop::Refused(refusal)) => refused(alloc, refusal),
+        Err(Stop::NoMemory) => Err(NoMemory),
+    }
+}
+
+/// The numbers of the report on a circuit of so many sections, or the net that does not rest within the
+/// circuit's own limit.
+fn measured<W: CyclicWave<Item = Value>>(
+    alloc: Global,
+    sections: u16,
+    circuit: &Circuit,
+    cases: &CaseList,
+) -> Result<Reply, NoMemory>
+    requires not_many { length cases.now ≤ 256 }
+    requires exist { All (NetsExist circuit.now) cases.now }
+    ensures is { IfOk result (λ reply. Concluded (measured sections) circuit.now cases.now (default_limit circuit.now) reply.outcome reply.bytes) }
+    ensures given { IfOk result (λ reply. may_give (Command.Bench sections) reply.outcome ≡ true) }
+    ensures loopless { IfOk result (λ reply. (place round : ℕ) → HasNoLoop circuit.now → reply.outcome ≢ Outcome.Unsettled place round) }
+{
+    let limit = default_limit(circuit);
+    match rested::<W>(alloc, circuit, cases, Mode::Faults, limit) {
+        Ok(rested) => summary(alloc, sections, circuit, &rested),
+        Err(end) => ended(alloc, circuit, end),
+    }
+}
+
+/// The line of the numbers of a report.
+fn summary(
+    alloc: Global,
+    sections: u16,
+    circuit: &Circuit,
+    rested: &AtRest,
+) -> Result<Reply, NoMemory>
+    requires { rested.now.base ≤ 10000000 }
+    ensures outcome { IfOk result (λ reply. reply.outcome ≡ Outcome.Done) }
+    ensures bytes { IfOk result (λ reply. reply.bytes ≡ summary_line circuit.now sections rested.now.base (tick (reach circuit.now) rested.now.base 0) (faults_in rested.now.reply.outcome)) }
+{
+    let tick = tick(reach(circuit), rested.base, 0);
+    let faults = faults_in(rested.reply.outcome);
+    let mut bytes = Bytes::new(alloc);
+    write_summary(circuit, sections, rested.base, tick, faults, &mut bytes)?;
+    Ok(Reply {
+        outcome: Outcome::Done,
+        bytes,
+    })
+}
