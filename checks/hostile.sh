@@ -1,12 +1,20 @@
 #!/bin/sh
-# Tries the built program over hostile texts and with little memory. It is for the hand and no part of .ci/run,
-# since it takes long, most of it for the random texts; it ends with the time that it took.
-# Usage: checks/hostile.sh [PROGRAM [COUNT]], COUNT random texts in place of 20000. Needs python3 and GNU time.
+# Tries the built program over hostile texts and with too little memory. All of it is for the hand, since it takes
+# long, most of it for the random texts; --short is the part that .ci/run has behind the gate. It ends with the
+# time that it took.
+# Usage: checks/hostile.sh [--short] [PROGRAM [COUNT]], COUNT random texts in place of 20000, or of 400.
+# Needs python3; cc where allocations are to be refused one by one; and GNU time where it is not short.
 # A random text whose answer is wrong is kept in the folder KEPT, or else in the current one.
 set -u
 top=$(CDPATH='' cd -- "$(dirname -- "$0")/.." && pwd) || exit 2
+short=no
+if [ "${1-}" = --short ]; then
+    short=yes
+    shift
+fi
 program=${1:-$top/crates/scald/out/scald}
 count=${2:-20000}
+[ $short = no ] || count=${2:-400}
 if [ ! -x "$program" ]; then
     echo "checks/hostile.sh: no program at $program (./scald builds it): nothing is tried"
     exit 0
@@ -22,6 +30,13 @@ failure() {
     failed=$((failed + 1))
 }
 
+# frame: a drawing of the lines on standard input, from line 4 on
+frame() {
+    printf 'SCALD 1;\nCLOCK %s;\nDRAWING ROW;\n' "${1:-8 x 50}"
+    cat
+    printf 'END;\n'
+}
+
 # --- random and mutated texts, in four streams
 for seed in 1 2 3 4; do
     python3 "$top/checks/hostile_texts.py" "$program" $((count / 4)) "$seed" "$top"/examples/*.scald >"$work/random$seed" &
@@ -32,17 +47,81 @@ for seed in 1 2 3 4; do
     grep -q ' tried, 0 failed' "$work/random$seed" || failure "random texts from seed $seed"
 done
 
-# --- a text that is cut short anywhere is refused for its tokens or its grammar, with one line
-alu=$top/examples/alu.scald
-bytes=$(wc -c <"$alu")
-wrong=0
-for length in $(seq 0 $((bytes - 2))); do
-    head -c "$length" "$alu" | "$program" verify >"$work/out"
-    [ $? -eq 2 ] && grep -q '^REFUSED [23] ' "$work/out" && [ "$(wc -l <"$work/out")" -eq 1 ] || wrong=$((wrong + 1))
-done
-[ "$wrong" -eq 0 ] || failure "$wrong cuts of alu.scald"
-head -c $((bytes - 1)) "$alu" | "$program" verify | cmp -s - "$top/examples/alu.report" || failure "alu.scald without its last byte"
-echo "cuts of alu.scald: $bytes tried, $wrong failed"
+# --- each allocation refused in turn: the answer is NoMemory with nothing written, or the drawing's own
+cat >"$work/refuse.c" <<'END'
+#include <stdio.h>
+#include <stdlib.h>
+void *__libc_malloc(size_t);
+void *__libc_realloc(void *, size_t);
+static long calls;
+/* Whether this call for memory is the one that REFUSE names, from 1. */
+static int is_refused(void) {
+    const char *refuse = getenv("REFUSE");
+    return ++calls == (refuse ? atol(refuse) : 0);
+}
+void *malloc(size_t size) { return is_refused() ? NULL : __libc_malloc(size); }
+void *realloc(void *block, size_t size) { return is_refused() ? NULL : __libc_realloc(block, size); }
+__attribute__((destructor)) static void tell(void) {
+    char line[32];
+    const char *told = getenv("CALLS");
+    FILE *file = told ? fopen(told, "w") : NULL;
+    if (file && sprintf(line, "%ld\n", calls) > 0) { fputs(line, file); fclose(file); }
+}
+END
+
+# refused_in_turn NAME WORD STATUS LINE: the text on standard input, whose answer has this status and last line
+refused_in_turn() {
+    cat >"$work/text"
+    CALLS=$work/calls LD_PRELOAD=$work/refuse.so "$program" "$2" <"$work/text" >"$work/own"
+    [ $? -eq "$3" ] && [ "$(tail -n 1 "$work/own")" = "$4" ] || failure "$1 with all its memory"
+    calls=$(cat "$work/calls")
+    none=0
+    wrong=0
+    for refused in $(seq 1 "$calls"); do
+        REFUSE=$refused LD_PRELOAD=$work/refuse.so "$program" "$2" <"$work/text" >"$work/out" 2>/dev/null
+        status=$?
+        if [ "$status" -eq 8 ] && [ ! -s "$work/out" ]; then
+            none=$((none + 1))
+        elif [ "$status" -ne "$3" ] || ! cmp -s "$work/out" "$work/own"; then
+            wrong=$((wrong + 1))
+        fi
+    done
+    # Most allocations matter, so that most answers must be NoMemory.
+    [ "$wrong" -eq 0 ] && [ "$none" -gt $((calls / 2)) ] || failure "$1 with one allocation refused"
+    echo "allocations of $1: $calls, each refused in turn: $none times no memory, $wrong failed"
+}
+
+if command -v cc >/dev/null 2>&1 && cc -shared -fPIC -o "$work/refuse.so" "$work/refuse.c"; then
+    echo 'c1 : SETUP_HOLD_CHK {SETUP=20, HOLD=10} ("CK .P2-3", "D .S1-4");' | frame | refused_in_turn 'a checker' verify 0 CLEAN
+    echo 'b1:BUF[0:0](-"A")->("B");' | frame | refused_in_turn 'a text to be formatted' format 0 'END;'
+    if [ $short = no ]; then
+        {
+            frame <<'END'
+b1 : BUF [50:50] ("IN .S1-8") -> ("SLOW1");
+m1 : MUX2 [0:0] ("SEL", "IN", "SLOW1") -> ("MID");
+b2 : BUF [50:50] ("MID") -> ("SLOW2");
+m2 : MUX2 [0:0] ("SEL", "SLOW2", "MID") -> ("OUT");
+c1 : SETUP_HOLD_CHK {SETUP=20, HOLD=5} ("CK .P3-4", "OUT");
+END
+            printf 'CASE "SEL"=0;\nCASE "SEL"=1;\n'
+        } | refused_in_turn 'two cases' verify 0 CLEAN
+        refused_in_turn 'a macro that halves itself' verify 0 CLEAN <<'TEXT'
+SCALD 1;
+CLOCK 8 x 50;
+MACRO TREE {SIZE=8} ("A"<0:SIZE-1>) -> ("Z");
+IF SIZE = 1 THEN leaf : BUF [1:2] ("A"<0>) -> ("Z");
+ELSE left : TREE {SIZE=SIZE/2} ("A"<0:SIZE/2-1>) -> ("L");
+right : TREE {SIZE=SIZE/2} ("A"<SIZE/2:SIZE-1>) -> ("R");
+top : OR [1:2] ("L", "R") -> ("Z"); END;
+END;
+DRAWING ROW;
+t : TREE ("IN"<0:7>) -> ("OUT");
+END;
+TEXT
+    fi
+else
+    echo "no C compiler: no allocation is refused"
+fi
 
 # --- memory: the answer is the drawing's own, or nothing at all with status 8
 # starts KB: whether the program starts at all within so much memory. Without words it asks for none.
@@ -58,8 +137,10 @@ while ! starts "$least"; do
     least=$((least + 16))
     [ "$least" -lt 1000000 ] || break
 done
-for name in first alu or_tree; do
-    short=0
+names='first alu or_tree'
+[ $short = no ] || names=first
+for name in $names; do
+    none=0
     own=0
     wrong=0
     memory=$least
@@ -70,7 +151,7 @@ for name in first alu or_tree; do
         ) 2>/dev/null
         status=$?
         if [ "$status" -eq 8 ] && [ ! -s "$work/out" ]; then
-            short=$((short + 1))
+            none=$((none + 1))
         elif [ "$status" -eq 0 ] && cmp -s "$work/out" "$top/examples/$name.report"; then
             own=$((own + 1))
         else
@@ -79,20 +160,33 @@ for name in first alu or_tree; do
         memory=$((memory + 4))
     done
     [ "$wrong" -eq 0 ] && [ "$own" -gt 0 ] || failure "$name.scald with little memory"
-    echo "memory for $name.scald from $least KB on: $short times too little, $own times its own report, $wrong failed"
+    echo "memory for $name.scald from $least KB on: $none times too little, $own times its own report, $wrong failed"
 done
+
+# ended: says how many failed, and ends so
+ended() {
+    echo "checks/hostile.sh: $failed failed, in $(($(date +%s) - begun)) seconds"
+    [ "$failed" -eq 0 ]
+    exit
+}
+[ $short = no ] || ended
+
+# --- a text that is cut short anywhere is refused for its tokens or its grammar, with one line
+alu=$top/examples/alu.scald
+bytes=$(wc -c <"$alu")
+wrong=0
+for length in $(seq 0 $((bytes - 2))); do
+    head -c "$length" "$alu" | "$program" verify >"$work/out"
+    [ $? -eq 2 ] && grep -q '^REFUSED [23] ' "$work/out" && [ "$(wc -l <"$work/out")" -eq 1 ] || wrong=$((wrong + 1))
+done
+[ "$wrong" -eq 0 ] || failure "$wrong cuts of alu.scald"
+head -c $((bytes - 1)) "$alu" | "$program" verify | cmp -s - "$top/examples/alu.report" || failure "alu.scald without its last byte"
+echo "cuts of alu.scald: $bytes tried, $wrong failed"
 
 # --- each limit, met and passed by one; and the texts that cost most
 # many COUNT TEXT: so many times the text
 many() {
     awk -v count="$1" -v text="$2" 'BEGIN { for (i = 0; i < count; i++) printf "%s", text }'
-}
-
-# frame: a drawing of the lines on standard input, from line 4 on
-frame() {
-    printf 'SCALD 1;\nCLOCK %s;\nDRAWING ROW;\n' "${1:-8 x 50}"
-    cat
-    printf 'END;\n'
 }
 
 # ranges COUNT BEFORE AFTER: statements labelled l0, l1 .., each with the next 256 bits between BEFORE and AFTER
@@ -101,7 +195,8 @@ ranges() {
         for (i = 0; i < count; i++) printf "l%d : %s<%d:%d>%s\n", i, before, 256 * i, 256 * i + 255, after }'
 }
 
-# tries NAME STATUS LINE [WORD ..]: the text on standard input; its last line must be LINE, or not be there where it is empty
+# tries NAME STATUS LINE [WORD ..]: the text on standard input, verified with these words behind; the last line of the
+# answer must be LINE, or none be there where LINE is empty
 tries() {
     name=$1
     wanted=$2
@@ -110,7 +205,7 @@ tries() {
     cat >"$work/text"
     (
         ulimit -t 120
-        exec /usr/bin/time -q -f '%U %M' -o "$work/time" "$program" "${@:-verify}" <"$work/text" >"$work/out"
+        exec /usr/bin/time -q -f '%U %M' -o "$work/time" "$program" verify "$@" <"$work/text" >"$work/out"
     ) 2>/dev/null
     status=$?
     seconds=$(cut -d ' ' -f 1 "$work/time" | tail -n 1)
@@ -162,7 +257,7 @@ awk -v bus="$bus" 'BEGIN { for (i = 0; i < 256; i++) printf "l%d : CHG [0:0] (%s
 awk -v bus="$bus" 'BEGIN { for (i = 0; i < 256; i++) printf "l%d : CHG [0:0] (%s) -> (\"X\"<%d>);\n", i, bus, i
     print "b : BUF [0:0] (ZERO) -> (\"Y\");" }' | frame '2 x 1' | tries 'one pin more' 2 'REFUSED 16 TooMany 260:1'
 for depth in 64 65; do
-    if [ "$depth" -eq 64 ]; then status=0 line=CLEAN; else status=2 line='REFUSED 15 TooDeep 4:644'; fi
+    if [ "$depth" -eq 64 ]; then status=0 line=CLEAN; else status=2 line='REFUSED 15 TooDeep 4:645'; fi
     {
         printf 'SCALD 1;\nCLOCK 8 x 50;\nMACRO D {N=1} ("A") -> ("Z");\n%s' "$(many 63 'IF 1 THEN ')"
         printf 'IF N > 1 THEN x : D {N=N-1} ("A") -> ("Z"); ELSE b : BUF [1:1] ("A") -> ("Z"); END; %s' "$(many 63 'END; ')"
@@ -183,6 +278,17 @@ echo "WIRE \"A\" 0:0$(many 65 '+0');" | frame | tries '65 operators' 2 'REFUSED 
 echo 'b : BUF [4095:4095] ("CK .P2-3(4095,4095)") -> ("X");' | frame | tries 'the greatest delay and skew' 0 CLEAN faults
 echo 'b : BUF [0:4096] ("A") -> ("X");' | frame | tries 'a greater delay' 2 'REFUSED 14 Bounds 4:1'
 echo 'b : BUF [0:0] ("CK .P2-3(4096,0)") -> ("X");' | frame | tries 'a greater skew' 2 'REFUSED 7 BadName 4:16'
+echo 'c : MIN_PULSE_CHK {HIGH=400, LOW=400} ("K");' | frame | tries 'the longest pulses' 0 CLEAN faults
+echo 'c : MIN_PULSE_CHK {LOW=401} ("K");' | frame | tries 'a longer pulse' 2 'REFUSED 14 Bounds 4:1'
+echo 'c : SETUP_HOLD_CHK {SETUP=390, HOLD=10} ("CK .P2-3", "D .S");' | frame | tries 'the longest setup and hold' 0 CLEAN faults
+echo 'c : SETUP_HOLD_CHK {SETUP=391, HOLD=10} ("CK .P2-3", "D .S");' | frame | tries 'a longer setup' 2 'REFUSED 14 Bounds 4:1'
+# cases COUNT: a drawing with so many cases from line 6 on
+cases() {
+    echo 'b : BUF [0:0] ("A") -> ("X");' | frame
+    many "$1" 'CASE "A"=0;\n'
+}
+cases 256 | tries 'the most cases' 0 CLEAN faults
+cases 257 | tries 'one case more' 2 'REFUSED 16 TooMany 262:1'
 echo 'WIRE "A" 4095:4095;' | frame | tries 'the longest wire' 0 CLEAN faults
 echo 'WIRE "A" 0:4096;' | frame | tries 'a longer wire' 2 'REFUSED 14 Bounds 4:1'
 echo 'c : MIN_PULSE_CHK ("A"<0:255>);' | frame | tries 'the widest connection' 0 CLEAN faults
@@ -200,8 +306,8 @@ frame '4097 x 1' </dev/null | tries 'a longer period' 2 'REFUSED 4 BadHeader 2:1
 ring() {
     printf '%s\n' 'g : AND [1:1] ("CK .P0-7", "X"<4>) -> ("X"<0>);' 'p : BUF [0:0] ("X"<0:3>) -> ("X"<1:4>);' | frame
 }
-ring | tries 'the greatest limit of rounds' 0 CLEAN verify faults rounds=10000000
-ring | tries 'a greater limit' 4 '' verify faults rounds=10000001
+ring | tries 'the greatest limit of rounds' 0 CLEAN faults rounds=10000000
+ring | tries 'a greater limit' 4 '' faults rounds=10000001
 # the costliest waves and rounds
 awk 'BEGIN { printf "WIRE \"A .S0-1"; for (i = 1; i < 1000000; i++) printf ",0-1"; print "\" 0:0;" }' | frame |
     tries 'a name of 1000000 intervals' 0 CLEAN faults
@@ -215,5 +321,4 @@ ranges 40 'BUF [0:9] ("CK .P2-3") -> ("X"' ');' | frame '8 x 512' | tries '10240
 while read -r name; do
     failure "$name"
 done <"$work/limits"
-echo "checks/hostile.sh: $failed failed, in $(($(date +%s) - begun)) seconds"
-[ "$failed" -eq 0 ]
+ended

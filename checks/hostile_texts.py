@@ -21,7 +21,7 @@ import tempfile
 REFUSED = re.compile(
     rb"REFUSED (1 BadByte|2 BadToken|3 Syntax|4 BadHeader|5 DoubleName|6 UnknownKind|7 BadName|8 AssertionClash"
     rb"|9 BadParameter|10 Overflow|11 BadRange|12 Width|13 PinCount|14 Bounds|15 TooDeep|16 TooMany|17 TwoDrivers"
-    rb"|18 ZeroLoop|19 CaseNet|20 EdgesOverlap|21 ZeroDivisor|22 UnknownName|23 NotBuilt) [1-9][0-9]*:[1-9][0-9]*\n"
+    rb"|18 ZeroLoop|19 CaseNet|20 EdgesOverlap|21 ZeroDivisor|22 UnknownName) [1-9][0-9]*:[1-9][0-9]*\n"
 )
 EARLY = (1, 2, 3, 4, 5, 7, 20)
 UNSETTLED = re.compile(rb"UNSETTLED [^\n]+<[0-9]+> ROUND [0-9]+\n")

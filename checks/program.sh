@@ -15,15 +15,19 @@ report=$top/crates/scald/stdout
 failed=0
 tried=0
 
-# expect NAME STATUS: compares the last command's status, and its output in $work/out with $work/want.
+# failure WHY
+failure() {
+    echo "FAILED $1"
+    failed=$((failed + 1))
+}
+
+# expect NAME STATUS GOT: compares the last command's status GOT, and its output in $work/out with $work/want.
 expect() {
     tried=$((tried + 1))
     if [ "$3" -ne "$2" ]; then
-        echo "FAILED $1: status $3 in place of $2"
-        failed=$((failed + 1))
+        failure "$1: status $3 in place of $2"
     elif ! cmp -s "$work/out" "$work/want"; then
-        echo "FAILED $1: other output than wanted"
-        failed=$((failed + 1))
+        failure "$1: other output than wanted"
     fi
 }
 
@@ -36,18 +40,8 @@ dd if="$first" bs=1 2>/dev/null | "$program" verify >"$work/out"
 expect "a pipe" 0 $?
 
 : >"$work/want"
-: >"$work/out"
-"$program" verify <"$first" >/dev/full
-expect "a full device" 7 $?
-
-"$program" verify <"$work" >"$work/out"
-expect "a directory as input" 6 $?
-
-"$program" verify <&- >"$work/out"
+"$program" verify <&- >"$work/out" 2>/dev/null
 expect "a closed input" 6 $?
-
-head -c 4194305 /dev/zero | "$program" verify >"$work/out"
-expect "one byte too many" 5 $?
 
 echo "REFUSED 1 BadByte 1:1" >"$work/want"
 head -c 4194304 /dev/zero | "$program" verify >"$work/out"
@@ -166,21 +160,87 @@ expect "nested IFs alone" 2 $?
 : >"$work/want"
 # With no form of words nothing is read: the next command still finds the first line.
 {
-    "$program" >"$work/out"
+    "$program" >"$work/out" 2>"$work/said"
     echo $? >"$work/status"
     IFS= read -r line
     [ "$line" = "$(head -n 1 "$first")" ] || echo 99 >"$work/status"
 } <"$first"
 expect "no words" 4 "$(cat "$work/status")"
 
-"$program" verify twice <"$first" >"$work/out"
-expect "a word too many" 4 $?
+# --- what is said on standard error, beside an empty standard output
 
-"$program" verify rounds=5 faults <"$first" >"$work/out"
-expect "words in another order" 4 $?
+# says NAME STATUS LINE GOT: the last command's status GOT, its output in $work/out and its first line in $work/said
+says() {
+    tried=$((tried + 1))
+    if [ "$4" -ne "$2" ]; then
+        failure "$1: status $4 in place of $2"
+    elif [ -s "$work/out" ]; then
+        failure "$1: something is written"
+    elif [ "$(head -n 1 "$work/said")" != "$3" ]; then
+        failure "$1: '$(head -n 1 "$work/said")' is said in place of '$3'"
+    fi
+}
 
-"$program" check <"$first" >"$work/out"
-expect "another word" 4 $?
+forms='scald: these words are none of its forms, which are'
+for words in '' 'verify twice' 'verify rounds=5 faults' check bench 'bench 201' 'verify rounds=05' 'format waves'; do
+    # shellcheck disable=SC2086
+    "$program" $words <"$first" >"$work/out" 2>"$work/said"
+    says "the words '$words'" 4 "$forms" $?
+done
+tried=$((tried + 1))
+[ "$(sed -n 's/^    scald \([a-z]*\) .*/\1/p' "$work/said" | tr '\n' ' ')" = 'verify format bench ' ] || failure "the forms are not all said"
+
+: >"$work/said"
+"$program" check <"$first" >"$work/out" 2>/dev/full
+says "a full device for standard error" 4 '' $?
+"$program" check <"$first" >"$work/out" 2>&-
+says "no standard error" 4 '' $?
+
+head -c 4194305 /dev/zero | "$program" verify >"$work/out" 2>"$work/said"
+says "one byte too many" 5 'scald: the drawing has more than 4194304 bytes' $?
+"$program" verify <"$work" >"$work/out" 2>"$work/said"
+says "a directory as input" 6 'scald: standard input could not be read' $?
+"$program" verify <"$first" 2>"$work/said" >/dev/full
+status=$?
+: >"$work/out"
+says "a full device" 7 'scald: standard output could not be written' "$status"
+# A token takes more than a byte, so the most tokens take more than 64 MB.
+head -c 4194304 /dev/zero | tr '\0' ';' >"$work/text"
+(
+    ulimit -v 65536
+    exec "$program" verify <"$work/text" >"$work/out" 2>"$work/said"
+)
+says "little memory" 8 'scald: there is not enough memory' $?
+"$program" "$(printf 'verify\351')" <"$first" >"$work/out" 2>"$work/said"
+says "a word that is no text" 20 'scald: the system gives no arguments, or not as text' $?
+
+# Where there is an answer nothing is said.
+for text in "$first" "$top/examples/skew_hold.scald" "$top/examples/loop_unsettled.scald" /dev/null; do
+    "$program" verify <"$text" >/dev/null 2>"$work/said"
+    tried=$((tried + 1))
+    [ ! -s "$work/said" ] || failure "something is said beside the answer to $text"
+done
+
+# generated drawings: nothing is read for them, and the next command still finds the first line
+bench() {
+    {
+        "$program" bench "$1" >"$work/out" 2>"$work/said"
+        echo $? >"$work/status"
+        IFS= read -r line
+        [ "$line" = "$(head -n 1 "$first")" ] || echo 99 >"$work/status"
+    } <"$first"
+}
+bench 201
+expect "too many sections" 4 "$(cat "$work/status")"
+echo "BENCH 1 NETS 25 INSTANCES 16 CHECKS 8 ROUNDS 1 T 126 FAULTS 0" >"$work/want"
+bench 1
+expect "one section" 0 "$(cat "$work/status")"
+echo "BENCH 3 NETS 57 INSTANCES 48 CHECKS 24 ROUNDS 2 T 189 FAULTS 0" >"$work/want"
+bench 3
+expect "three sections" 0 "$(cat "$work/status")"
+echo "BENCH 200 NETS 3209 INSTANCES 3200 CHECKS 1600 ROUNDS 2 T 189 FAULTS 0" >"$work/want"
+bench 200
+expect "two hundred sections" 0 "$(cat "$work/status")"
 
 echo "checks/program.sh: $tried tried, $failed failed"
 [ "$failed" -eq 0 ]

@@ -219,10 +219,28 @@ drawing '17 TwoDrivers 5:1' 'b1 : BUF [0:0] ("A") -> ("X");' 'b2 : BUF [0:0] ("B
 drawing '17 TwoDrivers 4:1' 'b1 : BUF [0:0] ("A") -> (ZERO);'
 drawing '18 ZeroLoop 4:1' 'b1 : BUF [0:0] ("Y") -> ("X");' 'a1 : AND [0:0] ("CK .P2-3", "X") -> ("Y");'
 drawing '18 ZeroLoop 4:1' 'b1 : BUF [0:9] ("X") -> ("Y");' 'x1 : XOR [0:0] ("CK .P2-3", "X") -> ("X");'
-{
-    frame
-    printf 'CASE "X"=0;\n'
-} | unexpanded '23 NotBuilt 1:1'
+
+# --- the cases, which begin on line 6
+# cases WANT LINE ..: these lines behind a drawing of one multiplexer
+cases() {
+    want=$1
+    shift
+    {
+        frame 'm1 : MUX2 [0:0] ("SEL", "CK .P2-3", "PH .C2-3") -> ("X");'
+        printf '%s\n' "$@"
+    } | unexpanded "$want"
+}
+cases '19 CaseNet 6:6' 'CASE "X"=0;'
+cases '19 CaseNet 6:6' 'CASE "NONE"=0;'
+cases '19 CaseNet 6:6' 'CASE "SEL"<1>=0;'
+cases '19 CaseNet 6:6' 'CASE "CK"=0;'
+cases '19 CaseNet 6:6' 'CASE "PH"=0;'
+cases '19 CaseNet 6:6' 'CASE "SEL .S"=0;'
+cases '19 CaseNet 6:6' 'CASE "SEL"=2;'
+cases '19 CaseNet 6:15' 'CASE "SEL"=0, "SEL"=1;'
+cases '19 CaseNet 7:6' 'CASE "SEL"=0;' 'CASE "SEL"=2;'
+# shellcheck disable=SC2046
+cases '16 TooMany 262:1' $(many 257 'CASE"SEL"=0; ')
 
 tried=$(wc -l <"$work/tried")
 failed=$(wc -l <"$work/failed")

@@ -1,0 +1,162 @@
+"""The texts that bench/run measures. Each function gives one of a size, as text or as bytes."""
+
+MOST_BYTES = 4194304
+
+
+def drawing(lines, clock="8 x 50", macros=(), after=(), header=()):
+    """A drawing of these lines, with macros before it and cases behind it."""
+    head = ["SCALD 1;", f"CLOCK {clock};", *header]
+    return "\n".join([*head, *macros, "DRAWING MEASURED;", *lines, "END;", *after]) + "\n"
+
+
+def datapath(stages):
+    """What the crate design_gen makes: stages of eight bits, each a change function, a checker and a register."""
+    lines = []
+    for i in range(1, stages + 1):
+        before = "Q0 .S4-3" if i == 1 else f"Q{i - 1}"
+        lines.append(f'g{i} : CHG [20:60] ("{before}"<0:7>) -> ("D{i}"<0:7>);')
+        lines.append(f'c{i} : SETUP_HOLD_CHK {{SETUP=20, HOLD=5}} ("CK .P2-3", "D{i}"<0:7>);')
+        lines.append(f'r{i} : REG [5:10] ("CK .P2-3", "D{i}"<0:7>) -> ("Q{i}"<0:7>);')
+    return drawing(lines, header=["WIRE 0:2;"])
+
+
+SLICE = """MACRO SLICE {SIZE=256} ("CK", "PH", "EN", "SEL", "A"<0:SIZE-1>) -> ("L"<0:SIZE-1>);
+gate : AND [4:8] ("CK" !H, "EN") -> ("GCK");
+sum : XOR [10:30] ("A", "L") -> ("X"<0:SIZE-1>);
+way : MUX2 [5:12] ("SEL", "X"<0:SIZE-1>, "A") -> ("M"<0:SIZE-1>);
+reg : REG [10:25] ("GCK", "M"<0:SIZE-1>) -> ("Q"<0:SIZE-1>);
+hold : LATCH [5:10] ("PH", "Q"<0:SIZE-1>) -> ("L");
+chk : SETUP_HOLD_CHK {SETUP=20, HOLD=10} ("GCK", "M"<0:SIZE-1>);
+pulse : MIN_PULSE_CHK {HIGH=30, LOW=30} ("GCK");
+END;""".split("\n")
+
+
+def wide(uses, clock="8 x 50"):
+    """Uses of a slice of 256 bits with a gated clock, XOR, MUX2, REG, LATCH and checkers, one behind another."""
+    lines = []
+    for i in range(uses):
+        before = "A .S7-5" if i == 0 else f"L{i - 1}"
+        lines.append(
+            f'u{i} : SLICE ("CK .P5-6(5,5)", "PH .P7-8", "EN .S4-7", "SEL .S7-5", "{before}"<0:255>) -> ("L{i}"<0:255>);'
+        )
+    return drawing(lines, clock=clock, macros=SLICE)
+
+
+def wide_long_period(uses):
+    """The same in the longest period."""
+    return wide(uses, clock="8 x 512")
+
+
+TREE = """MACRO TREE {SIZE=1} ("CK") -> ("Z");
+IF SIZE = 1 THEN leaf : BUF [1:2] ("CK") -> ("Z");
+ELSE left : TREE {SIZE=SIZE/2} ("CK") -> ("L");
+right : TREE {SIZE=SIZE/2} ("CK") -> ("R");
+top : OR [1:2] ("L", "R") -> ("Z"); END;
+END;""".split("\n")
+
+
+def tree(leaves):
+    """A macro that halves its inputs until one is left: so many buffers, and an OR for each two halves."""
+    return drawing([f't : TREE {{SIZE={leaves}}} ("CK .P2-3") -> ("OUT");'], macros=TREE)
+
+
+def chain(buffers):
+    """Buffers one behind another."""
+    lines = []
+    for i in range(1, buffers + 1):
+        before = "CK .P2-3" if i == 1 else f"X{i - 1}"
+        lines.append(f'b{i} : BUF [1:1] ("{before}") -> ("X{i}");')
+    return drawing(lines)
+
+
+def loops(count):
+    """Loops of forty buffers without delay and an AND with a clock, side by side, at rest after 2132 rounds."""
+    lines = []
+    for i in range(1, count + 1):
+        lines.append(f'b{i} : BUF [0:0] ("X{i}"<0:39>) -> ("X{i}"<1:40>);')
+        lines.append(f'a{i} : AND [1:1] ("CK .P2-3", "X{i}"<40>) -> ("X{i}"<0>);')
+    return drawing(lines)
+
+
+CASE_STAGE = """MACRO STAGE {SIZE=32} ("SEL", "IN"<0:SIZE-1>) -> ("OUT"<0:SIZE-1>);
+slow : BUF [5:9] ("IN") -> ("S"<0:SIZE-1>);
+one : MUX2 [1:2] ("SEL", "IN", "S"<0:SIZE-1>) -> ("M"<0:SIZE-1>);
+slower : BUF [5:9] ("M"<0:SIZE-1>) -> ("T"<0:SIZE-1>);
+two : MUX2 [1:2] ("SEL", "T"<0:SIZE-1>, "M"<0:SIZE-1>) -> ("OUT");
+END;""".split("\n")
+
+
+def cases(count):
+    """Six stages of 32 bits, each with a fast and a slow way by a select of its own, looked at in so many cases."""
+    lines = []
+    for i in range(6):
+        before = "IN .S1-8" if i == 0 else f"W{i - 1}"
+        lines.append(f's{i} : STAGE ("SEL{i}", "{before}"<0:31>) -> ("W{i}"<0:31>);')
+    lines.append('c : SETUP_HOLD_CHK {SETUP=20, HOLD=5} ("CK .P6-7", "W5"<0:31>);')
+    after = ["CASE " + ", ".join(f'"SEL{i}"={number >> i & 1}' for i in range(6)) + ";" for number in range(count)]
+    return drawing(lines, macros=CASE_STAGE, after=after)
+
+
+def chains(count):
+    """Chains of 250 buffers, side by side."""
+    lines = []
+    for i in range(1, count + 1):
+        lines.append(f'h{i} : BUF [1:1] ("CK .P2-3") -> ("X{i}"<0>);')
+        lines.append(f'b{i} : BUF [1:1] ("X{i}"<0:248>) -> ("X{i}"<1:249>);')
+    return drawing(lines)
+
+
+def checkers(buses):
+    """A checker on each of 256 bits of so many buses."""
+    return drawing(
+        f'c{i} : SETUP_HOLD_CHK {{SETUP=20, HOLD=10}} ("CK .P2-3", "D{i} .S1-4"<0:255>);' for i in range(1, buses + 1)
+    )
+
+
+def statements(count):
+    """The shortest statements, and a comment that fills the text up to the most bytes a text of all of them may have."""
+    text = drawing(['WIRE "A" 0:0;'] * count)
+    return "--" + "-" * (MOST_BYTES * count // 262144 - len(text) - 3) + "\n" + text
+
+
+def operators(count):
+    """Expressions of 64 operators each."""
+    return drawing([f'WIRE "A" 0:0{"+0" * 64};'] * count)
+
+
+def uses(count):
+    """Registers of eight bits."""
+    return drawing(f'  r{i} : REG [5:10] ("CK .P2-3", "D{i}"<0:7>) -> ("Q{i}"<0:7>);' for i in range(count))
+
+
+def sums(count, one, between):
+    """Statements with two expressions of 59 operators, of fifteen sums like `one`, in which % stands for a number."""
+    sum_of_all = between.join(one.replace("%", str(k)) for k in range(1, 16))
+    return drawing(f'  WIRE "W{i}"<{sum_of_all}> 0:{sum_of_all};' for i in range(count))
+
+
+def written_sums(count):
+    """Long expressions as they are written, with names of several letters and spaces around the operators."""
+    return sums(count, "(ADDRESS * % - CONTROL / 3)", " + ")
+
+
+def shortest_sums(count):
+    """Long expressions in the shortest tokens, of which there is one in nearly each byte."""
+    return sums(count, "(A*%-B/3)", "+")
+
+
+def token_lines(count):
+    """Ordinary lines of a drawing."""
+    return drawing(
+        f'r{i} : REG [5:15] ("MAIN CLK .P5-6", "D{i}"<0:7>) -> ("Q{i}"<0:7>); -- a register' for i in range(count)
+    )
+
+
+def short_tokens(lines):
+    """The shortest tokens side by side."""
+    return ';:,()<>[]{}=+*/&! - a 7 "b" -> \n' * lines
+
+
+def nothing(_size):
+    """No text at all."""
+    return ""
