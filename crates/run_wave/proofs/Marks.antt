@@ -88,7 +88,7 @@ module _ {T : Type 0} where
 
   -- ---- where a search begins
 
-  slice_get-behind : (xs ys : List T) (n : ℕ) → length xs ≤ n → slice_get (xs ++ ys) n ≡ slice_get ys (n - length xs)
+  pub slice_get-behind : (xs ys : List T) (n : ℕ) → length xs ≤ n → slice_get (xs ++ ys) n ≡ slice_get ys (n - length xs)
   slice_get-behind [] ys n within = let whole : n ≡ n - 0 = omega arith in ap (slice_get ys) whole
   slice_get-behind (x ∷ xs) ys zero within = absurd (omega arith)
   slice_get-behind (x ∷ xs) ys (suc n) within =

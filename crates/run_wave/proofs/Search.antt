@@ -1,10 +1,12 @@
--- The cell of a slot, by the run that has it.
-use Rattle.std.proofs.Common.{◌≡◌, ℕ, zero, suc, ◌+◌, ◌-◌, ◌<◌, ◌≤◌, List, ◌++◌, length, get_or, drop, Option, Some, refl, sym, ap, ◌∙◌, arith}
-use Rattle.std.specs.Prelude.{replicate, slice_get}
-use Rattle.std.proofs.lemmas.List.{length-replicate, length-append}
+-- The run that a slot is in: its cell is the slot's, and where it ends the next cell is another.
+use Rattle.std.proofs.Common.{◌≡◌, ◌≢◌, ℕ, zero, suc, ◌+◌, ◌-◌, ◌<◌, ◌≤◌, List, [], ◌∷◌, ◌++◌, length, get_or, take, drop, Option, Some, refl, sym, ap, ◌∙◌, arith}
+use Rattle.std.specs.Prelude.{replicate, slice_get, unwrap_or}
+use Rattle.std.proofs.lemmas.List.{length-append}
 use Rattle.run_wave.specs.declared.run.Run.{Run}
-use Rattle.run_wave.specs.Run.{cells_of}
-use Rattle.run_wave.proofs.Runs.{cells_of-ahead}
+use Rattle.run_wave.specs.Run.{cells_of, BeginsWithout, IsRuns}
+use Rattle.wave_core.specs.Slots.{SameUntil}
+use Rattle.run_wave.proofs.Marks.{slice_get-behind}
+use Rattle.run_wave.proofs.Runs.{cells_of-ahead, cells_of-parts, length-cells_of-more, slots-within}
 
 module _ {T : Type 0} where
   slice_get-first : (w n : ℕ) (c : T) (xs : List T) → n < w → slice_get (replicate w c ++ xs) n ≡ Some c
@@ -12,28 +14,59 @@ module _ {T : Type 0} where
   slice_get-first (suc w) zero c xs below = refl
   slice_get-first (suc w) (suc n) c xs below = slice_get-first w n c xs (omega arith)
 
-  slice_get-rest : (w n m : ℕ) (c : T) (xs : List T) → n ≡ w + m → slice_get (replicate w c ++ xs) n ≡ slice_get xs m
-  slice_get-rest zero n m c xs e = let same : n ≡ m = omega (arith, e) in ap (slice_get xs) same
-  slice_get-rest (suc w) zero m c xs e = absurd (omega (arith, e))
-  slice_get-rest (suc w) (suc n) m c xs e = slice_get-rest w n m c xs (omega (arith, e))
+  -- the cell of a slot in run i
+  pub in-run : (rs : List (Run T)) (i slot : ℕ) (r : Run T) → i < length rs → r ≡ get_or rs i r → length (cells_of (take i rs)) ≤ slot →
+      slot < length (cells_of (take (i + 1) rs)) → slice_get (cells_of rs) slot ≡ Some r.cell
+  in-run rs i slot r below is begun behind =
+      let more = length-cells_of-more rs i r below is in
+      ap (λ (l : List T). slice_get l slot) (cells_of-parts rs i)
+      ∙ slice_get-behind (cells_of (take i rs)) (cells_of (drop i rs)) slot begun
+      ∙ ap (λ (l : List T). slice_get l (slot - length (cells_of (take i rs)))) (cells_of-ahead rs i r below is)
+      ∙ slice_get-first r.width (slot - length (cells_of (take i rs))) r.cell (cells_of (drop (i + 1) rs)) (omega (arith, more))
 
-  -- the slot is in this run
-  pub found : (rs : List (Run T)) (i n : ℕ) (r : Run T) (x : Option T) → i < length rs → r ≡ get_or rs i r → n < r.width →
-      slice_get (cells_of (drop i rs)) n ≡ x → x ≡ Some r.cell
-  found rs i n r x below is within same =
-      sym same ∙ ap (λ (l : List T). slice_get l n) (cells_of-ahead rs i r below is) ∙ slice_get-first r.width n r.cell (cells_of (drop (i + 1) rs)) within
+  -- the cell of the slot behind run i
+  begins-other : (rs : List (Run T)) (c : T) → BeginsWithout c rs → IsRuns rs → slice_get (cells_of rs) 0 ≢ Some c
+  begins-other [] c other h e = cc
+  begins-other (r ∷ rs) c other h e =
+      let first : slice_get (cells_of (r ∷ rs)) 0 ≡ Some r.cell = slice_get-first r.width 0 r.cell (cells_of rs) h.0 in
+      other (sym (ap (λ o. unwrap_or o c) (sym first ∙ e)))
 
-  -- or behind it
-  pub passed : (rs : List (Run T)) (i n : ℕ) (r : Run T) (x : Option T) → i < length rs → r ≡ get_or rs i r → r.width ≤ n →
-      slice_get (cells_of (drop i rs)) n ≡ x → slice_get (cells_of (drop (i + 1) rs)) (n - r.width) ≡ x
-  passed rs i n r x below is beyond same =
-      sym (slice_get-rest r.width n (n - r.width) r.cell (cells_of (drop (i + 1) rs)) (omega arith))
-      ∙ ap (λ (l : List T). slice_get l n) (sym (cells_of-ahead rs i r below is)) ∙ same
+  other-behind : (rs : List (Run T)) (i : ℕ) (r : Run T) → i < length rs → r ≡ get_or rs i r → IsRuns rs →
+      slice_get (cells_of (drop (i + 1) rs)) 0 ≢ Some r.cell
+  other-behind [] i r below is h e = absurd (omega arith)
+  other-behind (s ∷ rs) zero r below is h e =
+      let same : r.cell ≡ s.cell = ap (λ (z : Run T). z.cell) is in
+      begins-other rs s.cell h.1.0 h.1.1 (e ∙ ap Some same)
+  other-behind (s ∷ rs) (suc i) r below is h e =
+      let rest : suc (i + 1) ≡ suc i + 1 = omega arith in
+      other-behind rs i r (omega arith) is h.1.1 (ap (λ (n : ℕ). slice_get (cells_of (drop n (s ∷ rs))) 0) rest ∙ e)
 
-  pub ahead-within : (rs : List (Run T)) (i n : ℕ) (r : Run T) → i < length rs → r ≡ get_or rs i r → r.width ≤ n →
-      n < length (cells_of (drop i rs)) → n - r.width < length (cells_of (drop (i + 1) rs))
-  ahead-within rs i n r below is beyond within =
-      let e : length (cells_of (drop i rs)) ≡ r.width + length (cells_of (drop (i + 1) rs)) =
-      ap length (cells_of-ahead rs i r below is) ∙ length-append (replicate r.width r.cell) (cells_of (drop (i + 1) rs))
-      ∙ ap (λ (w : ℕ). w + length (cells_of (drop (i + 1) rs))) (length-replicate r.width r.cell) in
-      omega (arith, e)
+  ends-at : (rs : List (Run T)) (i slot end : ℕ) (r : Run T) → i < length rs → r ≡ get_or rs i r → IsRuns rs →
+      length (cells_of (take i rs)) ≤ slot → slot < end → end ≡ length (cells_of (take (i + 1) rs)) → SameUntil (cells_of rs) slot end
+  ends-at rs i slot end r below is runs begun behind last =
+      let more = length-cells_of-more rs i r below is in
+      let all = slots-within rs i r below is in
+      let here : slice_get (cells_of rs) slot ≡ Some r.cell = in-run rs i slot r below is begun (omega (arith, behind, last)) in
+      record {
+        behind = behind;
+        within = omega (arith, more, all, last);
+        same = λ p from before. in-run rs i p r below is (omega (arith, begun, from)) (omega (arith, before, last)) ∙ sym here;
+        other = λ inside e.
+            let next : slice_get (cells_of rs) end ≡ slice_get (cells_of (drop (i + 1) rs)) 0 =
+            ap (λ (l : List T). slice_get l end) (cells_of-parts rs (i + 1))
+            ∙ slice_get-behind (cells_of (take (i + 1) rs)) (cells_of (drop (i + 1) rs)) end (omega (arith, last))
+            ∙ ap (slice_get (cells_of (drop (i + 1) rs))) (omega (arith, last)) in
+            other-behind rs i r below is runs (sym next ∙ e ∙ here);
+      }
+
+  item : (rs : List (Run T)) (i : ℕ) → i < length rs → (r : Run T) × (r ≡ get_or rs i r)
+  item [] i below = absurd (omega arith)
+  item (r ∷ rs) zero below = (r, refl)
+  item (r ∷ rs) (suc i) below = item rs i (omega arith)
+
+  -- the slot where run i ends, from a slot that is in it
+  pub run-ends : (rs : List (Run T)) (i slot end : ℕ) → i < length rs → IsRuns rs → length (cells_of (take i rs)) ≤ slot → slot < end →
+      end ≡ length (cells_of (take (i + 1) rs)) → SameUntil (cells_of rs) slot end
+  run-ends rs i slot end below runs begun behind last =
+      let r = item rs i below in
+      ends-at rs i slot end r.0 below r.1 runs begun behind last

@@ -4,6 +4,7 @@ ghost use Rattle.std.specs.Prelude.{◌≡◌, ◌≤◌, ◌<◌, ◌+◌, ◌-
 ghost use Rattle.std.proofs.Props.{props};
 ghost use Rattle.run_wave.specs.Mark.{AreMarks};
 ghost use Rattle.run_wave.specs.Run.{EndsWith, IsRuns, IsRuns-prop, cells_of};
+ghost use Rattle.wave_core.specs.Slots.{SameUntil};
 
 use crate::run::Run;
 use scald_base::NoMemory;
@@ -143,21 +144,41 @@ impl<T: Cell + Drop> RunList<T> {
         (STRIDE * marks, self.marks[marks - 1])
     }
 
+    /// The run that a slot is in, and the first slot behind that run.
+    fn run_with(&self, slot: u16) -> (usize, u16)
+        requires { slot < length (cells_of self.now.runs.items) }
+        ensures known { result.0 < length self.now.runs.items }
+        ensures begun { length (cells_of (take result.0 self.now.runs.items)) ≤ slot }
+        ensures behind { slot < result.1 }
+        ensures end { result.1 ≡ length (cells_of (take (result.0 + 1) self.now.runs.items)) }
+    {
+        let (first, mut end) = self.mark_before(slot);
+        for place in first..self.runs.len() {
+            end += self.runs[place].width;
+            if slot < end {
+                return (place, end);
+            }
+        }
+        unreachable!()
+    }
+
     /// The cell of a slot.
     pub fn at(&self, slot: u16) -> T
         requires { slot < length (cells_of self.now.runs.items) }
         ensures { slice_get (cells_of self.now.runs.items) slot ≡ Some result }
     {
-        let (first, before) = self.mark_before(slot);
-        let mut ahead = slot - before;
-        for place in first..self.runs.len() {
-            let run = self.runs[place];
-            if ahead < run.width {
-                return run.cell;
-            }
-            ahead -= run.width;
-        }
-        unreachable!()
+        let (place, _end) = self.run_with(slot);
+        self.runs[place].cell
+    }
+
+    /// The first slot behind this one that has another cell than it, or the number of slots where
+    /// there is none.
+    pub fn same_until(&self, slot: u16) -> u16
+        requires { slot < length (cells_of self.now.runs.items) }
+        ensures { SameUntil (cells_of self.now.runs.items) slot result }
+    {
+        let (_place, end) = self.run_with(slot);
+        end
     }
 
     /// The same slots once more.

@@ -59,6 +59,10 @@ impl<T: Cell + Drop> CyclicWave for RunWave<T> {
         self.list.at(slot)
     }
 
+    fn same_until(&self, slot: u16) -> u16 {
+        self.list.same_until(slot)
+    }
+
     fn equal(&self, other: &RunWave<T>) -> bool {
         self.list.runs == other.list.runs
     }

@@ -1,3 +1,4 @@
 pub mod Cells
 pub mod Normal
 pub mod Moves
+pub mod Round

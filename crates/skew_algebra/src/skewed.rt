@@ -8,7 +8,7 @@ use crate::scan::{all_equal, is_steady, joined};
 use scald_base::{Delay, NoMemory};
 use std::alloc::Global;
 use std::cmp::min;
-use wave_core::{Cell, CyclicWave};
+use wave_core::{Cell, CyclicWave, joined_from};
 
 /// A wave, and the most ticks by which the whole of it may come late, in normal form: a steady wave
 /// has one cell in all slots, a wave of one cell has no skew, and no skew reaches a period.
@@ -102,12 +102,8 @@ impl<W: CyclicWave> Skewed<W> {
         ensures { result ≡ fold W.Item.kind (skewed (W.cells self.now.wave) self.now.skew) slot }
     {
         let period = self.wave.period();
-        let mut fold = self.wave.at(slot);
-        for back in 0..self.skew {
-            let earlier = self.wave.at((slot + (period - (back + 1))) % period);
-            fold = fold.join(earlier);
-        }
-        fold
+        let first = (slot + (period - self.skew)) % period;
+        joined_from(&self.wave, first, self.skew + 1)
     }
 
     /// Whether the two have the same cells and the same skew.

@@ -1,3 +1,5 @@
 pub mod Slots
 pub mod Fold
 pub mod Turned
+pub mod Steady
+pub mod Places

@@ -2,7 +2,7 @@
 
 ghost use Rattle.std.specs.Prelude.{◌≡◌, ◌<◌, ◌↔◌, IsTrue, IfOk, List, length, zip, slice_get};
 ghost use Rattle.std.specs.List.{AllZip};
-ghost use Rattle.wave_core.specs.Slots.{IsPeriod, folded, later, slots};
+ghost use Rattle.wave_core.specs.Slots.{IsPeriod, SameUntil, folded, later, slots};
 
 use crate::cell::Cell;
 use scald_base::NoMemory;
@@ -34,6 +34,12 @@ pub trait CyclicWave: Sized + Drop {
     fn at(&self, slot: u16) -> Self::Item
         requires { slot < length (cells self.now) }
         ensures { slice_get (cells self.now) slot ≡ Some result };
+
+    /// The first slot behind this one that has another cell than it, or the period where there is none:
+    /// what is read off the cells from slot to slot may go on there.
+    fn same_until(&self, slot: u16) -> u16
+        requires { slot < length (cells self.now) }
+        ensures { SameUntil (cells self.now) slot result };
 
     /// Whether the two have the same cells.
     fn equal(&self, other: &Self) -> bool

@@ -146,6 +146,16 @@ impl<T: Cell + Drop> CyclicWave for SlotWave<T> {
         self.cells[slot as usize]
     }
 
+    fn same_until(&self, slot: u16) -> u16 {
+        let cell = self.cells[slot as usize];
+        for next in slot + 1..self.period() {
+            if self.cells[next as usize] != cell {
+                return next;
+            }
+        }
+        self.period()
+    }
+
     fn equal(&self, other: &SlotWave<T>) -> bool {
         self.cells == other.cells
     }

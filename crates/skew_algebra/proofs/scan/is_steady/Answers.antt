@@ -1,19 +1,22 @@
-use Rattle.std.proofs.Common.{◌≡◌, ◌<◌, true, false, length, rules, arith, sym}
-use Rattle.skew_algebra.proofs.Cells.{all-next, all-fails}
+use Rattle.std.proofs.Common.{◌≡◌, ℕ, ◌+◌, ◌<◌, true, false, not, arith, rules}
+use Rattle.wave_core.specs.Slots.{cell_round}
+use Rattle.skew_algebra.proofs.Round.{steady-none, steady-not}
 use Rattle.skew_algebra.proofs.scan.is_steady.Goals as goal
 
-pub returns-then-not-quiet : goal.returns-then-not-quiet
-returns-then-not-quiet g c =
+pub returns-in-Some : goal.returns-in-Some
+returns-in-Some g c =
     let k = g.W.Item.Cell.kind in
     let cells = g.W.CyclicWave.cells c.args.wave.now in
-    let below : c.loop-slot.slot < length cells = omega arith in
-    let fails : k.quiet c.at.result ≡ false = search rules in
-    sym (all-fails k.quiet cells c.loop-slot.slot c.at.result below c.at.ensures fails)
+    let found = c.in-Some.ensures in
+    let passes = found.passes in
+    let within = found.within in
+    let moves : true ≡ not (k.quiet (cell_round k cells (0 + c.in-Some.field-0))) = search rules in
+    steady-not k cells c.period.result c.in-Some.field-0 c.period.ensures within moves
 
-pub loop-slot-preserved : goal.loop-slot-preserved
-loop-slot-preserved g c =
+pub returns-in-None : goal.returns-in-None
+returns-in-None g c =
     let k = g.W.Item.Cell.kind in
     let cells = g.W.CyclicWave.cells c.args.wave.now in
-    let below : c.loop-slot.slot < length cells = omega arith in
-    let here : k.quiet c.at.result ≡ true = search rules in
-    all-next k.quiet cells c.loop-slot.slot c.at.result below c.at.ensures c.loop-slot.invariant here
+    let still : (place : ℕ) → place < c.period.result → false ≡ not (k.quiet (cell_round k cells (0 + place))) =
+    λ place below. let fails = c.in-None.ensures place (omega arith) below in search rules in
+    steady-none k cells c.period.result c.period.ensures still
