@@ -108,6 +108,8 @@ early '2 BadToken 4:4' 'b1 _: BUF [0:1] ("A") -> ("X");'
 printf '' | refused '3 Syntax 1:1'
 text '3 Syntax 2:1' 'SCALD 1;' 'clock 8 x 50;'
 text '3 Syntax 2:9' 'SCALD 1;' 'CLOCK 8 x50;'
+text '3 Syntax 1:9' 'SCALD 1;;'
+early '3 Syntax 4:9' 'a:B()->();'
 early '3 Syntax 4:4' 'IF : BUF [0:0] ("A") -> ("X");'
 early '3 Syntax 4:11' 'b1 : BUF [ONE:1] ("A") -> ("X");'
 early '15 TooDeep 4:75' "b1 : BUF [$(many 65 '(')0$(many 65 ')'):0] (\"A\") -> (\"X\");"
@@ -116,6 +118,7 @@ early '15 TooDeep 4:140' "b1 : BUF [0$(many 65 '+1'):70] (\"A\") -> (\"X\");"
 early '15 TooDeep 4:641' "$(many 65 'IF 1 THEN ')b1 : BUF [0:0] (\"A\") -> (\"X\"); $(many 65 'END; ')"
 
 # --- header
+text '3 Syntax 2:13' 'SCALD 2;' 'CLOCK 8 x 0;;'
 text '4 BadHeader 1:1' 'SCALD 2;' 'CLOCK 8 x 50;' 'DRAWING ROW;' 'END;'
 text '4 BadHeader 2:1' 'SCALD 1;' 'CLOCK 8 x 0;' 'DRAWING ROW;' 'END;'
 text '4 BadHeader 2:1' 'SCALD 1;' 'CLOCK 1 x 1;' 'DRAWING ROW;' 'END;'
@@ -124,6 +127,7 @@ text '4 BadHeader 3:1' 'SCALD 1;' 'CLOCK 8 x 50;' 'WIRE 2:1;' 'DRAWING ROW;' 'EN
 text '4 BadHeader 3:1' 'SCALD 1;' 'CLOCK 8 x 50;' 'WIRE 0:4096;' 'DRAWING ROW;' 'END;'
 text '4 BadHeader 3:1' 'SCALD 1;' 'CLOCK 8 x 50;' 'PSKEW 4096:0;' 'DRAWING ROW;' 'END;'
 text '4 BadHeader 3:1' 'SCALD 1;' 'CLOCK 8 x 50;' 'CSKEW 0:4096;' 'DRAWING ROW;' 'END;'
+text '4 BadHeader 2:1' 'SCALD 1;' 'CLOCK 8 x 0;' 'DRAWING ROW;' 'WIRE "" 0:1;' 'END;'
 
 # --- names
 for name in 'CK .P2-9' 'CK .P8-3' 'CK .P3-3' 'CK .P02-3' 'CK .P2-3(4096,0)' 'A .S0-2L' 'A .S0-2(1,1)' 'CK .P' ' A' 'A ' 'A  B' '' '/' \
@@ -134,6 +138,7 @@ early '20 EdgesOverlap 4:17' 'b1 : BUF [0:0] ("CK .C2-3(25,25)") -> ("X");'
 early '20 EdgesOverlap 4:17' 'b1 : BUF [0:0] ("CK .C2-3(400,0)") -> ("X");'
 macro refused '7 BadName 3:10' 'MACRO M ("/A") -> ("Z");' 'END;' 'DRAWING ROW;' 'END;'
 macro refused '7 BadName 3:10' 'MACRO M ("A .S") -> ("Z");' 'END;' 'DRAWING ROW;' 'END;'
+early '7 BadName 4:11' 'a:B();a:B("X .P2-9");'
 
 # --- double names
 early '5 DoubleName 5:1' 'b1 : BUF [0:0] ("A") -> ("X");' 'b1 : BUF [0:0] ("B") -> ("Y");'
@@ -153,6 +158,10 @@ macro unexpanded '14 Bounds 6:1' 'MACRO M ();' 'END;' 'DRAWING ROW;' 'u : M [0:0
 drawing '9 BadParameter 4:1' 'b1 : BUF [0:0] {N=1} ("A") -> ("X");'
 drawing '9 BadParameter 4:1' 'c1 : MIN_PULSE_CHK {HIGH=1, HIGH=1} ("A");'
 macro unexpanded '9 BadParameter 6:1' 'MACRO M {N=1} ();' 'END;' 'DRAWING ROW;' 'u : M {P=1} ();' 'END;'
+nine='A=1, B=1, C=1, D=1, E=1, F=1, G=1, H=1, I=1'
+for given in "$nine, A=2" "$nine, K=2"; do
+    macro unexpanded '9 BadParameter 6:1' "MACRO M {$nine} ();" 'END;' 'DRAWING ROW;' "u : M {$given} ();" 'END;'
+done
 drawing '10 Overflow 4:1' 'b1 : BUF [0:9223372036854775807+1] ("A") -> ("X");'
 drawing '21 ZeroDivisor 4:1' 'b1 : BUF [0:1/0] ("A") -> ("X");'
 drawing '22 UnknownName 4:1' 'b1 : BUF [0:N] ("A") -> ("X");'

@@ -1,18 +1,15 @@
 -- From what is read to what is drawn.
-use Rattle.std.proofs.Common.{◌≡◌, ℕ, List, false, refl, sym, ap, ◌∙◌, subst}
+use Rattle.std.proofs.Common.{◌≡◌, List, false, sym, ap, ◌∙◌, subst}
 use Rattle.std.specs.Prelude.{Ok, Err}
 use Rattle.scald_base.specs.Time.{Header}
 use Rattle.scald_base.specs.declared.refusal.Refusal.{Refusal}
 use Rattle.scald_base.specs.declared.refusal.Stop.{Stop}
 use Rattle.scald_base.specs.declared.refusal.Stop.TheVariants.{Refused, NoMemory}
 use Rattle.drawing_tree.specs.Tree as tree
-use Rattle.scald_lex.specs.declared.token.Token as lex
-use Rattle.drawing_grammar.specs.Lexeme.{Lexeme, lexemes}
+use Rattle.drawing_grammar.specs.Lexeme.{Lexeme}
 use Rattle.drawing_grammar.specs.Header.{judged}
 use Rattle.drawing_grammar.specs.Names.{Naming, names, names_from, AreGood, IsBadName, IsNameStop}
-use Rattle.drawing_grammar.specs.DoubleNames.{Declaration, declared, IsDistinct, IsDoubleName, IsDoubleStop}
-use Rattle.drawing_grammar.specs.declared.head.Head.{Head}
-use Rattle.drawing_tree.specs.declared.statement.Stmt.{Stmt}
+use Rattle.drawing_grammar.specs.DoubleNames.{IsDistinct, IsDoubleName, IsDoubleStop}
 use Rattle.drawing_grammar.specs.Sketch.{Sketch}
 use Rattle.drawing_grammar.specs.Draws.{IsStop}
 use Rattle.drawing_grammar.specs.Draws.{Reads}

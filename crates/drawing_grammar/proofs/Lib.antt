@@ -35,8 +35,10 @@ pub mod PhraseFormals
 pub mod PhraseMacro
 pub mod PhraseCase
 pub mod PhraseText
+pub mod HeadNeeds
 pub mod Heads
 pub mod Proper
+pub mod WordTerminals
 pub mod ProperTokens
 pub mod Formed
 pub mod Whole

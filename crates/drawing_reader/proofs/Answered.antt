@@ -1,32 +1,26 @@
 -- What the reader answers is what the definitions say.
-use Rattle.std.proofs.Common.{◌≡◌, ◌≢◌, ℕ, ◌≤◌, ◌<◌, Bool, true, false, List, [], ◌∷◌, ◌++◌, if◌then◌else◌, Result, Ok, Err, refl, sym, ap, ◌∙◌, append_assoc, arith, inl, inr, subst}
-use Rattle.std.specs.Prelude.{nat_le, IfOk, IfErr, Some, None}
-use Rattle.std.proofs.lemmas.Grind.{common_steps}
+use Rattle.std.proofs.Common.{◌≡◌, ◌≢◌, ℕ, List, [], ◌∷◌, Result, Ok, Err, refl, sym, ap, ◌∙◌, inl, inr, subst}
+use Rattle.std.specs.Prelude.{IfOk, IfErr, Some, None}
 use Rattle.scald_base.specs.declared.refusal.Refusal.{Refusal}
-use Rattle.scald_base.specs.declared.refusal.RefusalKind.TheVariants.{Syntax, TooDeep}
+use Rattle.scald_base.specs.declared.refusal.RefusalKind.TheVariants.{Syntax}
 use Rattle.scald_base.specs.declared.refusal.Stop.{Stop}
 use Rattle.scald_base.specs.declared.refusal.Stop.TheVariants as stop
 use Rattle.scald_lex.specs.declared.token.Token as lex
-use Rattle.scald_lex.specs.Tokens.{AreTokens, tokens_of, end_token}
 use Rattle.drawing_grammar.specs.declared.terminal.Terminal.TheVariants as is
 use Rattle.drawing_reader.specs.declared.reader.Sketch as code
-use Rattle.drawing_grammar.specs.Lexeme.{Lexeme, lexeme_of, lexemes, terminal}
+use Rattle.drawing_grammar.specs.Lexeme.{Lexeme, lexeme_of, lexemes}
 use Rattle.drawing_reader.specs.declared.cursor.Cursor.{Cursor}
 use Rattle.drawing_reader.specs.Reader.{tokens_at, ahead, first_token, other_tokens}
 use Rattle.drawing_grammar.specs.Front.{first_terminal, first_place}
 use Rattle.drawing_grammar.proofs.Moves.{mark_moves}
-use Rattle.drawing_grammar.specs.Grammar.{Need, mark}
+use Rattle.drawing_grammar.specs.Grammar.{mark}
 use Rattle.drawing_grammar.specs.Sketch.{Sketch, Values}
-use Rattle.drawing_grammar.specs.Written.{Written, spelling, weights, values, limit, Within, Beyond}
-use Rattle.drawing_grammar.specs.Draws.{whole, Reads, IsRefused, syntax, too_deep}
-use Rattle.drawing_grammar.specs.Machine.{Step, Next, Stuck, step, Verdict, Complete, Refused, given, go_on, verdict, refusal, Moves, Fails, Says}
+use Rattle.drawing_grammar.specs.Written.{values}
+use Rattle.drawing_grammar.specs.Draws.{whole, Reads, IsRefused}
+use Rattle.drawing_grammar.specs.Machine.{Verdict, Complete, Refused, given, verdict, refusal, Moves, Fails, Says}
 use Rattle.drawing_reader.specs.Sketched.{sketch_of, GivesSketch, GivesRefusal, Answers}
 use Rattle.drawing_grammar.specs.Draws.{IsStop}
-use Rattle.drawing_grammar.proofs.Undo.{Undone, undo}
-use Rattle.drawing_grammar.proofs.Forced.{Chained, Forces, forced}
-use Rattle.drawing_grammar.proofs.Least.{least}
-use Rattle.drawing_grammar.proofs.Places.{found, complete, Front, Far, Placed, at_syntax, at_limit, at_end, placed}
-use Rattle.drawing_grammar.proofs.Ends.{text_end_last}
+use Rattle.drawing_grammar.proofs.Places.{complete}
 use Rattle.drawing_grammar.proofs.Whole.{refused_so, Ending, is_refused, is_read, chained_whole}
 
 one_sketch : (s u : Sketch) (v : Values whole) → ◌≡◌ {A = Verdict whole} (Complete (s, tt)) (Complete v) → v.0 ≡ u → s ≡ u

@@ -1,5 +1,5 @@
 -- Declarations in a set are told apart by their keys.
-use Rattle.std.proofs.Common.{◌≡◌, ℕ, zero, suc, Bool, true, false, ◌&&◌, ◌||◌, not, List, [], ◌∷◌, ◌++◌, map, refl, sym, ap, ◌∙◌, arith, nat_eq, subst, append_assoc, ◌⊎◌, inl, inr}
+use Rattle.std.proofs.Common.{◌≡◌, ℕ, zero, suc, Bool, true, false, ◌||◌, not, List, [], ◌∷◌, ◌++◌, map, refl, sym, ap, ◌∙◌, arith, subst, append_assoc, ◌⊎◌, inl, inr}
 use Rattle.std.specs.Prelude.{if◌then◌else◌}
 use Rattle.std.proofs.lemmas.List.{map_push}
 use Rattle.std.specs.Prelude.{Contains, IsTrue, ◌≢◌}
@@ -7,12 +7,9 @@ use Rattle.drawing_tree.specs.WellFormed.{primitive_names}
 use Rattle.std.specs.List.{list_any}
 use Rattle.std.specs.Str.{bytes_eq}
 use Rattle.std.proofs.lemmas.Slice.Eq.{bytes_eq-Decides}
-use Rattle.std.proofs.lemmas.Bool.Decides.{nat_tests}
-use denote.Enum.Bare.{sameb}
-use Rattle.drawing_grammar.specs.contracts.declared.Kind.{the_type}
 use Rattle.drawing_reader.specs.declared.declared.Declared.{Declared}
 use Rattle.drawing_grammar.specs.declared.declared.Kind.{Kind}
-use Rattle.drawing_grammar.specs.declared.declared.Kind.TheVariants.{Macro, Parameter, Formal, Label}
+use Rattle.drawing_grammar.specs.declared.declared.Kind.TheVariants.{Macro}
 use Rattle.drawing_reader.specs.contracts.declared.DeclaredPartialEq.TheImpl.{eq-value}
 use Rattle.scald_base.specs.declared.refusal.Place.{Place}
 use Rattle.drawing_grammar.specs.DoubleNames.{Key, key, Declaration, declaration, double_at, primitives, Repeats, Declares}

@@ -1,24 +1,14 @@
 -- What holds of a slice holds of the list that it is of.
-use Rattle.std.proofs.Common.{◌≡◌, ℕ, List, false, refl, sym, ap, ◌∙◌, subst}
-use Rattle.std.specs.Prelude.{Ok, Err}
+use Rattle.std.proofs.Common.{◌≡◌, ℕ, List, false, refl, subst}
 use Rattle.scald_base.specs.Time.{Header}
-use Rattle.scald_base.specs.declared.refusal.Refusal.{Refusal}
 use Rattle.scald_base.specs.declared.refusal.Stop.{Stop}
-use Rattle.scald_base.specs.declared.refusal.Stop.TheVariants.{Refused, NoMemory}
 use Rattle.drawing_tree.specs.Tree as tree
 use Rattle.scald_lex.specs.declared.token.Token as lex
-use Rattle.drawing_grammar.specs.Lexeme.{Lexeme, lexemes}
-use Rattle.drawing_grammar.specs.Header.{judged}
-use Rattle.drawing_grammar.specs.Names.{Naming, names, names_from, AreGood, IsBadName, IsNameStop}
-use Rattle.drawing_grammar.specs.DoubleNames.{Declaration, declared, IsDistinct, IsDoubleName, IsDoubleStop}
+use Rattle.drawing_grammar.specs.Lexeme.{lexemes}
+use Rattle.drawing_grammar.specs.Names.{names_from, AreGood, IsNameStop}
+use Rattle.drawing_grammar.specs.DoubleNames.{Declaration, declared, IsDistinct, IsDoubleStop}
 use Rattle.drawing_grammar.specs.declared.head.Head.{Head}
 use Rattle.drawing_tree.specs.declared.statement.Stmt.{Stmt}
-use Rattle.drawing_grammar.specs.Sketch.{Sketch}
-use Rattle.drawing_grammar.specs.Draws.{IsStop}
-use Rattle.drawing_grammar.specs.Draws.{Reads}
-use Rattle.drawing_grammar.specs.Drawing.{drawing_of_sketch, declared_by, IsText, Draws, IsWrong, grammar, header, name, double, IsWrongStop}
-use Rattle.drawing_grammar.proofs.Heads.{names_of_text}
-use Rattle.drawing_grammar.proofs.Formed.{judged_ok}
 
 pub names_of_slice : (h : Header) (text : List ℕ) (slice tokens : List lex.Token) (stop : Stop) → slice ≡ tokens → IsNameStop h (names_from false (lexemes text slice)) stop → IsNameStop h (names_from false (lexemes text tokens)) stop
 names_of_slice h text slice tokens stop same found =

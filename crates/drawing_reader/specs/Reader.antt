@@ -1,16 +1,14 @@
 -- What a cursor has before it.
-use Rattle.std.specs.Prelude.{◌≡◌, ℕ, List, [], ◌∷◌, Option, Some, None, Result, Ok, Err}
+use Rattle.std.specs.Prelude.{◌≡◌, List, [], ◌∷◌, Option, Some, None, Result, Ok, Err}
 use Rattle.scald_base.specs.declared.refusal.Place.{Place}
 use Rattle.scald_base.specs.declared.refusal.Stop.{Stop}
 use Rattle.drawing_grammar.specs.declared.header.NumberPair.{NumberPair}
 use Rattle.scald_lex.specs.declared.token.Token as lex
-use Rattle.drawing_grammar.specs.declared.terminal.Letter.{Letter}
-use Rattle.drawing_grammar.specs.declared.terminal.Terminal.{Terminal}
-use Rattle.drawing_grammar.specs.declared.terminal.Terminal.TheVariants.{EndOfText, Word}
+use Rattle.drawing_grammar.specs.declared.terminal.Terminal.TheVariants.{EndOfText}
 use Rattle.drawing_reader.specs.declared.cursor.Cursor.{Cursor}
-use Rattle.drawing_grammar.specs.Lexeme.{Lexeme, lexeme_of, lexemes, terminal, number_of}
-use Rattle.drawing_grammar.specs.Grammar.{Need, mark, bounds, letter_text}
-use Rattle.drawing_grammar.specs.Machine.{Verdict, Complete, verdict, nowhere, Moves, Fails}
+use Rattle.drawing_grammar.specs.Lexeme.{Lexeme, lexeme_of, lexemes, number_of}
+use Rattle.drawing_grammar.specs.Grammar.{Need, mark, bounds}
+use Rattle.drawing_grammar.specs.Machine.{Verdict, Complete, verdict, Moves, Fails}
 
 -- the tokens before it
 abbrev pub tokens_at : Cursor → List Lexeme

@@ -1,5 +1,5 @@
 -- What reading a text answers, against the grammar.
-use Rattle.std.specs.Prelude.{◌≡◌, List, map, Result, Ok, Err, ⊤, ◌⊎◌}
+use Rattle.std.specs.Prelude.{◌≡◌, List, map, Result, Ok, Err, ◌⊎◌}
 use Rattle.scald_base.specs.declared.refusal.Refusal.{Refusal}
 use Rattle.scald_base.specs.declared.refusal.Stop.{Stop}
 use Rattle.scald_base.specs.declared.refusal.Stop.TheVariants as stop
@@ -7,7 +7,7 @@ use Rattle.drawing_tree.specs.Tree.{macro_of, statements_of}
 use Rattle.drawing_reader.specs.declared.reader.Sketch as written
 use Rattle.drawing_grammar.specs.Lexeme.{Lexeme}
 use Rattle.drawing_grammar.specs.Sketch.{Sketch}
-use Rattle.drawing_grammar.specs.Draws.{whole, IsRefused}
+use Rattle.drawing_grammar.specs.Draws.{whole}
 use Rattle.drawing_grammar.specs.Machine.{Complete, verdict, Says}
 
 abbrev pub sketch_of : written.Sketch → Sketch

@@ -27,6 +27,3 @@ mod header;
 mod names;
 
 pub use drawing::read_drawing;
-
-#[cfg(test)]
-mod tests;

@@ -23,6 +23,3 @@ pub use drawing::{
 };
 pub use drawing_text::print_drawing;
 pub use statement::{Assign, Assigns, IfStmt, Stmt, Stmts, UseStmt, WireStmt};
-
-#[cfg(test)]
-mod tests;

@@ -1,0 +1,108 @@
+#!/bin/sh
+# Small texts, each with the canonical text of what it draws, one for each way to write a part of a drawing: what
+# `format` answers, and that it answers the canonical text with that text itself.
+# Usage: checks/canonical.sh [PROGRAM]. Without a built program it says so and ends with 0.
+set -u
+top=$(CDPATH='' cd -- "$(dirname -- "$0")/.." && pwd) || exit 2
+program=${1:-$top/crates/scald/out/scald}
+if [ ! -x "$program" ]; then
+    echo "checks/canonical.sh: no program at $program (./scald builds it): nothing is tried"
+    exit 0
+fi
+work=$(mktemp -d) || exit 2
+trap 'rm -rf "$work"' EXIT
+failed=0
+tried=0
+
+# formats NAME TEXT: the text's canonical text is the one in $work/want
+formats() {
+    tried=$((tried + 1))
+    printf '%s' "$2" | "$program" format >"$work/out"
+    status=$?
+    if [ "$status" -ne 0 ] || ! cmp -s "$work/out" "$work/want"; then
+        failed=$((failed + 1))
+        echo "FAILED $1: status $status, and this canonical text:"
+        sed 's/^/    /' "$work/out"
+    elif ! "$program" format <"$work/want" | cmp -s - "$work/want"; then
+        failed=$((failed + 1))
+        echo "FAILED $1: its canonical text has another one"
+    fi
+}
+
+# drawn NAME TEXT LINE ..: the lines of a text behind a header of two statements
+drawn() {
+    name=$1
+    text=$2
+    shift 2
+    {
+        printf 'SCALD 1;\nCLOCK 8 x 50;\nWIRE 0:0;\nPSKEW 0:0;\nCSKEW 0:0;\n'
+        printf '%s\n' "$@"
+    } >"$work/want"
+    formats "$name" "SCALD 1;CLOCK 8 x 50;$text"
+}
+
+# statement NAME TEXT LINE ..: the lines of a statement in a drawing, without the two spaces that begin each
+statement() {
+    name=$1
+    text=$2
+    shift 2
+    {
+        printf 'SCALD 1;\nCLOCK 8 x 50;\nWIRE 0:0;\nPSKEW 0:0;\nCSKEW 0:0;\nDRAWING D;\n'
+        printf '  %s\n' "$@"
+        printf 'END;\n'
+    } >"$work/want"
+    formats "$name" "SCALD 1;CLOCK 8 x 50;DRAWING D;${text}END;"
+}
+
+# --- expressions
+statement 'a number' 'WIRE"W"0:7;' 'WIRE "W" 0:7;'
+statement 'zeros before a number' 'WIRE"W"007:0010;' 'WIRE "W" 7:10;'
+statement 'a parameter' 'WIRE"W"A:B_2;' 'WIRE "W" A:B_2;'
+statement 'a minus' 'WIRE"W"-A:- 1;' 'WIRE "W" -A:-1;'
+statement 'parentheses' 'WIRE"W"(1):2*(A+3);' 'WIRE "W" 1:2 * (A + 3);'
+statement 'products' 'WIRE"W"A*B/C:1;' 'WIRE "W" A * B / C:1;'
+statement 'sums' 'WIRE"W"A-B+C:1;' 'WIRE "W" A - B + C:1;'
+statement 'sums inside' 'WIRE"W"(1+2)*3-(-(4)):-(A+1);' 'WIRE "W" (1 + 2) * 3 - -4:-(A + 1);'
+statement 'products inside' 'WIRE"W"A/(B*2):-(A*B);' 'WIRE "W" A / (B * 2):-(A * B);'
+statement 'a minus of a minus' 'WIRE"W"- -A:1;' 'WIRE "W" -(-A):1;'
+statement 'comparisons inside' 'IF (A=1)=(B<2) THEN END;' 'IF (A = 1) = (B < 2) THEN' 'END;'
+statement 'a comparison as a bound' 'WIRE"W"(A=1):1;' 'WIRE "W" (A = 1):1;'
+statement 'equal' 'IF A=1 THEN END;' 'IF A = 1 THEN' 'END;'
+statement 'not equal' 'IF A!=1 THEN END;' 'IF A != 1 THEN' 'END;'
+statement 'less' 'IF A<1 THEN END;' 'IF A < 1 THEN' 'END;'
+statement 'at most' 'IF A< =1 THEN END;' 'IF A <= 1 THEN' 'END;'
+statement 'greater' 'IF A>1 THEN END;' 'IF A > 1 THEN' 'END;'
+statement 'at least' 'IF A>=1 THEN END;' 'IF A >= 1 THEN' 'END;'
+
+# --- statements
+statement 'one bit' 'WIRE"W"<3>0:1;' 'WIRE "W"<3> 0:1;'
+statement 'a range' 'WIRE"W"<3:N-1>0:1;' 'WIRE "W"<3:N - 1> 0:1;'
+statement 'a use' 'a:B();' 'a : B ();'
+statement 'a delay' 'a:B[1:2]();' 'a : B [1:2] ();'
+statement 'a parameter of a use' 'a:B{X=1}();' 'a : B {X=1} ();'
+statement 'two parameters of a use' 'a:B[0:9]{X=1,Y=X}();' 'a : B [0:9] {X=1, Y=X} ();'
+statement 'a complement' 'a:B(-"X"<1>);' 'a : B (-"X"<1>);'
+statement 'constants' 'a:B(ZERO,ONE);' 'a : B (ZERO, ONE);'
+statement 'complements of constants' 'a:B(-ZERO,-ONE);' 'a : B (-ZERO, -ONE);'
+statement 'a global name with an assertion' 'a:B("/X .S1-4");' 'a : B ("/X .S1-4");'
+statement 'bits one behind the other' 'a:B("X"&ONE);' 'a : B ("X" & ONE);'
+statement 'a mark' 'a:B("X"!H,"Y");' 'a : B ("X" !H, "Y");'
+statement 'outputs' 'a:B()->("Y","Z");' 'a : B () -> ("Y", "Z");'
+statement 'an IF within an IF' 'IF A THEN IF B THEN a:B();END;END;' 'IF A THEN' '  IF B THEN' '    a : B ();' '  END;' 'END;'
+statement 'an ELSE' 'IF A THEN a:B();ELSE b:B();END;' 'IF A THEN' '  a : B ();' 'ELSE' '  b : B ();' 'END;'
+
+# --- what stands around statements
+drawn 'the shortest drawing' 'DRAWING D;END;' 'DRAWING D;' 'END;'
+drawn 'a macro' 'MACRO M();END;DRAWING D;END;' 'MACRO M ();' 'END;' 'DRAWING D;' 'END;'
+drawn 'parameters' 'MACRO M{A=1,B=A}();END;DRAWING D;END;' 'MACRO M {A=1, B=A} ();' 'END;' 'DRAWING D;' 'END;'
+drawn 'formals' 'MACRO M("I"<0:A>,"J")->("O"<1>,"P");END;DRAWING D;END;' \
+    'MACRO M ("I"<0:A>, "J") -> ("O"<1>, "P");' 'END;' 'DRAWING D;' 'END;'
+drawn 'two macros' 'MACRO M();a:B();END;MACRO N();a:B();END;DRAWING D;a:B();END;' \
+    'MACRO M ();' '  a : B ();' 'END;' 'MACRO N ();' '  a : B ();' 'END;' 'DRAWING D;' '  a : B ();' 'END;'
+drawn 'cases' 'DRAWING D;END;CASE"X"=1,"Y"<2>=0;CASE"X"=0;' \
+    'DRAWING D;' 'END;' 'CASE "X"<0>=1, "Y"<2>=0;' 'CASE "X"<0>=0;'
+printf '%s\n' 'SCALD 1;' 'CLOCK 10 x 5;' 'WIRE 1:2;' 'PSKEW 3:4;' 'CSKEW 5:6;' 'DRAWING D;' 'END;' >"$work/want"
+formats 'all statements of a header' 'SCALD 1;CLOCK 10 x 5;WIRE 1:2;PSKEW 3:4;CSKEW 5:6;DRAWING D;END;'
+
+echo "checks/canonical.sh: $tried tried, $failed failed"
+[ "$tried" -gt 0 ] && [ "$failed" -eq 0 ]
