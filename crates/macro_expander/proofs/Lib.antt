@@ -8,6 +8,7 @@ pub mod Binding
 pub mod Ranges
 pub mod Running
 pub mod Leading
+pub mod Parameters
 pub mod Joints
 pub mod Uses
 pub mod Adding

@@ -1,8 +1,8 @@
 -- Lists whose items are seen otherwise.
-use Rattle.std.proofs.Common.{◌≡◌, ℕ, ◌+◌, Bool, true, false, cond, List, [], ◌∷◌, map, Option, Some, None, refl, ap, sym, subst, ◌∙◌}
+use Rattle.std.proofs.Common.{◌≡◌, ℕ, ◌+◌, Bool, true, false, cond, ◌||◌, List, [], ◌∷◌, map, Option, Some, None, refl, ap, sym, subst, ◌∙◌}
 use Rattle.std.specs.Prelude.{IfSome}
-use Rattle.std.specs.List.{All, find, fold, count_by, sum_by}
-use Rattle.std.specs.Option.{option_map, option_copied}
+use Rattle.std.specs.List.{All, find, fold, count_by, sum_by, list_any}
+use Rattle.std.specs.Option.{option_map, option_copied, is_some}
 use Rattle.std.proofs.lemmas.List.Elements.{All-head, All-tail}
 use denote.Ref.{Bor}
 
@@ -39,3 +39,12 @@ found_is P test (x ∷ xs) f h e = found-step P (test x) x f (find test xs) (All
 pub found_has : {X : Type 0} (P : X → Type 0) (test : X → Bool) (xs : List X) (r : Option (Bor X)) → option_copied r ≡ find test xs → All P xs → IfSome r (λ b. P b.now)
 found_has P test xs None e h = tt
 found_has P test xs (Some b) e h = found_is P test xs b.now h (sym e)
+
+-- something is found where something passes the test
+pub found_any : {X : Type 0} (test : X → Bool) (xs : List X) → is_some (find test xs) ≡ list_any test xs
+found_any test [] = refl
+found_any test (x ∷ xs) = by (test x) (found_any test xs)
+  where
+    by : (b : Bool) → is_some (find test xs) ≡ list_any test xs → is_some (cond b (Some x) (find test xs)) ≡ (b || list_any test xs)
+    by true h = refl
+    by false h = h

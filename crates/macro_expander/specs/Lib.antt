@@ -13,4 +13,5 @@ pub mod Fitting
 pub mod Library
 pub mod Statements
 pub mod Places
+pub mod Parameters
 pub mod Runs

@@ -5,6 +5,7 @@ use Rattle.std.specs.Map.{lookup}
 use Rattle.std.specs.Str.{bytes_eq}
 use Rattle.std.specs.Global.{Vec}
 use Rattle.scald_expr.specs.declared.environment.Binding.{Binding}
+use Rattle.drawing_tree.specs.declared.statement.Assign.{Assign}
 use Rattle.macro_expander.specs.declared.scope.Bound.{Bound}
 use Rattle.macro_expander.specs.Terms.{bit_at_place}
 
@@ -12,7 +13,10 @@ use Rattle.macro_expander.specs.Terms.{bit_at_place}
 abbrev pub base_of : Bound → List ℕ
 base_of f = f.base
 
--- the name of a parameter that has a value
+-- the name of a parameter that is given or declared, and of one that has a value
+abbrev pub assigned_name : Assign → List ℕ
+assigned_name a = a.name
+
 abbrev pub binding_name : Binding → List ℕ
 binding_name b = b.name
 

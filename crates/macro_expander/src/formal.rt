@@ -1,20 +1,20 @@
 //! The parameters and the formals of a macro at a use.
 
-ghost use Rattle.std.specs.Prelude.{◌≡◌, ◌==◌, ◌&&◌, map, length};
+ghost use Rattle.std.specs.Prelude.{◌≡◌, ◌==◌, ◌&&◌, map, length, IfOk};
 ghost use Rattle.std.specs.List.{find, list_any};
 ghost use Rattle.drawing_tree.specs.Tree.{assignment_of, formal_of, macro_of, use_of};
 ghost use Rattle.macro_expander.specs.Primitives.{are_of};
 ghost use Rattle.macro_expander.specs.Macros.{value_given as spec_value_given, value_or_default as spec_value_or_default, parameter as spec_parameter, parameters_of, shape_of, shapes_of, has_parameter, fits_formals as spec_fits_formals, given_to as spec_given_to, inside_of as spec_inside_of};
-ghost use Rattle.macro_expander.specs.Places.{LeadWhereMany, binding_name};
+ghost use Rattle.macro_expander.specs.Places.{LeadWhereMany, assigned_name, binding_name};
 ghost use Rattle.macro_expander.specs.Steps.{JudgedAt};
 
 use crate::parameter::{comes_again, values_given};
-use crate::places::{named, places};
+use crate::places::{Called, FEW, led, named, places};
 use crate::primitive::marks;
 use crate::range::{at, numbers, refused, value, written_ends};
 use drawing_tree::{Assign, Assigns, Defaults, Formal, Formals, MacroDef, UseStmt};
 use indexmap::IndexMap;
-use scald_base::{Bytes, List, Place, RefusalKind, Stop};
+use scald_base::{Bytes, List, NoMemory, Place, RefusalKind, Stop};
 use scald_expr::{Binding, Env};
 use std::alloc::Global;
 use vector_names::Indices;
@@ -138,7 +138,8 @@ pub(crate) fn inside_of(
     Ok(Inside { env, ins, outs })
 }
 
-fn are_parameters(definition: &MacroDef, params: &Assigns) -> bool
+/// Whether each is a parameter of the macro and none comes twice, where they are few.
+fn are_few_parameters(definition: &MacroDef, params: &Assigns) -> bool
     ensures { result ≡ are_of (has_parameter (macro_of definition.now)) (map assignment_of params.now) }
 {
     let params = params.as_slice();
@@ -149,6 +150,49 @@ fn are_parameters(definition: &MacroDef, params: &Assigns) -> bool
         }
     }
     true
+}
+
+fn is_known(known: &IndexMap<Vec<u8>, usize>, definition: &MacroDef, name: &[u8]) -> bool
+    requires { LeadWhereMany assigned_name known.now.entries definition.now.params }
+    ensures { result ≡ has_parameter (macro_of definition.now) name.now }
+{
+    named(known, definition.params.as_slice(), name).is_some()
+}
+
+/// The same of many: each is looked up among the macro's and among those behind it.
+fn are_many_parameters(
+    alloc: Global,
+    definition: &MacroDef,
+    params: &Assigns,
+) -> Result<bool, NoMemory>
+    ensures { IfOk result (λ are. are ≡ are_of (has_parameter (macro_of definition.now)) (map assignment_of params.now)) }
+{
+    let known = places(alloc, definition.params.as_slice())?;
+    let params = params.as_slice();
+    let mut behind: IndexMap<Vec<u8>, usize> = IndexMap::new(alloc);
+    let mut place = params.len();
+    while place > 0 {
+        place -= 1;
+        let name = params[place].name();
+        if !is_known(&known, definition, name) {
+            return Ok(false);
+        }
+        if led(&behind, params, name).is_some() {
+            return Ok(false);
+        }
+        let key = Vec::from_slice(alloc, name)?;
+        behind.insert(key, place)?;
+    }
+    Ok(true)
+}
+
+fn are_parameters(alloc: Global, definition: &MacroDef, params: &Assigns) -> Result<bool, NoMemory>
+    ensures { IfOk result (λ are. are ≡ are_of (has_parameter (macro_of definition.now)) (map assignment_of params.now)) }
+{
+    if params.len() <= FEW {
+        return Ok(are_few_parameters(definition, params));
+    }
+    are_many_parameters(alloc, definition, params)
 }
 
 fn fits_formals(definition: &MacroDef, statement: &UseStmt) -> bool
@@ -175,7 +219,7 @@ pub(crate) fn given_to(
     if statement.delay.is_some() {
         return Err(refused(RefusalKind::Bounds, place));
     }
-    if !are_parameters(definition, &statement.params) {
+    if !are_parameters(alloc, definition, &statement.params)? {
         return Err(refused(RefusalKind::BadParameter, place));
     }
     let given = values_given(alloc, &statement.params, env, place)?;

@@ -14,6 +14,14 @@ use scald_base::{Bytes, List, Place, Stop};
 use scald_expr::{Binding, Env};
 use std::alloc::Global;
 
+impl Called for Assign {
+    ghost name = { λ a. a.name };
+
+    fn name(&self) -> &[u8] {
+        self.name.as_slice()
+    }
+}
+
 impl Called for Binding {
     ghost name = { λ b. b.name };
 

@@ -13,7 +13,7 @@ use scald_base::NoMemory;
 use std::alloc::Global;
 
 /// The most items that are gone through one by one, which costs less than to look a name up.
-const FEW: usize = 8;
+pub(crate) const FEW: usize = 8;
 
 /// What is found by its name.
 pub trait Called {
@@ -63,7 +63,11 @@ fn first_named<'a, T: Called>(items: &'a [T], name: &[u8]) -> Option<&'a T>
 }
 
 /// The item at the place of a name.
-fn led<'a, T>(places: &IndexMap<Vec<u8>, usize>, items: &'a [T], name: &[u8]) -> Option<&'a T>
+pub(crate) fn led<'a, T>(
+    places: &IndexMap<Vec<u8>, usize>,
+    items: &'a [T],
+    name: &[u8],
+) -> Option<&'a T>
     ensures { option_copied result ≡ bit_at_place items.now (lookup (λ k. bytes_eq name.now k.items) places.now.entries) }
 {
     match places.get(name) {
