@@ -2,7 +2,7 @@
 use Rattle.std.proofs.Common.{◌≡◌, ◌≢◌, ℕ, zero, suc, ◌<◌, ◌==◌, Bool, true, false, not, ◌&&◌, ◌||◌, cond, All, List, [], ◌∷◌, ◌++◌, length, append-nil, map, filter, get_or, refl, sym, ap, subst, ◌∙◌, arith}
 use Rattle.std.proofs.lemmas.List.Sums.{fold_push}
 use Rattle.std.proofs.lemmas.List.{map-append, map-set, length-map, length-set, get_or-set_same, get_or-set_other}
-use Rattle.std.proofs.lemmas.List.Elements.{filter-append, All-head, All-tail}
+use Rattle.std.proofs.lemmas.List.Elements.{filter-append, All-filter, All-map, All-head, All-tail}
 use Rattle.std.proofs.lemmas.Bool.{eqb-true, eqb-false}
 use Rattle.std.proofs.Math.ListN.{set}
 use Rattle.step_values.specs.declared.value.Value.{Value}
@@ -75,7 +75,7 @@ changed-nets c ws (net ∷ nets) i = by (net == i) refl (moves c ws net) refl (c
         let still : moves c ws i ≡ false = ap (moves c ws) (sym (eqb-true net i e)) ∙ m in
         rest ∙ (λ k. among nets i && still k) ∙ and-none (among nets i) ∙ sym still
 
-set-at : (waves : List (Wave Value)) (net i : ℕ) (w : Wave Value) → net < length waves → waves_of (set waves net w) i ≡ cond (net == i) w (waves_of waves i)
+pub set-at : (waves : List (Wave Value)) (net i : ℕ) (w : Wave Value) → net < length waves → waves_of (set waves net w) i ≡ cond (net == i) w (waves_of waves i)
 set-at waves net i w below = by (net == i) refl
   where
     by : (here : Bool) → (net == i) ≡ here → waves_of (set waves net w) i ≡ cond here w (waves_of waves i)
@@ -123,6 +123,10 @@ waves-changed c ws (net ∷ nets) waves i exist = by (moves c ws net) refl (wave
         ∙ taken (net == i) (among nets i) (moves c ws i) (evaluated c ws i) (evaluated c ws net) (waves_of waves i)
         (λ here. let same = eqb-true net i here in (ap (moves c ws) (sym same) ∙ is, ap (evaluated c ws) same))
     by false is after before = before ∙ left (net == i) (among nets i) (moves c ws i) (evaluated c ws i) (waves_of waves i) (λ here. ap (moves c ws) (sym (eqb-true net i here)) ∙ is)
+
+pub changes-exist : (c : Circuit) (ws : Waves) (nets : List ℕ) (n : ℕ) → All (λ net. net < n) nets → All (λ (ch : Change). ch.0 < n) (changes_of c ws nets)
+changes-exist c ws nets n exist =
+    All-filter (λ (ch : Change). not (same_wave ch.1 (ws ch.0))) (λ (ch : Change). ch.0 < n) (map (λ i. (i, evaluated c ws i)) nets) (All-map (λ (ch : Change). ch.0 < n) (λ i. (i, evaluated c ws i)) nets exist)
 
 pub length-changed : (changes : List Change) (waves : List (Wave Value)) → length (changed waves changes) ≡ length waves
 length-changed [] waves = refl

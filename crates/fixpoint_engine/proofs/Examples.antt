@@ -25,6 +25,7 @@ use Rattle.fixpoint_engine.specs.Value.{instance_wave}
 use Rattle.fixpoint_engine.specs.Rounds.{next, round}
 use Rattle.fixpoint_engine.specs.Start.{base_start, is_driven, default_limit}
 use Rattle.fixpoint_engine.specs.Work.{is_due, work_to}
+use Rattle.fixpoint_engine.specs.Classes.{class_work_to}
 use Rattle.fixpoint_engine.specs.Reach.{reach}
 
 abbrev bounds : ℕ → ℕ → Bounds
@@ -79,6 +80,11 @@ paths_rest = refl
 paths_work : work_to paths (is_driven paths) (after paths) 3 ≡ 4
 unfolding image1 image2 and_image and_of work_to is_due round next instance_wave gate_wave meeting hazard back earlier normal moved
 paths_work = refl
+
+-- two classes are due in round 1, and that of the AND once more
+paths_class_work : class_work_to paths (0 ∷ 7 ∷ 7 ∷ 3 ∷ []) (is_driven paths) (after paths) 3 ≡ 3
+unfolding image1 image2 and_image and_of class_work_to is_due round next instance_wave gate_wave meeting hazard back earlier normal moved
+paths_class_work = refl
 
 pub paths_reach : reach paths ≡ 4
 paths_reach = refl

@@ -1,5 +1,5 @@
 -- What the worklist has come to after some rounds, and how a round more, rest and the limit follow.
-use Rattle.std.proofs.Common.{◌≡◌, ℕ, suc, ◌+◌, ◌*◌, ◌<◌, ◌≤◌, ◌==◌, Bool, true, false, not, ◌&&◌, ◌||◌, cond, List, [], ◌∷◌, length, map, refl, sym, ap, subst, ◌∙◌, arith, All}
+use Rattle.std.proofs.Common.{◌≡◌, ℕ, suc, ◌+◌, ◌*◌, ◌<◌, ◌≤◌, ◌==◌, Bool, true, false, not, ◌&&◌, ◌||◌, cond, List, [], ◌∷◌, length, map, refl, sym, ap, subst, ◌∙◌, arith, All, count_by}
 use Rattle.std.specs.List.{Contains, range_with_len}
 use Rattle.std.proofs.lemmas.Bool.{both_ways, eqb-true, eqb-false}
 use Rattle.std.proofs.lemmas.Bool.Decides.{nat_tests}
@@ -20,7 +20,7 @@ use Rattle.flat_circuit.specs.Run.{net_signal}
 use Rattle.fixpoint_engine.specs.Value.{Waves}
 use Rattle.fixpoint_engine.specs.Reach.{reach}
 use Rattle.fixpoint_engine.specs.Rounds.{driver, evaluated, net_at, round, AreSame}
-use Rattle.fixpoint_engine.specs.Work.{same_wave, differs, hears_in, is_due, due_count, work_to}
+use Rattle.fixpoint_engine.specs.Work.{same_wave, differs, hears_in, is_due, work_to}
 use Rattle.fixpoint_engine.specs.Settled.{waves_of, marked_in, FitWaves, FitActive, AreAtRest, KeepRuns}
 use Rattle.fixpoint_engine.specs.End.{EndsAt, EndsFor}
 use Rattle.fixpoint_engine.specs.Worklist.{Queue, IsQueue, Change, changes_of, changed, among}
@@ -31,6 +31,7 @@ use Rattle.fixpoint_engine.proofs.Listening.{same-tests, hears-same}
 use Rattle.fixpoint_engine.proofs.Changing.{moves, changed-nets, waves-changed, length-changed}
 use Rattle.fixpoint_engine.proofs.Waiting.{waiting-below}
 use Rattle.fixpoint_engine.proofs.Reached.{Reached, reached-start, reached-more, at-rest, not-at-rest, undue-stays, due-takes, work-more}
+use Rattle.fixpoint_engine.proofs.Turns.{nets_of, Turn, turn-rests, turn-reaches, turn-fits, turn-ends}
 use Rattle.fixpoint_engine.proofs.Sound.{round-fits, round-sound}
 
 -- After r rounds: the waves are those of round r, the queue has what is due in the next round, and so many evaluations
@@ -48,7 +49,7 @@ pub record Kept (c : Circuit) (active : ℕ → Bool) (start : Waves) (waves : L
 self-number : (n : ℕ) → (n == n) ≡ true
 self-number n = grind (arith, nat_tests)
 
-among-waiting : (q : Queue) (i : ℕ) → IsQueue q → among q.nets i ≡ marked_in q.marks i
+pub among-waiting : (q : Queue) (i : ℕ) → IsQueue q → among q.nets i ≡ marked_in q.marks i
 among-waiting q i queue = same-tests (among q.nets i) (marked_in q.marks i) to from
   where
     to : among q.nets i ≡ true → marked_in q.marks i ≡ true
@@ -60,16 +61,15 @@ among-waiting q i queue = same-tests (among q.nets i) (marked_in q.marks i) to f
     from marked = let at = (queue.are i).0 marked in list_any-from_Any (λ net. net == i) q.nets (at.0, i, at.1, at.2, self-number i)
 
 -- as many wait as are due
-waiting-count : (c : Circuit) (active : ℕ → Bool) (rounds : ℕ → Waves) (r : ℕ) (q : Queue) → IsQueue q → length q.marks ≡ length c.nets →
-    ((i : ℕ) → marked_in q.marks i ≡ is_due c active rounds r i) → length q.nets ≡ due_count c active rounds r
-waiting-count c active rounds r q queue each due =
-    let marks : q.marks ≡ map (is_due c active rounds r) (range_with_len 0 (length c.nets)) = fill_by_all (is_due c active rounds r) q.marks (length c.nets) false each (λ k below. due k) in
-    queue.once ∙ count-marks (λ b. b) (is_due c active rounds r) q.marks (range_with_len 0 (length c.nets)) (map-id q.marks ∙ marks)
+pub waiting-count : (c : Circuit) (due : ℕ → Bool) (q : Queue) → IsQueue q → length q.marks ≡ length c.nets → ((i : ℕ) → marked_in q.marks i ≡ due i) → length q.nets ≡ count_by due (range_with_len 0 (length c.nets))
+waiting-count c due q queue each is =
+    let marks : q.marks ≡ map due (range_with_len 0 (length c.nets)) = fill_by_all due q.marks (length c.nets) false each (λ k below. is k) in
+    queue.once ∙ count-marks (λ b. b) due q.marks (range_with_len 0 (length c.nets)) (map-id q.marks ∙ marks)
 
 -- ---- one round more
 
 -- what the evaluation of a net in round r changes
-changes-is : (c : Circuit) (active : ℕ → Bool) (start : Waves) (r i : ℕ) → (is_due c active (round c active start) (suc r) i && moves c (round c active start r) i) ≡ differs (round c active start r) (round c active start (suc r)) i
+pub changes-is : (c : Circuit) (active : ℕ → Bool) (start : Waves) (r i : ℕ) → (is_due c active (round c active start) (suc r) i && moves c (round c active start r) i) ≡ differs (round c active start r) (round c active start (suc r)) i
 changes-is c active start r i = by (is_due c active (round c active start) (suc r) i) refl
   where
     turned : (w v : Wave Value) → same_wave w v ≡ same_wave v w
@@ -103,9 +103,6 @@ becomes c active start r i = by (is_due c active (round c active start) (suc r) 
 pub record IsMade (c : Circuit) (waves : List (Wave Value)) (q : Queue) (made : List Change) : Type 0 where
   pub queue : IsQueue q
   pub is : made ≡ changes_of c (waves_of waves) q.nets
-
-abbrev pub nets_of : List Change → ℕ → Bool
-nets_of made = among (map (λ (ch : Change). ch.0) made)
 
 kept-waves : (c : Circuit) (active : ℕ → Bool) (start : Waves) (waves : List (Wave Value)) (q : Queue) (r evals : ℕ) → Kept c active start waves q r evals → waves_of waves ≡ round c active start r
 kept-waves c active start waves q r evals kept = λ k i. kept.reached.is i k
@@ -141,26 +138,12 @@ next-is c active start waves q r evals made kept is i =
 
 -- ---- rest, and a round more
 
-still : (c : Circuit) (active : ℕ → Bool) (start : Waves) (waves : List (Wave Value)) (q : Queue) (r evals : ℕ) (made : List Change) → Kept c active start waves q r evals → IsMade c waves q made → made ≡ [] →
-    AreSame (round c active start (suc r)) (round c active start r)
-still c active start waves q r evals made kept is none i =
-    sym (next-is c active start waves q r evals made kept is i) ∙ ap (λ (chs : List Change). waves_of (changed waves chs) i) none ∙ kept.reached.is i
+turn : (c : Circuit) (active : ℕ → Bool) (start : Waves) (waves : List (Wave Value)) (q : Queue) (r evals : ℕ) (made : List Change) → Kept c active start waves q r evals → IsMade c waves q made → Turn c active start waves r made
+turn c active start waves q r evals made kept is = record { nets = nets-are c active start waves q r evals made kept is; next = next-is c active start waves q r evals made kept is }
 
 pub rests : (c : Circuit) (active : ℕ → Bool) (start : Waves) (waves : List (Wave Value)) (q : Queue) (limit r evals : ℕ) (made : List Change) → Kept c active start waves q r evals → IsMade c waves q made → length made ≡ 0 → r ≤ limit →
     AreAtRest c active start limit r (waves_of waves)
-rests c active start waves q limit r evals [] kept is none within =
-    at-rest c active start (waves_of waves) limit r kept.reached within (still c active start waves q r evals [] kept is refl)
-rests c active start waves q limit r evals (ch ∷ made) kept is none within = absurd (omega arith)
-
-moving : (c : Circuit) (active : ℕ → Bool) (start : Waves) (waves : List (Wave Value)) (q : Queue) (r evals : ℕ) (made : List Change) → Kept c active start waves q r evals → IsMade c waves q made → 0 < length made →
-    ¬ AreSame (round c active start (suc r)) (round c active start r)
-moving c active start waves q r evals [] kept is some same = absurd (omega arith)
-moving c active start waves q r evals (ch ∷ made) kept is some same =
-    let listed : nets_of (ch ∷ made) ch.0 ≡ true = λ k. self-number ch.0 k || nets_of made ch.0 in
-    let differ : differs (round c active start r) (round c active start (suc r)) ch.0 ≡ true = sym (nets-are c active start waves q r evals (ch ∷ made) kept is ch.0) ∙ listed in
-    let equal : differs (round c active start r) (round c active start (suc r)) ch.0 ≡ false =
-    ap (λ (w : Wave Value). not (same_wave (round c active start r ch.0) w)) (same ch.0) ∙ ap not (same_wave-self (round c active start r ch.0)) in
-    both_ways (differs (round c active start r) (round c active start (suc r)) ch.0) equal differ
+rests c active start waves q limit r evals made kept is none within = turn-rests c active start waves r kept.reached limit made (turn c active start waves q r evals made kept is) none within
 
 -- ---- how many evaluations
 
@@ -178,7 +161,7 @@ evals-fit c active start waves q r evals kept known queue =
 works-out : (c : Circuit) (active : ℕ → Bool) (start : Waves) (waves : List (Wave Value)) (q : Queue) (r evals : ℕ) → Kept c active start waves q r evals → IsQueue q →
     evals + length q.nets ≡ work_to c active (round c active start) (suc r)
 works-out c active start waves q r evals kept queue =
-    (λ k. kept.works k + waiting-count c active (round c active start) (suc r) q queue kept.each_net kept.due k) ∙ sym (work-more c active (round c active start) r)
+    (λ k. kept.works k + waiting-count c (is_due c active (round c active start) (suc r)) q queue kept.each_net kept.due k) ∙ sym (work-more c active (round c active start) r)
 
 pub works : (c : Circuit) (active : ℕ → Bool) (start : Waves) (waves : List (Wave Value)) (q : Queue) (r evals : ℕ) (nets : List ℕ) → Kept c active start waves q r evals → IsQueue q → nets ≡ q.nets →
     evals + length nets ≡ work_to c active (round c active start) (r + 1)
@@ -187,11 +170,11 @@ works c active start waves q r evals nets kept queue same =
 
 -- ---- the loop
 
-first-due : (c : Circuit) (active : ℕ → Bool) (rounds : ℕ → Waves) (i : ℕ) → is_due c active rounds 1 i ≡ active i
+pub first-due : (c : Circuit) (active : ℕ → Bool) (rounds : ℕ → Waves) (i : ℕ) → is_due c active rounds 1 i ≡ active i
 unfolding is_due
 first-due c active rounds i = refl
 
-later-due : (c : Circuit) (active : ℕ → Bool) (rounds : ℕ → Waves) (r i : ℕ) → is_due c active rounds (suc (suc r)) i ≡ (active i && hears_in (differs (rounds r) (rounds (suc r))) (driver c i))
+pub later-due : (c : Circuit) (active : ℕ → Bool) (rounds : ℕ → Waves) (r i : ℕ) → is_due c active rounds (suc (suc r)) i ≡ (active i && hears_in (differs (rounds r) (rounds (suc r))) (driver c i))
 unfolding is_due
 later-due c active rounds r i = refl
 
@@ -216,11 +199,8 @@ pub kept-more : (c : Circuit) (active : ℕ → Bool) (start : Waves) (waves aft
 kept-more c active start waves after q more r evals nets made known some fit kept is waiting moves same each refilled =
     subst (λ (ns : List ℕ). Kept c active start after more (r + 1) (evals + length ns)) (sym waiting)
     (subst (λ (n : ℕ). Kept c active start after more n (evals + length q.nets)) (let e : suc r ≡ r + 1 = omega arith in e) (record {
-      reached = reached-more c active start (waves_of waves) (waves_of after) r kept.reached next (moving c active start waves q r evals made kept is moves);
-      fit = record {
-        each_net = ap length same ∙ length-changed made waves ∙ kept.fit.each_net;
-        each_slot = λ i below. ap (λ (w : Wave Value). length w.cells) (next i) ∙ (round-fits c active start (suc r) some known fit i below).long;
-      };
+      reached = turn-reaches c active start waves r kept.reached made goes after same moves;
+      fit = turn-fits c active start waves r kept.reached made goes after same known some fit kept.fit;
       each_net = each;
       due = λ i. refilled i ∙ (λ k. active i && hears-same (nets_of made) (differs (round c active start r) (round c active start (suc r))) (driver c i) (nets-are c active start waves q r evals made kept is) k)
           ∙ sym (later-due c active (round c active start) r i);
@@ -228,25 +208,8 @@ kept-more c active start waves after q more r evals nets made known some fit kep
       bound = let most = evals-fit c active start waves q r evals kept known is.queue in omega (arith, most);
     }))
   where
-    next : AreSame (waves_of after) (round c active start (suc r))
-    next i = ap (λ (ws : List (Wave Value)). waves_of ws i) same ∙ next-is c active start waves q r evals made kept is i
-
--- ---- the limit
-
-ends : (c : Circuit) (active : ℕ → Bool) (start : Waves) (waves : List (Wave Value)) (q : Queue) (limit evals : ℕ) (made : List Change) (e : EngineEnd) → Kept c active start waves q limit evals → IsMade c waves q made →
-    EndsAt c.order (nets_of made) limit e → EndsFor c.order (round c active start) limit e
-ends c active start waves q limit evals made NoMemory kept is at = tt
-ends c active start waves q limit evals made (Unsettled place n) kept is at = (
-  not-at-rest c active start (waves_of waves) limit place kept.reached (record {
-    below = at.0.below;
-    differs = λ same. both_ways (differs (round c active start limit) (round c active start (suc limit)) (net_at c.order place))
-        (ap (λ (w : Wave Value). not (same_wave (round c active start limit (net_at c.order place)) w)) (sym same) ∙ ap not (same_wave-self (round c active start limit (net_at c.order place))))
-        (sym (nets-are c active start waves q limit evals made kept is (net_at c.order place)) ∙ at.0.is);
-    same = λ k below. same_wave-is (round c active start limit (net_at c.order k)) (round c active start (suc limit) (net_at c.order k))
-        (not-false _ (sym (nets-are c active start waves q limit evals made kept is (net_at c.order k)) ∙ at.0.first k below));
-  }),
-  at.1,
-)
+    goes : Turn c active start waves r made
+    goes = turn c active start waves q r evals made kept is
 
 -- ---- runs
 
@@ -286,5 +249,6 @@ some-made pair xs n counts empty =
 pub ends-by : {A : Type 0} (pair : A → Change) (net : A → ℕ) (c : Circuit) (active : ℕ → Bool) (start : Waves) (waves : List (Wave Value)) (q : Queue) (limit r evals : ℕ) (xs ys : List A) (e : EngineEnd) → ((x : A) → net x ≡ (pair x).0) →
     Kept c active start waves q r evals → IsMade c waves q (map pair xs) → r ≡ limit → ys ≡ xs → EndsAt c.order (among (map net ys)) limit e → EndsFor c.order (round c active start) limit e
 ends-by pair net c active start waves q limit r evals xs ys e is kept made last same at =
-    ends c active start waves q limit evals (map pair xs) e (subst (λ (n : ℕ). Kept c active start waves q n evals) last kept) made
-    (subst (λ (ns : List ℕ). EndsAt c.order (among ns) limit e) (nets-made pair net xs ys is same) at)
+    subst (λ (n : ℕ). EndsFor c.order (round c active start) n e) last
+    (turn-ends c active start waves r kept.reached (map pair xs) (turn c active start waves q r evals (map pair xs) kept made) e
+    (subst (λ (ns : List ℕ). EndsAt c.order (among ns) r e) (nets-made pair net xs ys is same) (subst (λ (n : ℕ). EndsAt c.order (among (map net ys)) n e) (sym last) at)))

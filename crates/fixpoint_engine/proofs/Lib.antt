@@ -14,5 +14,9 @@ pub mod Rest
 pub mod Changing
 pub mod Waiting
 pub mod Listening
+pub mod Turns
 pub mod Kept
 pub mod Examples
+pub mod Classes
+pub mod Members
+pub mod ClassKept

@@ -1,9 +1,11 @@
 -- What code reads of the values of a period, slot by slot.
-use Rattle.std.proofs.Common.{◌≡◌, ℕ, ◌%◌, ◌<◌, List, length, sym, ap, ◌∙◌, Some}
+use Rattle.std.proofs.Common.{inl, inr, ◌≡◌, ℕ, ◌+◌, ◌-◌, ◌%◌, ◌<◌, ◌≤◌, List, length, refl, sym, ap, ◌∙◌, arith, Some}
 use Rattle.std.specs.Prelude.{slice_get}
-use Rattle.std.proofs.Math.Nat.{mod-lt}
+use Rattle.std.proofs.lemmas.Bool.{cases_lt}
+use Rattle.std.proofs.Math.Nat.{mod-lt, mod-add-mod, mod-eq_of_lt}
 use Rattle.step_values.specs.declared.value.Value.{Value}
 use Rattle.step_values.specs.Cell.{values}
+use Rattle.wave_core.specs.Slots.{SameUntil}
 use Rattle.wave_core.proofs.Slots.{length-slots}
 use Rattle.skew_algebra.specs.Wave.{Wave, fold, folded}
 use Rattle.skew_algebra.proofs.Moves.{here-cell, earlier-mod, earlier-folded}
@@ -25,3 +27,30 @@ read-folded w cells some e = λ i s. (ap (λ (c : List Value). read c s) e ∙ e
 
 pub length-folded : (w : Wave Value) (cells : List Value) → cells ≡ folded values w → length cells ≡ length w.cells
 length-folded w cells e = ap (λ (c : List Value). length c) e ∙ length-slots (length w.cells) (fold values w)
+
+-- ---- slots in a row that have one value
+
+-- what holds of each number below one, and of each from there on to below another
+pub below_run : (P : ℕ → Type 0) (i n : ℕ) → ((k : ℕ) → k < i → P k) → ((k : ℕ) → i ≤ k → k < n → P k) → (k : ℕ) → k < n → P k
+below_run P i n before run k below = elim (cases_lt k i) [ inl less ↦ before k less | inr more ↦ run k more below ]
+
+-- up to the next slot that has another, each has what is found in the first
+pub same-read : (cells : List Value) (slot end s : ℕ) (v : Value) → SameUntil cells slot end → slice_get cells slot ≡ Some v → slot ≤ s → s < end → read cells s ≡ v
+same-read cells slot end s v until is from below =
+    let within = until.within in
+    read-at cells s s v refl (omega (arith, within, below)) (until.same s from below ∙ is)
+
+in-run : (period t slot end k : ℕ) → slot ≡ t % period → t ≤ k → k < t + (end - slot) → end ≤ period → k % period ≡ slot + (k - t)
+in-run period t slot end k at from below within =
+    let on : t + (k - t) ≡ k = omega arith in
+    let small : t % period + (k - t) < period = omega (arith, at, from, below, within) in
+    ap (λ (z : ℕ). z % period) (sym on) ∙ sym (mod-add-mod t period (k - t)) ∙ mod-eq_of_lt small ∙ ap (λ (z : ℕ). z + (k - t)) (sym at)
+
+-- also where they are counted on over the end of the period
+pub same-round : (cells : List Value) (period t slot end k : ℕ) (v : Value) → period ≡ length cells → 0 < length cells → slot ≡ t % period → SameUntil cells slot end → slice_get cells slot ≡ Some v →
+    t ≤ k → k < t + (end - slot) → read cells k ≡ v
+same-round cells period t slot end k v same some at until is from below =
+    let within = until.within in
+    let there : k % period ≡ slot + (k - t) = in-run period t slot end k at from below (omega (arith, same, within)) in
+    read-mod cells period k v same some
+    (ap (slice_get cells) there ∙ until.same (slot + (k - t)) (omega arith) (omega (arith, below, from)) ∙ is)

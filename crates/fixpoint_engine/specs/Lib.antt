@@ -9,3 +9,5 @@ pub mod Pins
 pub mod Settled
 pub mod End
 pub mod Worklist
+pub mod Classes
+pub mod Members

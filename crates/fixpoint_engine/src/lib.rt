@@ -2,8 +2,9 @@
 //! drivers make of the waves of the round before, until nothing changes.
 //!
 //! The layer above calls [`settle`], which answers the waves at rest, or the net that still changes at
-//! the limit. `specs/Value` says what an instance makes of all waves, `specs/Rounds` what a round is
-//! and when rounds rest, `specs/Work` which nets are evaluated, and `specs/Settled` which runs the
+//! the limit, or [`settle_classes`], which answers the same where one net of each class may stand for
+//! all. `specs/Value` says what an instance makes of all waves, `specs/Rounds` what a round is and when
+//! rounds rest, `specs/Work` and `specs/Classes` what is evaluated, and `specs/Settled` which runs the
 //! waves permit.
 #![tactic(auto)]
 
@@ -19,9 +20,16 @@ mod value;
 mod changes;
 mod queue;
 
+// nets of one class, which change together
+mod class_changes;
+mod class_nets;
+
 // rounds to rest
+mod class_rounds;
 mod rounds;
 
+pub use class_rounds::settle_classes;
+pub use class_table::ClassMap;
 pub use net_set::NetSet;
 pub use pins::{pin_wave, waves_at_pins};
 pub use rounds::{EngineEnd, Settled, settle};

@@ -53,7 +53,7 @@ impl From<NoMemory> for EngineEnd {
 }
 
 /// The same waves once more.
-fn copies<W: CyclicWave<Item = Value>>(
+pub fn copies<W: CyclicWave<Item = Value>>(
     alloc: Global,
     waves: &[Skewed<W>],
 ) -> Result<Waves<W>, NoMemory>
@@ -107,7 +107,7 @@ fn first_named(c: &Circuit, set: &NetSet) -> Option<u32>
 }
 
 /// The end of rounds whose last ones differ in these nets.
-fn unsettled<W: CyclicWave>(
+pub fn unsettled<W: CyclicWave>(
     alloc: Global,
     c: &Circuit,
     changes: &[Change<W>],

@@ -1,13 +1,15 @@
 //! Circuits whose rounds were worked out on paper: how they rest, and how they do not.
 
 ghost use Rattle.std.specs.Prelude.{◌≡◌, ◌<◌, ◌≤◌, IfOk, is_some, length, map};
+ghost use Rattle.std.specs.List.{range_with_len};
 ghost use Rattle.scald_base.specs.Time.{period};
 ghost use Rattle.skew_algebra.specs.Wave.{skewed};
 ghost use Rattle.flat_circuit.specs.Circuit.{driver_at};
 ghost use Rattle.fixpoint_engine.specs.Settled.{FitActive, FitWaves};
 
-use crate::{EngineEnd, NetSet, Settled, Waves, settle};
-use flat_circuit::{Builder, Circuit, Instance, Kind, Pin, Pins};
+use crate::{ClassMap, EngineEnd, NetSet, Settled, Waves, settle, settle_classes};
+use class_table::stable;
+use flat_circuit::{Builder, CaseList, Circuit, Instance, Kind, Pin, Pins};
 use pin_waves::interface_wave;
 use scald_base::{AssertSpec, Bytes, ClockSpec, Delay, Header, NoMemory, Place, Span, Spans, Stop};
 use skew_algebra::Skewed;
@@ -233,14 +235,49 @@ fn rest<W: CyclicWave<Item = Value>>(
     Ok((settled.rounds, settled.evals))
 }
 
+/// Each net in a class of its own.
+fn lone_classes(alloc: Global, c: &Circuit) -> Result<ClassMap, NoMemory>
+    ensures { IfOk result (λ k. k ≡ range_with_len 0 (length c.now.nets)) }
+{
+    let mut classes = ClassMap::new(alloc);
+    for net in 0..c.net_count() {
+        classes.push(net)?;
+    }
+    Ok(classes)
+}
+
+/// The same over classes of one net each.
+fn rest_of_classes<W: CyclicWave<Item = Value>>(
+    alloc: Global,
+    c: &Circuit,
+    limit: u32,
+) -> Result<(u32, u64), EngineEnd> {
+    let start: Waves<W> = start_waves(alloc, c)?;
+    let active = driven_nets(alloc, c)?;
+    let cases = CaseList::new(alloc);
+    let classes = lone_classes(alloc, c)?;
+    if stable(c, &cases, &classes) {
+        let settled = settle_classes(alloc, c, &cases, &classes, &start, &active, limit)?;
+        return Ok((settled.rounds, settled.evals));
+    }
+    Ok((0, 0))
+}
+
 /// The 500 buffers are evaluated in round 1, and one more in each round up to 500.
 #[test]
 fn a_chain_rests(rt: HostRuntime) {
     match long_chain(rt.alloc()) {
-        Ok(c) => assert_eq!(rt;
-            rest::<SlotWave<Value>>(rt.alloc(), &c, 500),
-            Ok((500, 999))
-        ),
+        Ok(c) => {
+            assert_eq!(rt;
+                rest::<SlotWave<Value>>(rt.alloc(), &c, 500),
+                Ok((500, 999))
+            );
+            assert_eq!(rt;
+                rest_of_classes::<SlotWave<Value>>(rt.alloc(), &c, 500),
+                Ok((500, 999)),
+                "classes"
+            );
+        }
         Err(stop) => assert_eq!(rt; Some(stop), None),
     }
 }

@@ -1,0 +1,351 @@
+-- What the worklist of classes has come to after some rounds, and how a round more, rest and the limit follow.
+use Rattle.std.proofs.Common.{◌≡◌, ℕ, zero, suc, ◌+◌, ◌*◌, ◌<◌, ◌≤◌, ◌==◌, inl, inr, Bool, true, false, not, ◌&&◌, ◌||◌, cond, All, List, [], ◌∷◌, length, map, refl, sym, ap, subst, ◌∙◌, arith}
+use Rattle.std.specs.List.{list_any, range_with_len}
+use Rattle.std.proofs.lemmas.Bool.{both_ways, cases_lt, and_parts, and_from, eqb-true, eq-eqb, false_from_ne_true}
+use Rattle.std.proofs.lemmas.List.{length-set}
+use Rattle.std.proofs.lemmas.List.Elements.{All-filter, All-map, All-head, All-tail, Contains-get_or}
+use Rattle.std.proofs.lemmas.List.FromFn.{get_or-range_with_len, length-range_with_len}
+use Rattle.std.proofs.lemmas.List.Folds.{Any-from_list_any, list_any-from_Any}
+use Rattle.std.proofs.lemmas.List.Sums.{count_by-le-length}
+use Rattle.std.proofs.Math.ListN.{set}
+use Rattle.scald_base.specs.Time.{period}
+use Rattle.step_values.specs.declared.value.Value.{Value}
+use Rattle.step_values.specs.Cell.{values}
+use Rattle.skew_algebra.specs.Wave.{Wave}
+use Rattle.skew_algebra.specs.Permits.{Permits}
+use Rattle.flat_circuit.specs.declared.case.CaseValue.{CaseValue}
+use Rattle.flat_circuit.specs.Circuit.{Circuit, IsCircuit}
+use Rattle.flat_circuit.specs.Run.{net_signal}
+use Rattle.class_table.specs.Alike.{class_of}
+use Rattle.class_table.specs.Stable.{IsStable}
+use Rattle.fixpoint_engine.specs.declared.rounds.EngineEnd.{EngineEnd}
+use Rattle.fixpoint_engine.specs.declared.rounds.EngineEnd.TheVariants.{Unsettled, NoMemory}
+use Rattle.fixpoint_engine.specs.Value.{Waves}
+use Rattle.fixpoint_engine.specs.Reach.{reach}
+use Rattle.fixpoint_engine.specs.Rounds.{driver, evaluated, net_at, round, AreSame}
+use Rattle.fixpoint_engine.specs.Work.{same_wave, differs, hears_in, is_due}
+use Rattle.fixpoint_engine.specs.Settled.{waves_of, marked_in, FitWaves, FitActive, AreAtRest, KeepRuns}
+use Rattle.fixpoint_engine.specs.End.{EndsAt, EndsFor}
+use Rattle.fixpoint_engine.specs.Worklist.{Queue, IsQueue, Change, changes_of, changed, among}
+use Rattle.fixpoint_engine.specs.Classes.{HaveOneWave, AreTogether, is_first, due_classes, class_work_to}
+use Rattle.fixpoint_engine.specs.Members.{for_classes}
+use Rattle.fixpoint_engine.proofs.Same.{same_wave-is, same_wave-self, not-false}
+use Rattle.fixpoint_engine.proofs.Fits.{NetsFit}
+use Rattle.fixpoint_engine.proofs.Listening.{same-tests, hears-same}
+use Rattle.fixpoint_engine.proofs.Changing.{moves, changed-nets, changes-exist, set-at, length-changed}
+use Rattle.fixpoint_engine.proofs.Waiting.{waiting-below}
+use Rattle.fixpoint_engine.proofs.Reached.{Reached, reached-start, reached-more, at-rest, not-at-rest, undue-stays, due-takes}
+use Rattle.fixpoint_engine.proofs.Sound.{round-fits, round-sound}
+use Rattle.fixpoint_engine.proofs.Turns.{nets_of, Turn, turn-rests, turn-reaches, turn-fits, turn-ends}
+use Rattle.fixpoint_engine.proofs.Kept.{among-waiting, waiting-count, changes-is, first-due, later-due, nets-made}
+use Rattle.fixpoint_engine.proofs.Classes.{rounds-same}
+use Rattle.fixpoint_engine.proofs.Members.{is_with, nets_in, nets-for-classes, exist-for-classes, waves-for-classes, IsTo}
+
+-- ---- the first net of a class
+
+-- the first net of its class, of which there is one
+record Leads (ks : List ℕ) (f i : ℕ) : Type 0 where
+  before : f ≤ i
+  first : is_first ks f ≡ true
+  same : class_of ks f ≡ class_of ks i
+
+leader : (ks : List ℕ) (bound i : ℕ) → i < bound → (f : ℕ) × Leads ks f i
+leader ks zero i below = absurd (omega arith)
+leader ks (suc bound) i below = by (list_any (λ j. class_of ks j == class_of ks i) (range_with_len 0 i)) refl (λ j. leader ks bound j)
+  where
+    by : (earlier : Bool) → list_any (λ j. class_of ks j == class_of ks i) (range_with_len 0 i) ≡ earlier → ((j : ℕ) → j < bound → (f : ℕ) × Leads ks f j) → (f : ℕ) × Leads ks f i
+    by false none lead = (i, record { before = omega arith; first = ap not none; same = refl })
+    by true some lead =
+        let at = Any-from_list_any (λ j. class_of ks j == class_of ks i) (range_with_len 0 i) some in
+        let long = length-range_with_len 0 i in
+        let place : at.0 < i = let within = at.2 in omega (arith, within, long) in
+        let less : at.1 < i = let is : at.1 ≡ 0 + at.0 = sym at.3 ∙ get_or-range_with_len 0 i at.0 at.1 place in omega (arith, is, place) in
+        let found = lead at.1 (omega (arith, less, below)) in (
+          found.0,
+          record {
+            before = let before = found.1.before in omega (arith, before, less);
+            first = found.1.first;
+            same = found.1.same ∙ eqb-true (class_of ks at.1) (class_of ks i) at.4;
+          },
+        )
+
+-- ---- changes to given waves
+
+-- A net has the wave that it changes to, or the one that it had.
+changed-to : (ws : Waves) (changes : List Change) (waves : List (Wave Value)) (i : ℕ) → All (λ (ch : Change). ch.0 < length waves) changes → All (IsTo ws) changes →
+    waves_of (changed waves changes) i ≡ cond (nets_of changes i) (ws i) (waves_of waves i)
+changed-to ws [] waves i exist to = refl
+changed-to ws (ch ∷ changes) waves i exist to =
+    changed-to ws changes (set waves ch.0 ch.1) i
+    (subst (λ (long : ℕ). All (λ (one : Change). one.0 < long) changes) (sym (length-set waves ch.0 ch.1)) (All-tail (λ (one : Change). one.0 < length waves) ch changes exist))
+    (All-tail (IsTo ws) ch changes to)
+    ∙ (λ k. cond (nets_of changes i) (ws i) (set-at waves ch.0 i ch.1 (All-head (λ (one : Change). one.0 < length waves) ch changes exist) k))
+    ∙ by (ch.0 == i) refl (nets_of changes i)
+  where
+    by : (here : Bool) → (ch.0 == i) ≡ here → (later : Bool) → cond later (ws i) (cond here ch.1 (waves_of waves i)) ≡ cond (here || later) (ws i) (waves_of waves i)
+    by true e true = refl
+    by true e false = All-head (IsTo ws) ch changes to ∙ ap ws (eqb-true ch.0 i e)
+    by false e later = refl
+
+-- ---- what has been found
+
+work-more : (c : Circuit) (ks : List ℕ) (active : ℕ → Bool) (rounds : ℕ → Waves) (r : ℕ) → class_work_to c ks active rounds (suc r) ≡ class_work_to c ks active rounds r + due_classes c ks active rounds (suc r)
+unfolding class_work_to
+work-more c ks active rounds r = refl
+
+-- After r rounds: the waves are those of round r, the queue has the first nets of the classes that are due in the next round,
+-- and so many evaluations were made.
+pub record ClassKept (c : Circuit) (active : ℕ → Bool) (ks : List ℕ) (start : Waves) (waves : List (Wave Value)) (q : Queue) (r evals : ℕ) : Type 0 where
+  pub reached : Reached c active start r (waves_of waves)
+  pub fit : FitWaves c waves
+  pub each_net : length q.marks ≡ length c.nets
+  pub due : (i : ℕ) → marked_in q.marks i ≡ (is_first ks i && is_due c active (round c active start) (suc r) i)
+  pub works : evals ≡ class_work_to c ks active (round c active start) r
+  pub bound : evals ≤ 65536 * r
+
+-- these changes are what evaluating the nets that wait gives, for all nets of their classes
+pub record IsClassMade (c : Circuit) (ks : List ℕ) (waves : List (Wave Value)) (q : Queue) (made : List Change) : Type 0 where
+  pub queue : IsQueue q
+  pub is : made ≡ for_classes ks (changes_of c (waves_of waves) q.nets)
+
+-- nets of one class are one, and none past the last is active
+pub record AreClasses (c : Circuit) (active : ℕ → Bool) (ks : List ℕ) (start : Waves) : Type 0 where
+  pub each_net : length ks ≡ length c.nets
+  pub one : (r : ℕ) → HaveOneWave c ks (round c active start r)
+  pub none : (i : ℕ) → length c.nets ≤ i → active i ≡ false
+
+module _ (c : Circuit) (active : ℕ → Bool) (ks : List ℕ) (start : Waves) (are : AreClasses c active ks start) where
+  -- nets of one class differ in the same rounds
+  differ-same : (r i j : ℕ) → i < length c.nets → j < length c.nets → class_of ks i ≡ class_of ks j →
+      differs (round c active start r) (round c active start (suc r)) i ≡ differs (round c active start r) (round c active start (suc r)) j
+  differ-same r i j below below' same =
+      let old = are.one r i j below below' same in
+      let new = are.one (suc r) i j below below' same in
+      λ k. not (same_wave (old k) (new k))
+
+  -- none past the last net does
+  none-differs : (r i : ℕ) → length c.nets ≤ i → differs (round c active start r) (round c active start (suc r)) i ≡ false
+  none-differs r i past =
+      ap (λ (w : Wave Value). not (same_wave (round c active start r i) w)) (undue-stays c active start r i (undue r)) ∙ ap not (same_wave-self (round c active start r i))
+    where
+      undue : (r : ℕ) → is_due c active (round c active start) (suc r) i ≡ false
+      undue zero = first-due c active (round c active start) i ∙ are.none i past
+      undue (suc r) = later-due c active (round c active start) r i
+          ∙ ap (λ (b : Bool). b && hears_in (differs (round c active start r) (round c active start (suc r))) (driver c i)) (are.none i past)
+
+  module _ (waves : List (Wave Value)) (q : Queue) (r evals : ℕ) (kept : ClassKept c active ks start waves q r evals) where
+    waves-are : waves_of waves ≡ round c active start r
+    waves-are = λ k i. kept.reached.is i k
+
+    waiting-is : IsQueue q → (i : ℕ) → among q.nets i ≡ (is_first ks i && is_due c active (round c active start) (suc r) i)
+    waiting-is queue i = among-waiting q i queue ∙ kept.due i
+
+    pub waiting-exist : IsQueue q → All (λ net. net < length c.nets) q.nets
+    waiting-exist queue = subst (λ (long : ℕ). All (λ net. net < long) q.nets) kept.each_net (waiting-below q queue)
+
+    -- the nets that change are the first ones of those that differ
+    firsts-change : IsQueue q → (i : ℕ) → nets_of (changes_of c (waves_of waves) q.nets) i ≡ (is_first ks i && differs (round c active start r) (round c active start (suc r)) i)
+    firsts-change queue i =
+        changed-nets c (waves_of waves) q.nets i
+        ∙ (λ k. waiting-is queue i k && moves c (waves-are k) i)
+        ∙ and-assoc (is_first ks i) (is_due c active (round c active start) (suc r) i) (moves c (round c active start r) i)
+        ∙ ap (λ (b : Bool). is_first ks i && b) (changes-is c active start r i)
+      where
+        and-assoc : (x y z : Bool) → ((x && y) && z) ≡ (x && (y && z))
+        and-assoc true y z = refl
+        and-assoc false y z = refl
+
+    -- a class has a net that changes where its nets differ
+    class-changes : IsQueue q → (i : ℕ) → i < length c.nets → is_with ks (nets_in (changes_of c (waves_of waves) q.nets)) i ≡ differs (round c active start r) (round c active start (suc r)) i
+    class-changes queue i below = same-tests _ _ to from
+      where
+        exist : All (λ net. net < length c.nets) (nets_in (changes_of c (waves_of waves) q.nets))
+        exist = All-map (λ net. net < length c.nets) (λ (ch : Change). ch.0) (changes_of c (waves_of waves) q.nets) (changes-exist c (waves_of waves) q.nets (length c.nets) (waiting-exist queue))
+
+        to : is_with ks (nets_in (changes_of c (waves_of waves) q.nets)) i ≡ true → differs (round c active start r) (round c active start (suc r)) i ≡ true
+        to any =
+            let at = Any-from_list_any (λ net. class_of ks net == class_of ks i) (nets_in (changes_of c (waves_of waves) q.nets)) any in
+            let listed : nets_of (changes_of c (waves_of waves) q.nets) at.1 ≡ true = list_any-from_Any (λ net. net == at.1) (nets_in (changes_of c (waves_of waves) q.nets)) (at.0, at.1, at.2, at.3, eq-eqb at.1 at.1 refl) in
+            let there : at.1 < length c.nets = subst (λ (n : ℕ). n < length c.nets) at.3 (exist at.0 at.1 at.2) in
+            differ-same r i at.1 below there (sym (eqb-true (class_of ks at.1) (class_of ks i) at.4))
+            ∙ (and_parts (is_first ks at.1) (differs (round c active start r) (round c active start (suc r)) at.1) (sym (firsts-change queue at.1) ∙ listed)).1
+
+        from : differs (round c active start r) (round c active start (suc r)) i ≡ true → is_with ks (nets_in (changes_of c (waves_of waves) q.nets)) i ≡ true
+        from differ =
+            let lead = leader ks (suc i) i (omega arith) in
+            let there : lead.0 < length c.nets = let before = lead.1.before in omega (arith, before, below) in
+            let moved : differs (round c active start r) (round c active start (suc r)) lead.0 ≡ true = differ-same r lead.0 i there below lead.1.same ∙ differ in
+            let listed : nets_of (changes_of c (waves_of waves) q.nets) lead.0 ≡ true = firsts-change queue lead.0 ∙ and_from (is_first ks lead.0) (differs (round c active start r) (round c active start (suc r)) lead.0) lead.1.first moved in
+            let at = Any-from_list_any (λ net. net == lead.0) (nets_in (changes_of c (waves_of waves) q.nets)) listed in
+            list_any-from_Any (λ net. class_of ks net == class_of ks i) (nets_in (changes_of c (waves_of waves) q.nets))
+            (at.0, at.1, at.2, at.3, eq-eqb (class_of ks at.1) (class_of ks i) (ap (class_of ks) (eqb-true at.1 lead.0 at.4) ∙ lead.1.same))
+
+    module _ (made : List Change) (is : IsClassMade c ks waves q made) where
+      pub made-exist : All (λ (ch : Change). ch.0 < length c.nets) made
+      made-exist =
+          subst (λ (chs : List Change). All (λ (ch : Change). ch.0 < length c.nets) chs) (sym is.is)
+          (subst (λ (long : ℕ). All (λ (ch : Change). ch.0 < long) (for_classes ks (changes_of c (waves_of waves) q.nets))) are.each_net (exist-for-classes ks (changes_of c (waves_of waves) q.nets)))
+
+      -- The nets of the changes are those whose waves differ in the next round.
+      nets-are : (i : ℕ) → nets_of made i ≡ differs (round c active start r) (round c active start (suc r)) i
+      nets-are i = elim (cases_lt i (length c.nets)) [
+        | inl below ↦
+            ap (λ (chs : List Change). nets_of chs i) is.is
+            ∙ nets-for-classes ks (changes_of c (waves_of waves) q.nets) i (let each = are.each_net in omega (arith, each, below))
+            ∙ class-changes is.queue i below
+        | inr past ↦ false_from_ne_true (nets_of made i) (λ any. no-net past any) ∙ sym (none-differs r i past)
+      ]
+        where
+          no-net : length c.nets ≤ i → nets_of made i ≡ true → ⊥
+          no-net past any =
+              let at = Any-from_list_any (λ net. net == i) (nets_in made) any in
+              let exist = All-map (λ net. net < length c.nets) (λ (ch : Change). ch.0) made made-exist in
+              let there : at.1 < length c.nets = subst (λ (n : ℕ). n < length c.nets) at.3 (exist at.0 at.1 at.2) in
+              let same : at.1 ≡ i = eqb-true at.1 i at.4 in
+              omega (arith, there, same, past)
+
+      -- Each change is to the wave of the next round.
+      made-to : All (IsTo (round c active start (suc r))) made
+      made-to =
+          subst (λ (chs : List Change). All (IsTo (round c active start (suc r))) chs) (sym is.is)
+          (waves-for-classes ks (changes_of c (waves_of waves) q.nets) (round c active start (suc r)) one
+          (subst (λ (long : ℕ). All (λ (ch : Change). ch.0 < long) (changes_of c (waves_of waves) q.nets)) (sym are.each_net)
+          (changes-exist c (waves_of waves) q.nets (length c.nets) (waiting-exist is.queue)))
+          (All-filter _ (IsTo (round c active start (suc r))) (map (λ i. (i, evaluated c (waves_of waves) i)) q.nets)
+          (All-map (IsTo (round c active start (suc r))) (λ i. (i, evaluated c (waves_of waves) i)) q.nets taken)))
+        where
+          one : (i j : ℕ) → i < length ks → j < length ks → class_of ks i ≡ class_of ks j → round c active start (suc r) i ≡ round c active start (suc r) j
+          one i j below below' same = let each = are.each_net in are.one (suc r) i j (omega (arith, each, below)) (omega (arith, each, below')) same
+
+          takes : (i : ℕ) → marked_in q.marks i ≡ true → evaluated c (waves_of waves) i ≡ round c active start (suc r) i
+          takes i marked =
+              (λ k. evaluated c (waves-are k) i)
+              ∙ sym (due-takes c active start r i (and_parts (is_first ks i) (is_due c active (round c active start) (suc r) i) (sym (kept.due i) ∙ marked)).1)
+
+          taken : All (λ i. evaluated c (waves_of waves) i ≡ round c active start (suc r) i) q.nets
+          taken k d below = takes _ ((is.queue.are _).1 (Contains-get_or q.nets k d below))
+
+      -- The changed waves are those of the next round.
+      next-is : AreSame (waves_of (changed waves made)) (round c active start (suc r))
+      next-is i =
+          changed-to (round c active start (suc r)) made waves i (subst (λ (long : ℕ). All (λ (ch : Change). ch.0 < long) made) (sym kept.fit.each_net) made-exist) made-to
+          ∙ by (nets_of made i) refl
+        where
+          by : (new : Bool) → nets_of made i ≡ new → cond new (round c active start (suc r) i) (waves_of waves i) ≡ round c active start (suc r) i
+          by true e = refl
+          by false e = kept.reached.is i ∙ same_wave-is (round c active start r i) (round c active start (suc r) i) (not-false _ (sym (nets-are i) ∙ e))
+
+      pub turn : Turn c active start waves r made
+      turn = record { nets = nets-are; next = next-is }
+
+      pub rests : (limit : ℕ) → length made ≡ 0 → r ≤ limit → AreAtRest c active start limit r (waves_of waves)
+      rests limit none within = turn-rests c active start waves r kept.reached limit made turn none within
+
+      -- ---- how many evaluations
+
+      works-out : evals + length q.nets ≡ class_work_to c ks active (round c active start) (suc r)
+      works-out =
+          (λ k. kept.works k + waiting-count c (λ i. is_first ks i && is_due c active (round c active start) (suc r) i) q is.queue kept.each_net kept.due k)
+          ∙ sym (work-more c ks active (round c active start) r)
+
+      pub works : (nets : List ℕ) → nets ≡ q.nets → evals + length nets ≡ class_work_to c ks active (round c active start) (r + 1)
+      works nets same =
+          ap (λ (ns : List ℕ). evals + length ns) same ∙ works-out ∙ ap (class_work_to c ks active (round c active start)) (let e : suc r ≡ r + 1 = omega arith in e)
+
+      evals-fit : IsCircuit c → evals + length q.nets ≤ 65536 * (r + 1)
+      evals-fit known =
+          let few = count_by-le-length (λ b. b) q.marks in
+          let once = is.queue.once in
+          let each = kept.each_net in
+          let bound = kept.bound in
+          let nets = known.few_nets in
+          omega (arith, few, once, each, bound, nets)
+
+      -- ---- the loop
+
+      pub kept-more : (after : List (Wave Value)) (more : Queue) (nets : List ℕ) (leading : ℕ → Bool) → IsCircuit c → 0 < period c.header → NetsFit c start → nets ≡ q.nets → 0 < length made → after ≡ changed waves made →
+          length more.marks ≡ length c.nets → ((i : ℕ) → leading i ≡ (active i && is_first ks i)) → ((i : ℕ) → marked_in more.marks i ≡ (leading i && hears_in (nets_of made) (driver c i))) →
+          ClassKept c active ks start after more (r + 1) (evals + length nets)
+      kept-more after more nets leading known some fit waiting moves same each lead refilled =
+          subst (λ (ns : List ℕ). ClassKept c active ks start after more (r + 1) (evals + length ns)) (sym waiting)
+          (subst (λ (n : ℕ). ClassKept c active ks start after more n (evals + length q.nets)) (let e : suc r ≡ r + 1 = omega arith in e) (record {
+            reached = turn-reaches c active start waves r kept.reached made turn after same moves;
+            fit = turn-fits c active start waves r kept.reached made turn after same known some fit kept.fit;
+            each_net = each;
+            due = λ i. refilled i ∙ (λ k. lead i k && hears-same (nets_of made) (differs (round c active start r) (round c active start (suc r))) (driver c i) nets-are k)
+                ∙ turned (active i) (is_first ks i) (hears_in (differs (round c active start r) (round c active start (suc r))) (driver c i))
+                ∙ ap (λ (b : Bool). is_first ks i && b) (sym (later-due c active (round c active start) r i));
+            works = works-out;
+            bound = let most = evals-fit known in omega (arith, most);
+          }))
+        where
+          turned : (x y z : Bool) → ((x && y) && z) ≡ (y && (x && z))
+          turned true true z = refl
+          turned true false z = refl
+          turned false true z = refl
+          turned false false z = refl
+
+    -- ---- runs
+
+    pub keeps : IsCircuit c → 0 < period c.header → NetsFit c start → KeepRuns c start r (waves_of waves)
+    keeps known some fit run v isrun v1 permits i below =
+        subst (λ (w : Wave Value). Permits values w run.ticks (net_signal run i) (v + r * reach c)) (sym (kept.reached.is i)) (round-sound c active start r some known fit run v isrun v1 permits i below)
+
+-- ---- before the first round
+
+no-work : (c : Circuit) (ks : List ℕ) (active : ℕ → Bool) (rounds : ℕ → Waves) → class_work_to c ks active rounds 0 ≡ 0
+unfolding class_work_to
+no-work c ks active rounds = refl
+
+pub class-start : (c : Circuit) (active first : List Bool) (ks : List ℕ) (start waves : List (Wave Value)) (q : Queue) → FitWaves c start → length first ≡ length c.nets →
+    ((i : ℕ) → marked_in first i ≡ (marked_in active i && is_first ks i)) → waves ≡ start → q.marks ≡ first → ClassKept c (marked_in active) ks (waves_of start) waves q 0 0
+class-start c active first ks start waves q fit each lead same marks = record {
+  reached = reached-start c (marked_in active) (waves_of start) (waves_of waves) (λ i. ap (λ (ws : List (Wave Value)). waves_of ws i) same);
+  fit = subst (FitWaves c) (sym same) fit;
+  each_net = ap length marks ∙ each;
+  due = λ i. ap (λ (ms : List Bool). marked_in ms i) marks ∙ lead i ∙ turned (marked_in active i) (is_first ks i)
+      ∙ ap (λ (b : Bool). is_first ks i && b) (sym (first-due c (marked_in active) (round c (marked_in active) (waves_of start)) i));
+  works = sym (no-work c ks (marked_in active) (round c (marked_in active) (waves_of start)));
+  bound = omega arith;
+}
+  where
+    turned : (x y : Bool) → (x && y) ≡ (y && x)
+    turned true true = refl
+    turned true false = refl
+    turned false true = refl
+    turned false false = refl
+
+-- ---- what the caller knows
+
+past-marks : (marks : List Bool) (i : ℕ) → length marks ≤ i → marked_in marks i ≡ false
+past-marks [] i past = refl
+past-marks (m ∷ marks) zero past = absurd (omega arith)
+past-marks (m ∷ marks) (suc i) past = past-marks marks i (omega arith)
+
+pub classes-are : (c : Circuit) (cases : List (List CaseValue)) (active : List Bool) (ks : List ℕ) (start : Waves) → IsCircuit c → FitActive c active → length ks ≡ length c.nets → IsStable c cases ks → HaveOneWave c ks start →
+    AreTogether c ks (marked_in active) → AreClasses c (marked_in active) ks start
+classes-are c cases active ks start known fit each stable one together = record {
+  each_net = each;
+  one = rounds-same c cases ks known stable (marked_in active) start together one;
+  none = λ i past. past-marks active i (let long = fit.each_net in omega (arith, long, past));
+}
+
+-- ---- the limit, as code has the changes
+
+pub ends-by : {A : Type 0} (pair : A → Change) (net : A → ℕ) (c : Circuit) (active : ℕ → Bool) (ks : List ℕ) (start : Waves) (are : AreClasses c active ks start) (waves : List (Wave Value)) (q : Queue) (limit r evals : ℕ) (xs ys : List A) (e : EngineEnd) →
+    ((x : A) → net x ≡ (pair x).0) → ClassKept c active ks start waves q r evals → IsClassMade c ks waves q (map pair xs) → r ≡ limit → ys ≡ xs → EndsAt c.order (among (map net ys)) limit e → EndsFor c.order (round c active start) limit e
+ends-by pair net c active ks start are waves q limit r evals xs ys e is kept made last same at =
+    subst (λ (n : ℕ). EndsFor c.order (round c active start) n e) last
+    (turn-ends c active start waves r kept.reached (map pair xs) (turn c active ks start are waves q r evals kept (map pair xs) made) e
+    (subst (λ (ns : List ℕ). EndsAt c.order (among ns) r e) (nets-made pair net xs ys is same) (subst (λ (n : ℕ). EndsAt c.order (among (map net ys)) n e) (sym last) at)))
+
+pub class-made : (c : Circuit) (ks classes : List ℕ) (waves : List (Wave Value)) (q : Queue) (nets : List ℕ) (made : List Change) → IsQueue q → nets ≡ q.nets → classes ≡ ks → made ≡ for_classes classes (changes_of c (waves_of waves) nets) →
+    IsClassMade c ks waves q made
+class-made c ks classes waves q nets made queue same known is = record { queue = queue; is = is ∙ (λ k. for_classes (known k) (changes_of c (waves_of waves) (same k))) }
+
+-- the first nets of active classes are active nets
+pub first-active : (c : Circuit) (active first : List Bool) (ks : List ℕ) → FitActive c active → length first ≡ length c.nets → ((i : ℕ) → marked_in first i ≡ (marked_in active i && is_first ks i)) → FitActive c first
+first-active c active first ks fit each are = record {
+  each_net = each;
+  driven = λ i marked. fit.driven i (and_parts (marked_in active i) (is_first ks i) (sym (are i) ∙ marked)).0;
+}

@@ -1,0 +1,144 @@
+-- Nets of one class have one wave in every round.
+use Rattle.std.proofs.Common.{◌≡◌, ℕ, zero, suc, ◌+◌, ◌<◌, ◌≤◌, inl, inr, Bool, not, cond, List, [], ◌∷◌, length, map, All, Option, Some, None, slice_get, if◌then◌else◌, nat_lt, refl, sym, ap, ◌∙◌, arith}
+use Rattle.std.specs.List.{AllZip, prefix_len}
+use Rattle.std.proofs.lemmas.List.Elements.{All-head, All-tail}
+use Rattle.std.proofs.lemmas.Option.{slice_get_cases}
+use Rattle.vector_names.specs.declared.bits.Target.{Target}
+use Rattle.vector_names.specs.declared.bits.Target.TheVariants.{Net as OnNet, Constant}
+use Rattle.step_values.specs.declared.value.Value.{Value}
+use Rattle.step_values.specs.Cell.{values}
+use Rattle.skew_algebra.specs.Wave.{Wave, normal}
+use Rattle.flat_circuit.specs.declared.case.CaseValue.{CaseValue}
+use Rattle.flat_circuit.specs.declared.instance.Pin.{Pin}
+use Rattle.flat_circuit.specs.declared.instance.Instance.{Instance}
+use Rattle.flat_circuit.specs.declared.net.Net.{Net}
+use Rattle.flat_circuit.specs.Instances.{PinExists, TargetExists}
+use Rattle.flat_circuit.specs.Circuit.{Circuit, IsCircuit, wire_in, wire_at, driver_in, driver_at}
+use Rattle.pin_waves.specs.Interface.{constant_wave}
+use Rattle.pin_waves.specs.Pin.{pin_wave as wave_behind}
+use Rattle.class_table.specs.Alike.{class_of, TargetsAlike, PinsAlike, InstancesAlike, DriversAlike, instance_of}
+use Rattle.class_table.specs.Stable.{IsStable}
+use Rattle.fixpoint_engine.specs.Value.{Waves, target_wave, target_wire, pin_wave, marked_pin, made_by, turned_wave, instance_wave}
+use Rattle.fixpoint_engine.specs.Rounds.{instance_in, wave_from, evaluated, next, round}
+use Rattle.fixpoint_engine.specs.Classes.{HaveOneWave, AreTogether}
+use Rattle.fixpoint_engine.proofs.Drivers.{fits-of}
+
+-- marks at the same places
+marks-same : (k : List ℕ) (ps qs : List Pin) → AllZip (PinsAlike k) ps qs → prefix_len (λ (p : Pin). not p.hold) ps ≡ prefix_len (λ (p : Pin). not p.hold) qs
+marks-same k [] [] h = refl
+marks-same k [] (q ∷ qs) h = absurd h
+marks-same k (p ∷ ps) [] h = absurd h
+marks-same k (p ∷ ps) (q ∷ qs) h = let rest = marks-same k ps qs h.1 in let mark = h.0.mark in λ i. cond (not (mark i)) (1 + rest i) 0
+
+long-same : (k : List ℕ) (ps qs : List Pin) → AllZip (PinsAlike k) ps qs → length ps ≡ length qs
+long-same k [] [] h = refl
+long-same k [] (q ∷ qs) h = absurd h
+long-same k (p ∷ ps) [] h = absurd h
+long-same k (p ∷ ps) (q ∷ qs) h = ap suc (long-same k ps qs h.1)
+
+module _ (c : Circuit) (cases : List (List CaseValue)) (k : List ℕ) (known : IsCircuit c) (stable : IsStable c cases k) where
+  net-of : (i : ℕ) → i < length c.nets → (m : Net) × (slice_get c.nets i ≡ Some m)
+  net-of i below = elim (slice_get_cases c.nets i).1 [
+    | inl found ↦ (found.0, found.2)
+    | inr past ↦ absurd (let far : length c.nets ≤ i = past.0 in omega (arith, far, below))
+  ]
+
+  wires-same : (i j : ℕ) → i < length c.nets → j < length c.nets → class_of k i ≡ class_of k j → wire_at c.nets i ≡ wire_at c.nets j
+  wires-same i j below below' same =
+      let m = net-of i below in
+      let n = net-of j below' in
+      ap wire_in m.1 ∙ (stable i j same m.0 n.0 m.1 n.1).wire ∙ sym (ap wire_in n.1)
+
+  module _ (ws : Waves) (one : HaveOneWave c k ws) where
+    target-waves : (a b : Target) → TargetExists (length c.nets) a → TargetExists (length c.nets) b → TargetsAlike k a b → target_wave c.header ws a ≡ target_wave c.header ws b
+    target-waves (OnNet i) (OnNet j) below below' h = one i j below below' h
+    target-waves (OnNet i) (Constant b) below below' h = absurd h
+    target-waves (Constant a) (OnNet j) below below' h = absurd h
+    target-waves (Constant a) (Constant b) below below' h = ap (constant_wave c.header) h
+
+    target-wires : (a b : Target) → TargetExists (length c.nets) a → TargetExists (length c.nets) b → TargetsAlike k a b → target_wire c.nets a ≡ target_wire c.nets b
+    target-wires (OnNet i) (OnNet j) below below' h = wires-same i j below below' h
+    target-wires (OnNet i) (Constant b) below below' h = absurd h
+    target-wires (Constant a) (OnNet j) below below' h = absurd h
+    target-wires (Constant a) (Constant b) below below' h = refl
+
+    pin-same : (p q : Pin) → PinExists (length c.nets) p → PinExists (length c.nets) q → PinsAlike k p q → pin_wave c ws p ≡ pin_wave c ws q
+    pin-same p q exists exists' h =
+        let wave = target-waves p.target q.target exists exists' h.target in
+        let wire = target-wires p.target q.target exists exists' h.target in
+        let complement = h.complement in
+        λ i. wave_behind (wave i) (wire i) (complement i)
+
+    pins-same : (ps qs : List Pin) → All (PinExists (length c.nets)) ps → All (PinExists (length c.nets)) qs → AllZip (PinsAlike k) ps qs →
+        map (pin_wave c ws) ps ≡ map (pin_wave c ws) qs
+    pins-same [] [] exist exist' h = refl
+    pins-same [] (q ∷ qs) exist exist' h = absurd h
+    pins-same (p ∷ ps) [] exist exist' h = absurd h
+    pins-same (p ∷ ps) (q ∷ qs) exist exist' h =
+        let first = pin-same p q (All-head (PinExists (length c.nets)) p ps exist) (All-head (PinExists (length c.nets)) q qs exist') h.0 in
+        let rest = pins-same ps qs (All-tail (PinExists (length c.nets)) p ps exist) (All-tail (PinExists (length c.nets)) q qs exist') h.1 in
+        λ i. first i ∷ rest i
+
+    marked-same : (a b : Instance) → InstancesAlike k a b → marked_pin a ≡ marked_pin b
+    marked-same a b h =
+        let mark = marks-same k a.pins b.pins h.pins in
+        let long = long-same k a.pins b.pins h.pins in
+        λ i. cond (nat_lt (mark i) (long i)) (Some (mark i)) None
+
+    instances-same : (a b : Instance) → All (PinExists (length c.nets)) a.pins → All (PinExists (length c.nets)) b.pins → InstancesAlike k a b →
+        instance_wave c ws a ≡ instance_wave c ws b
+    unfolding instance_wave
+    instances-same a b exist exist' h =
+        let kind = h.kind in
+        let delay = h.delay in
+        let complement = h.complement in
+        let pins = pins-same a.pins b.pins exist exist' h.pins in
+        let marked = marked-same a b h in
+        λ i. normal values (turned_wave (complement i) (made_by (kind i) (pins i) (marked i) (delay i)))
+
+    from-same : (x y : Option ℕ) (v w : Wave Value) → v ≡ w → DriversAlike k (instance_of c x) (instance_of c y) →
+        wave_from c ws (instance_in c x) v ≡ wave_from c ws (instance_in c y) w
+    from-same None None v w old h = old
+    from-same None (Some b) v w old h = go (slice_get c.instances b) h
+      where
+        go : (found : Option Instance) → DriversAlike k None found → v ≡ wave_from c ws found w
+        go None h = old
+        go (Some b) h = absurd h
+    from-same (Some a) None v w old h = go (slice_get c.instances a) h
+      where
+        go : (found : Option Instance) → DriversAlike k found None → wave_from c ws found v ≡ w
+        go None h = old
+        go (Some a) h = absurd h
+    from-same (Some a) (Some b) v w old h = go (slice_get c.instances a) (slice_get c.instances b) refl refl h
+      where
+        go : (x y : Option Instance) → slice_get c.instances a ≡ x → slice_get c.instances b ≡ y → DriversAlike k x y → wave_from c ws x v ≡ wave_from c ws y w
+        go None None is_x is_y h = old
+        go None (Some j) is_x is_y h = absurd h
+        go (Some i) None is_x is_y h = absurd h
+        go (Some i) (Some j) is_x is_y h = instances-same i j (fits-of c a i known is_x).exists.reads (fits-of c b j known is_y).exists.reads h
+
+    evaluated-same : (i j : ℕ) → i < length c.nets → j < length c.nets → class_of k i ≡ class_of k j → evaluated c ws i ≡ evaluated c ws j
+    evaluated-same i j below below' same =
+        let m = net-of i below in
+        let n = net-of j below' in
+        let driven : driver_at c.nets i ≡ m.0.driver = ap driver_in m.1 in
+        let driven' : driver_at c.nets j ≡ n.0.driver = ap driver_in n.1 in
+        ap (λ (o : Option ℕ). wave_from c ws (instance_in c o) (ws i)) driven
+        ∙ from-same m.0.driver n.0.driver (ws i) (ws j) (one i j below below' same) (stable i j same m.0 n.0 m.1 n.1).drivers
+        ∙ sym (ap (λ (o : Option ℕ). wave_from c ws (instance_in c o) (ws j)) driven')
+
+  -- ---- rounds
+
+  next-same : (active : ℕ → Bool) (ws : Waves) → AreTogether c k active → HaveOneWave c k ws → HaveOneWave c k (next c active ws)
+  unfolding next
+  next-same active ws together one i j below below' same =
+      let is = together i j below below' same in
+      let made = evaluated-same ws one i j below below' same in
+      let old = one i j below below' same in
+      λ t. if is t then made t else old t
+
+  pub rounds-same : (active : ℕ → Bool) (start : Waves) → AreTogether c k active → HaveOneWave c k start → (r : ℕ) → HaveOneWave c k (round c active start r)
+  unfolding round
+  rounds-same active start together one zero i j below below' same = one i j below below' same
+  rounds-same active start together one (suc r) i j below below' same =
+      next-same active (round c active start r) together (rounds-same active start together one r) i j below below' same

@@ -1,0 +1,273 @@
+-- The nets of a class, found from the last to the first, and changes for all of them.
+use Rattle.std.proofs.Common.{◌≡◌, ℕ, zero, suc, ◌+◌, ◌<◌, ◌≤◌, ◌==◌, Bool, true, false, ◌&&◌, ◌||◌, cond, below_more, All, List, [], ◌∷◌, ◌++◌, append-nil, length, map, take, get_or, refl, sym, ap, subst, ◌∙◌, arith, Option, Some, None, is_some, not}
+use Rattle.std.specs.List.{list_any, range_with_len}
+use Rattle.std.proofs.lemmas.Bool.{eqb-true, eqb-false, eq-eqb, false_from_ne_true}
+use Rattle.std.proofs.lemmas.List.{append_assoc, map-append, map-id, length-set, take_more}
+use Rattle.std.proofs.lemmas.List.Elements.{All-nil, All-cons, All-append, All-map, All-head, All-tail}
+use Rattle.std.proofs.Math.ListN.{set, get_or-append}
+use Rattle.std.proofs.Math.Seq.{get_or-append_seam}
+use Rattle.std.proofs.lemmas.Grind.{get_or_default_zero}
+use Rattle.std.proofs.lemmas.List.Concat.{flat_map-append}
+use Rattle.std.proofs.lemmas.List.FromFn.{map-range_with_len_more, get_or-range_with_len}
+use Rattle.std.proofs.lemmas.List.Folds.{Any-from_list_any, list_any-append}
+use Rattle.step_values.specs.declared.value.Value.{Value}
+use Rattle.skew_algebra.specs.Wave.{Wave}
+use Rattle.class_table.specs.Alike.{class_of}
+use Rattle.fixpoint_engine.specs.Value.{Waves}
+use Rattle.fixpoint_engine.specs.Settled.{marked_in}
+use Rattle.fixpoint_engine.specs.Worklist.{Change, among}
+use Rattle.fixpoint_engine.specs.Classes.{is_first}
+use Rattle.fixpoint_engine.specs.Members.{last_below, members_below, for_class, for_classes}
+use Rattle.fixpoint_engine.proofs.Listening.{same-tests}
+use Rattle.fixpoint_engine.proofs.Waiting.{marked-set}
+
+-- ---- from one net of a class to the one before
+
+-- the number after a net's
+abbrev pub above : Option ℕ → ℕ
+above None = 0
+above (Some i) = suc i
+
+pub last-some : (ks : List ℕ) (class m t : ℕ) → last_below ks class m ≡ Some t → (class_of ks t ≡ class) × (t < m)
+unfolding last_below
+last-some ks class zero t is = cc
+last-some ks class (suc m) t is = by (class_of ks m == class) refl (last-some ks class m t) is
+  where
+    by : (here : Bool) → (class_of ks m == class) ≡ here → (last_below ks class m ≡ Some t → (class_of ks t ≡ class) × (t < m)) → cond here (Some m) (last_below ks class m) ≡ Some t → (class_of ks t ≡ class) × (t < suc m)
+    by true e earlier is = let same : m ≡ t = cc in (ap (class_of ks) (sym same) ∙ eqb-true (class_of ks m) class e, omega (arith, same))
+    by false e earlier is = let found = earlier is in (found.0, let below : t < m = found.1 in omega (arith, below))
+
+-- below the last net there are as many as below all
+pub members-above : (ks : List ℕ) (class m : ℕ) → members_below ks class m ≡ members_below ks class (above (last_below ks class m))
+unfolding last_below members_below
+members-above ks class zero = refl
+members-above ks class (suc m) = by (class_of ks m == class) refl (members-above ks class m)
+  where
+    by : (here : Bool) → (class_of ks m == class) ≡ here → members_below ks class m ≡ members_below ks class (above (last_below ks class m)) →
+        cond here (m ∷ members_below ks class m) (members_below ks class m) ≡ members_below ks class (above (cond here (Some m) (last_below ks class m)))
+    by true e rest = ap (λ (b : Bool). cond b (m ∷ members_below ks class m) (members_below ks class m)) (sym e)
+    by false e rest = rest
+
+one-more : (ks : List ℕ) (class t : ℕ) → class_of ks t ≡ class → members_below ks class (suc t) ≡ t ∷ members_below ks class t
+unfolding members_below
+one-more ks class t is = ap (λ (b : Bool). cond b (t ∷ members_below ks class t) (members_below ks class t)) (eq-eqb (class_of ks t) class is)
+
+-- a change is added for one net more, and the others of the class are left
+pub member-added : {A : Type 0} (pair : A → Change) (ks : List ℕ) (class t : ℕ) (w : Wave Value) (made more : List A) (one : A) (at next : Option ℕ) (all : List Change) → at ≡ Some t → class_of ks t ≡ class →
+    next ≡ last_below ks (class_of ks t) t → more ≡ made ++ one ∷ [] → pair one ≡ (t, w) → map pair made ++ map (λ i. (i, w)) (members_below ks class (above at)) ≡ all →
+    map pair more ++ map (λ i. (i, w)) (members_below ks class (above next)) ≡ all
+member-added pair ks class t w made more one at next all is of goes pushed pairs left =
+    let rest : members_below ks class (above next) ≡ members_below ks class t =
+    ap (λ (n : Option ℕ). members_below ks class (above n)) (goes ∙ ap (λ (k : ℕ). last_below ks k t) of) ∙ sym (members-above ks class t) in
+    let here : members_below ks class (above at) ≡ t ∷ members_below ks class t = ap (λ (n : Option ℕ). members_below ks class (above n)) is ∙ one-more ks class t of in
+    let new : map pair more ≡ map pair made ++ (t, w) ∷ [] = ap (map pair) pushed ∙ map-append pair made (one ∷ []) ∙ (λ k. map pair made ++ pairs k ∷ []) in
+    (λ k. new k ++ map (λ i. (i, w)) (rest k)) ∙ append_assoc (map pair made) ((t, w) ∷ []) (map (λ i. (i, w)) (members_below ks class t)) ∙ ap (λ (ms : List ℕ). map pair made ++ map (λ i. (i, w)) ms) (sym here) ∙ left
+
+-- the one before is of the class too
+pub goes-down : (ks : List ℕ) (class t s n : ℕ) → (class_of ks t ≡ class) × (t < n) → last_below ks (class_of ks t) t ≡ Some s → (class_of ks s ≡ class) × (s < n)
+goes-down ks class t s n of is =
+    let found = last-some ks (class_of ks t) t s is in
+    (found.0 ∙ of.0, let below : t < n = of.1 in let less : s < t = found.1 in omega (arith, below, less))
+
+pub falls : (ks : List ℕ) (t : ℕ) (at next : Option ℕ) → at ≡ Some t → next ≡ last_below ks (class_of ks t) t → above next < above at
+falls ks t at next is goes = subst (λ (o : Option ℕ). above next < above o) (sym is) (by next goes)
+  where
+    by : (found : Option ℕ) → found ≡ last_below ks (class_of ks t) t → above found < suc t
+    by None goes = omega arith
+    by (Some s) goes = let less : s < t = (last-some ks (class_of ks t) t s (sym goes)).1 in omega (arith, less)
+
+-- none is left below none
+pub none-left : {A : Type 0} (pair : A → Change) (ks : List ℕ) (class : ℕ) (w : Wave Value) (made : List A) (at : Option ℕ) (all : List Change) → map pair made ++ map (λ i. (i, w)) (members_below ks class (above at)) ≡ all →
+    at ≡ None → map pair made ≡ all
+unfolding members_below
+none-left pair ks class w made at all left is =
+    sym (append-nil (map pair made)) ∙ ap (λ (o : Option ℕ). map pair made ++ map (λ i. (i, w)) (members_below ks class (above o))) (sym is) ∙ left
+
+-- ---- the last nets as they are found, one net after another
+
+pub none-below : (ks : List ℕ) (class : ℕ) → last_below ks class 0 ≡ None
+unfolding last_below
+none-below ks class = refl
+
+pub class-read : (ks : List ℕ) (i x : ℕ) → i < length ks → x ≡ get_or ks i x → x ≡ class_of ks i
+class-read ks i x below is = is ∙ get_or_default_zero ks i x below
+
+pub last-more : (ks : List ℕ) (old new : ℕ → Option ℕ) (key m : ℕ) → ((q : ℕ) → new q ≡ cond (key == q) (Some m) (old q)) → key ≡ class_of ks m → ((q : ℕ) → old q ≡ last_below ks q m) →
+    (q : ℕ) → new q ≡ last_below ks q (m + 1)
+unfolding last_below
+last-more ks old new key m updates is before q =
+    updates q ∙ (λ k. cond (is k == q) (Some m) (before q k)) ∙ ap (last_below ks q) (let e : suc m ≡ m + 1 = omega arith in e)
+
+pub before-more : (ks : List ℕ) (m : ℕ) (old new : List (Option ℕ)) (found : Option ℕ) → length old ≡ m → new ≡ old ++ found ∷ [] → found ≡ last_below ks (class_of ks m) m →
+    ((i : ℕ) → i < m → get_or old i None ≡ last_below ks (class_of ks i) i) → (i : ℕ) → i < m + 1 → get_or new i None ≡ last_below ks (class_of ks i) i
+before-more ks m old new found long pushed is before =
+    below_more (λ i. get_or new i None ≡ last_below ks (class_of ks i) i) m
+    (λ i below. ap (λ (xs : List (Option ℕ)). get_or xs i None) pushed ∙ get_or-append old (found ∷ []) None i (omega (arith, below, long)) ∙ before i below)
+    (ap (λ (xs : List (Option ℕ)). get_or xs m None) pushed ∙ pushed-last ∙ is)
+  where
+    pushed-last : get_or (old ++ found ∷ []) m None ≡ found
+    pushed-last = ap (λ (k : ℕ). get_or (old ++ found ∷ []) k None) (sym long) ∙ get_or-append_seam old found [] None
+
+-- ---- which nets they are
+
+abbrev IsMember : List ℕ → ℕ → ℕ → ℕ → Type 0
+IsMember ks class m i = (class_of ks i ≡ class) × (i < m)
+
+members-are : (ks : List ℕ) (class m : ℕ) → All (IsMember ks class m) (members_below ks class m)
+unfolding members_below
+members-are ks class zero = All-nil (IsMember ks class zero)
+members-are ks class (suc m) = by (class_of ks m == class) refl (λ k d below. let found = members-are ks class m k d below in (found.0, let less = found.1 in omega (arith, less)))
+  where
+    by : (here : Bool) → (class_of ks m == class) ≡ here → All (IsMember ks class (suc m)) (members_below ks class m) →
+        All (IsMember ks class (suc m)) (cond here (m ∷ members_below ks class m) (members_below ks class m))
+    by true e rest = All-cons (IsMember ks class (suc m)) m (members_below ks class m) (eqb-true (class_of ks m) class e, omega arith) rest
+    by false e rest = rest
+
+among-members : (ks : List ℕ) (class m i : ℕ) → i < m → class_of ks i ≡ class → among (members_below ks class m) i ≡ true
+unfolding members_below
+among-members ks class zero i below is = absurd (omega arith)
+among-members ks class (suc m) i below is = by (class_of ks m == class) refl (λ less. among-members ks class m i less is)
+  where
+    at : (same : Bool) → (m == i) ≡ same → (i < m → among (members_below ks class m) i ≡ true) → (same || among (members_below ks class m) i) ≡ true
+    at true s rest = refl
+    at false s rest = let apart : m ≡ i → ⊥ = eqb-false m i s in rest (omega (arith, apart, below))
+
+    by : (here : Bool) → (class_of ks m == class) ≡ here → (i < m → among (members_below ks class m) i ≡ true) →
+        among (cond here (m ∷ members_below ks class m) (members_below ks class m)) i ≡ true
+    by true e rest = at (m == i) refl rest
+    by false e rest = let apart : m ≡ i → ⊥ = λ same. eqb-false (class_of ks m) class e (ap (class_of ks) same ∙ is) in rest (omega (arith, apart, below))
+
+-- the net is of the class, where it is a net
+member-tests : (ks : List ℕ) (class i : ℕ) → i < length ks → among (members_below ks class (length ks)) i ≡ (class == class_of ks i)
+member-tests ks class i below = same-tests (among (members_below ks class (length ks)) i) (class == class_of ks i) to from
+  where
+    to : among (members_below ks class (length ks)) i ≡ true → (class == class_of ks i) ≡ true
+    to any =
+        let at = Any-from_list_any (λ net. net == i) (members_below ks class (length ks)) any in
+        let found = members-are ks class (length ks) at.0 at.1 at.2 in
+        eq-eqb class (class_of ks i) (sym found.0 ∙ ap (class_of ks) (at.3 ∙ eqb-true at.1 i at.4))
+
+    from : (class == class_of ks i) ≡ true → among (members_below ks class (length ks)) i ≡ true
+    from is = among-members ks class (length ks) i below (sym (eqb-true class (class_of ks i) is))
+
+-- ---- changes for all nets of their classes
+
+-- the class of one of the nets is that of the net
+abbrev pub is_with : List ℕ → List ℕ → ℕ → Bool
+is_with ks nets i = list_any (λ net. class_of ks net == class_of ks i) nets
+
+abbrev pub nets_in : List Change → List ℕ
+nets_in changes = map (λ (ch : Change). ch.0) changes
+
+same-nets : (w : Wave Value) (is : List ℕ) → nets_in (map (λ i. (i, w)) is) ≡ is
+same-nets w [] = refl
+same-nets w (i ∷ is) = ap (λ (rest : List ℕ). i ∷ rest) (same-nets w is)
+
+-- Their nets are those whose class is that of one of the changes.
+pub nets-for-classes : (ks : List ℕ) (changes : List Change) (i : ℕ) → i < length ks → among (nets_in (for_classes ks changes)) i ≡ is_with ks (nets_in changes) i
+nets-for-classes ks [] i below = refl
+nets-for-classes ks (ch ∷ changes) i below =
+    ap (λ (nets : List ℕ). among nets i) (map-append (λ (ch : Change). ch.0) (for_class ks ch) (for_classes ks changes))
+    ∙ list_any-append (λ net. net == i) (nets_in (for_class ks ch)) (nets_in (for_classes ks changes))
+    ∙ (λ k. (ap (λ (nets : List ℕ). among nets i) (same-nets ch.1 (members_below ks (class_of ks ch.0) (length ks))) ∙ member-tests ks (class_of ks ch.0) i below) k
+    || nets-for-classes ks changes i below k)
+
+pub exist-for-classes : (ks : List ℕ) (changes : List Change) → All (λ (ch : Change). ch.0 < length ks) (for_classes ks changes)
+exist-for-classes ks [] = All-nil (λ (ch : Change). ch.0 < length ks)
+exist-for-classes ks (ch ∷ changes) =
+    All-append (λ (one : Change). one.0 < length ks) (for_class ks ch) (for_classes ks changes)
+    (All-map (λ (one : Change). one.0 < length ks) (λ i. (i, ch.1)) (members_below ks (class_of ks ch.0) (length ks)) (λ k d below. (members-are ks (class_of ks ch.0) (length ks) k d below).1))
+    (exist-for-classes ks changes)
+
+-- the changes for the classes of one more
+pub class-more : {A : Type 0} (pair : A → Change) (ks : List ℕ) (xs : List A) (i : ℕ) (x : A) (made more : List Change) → i < length xs → x ≡ get_or xs i x → made ≡ for_classes ks (map pair (take i xs)) →
+    more ≡ made ++ for_class ks (pair x) → more ≡ for_classes ks (map pair (take (i + 1) xs))
+class-more pair ks xs i x made more below is before grows =
+    let taken : map pair (take (i + 1) xs) ≡ map pair (take i xs) ++ pair x ∷ [] =
+    ap (map pair) (take_more xs i x below) ∙ map-append pair (take i xs) (get_or xs i x ∷ []) ∙ (λ k. map pair (take i xs) ++ pair (sym is k) ∷ []) in
+    grows ∙ (λ k. before k ++ sym (append-nil (for_class ks (pair x))) k) ∙ sym (flat_map-append (for_class ks) (map pair (take i xs)) (pair x ∷ [])) ∙ ap (for_classes ks) (sym taken)
+
+-- the nets of one class have one wave
+abbrev pub AreOne : List ℕ → Waves → Type 0
+AreOne ks ws = (i j : ℕ) → i < length ks → j < length ks → class_of ks i ≡ class_of ks j → ws i ≡ ws j
+
+abbrev pub IsTo : Waves → Change → Type 0
+IsTo ws ch = ch.1 ≡ ws ch.0
+
+-- Changes to waves that are one in each class are so for all nets of their classes.
+pub waves-for-classes : (ks : List ℕ) (changes : List Change) (ws : Waves) → AreOne ks ws → All (λ (ch : Change). ch.0 < length ks) changes → All (IsTo ws) changes → All (IsTo ws) (for_classes ks changes)
+waves-for-classes ks [] ws one exist to = All-nil (IsTo ws)
+waves-for-classes ks (ch ∷ changes) ws one exist to =
+    All-append (IsTo ws) (for_class ks ch) (for_classes ks changes)
+    (All-map (IsTo ws) (λ i. (i, ch.1)) (members_below ks (class_of ks ch.0) (length ks))
+    (λ k d below. let found = members-are ks (class_of ks ch.0) (length ks) k d below in
+    All-head (IsTo ws) ch changes to ∙ one ch.0 _ (All-head (λ (ch : Change). ch.0 < length ks) ch changes exist) found.1 (sym found.0)))
+    (waves-for-classes ks changes ws one (All-tail (λ (ch : Change). ch.0 < length ks) ch changes exist) (All-tail (IsTo ws) ch changes to))
+
+-- ---- whether a net is the first of its class
+
+pub range-more : (m : ℕ) → range_with_len 0 (m + 1) ≡ range_with_len 0 m ++ m ∷ []
+range-more m = sym (map-id (range_with_len 0 (m + 1))) ∙ map-range_with_len_more (λ x. x) 0 m m (omega arith) ∙ (λ k. map-id (range_with_len 0 m) k ++ m ∷ [])
+
+some-below : (ks : List ℕ) (class m : ℕ) → list_any (λ j. class_of ks j == class) (range_with_len 0 m) ≡ is_some (last_below ks class m)
+unfolding last_below
+some-below ks class zero = refl
+some-below ks class (suc m) =
+    ap (list_any (λ j. class_of ks j == class)) range ∙ list_any-append (λ j. class_of ks j == class) (range_with_len 0 m) (m ∷ [])
+    ∙ (λ k. some-below ks class m k || ((class_of ks m == class) || false)) ∙ by (class_of ks m == class) (last_below ks class m)
+  where
+    range : range_with_len 0 (suc m) ≡ range_with_len 0 m ++ m ∷ []
+    range = ap (range_with_len 0) (let e : suc m ≡ m + 1 = omega arith in e) ∙ range-more m
+
+    by : (here : Bool) (found : Option ℕ) → (is_some found || (here || false)) ≡ is_some (cond here (Some m) found)
+    by true None = refl
+    by true (Some t) = refl
+    by false None = refl
+    by false (Some t) = refl
+
+pub first-is : (ks : List ℕ) (i : ℕ) → is_first ks i ≡ not (is_some (last_below ks (class_of ks i) i))
+first-is ks i = ap not (some-below ks (class_of ks i) i)
+
+pub first-found : (ks : List ℕ) (i : ℕ) (found : Option ℕ) (none : Bool) → found ≡ last_below ks (class_of ks i) i → is_some found ≡ not none → none ≡ is_first ks i
+first-found ks i found none is tells = twice none ∙ ap not (sym tells ∙ ap is_some is) ∙ sym (first-is ks i)
+  where
+    twice : (b : Bool) → b ≡ not (not b)
+    twice true = refl
+    twice false = refl
+
+-- one net more is looked at
+pub first-more : (ks : List ℕ) (marks first new : List Bool) (m : ℕ) (added : Bool) → m < length first → added ≡ (marked_in marks m && is_first ks m) → new ≡ cond added (set first m true) first →
+    ((i : ℕ) → i < m → marked_in first i ≡ (marked_in marks i && is_first ks i)) → ((i : ℕ) → m ≤ i → marked_in first i ≡ false) →
+    (length new ≡ length first) × (((i : ℕ) → i < m + 1 → marked_in new i ≡ (marked_in marks i && is_first ks i)) × ((i : ℕ) → m + 1 ≤ i → marked_in new i ≡ false))
+first-more ks marks first new m true below adds is before after = (
+  ap length is ∙ length-set first m true,
+  (
+    below_more (λ i. marked_in new i ≡ (marked_in marks i && is_first ks i)) m
+        (λ i less. at i ∙ apart i (λ same. let e : m ≡ i = same in omega (arith, less, e)) ∙ before i less)
+        (at m ∙ ap (λ (b : Bool). cond b true (marked_in first m)) (eq-eqb m m refl) ∙ adds),
+    λ i more. at i ∙ apart i (λ same. let e : m ≡ i = same in omega (arith, more, e)) ∙ after i (omega (arith, more)),
+  ),
+)
+  where
+    at : (i : ℕ) → marked_in new i ≡ cond (m == i) true (marked_in first i)
+    at i = ap (λ (ms : List Bool). marked_in ms i) is ∙ marked-set first m i true below
+
+    apart : (i : ℕ) → (m ≡ i → ⊥) → cond (m == i) true (marked_in first i) ≡ marked_in first i
+    apart i differ = ap (λ (b : Bool). cond b true (marked_in first i)) (false_from_ne_true (m == i) (λ same. differ (eqb-true m i same)))
+first-more ks marks first new m false below adds is before after = (
+  ap length is,
+  (
+    below_more (λ i. marked_in new i ≡ (marked_in marks i && is_first ks i)) m (λ i less. at i ∙ before i less) (at m ∙ after m (omega arith) ∙ adds),
+    λ i more. at i ∙ after i (omega (arith, more)),
+  ),
+)
+  where
+    at : (i : ℕ) → marked_in new i ≡ marked_in first i
+    at i = ap (λ (ms : List Bool). marked_in ms i) is
+
+-- classes of one net each
+pub lone-same : (ks : List ℕ) (n : ℕ) → ks ≡ range_with_len 0 n → (i j : ℕ) → i < n → j < n → class_of ks i ≡ class_of ks j → i ≡ j
+lone-same ks n is i j below below' same = sym (at i below) ∙ same ∙ at j below'
+  where
+    at : (i : ℕ) → i < n → class_of ks i ≡ i
+    at i below = ap (λ (xs : List ℕ). class_of xs i) is ∙ get_or-range_with_len 0 n i 0 below ∙ (let e : 0 + i ≡ i = omega arith in e)

@@ -1,0 +1,29 @@
+-- The nets of a class, and what one of them changes to, for all of them.
+use Rattle.std.specs.Prelude.{◌≡◌, ℕ, zero, suc, ◌<◌, ◌==◌, if◌then◌else◌, List, [], ◌∷◌, length, map, slice_index_or, Option, Some, None}
+use Rattle.std.specs.List.{flat_map}
+use Rattle.class_table.specs.Alike.{class_of}
+use Rattle.fixpoint_engine.specs.Worklist.{Change}
+
+-- the last net of a class below a number
+unfoldable pub last_below : List ℕ → ℕ → ℕ → Option ℕ
+last_below classes class zero = None
+last_below classes class (suc i) = if class_of classes i == class then Some i else last_below classes class i
+
+-- the nets of a class below a number, the last one first
+unfoldable pub members_below : List ℕ → ℕ → ℕ → List ℕ
+members_below classes class zero = []
+members_below classes class (suc i) = if class_of classes i == class then i ∷ members_below classes class i else members_below classes class i
+
+-- the change of a net, for each net of its class
+abbrev pub for_class : List ℕ → Change → List Change
+for_class classes ch = map (λ i. (i, ch.1)) (members_below classes (class_of classes ch.0) (length classes))
+
+-- these changes, each for all nets of its class
+abbrev pub for_classes : List ℕ → List Change → List Change
+for_classes classes changes = flat_map (for_class classes) changes
+
+-- For each net the last one of its class before it, and for each class its last net.
+pub record AreLast (classes : List ℕ) (before : List (Option ℕ)) (last : ℕ → Option ℕ) : Type 0 where
+  pub each_net : length before ≡ length classes
+  pub of_net : (i : ℕ) → i < length classes → slice_index_or before i None ≡ last_below classes (class_of classes i) i
+  pub of_class : (class : ℕ) → last class ≡ last_below classes class (length classes)
