@@ -6,3 +6,4 @@ pub mod Cases
 pub mod Far
 pub mod Entries
 pub mod Listing
+pub mod Together

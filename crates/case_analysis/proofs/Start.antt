@@ -1,9 +1,9 @@
 -- The waves that the base begins with: one of the period for each net, which permits each run whose inputs keep their
 -- assertions.
-use Rattle.std.proofs.Common.{◌≡◌, ℕ, ◌-◌, ◌<◌, ◌≤◌, Bool, true, false, List, [], length, map, refl, sym, ap, subst, ◌∙◌, arith, inl, inr, Option, Some, None, is_some}
+use Rattle.std.proofs.Common.{◌≡◌, ℕ, ◌-◌, ◌<◌, ◌≤◌, Bool, true, false, List, [], length, map, get_or, slice_get, refl, sym, ap, subst, ◌∙◌, arith, inl, inr, Option, Some, None, is_some}
 use Rattle.std.specs.List.{range_with_len}
 use Rattle.std.proofs.lemmas.Option.{slice_get_cases, slice_get_past}
-use Rattle.std.proofs.lemmas.List.{get_or_past}
+use Rattle.std.proofs.lemmas.List.{get_or_past, length-map}
 use Rattle.std.proofs.lemmas.List.FromFn.{get_or-map-range_with_len, length-map-range_with_len}
 use Rattle.std.proofs.lemmas.Bool.{cases_lt}
 use Rattle.scald_base.specs.Time.{Header, period}
@@ -29,8 +29,10 @@ use Rattle.fixpoint_engine.specs.Value.{Waves}
 use Rattle.fixpoint_engine.specs.Start.{unknown_wave, start_in, base_start, is_driven}
 use Rattle.fixpoint_engine.specs.Interface.{MeetsInterface, PermitRun}
 use Rattle.fixpoint_engine.specs.Settled.{waves_of, FitWaves}
+use Rattle.fixpoint_engine.proofs.Changing.{wave-found}
 use Rattle.fixpoint_engine.proofs.Fits.{NetsFit, normal-fits}
 use Rattle.gate_eval.proofs.Fitting.{Fits}
+use Rattle.case_analysis.specs.Base.{AreAssertedAlike}
 
 -- ---- one net
 
@@ -47,7 +49,7 @@ Permits-unknown h n v x some = record {
   steps = λ t t1 tv tn. ap (λ value. has value (x (t - 1)) (x t)) (earlier-slots values (period h) (λ p. U) t 0 some) ∙ all-has (x (t - 1)) (x t);
 }
 
-abbrev started : Header → AssertSpec → Option ℕ → Wave Value
+abbrev pub started : Header → AssertSpec → Option ℕ → Wave Value
 started h a driver = elim driver [ None ↦ interface_wave h a | Some k ↦ unknown_wave h ]
 
 length-started : (h : Header) (a : AssertSpec) (driver : Option ℕ) → length (started h a driver).cells ≡ period h
@@ -57,6 +59,27 @@ length-started h a (Some k) = length-unknown h
 Permits-started : (h : Header) (a : AssertSpec) (driver : Option ℕ) (n : ℕ) (x : Signal) → 0 < period h → (driver ≡ None → Meets h a n x) → Permits values (started h a driver) n x 1
 Permits-started h a None n x some meets = Permits-interface h a n x some (meets refl)
 Permits-started h a (Some k) n x some meets = Permits-unknown h n 1 x some
+
+-- ---- a net that asserts what another does
+
+pub asserted-alike : (c : Circuit) (m n : Net) (i j : ℕ) → slice_get c.nets i ≡ Some m → slice_get c.nets j ≡ Some n → AreAssertedAlike m n → base_start c i ≡ base_start c j
+asserted-alike c m n i j is_m is_n alike =
+    let none : m.driver ≡ n.driver = alike.first ∙ sym alike.second in
+    ap (start_in c.header) is_m ∙ (λ t. started c.header (alike.spec t) (none t)) ∙ sym (ap (start_in c.header) is_n)
+
+-- as many as there are nets before
+pub all-begun : {A : Type 0} (wave : A → Wave Value) (c : Circuit) (before xs : List A) (net : ℕ) → map wave before ≡ map (base_start c) (range_with_len 0 net) → xs ≡ before → length xs ≡ net
+all-begun wave c before xs net begun same = ap length same ∙ sym (length-map before wave) ∙ ap length begun ∙ length-map-range_with_len (base_start c) 0 net
+
+-- the wave of the net before, among those of all nets before
+pub last-begun : {A : Type 0} (wave : A → Wave Value) (c : Circuit) (before xs : List A) (net : ℕ) (x : A) → map wave before ≡ map (base_start c) (range_with_len 0 net) → xs ≡ before → 0 < net →
+    x ≡ get_or xs (net - 1) x → wave x ≡ base_start c (net - 1)
+last-begun wave c before xs net x begun same some is =
+    let below : net - 1 < net = omega arith in
+    wave-found wave xs (net - 1) net x below (length-map xs wave ∙ all-begun wave c before xs net begun same) is
+    ∙ ap (λ ys. waves_of (map wave ys) (net - 1)) same
+    ∙ ap (λ ws. waves_of ws (net - 1)) begun
+    ∙ get_or-map-range_with_len (base_start c) 0 net (net - 1) (net - 1) (skewed [] 0) below (omega arith)
 
 -- ---- all nets
 

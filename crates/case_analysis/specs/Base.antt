@@ -1,5 +1,6 @@
 -- The base: waves at rest of rounds that know the inputs alone at their start.
-use Rattle.std.specs.Prelude.{ℕ, ◌+◌, ◌*◌}
+use Rattle.std.specs.Prelude.{◌≡◌, ℕ, ◌+◌, ◌*◌, None}
+use Rattle.flat_circuit.specs.declared.net.Net.{Net}
 use Rattle.flat_circuit.specs.Circuit.{Circuit}
 use Rattle.flat_circuit.specs.Run.{Run, IsRun}
 use Rattle.fixpoint_engine.specs.Value.{Waves}
@@ -20,3 +21,9 @@ IsBase c limit r ws = AreAtRest c (is_driven c) (base_start c) limit r ws
 -- Waves after so many rounds permit every run whose inputs keep their assertions, from so many reaches on.
 abbrev pub PermitInputs : Circuit → ℕ → Waves → Type 0
 PermitInputs c rounds ws = (run : Run) → IsRun c run → MeetsInterface c run → PermitRun c run ws (rounds * reach c + 1)
+
+-- nothing drives either net, and both assert the same
+pub record AreAssertedAlike (m n : Net) : Type 0 where
+  pub first : m.driver ≡ None
+  pub second : n.driver ≡ None
+  pub spec : m.spec ≡ n.spec

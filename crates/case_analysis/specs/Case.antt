@@ -1,5 +1,5 @@
 -- Cases: nets that keep a value for ever, the nets that this may reach, and the rounds that begin with it.
-use Rattle.std.specs.Prelude.{◌≡◌, ◌↔◌, ℕ, ◌+◌, ◌*◌, ◌<◌, ◌==◌, Bool, true, false, ◌&&◌, if◌then◌else◌, List, [], ◌∷◌, length, Option, Some, None}
+use Rattle.std.specs.Prelude.{◌≡◌, ◌↔◌, ℕ, ◌+◌, ◌*◌, ◌<◌, ◌==◌, Bool, true, false, ◌&&◌, if◌then◌else◌, List, [], ◌∷◌, length, slice_index_or, Option, Some, None}
 use Rattle.std.specs.List.{All, list_any}
 use Rattle.scald_base.specs.Time.{Header}
 use Rattle.step_values.specs.declared.value.Value.{Value}
@@ -29,6 +29,10 @@ value_of values i = value_after None values i
 -- whether a case gives the net a value
 abbrev pub is_set : List CaseValue → ℕ → Bool
 is_set values i = list_any (λ (v : CaseValue). v.net == i) values
+
+-- the case with a number from 0
+abbrev pub case_at : List (List CaseValue) → ℕ → List CaseValue
+case_at cases number = slice_index_or cases number []
 
 -- its nets exist
 abbrev pub NetsExist : Circuit → List CaseValue → Type 0

@@ -1,6 +1,6 @@
 //! The base of a circuit.
 
-ghost use Rattle.std.specs.Prelude.{◌≡◌, ◌≤◌, ◌+◌, ℕ, IfErr, IfOk, MatchResult, length, map};
+ghost use Rattle.std.specs.Prelude.{◌≡◌, ◌≤◌, ◌+◌, ℕ, ◌<◌, IfErr, IfOk, MatchBool, MatchResult, length, map};
 ghost use Rattle.std.specs.List.{range_with_len};
 ghost use Rattle.skew_algebra.specs.Wave.{skewed};
 ghost use Rattle.flat_circuit.specs.Instances.{outputs};
@@ -9,11 +9,11 @@ ghost use Rattle.fixpoint_engine.specs.Loops.{HasNoLoop};
 ghost use Rattle.fixpoint_engine.specs.Settled.{FitWaves, marked_in, waves_of};
 ghost use Rattle.fixpoint_engine.specs.Start.{base_start, default_limit, is_driven, start_in, unknown_wave};
 ghost use Rattle.fixpoint_engine.specs.Work.{work_to};
-ghost use Rattle.case_analysis.specs.Base.{IsBase, PermitInputs, base_round};
+ghost use Rattle.case_analysis.specs.Base.{AreAssertedAlike, IsBase, PermitInputs, base_round};
 
 use crate::parts::{instance_of, net_of};
 use fixpoint_engine::{EngineEnd, NetSet, Settled, Waves, settle};
-use flat_circuit::{Circuit, Net};
+use flat_circuit::{Circuit, Net, is_same_assertion};
 use pin_waves::interface_wave;
 use scald_base::{Header, List, NoMemory};
 use skew_algebra::Skewed;
@@ -46,8 +46,35 @@ fn start_wave<W: CyclicWave<Item = Value>>(
     }
 }
 
+/// Whether nothing drives either net, and both assert the same.
+fn are_asserted_alike(a: &Net, b: &Net) -> bool
+    ensures { MatchBool result (AreAssertedAlike a.now b.now) (¬ (AreAssertedAlike a.now b.now)) }
+{
+    a.driver.is_none() && b.driver.is_none() && is_same_assertion(&a.spec, &b.spec)
+}
+
+/// The wave that a net begins with, from those of the nets before it. The bits of a bus mostly assert the
+/// same, and a copy costs less than a wave that is worked out.
+fn wave_after<W: CyclicWave<Item = Value>>(
+    alloc: Global,
+    c: &Circuit,
+    before: &Waves<W>,
+    net: u32,
+) -> Result<Skewed<W>, NoMemory>
+    requires exists { net < length c.now.nets }
+    requires before { map (λ s. skewed (W.cells s.wave) s.skew) before.now ≡ map (base_start c.now) (range_with_len 0 net) }
+    ensures { IfOk result (λ s. skewed (W.cells s.wave) s.skew ≡ base_start c.now net) }
+{
+    let this = net_of(c, net);
+    if net > 0 && are_asserted_alike(net_of(c, net - 1), this) {
+        before.as_slice()[net as usize - 1].copy(alloc)
+    } else {
+        start_wave(alloc, c.header(), this)
+    }
+}
+
 /// The waves that the base begins with.
-fn start_waves<W: CyclicWave<Item = Value>>(
+pub fn start_waves<W: CyclicWave<Item = Value>>(
     alloc: Global,
     c: &Circuit,
 ) -> Result<Waves<W>, NoMemory>
@@ -55,14 +82,14 @@ fn start_waves<W: CyclicWave<Item = Value>>(
 {
     let mut waves = List::new(alloc);
     for i in 0..c.net_count() {
-        let wave = start_wave(alloc, c.header(), net_of(c, i))?;
+        let wave = wave_after(alloc, c, &waves, i)?;
         waves.push(wave)?;
     }
     Ok(waves)
 }
 
 /// The nets that are driven.
-fn driven_nets(alloc: Global, c: &Circuit) -> Result<NetSet, NoMemory>
+pub fn driven_nets(alloc: Global, c: &Circuit) -> Result<NetSet, NoMemory>
     ensures each_net { IfOk result (λ set. length set ≡ length c.now.nets) }
     ensures driven { IfOk result (λ set. (i : ℕ) → marked_in set i ≡ is_driven c.now i) }
 {

@@ -62,7 +62,7 @@ fn unset_waves<W: CyclicWave<Item = Value>>(
 }
 
 /// The waves that a case begins with.
-fn start_waves<W: CyclicWave<Item = Value>>(
+pub fn start_waves<W: CyclicWave<Item = Value>>(
     alloc: Global,
     c: &Circuit,
     case: &Case,
@@ -85,7 +85,7 @@ fn start_waves<W: CyclicWave<Item = Value>>(
 }
 
 /// The driven nets of a cone.
-fn driven_in(alloc: Global, c: &Circuit, cone: &NetSet) -> Result<NetSet, NoMemory>
+pub fn driven_in(alloc: Global, c: &Circuit, cone: &NetSet) -> Result<NetSet, NoMemory>
     ensures each_net { IfOk result (λ set. length set ≡ length c.now.nets) }
     ensures is { IfOk result (λ set. (i : ℕ) → marked_in set i ≡ case_active c.now (marked_in cone.now) i) }
 {

@@ -7,11 +7,15 @@
 //! [`check_cases`] gives the cases that a drawing lists, and [`case_waves`] the waves of one of them at
 //! rest, from those of the base. `specs/Listed` says which nets a case sets, and `specs/Case` what its
 //! cone and its rounds are.
+//!
+//! [`base_classes`] and [`case_classes`] give the same waves where classes of nets that nothing tells
+//! apart are known.
 #![tactic(auto)]
 
 mod base_rounds;
 mod case_list;
 mod case_rounds;
+mod class_rounds;
 mod cones;
 mod parts;
 mod printed_tick;
@@ -19,6 +23,7 @@ mod printed_tick;
 pub use base_rounds::{base, default_limit};
 pub use case_list::check_cases;
 pub use case_rounds::case_waves;
+pub use class_rounds::{base_classes, case_classes};
 pub use cones::cone;
 pub use printed_tick::{reach, tick};
 

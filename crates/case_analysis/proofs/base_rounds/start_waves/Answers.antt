@@ -2,13 +2,13 @@ use Rattle.std.proofs.Common.{◌≡◌, ◌++◌, [], ◌∷◌, map, ◌∙◌
 use Rattle.std.proofs.lemmas.List.{map-append}
 use Rattle.std.proofs.lemmas.List.FromFn.{map-range_with_len_more}
 use Rattle.skew_algebra.specs.Wave.{skewed}
-use Rattle.fixpoint_engine.specs.Start.{base_start, start_in}
+use Rattle.fixpoint_engine.specs.Start.{base_start}
 use Rattle.case_analysis.proofs.base_rounds.start_waves.Goals as goal
 
 pub loop-i-preserved : goal.loop-i-preserved
 loop-i-preserved g c =
     let one : skewed (g.W.CyclicWave.cells c.in_ok-wave.wave.wave) c.in_ok-wave.wave.skew ≡ base_start c.args.c.now c.loop-i.i =
-    c.in_ok-wave.ensures ∙ (λ k. start_in (c.header.ensures k) (sym c.net_of.ensures k)) in
+    c.in_ok-wave.ensures in
     ap (map (λ s. skewed (g.W.CyclicWave.cells s.wave) s.skew)) c.in_ok-push.ensures.ok
     ∙ map-append (λ s. skewed (g.W.CyclicWave.cells s.wave) s.skew) c.loop-i.waves (c.in_ok-wave.wave ∷ [])
     ∙ (λ k. c.loop-i.invariant k ++ one k ∷ [])

@@ -1,0 +1,105 @@
+//! Bases and cases where nets fall into classes that nothing tells apart.
+
+ghost use Rattle.std.specs.Prelude.{◌≡◌, ◌<◌, ◌≤◌, ◌+◌, ℕ, Bool, IfErr, IfOk, MatchResult, length, map};
+ghost use Rattle.skew_algebra.specs.Wave.{skewed};
+ghost use Rattle.flat_circuit.specs.Instances.{outputs};
+ghost use Rattle.class_table.specs.Stable.{IsStable};
+ghost use Rattle.fixpoint_engine.specs.Classes.{class_work_to};
+ghost use Rattle.fixpoint_engine.specs.End.{EndsFor};
+ghost use Rattle.fixpoint_engine.specs.Loops.{HasNoLoop};
+ghost use Rattle.fixpoint_engine.specs.Settled.{FitWaves, waves_of};
+ghost use Rattle.fixpoint_engine.specs.Start.{is_driven};
+ghost use Rattle.case_analysis.specs.Base.{IsBase, PermitInputs, base_round};
+ghost use Rattle.case_analysis.specs.Case.{EndsInCone, HasCone, IsCase, IsCone, NetsExist, PermitCase, case_active, case_at, case_round};
+
+use crate::base_rounds::driven_nets;
+use crate::case_rounds::driven_in;
+use crate::cones::cone;
+use crate::{base_rounds, case_rounds};
+use class_table::ClassMap;
+use fixpoint_engine::{EngineEnd, Settled, settle_classes};
+use flat_circuit::{Case, CaseList, Circuit};
+use std::alloc::Global;
+use step_values::Value;
+use wave_core::CyclicWave;
+
+/// The base, as `base` gives it, where nets fall into classes that nothing tells apart, not even the
+/// cases: one number of a class for each net, of which `class_table::stable` is true. `evals` counts each
+/// class once in a round. `Unsettled` and `NoMemory` come as they do of `base`.
+pub fn base_classes<W: CyclicWave<Item = Value>>(
+    alloc: Global,
+    c: &Circuit,
+    cases: &CaseList,
+    k: &ClassMap,
+    limit: u32,
+) -> Result<Settled<W>, EngineEnd>
+    requires one_each { length k.now ≡ length c.now.nets }
+    requires stable { IsStable c.now cases.now k.now }
+    ensures rest { IfOk result (λ s. IsBase c.now limit s.rounds (waves_of (map (λ w. skewed (W.cells w.wave) w.skew) s.waves))) }
+    ensures within { IfOk result (λ s. s.rounds ≤ limit) }
+    ensures fit { IfOk result (λ s. FitWaves c.now (map (λ w. skewed (W.cells w.wave) w.skew) s.waves)) }
+    ensures work { IfOk result (λ s. s.evals ≡ class_work_to c.now k.now (is_driven c.now) (base_round c.now) (s.rounds + 1)) }
+    ensures sound { IfOk result (λ s. PermitInputs c.now s.rounds (waves_of (map (λ w. skewed (W.cells w.wave) w.skew) s.waves))) }
+    ensures unsettled { IfErr result (EndsFor c.now.order (base_round c.now) limit) }
+    ensures loopless { HasNoLoop c.now → outputs c.now.instances ≤ limit → MatchResult result (λ s. s.rounds ≤ outputs c.now.instances) (λ e. e ≡ EngineEnd.NoMemory) }
+{
+    c.known();
+    c.header().known();
+    let start = base_rounds::start_waves(alloc, c)?;
+    let active = driven_nets(alloc, c)?;
+    settle_classes(alloc, c, cases, k, &start, &active, limit)
+}
+
+/// The case of a number that is known to be there.
+fn case_at(cases: &CaseList, number: u32) -> &Case
+    requires { number < length cases.now }
+    ensures { result.now ≡ case_at cases.now number }
+{
+    match cases.get(number as usize) {
+        Some(case) => case,
+        None => unreachable!(),
+    }
+}
+
+/// The waves at rest of the case with this number from 0, as `case_waves` gives them, where nets fall
+/// into classes that nothing tells apart, not even the cases: one number of a class for each net, of
+/// which `class_table::stable` is true. `evals` counts each class once in a round. `Unsettled` and
+/// `NoMemory` come as they do of `case_waves`.
+pub fn case_classes<W: CyclicWave<Item = Value>>(
+    alloc: Global,
+    c: &Circuit,
+    cases: &CaseList,
+    k: &ClassMap,
+    base: &Settled<W>,
+    number: u32,
+    limit: u32,
+) -> Result<Settled<W>, EngineEnd>
+    requires one_each { length k.now ≡ length c.now.nets }
+    requires stable { IsStable c.now cases.now k.now }
+    requires number { number < length cases.now }
+    requires exist { NetsExist c.now (case_at cases.now number) }
+    requires base { IsBase c.now base.now.rounds base.now.rounds (waves_of (map (λ s. skewed (W.cells s.wave) s.skew) base.now.waves)) }
+    requires fit { FitWaves c.now (map (λ s. skewed (W.cells s.wave) s.skew) base.now.waves) }
+    ensures rest { let case = case_at cases.now number in
+        let before = waves_of (map (λ s. skewed (W.cells s.wave) s.skew) base.now.waves) in
+        IfOk result (λ s. (cone : ℕ → Bool) → IsCone c.now case cone → IsCase c.now case cone before limit s.rounds (waves_of (map (λ w. skewed (W.cells w.wave) w.skew) s.waves))) }
+    ensures within { IfOk result (λ s. s.rounds ≤ limit) }
+    ensures fit { IfOk result (λ s. FitWaves c.now (map (λ w. skewed (W.cells w.wave) w.skew) s.waves)) }
+    ensures work { let case = case_at cases.now number in
+        let before = waves_of (map (λ s. skewed (W.cells s.wave) s.skew) base.now.waves) in
+        IfOk result (λ s. (cone : ℕ → Bool) → IsCone c.now case cone → s.evals ≡ class_work_to c.now k.now (case_active c.now cone) (case_round c.now case cone before) (s.rounds + 1)) }
+    ensures sound { IfOk result (λ s. PermitCase c.now (case_at cases.now number) (base.now.rounds + s.rounds) (waves_of (map (λ w. skewed (W.cells w.wave) w.skew) s.waves))) }
+    ensures unsettled { let case = case_at cases.now number in
+        let before = waves_of (map (λ s. skewed (W.cells s.wave) s.skew) base.now.waves) in
+        IfErr result (λ e. (cone : ℕ → Bool) → IsCone c.now case cone → EndsFor c.now.order (case_round c.now case cone before) limit e) }
+    ensures cone { MatchResult result (λ _. HasCone c.now (case_at cases.now number)) (EndsInCone c.now (case_at cases.now number)) }
+    ensures loopless { HasNoLoop c.now → outputs c.now.instances ≤ limit → MatchResult result (λ s. s.rounds ≤ outputs c.now.instances) (λ e. e ≡ EngineEnd.NoMemory) }
+{
+    c.known();
+    c.header().known();
+    let case = case_at(cases, number);
+    let cone = cone(alloc, c, case)?;
+    let start = case_rounds::start_waves(alloc, c, case, &cone, &base.waves)?;
+    let active = driven_in(alloc, c, &cone)?;
+    settle_classes(alloc, c, cases, k, &start, &active, limit)
+}
