@@ -1,16 +1,16 @@
--- Runs, as they are made slot by slot.
-use Rattle.std.proofs.Common.{◌≡◌, ℕ, zero, suc, ◌+◌, ◌≤◌, Bool, true, false, List, [], ◌∷◌, ◌++◌, length, drop, replicate, slice_get, Some, refl, arith, add-one, sym, ap, ◌∙◌, subst}
-use Rattle.std.specs.Prelude.{if◌then◌else◌, Result, OnErr, OnOk}
+-- Runs, as they are written from change to change.
+use Rattle.std.proofs.Common.{◌≡◌, ℕ, zero, suc, ◌+◌, ◌-◌, ◌<◌, ◌≤◌, Bool, true, false, List, [], ◌∷◌, ◌++◌, length, drop, replicate, slice_get, Some, append-nil, refl, arith, sym, ap, ◌∙◌, subst}
+use Rattle.std.specs.Prelude.{if◌then◌else◌}
 use Rattle.std.specs.List.{flat_map}
-use Rattle.std.proofs.lemmas.Result.{on_err_weaker, on_ok_weaker}
+use Rattle.wave_core.specs.Slots.{SameUntil}
 use Rattle.step_values.specs.declared.value.Value.{Value}
 use Rattle.step_values.specs.Cell.{same}
 use Rattle.step_values.specs.Lawful.{same-is, values_lawful}
 use Rattle.listing.specs.Text.{HasPart}
 use Rattle.std.proofs.lemmas.Bool.{true≢false}
 use Rattle.std.proofs.lemmas.List.Elements.{All-cons, All-nil}
-use Rattle.listing.specs.Run.{AreRuns, Differ, Run, lengthened, runs, run_text, runs_text, spelled}
-use Rattle.listing.proofs.Parts.{Lacks, lacks-all, lacks-less, lacks-none, part-of-rest}
+use Rattle.listing.specs.Run.{AreRuns, Differ, Run, lengthened, runs, run_text, spelled}
+use Rattle.listing.proofs.Parts.{Lacks, lacks-less, lacks-none, part-of-rest}
 
 abbrev pub run : Value → ℕ → Run
 run v n = record { value = v; width = n }
@@ -62,59 +62,20 @@ drop-past [] (suc i) past = refl
 drop-past (x ∷ xs) zero past = absurd (omega arith)
 drop-past (x ∷ xs) (suc i) past = drop-past xs i (omega arith)
 
--- what is still to be written from a slot on, after so many slots of one value
-abbrev pub rest_text : Value → ℕ → List Value → ℕ → List ℕ
-rest_text v n cells i = flat_map run_text (continued v n (runs (drop i cells)))
-
-pub begun : (old : List ℕ) (cells : List Value) (v : Value) → slice_get cells 0 ≡ Some v → Lacks old old (rest_text v 1 cells 1) (runs_text cells)
-begun old cells v got =
-    lacks-all old (rest_text v 1 cells 1) (runs_text cells)
-    (ap (flat_map run_text) (first-slot v (runs (drop 1 cells))) ∙ ap (λ (vs : List Value). flat_map run_text (runs vs)) (sym (drop-got cells 0 v got)))
-
-rest-same : (v x : Value) (n : ℕ) (cells : List Value) (i : ℕ) → slice_get cells i ≡ Some x → same v x ≡ true → rest_text v n cells i ≡ rest_text v (n + 1) cells (i + 1)
-rest-same v x n cells i got is =
-    ap (λ (vs : List Value). flat_map run_text (continued v n (runs vs))) (drop-got cells i x got ∙ ap (λ (y : Value). y ∷ drop (suc i) cells) (sym (same-is v x is)))
-    ∙ ap (flat_map run_text) (grown v n (runs (drop (suc i) cells)))
-    ∙ ap (λ j. rest_text v (n + 1) cells j) (sym (add-one i))
-
-rest-other : (v x : Value) (n : ℕ) (cells : List Value) (i : ℕ) → slice_get cells i ≡ Some x → same v x ≡ false → rest_text v n cells i ≡ run_text (run v n) ++ rest_text x 1 cells (i + 1)
-rest-other v x n cells i got other =
-    ap (λ (vs : List Value). flat_map run_text (continued v n (runs vs))) (drop-got cells i x got)
-    ∙ ap (flat_map run_text) (ended v x n (runs (drop (suc i) cells)) other)
-    ∙ ap (λ (rs : List Run). run_text (run v n) ++ flat_map run_text rs) (sym (first-slot x (runs (drop (suc i) cells))))
-    ∙ ap (λ j. run_text (run v n) ++ rest_text x 1 cells j) (sym (add-one i))
-
-pub slot-same : (old now text : List ℕ) (v x : Value) (n : ℕ) (cells : List Value) (i : ℕ) → slice_get cells i ≡ Some x → same v x ≡ true →
-    Lacks old now (rest_text v n cells i) text → Lacks old now (rest_text v (n + 1) cells (i + 1)) text
-slot-same old now text v x n cells i got is l = subst (λ (t : List ℕ). Lacks old now t text) (rest-same v x n cells i got is) l
-
-pub slot-other : (old now new text : List ℕ) (v x : Value) (n : ℕ) (cells : List Value) (i : ℕ) → slice_get cells i ≡ Some x → same v x ≡ false →
-    new ≡ now ++ run_text (run v n) → Lacks old now (rest_text v n cells i) text → Lacks old new (rest_text x 1 cells (i + 1)) text
-slot-other old now new text v x n cells i got other added l =
-    lacks-less old now new (run_text (run v n)) (rest_text x 1 cells (i + 1)) text (subst (λ (t : List ℕ). Lacks old now t text) (rest-other v x n cells i got other) l) added
-
-pub slot-stopped : (old now new text : List ℕ) (v x : Value) (n : ℕ) (cells : List Value) (i : ℕ) → slice_get cells i ≡ Some x → same v x ≡ false →
-    HasPart now new (run_text (run v n)) → Lacks old now (rest_text v n cells i) text → HasPart old new text
-slot-stopped old now new text v x n cells i got other h l =
-    part-of-rest old now new (run_text (run v n)) (rest_text x 1 cells (i + 1)) text (subst (λ (t : List ℕ). Lacks old now t text) (rest-other v x n cells i got other) l) h
-
--- ---- the last run
-
-last-run : (old now text : List ℕ) (v : Value) (n : ℕ) (cells : List Value) (i : ℕ) → length cells ≤ i → Lacks old now (rest_text v n cells i) text → Lacks old now (run_text (run v n) ++ []) text
-last-run old now text v n cells i past l =
-    subst (λ (vs : List Value). Lacks old now (flat_map run_text (continued v n (runs vs))) text) (drop-past cells i past) l
-
-pub last-ok : {T E : Type 0} (r : Result T E) (old now new text : List ℕ) (v : Value) (n : ℕ) (cells : List Value) (i : ℕ) → length cells ≤ i →
-    Lacks old now (rest_text v n cells i) text → OnOk r (new ≡ now ++ run_text (run v n)) → OnOk r (new ≡ old ++ text)
-last-ok r old now new text v n cells i past l h =
-    on_ok_weaker r (lacks-none old now new (run_text (run v n)) text (last-run old now text v n cells i past l)) h
-
-pub last-err : {T E : Type 0} (r : Result T E) (old now new text : List ℕ) (v : Value) (n : ℕ) (cells : List Value) (i : ℕ) → length cells ≤ i →
-    Lacks old now (rest_text v n cells i) text → OnErr r (HasPart now new (run_text (run v n))) → OnErr r (HasPart old new text)
-last-err r old now new text v n cells i past l h =
-    on_err_weaker r (part-of-rest old now new (run_text (run v n)) [] text (last-run old now text v n cells i past l)) h
-
--- ---- what runs are
+-- the runs from a slot on whose value some slots in a row have
+together : (cells : List Value) (v : Value) (i n : ℕ) → ((p : ℕ) → i ≤ p → p < i + (n + 1) → slice_get cells p ≡ Some v) →
+    runs (drop i cells) ≡ continued v (n + 1) (runs (drop (i + (n + 1)) cells))
+together cells v i zero all =
+    ap runs (drop-got cells i v (all i (omega arith) (omega arith)))
+    ∙ sym (first-slot v (runs (drop (suc i) cells)))
+    ∙ (let one : 1 ≡ 0 + 1 = omega arith in let next : suc i ≡ i + (0 + 1) = omega arith in λ j. continued v (one j) (runs (drop (next j) cells)))
+together cells v i (suc n) all =
+    let more : suc (n + 1) ≡ n + 1 + 1 = omega arith in
+    together cells v i n (λ p from below. all p from (omega (arith, below)))
+    ∙ ap (λ (vs : List Value). continued v (n + 1) (runs vs)) (drop-got cells (i + (n + 1)) v (all (i + (n + 1)) (omega arith) (omega arith)))
+    ∙ grown v (n + 1) (runs (drop (suc (i + (n + 1))) cells))
+    ∙ (let wide : n + 1 + 1 ≡ suc n + 1 = omega arith in let next : suc (i + (n + 1)) ≡ i + (suc n + 1) = omega arith in
+    λ j. continued v (wide j) (runs (drop (next j) cells)))
 
 data Test (b : Bool) : Type 0 where
   Yes : b ≡ true → Test b
@@ -123,6 +84,57 @@ data Test (b : Bool) : Type 0 where
 test : (b : Bool) → Test b
 test true = Yes refl
 test false = No refl
+
+not-same : (v x : Value) → (v ≡ x → ⊥) → same v x ≡ false
+not-same v x other =
+    elim (test (same v x)) [
+      | Yes h ↦ absurd (other (same-is v x h))
+      | No h ↦ h
+    ]
+
+-- another value, or none, follows
+apart : (cells : List Value) (v : Value) (n end : ℕ) → (end < length cells → slice_get cells end ≡ Some v → ⊥) →
+    continued v n (runs (drop end cells)) ≡ run v n ∷ runs (drop end cells)
+apart [] v n zero other = refl
+apart [] v n (suc end) other = refl
+apart (x ∷ xs) v n zero other = ended v x n (runs xs) (not-same v x (λ e. other (omega arith) (ap Some (sym e))))
+apart (x ∷ xs) v n (suc end) other = apart xs v n end (λ below is. other (omega (arith, below)) is)
+
+-- what is still to be written from a slot on
+abbrev pub rest_text : List Value → ℕ → List ℕ
+rest_text cells i = flat_map run_text (runs (drop i cells))
+
+-- the run that begins there, up to the change
+begins : (cells : List Value) (slot end : ℕ) (v : Value) → slice_get cells slot ≡ Some v → SameUntil cells slot end →
+    rest_text cells slot ≡ run_text (run v (end - slot)) ++ rest_text cells end
+begins cells slot end v here same =
+    let behind : slot < end = same.behind in
+    let wide : end - slot - 1 + 1 ≡ end - slot = omega (arith, behind) in
+    let next : slot + (end - slot - 1 + 1) ≡ end = omega (arith, behind) in
+    ap (flat_map run_text)
+    (together cells v slot (end - slot - 1) (λ p from below. same.same p from (omega (arith, below, next)) ∙ here)
+    ∙ (λ j. continued v (wide j) (runs (drop (next j) cells)))
+    ∙ apart cells v (end - slot) end (λ below is. same.other below (is ∙ sym here)))
+
+pub run-written : (old now new text : List ℕ) (cells : List Value) (slot end : ℕ) (v : Value) → slice_get cells slot ≡ Some v → SameUntil cells slot end →
+    new ≡ now ++ run_text (run v (end - slot)) → Lacks old now (rest_text cells slot) text → Lacks old new (rest_text cells end) text
+run-written old now new text cells slot end v here same added l =
+    lacks-less old now new (run_text (run v (end - slot))) (rest_text cells end) text
+    (subst (λ (t : List ℕ). Lacks old now t text) (begins cells slot end v here same) l) added
+
+pub run-stopped : (old now new text : List ℕ) (cells : List Value) (slot end : ℕ) (v : Value) → slice_get cells slot ≡ Some v → SameUntil cells slot end →
+    HasPart now new (run_text (run v (end - slot))) → Lacks old now (rest_text cells slot) text → HasPart old new text
+run-stopped old now new text cells slot end v here same h l =
+    part-of-rest old now new (run_text (run v (end - slot))) (rest_text cells end) text
+    (subst (λ (t : List ℕ). Lacks old now t text) (begins cells slot end v here same) l) h
+
+-- nothing is left behind the last slot
+pub all-written : (old now text : List ℕ) (cells : List Value) (slot : ℕ) → length cells ≤ slot → Lacks old now (rest_text cells slot) text → now ≡ old ++ text
+all-written old now text cells slot past l =
+    let none : rest_text cells slot ≡ [] = ap (λ (vs : List Value). flat_map run_text (runs vs)) (drop-past cells slot past) in
+    lacks-none old now now [] text (subst (λ (t : List ℕ). Lacks old now t text) none l) (sym (append-nil now))
+
+-- ---- what runs are
 
 if-true : {X : Type 0} (b : Bool) (x y : X) → b ≡ true → (if b then x else y) ≡ x
 if-true b x y is = ap (λ t. if t then x else y) is

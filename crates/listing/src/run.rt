@@ -1,7 +1,6 @@
 //! Runs of equal values.
 
 ghost use Rattle.std.specs.Prelude.{◌≡◌, ◌++◌, OnErr, OnOk};
-ghost use Rattle.step_values.specs.Cell.{same};
 ghost use Rattle.listing.specs.Run.{AreRuns, Run, run_text, runs, runs_text};
 ghost use Rattle.listing.specs.Text.{HasPart};
 
@@ -26,13 +25,6 @@ fn add_run(out: &mut Bytes, value: Value, width: u16) -> Result<(), NoMemory>
     )
 }
 
-/// Whether two values are one.
-fn is_same(value: Value, other: Value) -> bool
-    ensures { result ≡ same value other }
-{
-    value == other
-}
-
 /// The runs of equal values of a wave, from slot 0 to the period's end.
 pub fn add_runs<W: CyclicWave<Item = Value>>(out: &mut Bytes, wave: &W) -> Result<(), NoMemory>
     ensures ok { OnOk result (out.new ≡ out.old ++ runs_text (W.cells wave.now)) }
@@ -41,17 +33,12 @@ pub fn add_runs<W: CyclicWave<Item = Value>>(out: &mut Bytes, wave: &W) -> Resul
     // What is printed as runs are runs: they spell the wave, and none of them can be longer.
     ensures are { AreRuns (W.cells wave.now) (runs (W.cells wave.now)) }
 {
-    let mut value = wave.at(0);
-    let mut width = 1;
-    for slot in 1..wave.period() {
-        let next = wave.at(slot);
-        if is_same(value, next) {
-            width += 1;
-        } else {
-            add_run(out, value, width)?;
-            value = next;
-            width = 1;
-        }
+    let period = wave.period();
+    let mut slot = 0;
+    while slot < period {
+        let end = wave.same_until(slot);
+        add_run(out, wave.at(slot), end - slot)?;
+        slot = end;
     }
-    add_run(out, value, width)
+    Ok(())
 }

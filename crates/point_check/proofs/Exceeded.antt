@@ -3,7 +3,7 @@ use Rattle.std.proofs.Common.{◌≡◌, ℕ, zero, suc, ◌+◌, ◌<◌, ◌�
 use Rattle.std.specs.Prelude.{slice_get}
 use Rattle.std.specs.Option.{option_map, option_or}
 use Rattle.scald_base.proofs.Back.{back-zero, mod-small}
-use Rattle.wave_core.specs.Slots.{earlier}
+use Rattle.wave_core.specs.Slots.{SameUntil, earlier}
 use Rattle.step_values.specs.declared.value.Value.TheVariants.{U}
 use Rattle.gate_eval.specs.Hold.{first_some}
 use Rattle.scald_base.specs.declared.assertion.AssertSpec.{AssertSpec}
@@ -16,7 +16,7 @@ use Rattle.pin_waves.specs.Interface.{wide_wave}
 use Rattle.flat_circuit.specs.declared.fault.Fault.TheVariants.{Assertion}
 use Rattle.gate_eval.proofs.Found.{first_some-at, first_some-nowhere}
 use Rattle.fixpoint_engine.specs.Pins.{read}
-use Rattle.fixpoint_engine.proofs.ReadSlots.{read-at, read-folded, length-folded}
+use Rattle.fixpoint_engine.proofs.ReadSlots.{read-at, same-read, read-folded, length-folded}
 use Rattle.point_check.specs.Window.{Folds}
 use Rattle.point_check.specs.Assertion.{exceeds, first_excess, fault_in, assertion_fault}
 
@@ -25,6 +25,14 @@ pub exceeds-read : (found wide : List Value) (s : ℕ) (v w : Value) → s < len
 exceeds-read found wide s v w below below' is is' =
     let v_is : read found s ≡ v = read-at found s s v refl below is in
     let w_is : read wide s ≡ w = read-at wide s s w refl below' is' in
+    λ i. exceeds (v_is i) (w_is i)
+
+-- the same in each slot up to where either changes
+pub exceeds-run : (found wide : List Value) (slot end end' s : ℕ) (v w : Value) → SameUntil found slot end → SameUntil wide slot end' → slice_get found slot ≡ Some v → slice_get wide slot ≡ Some w →
+    slot ≤ s → s < end → s < end' → exceeds (read found s) (read wide s) ≡ exceeds v w
+exceeds-run found wide slot end end' s v w until until' is is' above below below' =
+    let v_is : read found s ≡ v = same-read found slot end s v until is above below in
+    let w_is : read wide s ≡ w = same-read wide slot end' s w until' is' above below' in
     λ i. exceeds (v_is i) (w_is i)
 
 pub excess-here : (p : ℕ) (found wide : Folds) (s : ℕ) → ((k : ℕ) → k < s → exceeds (found k) (wide k) ≡ false) → s < p → exceeds (found s) (wide s) ≡ true → Some s ≡ first_excess p found wide

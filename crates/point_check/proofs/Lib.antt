@@ -1,6 +1,7 @@
 pub mod Firsts
 pub mod ReadSlots
 pub mod Found
+pub mod Where
 pub mod Exceeded
 pub mod Steady
 pub mod Near

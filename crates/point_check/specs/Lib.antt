@@ -1,4 +1,5 @@
 pub mod Window
+pub mod Next
 pub mod Point
 pub mod Folds
 pub mod Assertion

@@ -46,10 +46,12 @@ fn first_excess<W: CyclicWave<Item = Value>>(found: &W, wide: &W) -> Option<u16>
     ensures first { result ≡ excess (length (W.cells found.now)) (read (W.cells found.now)) (read (W.cells wide.now)) }
     ensures within { IfSome result (λ slot. slot < length (W.cells found.now)) }
 {
-    for slot in 0..found.period() {
+    let mut slot = 0;
+    'changes: while slot < found.period() {
         if exceeds(found.at(slot), wide.at(slot)) {
             return Some(slot);
         }
+        slot = found.same_until(slot).min(wide.same_until(slot));
     }
     None
 }

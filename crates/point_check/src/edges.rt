@@ -3,14 +3,15 @@
 ghost use Rattle.std.specs.Prelude.{◌≡◌, ◌+◌, ◌*◌, ◌^◌, ◌<◌, ◌≤◌, IfSome, length};
 ghost use Rattle.step_values.specs.Steps.{has};
 ghost use Rattle.fixpoint_engine.specs.Pins.{read};
-ghost use Rattle.point_check.specs.Window.{first_mover, kind_at as kind_of_place, places, slot_at as slot_of_place, window_fault as fault_of_window};
-ghost use Rattle.point_check.specs.Point.{edge_fault as fault_of_edge, falls_somewhere as falls, first_fault as fault_of_edges, first_low as low_after, high_window as window_of_rise, last_fall as fall_before, window_of as window_by_kind};
+ghost use Rattle.point_check.specs.Window.{kind_at as kind_of_place, slot_at as slot_of_place, window_fault as fault_of_window};
+ghost use Rattle.point_check.specs.Point.{edge_fault as fault_of_edge, falls_somewhere as falls, first_fault as fault_of_edges, first_low as low_after, high_window as window_of_rise, last_fall as fall_before, window_of as window_by_kind, all_round as window_all_round};
 ghost use Rattle.point_check.specs.Folds.{WindowFits};
+ghost use Rattle.point_check.specs.Next.{IsNextEdge};
 
 use crate::window::Window;
 use flat_circuit::{Fault, Kind, PointKind};
 use step_values::{Step, Value};
-use wave_core::{Cell, CyclicWave};
+use wave_core::{Cell, CyclicWave, first_where};
 
 /// The slot at a place of the window of an edge: place 0 is `setup` slots before the slot behind the
 /// edge, and the slots go round the period.
@@ -39,23 +40,7 @@ fn kind_at(window: Window, place: u16) -> PointKind
     }
 }
 
-/// The first place of an edge's window at which the input may change.
-fn first_mover<W: CyclicWave<Item = Value>>(input: &W, window: Window, edge: u16) -> Option<u16>
-    requires window { WindowFits (length (W.cells input.now)) window }
-    requires edge { edge < length (W.cells input.now) }
-    ensures first { result ≡ first_mover (length (W.cells input.now)) (read (W.cells input.now)) window edge }
-    ensures within { IfSome result (λ place. place < places window) }
-{
-    let period = input.period();
-    for place in 0..window.setup + window.high + window.hold {
-        if !input.at(slot_at(period, window, edge, place)).quiet() {
-            return Some(place);
-        }
-    }
-    None
-}
-
-/// The fault of an edge that has this window.
+/// The fault of an edge that has this window: of the first place of it at which the input may change.
 fn window_fault<W: CyclicWave<Item = Value>>(
     input: &W,
     instance: u32,
@@ -66,10 +51,13 @@ fn window_fault<W: CyclicWave<Item = Value>>(
     requires edge { edge < length (W.cells input.now) }
     ensures { result ≡ fault_of_window (length (W.cells input.now)) instance (read (W.cells input.now)) edge (Some window) }
 {
-    match first_mover(input, window, edge) {
+    let period = input.period();
+    let from = slot_at(period, window, edge, 0);
+    let count = window.setup + window.high + window.hold;
+    match first_where(input, from, count, |value| !value.quiet()) {
         None => None,
         Some(place) => {
-            let slot = slot_at(input.period(), window, edge, place);
+            let slot = slot_at(period, window, edge, place);
             Some(Fault::Point {
                 kind: kind_at(window, place),
                 instance,
@@ -88,12 +76,12 @@ fn first_low<W: CyclicWave<Item = Value>>(clock: &W, edge: u16) -> Option<u16>
     ensures within { IfSome result (λ low. low ≤ length (W.cells clock.now)) }
 {
     let period = clock.period();
-    for low in 1..period + 1 {
-        if !clock.at((edge + low) % period).permits(Step::HIGH) {
-            return Some(low);
-        }
+    match first_where(clock, (edge + 1) % period, period, |value| {
+        !value.permits(Step::HIGH)
+    }) {
+        None => None,
+        Some(place) => Some(place + 1),
     }
-    None
 }
 
 /// After how many slots, 1 to `low`, the clock may last fall.
@@ -104,25 +92,34 @@ fn last_fall<W: CyclicWave<Item = Value>>(clock: &W, edge: u16, low: u16) -> Opt
     ensures within { IfSome result (λ fall. fall ≤ low) }
 {
     let period = clock.period();
-    for sooner in 0..low {
-        let fall = low - sooner;
-        if clock.at((edge + fall) % period).may_fall() {
-            return Some(fall);
+    let mut last = None;
+    let mut fall = 1;
+    'runs: while fall <= low {
+        let slot = (edge + fall) % period;
+        let next = (fall + (clock.same_until(slot) - slot)).min(low + 1);
+        if clock.at(slot).may_fall() {
+            last = Some(next - 1);
         }
+        fall = next;
     }
-    None
+    last
 }
 
-/// Whether the clock may fall in some slot.
-fn falls_somewhere<W: CyclicWave<Item = Value>>(clock: &W) -> bool
-    ensures { result ≡ falls (length (W.cells clock.now)) (read (W.cells clock.now)) }
+/// The window where the clock may stay at 1 for ever: the whole period, or none where it can not fall.
+fn all_round<W: CyclicWave<Item = Value>>(clock: &W, limits: (u16, u16)) -> Option<Window>
+    requires { limits.0 + limits.1 ≤ length (W.cells clock.now) }
+    ensures window { result ≡ window_all_round (length (W.cells clock.now)) limits (falls (length (W.cells clock.now)) (read (W.cells clock.now))) }
+    ensures fits { IfSome result (WindowFits (length (W.cells clock.now))) }
 {
-    for slot in 0..clock.period() {
-        if clock.at(slot).may_fall() {
-            return true;
-        }
+    let period = clock.period();
+    match first_where(clock, 0, period, |value| value.may_fall()) {
+        None => None,
+        Some(_fall) => Some(Window {
+            setup: limits.0,
+            high: period,
+            hold: 0,
+        }),
     }
-    false
 }
 
 /// From before a rise to after the last fall behind it; the whole period where the clock may stay at 1
@@ -146,16 +143,7 @@ fn high_window<W: CyclicWave<Item = Value>>(
             }),
             None => None,
         },
-        None => {
-            if !falls_somewhere(clock) {
-                return None;
-            }
-            Some(Window {
-                setup: limits.0,
-                high: clock.period(),
-                hold: 0,
-            })
-        }
+        None => all_round(clock, limits),
     }
 }
 
@@ -205,6 +193,21 @@ fn edge_fault<W: CyclicWave<Item = Value>>(
     }
 }
 
+/// The first slot from this one on in which the clock may rise, or the period where there is none.
+fn next_edge<W: CyclicWave<Item = Value>>(clock: &W, from: u16) -> u16
+    requires { from ≤ length (W.cells clock.now) }
+    ensures { IsNextEdge (read (W.cells clock.now)) from (length (W.cells clock.now)) result }
+{
+    let period = clock.period();
+    if from == period {
+        return period;
+    }
+    match first_where(clock, from, period - from, |value| value.may_rise()) {
+        None => period,
+        Some(place) => from + place,
+    }
+}
+
 /// The fault of a checker by the folds of its clock and its input: that of the first edge that has one.
 pub fn first_fault<W: CyclicWave<Item = Value>>(
     kind: Kind,
@@ -217,10 +220,12 @@ pub fn first_fault<W: CyclicWave<Item = Value>>(
     requires periods { length (W.cells input.now) ≡ length (W.cells clock.now) }
     ensures { result ≡ fault_of_edges kind (length (W.cells clock.now)) instance (read (W.cells clock.now)) (read (W.cells input.now)) limits }
 {
-    for edge in 0..clock.period() {
+    let mut edge = 0;
+    'edges: while edge < clock.period() {
         if let Some(fault) = edge_fault(kind, instance, clock, input, limits, edge) {
             return Some(fault);
         }
+        edge = next_edge(clock, edge + 1);
     }
     None
 }

@@ -1,9 +1,11 @@
 -- Where the least width of a pulse is found, and why none is.
-use Rattle.std.proofs.Common.{inl, inr, ◌⊎◌, ◌≡◌, ℕ, zero, suc, ◌+◌, ◌-◌, ◌<◌, ◌≤◌, Bool, true, false, ◌&&◌, cond, refl, sym, ap, ◌∙◌, arith, Option, Some, None}
+use Rattle.std.proofs.Common.{inl, inr, ◌⊎◌, ◌≡◌, ℕ, zero, suc, ◌+◌, ◌-◌, ◌<◌, ◌≤◌, Bool, true, false, ◌&&◌, cond, refl, sym, ap, subst, ◌∙◌, arith, Option, Some, None}
 use Rattle.std.specs.Option.{option_map}
-use Rattle.std.proofs.lemmas.Bool.{cases_lt}
+use Rattle.std.proofs.lemmas.Bool.{cases_lt, cases_eq}
 use Rattle.step_values.specs.declared.value.Value.{Value}
 use Rattle.gate_eval.proofs.Found.{first_some-from, first_some-beyond}
+use Rattle.fixpoint_engine.proofs.ReadSlots.{below_run}
+use Rattle.pulse_check.specs.Next.{IsNextStart}
 use Rattle.pulse_check.specs.Pulse.{Slots, may_begin, may_end, may_last, lasts_for, may_be_wide, least_width, narrow_at, first_narrow}
 
 both-true : (a b : Bool) → a ≡ true → b ≡ true → (a && b) ≡ true
@@ -113,9 +115,40 @@ narrow-wide level wave limit a least = by (may_begin level (wave a))
     by true = ap (option_map {U = ℕ × ℕ} (λ w. (a, w))) least
     by false = refl
 
-pub first-here : (period : ℕ) (level : Bool) (wave : Slots) (limit a width : ℕ) → ((k : ℕ) → k < a → narrow_at level wave limit k ≡ None) → a < period → narrow_at level wave limit a ≡ Some (a, width) →
-    first_narrow period level wave limit ≡ Some (a, width)
-first-here period level wave limit a width before below here = first_some-from (narrow_at level wave limit) period 0 a (a, width) (λ k above less. before k less) (omega arith) (omega arith) here
+pub first-at : (period : ℕ) (level : Bool) (wave : Slots) (limit a : ℕ) (found : ℕ × ℕ) → ((k : ℕ) → k < a → narrow_at level wave limit k ≡ None) → a < period → narrow_at level wave limit a ≡ Some found →
+    first_narrow period level wave limit ≡ Some found
+first-at period level wave limit a found before below here = first_some-from (narrow_at level wave limit) period 0 a found (λ k above less. before k less) (omega arith) (omega arith) here
 
 pub first-nowhere : (period : ℕ) (level : Bool) (wave : Slots) (limit : ℕ) → ((k : ℕ) → k < period → narrow_at level wave limit k ≡ None) → first_narrow period level wave limit ≡ None
 first-nowhere period level wave limit none = first_some-beyond (narrow_at level wave limit) period 0 (λ k above below. none k (omega arith))
+
+-- ---- the next slot in which one may begin
+
+pub none-yet : (level : Bool) (wave : Slots) (from p : ℕ) → from ≤ p → IsNextStart level wave from p from
+none-yet level wave from p most = record { after = omega arith; within = most; none = λ s above below. absurd (omega (arith, above, below)) }
+
+pub none-to : (level : Bool) (wave : Slots) (from p slot end : ℕ) → IsNextStart level wave from p slot → slot ≤ end → end ≤ p → ((s : ℕ) → slot ≤ s → s < end → may_begin level (wave s) ≡ false) →
+    IsNextStart level wave from p end
+none-to level wave from p slot end so_far more within run = record {
+  after = let after = so_far.after in omega (arith, after, more);
+  within = within;
+  none = λ s above below. by s above below (cases_lt s slot);
+}
+  where
+    by : (s : ℕ) → from ≤ s → s < end → (s < slot) ⊎ (slot ≤ s) → may_begin level (wave s) ≡ false
+    by s above below (inl less) = so_far.none s above less
+    by s above below (inr most) = run s most below
+
+pub none-left : (level : Bool) (wave : Slots) (from p slot period : ℕ) → IsNextStart level wave from p slot → period ≡ p → period ≤ slot → IsNextStart level wave from p period
+none-left level wave from p slot period so_far same past =
+    let within = so_far.within in
+    let e : slot ≡ period = omega (arith, within, same, past) in
+    subst (λ (z : ℕ). IsNextStart level wave from p z) e so_far
+
+pub past-starts : (level : Bool) (wave : Slots) (limit p start next : ℕ) → ((s : ℕ) → s < start → narrow_at level wave limit s ≡ None) → narrow_at level wave limit start ≡ None →
+    IsNextStart level wave (start + 1) p next → (s : ℕ) → s < next → narrow_at level wave limit s ≡ None
+past-starts level wave limit p start next before here to =
+    below_run (λ s. narrow_at level wave limit s ≡ None) start next before (λ s above below. elim (cases_eq start s) [
+      | inl e ↦ subst (λ (z : ℕ). narrow_at level wave limit z ≡ None) e here
+      | inr ne ↦ narrow-not level wave limit s (to.none s (omega arith) below)
+    ])

@@ -1,4 +1,5 @@
 pub mod Pulse
+pub mod Next
 pub mod Faults
 pub mod Break
 pub mod Sound

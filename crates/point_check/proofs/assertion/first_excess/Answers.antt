@@ -1,25 +1,28 @@
-use Rattle.std.proofs.Common.{length, arith, sym, ◌∙◌, below_more}
+use Rattle.std.proofs.Common.{◌≡◌, min, length, arith, sym, ◌∙◌, false}
 use Rattle.fixpoint_engine.specs.Pins.{read}
-use Rattle.point_check.proofs.Exceeded.{excess-here, excess-nowhere, exceeds-read}
+use Rattle.fixpoint_engine.proofs.ReadSlots.{below_run}
+use Rattle.point_check.specs.Assertion.{exceeds}
+use Rattle.point_check.proofs.Exceeded.{excess-here, excess-nowhere, exceeds-read, exceeds-run}
 use Rattle.point_check.proofs.assertion.first_excess.Goals as goal
 
 pub returns-then-exceeds-clause-first : goal.returns-then-exceeds-clause-first
 returns-then-exceeds-clause-first g c =
     let found = g.W.CyclicWave.cells c.args.found.now in
     let wide = g.W.CyclicWave.cells c.args.wide.now in
-    let p = c.period-slot-end.ensures in
-    excess-here (length found) (read found) (read wide) c.loop-slot.slot c.loop-slot.invariant (omega (arith, p))
-    (exceeds-read found wide c.loop-slot.slot c.at.result c.at-in-loop-slot.result (omega (arith, p)) (omega (arith, p)) c.at.ensures c.at-in-loop-slot.ensures ∙ sym c.exceeds.ensures ∙ c.if-exceeds.true)
+    let p = c.period.ensures in
+    excess-here (length found) (read found) (read wide) c.changes.slot c.changes.invariant (omega (arith, p))
+    (exceeds-read found wide c.changes.slot c.at.result c.at-in-changes.result (omega (arith, p)) (omega (arith, p)) c.at.ensures c.at-in-changes.ensures ∙ sym c.exceeds.ensures ∙ c.if-exceeds.true)
 
-pub loop-slot-preserved : goal.loop-slot-preserved
-loop-slot-preserved g c =
+pub changes-preserved : goal.changes-preserved
+changes-preserved g c =
     let found = g.W.CyclicWave.cells c.args.found.now in
     let wide = g.W.CyclicWave.cells c.args.wide.now in
-    let p = c.period-slot-end.ensures in
-    below_more _ _ c.loop-slot.invariant
-    (exceeds-read found wide c.loop-slot.slot c.at.result c.at-in-loop-slot.result (omega (arith, p)) (omega (arith, p)) c.at.ensures c.at-in-loop-slot.ensures ∙ sym c.exceeds.ensures ∙ c.if-exceeds.false)
+    let least : c.min-slot.result ≡ min c.same_until.result c.same_until-in-changes.result = c.min-slot.ensures in
+    below_run (λ k. exceeds (read found k) (read wide k) ≡ false) c.changes.slot _ c.changes.invariant
+    (λ k above below. exceeds-run found wide c.changes.slot c.same_until.result c.same_until-in-changes.result k c.at.result c.at-in-changes.result c.same_until.ensures c.same_until-in-changes.ensures
+    c.at.ensures c.at-in-changes.ensures above (omega (arith, below, least)) (omega (arith, below, least)) ∙ sym c.exceeds.ensures ∙ c.if-exceeds.false)
 
 pub returns-clause-first : goal.returns-clause-first
 returns-clause-first g c =
-    let p = c.period-slot-end.ensures in
-    excess-nowhere (length (g.W.CyclicWave.cells c.args.found.now)) (read (g.W.CyclicWave.cells c.args.found.now)) (read (g.W.CyclicWave.cells c.args.wide.now)) (λ k below. c.loop-slot.invariant k (omega (arith, p)))
+    let p = c.period.ensures in
+    excess-nowhere (length (g.W.CyclicWave.cells c.args.found.now)) (read (g.W.CyclicWave.cells c.args.found.now)) (read (g.W.CyclicWave.cells c.args.wide.now)) (λ k below. c.changes.invariant k (omega (arith, p)))

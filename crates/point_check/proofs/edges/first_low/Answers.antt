@@ -1,29 +1,14 @@
-use Rattle.std.proofs.Common.{◌+◌, ◌≤◌, length, arith, sym, ◌∙◌, below_more}
-use Rattle.fixpoint_engine.specs.Pins.{read}
-use Rattle.fixpoint_engine.proofs.ReadSlots.{read-mod}
-use Rattle.point_check.proofs.Found.{stays_high, gets_low, first_low-here, first_low-nowhere}
+use Rattle.std.proofs.Common.{rules, arith, refl}
+use Rattle.point_check.proofs.Where.{never-low, low-where}
 use Rattle.point_check.proofs.edges.first_low.Goals as goal
 
-pub returns-then-not-permits-clause-first : goal.returns-then-not-permits-clause-first
-returns-then-not-permits-clause-first g c =
-    let cells = g.W.CyclicWave.cells c.args.clock.now in
-    let p = c.period-period.ensures in
-    let one : 1 ≤ c.loop-low.low = omega arith in
-    first_low-here (length cells) (read cells) c.args.edge c.loop-low.low (λ k above below. c.loop-low.invariant k below above) one (omega (arith, p))
-    (gets_low (read cells) c.args.edge c.loop-low.low c.at.result
-    (read-mod cells c.period-period.result (c.args.edge + c.loop-low.low) c.at.result p (omega arith) c.at.ensures)
-    (sym c.permits.ensures ∙ c.if-not-permits.true))
+pub returns-in-None-clause-first : goal.returns-in-None-clause-first
+returns-in-None-clause-first g c =
+    never-low (g.W.CyclicWave.cells c.args.clock.now) c.period-period.result c.args.edge _ c.period-period.ensures refl
+    (λ k below. let said = c.in-None.ensures k (omega arith) below in search rules)
 
-pub loop-low-preserved : goal.loop-low-preserved
-loop-low-preserved g c =
-    let cells = g.W.CyclicWave.cells c.args.clock.now in
-    below_more _ _ c.loop-low.invariant
-    (λ one. stays_high (read cells) c.args.edge c.loop-low.low c.at.result
-    (read-mod cells c.period-period.result (c.args.edge + c.loop-low.low) c.at.result c.period-period.ensures (omega arith) c.at.ensures)
-    (sym c.permits.ensures ∙ c.if-not-permits.false))
-
-pub returns-clause-first : goal.returns-clause-first
-returns-clause-first g c =
-    let cells = g.W.CyclicWave.cells c.args.clock.now in
-    let p = c.period-period.ensures in
-    first_low-nowhere (length cells) (read cells) c.args.edge (λ k above below. c.loop-low.invariant k (omega (arith, p)) above)
+pub returns-in-Some-clause-first : goal.returns-in-Some-clause-first
+returns-in-Some-clause-first g c =
+    let found = c.in-Some.ensures in
+    low-where (g.W.CyclicWave.cells c.args.clock.now) c.period-period.result c.args.edge _ c.period-period.ensures refl c.in-Some.place found.within
+    (λ k below. let said = found.before k (omega arith) below in search rules) (let said = found.passes in search rules)

@@ -1,34 +1,52 @@
-use Rattle.std.proofs.Common.{◌≡◌, ℕ, ◌+◌, ◌-◌, true, false, arith, sym, ap, subst, ◌∙◌, below_more}
+use Rattle.std.proofs.Common.{◌≡◌, ℕ, ◌+◌, ◌-◌, ◌%◌, ◌≤◌, ◌<◌, min, true, false, arith, refl, sym, ap, subst, ◌∙◌, Option}
+use Rattle.std.specs.Prelude.{IfSome}
 use Rattle.step_values.specs.declared.value.Value.{Value}
 use Rattle.step_values.specs.Steps.{has}
 use Rattle.fixpoint_engine.specs.Pins.{read}
-use Rattle.fixpoint_engine.proofs.ReadSlots.{read-mod}
-use Rattle.point_check.proofs.Found.{last_fall-here, last_fall-nowhere}
+use Rattle.fixpoint_engine.proofs.ReadSlots.{same-round}
+use Rattle.point_check.proofs.Where.{last_to-run, last_to-small}
 use Rattle.point_check.proofs.edges.last_fall.Goals as goal
 
-pub returns-then-may_fall-clause-last : goal.returns-then-may_fall-clause-last
-returns-then-may_fall-clause-last g c =
+pub runs-preserved-then-may_fall : goal.runs-preserved-then-may_fall
+runs-preserved-then-may_fall g c =
     let cells = g.W.CyclicWave.cells c.args.clock.now in
-    let fall : ℕ = c.args.low - c.loop-sooner.sooner in
-    let before = c.loop-sooner-test.true in
-    last_fall-here (read cells) c.args.edge c.args.low (c.args.low - c.loop-sooner.sooner) (omega arith) (omega arith)
-    (λ k above most. let there : c.args.low - (c.args.low - k) ≡ k = omega arith in
-    subst (λ (z : ℕ). has (read cells (c.args.edge + z)) true false ≡ false) there (c.loop-sooner.invariant (c.args.low - k) (omega arith)))
-    (ap (λ (v : Value). has v true false)
-    (read-mod cells c.period-period.result (c.args.edge + (c.args.low - c.loop-sooner.sooner)) c.at.result c.period-period.ensures (omega arith) c.at.ensures)
-    ∙ sym c.may_fall.ensures ∙ c.if-may_fall.true)
+    let p = c.period-period.ensures in
+    let slot : ℕ = (c.args.edge + c.runs.fall) % c.period-period.result in
+    let next : c.min-next.result ≡ min (c.runs.fall + (c.same_until.result - slot)) (c.args.low + 1) = c.min-next.ensures in
+    let far : slot < c.same_until.result = c.same_until.ensures.behind in
+    let begun = c.runs.invariant.begun in
+    record {
+      begun = omega (arith, next, begun, far);
+      within = omega (arith, next);
+      last = sym (last_to-run (λ k. has (read cells (c.args.edge + k)) true false) (c.runs.fall - 1) (c.min-next.result - 1) true (omega (arith, next, begun, far))
+          (λ k above most. ap (λ (v : Value). has v true false)
+          (same-round cells c.period-period.result (c.args.edge + c.runs.fall) _ c.same_until.result (c.args.edge + k) c.at.result p (omega arith) refl c.same_until.ensures c.at.ensures
+          (omega (arith, above, begun)) (omega (arith, most, next, begun, far)))
+          ∙ sym c.may_fall.ensures ∙ c.if-may_fall.true));
+    }
 
-pub loop-sooner-preserved : goal.loop-sooner-preserved
-loop-sooner-preserved g c =
+pub runs-preserved : goal.runs-preserved
+runs-preserved g c =
     let cells = g.W.CyclicWave.cells c.args.clock.now in
-    below_more _ _ c.loop-sooner.invariant
-    (ap (λ (v : Value). has v true false)
-    (read-mod cells c.period-period.result (c.args.edge + (c.args.low - c.loop-sooner.sooner)) c.at.result c.period-period.ensures (omega arith) c.at.ensures)
-    ∙ sym c.may_fall.ensures ∙ c.if-may_fall.false)
+    let p = c.period-period.ensures in
+    let slot : ℕ = (c.args.edge + c.runs.fall) % c.period-period.result in
+    let next : c.min-next.result ≡ min (c.runs.fall + (c.same_until.result - slot)) (c.args.low + 1) = c.min-next.ensures in
+    let far : slot < c.same_until.result = c.same_until.ensures.behind in
+    let begun = c.runs.invariant.begun in
+    record {
+      begun = omega (arith, next, begun, far);
+      within = omega (arith, next);
+      last = c.runs.invariant.last
+          ∙ sym (last_to-run (λ k. has (read cells (c.args.edge + k)) true false) (c.runs.fall - 1) (c.min-next.result - 1) false (omega (arith, next, begun, far))
+          (λ k above most. ap (λ (v : Value). has v true false)
+          (same-round cells c.period-period.result (c.args.edge + c.runs.fall) _ c.same_until.result (c.args.edge + k) c.at.result p (omega arith) refl c.same_until.ensures c.at.ensures
+          (omega (arith, above, begun)) (omega (arith, most, next, begun, far)))
+          ∙ sym c.may_fall.ensures ∙ c.if-may_fall.false));
+    }
 
-pub returns-clause-last : goal.returns-clause-last
-returns-clause-last g c =
+pub returns-clause-within : goal.returns-clause-within
+returns-clause-within g c =
     let cells = g.W.CyclicWave.cells c.args.clock.now in
-    last_fall-nowhere (read cells) c.args.edge c.args.low
-    (λ k above most. let there : c.args.low - (c.args.low - k) ≡ k = omega arith in
-    subst (λ (z : ℕ). has (read cells (c.args.edge + z)) true false ≡ false) there (c.loop-sooner.invariant (c.args.low - k) (omega arith)))
+    let within = c.runs.invariant.within in
+    subst (λ (o : Option ℕ). IfSome o (λ fall. fall ≤ c.args.low)) (sym c.runs.invariant.last)
+    (last_to-small (λ k. has (read cells (c.args.edge + k)) true false) (c.runs.fall - 1) c.args.low (omega (arith, within)))

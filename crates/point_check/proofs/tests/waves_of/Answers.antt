@@ -6,7 +6,7 @@ use Rattle.step_values.specs.declared.value.Value.{Value}
 use Rattle.skew_algebra.specs.Wave.{Wave, skewed}
 use Rattle.flat_circuit.specs.Circuit.{Circuit}
 use Rattle.fixpoint_engine.specs.Settled.{FitWaves, waves_of}
-use Rattle.point_check.proofs.tests.waves_by.Goals as goal
+use Rattle.point_check.proofs.tests.waves_of.Goals as goal
 
 long-at : {A : Type 0} (f : A → Wave Value) (p : ℕ) (xs : List A) (i : ℕ) → All (λ x. length (f x).cells ≡ p) xs → i < length xs → length (waves_of (map f xs) i).cells ≡ p
 long-at f p [] i each below = absurd (omega arith)
@@ -22,5 +22,5 @@ fit-all f c xs count each = record {
 pub returns : goal.returns
 returns g c =
     let count = c.net_count-net-end.ensures in
-    let all : c.loop-net.net ≡ length c.args.c.now.nets = omega (arith, count) in
+    let all : c.loop-net._net ≡ length c.args.c.now.nets = omega (arith, count) in
     fit-all (λ s. skewed (g.W.CyclicWave.cells s.wave) s.skew) c.args.c.now c.loop-net.waves (c.loop-net.invariant.count ∙ all) c.loop-net.invariant.each

@@ -1,0 +1,21 @@
+use Rattle.std.proofs.Common.{◌≤◌, length, arith, refl, sym, ap, ◌∙◌}
+use Rattle.fixpoint_engine.specs.Pins.{read}
+use Rattle.fixpoint_engine.proofs.ReadSlots.{same-read}
+use Rattle.pulse_check.specs.Pulse.{may_begin}
+use Rattle.pulse_check.proofs.Narrow.{none-to, none-yet, none-left}
+use Rattle.pulse_check.proofs.pulse.next_start.Goals as goal
+
+pub runs-init : goal.runs-init
+runs-init g c = none-yet c.args.level (read (g.W.CyclicWave.cells c.args.wave.now)) c.args.from (length (g.W.CyclicWave.cells c.args.wave.now)) c.requires
+
+pub runs-preserved : goal.runs-preserved
+runs-preserved g c =
+    let cells = g.W.CyclicWave.cells c.args.wave.now in
+    let until = c.same_until-slot.ensures in
+    none-to c.args.level (read cells) c.args.from (length cells) c.runs.slot c.same_until-slot.result c.runs.invariant (let far = until.behind in omega (arith, far)) until.within
+    (λ s above below. ap (may_begin c.args.level) (same-read cells c.runs.slot c.same_until-slot.result s c.at.result until c.at.ensures above below) ∙ sym c.may_begin.ensures ∙ c.if-may_begin.false)
+
+pub returns : goal.returns
+returns g c =
+    let cells = g.W.CyclicWave.cells c.args.wave.now in
+    none-left c.args.level (read cells) c.args.from (length cells) c.runs.slot c.period-period.result c.runs.invariant c.period-period.ensures (let p = c.period-period.ensures in omega arith)
