@@ -13,7 +13,7 @@ use Rattle.scald_tool.specs.Drawn.{IsLoopless}
 use Rattle.scald_tool.specs.Promise.{asks_verify, has_report, may_give, speaks, unlimited}
 
 -- what speaks and is not done with a text may come of `verify`
-verify-may : (mode : Mode) (rounds : Option ℕ) (o : Outcome) → speaks o ≡ true → o ≢ Done → may_give (Verify mode rounds) o ≡ true
+pub verify-may : (mode : Mode) (rounds : Option ℕ) (o : Outcome) → speaks o ≡ true → o ≢ Done → may_give (Verify mode rounds) o ≡ true
 verify-may mode rounds Clean spoken other = refl
 verify-may mode rounds (Faulty n) spoken other = refl
 verify-may mode rounds Done spoken other = absurd (other refl)
@@ -24,12 +24,6 @@ verify-may mode rounds TooLong spoken other = absurd (cc)
 verify-may mode rounds ReadFault spoken other = absurd (cc)
 verify-may mode rounds WriteFault spoken other = absurd (cc)
 verify-may mode rounds NoMemory spoken other = absurd (cc)
-
-pub verify_gives : (command : Command) (mode : Mode) (rounds : Option ℕ) (made : Result Reply OutOfMemory) → command ≡ Verify mode rounds → IfOk made (λ reply. speaks reply.outcome ≡ true) →
-    IfOk made (λ reply. reply.outcome ≢ Done) → IfOk made (λ reply. may_give command reply.outcome ≡ true)
-verify_gives command mode rounds (Ok reply) form spoken other =
-    subst (λ (k : Command). may_give k reply.outcome ≡ true) (sym form) (verify-may mode rounds reply.outcome spoken other)
-verify_gives command mode rounds (Err e) form spoken other = tt
 
 pub gives_by : (command form : Command) (made : Result Reply OutOfMemory) → command ≡ form → IfOk made (λ reply. may_give form reply.outcome ≡ true) → IfOk made (λ reply. may_give command reply.outcome ≡ true)
 gives_by command form made is given = subst (λ (k : Command). IfOk made (λ reply. may_give k reply.outcome ≡ true)) (sym is) given

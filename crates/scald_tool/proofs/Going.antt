@@ -9,7 +9,7 @@ use Rattle.fixpoint_engine.specs.End.{EndsFor}
 use Rattle.fixpoint_engine.specs.declared.rounds.EngineEnd.{EngineEnd}
 use Rattle.fixpoint_engine.specs.declared.rounds.EngineEnd.TheVariants.{Unsettled, NoMemory}
 use Rattle.case_analysis.specs.Base.{base_round}
-use Rattle.case_analysis.specs.Case.{IsCone, EndsInCone, case_round}
+use Rattle.case_analysis.specs.Case.{IsCone, EndsInCone, case_at, case_round}
 use Rattle.listing.specs.declared.case.Mode.{Mode}
 use Rattle.scald_tool.specs.Case.{Listed, numbered, NeverRests, StopsAt}
 use Rattle.scald_tool.specs.Reported.{Tells, EndsCase, EndsCases}
@@ -22,40 +22,38 @@ case-ended c limit base number values before same NoMemory has ends = tt
 case-ended c limit base number values before same (Unsettled place round) has ends =
     (case-never c limit base number place values before same has (λ cone is. (ends cone is).0), (ends has.cone has.is).1)
 
--- So many of the cases are told, the last of which has this number.
-pub record Going (mode : Mode) (c : Circuit) (limit base : ℕ) (cases : List (List CaseValue)) (k number : ℕ) (bytes : List ℕ) (total : ℕ) : Type 0 where
+-- So many of the cases are told.
+pub record Going (mode : Mode) (c : Circuit) (limit base : ℕ) (cases : List (List CaseValue)) (k : ℕ) (bytes : List ℕ) (total : ℕ) : Type 0 where
   pub told : Told mode c limit base (numbered 1 (take k cases)) bytes total
-  pub count : number ≡ k
   pub room : total ≤ k * 458752
 
-module _ (mode : Mode) (c : Circuit) (limit base : ℕ) (cases : List (List CaseValue)) (k number : ℕ) (bytes : List ℕ) (total : ℕ) (v : List CaseValue)
-    (inside : k < length cases) (is : v ≡ get_or cases k v) (going : Going mode c limit base cases k number bytes total) where
+module _ (mode : Mode) (c : Circuit) (limit base : ℕ) (cases : List (List CaseValue)) (k : ℕ) (bytes : List ℕ) (total : ℕ)
+    (inside : k < length cases) (going : Going mode c limit base cases k bytes total) where
   abbrev here : Listed
-  here = record { number = number + 1; values = v }
+  here = record { number = k + 1; values = case_at cases k }
 
   -- its number is one more than those before it are
-  numbered-here : (ys : List (List CaseValue)) → numbered 1 (take k cases ++ v ∷ ys) ≡ numbered 1 (take k cases) ++ here ∷ numbered (number + 1 + 1) ys
+  numbered-here : (ys : List (List CaseValue)) → numbered 1 (take k cases ++ case_at cases k ∷ ys) ≡ numbered 1 (take k cases) ++ here ∷ numbered (k + 1 + 1) ys
   numbered-here ys =
       let long : length (take k cases) ≡ k = length-take-le k cases (omega (arith, inside)) in
-      let count = going.count in
-      let same : 1 + length (take k cases) ≡ number + 1 = omega (arith, long, count) in
-      numbered-split 1 (take k cases) v ys ∙ ap (λ (n : ℕ). let l : Listed = record { number = n; values = v } in numbered 1 (take k cases) ++ l ∷ numbered (n + 1) ys) same
+      let same : 1 + length (take k cases) ≡ k + 1 = omega (arith, long) in
+      numbered-split 1 (take k cases) (case_at cases k) ys
+      ∙ ap (λ (n : ℕ). let l : Listed = record { number = n; values = case_at cases k } in numbered 1 (take k cases) ++ l ∷ numbered (n + 1) ys) same
 
-  pub going-more : (after : List ℕ) (now : ℕ) → Tells mode c limit base here bytes after total now → now ≤ total + 458752 → Going mode c limit base cases (k + 1) (number + 1) after now
+  pub going-more : (after : List ℕ) (now : ℕ) → Tells mode c limit base here bytes after total now → now ≤ total + 458752 → Going mode c limit base cases (k + 1) after now
   going-more after now tells few = record {
     told =
-        let next : take (k + 1) cases ≡ take k cases ++ v ∷ [] = take_more cases k v inside ∙ ap (λ (x : List CaseValue). take k cases ++ x ∷ []) (sym is) in
+        let next : take (k + 1) cases ≡ take k cases ++ case_at cases k ∷ [] = take_more cases k [] inside in
         subst (λ (ls : List Listed). Told mode c limit base ls after now) (sym (ap (numbered 1) next ∙ numbered-here []))
         (told-more mode c limit base (numbered 1 (take k cases)) bytes after total now here going.told tells);
-    count = let count = going.count in omega (arith, count);
     room = let room = going.room in omega (arith, room, few);
   }
 
   pub going-stops : (place : ℕ) → NeverRests c limit base here place → StopsAt c limit base (numbered 1 cases) place
   going-stops place never =
-      let whole : take k cases ++ v ∷ drop (k + 1) cases ≡ cases =
-      ap (λ (x : List CaseValue). take k cases ++ x ∷ drop (k + 1) cases) is ∙ ap (λ (xs : List (List CaseValue)). take k cases ++ xs) (sym (drop_more cases k v inside)) ∙ take-append-drop k cases in
-      told-stops mode c limit base (numbered 1 (take k cases)) (numbered 1 cases) here (numbered (number + 1 + 1) (drop (k + 1) cases)) bytes total place going.told
+      let whole : take k cases ++ case_at cases k ∷ drop (k + 1) cases ≡ cases =
+      ap (λ (xs : List (List CaseValue)). take k cases ++ xs) (sym (drop_more cases k [] inside)) ∙ take-append-drop k cases in
+      told-stops mode c limit base (numbered 1 (take k cases)) (numbered 1 cases) here (numbered (k + 1 + 1) (drop (k + 1) cases)) bytes total place going.told
       (sym (numbered-here (drop (k + 1) cases)) ∙ ap (numbered 1) whole) never
 
   pub going-ended : (end : EngineEnd) → EndsCase c limit base here end → EndsCases c limit base (numbered 1 cases) end

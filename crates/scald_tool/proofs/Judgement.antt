@@ -159,7 +159,7 @@ one-judgement tell c values limit _ _ _ _ (case_unsettled base place rests stops
 
 -- ---- answers
 
-one-verified : (tell : Telling) (rounds : Option ℕ) (text : List ℕ) (o o' : Outcome) (bytes bytes' : List ℕ) →
+pub one-verified : (tell : Telling) (rounds : Option ℕ) (text : List ℕ) (o o' : Outcome) (bytes bytes' : List ℕ) →
     Evaluated tell rounds text o bytes → Evaluated tell rounds text o' bytes' → (o ≡ o') × (bytes ≡ bytes')
 one-verified tell rounds text _ _ _ _ (answer.refused r is) (answer.refused q is') =
     let same : r ≡ q = one-refusal text r q is is' in (rw same refl, rw same refl)

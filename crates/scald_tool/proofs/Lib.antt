@@ -9,7 +9,10 @@ pub mod Headline
 pub mod Telling
 pub mod Going
 pub mod Replies
+pub mod Subjects
 pub mod Given
+pub mod Verifying
 pub mod Told
+pub mod Finishing
 pub mod Ending
 pub mod Forming

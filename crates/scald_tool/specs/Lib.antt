@@ -2,10 +2,12 @@ pub mod Words
 pub mod Forms
 pub mod Drawn
 pub mod Case
+pub mod Subject
 pub mod Report
 pub mod Answer
 pub mod Status
 pub mod Promise
+pub mod Finished
 pub mod Laws
 pub mod Reported
 pub mod Ended

@@ -1,5 +1,5 @@
 -- What the whole call promises.
-use Rattle.std.specs.Prelude.{◌≡◌, ◌≢◌, ℕ, Bool, true, false, not, List, Option, Some, None, Result, Ok, Err}
+use Rattle.std.specs.Prelude.{◌≡◌, ◌≢◌, ℕ, Bool, true, false, not, List, ◌++◌, Option, Some, None, Result, Ok, Err}
 use Rattle.std.specs.List.{All, list_any}
 use Rattle.std.specs.Io.KnownBytes.{Appends}
 use Rattle.scald_base.specs.Device.{TakesFront}
@@ -15,6 +15,7 @@ use Rattle.point_check.specs.Faults.{is_of_instance, is_of_net}
 use Rattle.point_check.specs.Break.{BreaksInstance, BreaksNet}
 use Rattle.pulse_check.specs.Break.{BreaksPulse}
 use Rattle.pulse_check.specs.Sound.{is_of_pulse}
+use Rattle.listing.specs.declared.case.Mode.{Mode}
 use Rattle.design_gen.specs.Datapath.{datapath}
 use Rattle.scald_tool.specs.declared.outcome.Outcome.{Outcome}
 use Rattle.scald_tool.specs.declared.outcome.Outcome.TheVariants.{Clean, Faulty, Done, Refused, Unsettled, BadWords, TooLong, ReadFault, NoMemory}
@@ -23,7 +24,7 @@ use Rattle.scald_tool.specs.declared.words.Command.TheVariants.{Verify, Format, 
 use Rattle.scald_tool.specs.Words.{command_of, are_reading}
 use Rattle.scald_tool.specs.Drawn.{DrawsCircuit, IsLoopless}
 use Rattle.scald_tool.specs.Case.{Case, AreAtRest, listed_cases, printed_tick, faults}
-use Rattle.scald_tool.specs.Answer.{Answer}
+use Rattle.scald_tool.specs.Answer.{Answer, Verified}
 
 -- ---- the answer
 
@@ -46,6 +47,14 @@ pub record IsCutShort (words : List (List ℕ)) (text : List ℕ) (taken taken' 
   pub bytes : List ℕ
   pub is : Answer words text outcome bytes
   pub written : TakesFront taken taken' bytes
+
+-- The outcome is the one that `verify` has for the text, in this mode and with this limit, and behind what was there stand
+-- exactly its bytes.
+pub record IsVerified (mode : Mode) (rounds : Option ℕ) (text : List ℕ) (o : Outcome) (before after : List ℕ) : Type 0 where
+  pub bytes : List ℕ
+  pub is : Verified mode rounds text o bytes
+  pub only : (p : Outcome) (others : List ℕ) → Verified mode rounds text p others → (p ≡ o) × (others ≡ bytes)
+  pub put : after ≡ before ++ bytes
 
 -- an outcome that says something of the text, all of which was read and all of whose answer was written
 abbrev pub speaks : Outcome → Bool

@@ -10,7 +10,7 @@ use crate::bench::bench;
 use crate::format::format;
 use crate::outcome::Outcome;
 use crate::reply::Reply;
-use crate::verify::verify;
+use crate::verified::verified;
 use crate::words::Command;
 use scald_base::NoMemory;
 use std::alloc::Global;
@@ -26,7 +26,7 @@ pub fn answer(alloc: Global, command: Command, text: &[u8]) -> Result<Reply, NoM
     ensures loopless { IfOk result (λ reply. (evaluated : List ℕ) (place round : ℕ) → unlimited command text.now ≡ Some evaluated → IsLoopless evaluated → reply.outcome ≢ Outcome.Unsettled place round) }
 {
     match command {
-        Command::Verify { mode, rounds } => verify(alloc, text, mode, rounds),
+        Command::Verify { mode, rounds } => verified(alloc, text, mode, rounds),
         Command::Format => format(alloc, text),
         Command::Bench(sections) => bench(alloc, sections),
     }

@@ -13,20 +13,23 @@ ghost use Rattle.scald_tool.specs.Answer.{Benched, Concluded, measured};
 ghost use Rattle.scald_tool.specs.Drawn.{IsLoopless};
 ghost use Rattle.scald_tool.specs.Promise.{may_give};
 ghost use Rattle.scald_tool.specs.Report.{faults_in};
+ghost use Rattle.scald_tool.specs.Subject.{AreClasses};
 
 use crate::drawn::read_circuit;
 use crate::outcome::{Outcome, faults_in};
 use crate::reply::{Reply, refused};
+use crate::subject::Subject;
 use crate::verify::{AtRest, ended, rested};
 use crate::words::Command;
 use case_analysis::{default_limit, reach, tick};
 use design_gen::generate;
-use flat_circuit::{CaseList, Circuit};
+use flat_circuit::Circuit;
 use listing::{Mode, write_summary};
+use run_wave::RunWave;
 use scald_base::{Bytes, NoMemory, Stop};
 use std::alloc::Global;
 use step_values::Value;
-use wave_core::{CyclicWave, SlotWave};
+use wave_core::CyclicWave;
 
 /// The numbers of the report on the generated drawing of so many sections, at its own limit of rounds;
 /// or, as `verify` has it, why that is refused or which net does not rest.
@@ -37,7 +40,10 @@ pub fn bench(alloc: Global, sections: u16) -> Result<Reply, NoMemory>
 {
     let text = generate(alloc, sections)?;
     match read_circuit(alloc, text.as_slice()) {
-        Ok(drawn) => { measured::<SlotWave<Value>>(alloc, sections, &drawn.circuit, &drawn.cases) }
+        Ok(drawn) => {
+            let subject = Subject::new(alloc, drawn)?;
+            measured::<RunWave<Value>>(alloc, sections, &subject)
+        }
         Err(Stop::Refused(refusal)) => refused(alloc, refusal),
         Err(Stop::NoMemory) => Err(NoMemory),
     }
@@ -48,19 +54,19 @@ pub fn bench(alloc: Global, sections: u16) -> Result<Reply, NoMemory>
 fn measured<W: CyclicWave<Item = Value>>(
     alloc: Global,
     sections: u16,
-    circuit: &Circuit,
-    cases: &CaseList,
+    subject: &Subject,
 ) -> Result<Reply, NoMemory>
-    requires not_many { length cases.now ≤ 256 }
-    requires exist { All (NetsExist circuit.now) cases.now }
-    ensures is { IfOk result (λ reply. Concluded (measured sections) circuit.now cases.now (default_limit circuit.now) reply.outcome reply.bytes) }
+    requires not_many { length subject.now.cases ≤ 256 }
+    requires exist { All (NetsExist subject.now.circuit) subject.now.cases }
+    requires classes { AreClasses subject.now.circuit subject.now.cases subject.now.classes }
+    ensures is { IfOk result (λ reply. Concluded (measured sections) subject.now.circuit subject.now.cases (default_limit subject.now.circuit) reply.outcome reply.bytes) }
     ensures given { IfOk result (λ reply. may_give (Command.Bench sections) reply.outcome ≡ true) }
-    ensures loopless { IfOk result (λ reply. (place round : ℕ) → HasNoLoop circuit.now → reply.outcome ≢ Outcome.Unsettled place round) }
+    ensures loopless { IfOk result (λ reply. (place round : ℕ) → HasNoLoop subject.now.circuit → reply.outcome ≢ Outcome.Unsettled place round) }
 {
-    let limit = default_limit(circuit);
-    match rested::<W>(alloc, circuit, cases, Mode::Faults, limit) {
-        Ok(rested) => summary(alloc, sections, circuit, &rested),
-        Err(end) => ended(alloc, circuit, end),
+    let limit = default_limit(&subject.circuit);
+    match rested::<W>(alloc, subject, Mode::Faults, limit) {
+        Ok(rested) => summary(alloc, sections, &subject.circuit, &rested),
+        Err(end) => ended(alloc, &subject.circuit, end),
     }
 }
 

@@ -1,7 +1,16 @@
-//! Laws of texts and their answers. The functions do nothing: what each states is its contract.
+//! Laws of texts and their answers: what each states is its contract. All but the last do nothing.
 
+ghost use Rattle.std.specs.Prelude.{◌≡◌, ◌⊎◌, None};
+ghost use Rattle.scald_tool.specs.Finished.{AsksWell, IsFinished};
 ghost use Rattle.scald_tool.specs.Forms.{WordsAreKnown, WordsAreRead};
 ghost use Rattle.scald_tool.specs.Laws.{OneAnswer, OneCircuit};
+ghost use Rattle.scald_tool.specs.Promise.{IsAnswered};
+
+use crate::outcome::Outcome;
+use crate::tool::tool_main;
+use crate::words::Words;
+use scald_base::{CountSink, SureSource};
+use std::alloc::Global;
 
 /// Words are read as the form that has them, or as going wrong at the first word with which no form goes
 /// on; and the words of each form are read as it.
@@ -19,3 +28,18 @@ pub fn text_draws_one_circuit()
 pub fn words_have_one_answer()
     ensures { OneAnswer }
 {}
+
+/// The whole call over devices that never fail, of which nothing is asked: the answer is the one that the
+/// words and the bytes of the source have, or no memory. It is a report or what else was asked for where the
+/// words are of a form and the text passes every stage of it.
+pub fn answers_over_sure_devices(
+    alloc: Global,
+    words: &Words,
+    source: &mut SureSource,
+    sink: &mut CountSink,
+) -> Outcome
+    ensures whole { (result ≡ Outcome.NoMemory) ⊎ IsAnswered words.now source.old result None None }
+    ensures finished { AsksWell words.now source.old → (result ≡ Outcome.NoMemory) ⊎ IsFinished words.now source.old result None None }
+{
+    tool_main(alloc, words, source, sink)
+}

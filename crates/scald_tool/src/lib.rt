@@ -15,6 +15,8 @@ mod bench;
 mod faults;
 mod format;
 mod report;
+mod subject;
+mod verified;
 mod verify;
 
 // what goes out
@@ -30,4 +32,5 @@ mod tests;
 
 pub use outcome::{Outcome, status};
 pub use tool::tool_main;
+pub use verified::verify_text;
 pub use words::{Command, Words, read_words};

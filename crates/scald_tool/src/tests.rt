@@ -1,53 +1,50 @@
-//! Whole answers, from words and the bytes of a text to the bytes of a report, over devices in memory.
+//! Whole answers over devices in memory, and over both ways of keeping waves. What the built program reports
+//! on drawings of each kind is tried by the scripts of checks/.
 
 ghost use Rattle.std.specs.Prelude.{◌≤◌};
 
 use crate::{Outcome, Words, tool_main};
-use scald_base::{Bytes, Calls, MemorySink, MemorySource, NoMemory, Place, Refusal, RefusalKind};
+use scald_base::{Bytes, Calls, CountSink, MemorySink, MemorySource, NoMemory, SureSource};
 use std::alloc::Global;
 use std::process::Abort;
 use std::test::Fail;
 
-mod bench;
-mod cases;
-mod cuts;
-mod devices;
-mod lines;
-mod macros;
-mod refusals;
-mod reports;
-mod rounds;
-mod words;
+mod rows;
 
-const FIRST: &[u8] = b"c1 : SETUP_HOLD_CHK {SETUP=20, HOLD=10} (\"CK .P2-3\", \"D .S1-4\");\n";
+const FIRST: &[u8] =
+    b"SCALD 1;\nCLOCK 8 x 50;\nDRAWING ROW;\nc1 : SETUP_HOLD_CHK {SETUP=20, HOLD=10} (\"CK .P2-3\", \"D .S1-4\");\nEND;\n";
 
 const FIRST_REPORT: &[u8] =
     b"SCALD 1 PERIOD 400\nNETS 2 INSTANCES 0 CHECKS 1\nCASE 0 BASE 0 ROUNDS 0 T 1\nWAVE CK<0> SKEW 0 0:100 R:1 1:49 F:1 0:249\nWAVE D<0> SKEW 0 C:51 S:149 C:200\nCLEAN\n";
 
-/// How many bytes a device moves in a call, and which one of its calls fails.
+/// How many bytes a device moves in a call, which of its calls fails, and how many bytes it has room for.
 #[derive(Clone, Copy)]
 struct Device {
     piece: u32,
     failing: Option<u32>,
+    room: u32,
 }
 
 const SURE: Device = Device {
     piece: 4096,
     failing: None,
+    room: 4096,
 };
 
-/// How a call ended: its outcome, how many bytes were left to read, and what was written.
-#[derive(Drop)]
-struct Answered {
+/// How a call ends: its outcome, how many bytes are left to read, and how many are written.
+#[derive(Clone, Copy)]
+struct End {
     outcome: Outcome,
     left: usize,
-    taken: Bytes,
+    taken: usize,
 }
 
-fn bytes_of(alloc: Global, text: &[u8]) -> Result<Bytes, NoMemory> {
-    let mut bytes = Bytes::new(alloc);
-    bytes.extend(text)?;
-    Ok(bytes)
+fn words_of(alloc: Global, texts: &[&[u8]]) -> Result<Words, NoMemory> {
+    let mut words = Words::new(alloc);
+    for text in texts {
+        words.push(Bytes::of(alloc, text)?)?;
+    }
+    Ok(words)
 }
 
 fn calls_of(alloc: Global, failing: Option<u32>) -> Result<Calls, NoMemory> {
@@ -58,75 +55,103 @@ fn calls_of(alloc: Global, failing: Option<u32>) -> Result<Calls, NoMemory> {
     Ok(calls)
 }
 
-fn words_of(alloc: Global, texts: &[&[u8]]) -> Result<Words, NoMemory> {
-    let mut words = Words::new(alloc);
-    for text in texts {
-        words.push(bytes_of(alloc, text)?)?;
-    }
-    Ok(words)
-}
-
-/// The call over these devices.
-fn reply_to(
-    alloc: Global,
+/// The call to these words over the first drawing and these devices ends so, and writes a front of its report.
+fn ends(
+    rt: &(impl Abort + AllocGlobal),
     words: &[&[u8]],
-    text: Bytes,
     from: Device,
     to: Device,
-) -> Result<Answered, NoMemory>
+    wanted: End,
+) -> Result<(), Fail>
     requires from { 1 ≤ from.piece }
     requires to { 1 ≤ to.piece }
 {
+    let alloc = rt.alloc();
     let words = words_of(alloc, words)?;
+    let text = Bytes::of(alloc, FIRST)?;
     let mut source = MemorySource::new(text, from.piece, calls_of(alloc, from.failing)?);
-    let mut sink = MemorySink::new(alloc, 65_536, to.piece, calls_of(alloc, to.failing)?)?;
+    let mut sink = MemorySink::new(alloc, to.room, to.piece, calls_of(alloc, to.failing)?)?;
     let outcome = tool_main(alloc, &words, &mut source, &mut sink);
-    Ok(Answered {
-        outcome,
-        left: source.left().len(),
-        taken: bytes_of(alloc, sink.taken())?,
-    })
+    assert_eq!(rt; outcome, wanted.outcome);
+    assert_eq!(rt; source.left().len(), wanted.left);
+    assert_eq!(rt; sink.taken().len(), wanted.taken);
+    assert!(rt; FIRST_REPORT.starts_with(sink.taken()));
+    Ok(())
 }
 
-/// A drawing of these lines, with what stands between the clock and the drawing.
-fn drawing(alloc: Global, before: &[u8], lines: &[u8]) -> Result<Bytes, NoMemory> {
-    let mut text = bytes_of(alloc, b"SCALD 1;\nCLOCK 8 x 50;\n")?;
-    text.extend(before)?;
-    text.extend(b"DRAWING ROW;\n")?;
-    text.extend(lines)?;
-    text.extend(b"END;\n")?;
-    Ok(text)
-}
-
-fn refused(kind: RefusalKind, line: u32, col: u32) -> Outcome {
-    Outcome::Refused(Refusal {
-        kind,
-        place: Place { line, col },
-    })
-}
-
-/// Whether the part stands somewhere in the text.
-fn contains(text: &[u8], part: &[u8]) -> bool {
-    for at in 0..text.len() {
-        if text[at..].starts_with(part) {
-            return true;
-        }
+#[test]
+fn devices(rt: HostRuntime) -> Result<(), Fail> {
+    // 106 bytes are six pieces of 16 and a shorter one, and the eighth call finds the end.
+    for call in 0..8 {
+        let from = Device {
+            piece: 16,
+            failing: Some(call),
+            room: 0,
+        };
+        let end = End {
+            outcome: Outcome::ReadFault,
+            left: 106_usize.saturating_sub(16 * call as usize),
+            taken: 0,
+        };
+        ends(&rt, &[b"verify"], from, SURE, end)?;
     }
-    false
+    for call in 0..5 {
+        let to = Device {
+            piece: 32,
+            failing: Some(call),
+            room: 4096,
+        };
+        let end = End {
+            outcome: Outcome::WriteFault,
+            left: 0,
+            taken: 32 * call as usize,
+        };
+        ends(&rt, &[b"verify"], SURE, to, end)?;
+    }
+    Ok(())
 }
 
-/// The answer to a text is this one, and is written whole: all of these lines are in it.
-fn check(
-    rt: &(impl Abort + AllocGlobal),
-    words: &[&[u8]],
-    text: Bytes,
-    outcome: Outcome,
-    lines: &[&[u8]],
-) -> Result<(), Fail> {
-    let end = reply_to(rt.alloc(), words, text, SURE, SURE)?;
-    assert_eq!(rt; end.outcome, outcome);
-    for line in lines {
-        assert!(rt; contains(end.taken.as_slice(), line));
+#[test]
+fn words_and_room(rt: HostRuntime) -> Result<(), Fail> {
+    let table: [(&[&[u8]], u32, Outcome, usize, usize); 6] = [
+        (&[b"verify"], 4096, Outcome::Clean, 0, 157),
+        (&[b"verify"], 100, Outcome::WriteFault, 0, 100),
+        // words of no form: nothing is read or written
+        (&[], 4096, Outcome::BadWords(0), 106, 0),
+        (&[b"bench"], 4096, Outcome::BadWords(1), 106, 0),
+        (&[b"bench", b"201"], 4096, Outcome::BadWords(1), 106, 0),
+        (
+            &[b"verify", b"rounds=5", b"faults"],
+            4096,
+            Outcome::BadWords(2),
+            106,
+            0,
+        ),
+    ];
+    for (words, room, outcome, left, taken) in table {
+        let to = Device {
+            piece: 32,
+            failing: None,
+            room,
+        };
+        let end = End {
+            outcome,
+            left,
+            taken,
+        };
+        ends(&rt, words, SURE, to, end)?;
     }
+    Ok(())
+}
+
+#[test]
+fn devices_that_never_fail(rt: HostRuntime) -> Result<(), Fail> {
+    let words = words_of(rt.alloc(), &[b"verify"])?;
+    let mut source = SureSource::new(Bytes::of(rt.alloc(), FIRST)?);
+    let mut sink = CountSink::new();
+    let outcome = tool_main(rt.alloc(), &words, &mut source, &mut sink);
+    assert_eq!(rt; outcome, Outcome::Clean);
+    assert_eq!(rt; sink.length(), 157);
+    assert_eq!(rt; source.left().len(), 0);
     Ok(())
 }

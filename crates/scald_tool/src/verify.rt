@@ -8,31 +8,33 @@ ghost use Rattle.fixpoint_engine.specs.Loops.{HasNoLoop};
 ghost use Rattle.fixpoint_engine.specs.Settled.{FitWaves, waves_of};
 ghost use Rattle.fixpoint_engine.specs.Rounds.{RestsAt};
 ghost use Rattle.case_analysis.specs.Base.{IsBase, PermitInputs, base_round};
-ghost use Rattle.case_analysis.specs.Case.{NetsExist};
+ghost use Rattle.case_analysis.specs.Case.{NetsExist, case_at};
 ghost use Rattle.listing.specs.Answer.{unsettled_line};
 ghost use Rattle.scald_tool.specs.Answer.{Judged, Verified, limit_for};
 ghost use Rattle.scald_tool.specs.Case.{listed_cases, numbered};
 ghost use Rattle.scald_tool.specs.Drawn.{IsLoopless};
 ghost use Rattle.scald_tool.specs.Ended.{EndsEarly, IsEnded};
 ghost use Rattle.scald_tool.specs.Reported.{EndsCase, EndsCases, IsReported, Tells};
+ghost use Rattle.scald_tool.specs.Subject.{AreClasses};
 ghost use Rattle.scald_tool.specs.Promise.{FaultlessNeverBreaks, IsKept, IsSafe, NeverBreaks, has_report, speaks};
 
 use crate::drawn::read_circuit;
 use crate::outcome::Outcome;
 use crate::reply::{Reply, refused};
 use crate::report::Report;
-use case_analysis::{base, case_waves, default_limit};
+use crate::subject::Subject;
+use case_analysis::default_limit;
 use fixpoint_engine::{EngineEnd, Settled};
-use flat_circuit::{Case, CaseList, Circuit};
+use flat_circuit::Circuit;
 use listing::{Mode, write_unsettled};
 use scald_base::{Bytes, NoMemory, Stop};
 use std::alloc::Global;
 use step_values::Value;
-use wave_core::{CyclicWave, SlotWave};
+use wave_core::CyclicWave;
 
 /// The answer to a text: the report that the mode asks for, after at most so many rounds of the base and
 /// of each case where the number is given.
-pub fn verify(
+pub fn verify<W: CyclicWave<Item = Value>>(
     alloc: Global,
     text: &[u8],
     mode: Mode,
@@ -49,8 +51,9 @@ pub fn verify(
 {
     match read_circuit(alloc, text) {
         Ok(drawn) => {
-            let limit = limit_for(&drawn.circuit, rounds);
-            judged::<SlotWave<Value>>(alloc, &drawn.circuit, &drawn.cases, mode, limit)
+            let subject = Subject::new(alloc, drawn)?;
+            let limit = limit_for(&subject.circuit, rounds);
+            judged::<W>(alloc, &subject, mode, limit)
         }
         Err(Stop::Refused(refusal)) => refused(alloc, refusal),
         Err(Stop::NoMemory) => Err(NoMemory),
@@ -72,23 +75,23 @@ fn limit_for(circuit: &Circuit, rounds: Option<u32>) -> u32
 /// The report on a circuit and its cases, or the net that does not rest within so many rounds.
 fn judged<W: CyclicWave<Item = Value>>(
     alloc: Global,
-    circuit: &Circuit,
-    cases: &CaseList,
+    subject: &Subject,
     mode: Mode,
     limit: u32,
 ) -> Result<Reply, NoMemory>
     requires few { limit ≤ 10000000 }
-    requires not_many { length cases.now ≤ 256 }
-    requires exist { All (NetsExist circuit.now) cases.now }
-    ensures is { IfOk result (λ reply. Judged mode circuit.now cases.now limit reply.outcome reply.bytes) }
+    requires not_many { length subject.now.cases ≤ 256 }
+    requires exist { All (NetsExist subject.now.circuit) subject.now.cases }
+    requires classes { AreClasses subject.now.circuit subject.now.cases subject.now.classes }
+    ensures is { IfOk result (λ reply. Judged mode subject.now.circuit subject.now.cases limit reply.outcome reply.bytes) }
     ensures speaks { IfOk result (λ reply. speaks reply.outcome ≡ true) }
     ensures not_done { IfOk result (λ reply. reply.outcome ≢ Outcome.Done) }
-    ensures faultless { IfOk result (λ reply. has_report reply.outcome ≡ true → IsSafe circuit.now cases.now limit (IsKept circuit.now)) }
-    ensures loopless { IfOk result (λ reply. (place round : ℕ) → HasNoLoop circuit.now → outputs circuit.now.instances ≤ limit → reply.outcome ≢ Outcome.Unsettled place round) }
+    ensures faultless { IfOk result (λ reply. has_report reply.outcome ≡ true → IsSafe subject.now.circuit subject.now.cases limit (IsKept subject.now.circuit)) }
+    ensures loopless { IfOk result (λ reply. (place round : ℕ) → HasNoLoop subject.now.circuit → outputs subject.now.circuit.instances ≤ limit → reply.outcome ≢ Outcome.Unsettled place round) }
 {
-    match rested::<W>(alloc, circuit, cases, mode, limit) {
+    match rested::<W>(alloc, subject, mode, limit) {
         Ok(rested) => Ok(rested.reply),
-        Err(end) => ended(alloc, circuit, end),
+        Err(end) => ended(alloc, &subject.circuit, end),
     }
 }
 
@@ -103,22 +106,22 @@ pub struct AtRest {
 /// within so many rounds.
 pub fn rested<W: CyclicWave<Item = Value>>(
     alloc: Global,
-    circuit: &Circuit,
-    cases: &CaseList,
+    subject: &Subject,
     mode: Mode,
     limit: u32,
 ) -> Result<AtRest, EngineEnd>
     requires few { limit ≤ 10000000 }
-    requires not_many { length cases.now ≤ 256 }
-    requires exist { All (NetsExist circuit.now) cases.now }
-    ensures rests { IfOk result (λ rested. RestsAt (base_round circuit.now) limit rested.base) }
-    ensures told { IfOk result (λ rested. IsReported mode circuit.now limit rested.base (listed_cases cases.now) rested.reply.outcome rested.reply.bytes) }
-    ensures ended { IfErr result (EndsEarly circuit.now cases.now limit) }
-    ensures loopless { HasNoLoop circuit.now → outputs circuit.now.instances ≤ limit → IfErr result (λ end. end ≡ EngineEnd.NoMemory) }
+    requires not_many { length subject.now.cases ≤ 256 }
+    requires exist { All (NetsExist subject.now.circuit) subject.now.cases }
+    requires classes { AreClasses subject.now.circuit subject.now.cases subject.now.classes }
+    ensures rests { IfOk result (λ rested. RestsAt (base_round subject.now.circuit) limit rested.base) }
+    ensures told { IfOk result (λ rested. IsReported mode subject.now.circuit limit rested.base (listed_cases subject.now.cases) rested.reply.outcome rested.reply.bytes) }
+    ensures ended { IfErr result (EndsEarly subject.now.circuit subject.now.cases limit) }
+    ensures loopless { HasNoLoop subject.now.circuit → outputs subject.now.circuit.instances ≤ limit → IfErr result (λ end. end ≡ EngineEnd.NoMemory) }
 {
-    let base = base::<W>(alloc, circuit, limit)?;
+    let base = subject.base::<W>(alloc, limit)?;
     let rounds = base.rounds;
-    let reply = reported(alloc, circuit, cases, mode, limit, base)?;
+    let reply = reported(alloc, subject, mode, limit, base)?;
     Ok(AtRest {
         reply,
         base: rounds,
@@ -128,26 +131,26 @@ pub fn rested<W: CyclicWave<Item = Value>>(
 /// The report on a circuit whose base is at rest, or the end of the first case that never rests.
 fn reported<W: CyclicWave<Item = Value>>(
     alloc: Global,
-    circuit: &Circuit,
-    cases: &CaseList,
+    subject: &Subject,
     mode: Mode,
     limit: u32,
     base: Settled<W>,
 ) -> Result<Reply, EngineEnd>
     requires few { limit ≤ 10000000 }
-    requires not_many { length cases.now ≤ 256 }
-    requires exist { All (NetsExist circuit.now) cases.now }
-    requires fit { FitWaves circuit.now (map (λ w. skewed (W.cells w.wave) w.skew) base.waves) }
-    requires rest { IsBase circuit.now limit base.rounds (waves_of (map (λ w. skewed (W.cells w.wave) w.skew) base.waves)) }
-    requires permits { PermitInputs circuit.now base.rounds (waves_of (map (λ w. skewed (W.cells w.wave) w.skew) base.waves)) }
-    ensures told { IfOk result (λ reply. IsReported mode circuit.now limit base.rounds (listed_cases cases.now) reply.outcome reply.bytes) }
-    ensures ended { IfErr result (EndsCases circuit.now limit base.rounds (listed_cases cases.now)) }
-    ensures loopless { HasNoLoop circuit.now → outputs circuit.now.instances ≤ limit → IfErr result (λ end. end ≡ EngineEnd.NoMemory) }
+    requires not_many { length subject.now.cases ≤ 256 }
+    requires exist { All (NetsExist subject.now.circuit) subject.now.cases }
+    requires classes { AreClasses subject.now.circuit subject.now.cases subject.now.classes }
+    requires fit { FitWaves subject.now.circuit (map (λ w. skewed (W.cells w.wave) w.skew) base.waves) }
+    requires rest { IsBase subject.now.circuit limit base.rounds (waves_of (map (λ w. skewed (W.cells w.wave) w.skew) base.waves)) }
+    requires permits { PermitInputs subject.now.circuit base.rounds (waves_of (map (λ w. skewed (W.cells w.wave) w.skew) base.waves)) }
+    ensures told { IfOk result (λ reply. IsReported mode subject.now.circuit limit base.rounds (listed_cases subject.now.cases) reply.outcome reply.bytes) }
+    ensures ended { IfErr result (EndsCases subject.now.circuit limit base.rounds (listed_cases subject.now.cases)) }
+    ensures loopless { HasNoLoop subject.now.circuit → outputs subject.now.circuit.instances ≤ limit → IfErr result (λ end. end ≡ EngineEnd.NoMemory) }
 {
-    if cases.is_empty() {
-        Ok(base_alone(alloc, circuit, mode, limit, base)?)
+    if subject.cases.is_empty() {
+        Ok(base_alone(alloc, &subject.circuit, mode, limit, base)?)
     } else {
-        each_case(alloc, circuit, cases.as_slice(), mode, limit, &base)
+        each_case(alloc, subject, mode, limit, &base)
     }
 }
 
@@ -175,37 +178,34 @@ fn base_alone<W: CyclicWave<Item = Value>>(
 /// but its lines and how many faults it has.
 fn each_case<W: CyclicWave<Item = Value>>(
     alloc: Global,
-    circuit: &Circuit,
-    cases: &[Case],
+    subject: &Subject,
     mode: Mode,
     limit: u32,
     base: &Settled<W>,
 ) -> Result<Reply, EngineEnd>
     requires few { limit ≤ 10000000 }
-    requires not_many { length cases.now ≤ 256 }
-    requires exist { All (NetsExist circuit.now) cases.now }
-    requires fit { FitWaves circuit.now (map (λ w. skewed (W.cells w.wave) w.skew) base.now.waves) }
-    requires rest { IsBase circuit.now limit base.now.rounds (waves_of (map (λ w. skewed (W.cells w.wave) w.skew) base.now.waves)) }
-    ensures told { IfOk result (λ reply. IsReported mode circuit.now limit base.now.rounds (numbered 1 cases.now) reply.outcome reply.bytes) }
-    ensures ended { IfErr result (EndsCases circuit.now limit base.now.rounds (numbered 1 cases.now)) }
-    ensures loopless { HasNoLoop circuit.now → outputs circuit.now.instances ≤ limit → IfErr result (λ end. end ≡ EngineEnd.NoMemory) }
+    requires not_many { length subject.now.cases ≤ 256 }
+    requires exist { All (NetsExist subject.now.circuit) subject.now.cases }
+    requires classes { AreClasses subject.now.circuit subject.now.cases subject.now.classes }
+    requires fit { FitWaves subject.now.circuit (map (λ w. skewed (W.cells w.wave) w.skew) base.now.waves) }
+    requires rest { IsBase subject.now.circuit limit base.now.rounds (waves_of (map (λ w. skewed (W.cells w.wave) w.skew) base.now.waves)) }
+    ensures told { IfOk result (λ reply. IsReported mode subject.now.circuit limit base.now.rounds (numbered 1 subject.now.cases) reply.outcome reply.bytes) }
+    ensures ended { IfErr result (EndsCases subject.now.circuit limit base.now.rounds (numbered 1 subject.now.cases)) }
+    ensures loopless { HasNoLoop subject.now.circuit → outputs subject.now.circuit.instances ≤ limit → IfErr result (λ end. end ≡ EngineEnd.NoMemory) }
 {
-    let mut report = Report::begin(alloc, circuit)?;
-    let mut number = 0;
-    for case in cases {
-        number += 1;
-        tell_case(alloc, circuit, case, number, mode, limit, base, &mut report)?;
+    let mut report = Report::begin(alloc, &subject.circuit)?;
+    for place in 0..subject.cases.len() as u32 {
+        tell_case(alloc, subject, place, mode, limit, base, &mut report)?;
     }
     Ok(report.end()?)
 }
 
-/// Puts the lines of a case, which has this number, behind those of the others, or says where it never
-/// rests.
+/// Puts the lines of a case, which stands at this place from 0, behind those of the others, or says where it
+/// never rests.
 fn tell_case<W: CyclicWave<Item = Value>>(
     alloc: Global,
-    circuit: &Circuit,
-    case: &Case,
-    number: u32,
+    subject: &Subject,
+    place: u32,
     mode: Mode,
     limit: u32,
     base: &Settled<W>,
@@ -213,16 +213,20 @@ fn tell_case<W: CyclicWave<Item = Value>>(
 ) -> Result<(), EngineEnd>
     requires few { limit ≤ 10000000 }
     requires room { report.old.total + 458752 < 2 ^ 32 }
-    requires exist { NetsExist circuit.now case.now }
-    requires fit { FitWaves circuit.now (map (λ w. skewed (W.cells w.wave) w.skew) base.now.waves) }
-    requires rest { IsBase circuit.now limit base.now.rounds (waves_of (map (λ w. skewed (W.cells w.wave) w.skew) base.now.waves)) }
-    ensures told { OnOk result (Tells mode circuit.now limit base.now.rounds (record { number = number; values = case.now }) report.old.bytes report.new.bytes report.old.total report.new.total) }
+    requires inside { place < length subject.now.cases }
+    requires not_many { length subject.now.cases ≤ 256 }
+    requires exist { NetsExist subject.now.circuit (case_at subject.now.cases place) }
+    requires classes { AreClasses subject.now.circuit subject.now.cases subject.now.classes }
+    requires fit { FitWaves subject.now.circuit (map (λ w. skewed (W.cells w.wave) w.skew) base.now.waves) }
+    requires rest { IsBase subject.now.circuit limit base.now.rounds (waves_of (map (λ w. skewed (W.cells w.wave) w.skew) base.now.waves)) }
+    ensures told { OnOk result (Tells mode subject.now.circuit limit base.now.rounds (record { number = place + 1; values = case_at subject.now.cases place }) report.old.bytes report.new.bytes report.old.total report.new.total) }
     ensures few { OnOk result (report.new.total ≤ report.old.total + 458752) }
-    ensures ended { IfErr result (EndsCase circuit.now limit base.now.rounds (record { number = number; values = case.now })) }
-    ensures loopless { HasNoLoop circuit.now → outputs circuit.now.instances ≤ limit → IfErr result (λ end. end ≡ EngineEnd.NoMemory) }
+    ensures ended { IfErr result (EndsCase subject.now.circuit limit base.now.rounds (record { number = place + 1; values = case_at subject.now.cases place })) }
+    ensures loopless { HasNoLoop subject.now.circuit → outputs subject.now.circuit.instances ≤ limit → IfErr result (λ end. end ≡ EngineEnd.NoMemory) }
 {
-    let settled = case_waves(alloc, circuit, base, case, limit)?;
-    report.add_case(alloc, circuit, mode, number, base.rounds, &settled)?;
+    let settled = subject.case(alloc, base, place, limit)?;
+    let number = place + 1;
+    report.add_case(alloc, &subject.circuit, mode, number, base.rounds, &settled)?;
     Ok(())
 }
 

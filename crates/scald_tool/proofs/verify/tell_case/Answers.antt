@@ -1,18 +1,20 @@
 use Rattle.std.proofs.lemmas.Result.{err_from_is_err_and}
+use Rattle.std.proofs.Common.{◌+◌}
+use Rattle.case_analysis.specs.Case.{case_at}
 use Rattle.scald_tool.proofs.Telling.{own-limit, case-tells}
 use Rattle.scald_tool.proofs.Going.{case-ended}
 use Rattle.scald_tool.proofs.verify.tell_case.Goals as goal
 
-pub case_waves-requires-clause-base : goal.case_waves-requires-clause-base
-case_waves-requires-clause-base g c = own-limit c.args.circuit.now c.args.limit c.args.base.now.rounds _ c.requires.rest
+pub case-requires-clause-base : goal.case-requires-clause-base
+case-requires-clause-base g c = own-limit c.args.subject.now.circuit c.args.limit c.args.base.now.rounds _ c.requires.rest
 
 pub returns-in_err-settled-clause-ended : goal.returns-in_err-settled-clause-ended
 returns-in_err-settled-clause-ended g c =
     let p = err_from_is_err_and c.from_residual.result c.from_residual.ensures.1 in
-    rw (p.1, p.2) (case-ended c.args.circuit.now c.args.limit c.args.base.now.rounds c.args.number c.args.case.now _ c.requires.rest.waves c.in_err-settled.field-0.0
+    rw (p.1, p.2) (case-ended c.args.subject.now.circuit c.args.limit c.args.base.now.rounds (c.args.place + 1) (case_at c.args.subject.now.cases c.args.place) _ c.requires.rest.waves c.in_err-settled.field-0.0
     c.in_err-settled.ensures.cone c.in_err-settled.ensures.unsettled)
 
 pub returns-clause-told : goal.returns-clause-told
 returns-clause-told g c =
-    case-tells c.args.mode c.args.circuit.now c.args.limit c.args.base.now.rounds c.args.number c.in_ok-settled.settled.rounds c.args.case.now _ _ _ _ _ _ c.requires.rest.waves
-    c.in_ok-settled.ensures.cone c.in_ok-settled.ensures.rest (c.in_ok-add_case.ensures.keep c.args.case.now c.in_ok-settled.ensures.sound) c.in_ok-add_case.ensures.told c.in_ok-add_case.ensures.counted
+    case-tells c.args.mode c.args.subject.now.circuit c.args.limit c.args.base.now.rounds _ c.in_ok-settled.settled.rounds (case_at c.args.subject.now.cases c.args.place) _ _ _ _ _ _ c.requires.rest.waves
+    c.in_ok-settled.ensures.cone c.in_ok-settled.ensures.rest (c.in_ok-add_case.ensures.keep (case_at c.args.subject.now.cases c.args.place) c.in_ok-settled.ensures.sound) c.in_ok-add_case.ensures.told c.in_ok-add_case.ensures.counted

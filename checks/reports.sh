@@ -1,0 +1,297 @@
+#!/bin/sh
+# What the built program reports on small drawings of each kind, worked out by hand: gates, storage, loops, clocks,
+# checkers, macros and cases, with the status of each.
+# Usage: checks/reports.sh [PROGRAM]. Without a built program it says so and ends with 0.
+set -u
+top=$(CDPATH='' cd -- "$(dirname -- "$0")/.." && pwd) || exit 2
+program=${1:-$top/crates/scald/out/scald}
+if [ ! -x "$program" ]; then
+    echo "checks/reports.sh: no program at $program (./scald builds it): nothing is tried"
+    exit 0
+fi
+work=$(mktemp -d) || exit 2
+trap 'rm -rf "$work"' EXIT
+failed=0
+tried=0
+
+# failure NAME WHY
+failure() {
+    echo "FAILED $1: $2"
+    failed=$((failed + 1))
+}
+
+# many COUNT TEXT: so many times the text
+many() {
+    awk -v count="$1" -v text="$2" 'BEGIN { for (i = 0; i < count; i++) printf "%s", text }'
+}
+
+# A period of 8 units of 50 ticks, and the lines from line 3 on; where none of them begins a drawing, they are those
+# of one.
+text() {
+    printf 'SCALD 1;\nCLOCK 8 x 50;\n'
+    if grep -qxF 'DRAWING ROW;' "$work/lines"; then
+        cat "$work/lines"
+    else
+        echo 'DRAWING ROW;'
+        cat "$work/lines"
+        echo 'END;'
+    fi
+}
+
+# answered NAME WORDS STATUS LINE .. -- WANT ..: the text of the lines gets the status; $work/want has what is wanted
+answered() {
+    name=$1
+    words=$2
+    wanted=$3
+    shift 3
+    : >"$work/lines"
+    : >"$work/want"
+    while [ "$1" != -- ]; do
+        printf '%s\n' "$1" >>"$work/lines"
+        shift
+    done
+    shift
+    printf '%s\n' "$@" >"$work/want"
+    # shellcheck disable=SC2086
+    text | "$program" $words >"$work/out"
+    status=$?
+    tried=$((tried + 1))
+    [ "$status" -eq "$wanted" ] || failure "$name" "status $status in place of $wanted"
+}
+
+# whole NAME WORDS STATUS LINE .. -- WANT ..: the answer is these lines, and no other
+whole() {
+    answered "$@"
+    cmp -s "$work/out" "$work/want" || failure "$1" 'another report'
+}
+
+# row NAME WORDS STATUS LINE .. -- WANT ..: these lines stand in the answer, in this order
+row() {
+    answered "$@"
+    awk 'BEGIN { at = 0 } NR == FNR { want[count++] = $0; next } at < count && $0 == want[at] { at++ } END { exit (at < count) }' \
+        "$work/want" "$work/out" || failure "$1" 'a line is missing'
+}
+
+# two choices by one net: what is late in the first is not late in the second
+choice='b1 : BUF [50:50] ("IN .S1-8") -> ("SLOW1");
+m1 : MUX2 [0:0] ("SEL", "IN", "SLOW1") -> ("MID");
+b2 : BUF [50:50] ("MID") -> ("SLOW2");
+m2 : MUX2 [0:0] ("SEL", "SLOW2", "MID") -> ("OUT");'
+
+# --- whole reports
+whole 'the first drawing' verify 0 \
+    'c1 : SETUP_HOLD_CHK {SETUP=20, HOLD=10} ("CK .P2-3", "D .S1-4");' \
+    -- 'SCALD 1 PERIOD 400' 'NETS 2 INSTANCES 0 CHECKS 1' 'CASE 0 BASE 0 ROUNDS 0 T 1' 'WAVE CK<0> SKEW 0 0:100 R:1 1:49 F:1 0:249' \
+    'WAVE D<0> SKEW 0 C:51 S:149 C:200' 'CLEAN'
+whole 'a change up to the edge' verify 1 \
+    'c1 : SETUP_HOLD_CHK {SETUP=20, HOLD=10} ("CK .P2-3", "D .S2-4");' \
+    -- 'SCALD 1 PERIOD 400' 'NETS 2 INSTANCES 0 CHECKS 1' 'CASE 0 BASE 0 ROUNDS 0 T 1' 'WAVE CK<0> SKEW 0 0:100 R:1 1:49 F:1 0:249' \
+    'WAVE D<0> SKEW 0 C:101 S:99 C:200' 'FAULT SETUP c1<0> EDGE 100 SLOT 81 VALUE C' 'FAULTS 1'
+whole 'a window that is open at its front' verify 0 \
+    'c1 : SETUP_HOLD_CHK {SETUP=0, HOLD=10} ("CK .P2-3", "D .S2-4");' \
+    -- 'SCALD 1 PERIOD 400' 'NETS 2 INSTANCES 0 CHECKS 1' 'CASE 0 BASE 0 ROUNDS 0 T 1' 'WAVE CK<0> SKEW 0 0:100 R:1 1:49 F:1 0:249' \
+    'WAVE D<0> SKEW 0 C:101 S:99 C:200' 'CLEAN'
+whole 'a window over the end of the period' verify 0 \
+    'c1 : SETUP_HOLD_CHK {SETUP=50, HOLD=10} ("CK .P0-1", "D .S7-2");' \
+    -- 'SCALD 1 PERIOD 400' 'NETS 2 INSTANCES 0 CHECKS 1' 'CASE 0 BASE 0 ROUNDS 0 T 1' 'WAVE CK<0> SKEW 0 R:1 1:49 F:1 0:349' \
+    'WAVE D<0> SKEW 0 S:100 C:251 S:49' 'CLEAN'
+whole 'a setup of one tick more over the end of the period' verify 1 \
+    'c1 : SETUP_HOLD_CHK {SETUP=51, HOLD=10} ("CK .P0-1", "D .S7-2");' \
+    -- 'SCALD 1 PERIOD 400' 'NETS 2 INSTANCES 0 CHECKS 1' 'CASE 0 BASE 0 ROUNDS 0 T 1' 'WAVE CK<0> SKEW 0 R:1 1:49 F:1 0:349' \
+    'WAVE D<0> SKEW 0 S:100 C:251 S:49' 'FAULT SETUP c1<0> EDGE 0 SLOT 350 VALUE C' 'FAULTS 1'
+whole 'a change after the edge, and nets in the order of their names' verify 1 \
+    'c1 : SETUP_HOLD_CHK {SETUP=0, HOLD=10} ("Z .P2-3", "D .S1-2");' \
+    -- 'SCALD 1 PERIOD 400' 'NETS 2 INSTANCES 0 CHECKS 1' 'CASE 0 BASE 0 ROUNDS 0 T 1' 'WAVE D<0> SKEW 0 C:51 S:49 C:300' \
+    'WAVE Z<0> SKEW 0 0:100 R:1 1:49 F:1 0:249' 'FAULT HOLD c1<0> EDGE 100 SLOT 101 VALUE C' 'FAULTS 1'
+whole 'the widest pulse that may be asked for' verify 0 \
+    'w1 : MIN_PULSE_CHK {HIGH=400} ("K");' \
+    -- 'SCALD 1 PERIOD 400' 'NETS 1 INSTANCES 0 CHECKS 1' 'STABLE K<0>' 'CASE 0 BASE 0 ROUNDS 0 T 1' 'WAVE K<0> SKEW 0 S:400' 'CLEAN'
+whole 'nothing at all' verify 0 \
+    -- 'SCALD 1 PERIOD 400' 'NETS 0 INSTANCES 0 CHECKS 0' 'CASE 0 BASE 0 ROUNDS 0 T 1' 'CLEAN'
+whole 'a choice in its two cases' verify 0 \
+    'DRAWING ROW;' "$choice" 'c1 : SETUP_HOLD_CHK {SETUP=20, HOLD=5} ("CK .P3-4", "OUT");' 'END;' 'CASE "SEL"=0;' 'CASE "SEL"=1;' \
+    -- 'SCALD 1 PERIOD 400' 'NETS 7 INSTANCES 4 CHECKS 1' 'STABLE SEL<0>' 'CASE 1 BASE 4 ROUNDS 3 T 408' \
+    'WAVE CK<0> SKEW 0 0:150 R:1 1:49 F:1 0:199' 'WAVE IN<0> SKEW 0 C:51 S:349' 'WAVE MID<0> SKEW 0 C:51 S:349' \
+    'WAVE OUT<0> SKEW 0 S:50 C:51 S:299' 'WAVE SEL<0> SKEW 0 0:400' 'WAVE SLOW1<0> SKEW 0 S:50 C:51 S:299' \
+    'WAVE SLOW2<0> SKEW 0 S:50 C:51 S:299' 'CASE 2 BASE 4 ROUNDS 3 T 408' 'WAVE CK<0> SKEW 0 0:150 R:1 1:49 F:1 0:199' \
+    'WAVE IN<0> SKEW 0 C:51 S:349' 'WAVE MID<0> SKEW 0 S:50 C:51 S:299' 'WAVE OUT<0> SKEW 0 S:50 C:51 S:299' 'WAVE SEL<0> SKEW 0 1:400' \
+    'WAVE SLOW1<0> SKEW 0 S:50 C:51 S:299' 'WAVE SLOW2<0> SKEW 0 S:100 C:51 S:249' 'CLEAN'
+
+# --- lines of reports
+row 'the greatest number of a bit' verify 0 \
+    'b1 : BUF [0:0] ("A"<65535>) -> ("X");' \
+    -- 'STABLE A<65535>' 'CASE 0 BASE 1 ROUNDS 0 T 2'
+row 'the deepest nesting' verify 0 \
+    'b1 : BUF ['"$(many 64 '(')0$(many 64 ')')"':0] ("A") -> ("X");' \
+    -- 'CASE 0 BASE 1 ROUNDS 0 T 2'
+row 'a skew keeps the pulse, which a fold would narrow to 30' verify 0 \
+    'b1 : BUF [10:30] ("CK .P2-3") -> ("X");' 'w1 : MIN_PULSE_CHK {HIGH=50} ("X");' \
+    -- 'CASE 0 BASE 1 ROUNDS 0 T 62' 'WAVE X<0> SKEW 20 0:110 R:1 1:49 F:1 0:239'
+row 'a pulse that is one tick short' verify 1 \
+    'b1 : BUF [10:30] ("CK .P2-3") -> ("X");' 'w1 : MIN_PULSE_CHK {HIGH=51} ("X");' \
+    -- 'FAULT WIDTH w1<0> HIGH FROM 110 WIDTH 50' 'FAULTS 1'
+row 'two pins that move' verify 0 \
+    'b1 : BUF [10:30] ("CK .P2-3") -> ("X");' 'b2 : BUF [10:30] ("CK") -> ("Y");' 'a1 : AND [0:0] ("X", "Y") -> ("Z");' \
+    -- 'CASE 0 BASE 2 ROUNDS 0 T 93' 'WAVE Z<0> SKEW 0 0:110 R:21 1:29 F:21 0:219'
+row 'a loop through a register' verify 0 \
+    'r1 : REG [5:15] ("CK .P2-3", "D") -> ("Q");' 'b1 : BUF [2:4] (-"Q") -> ("D");' 'c1 : SETUP_HOLD_CHK {SETUP=20, HOLD=5} ("CK", "D");' \
+    -- 'NETS 3 INSTANCES 2 CHECKS 1' 'CASE 0 BASE 2 ROUNDS 0 T 48' 'WAVE D<0> SKEW 12 S:107 C:1 S:292' \
+    'WAVE Q<0> SKEW 10 S:105 C:1 S:294'
+row 'a loop that stays unknown' verify 1 \
+    'x1 : XOR [1:1] ("CK .P2-3", "X") -> ("X");' 'c1 : SETUP_HOLD_CHK {SETUP=20, HOLD=5} ("CK", "X");' \
+    -- 'CASE 0 BASE 0 ROUNDS 0 T 2' 'WAVE X<0> SKEW 0 U:400' 'FAULT SETUP c1<0> EDGE 100 SLOT 81 VALUE U'
+row 'a loop that its clock clears' verify 0 \
+    'x1 : AND [1:1] ("CK .P2-3", "X") -> ("X");' 'c1 : SETUP_HOLD_CHK {SETUP=20, HOLD=5} ("CK", "X");' \
+    -- 'CASE 0 BASE 52 ROUNDS 0 T 106' 'WAVE X<0> SKEW 0 0:400'
+row 'a loop of one buffer' verify 0 \
+    'b1 : BUF [1:1] ("X") -> ("X");' \
+    -- 'NETS 1 INSTANCES 1 CHECKS 0' 'CASE 0 BASE 0 ROUNDS 0 T 2' 'WAVE X<0> SKEW 0 U:400' 'CLEAN'
+row 'two latches of two phases' verify 0 \
+    'l1 : LATCH [1:3] ("PH1 .P0-3", "B") -> ("A");' 'l2 : LATCH [1:3] ("PH2 .P4-7", "A") -> ("B");' \
+    -- 'CASE 0 BASE 2 ROUNDS 0 T 12' 'WAVE A<0> SKEW 2 S:1 C:1 S:398' 'WAVE B<0> SKEW 2 S:201 C:1 S:198'
+row 'a choice whose two sides are never chosen together' verify 1 \
+    "$choice" 'c1 : SETUP_HOLD_CHK {SETUP=20, HOLD=5} ("CK .P3-4", "OUT");' \
+    -- 'STABLE SEL<0>' 'CASE 0 BASE 4 ROUNDS 0 T 255' 'WAVE OUT<0> SKEW 0 C:151 S:249' 'FAULT SETUP c1<0> EDGE 150 SLOT 131 VALUE C'
+row 'a skew past the period' verify 0 \
+    'b1 : BUF [0:4095] ("CK .P2-3") -> ("A");' 'b2 : BUF [0:4095] ("A") -> ("B");' \
+    -- 'CASE 0 BASE 2 ROUNDS 0 T 12288' 'WAVE A<0> SKEW 399 0:100 R:1 1:49 F:1 0:249' 'WAVE B<0> SKEW 399 0:100 R:1 1:49 F:1 0:249'
+row 'a hazard' verify 1 \
+    'a1 : AND [0:0] ("CK .P2-3" !H, "E .S1-2") -> ("G");' \
+    -- 'WAVE G<0> SKEW 0 0:100 C:51 0:249' 'FAULT HAZARD a1<0> SLOT 100 PIN 1'
+row 'a marked clock that is not gated while it is high' verify 0 \
+    'a1 : AND [0:0] ("CK .P2-3" !H, "E .S1-4") -> ("G");' \
+    -- 'WAVE G<0> SKEW 0 0:100 R:1 S:49 F:1 0:249'
+row 'a clock whose edges move by themselves' verify 0 \
+    'c1 : SETUP_HOLD_CHK {SETUP=20, HOLD=10} ("CK .C2-3(5,5)", "D .S1-4");' \
+    -- 'WAVE CK<0> SKEW 0 0:95 R:11 1:39 F:11 0:244'
+row 'edges that move further' verify 1 \
+    'c1 : SETUP_HOLD_CHK {SETUP=30, HOLD=10} ("CK .C2-3(25,24)", "D .S1-4");' \
+    -- 'FAULT SETUP c1<0> EDGE 75 SLOT 46 VALUE C'
+row 'regions of edges that touch' verify 0 \
+    'c1 : MIN_PULSE_CHK {HIGH=1} ("CK .C2-3(25,24)");' \
+    -- 'CLEAN'
+row 'a clock that is low in its units' verify 0 \
+    'c1 : SETUP_HOLD_CHK {SETUP=20, HOLD=10} ("CK .P2-3L", "D .S1-4");' \
+    -- 'WAVE CK<0> SKEW 0 1:100 F:1 0:49 R:1 1:249'
+row 'a clock of which only changes are known' verify 1 \
+    'k1 : CHG [0:0] ("CK .P2-3") -> ("K");' 'c1 : SETUP_HOLD_CHK {SETUP=20, HOLD=10} ("K", "D .S2-4");' \
+    -- 'FAULT SETUP c1<0> EDGE 100 SLOT 81 VALUE C'
+row 'an input that stays while the clock is high' verify 0 \
+    'c1 : SETUP_RISE_HOLD_FALL_CHK {SETUP=10, HOLD=5} ("CK .P2-3", "D .S1-4");' \
+    -- 'CLEAN'
+row 'an input that moves while the clock is high' verify 1 \
+    'c1 : SETUP_RISE_HOLD_FALL_CHK {SETUP=10, HOLD=5} ("CK .P2-3", "D .S1-3");' \
+    -- 'FAULT HIGH c1<0> EDGE 100 SLOT 150 VALUE C'
+row 'a driven net that keeps its assertion' verify 0 \
+    'r1 : REG [5:15] ("CK .P2-3", "D .S1-4") -> ("Q .S3-2");' \
+    -- 'CASE 0 BASE 1 ROUNDS 0 T 32'
+row 'a driven net that breaks its assertion' verify 1 \
+    'r1 : REG [5:15] ("CK .P2-3", "D .S1-4") -> ("Q .S2-1");' \
+    -- 'FAULT ASSERT Q<0> SLOT 105 VALUE C'
+row 'set and reset at once' verify 0 \
+    'r1 : REG_RS [1:1] (ZERO, "D", ONE, ONE) -> ("Q");' \
+    -- 'STABLE D<0>' 'CASE 0 BASE 1 ROUNDS 0 T 4' 'WAVE Q<0> SKEW 0 C:400'
+row 'set alone' verify 0 \
+    'r1 : REG_RS [1:1] (ZERO, "D", ONE, ZERO) -> ("Q");' \
+    -- 'WAVE Q<0> SKEW 0 1:400'
+row 'a chain of two' verify 0 \
+    'b1 : BUF [1:1] ("CK .P2-3") -> ("X");' 'b2 : BUF [1:1] ("X") -> ("Y");' \
+    -- 'CASE 0 BASE 2 ROUNDS 0 T 6' 'WAVE Y<0> SKEW 0 0:102 R:1 1:49 F:1 0:247'
+row 'spaces, comments and leading zeros' verify 0 \
+    'c1:SETUP_HOLD_CHK -- a checker' '{SETUP = 020,HOLD=10}("CK .P2-3","D .S1-4") ; -- its end' \
+    -- 'SCALD 1 PERIOD 400' 'NETS 2 INSTANCES 0 CHECKS 1' 'CASE 0 BASE 0 ROUNDS 0 T 1' 'WAVE CK<0> SKEW 0 0:100 R:1 1:49 F:1 0:249' \
+    'WAVE D<0> SKEW 0 C:51 S:149 C:200' 'CLEAN'
+whole 'a chain of two and one round' 'verify rounds=1' 3 \
+    'b1 : BUF [1:1] ("CK .P2-3") -> ("X");' 'b2 : BUF [1:1] ("X") -> ("Y");' \
+    -- 'UNSETTLED Y<0> ROUND 1'
+
+# --- macros and wires
+row 'a tree of gates' verify 0 \
+    'MACRO TREE {SIZE=8} ("A"<0:SIZE-1>) -> ("Z");' 'IF SIZE = 1 THEN leaf : BUF [1:2] ("A"<0>) -> ("Z");' \
+    'ELSE left : TREE {SIZE=SIZE/2} ("A"<0:SIZE/2-1>) -> ("L");' 'right : TREE {SIZE=SIZE/2} ("A"<SIZE/2:SIZE-1>) -> ("R");' \
+    'top : OR [1:2] ("L", "R") -> ("Z"); END;' 'END;' 'DRAWING ROW;' 't : TREE ("IN"<0:7>) -> ("OUT");' 'END;' \
+    -- 'NETS 23 INSTANCES 15 CHECKS 0' 'STABLE IN<0>' 'STABLE IN<7>' 'CASE 0 BASE 4 ROUNDS 0 T 15' 'WAVE OUT<0> SKEW 0 S:400'
+row 'a checker of two bits' verify 0 \
+    'MACRO CHK2 {N=2} ("CK", "D"<0:N-1>);' 'c : SETUP_HOLD_CHK {SETUP=20, HOLD=10} ("CK", "D"<0:N-1>);' 'END;' 'DRAWING ROW;' \
+    'u1 : CHK2 ("CK .P2-3", "D .S1-4"<0:1>);' 'END;' \
+    -- 'NETS 3 INSTANCES 0 CHECKS 2' 'CASE 0 BASE 0 ROUNDS 0 T 1'
+row 'a checker of two bits that both have a fault' verify 1 \
+    'MACRO CHK2 {N=2} ("CK", "D"<0:N-1>);' 'c : SETUP_HOLD_CHK {SETUP=20, HOLD=10} ("CK", "D"<0:N-1>);' 'END;' 'DRAWING ROW;' \
+    'u1 : CHK2 ("CK .P2-3", "D .S2-4"<0:1>);' 'END;' \
+    -- 'FAULT SETUP u1/c<0> EDGE 100 SLOT 81 VALUE C' 'FAULT SETUP u1/c<1> EDGE 100 SLOT 81 VALUE C' 'FAULTS 2'
+row 'late wires' verify 0 \
+    'WIRE 0:20;' 'DRAWING ROW;' 'c1 : SETUP_HOLD_CHK {SETUP=20, HOLD=10} ("CK .P2-3", "D .S1-4");' 'END;' \
+    -- 'CASE 0 BASE 0 ROUNDS 0 T 21'
+row 'the longest setup behind late wires' verify 0 \
+    'WIRE 0:20;' 'DRAWING ROW;' 'c1 : SETUP_HOLD_CHK {SETUP=30, HOLD=10} ("CK .P2-3", "D .S1-4");' 'END;' \
+    -- 'CLEAN'
+row 'one tick more behind late wires' verify 1 \
+    'WIRE 0:20;' 'DRAWING ROW;' 'c1 : SETUP_HOLD_CHK {SETUP=31, HOLD=10} ("CK .P2-3", "D .S1-4");' 'END;' \
+    -- 'FAULT SETUP c1<0> EDGE 100 SLOT 70 VALUE C'
+row 'waves alone' 'verify waves' 1 \
+    'c1 : SETUP_HOLD_CHK {SETUP=20, HOLD=10} ("CK .P2-3", "D .S2-4");' \
+    -- 'WAVE D<0> SKEW 0 C:101 S:99 C:200' 'FAULTS 1'
+
+# --- cases
+whole 'faults in the last case alone' 'verify faults' 1 \
+    'DRAWING ROW;' "$choice" 'c1 : SETUP_HOLD_CHK {SETUP=20, HOLD=5} ("CK .P3-4", "SLOW2");' 'END;' 'CASE "SEL"=0;' 'CASE "SEL"=1;' \
+    -- 'SCALD 1 PERIOD 400' 'NETS 7 INSTANCES 4 CHECKS 1' 'STABLE SEL<0>' 'CASE 1 BASE 4 ROUNDS 3 T 408' 'CASE 2 BASE 4 ROUNDS 3 T 408' \
+    'FAULT SETUP c1<0> EDGE 150 SLOT 131 VALUE C' 'FAULTS 1'
+whole 'faults in the first case alone' 'verify faults' 1 \
+    'DRAWING ROW;' "$choice" 'c1 : SETUP_HOLD_CHK {SETUP=20, HOLD=5} ("CK .P3-4", "SLOW2");' 'END;' 'CASE "SEL"=1;' 'CASE "SEL"=0;' \
+    -- 'SCALD 1 PERIOD 400' 'NETS 7 INSTANCES 4 CHECKS 1' 'STABLE SEL<0>' 'CASE 1 BASE 4 ROUNDS 3 T 408' \
+    'FAULT SETUP c1<0> EDGE 150 SLOT 131 VALUE C' 'CASE 2 BASE 4 ROUNDS 3 T 408' 'FAULTS 1'
+whole 'faults in both cases, which may be the same' 'verify faults' 1 \
+    'DRAWING ROW;' "$choice" 'c1 : SETUP_HOLD_CHK {SETUP=20, HOLD=5} ("CK .P3-4", "SLOW2");' 'END;' 'CASE "SEL"=1;' 'CASE "SEL"=1;' \
+    -- 'SCALD 1 PERIOD 400' 'NETS 7 INSTANCES 4 CHECKS 1' 'STABLE SEL<0>' 'CASE 1 BASE 4 ROUNDS 3 T 408' \
+    'FAULT SETUP c1<0> EDGE 150 SLOT 131 VALUE C' 'CASE 2 BASE 4 ROUNDS 3 T 408' 'FAULT SETUP c1<0> EDGE 150 SLOT 131 VALUE C' 'FAULTS 2'
+whole 'faults in no case: a late input that stays has no late change' 'verify faults' 0 \
+    'DRAWING ROW;' "$choice" 'c1 : SETUP_HOLD_CHK {SETUP=20, HOLD=5} ("CK .P3-4", "SLOW2");' 'END;' 'CASE "SEL"=0;' 'CASE "IN"=1, "SEL"=1;' \
+    -- 'SCALD 1 PERIOD 400' 'NETS 7 INSTANCES 4 CHECKS 1' 'STABLE SEL<0>' 'CASE 1 BASE 4 ROUNDS 3 T 408' 'CASE 2 BASE 4 ROUNDS 3 T 408' \
+    'CLEAN'
+whole 'faults where what one case sets is unset again in the next' 'verify faults' 1 \
+    'DRAWING ROW;' "$choice" 'c1 : SETUP_HOLD_CHK {SETUP=20, HOLD=5} ("CK .P3-4", "SLOW2");' 'END;' 'CASE "IN"=1, "SEL"=1;' 'CASE "SEL"=1;' \
+    -- 'SCALD 1 PERIOD 400' 'NETS 7 INSTANCES 4 CHECKS 1' 'STABLE SEL<0>' 'CASE 1 BASE 4 ROUNDS 3 T 408' 'CASE 2 BASE 4 ROUNDS 3 T 408' \
+    'FAULT SETUP c1<0> EDGE 150 SLOT 131 VALUE C' 'FAULTS 1'
+row 'as many cases as may be' 'verify faults' 0 \
+    'DRAWING ROW;' 'w1 : MIN_PULSE_CHK {HIGH=400} ("K");' 'END;' "$(many 256 'CASE "K"=0;\n')" \
+    -- 'CASE 1 BASE 0 ROUNDS 0 T 1' 'CASE 2 BASE 0 ROUNDS 0 T 1' 'CASE 256 BASE 0 ROUNDS 0 T 1' 'CLEAN'
+whole 'a ring that a case clears, rounds=5' 'verify faults rounds=5' 3 \
+    'DRAWING ROW;' 'a : AND [1:1] ("A", "X"<9>) -> ("X"<0>);' 'b : BUF [0:0] ("X"<0:8>) -> ("X"<1:9>);' 'END;' 'CASE "A"=1;' \
+    'CASE "A"=0;' \
+    -- 'UNSETTLED X<5> ROUND 5'
+whole 'a ring that a case clears, rounds=9' 'verify faults rounds=9' 3 \
+    'DRAWING ROW;' 'a : AND [1:1] ("A", "X"<9>) -> ("X"<0>);' 'b : BUF [0:0] ("X"<0:8>) -> ("X"<1:9>);' 'END;' 'CASE "A"=1;' \
+    'CASE "A"=0;' \
+    -- 'UNSETTLED X<9> ROUND 9'
+whole 'a ring that a case clears, rounds=10' 'verify faults rounds=10' 0 \
+    'DRAWING ROW;' 'a : AND [1:1] ("A", "X"<9>) -> ("X"<0>);' 'b : BUF [0:0] ("X"<0:8>) -> ("X"<1:9>);' 'END;' 'CASE "A"=1;' \
+    'CASE "A"=0;' \
+    -- 'SCALD 1 PERIOD 400' 'NETS 11 INSTANCES 10 CHECKS 0' 'STABLE A<0>' 'CASE 1 BASE 0 ROUNDS 0 T 2' 'CASE 2 BASE 0 ROUNDS 10 T 22' \
+    'CLEAN'
+
+# --- canonical texts
+# formatted NAME TEXT LINE ..: the text is formatted to the lines behind the head
+formatted() {
+    name=$1
+    printf '%s' "$2" >"$work/text"
+    shift 2
+    {
+        printf 'SCALD 1;\nCLOCK 8 x 50;\nWIRE 0:0;\nPSKEW 0:0;\nCSKEW 0:0;\nDRAWING T;\n'
+        printf '%s\n' "$@"
+    } >"$work/want"
+    "$program" format <"$work/text" >"$work/out"
+    status=$?
+    tried=$((tried + 1))
+    [ "$status" -eq 0 ] || failure "$name" "status $status in place of 0"
+    cmp -s "$work/out" "$work/want" || failure "$name" 'another text'
+}
+formatted 'a complement' 'SCALD 1; CLOCK 8 x 50; DRAWING T; b1:BUF[0:0](-"A")->("B"); END;' \
+    '  b1 : BUF [0:0] (-"A") -> ("B");' 'END;'
+formatted 'few parentheses' 'SCALD 1;CLOCK 8 x 50;DRAWING T;t:T{N=(1+2)*3-(-(4))}("A")->("Z");END;' \
+    '  t : T {N=(1 + 2) * 3 - -4} ("A") -> ("Z");' 'END;'
+formatted 'what is drawn, and a case' 'SCALD 1;CLOCK 8 x 50;DRAWING T;b1:BUFF("A")->("X");END;CASE"A"=0;' \
+    '  b1 : BUFF ("A") -> ("X");' 'END;' 'CASE "A"<0>=0;'
+
+echo "checks/reports.sh: $tried tried, $failed failed"
+[ "$tried" -gt 0 ] && [ "$failed" -eq 0 ]

@@ -1,0 +1,56 @@
+-- Which texts have an answer that is neither a refusal nor a net that does not rest.
+use Rattle.std.specs.Prelude.{◌≡◌, ℕ, ◌≤◌, Bool, true, false, List, length, Option, None, Ok}
+use Rattle.drawing_tree.specs.Tree.{Drawing}
+use Rattle.drawing_grammar.specs.CanonicalDraws.{TextDraws}
+use Rattle.flat_circuit.specs.declared.case.CaseValue.{CaseValue}
+use Rattle.flat_circuit.specs.Circuit.{Circuit}
+use Rattle.fixpoint_engine.specs.Rounds.{RestsAt}
+use Rattle.case_analysis.specs.Base.{base_round}
+use Rattle.design_gen.specs.Datapath.{datapath}
+use Rattle.listing.specs.declared.case.Mode.{Mode}
+use Rattle.scald_tool.specs.declared.outcome.Outcome.{Outcome}
+use Rattle.scald_tool.specs.declared.outcome.Outcome.TheVariants.{Clean, Faulty, Done}
+use Rattle.scald_tool.specs.declared.words.Command.{Command}
+use Rattle.scald_tool.specs.declared.words.Command.TheVariants.{Verify, Format, Bench}
+use Rattle.scald_tool.specs.Words.{command_of, reads}
+use Rattle.scald_tool.specs.Drawn.{DrawsCircuit}
+use Rattle.scald_tool.specs.Case.{Case, AreAtRest, listed_cases}
+use Rattle.scald_tool.specs.Answer.{limit_for, most_bytes}
+use Rattle.scald_tool.specs.Promise.{IsAnswered}
+
+-- The text draws a circuit, and nothing of it is refused; its base and each of its cases come to rest, within this limit where
+-- one is given, and else within the circuit's own.
+pub record ComesToRest (rounds : Option ℕ) (text : List ℕ) : Type 0 where
+  pub circuit : Circuit
+  pub values : List (List CaseValue)
+  pub drawn : DrawsCircuit text circuit values
+  pub base : ℕ
+  pub rests : RestsAt (base_round circuit) (limit_for circuit rounds) base
+  pub cases : List Case
+  pub at_rest : AreAtRest circuit (limit_for circuit rounds) base (listed_cases values) cases
+
+-- The text passes every stage of a form: for `format` it draws a drawing, for `verify` it comes to rest, and for `bench` the
+-- generated drawing does, whatever the text is.
+pub data Passes (text : List ℕ) : Command → Type 0 where
+  formatted : (d : Drawing) → TextDraws text d → Passes text Format
+  verified : (mode : Mode) (rounds : Option ℕ) → ComesToRest rounds text → Passes text (Verify mode rounds)
+  benched : (sections : ℕ) → ComesToRest None (datapath sections) → Passes text (Bench sections)
+
+-- a report without or with faults, or what else was asked for
+abbrev pub is_finished : Outcome → Bool
+is_finished Clean = true
+is_finished (Faulty n) = true
+is_finished Done = true
+is_finished o = false
+
+-- To words of a form, and a text that is not too long where the form reads and that passes every stage, the answer is the one
+-- that they have, with exactly its bytes, and it is finished.
+abbrev pub IsFinished : List (List ℕ) → List ℕ → Outcome → Option (List ℕ) → Option (List ℕ) → Type 0
+IsFinished words text o taken taken' = IsAnswered words text o taken taken' × (is_finished o ≡ true)
+
+-- the words are of a form, and the text passes every stage of it
+pub record AsksWell (words : List (List ℕ)) (text : List ℕ) : Type 0 where
+  pub command : Command
+  pub form : command_of words ≡ Ok command
+  pub short : reads command ≡ true → length text ≤ most_bytes
+  pub passes : Passes text command

@@ -1,0 +1,138 @@
+//! What is evaluated, and its rounds: by one net of each class for all of it where nothing tells the nets of
+//! a class apart, and else by each net for itself.
+
+ghost use Rattle.std.specs.Prelude.{◌≡◌, ◌≤◌, ◌<◌, ◌+◌, ℕ, Bool, IfErr, IfOk, MatchResult, length, map};
+ghost use Rattle.skew_algebra.specs.Wave.{skewed};
+ghost use Rattle.flat_circuit.specs.Instances.{outputs};
+ghost use Rattle.fixpoint_engine.specs.End.{EndsFor};
+ghost use Rattle.fixpoint_engine.specs.Loops.{HasNoLoop};
+ghost use Rattle.fixpoint_engine.specs.Settled.{FitWaves, waves_of};
+ghost use Rattle.case_analysis.specs.Base.{IsBase, PermitInputs, base_round};
+ghost use Rattle.case_analysis.specs.Case.{EndsInCone, HasCone, IsCase, IsCone, NetsExist, PermitCase, case_at, case_round};
+ghost use Rattle.scald_tool.specs.Subject.{AreClasses};
+
+use crate::drawn::Drawn;
+use case_analysis::{base, base_classes, case_classes, case_waves};
+use class_table::{ClassMap, classes, stable};
+use fixpoint_engine::{EngineEnd, Settled};
+use flat_circuit::{Case, CaseList, Circuit};
+use scald_base::NoMemory;
+use std::alloc::Global;
+use step_values::Value;
+use wave_core::CyclicWave;
+
+/// A circuit and the cases in which it is looked at, and the classes of its nets where they are stable.
+#[derive(Drop)]
+pub struct Subject {
+    pub circuit: Circuit,
+    pub cases: CaseList,
+    pub classes: Option<ClassMap>,
+}
+
+/// The classes of the nets of a circuit, where nothing tells the nets of one class apart.
+fn stable_classes(
+    alloc: Global,
+    circuit: &Circuit,
+    cases: &CaseList,
+) -> Result<Option<ClassMap>, NoMemory>
+    ensures { IfOk result (AreClasses circuit.now cases.now) }
+{
+    let classes = classes(alloc, circuit, cases)?;
+    if stable(circuit, cases, &classes) {
+        Ok(Some(classes))
+    } else {
+        Ok(None)
+    }
+}
+
+/// The case of a number from 0 that is known to be there.
+fn case_at(cases: &CaseList, number: u32) -> &Case
+    requires { number < length cases.now }
+    ensures { result.now ≡ case_at cases.now number }
+{
+    match cases.get(number as usize) {
+        Some(case) => case,
+        None => unreachable!(),
+    }
+}
+
+impl Subject {
+    /// A circuit with its cases, and its classes where they are stable.
+    pub fn new(alloc: Global, drawn: Drawn) -> Result<Subject, NoMemory>
+        ensures circuit { IfOk result (λ subject. subject.circuit ≡ drawn.circuit) }
+        ensures cases { IfOk result (λ subject. subject.cases ≡ drawn.cases) }
+        ensures classes { IfOk result (λ subject. AreClasses subject.circuit subject.cases subject.classes) }
+    {
+        let Drawn { circuit, cases } = drawn;
+        let classes = stable_classes(alloc, &circuit, &cases)?;
+        Ok(Subject {
+            circuit,
+            cases,
+            classes,
+        })
+    }
+
+    /// The base of the circuit at rest, or its end where it does not rest within so many rounds.
+    pub fn base<W: CyclicWave<Item = Value>>(
+        &self,
+        alloc: Global,
+        limit: u32,
+    ) -> Result<Settled<W>, EngineEnd>
+        requires classes { AreClasses self.now.circuit self.now.cases self.now.classes }
+        ensures rest { IfOk result (λ s. IsBase self.now.circuit limit s.rounds (waves_of (map (λ w. skewed (W.cells w.wave) w.skew) s.waves))) }
+        ensures within { IfOk result (λ s. s.rounds ≤ limit) }
+        ensures fit { IfOk result (λ s. FitWaves self.now.circuit (map (λ w. skewed (W.cells w.wave) w.skew) s.waves)) }
+        ensures sound { IfOk result (λ s. PermitInputs self.now.circuit s.rounds (waves_of (map (λ w. skewed (W.cells w.wave) w.skew) s.waves))) }
+        ensures unsettled { IfErr result (EndsFor self.now.circuit.order (base_round self.now.circuit) limit) }
+        ensures loopless { HasNoLoop self.now.circuit → outputs self.now.circuit.instances ≤ limit → MatchResult result (λ s. s.rounds ≤ outputs self.now.circuit.instances) (λ e. e ≡ EngineEnd.NoMemory) }
+    {
+        match &self.classes {
+            Some(classes) => base_classes(alloc, &self.circuit, &self.cases, classes, limit),
+            None => base(alloc, &self.circuit, limit),
+        }
+    }
+
+    /// The case with this number from 0 at rest, from the base of the circuit on, or its end where it does not
+    /// rest within so many rounds.
+    pub fn case<W: CyclicWave<Item = Value>>(
+        &self,
+        alloc: Global,
+        base: &Settled<W>,
+        number: u32,
+        limit: u32,
+    ) -> Result<Settled<W>, EngineEnd>
+        requires classes { AreClasses self.now.circuit self.now.cases self.now.classes }
+        requires number { number < length self.now.cases }
+        requires exist { NetsExist self.now.circuit (case_at self.now.cases number) }
+        requires base { IsBase self.now.circuit base.now.rounds base.now.rounds (waves_of (map (λ s. skewed (W.cells s.wave) s.skew) base.now.waves)) }
+        requires fit { FitWaves self.now.circuit (map (λ s. skewed (W.cells s.wave) s.skew) base.now.waves) }
+        ensures rest { let case = case_at self.now.cases number in
+            let before = waves_of (map (λ s. skewed (W.cells s.wave) s.skew) base.now.waves) in
+            IfOk result (λ s. (cone : ℕ → Bool) → IsCone self.now.circuit case cone → IsCase self.now.circuit case cone before limit s.rounds (waves_of (map (λ w. skewed (W.cells w.wave) w.skew) s.waves))) }
+        ensures within { IfOk result (λ s. s.rounds ≤ limit) }
+        ensures fit { IfOk result (λ s. FitWaves self.now.circuit (map (λ w. skewed (W.cells w.wave) w.skew) s.waves)) }
+        ensures sound { IfOk result (λ s. PermitCase self.now.circuit (case_at self.now.cases number) (base.now.rounds + s.rounds) (waves_of (map (λ w. skewed (W.cells w.wave) w.skew) s.waves))) }
+        ensures unsettled { let case = case_at self.now.cases number in
+            let before = waves_of (map (λ s. skewed (W.cells s.wave) s.skew) base.now.waves) in
+            IfErr result (λ e. (cone : ℕ → Bool) → IsCone self.now.circuit case cone → EndsFor self.now.circuit.order (case_round self.now.circuit case cone before) limit e) }
+        ensures cone { let case = case_at self.now.cases number in
+            MatchResult result (λ _. HasCone self.now.circuit case) (EndsInCone self.now.circuit case) }
+        ensures loopless { HasNoLoop self.now.circuit → outputs self.now.circuit.instances ≤ limit → MatchResult result (λ s. s.rounds ≤ outputs self.now.circuit.instances) (λ e. e ≡ EngineEnd.NoMemory) }
+    {
+        match &self.classes {
+            Some(classes) => case_classes(
+                alloc,
+                &self.circuit,
+                &self.cases,
+                classes,
+                base,
+                number,
+                limit,
+            ),
+            None => {
+                let case = case_at(&self.cases, number);
+                case_waves(alloc, &self.circuit, base, case, limit)
+            }
+        }
+    }
+}

@@ -1,0 +1,71 @@
+//! The report on a text, whichever way its waves are kept.
+
+ghost use Rattle.std.specs.Prelude.{◌≡◌, ◌≢◌, ◌-◌, ◌^◌, ◌<◌, ◌≤◌, ◌⊎◌, ℕ, true, None, IfOk, IfSome, length};
+ghost use Rattle.scald_tool.specs.Answer.{Verified};
+ghost use Rattle.scald_tool.specs.Drawn.{IsLoopless};
+ghost use Rattle.scald_tool.specs.Promise.{FaultlessNeverBreaks, IsVerified, NeverBreaks, has_report, may_give, speaks};
+
+use crate::outcome::Outcome;
+use crate::reply::Reply;
+use crate::verify::verify;
+use crate::words::Command;
+use listing::Mode;
+use run_wave::RunWave;
+use scald_base::{Bytes, NoMemory};
+use std::alloc::Global;
+use step_values::Value;
+use wave_core::CyclicWave;
+
+/// What `verify` answers to a text of fewer than 4,294,967,295 bytes, in this mode and, where a number is given,
+/// with at most so many rounds of the base and of each case, at most 10,000,000. It is the same whichever kind of
+/// waves is chosen.
+///
+/// The answer is `Clean`, `Faulty`, `Refused` or `Unsettled`, and `out` grows by exactly its bytes; or it is
+/// `NoMemory`, and `out` is as before.
+pub fn verify_text<W: CyclicWave<Item = Value>>(
+    alloc: Global,
+    text: &[u8],
+    mode: Mode,
+    rounds: Option<u32>,
+    out: &mut Bytes,
+) -> Outcome
+    requires short { length text.now < 2 ^ 32 - 1 }
+    requires few { IfSome rounds (λ limit. limit ≤ 10000000) }
+    ensures whole { (result ≡ Outcome.NoMemory) ⊎ IsVerified mode rounds text.now result out.old out.new }
+    ensures no_memory { result ≡ Outcome.NoMemory → out.new ≡ out.old }
+    ensures given { (result ≡ Outcome.NoMemory) ⊎ (may_give (Command.Verify mode rounds) result ≡ true) }
+    ensures clean { result ≡ Outcome.Clean → NeverBreaks text.now }
+    ensures faultless { has_report result ≡ true → FaultlessNeverBreaks text.now }
+    ensures loopless { (place round : ℕ) → rounds ≡ None → IsLoopless text.now → result ≢ Outcome.Unsettled place round }
+{
+    let reply = match verify::<W>(alloc, text, mode, rounds) {
+        Ok(reply) => reply,
+        Err(_) => return Outcome::NoMemory,
+    };
+    match out.extend(reply.bytes.as_slice()) {
+        Ok(()) => reply.outcome,
+        Err(_) => Outcome::NoMemory,
+    }
+}
+
+/// The same, as an answer that is not written yet, by the kind of waves that costs least.
+pub fn verified(
+    alloc: Global,
+    text: &[u8],
+    mode: Mode,
+    rounds: Option<u32>,
+) -> Result<Reply, NoMemory>
+    requires short { length text.now < 2 ^ 32 - 1 }
+    requires few { IfSome rounds (λ limit. limit ≤ 10000000) }
+    ensures is { IfOk result (λ reply. Verified mode rounds text.now reply.outcome reply.bytes) }
+    ensures given { IfOk result (λ reply. may_give (Command.Verify mode rounds) reply.outcome ≡ true) }
+    ensures clean { IfOk result (λ reply. reply.outcome ≡ Outcome.Clean → NeverBreaks text.now) }
+    ensures faultless { IfOk result (λ reply. has_report reply.outcome ≡ true → FaultlessNeverBreaks text.now) }
+    ensures loopless { IfOk result (λ reply. (place round : ℕ) → rounds ≡ None → IsLoopless text.now → reply.outcome ≢ Outcome.Unsettled place round) }
+{
+    let mut bytes = Bytes::new(alloc);
+    match verify_text::<RunWave<Value>>(alloc, text, mode, rounds, &mut bytes) {
+        Outcome::NoMemory => Err(NoMemory),
+        outcome => Ok(Reply { outcome, bytes }),
+    }
+}
