@@ -1,9 +1,15 @@
 //! Counts the nets of the drawing on standard input and their classes, and says whether the classes are
-//! stable. It leaves the drawing's cases out.
+//! stable, and how many evaluations bring the base to rest, net by net and class by class. It leaves the
+//! drawing's cases out.
 #![tactic(auto)]
 
+ghost use Rattle.std.specs.Prelude.{◌≡◌, length};
+ghost use Rattle.class_table.specs.Stable.{IsStable};
+
+use case_analysis::{base, base_classes, default_limit};
 use class_table::{ClassMap, classes, stable};
 use drawing_reader::read_drawing;
+use fixpoint_engine::EngineEnd;
 use flat_circuit::{CaseList, Circuit};
 use macro_expander::expand;
 use scald_base::{Bytes, NoMemory, ReadEnd, StdSource, Stop, read_all};
@@ -11,16 +17,33 @@ use scald_lex::tokens;
 use std::alloc::Global;
 use std::io;
 use std::process::ExitCode;
+use step_values::Value;
+use wave_core::SlotWave;
 
 /// The most bytes of a text.
 const MOST_BYTES: u32 = 4_194_304;
+
+/// How many evaluations bring a base to rest.
+#[derive(Clone, Copy)]
+struct Work {
+    by_nets: u64,
+    by_classes: u64,
+}
+
+/// What is said of the classes of a drawing.
+#[derive(Clone, Copy)]
+enum Found {
+    NotStable,
+    NotAtRest,
+    AtRest(Work),
+}
 
 /// What is said of a drawing.
 #[derive(Drop)]
 struct Count {
     nets: u32,
     classes: usize,
-    is_stable: bool,
+    found: Found,
 }
 
 /// The text that the source has, or the status for want of it.
@@ -41,13 +64,49 @@ fn different(alloc: Global, numbers: &ClassMap) -> Result<usize, NoMemory> {
     Ok(sorted.len())
 }
 
+fn evaluations(
+    alloc: Global,
+    c: &Circuit,
+    cases: &CaseList,
+    numbers: &ClassMap,
+) -> Result<Work, EngineEnd>
+    requires one_each { length numbers.now ≡ length c.now.nets }
+    requires stable { IsStable c.now cases.now numbers.now }
+{
+    let limit = default_limit(c);
+    let net_by_net = base::<SlotWave<Value>>(alloc, c, limit)?;
+    let class_by_class = base_classes::<SlotWave<Value>>(alloc, c, cases, numbers, limit)?;
+    Ok(Work {
+        by_nets: net_by_net.evals,
+        by_classes: class_by_class.evals,
+    })
+}
+
+fn looked_at(
+    alloc: Global,
+    c: &Circuit,
+    cases: &CaseList,
+    numbers: &ClassMap,
+) -> Result<Found, NoMemory>
+    requires { length numbers.now ≡ length c.now.nets }
+{
+    if !stable(c, cases, numbers) {
+        return Ok(Found::NotStable);
+    }
+    match evaluations(alloc, c, cases, numbers) {
+        Ok(work) => Ok(Found::AtRest(work)),
+        Err(EngineEnd::Unsettled { net: _, round: _ }) => Ok(Found::NotAtRest),
+        Err(EngineEnd::NoMemory) => Err(NoMemory),
+    }
+}
+
 fn classified(alloc: Global, c: &Circuit) -> Result<Count, NoMemory> {
     let cases = CaseList::new(alloc);
     let numbers = classes(alloc, c, &cases)?;
     Ok(Count {
         nets: c.net_count(),
         classes: different(alloc, &numbers)?,
-        is_stable: stable(c, &cases, &numbers),
+        found: looked_at(alloc, c, &cases, &numbers)?,
     })
 }
 
@@ -67,15 +126,19 @@ fn main(rt: HostRuntime) -> io::Result<ExitCode> {
         Err(status) => return Ok(ExitCode::from(status)),
     };
     match count_of_text(rt.alloc(), text.as_slice()) {
-        Ok(found) => {
-            let nets = found.nets;
-            let classes = found.classes;
-            let stable = if found.is_stable {
-                "stable"
-            } else {
-                "not stable"
-            };
-            println!(rt; "{nets} nets, {classes} classes, {stable}")?;
+        Ok(count) => {
+            let nets = count.nets;
+            let classes = count.classes;
+            print!(rt; "{nets} nets, {classes} classes, ")?;
+            match count.found {
+                Found::NotStable => println!(rt; "not stable")?,
+                Found::NotAtRest => println!(rt; "stable, not at rest")?,
+                Found::AtRest(work) => {
+                    let by_nets = work.by_nets;
+                    let by_classes = work.by_classes;
+                    println!(rt; "stable, {by_nets} evaluations, {by_classes} by classes")?;
+                }
+            }
             Ok(ExitCode::SUCCESS)
         }
         Err(Stop::Refused(refusal)) => {
