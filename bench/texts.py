@@ -55,9 +55,26 @@ top : OR [1:2] ("L", "R") -> ("Z"); END;
 END;""".split("\n")
 
 
-def tree(leaves):
+def tree(leaves, after=()):
     """A macro that halves its inputs until one is left: so many buffers, and an OR for each two halves."""
-    return drawing([f't : TREE {{SIZE={leaves}}} ("CK .P2-3") -> ("OUT");'], macros=TREE)
+    return drawing([f't : TREE {{SIZE={leaves}}} ("CK .P2-3") -> ("OUT");'], macros=TREE, after=after)
+
+
+# a case of a net that is not there: the drawing is refused as soon as its circuit stands
+REFUSED = ['CASE "NO SUCH NET"=0;']
+
+
+def expanded_tree(leaves):
+    """The same tree, refused as soon as it is expanded."""
+    return tree(leaves, after=REFUSED)
+
+
+def expanded_uses(count):
+    """Registers one behind another, refused as soon as they are expanded."""
+    return drawing(
+        (f'register_{i} : REG [5:10] ("MAIN CLK .P2-3", "QUEUE {i - 1}") -> ("QUEUE {i}");' for i in range(1, count + 1)),
+        after=REFUSED,
+    )
 
 
 def chain(buffers):
@@ -158,5 +175,5 @@ def short_tokens(lines):
 
 
 def nothing(_size):
-    """No text at all."""
+    """No text at all: what is measured makes its own."""
     return ""
