@@ -1,10 +1,7 @@
 -- Lists of cells that are all quiet, or all the same.
-use Rattle.std.proofs.Common.{inl, inr, ◌≡◌, ℕ, zero, suc, ◌+◌, ◌-◌, ◌<◌, ◌≤◌, Bool, true, false, ◌&&◌, List, [], ◌∷◌, length, get_or, take, Some, map, refl, sym, ap, ◌∙◌, arith}
-use Rattle.std.specs.Prelude.{slice_get}
+use Rattle.std.proofs.Common.{inl, inr, ◌≡◌, ℕ, zero, suc, ◌-◌, ◌<◌, ◌≤◌, Bool, true, false, ◌&&◌, List, [], ◌∷◌, length, get_or, map, refl, sym, ap, ◌∙◌, arith}
 use Rattle.std.specs.List.{list_all}
 use Rattle.std.proofs.lemmas.List.{get_or-map}
-use Rattle.std.proofs.lemmas.Option.{get_or_from_slice_get}
-use Rattle.std.proofs.lemmas.List.Folds.{list_all_more, list_all_at}
 use Rattle.std.proofs.lemmas.Bool.{and_parts, and_from, cases_eq}
 use Rattle.wave_core.specs.Cell.{Cells, IsLawful}
 use Rattle.wave_core.specs.Slots.{join_to}
@@ -87,19 +84,3 @@ module _ {T : Type 0} (k : Cells T) (laws : IsLawful k) where
       ap (λ v. list_all (k.same v) (map k.flip cells)) first
       ∙ all-map (k.same (k.flip (cell_at k cells 0))) k.flip cells
       ∙ all-same (λ v. k.same (k.flip (cell_at k cells 0)) (k.flip v)) (k.same (cell_at k cells 0)) cells (λ v. flip-same (cell_at k cells 0) v)
-
--- ---- what a scan reads
-
--- one slot more
-pub all-next : {T : Type 0} (test : T → Bool) (xs : List T) (i : ℕ) (c : T) → i < length xs → slice_get xs i ≡ Some c →
-    list_all test (take i xs) ≡ true → test c ≡ true → list_all test (take (i + 1) xs) ≡ true
-all-next test xs i c below is so_far here =
-    let at : get_or xs i c ≡ c = get_or_from_slice_get xs i c c is in
-    list_all_more test xs i c below ∙ and_from (list_all test (take i xs)) (test (get_or xs i c)) so_far (ap test at ∙ here)
-
--- a slot that fails
-pub all-fails : {T : Type 0} (test : T → Bool) (xs : List T) (i : ℕ) (c : T) → i < length xs → slice_get xs i ≡ Some c →
-    test c ≡ false → list_all test xs ≡ false
-all-fails test xs i c below is here =
-    let at : get_or xs i c ≡ c = get_or_from_slice_get xs i c c is in
-    list_all_at test xs i c below (ap test at ∙ here)

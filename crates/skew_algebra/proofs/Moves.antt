@@ -1,5 +1,5 @@
 -- Waves that permit a signal, moved, complemented, folded and brought to their normal form.
-use Rattle.std.proofs.Common.{◌≡◌, ℕ, suc, ◌+◌, ◌-◌, ◌%◌, ◌<◌, ◌≤◌, min, Bool, true, not, List, length, get_or, Some, sym, ap, ◌∙◌, arith, map, subst}
+use Rattle.std.proofs.Common.{◌≡◌, ℕ, ◌+◌, ◌-◌, ◌%◌, ◌<◌, ◌≤◌, min, Bool, true, not, List, length, get_or, Some, sym, ap, ◌∙◌, arith, map, subst}
 use Rattle.std.specs.Prelude.{slice_get}
 use Rattle.std.proofs.lemmas.Option.{get_or_from_slice_get}
 use Rattle.std.proofs.lemmas.List.{get_or-map, length-map}
@@ -11,7 +11,7 @@ use Rattle.wave_core.specs.Cell.{Cells, IsLawful}
 use Rattle.wave_core.specs.Slots.{slots, earlier, later, fold_at}
 use Rattle.scald_base.proofs.Back.{back-lt, back-zero, back-later, back-back, back-mod, back-period}
 use Rattle.wave_core.proofs.Fold.{join_to-same}
-use Rattle.wave_core.proofs.Slots.{get_or-slots, length-slots, near-cell}
+use Rattle.wave_core.proofs.Slots.{get_or-slots, length-slots}
 use Rattle.skew_algebra.specs.Wave.{Wave, skewed, fold, folded, all_equal, is_steady, joined, normal, moved, flipped}
 use Rattle.skew_algebra.specs.Permits.{Signal, Permits, Keeps, KeepsFlipped, KeepsMoved}
 use Rattle.skew_algebra.proofs.Cells.{equal-at, join_to-has, joined-has}
@@ -47,21 +47,6 @@ module _ {T : Type 0} (k : Cells T) where
   here-cell cells t c below is =
       sym (get_or_from_slice_get cells t c k.any is)
       ∙ ap (λ (z : ℕ). get_or cells z k.any) (sym (back-zero (length cells) t ∙ mod-eq_of_lt below))
-
-  -- a cell that code finds so many slots before
-  pub before-cell : (cells : List T) (period t by : ℕ) (c : T) → period ≡ length cells → by < length cells →
-      slice_get cells ((t + (period - by)) % period) ≡ Some c → c ≡ earlier k cells t by
-  before-cell cells period t by c e below is =
-      near-cell k cells period t by c e below (sym (get_or_from_slice_get cells ((t + (period - by)) % period) c c is))
-
-  -- one slot more
-  pub fold-next : (cells : List T) (n t : ℕ) (fold c r : T) → fold ≡ fold_at k cells n t → c ≡ earlier k cells t (n + 1) → r ≡ k.join fold c →
-      r ≡ fold_at k cells (n + 1) t
-  fold-next cells n t fold c r so_far is joins =
-      let one : n + 1 ≡ suc n = omega arith in
-      joins ∙ (λ i. k.join (so_far i) (is i))
-      ∙ ap (λ (z : ℕ). k.join (fold_at k cells n t) (earlier k cells t z)) one
-      ∙ ap (λ (z : ℕ). fold_at k cells z t) (sym one)
 
   pub earlier-turned : (cells : List T) (m t o : ℕ) → 0 < length cells → earlier k (later k cells m) t o ≡ earlier k cells t (o + m)
   earlier-turned cells m t o some =

@@ -1,5 +1,5 @@
 -- What a search or a join says that goes round the period, of the slots of one period.
-use Rattle.std.proofs.Common.{inl, inr, ◌≡◌, ◌≢◌, ℕ, zero, suc, ◌+◌, ◌-◌, ◌%◌, ◌<◌, ◌≤◌, ◌⊎◌, Bool, true, false, not, eqb, List, [], ◌∷◌, length, get_or, Some, refl, sym, ap, ◌∙◌, arith}
+use Rattle.std.proofs.Common.{inl, inr, ◌≡◌, ◌≢◌, ℕ, zero, suc, ◌+◌, ◌-◌, ◌%◌, ◌<◌, ◌⊎◌, Bool, true, false, not, eqb, List, [], ◌∷◌, length, get_or, Some, refl, sym, ap, ◌∙◌, arith}
 use Rattle.std.specs.Prelude.{slice_get}
 use Rattle.std.specs.List.{list_all}
 use Rattle.std.proofs.lemmas.Option.{get_or_from_slice_get}
@@ -9,7 +9,7 @@ use Rattle.std.proofs.Math.Nat.{mod-eq_of_lt}
 use Rattle.scald_base.specs.Clock.{back}
 use Rattle.scald_base.proofs.Back.{back-zero, back-sub, back-sooner, back-later}
 use Rattle.wave_core.specs.Cell.{Cells, IsLawful}
-use Rattle.wave_core.specs.Slots.{SameUntil, cell_round, earlier, fold_at, join_to, join_round}
+use Rattle.wave_core.specs.Slots.{SameUntil, cell_round, earlier, fold_at, join_round}
 use Rattle.wave_core.proofs.Fold.{join_to-same, join_to-turned}
 use Rattle.skew_algebra.specs.Wave.{cell_at, all_equal, is_steady, joined}
 use Rattle.skew_algebra.proofs.Cells.{all-from}

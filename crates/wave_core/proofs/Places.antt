@@ -1,8 +1,8 @@
 -- Places from a slot on, round the period, whose cells stay the same up to a change.
-use Rattle.std.proofs.Common.{◌≡◌, ℕ, zero, suc, ◌+◌, ◌-◌, ◌%◌, ◌<◌, ◌≤◌, ◌⊎◌, inl, inr, Bool, true, false, List, length, slice_get, slice_index_or, Option, Some, None, min, refl, sym, ap, ◌∙◌, subst, arith}
+use Rattle.std.proofs.Common.{◌≡◌, ℕ, zero, suc, ◌+◌, ◌-◌, ◌%◌, ◌<◌, ◌≤◌, ◌⊎◌, inl, inr, Bool, true, false, List, length, slice_get, slice_index_or, Option, Some, None, min, sym, ap, ◌∙◌, subst, arith}
 use Rattle.std.proofs.lemmas.Bool.{cases_lt}
 use Rattle.std.proofs.lemmas.Option.{get_or_from_slice_get}
-use Rattle.std.proofs.Math.Nat.{mod-lt, mod-add-mod}
+use Rattle.std.proofs.Math.Nat.{mod-add-mod}
 use Rattle.scald_base.proofs.Back.{back-zero, mod-small}
 use Rattle.wave_core.specs.Cell.{Cells, IsLawful}
 use Rattle.wave_core.specs.Slots.{SameUntil, cell_round, earlier, join_to, join_round, Gives, IsLastWhere, LastWhere}

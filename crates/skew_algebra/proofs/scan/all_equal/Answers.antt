@@ -1,4 +1,4 @@
-use Rattle.std.proofs.Common.{◌≡◌, ◌<◌, ◌≤◌, length, arith}
+use Rattle.std.proofs.Common.{◌<◌, length, arith}
 use Rattle.skew_algebra.proofs.Round.{equal-by}
 use Rattle.skew_algebra.proofs.scan.all_equal.Goals as goal
 

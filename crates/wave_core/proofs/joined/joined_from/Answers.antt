@@ -1,5 +1,4 @@
-use Rattle.std.proofs.Common.{◌+◌, ◌%◌, refl, arith, ap, ◌∙◌, min, ◌-◌, ◌≡◌}
-use Rattle.wave_core.specs.Slots.{join_round}
+use Rattle.std.proofs.Common.{◌+◌, ◌%◌, refl, arith}
 use Rattle.wave_core.proofs.Places.{join-begun, join-more}
 use Rattle.wave_core.proofs.joined.joined_from.Goals as goal
 

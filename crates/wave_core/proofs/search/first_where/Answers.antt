@@ -1,4 +1,4 @@
-use Rattle.std.proofs.Common.{◌≡◌, ◌+◌, ◌%◌, Bool, true, false, refl, sym, subst, arith}
+use Rattle.std.proofs.Common.{◌+◌, ◌%◌, Bool, true, false, refl, sym, subst}
 use Rattle.wave_core.proofs.Places.{cell-round, gives-more}
 use Rattle.wave_core.proofs.search.first_where.Goals as goal
 

@@ -1,4 +1,4 @@
-use Rattle.std.proofs.Common.{◌≡◌, ℕ, ◌+◌, ◌-◌, ◌%◌, Bool, true, false, min, refl, sym, subst, arith}
+use Rattle.std.proofs.Common.{◌≡◌, ℕ, ◌+◌, ◌-◌, ◌%◌, Bool, min, refl, sym, subst, arith}
 use Rattle.wave_core.specs.Slots.{IsLastWhere}
 use Rattle.wave_core.proofs.Places.{last-passes, last-fails}
 use Rattle.wave_core.proofs.search.last_where.Goals as goal
