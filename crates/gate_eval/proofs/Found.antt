@@ -2,7 +2,7 @@
 use Rattle.std.proofs.Common.{inl, inr, ◌≡◌, ◌≢◌, ℕ, zero, suc, ◌+◌, ◌<◌, ◌≤◌, Bool, true, false, not, ◌&&◌, cond, eqb, List, length, map, get_or, refl, sym, ap, ◌∙◌, Option, Some, None, arith, eq-eqb}
 use Rattle.std.specs.Prelude.{slice_get, is_none, is_some}
 use Rattle.std.specs.Option.{option_or, option_map}
-use Rattle.std.proofs.lemmas.Bool.{cases_eq, ne_eqb, cond-true, cond-false}
+use Rattle.std.proofs.lemmas.Bool.{cases_eq, cases_lt, ne_eqb, cond-true, cond-false}
 use Rattle.std.proofs.lemmas.List.{get_or-map, length-map}
 use Rattle.std.proofs.lemmas.Option.{get_or_from_slice_get}
 use Rattle.step_values.specs.declared.value.Value.{Value}
@@ -55,6 +55,10 @@ first_some-some f (suc n) i j after within here = elim (cases_eq j i) [
   | inl e ↦ or-some (f i) (first_some f n (i + 1)) (ap (λ (k : ℕ). is_none (f k)) (sym e) ∙ here)
   | inr ne ↦ or-rest (f i) (first_some f n (i + 1)) (first_some-some f n (i + 1) j (omega arith) (omega arith) here)
 ]
+
+-- what holds of each number up to a slot, and from there on up to the next
+pub below_run : (P : ℕ → Type 0) (i n : ℕ) → ((k : ℕ) → k < i → P k) → ((k : ℕ) → i ≤ k → k < n → P k) → (k : ℕ) → k < n → P k
+below_run P i n before run k below = elim (cases_lt k i) [ inl less ↦ before k less | inr more ↦ run k more below ]
 
 pub none-is : {A : Type 0} (o : Option A) → is_none o ≡ true → o ≡ None
 none-is None e = refl

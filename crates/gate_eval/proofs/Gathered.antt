@@ -51,6 +51,12 @@ all-below pins slot wave one below =
     All-weaker (λ q. length (wave q).cells ≡ period_of (map wave pins)) (λ q. slot < length (wave q).cells) (λ q h. omega arith) pins
     (All-unmapped (λ (w : Wave _). length w.cells ≡ period_of (map wave pins)) wave pins one)
 
+pub all-long : {T P : Type 0} (pins : List P) (period : ℕ) (wave : P → Wave T) → HaveOnePeriod (map wave pins) → period ≡ period_of (map wave pins) →
+    All (λ q. length (wave q).cells ≡ period) pins
+all-long pins period wave one is =
+    All-weaker (λ q. length (wave q).cells ≡ period_of (map wave pins)) (λ q. length (wave q).cells ≡ period) (λ q h. h ∙ sym is) pins
+    (All-unmapped (λ (w : Wave _). length w.cells ≡ period_of (map wave pins)) wave pins one)
+
 -- one period for all, by a scan
 pub one-period : {T P : Type 0} (pins : List P) (wave : P → Wave T) (period : ℕ) →
     ((k : ℕ) (d : P) → k < length pins → length (wave (get_or pins k d)).cells ≡ period) → HaveOnePeriod (map wave pins)

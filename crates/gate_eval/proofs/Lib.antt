@@ -12,3 +12,5 @@ pub mod Held
 pub mod Sound
 pub mod Found
 pub mod Chosen
+pub mod Few
+pub mod Folding

@@ -10,7 +10,7 @@ use Rattle.gate_eval.specs.Meeting.{meeting, meeting_by, movers, kept_skew}
 use Rattle.gate_eval.specs.Gates.{passed_on}
 use Rattle.gate_eval.proofs.Movers.{movers-moving, movers-steady}
 
-own-slots : (cells : List Value) → slots (length cells) (cell_at values cells) ≡ cells
+pub own-slots : (cells : List Value) → slots (length cells) (cell_at values cells) ≡ cells
 own-slots cells =
     let long : length (slots (length cells) (cell_at values cells)) ≡ length cells = length-slots (length cells) (cell_at values cells) in
     ext_get_or values.any (slots (length cells) (cell_at values cells)) cells long

@@ -1,6 +1,6 @@
 //! What a change function makes of its pins' waves.
 
-ghost use Rattle.std.specs.Prelude.{◌≡◌, ◌<◌, ℕ, IfOk, length, map, zip};
+ghost use Rattle.std.specs.Prelude.{◌≡◌, ◌<◌, IfOk, length, map, zip};
 ghost use Rattle.wave_core.specs.Slots.{slots};
 ghost use Rattle.step_values.specs.declared.value.Value.TheVariants.{S};
 ghost use Rattle.step_values.specs.Cell.{values};

@@ -1,6 +1,6 @@
 //! The wave of a gate's or a change function's output.
 
-ghost use Rattle.std.specs.Prelude.{◌≡◌, ◌<◌, [], ◌∷◌, IfOk, Some, count_by, length, map, position, true};
+ghost use Rattle.std.specs.Prelude.{◌≡◌, ◌<◌, IfOk, Some, count_by, length, map, position, true};
 ghost use Rattle.step_values.specs.declared.value.Value.TheVariants.{S};
 ghost use Rattle.step_values.specs.Cell.{values};
 ghost use Rattle.skew_algebra.specs.Wave.{moved, skewed};
@@ -18,7 +18,7 @@ use flat_circuit::Kind;
 use scald_base::{Delay, NoMemory};
 use skew_algebra::Skewed;
 use std::alloc::Global;
-use step_values::{Value, and2, mux2, or2, xor2};
+use step_values::{Value, and2, or2, xor2};
 use wave_core::CyclicWave;
 
 /// What passes of a pin's wave while the other pins stay as they are.
@@ -124,9 +124,9 @@ fn evaluated<W: CyclicWave<Item = Value>>(
         Kind::And => markable_gate(alloc, kind, &FromLeft { table: and2() }, pins, d),
         Kind::Or => markable_gate(alloc, kind, &FromLeft { table: or2() }, pins, d),
         Kind::Xor => met(alloc, &FromLeft { table: xor2() }, pins, d),
-        Kind::Mux2 => met(alloc, &OfTwo { table: mux2() }, pins, d),
-        Kind::Mux4 => met(alloc, &OfFour { table: mux2() }, pins, d),
-        Kind::Mux8 => met(alloc, &OfEight { table: mux2() }, pins, d),
+        Kind::Mux2 => met(alloc, &OfTwo, pins, d),
+        Kind::Mux4 => met(alloc, &OfFour, pins, d),
+        Kind::Mux8 => met(alloc, &OfEight, pins, d),
         Kind::Chg => change_wave(alloc, pins, d),
         _ => unreachable!(),
     }

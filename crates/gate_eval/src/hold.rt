@@ -1,15 +1,18 @@
 //! The mark `!H`: at an AND or OR, the other pins are to stay as they are while the marked one lets
 //! them through.
 
-ghost use Rattle.std.specs.Prelude.{◌≡◌, ◌<◌, ◌≤◌, All, IfNone, IfSome, count_by, is_none, length, map, position};
+ghost use Rattle.std.specs.Prelude.{◌≡◌, ◌<◌, ◌≤◌, ℕ, All, IfNone, IfSome, count_by, is_none, length, map, position};
 ghost use Rattle.step_values.specs.Cell.{values};
-ghost use Rattle.skew_algebra.specs.Wave.{cell_at, skewed};
+ghost use Rattle.skew_algebra.specs.Wave.{cell_at, fold, skewed};
 ghost use Rattle.gate_eval.specs.Meeting.{HaveOnePeriod, folds_in};
 ghost use Rattle.gate_eval.specs.Hold.{KeepsMark, disturber, first_some, hazard, is_closed as closed};
 ghost use Rattle.gate_eval.specs.Instance.{CountsFit};
 
+use crate::meeting::next_change;
 use crate::pin_wave::{PinWave, PinWaves};
 use flat_circuit::Kind;
+use skew_algebra::Skewed;
+use std::cmp::min;
 use step_values::Value;
 use wave_core::{Cell, CyclicWave};
 
@@ -66,10 +69,12 @@ pub fn is_held<W: CyclicWave<Item = Value>>(
     requires period { All (λ w. length (W.cells w) ≡ period) folds.now }
     ensures { result ≡ is_none (first_some (λ slot. disturber kind marked (map (λ w. cell_at values (W.cells w) slot) folds.now)) period 0) }
 {
-    for slot in 0..period {
+    let mut slot = 0;
+    'changes: while slot < period {
         if disturber_among(kind, folds, marked, slot).is_some() {
             return false;
         }
+        slot = next_change(folds, slot, period);
     }
     true
 }
@@ -97,6 +102,38 @@ fn disturber_at<W: CyclicWave<Item = Value>>(
     None
 }
 
+/// A slot behind this one, before which each slot may hold what this one may, however late the wave
+/// comes: up to it no change comes into what is folded, and none leaves it.
+fn same_fold_until<W: CyclicWave<Item = Value>>(wave: &Skewed<W>, slot: u16) -> u16
+    requires { slot < length (W.cells wave.now.wave) }
+    ensures behind { slot < result }
+    ensures same { (p : ℕ) → slot ≤ p → p < result → fold values (skewed (W.cells wave.now.wave) wave.now.skew) p ≡ fold values (skewed (W.cells wave.now.wave) wave.now.skew) slot }
+{
+    let period = wave.wave.period();
+    let first = (slot + (period - wave.skew)) % period;
+    let coming = wave.wave.same_until(slot);
+    let leaving = wave.wave.same_until(first);
+    min(coming, slot + (leaving - first))
+}
+
+/// A slot behind this one, before which each pin may hold in each slot what it may in this one, or the
+/// period.
+fn next_fold_change<W: CyclicWave<Item = Value>>(pins: &[PinWave<W>], slot: u16, period: u16) -> u16
+    requires slot { slot < period }
+    requires pins { All (λ p. length (W.cells p.wave.wave) ≡ period) pins.now }
+    ensures behind { slot < result }
+    ensures within { result ≤ period }
+    ensures same { let waves = map (λ p. skewed (W.cells p.wave.wave) p.wave.skew) pins.now in
+        (p : ℕ) → slot ≤ p → p < result → folds_in values waves p ≡ folds_in values waves slot }
+{
+    let mut next = period;
+    for pin in pins {
+        let end = min(next, same_fold_until(&pin.wave, slot));
+        next = end;
+    }
+    next
+}
+
 /// The hazard among these pins.
 fn hazard_among<W: CyclicWave<Item = Value>>(kind: Kind, pins: &[PinWave<W>]) -> Option<(u16, u16)>
     requires few { length pins.now ≤ 4096 }
@@ -104,10 +141,13 @@ fn hazard_among<W: CyclicWave<Item = Value>>(kind: Kind, pins: &[PinWave<W>]) ->
     ensures { result ≡ hazard kind (map (λ p. skewed (W.cells p.wave.wave) p.wave.skew) pins.now) (position (λ p. p.hold) pins.now) }
 {
     let marked = marked_pin(pins)?;
-    for slot in 0..pins[marked].wave.wave.period() {
+    let period = pins[marked].wave.wave.period();
+    let mut slot = 0;
+    'changes: while slot < period {
         if let Some(pin) = disturber_at(kind, pins, marked, slot) {
             return Some((slot, pin as u16));
         }
+        slot = next_fold_change(pins, slot, period);
     }
     None
 }

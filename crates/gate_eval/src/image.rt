@@ -1,10 +1,12 @@
-//! What a kind of gate makes of a value for each of its pins.
+//! What a kind of gate makes of a value for each of its pins. The kinds of two values have a table; that
+//! of a multiplexer would have an entry for each of 343 choices, of which waves mostly show few.
 
-ghost use Rattle.step_values.specs.Table.{entry2, entry3};
+ghost use Rattle.step_values.specs.Image.{mux2_of};
+ghost use Rattle.step_values.specs.Table.{entry2};
 ghost use Rattle.gate_eval.specs.Gates.{from_left, of_eight, of_four, of_two, passed_on};
 
 use crate::meeting::Image;
-use step_values::{Table, Value, look2, look3};
+use step_values::{Table, Value, look2, mux2_value};
 
 /// One pin, passed on.
 #[derive(Drop)]
@@ -39,16 +41,14 @@ impl Image for FromLeft {
 
 /// One of two inputs behind a select.
 #[derive(Drop)]
-pub struct OfTwo {
-    pub table: Table<343>,
-}
+pub struct OfTwo;
 
 impl Image for OfTwo {
-    ghost value_of = { λ image found. of_two (entry3 image.table.entries) found };
+    ghost value_of = { λ image found. of_two mux2_of found };
 
     fn value(&self, found: &[Value]) -> Value {
         match found {
-            [s, a, b] => look3(&self.table, *s, *a, *b),
+            [s, a, b] => mux2_value(*s, *a, *b),
             _ => Value::U,
         }
     }
@@ -56,19 +56,17 @@ impl Image for OfTwo {
 
 /// One of four inputs behind two selects, the most significant first.
 #[derive(Drop)]
-pub struct OfFour {
-    pub table: Table<343>,
-}
+pub struct OfFour;
 
 impl Image for OfFour {
-    ghost value_of = { λ image found. of_four (entry3 image.table.entries) found };
+    ghost value_of = { λ image found. of_four mux2_of found };
 
     fn value(&self, found: &[Value]) -> Value {
         match found {
             [s1, s0, a, b, c, d] => {
-                let low = look3(&self.table, *s0, *a, *b);
-                let high = look3(&self.table, *s0, *c, *d);
-                look3(&self.table, *s1, low, high)
+                let low = mux2_value(*s0, *a, *b);
+                let high = mux2_value(*s0, *c, *d);
+                mux2_value(*s1, low, high)
             }
             _ => Value::U,
         }
@@ -77,23 +75,21 @@ impl Image for OfFour {
 
 /// One of eight inputs behind three selects, the most significant first.
 #[derive(Drop)]
-pub struct OfEight {
-    pub table: Table<343>,
-}
+pub struct OfEight;
 
 impl Image for OfEight {
-    ghost value_of = { λ image found. of_eight (entry3 image.table.entries) found };
+    ghost value_of = { λ image found. of_eight mux2_of found };
 
     fn value(&self, found: &[Value]) -> Value {
         match found {
             [s2, s1, s0, a, b, c, d, e, f, g, h] => {
-                let first = look3(&self.table, *s0, *a, *b);
-                let second = look3(&self.table, *s0, *c, *d);
-                let third = look3(&self.table, *s0, *e, *f);
-                let fourth = look3(&self.table, *s0, *g, *h);
-                let low = look3(&self.table, *s1, first, second);
-                let high = look3(&self.table, *s1, third, fourth);
-                look3(&self.table, *s2, low, high)
+                let first = mux2_value(*s0, *a, *b);
+                let second = mux2_value(*s0, *c, *d);
+                let third = mux2_value(*s0, *e, *f);
+                let fourth = mux2_value(*s0, *g, *h);
+                let low = mux2_value(*s1, first, second);
+                let high = mux2_value(*s1, third, fourth);
+                mux2_value(*s2, low, high)
             }
             _ => Value::U,
         }

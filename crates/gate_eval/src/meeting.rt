@@ -1,19 +1,19 @@
 //! What an element makes of its pins' waves, slot by slot.
 
-ghost use Rattle.std.specs.Prelude.{◌≡◌, ◌-◌, ◌<◌, List, [], All, Option, map, length, IfOk, IfSome, OnOk, true};
+ghost use Rattle.std.specs.Prelude.{◌≡◌, ◌-◌, ◌<◌, ◌≤◌, ◌++◌, ℕ, List, [], ◌∷◌, All, Option, map, length, replicate, zip, IfOk, IfSome, OnOk};
 ghost use Rattle.wave_core.specs.Slots.{IsPeriod, slots};
 ghost use Rattle.step_values.specs.declared.value.Value.{Value};
-ghost use Rattle.step_values.specs.Cell.{same, values};
+ghost use Rattle.step_values.specs.Cell.{values};
 ghost use Rattle.skew_algebra.specs.Wave.{skewed, cell_at, folded, moved};
-ghost use Rattle.skew_algebra.specs.Permits.{KeepsMoved};
 ghost use Rattle.gate_eval.specs.Meeting.{HaveOnePeriod, cells_in, folds_in, kept_skew as kept, meeting, movers, period_of};
 
 use crate::pin_wave::PinWave;
 use scald_base::{Delay, NoMemory};
 use skew_algebra::Skewed;
 use std::alloc::Global;
+use std::cmp::min;
 use step_values::Value;
-use wave_core::{Cell, CyclicWave};
+use wave_core::CyclicWave;
 
 /// What a kind of element makes of one value for each of its pins.
 pub trait Image {
@@ -102,55 +102,78 @@ fn read_slot<W: CyclicWave<Item = Value>>(
     Ok(())
 }
 
-/// Whether the two are one cell.
-fn are_same<T: Cell>(v: T, w: T) -> bool
-    ensures { result ≡ T.kind.same v w }
+/// The first slot behind this one in which some wave has another value, or the period.
+pub fn next_change<W: CyclicWave<Item = Value>>(waves: &[W], slot: u16, period: u16) -> u16
+    requires slot { slot < period }
+    requires waves { All (λ w. length (W.cells w) ≡ period) waves.now }
+    ensures behind { slot < result }
+    ensures within { result ≤ period }
+    ensures same { (p : ℕ) → slot ≤ p → p < result → map (λ w. cell_at values (W.cells w) p) waves.now ≡ map (λ w. cell_at values (W.cells w) slot) waves.now }
 {
-    v == w
-}
-
-/// Whether a wave has this value in a slot.
-fn has_value<W: CyclicWave<Item = Value>>(wave: &W, slot: u16, value: Value) -> bool
-    requires { slot < length (W.cells wave.now) }
-    ensures { result ≡ same value (cell_at values (W.cells wave.now) slot) }
-{
-    are_same(value, wave.at(slot))
-}
-
-/// Whether these are the values that the waves have in a slot.
-fn stand_in<W: CyclicWave<Item = Value>>(found: &[Value], waves: &[W], slot: u16) -> bool
-    requires long { length found.now ≡ length waves.now }
-    requires slot { All (λ w. slot < length (W.cells w)) waves.now }
-    ensures { result ≡ true → found.now ≡ map (λ w. cell_at values (W.cells w) slot) waves.now }
-{
-    for (place, wave) in waves.iter().enumerate() {
-        if !has_value(wave, slot, found[place]) {
-            return false;
-        }
+    let mut next = period;
+    for wave in waves {
+        let end = min(next, wave.same_until(slot));
+        next = end;
     }
-    true
+    next
 }
 
-/// What an element makes of the waves in a slot, whose values are put in place of what was found
-/// before. Where nothing changed it is what was made before.
-fn made_in<W: CyclicWave<Item = Value>, I: Image>(
+/// Puts so many slots of a value behind the others.
+fn push_slots(cells: &mut Vec<Value>, value: Value, count: u16) -> Result<(), NoMemory>
+    ensures { OnOk result (cells.new.items ≡ cells.old.items ++ replicate count value) }
+{
+    for _slot in 0..count {
+        cells.push(value)?;
+    }
+    Ok(())
+}
+
+/// What an element of one pin makes of the wave there, from change to change.
+fn imaged_alone<W: CyclicWave<Item = Value>, I: Image>(
+    alloc: Global,
     image: &I,
-    found: &mut Vec<Value>,
-    before: Value,
-    waves: &[W],
-    slot: u16,
-) -> Result<Value, NoMemory>
-    requires long { length found.old.items ≡ length waves.now }
-    requires slot { All (λ w. slot < length (W.cells w)) waves.now }
-    requires before { before ≡ I.value_of image.now found.old.items }
-    ensures found { OnOk result (found.new.items ≡ map (λ w. cell_at values (W.cells w) slot) waves.now) }
-    ensures made { IfOk result (λ v. v ≡ I.value_of image.now found.new.items) }
+    only: &W,
+) -> Result<W, NoMemory>
+    ensures { IfOk result (λ w. W.cells w ≡ map (λ v. I.value_of image.now (v ∷ [])) (W.cells only.now)) }
 {
-    if stand_in(found, waves, slot) {
-        return Ok(before);
+    only.map(alloc, |v| image.value(&[v]))
+}
+
+/// What an element of two pins makes of the waves there, from change to change.
+fn imaged_both<W: CyclicWave<Item = Value>, I: Image>(
+    alloc: Global,
+    image: &I,
+    one: &W,
+    other: &W,
+) -> Result<W, NoMemory>
+    requires { length (W.cells one.now) ≡ length (W.cells other.now) }
+    ensures { IfOk result (λ w. W.cells w ≡ map (λ q. I.value_of image.now (q.0 ∷ q.1 ∷ [])) (zip (W.cells one.now) (W.cells other.now))) }
+{
+    one.zip(alloc, other, |v, u| image.value(&[v, u]))
+}
+
+/// What an element of any number of pins makes of the waves there, from change to change.
+fn imaged_slots<W: CyclicWave<Item = Value>, I: Image>(
+    alloc: Global,
+    image: &I,
+    waves: &[W],
+    period: u16,
+) -> Result<W, NoMemory>
+    requires period { IsPeriod period }
+    requires waves { All (λ w. length (W.cells w) ≡ period) waves.now }
+    ensures { IfOk result (λ w. W.cells w ≡ slots period (λ p. I.value_of image.now (map (λ u. cell_at values (W.cells u) p) waves.now))) }
+{
+    let mut cells = Vec::with_capacity(alloc, period as usize)?;
+    let mut found = Vec::with_capacity(alloc, waves.len())?;
+    let mut slot = 0;
+    'changes: while slot < period {
+        read_slot(&mut found, waves, slot)?;
+        let made = image.value(&found);
+        let next = next_change(waves, slot, period);
+        push_slots(&mut cells, made, next - slot)?;
+        slot = next;
     }
-    read_slot(found, waves, slot)?;
-    Ok(image.value(found))
+    W::from_slots(alloc, &cells)
 }
 
 /// What an element makes of the waves in each slot of the period.
@@ -164,15 +187,11 @@ fn imaged<W: CyclicWave<Item = Value>, I: Image>(
     requires waves { All (λ w. length (W.cells w) ≡ period) waves.now }
     ensures { IfOk result (λ w. W.cells w ≡ slots period (λ p. I.value_of image.now (map (λ u. cell_at values (W.cells u) p) waves.now))) }
 {
-    let mut cells = Vec::with_capacity(alloc, period as usize)?;
-    let mut found = Vec::with_capacity(alloc, waves.len())?;
-    read_slot(&mut found, waves, 0)?;
-    let mut made = image.value(&found);
-    for slot in 0..period {
-        made = made_in(image, &mut found, made, waves, slot)?;
-        cells.push(made)?;
+    match waves {
+        [only] => imaged_alone(alloc, image, only),
+        [one, other] => imaged_both(alloc, image, one, other),
+        _ => imaged_slots(alloc, image, waves, period),
     }
-    W::from_slots(alloc, &cells)
 }
 
 /// What an element makes of its pins' waves slot by slot, with one skew for all of them.

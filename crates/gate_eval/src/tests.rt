@@ -179,16 +179,15 @@ fn expect(
     Ok(())
 }
 
-/// Looks at the hazard of a marked pin.
+/// Looks at the hazard of a marked pin of an AND.
 fn expect_hazard(
     rt: &impl Abort,
     alloc: Global,
-    kind: Kind,
     pins: &[PinRow],
     want: Option<(u16, u16)>,
 ) -> Result<(), NoMemory> {
     let pins = pins_of(alloc, pins)?;
-    assert_eq!(rt; hazard(rt, kind, &pins), want);
+    assert_eq!(rt; hazard(rt, Kind::And, &pins), want);
     Ok(())
 }
 
@@ -217,202 +216,107 @@ const STABLE: &[(Value, u16)] = &[(S, 8)];
 #[test]
 fn buffer_keeps_a_skew(rt: HostRuntime) -> Result<(), NoMemory> {
     let d = Delay { min: 10, max: 30 };
-    expect(
-        &rt,
-        rt.alloc(),
-        Kind::Buf,
-        d,
-        &[free(CLOCK, 0)],
-        free(LATER, 20),
-    )
+    let pins = [free(CLOCK, 0)];
+    expect(&rt, rt.alloc(), Kind::Buf, d, &pins, free(LATER, 20))
 }
 
 #[test]
 fn two_movers_are_folded(rt: HostRuntime) -> Result<(), NoMemory> {
+    let pins = [free(LATER, 20), free(LATER, 20)];
     let want = [(Zero, 110), (R, 21), (One, 29), (F, 21), (Zero, 219)];
-    expect(
-        &rt,
-        rt.alloc(),
-        Kind::And,
-        AT_ONCE,
-        &[free(LATER, 20), free(LATER, 20)],
-        free(&want, 0),
-    )
+    expect(&rt, rt.alloc(), Kind::And, AT_ONCE, &pins, free(&want, 0))
 }
 
 #[test]
 fn one_net_on_two_pins_is_two_movers(rt: HostRuntime) -> Result<(), NoMemory> {
+    let pins = [free(PULSE, 1), free(PULSE, 1)];
     let want = [(Zero, 2), (C, 2), (Zero, 1), (C, 2), (Zero, 1)];
-    expect(
-        &rt,
-        rt.alloc(),
-        Kind::Xor,
-        AT_ONCE,
-        &[free(PULSE, 1), free(PULSE, 1)],
-        free(&want, 0),
-    )
+    expect(&rt, rt.alloc(), Kind::Xor, AT_ONCE, &pins, free(&want, 0))
 }
 
 #[test]
-fn gate_of_three_pins(rt: HostRuntime) -> Result<(), NoMemory> {
+fn gates_of_three_and_sixteen_pins(rt: HostRuntime) -> Result<(), NoMemory> {
+    let alloc = rt.alloc();
+    let three = [free(HIGH, 0), free(STABLE, 0), free(PULSE, 3)];
     let want = [(Zero, 2), (R, 1), (S, 2), (F, 1), (Zero, 2)];
-    let pins = [free(HIGH, 0), free(STABLE, 0), free(PULSE, 3)];
-    expect(&rt, rt.alloc(), Kind::And, AT_ONCE, &pins, free(&want, 3))
+    expect(&rt, alloc, Kind::And, AT_ONCE, &three, free(&want, 3))?;
+    let mut sixteen = [free(LOW, 0); 16];
+    sixteen[7] = free(PULSE, 3);
+    expect(&rt, alloc, Kind::Or, AT_ONCE, &sixteen, free(PULSE, 3))
 }
 
+/// Each multiplexer shows the input that its selects name, and nothing of the others.
 #[test]
-fn gate_of_sixteen_pins(rt: HostRuntime) -> Result<(), NoMemory> {
-    let mut pins = [free(LOW, 0); 16];
-    pins[7] = free(PULSE, 3);
-    expect(&rt, rt.alloc(), Kind::Or, AT_ONCE, &pins, free(PULSE, 3))
+fn multiplexers_select(rt: HostRuntime) -> Result<(), NoMemory> {
+    let mut of_two = [free(LOW, 0); 3];
+    of_two[0] = free(HIGH, 0);
+    of_two[2] = free(PULSE, 1);
+    let mut of_four = [free(LOW, 0); 6];
+    of_four[0] = free(HIGH, 0);
+    of_four[4] = free(PULSE, 1);
+    let mut of_eight = [free(LOW, 0); 11];
+    of_eight[0] = free(HIGH, 0);
+    of_eight[1] = free(HIGH, 0);
+    of_eight[9] = free(PULSE, 1);
+    let want = free(PULSE, 1);
+    expect(&rt, rt.alloc(), Kind::Mux2, AT_ONCE, &of_two, want)?;
+    expect(&rt, rt.alloc(), Kind::Mux4, AT_ONCE, &of_four, want)?;
+    expect(&rt, rt.alloc(), Kind::Mux8, AT_ONCE, &of_eight, want)
 }
 
+/// A marked pin beside one that is quiet while it may be high, beside one that is not, and alone.
 #[test]
-fn selects_of_two(rt: HostRuntime) -> Result<(), NoMemory> {
-    let pins = [free(HIGH, 0), free(LOW, 0), free(PULSE, 1)];
-    expect(&rt, rt.alloc(), Kind::Mux2, AT_ONCE, &pins, free(PULSE, 1))
-}
-
-#[test]
-fn selects_of_four(rt: HostRuntime) -> Result<(), NoMemory> {
-    let mut pins = [free(LOW, 0); 6];
-    pins[0] = free(HIGH, 0);
-    pins[4] = free(PULSE, 1);
-    expect(&rt, rt.alloc(), Kind::Mux4, AT_ONCE, &pins, free(PULSE, 1))
-}
-
-#[test]
-fn selects_of_eight(rt: HostRuntime) -> Result<(), NoMemory> {
-    let mut pins = [free(LOW, 0); 11];
-    pins[0] = free(HIGH, 0);
-    pins[1] = free(HIGH, 0);
-    pins[9] = free(PULSE, 1);
-    expect(&rt, rt.alloc(), Kind::Mux8, AT_ONCE, &pins, free(PULSE, 1))
-}
-
-#[test]
-fn mark_is_broken(rt: HostRuntime) -> Result<(), NoMemory> {
-    let want = [(Zero, 100), (C, 51), (Zero, 249)];
-    expect(
-        &rt,
-        rt.alloc(),
-        Kind::And,
-        AT_ONCE,
-        &[marked(CLOCK, 0), free(QUIET_SHORT, 0)],
-        free(&want, 0),
-    )
-}
-
-#[test]
-fn mark_is_kept(rt: HostRuntime) -> Result<(), NoMemory> {
+fn marks_are_kept_and_broken(rt: HostRuntime) -> Result<(), NoMemory> {
+    let alloc = rt.alloc();
+    let pins = [marked(CLOCK, 0), free(QUIET_LONG, 0)];
     let want = [(Zero, 100), (R, 1), (S, 49), (F, 1), (Zero, 249)];
-    expect(
-        &rt,
-        rt.alloc(),
-        Kind::And,
-        AT_ONCE,
-        &[marked(CLOCK, 0), free(QUIET_LONG, 0)],
-        free(&want, 0),
-    )
-}
-
-#[test]
-fn mark_alone(rt: HostRuntime) -> Result<(), NoMemory> {
+    expect(&rt, alloc, Kind::And, AT_ONCE, &pins, free(&want, 0))?;
+    let pins = [marked(CLOCK, 0), free(QUIET_SHORT, 0)];
+    let want = [(Zero, 100), (C, 51), (Zero, 249)];
+    expect(&rt, alloc, Kind::And, AT_ONCE, &pins, free(&want, 0))?;
+    let pins = [marked(PULSE, 2)];
     let want = [(Zero, 2), (R, 1), (S, 2), (F, 1), (Zero, 2)];
-    expect(
-        &rt,
-        rt.alloc(),
-        Kind::And,
-        AT_ONCE,
-        &[marked(PULSE, 2)],
-        free(&want, 2),
-    )
+    expect(&rt, alloc, Kind::And, AT_ONCE, &pins, free(&want, 2))
 }
 
+/// The hazard of a mark that is broken, of one that is kept, and of one that is broken by its folded wave.
 #[test]
-fn hazard_of_a_mark(rt: HostRuntime) -> Result<(), NoMemory> {
-    expect_hazard(
-        &rt,
-        rt.alloc(),
-        Kind::And,
-        &[marked(CLOCK, 0), free(QUIET_SHORT, 0)],
-        Some((100, 1)),
-    )
-}
-
-#[test]
-fn no_hazard_of_a_mark(rt: HostRuntime) -> Result<(), NoMemory> {
-    expect_hazard(
-        &rt,
-        rt.alloc(),
-        Kind::And,
-        &[marked(CLOCK, 0), free(QUIET_LONG, 0)],
-        None,
-    )
-}
-
-#[test]
-fn hazard_by_folds(rt: HostRuntime) -> Result<(), NoMemory> {
+fn hazards_of_marks(rt: HostRuntime) -> Result<(), NoMemory> {
+    let alloc = rt.alloc();
+    let broken = [marked(CLOCK, 0), free(QUIET_SHORT, 0)];
+    expect_hazard(&rt, alloc, &broken, Some((100, 1)))?;
+    let kept = [marked(CLOCK, 0), free(QUIET_LONG, 0)];
+    expect_hazard(&rt, alloc, &kept, None)?;
     let late = [(S, 6), (C, 1), (S, 1)];
-    expect_hazard(
-        &rt,
-        rt.alloc(),
-        Kind::And,
-        &[free(&late, 0), marked(PULSE, 1)],
-        Some((6, 0)),
-    )
+    let folded = [free(&late, 0), marked(PULSE, 1)];
+    expect_hazard(&rt, alloc, &folded, Some((6, 0)))
 }
 
 #[test]
 fn change_of_constants(rt: HostRuntime) -> Result<(), NoMemory> {
-    expect(
-        &rt,
-        rt.alloc(),
-        Kind::Chg,
-        AT_ONCE,
-        &[free(LOW, 0), free(HIGH, 0)],
-        free(STABLE, 0),
-    )
+    let pins = [free(LOW, 0), free(HIGH, 0)];
+    expect(&rt, rt.alloc(), Kind::Chg, AT_ONCE, &pins, free(STABLE, 0))
 }
 
 #[test]
 fn change_of_a_clock(rt: HostRuntime) -> Result<(), NoMemory> {
+    let pins = [free(CLOCK, 0)];
     let want = [(S, 100), (C, 1), (S, 49), (C, 1), (S, 249)];
-    expect(
-        &rt,
-        rt.alloc(),
-        Kind::Chg,
-        AT_ONCE,
-        &[free(CLOCK, 0)],
-        free(&want, 0),
-    )
+    expect(&rt, rt.alloc(), Kind::Chg, AT_ONCE, &pins, free(&want, 0))
 }
 
 #[test]
 fn change_window(rt: HostRuntime) -> Result<(), NoMemory> {
-    let pin = [(S, 2), (C, 1), (S, 5)];
+    let late = [(S, 2), (C, 1), (S, 5)];
+    let pins = [free(&late, 1), free(LOW, 0)];
     let want = [(S, 3), (C, 3), (S, 2)];
     let d = Delay { min: 1, max: 2 };
-    expect(
-        &rt,
-        rt.alloc(),
-        Kind::Chg,
-        d,
-        &[free(&pin, 1), free(LOW, 0)],
-        free(&want, 0),
-    )
+    expect(&rt, rt.alloc(), Kind::Chg, d, &pins, free(&want, 0))
 }
 
 #[test]
 fn change_window_past_the_period(rt: HostRuntime) -> Result<(), NoMemory> {
-    let want = [(C, 8)];
+    let pins = [free(PULSE, 0)];
     let d = Delay { min: 0, max: 4095 };
-    expect(
-        &rt,
-        rt.alloc(),
-        Kind::Chg,
-        d,
-        &[free(PULSE, 0)],
-        free(&want, 0),
-    )
+    expect(&rt, rt.alloc(), Kind::Chg, d, &pins, free(&[(C, 8)], 0))
 }

@@ -2,7 +2,7 @@
 use Rattle.std.proofs.Common.{◌≡◌, ℕ, zero, suc, ◌+◌, ◌-◌, ◌*◌, ◌%◌, ◌<◌, ◌≤◌, ◌⊎◌, inl, inr, List, [], ◌∷◌, ◌++◌, length, get_or, take, drop, refl, sym, ap, ◌∙◌, arith, subst}
 use Rattle.std.specs.Prelude.{replicate}
 use Rattle.std.proofs.lemmas.Bool.{cases_lt}
-use Rattle.std.proofs.lemmas.List.{length-append, length-take, length-drop, get_or-append_right, get_or-take, get_or-drop}
+use Rattle.std.proofs.lemmas.List.{length-append, length-take, length-drop, drop_all, take_all, get_or-append_right, get_or-take, get_or-drop}
 use Rattle.std.proofs.Math.Nat.{add-mul-mod_self_right, mod-eq_of_lt}
 use Rattle.scald_base.proofs.Back.{back-sub, back-zero}
 use Rattle.wave_core.specs.Cell.{Cells}
@@ -80,6 +80,14 @@ module _ {T : Type 0} where
       drop (period - by % period) xs ++ take (period - by % period) xs ≡ later k xs by
   turned k xs period by e some =
       subst (λ (n : ℕ). drop (n - by % n) xs ++ take (n - by % n) xs ≡ later k xs by) (sym e) (turned-list k xs by some)
+
+  -- by no slot later, or by a whole period
+  pub unturned : (k : Cells T) (xs : List T) (period by : ℕ) → period ≡ length xs → 0 < length xs → period - by % period ≡ period → xs ≡ later k xs by
+  unturned k xs period by e some whole =
+      sym (take_all period xs (omega (arith, e)))
+      ∙ ap (λ (l : List T). l ++ take period xs) (sym (drop_all period xs (omega (arith, e))))
+      ∙ ap (λ (n : ℕ). drop n xs ++ take n xs) (sym whole)
+      ∙ turned k xs period by e some
 
   -- a wave that is cut and put together so
   pub turned-cells : (k : Cells T) (xs none front whole : List T) (period by : ℕ) → period ≡ length xs → 0 < length xs → none ≡ [] →

@@ -57,6 +57,23 @@ impl<T: Cell + Drop> RunList<T> {
         }
     }
 
+    /// No slots, with room for so many runs.
+    pub fn with_room(alloc: Global, runs: usize) -> Result<RunList<T>, NoMemory>
+        ensures { IfOk result (λ l. l.runs.items ≡ []) }
+    {
+        let runs = Vec::with_capacity(alloc, runs)?;
+        Ok(RunList {
+            runs,
+            slots: 0,
+            marks: Vec::new(alloc),
+        })
+    }
+
+    /// How many runs there are.
+    pub fn run_count(&self) -> usize {
+        self.runs.len()
+    }
+
     /// Whether the last run has this cell.
     fn ends_with(&self, cell: T) -> bool
         ensures { IsTrue result ↔ EndsWith self.now.runs.items cell }

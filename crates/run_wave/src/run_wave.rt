@@ -38,7 +38,7 @@ impl<T: Cell + Drop> CyclicWave for RunWave<T> {
     ghost sized = { λ w. w.sized };
 
     fn uniform(alloc: Global, period: u16, cell: T) -> Result<RunWave<T>, NoMemory> {
-        let mut list = RunList::new(alloc);
+        let mut list = RunList::with_room(alloc, 1)?;
         list.push(cell, period)?;
         Ok(RunWave { list })
     }
@@ -70,14 +70,17 @@ impl<T: Cell + Drop> CyclicWave for RunWave<T> {
     fn rotate(&self, alloc: Global, by: u16) -> Result<RunWave<T>, NoMemory> {
         let period = self.list.slots;
         let first = period - by % period;
-        let mut list = RunList::new(alloc);
+        if first == period {
+            return self.copy(alloc);
+        }
+        let mut list = RunList::with_room(alloc, self.list.run_count().saturating_add(1))?;
         list.push_from(&self.list, first)?;
         list.push_until(&self.list, first)?;
         Ok(RunWave { list })
     }
 
     fn map<F: Fn(T) -> T>(&self, alloc: Global, f: F) -> Result<RunWave<T>, NoMemory> {
-        let mut list = RunList::new(alloc);
+        let mut list = RunList::with_room(alloc, self.list.run_count())?;
         for run in &self.list.runs {
             list.push(f(run.cell), run.width)?;
         }
@@ -90,7 +93,8 @@ impl<T: Cell + Drop> CyclicWave for RunWave<T> {
         other: &RunWave<T>,
         f: F,
     ) -> Result<RunWave<T>, NoMemory> {
-        let mut list = RunList::new(alloc);
+        let most = self.list.run_count().saturating_add(other.list.run_count());
+        let mut list = RunList::with_room(alloc, most)?;
         let mut mine = self.list.whole();
         let mut theirs = other.list.whole();
         'parts: while mine.run.width > 0 {

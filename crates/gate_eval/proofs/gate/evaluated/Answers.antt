@@ -3,7 +3,8 @@ use Rattle.std.specs.List.{position}
 use Rattle.std.proofs.lemmas.Result.{IfOk-weaker}
 use Rattle.step_values.specs.declared.value.Value.{Value}
 use Rattle.step_values.specs.Cell.{values}
-use Rattle.step_values.specs.Table.{entry2, entry3}
+use Rattle.step_values.specs.Image.{mux2_of}
+use Rattle.step_values.specs.Table.{entry2}
 use Rattle.skew_algebra.specs.Wave.{skewed, moved, normal}
 use Rattle.gate_eval.specs.Meeting.{meeting}
 use Rattle.gate_eval.specs.Gates.{gate_value, passed_on, from_left, of_two, of_four, of_eight}
@@ -55,8 +56,8 @@ returns-in-Xor g c =
 
 pub returns-in-Mux2 : goal.returns-in-Mux2
 returns-in-Mux2 g c =
-    let image : List Value → Value = λ found. of_two (entry3 c.mux2.result.entries) found in
-    let same : image ≡ gate_value c.args.kind = (λ i found. of_two (λ u v w. c.mux2.ensures u v w i) found) ∙ ap gate_value (sym c.in-Mux2.is) in
+    let image : List Value → Value = λ found. of_two mux2_of found in
+    let same : image ≡ gate_value c.args.kind = (λ i found. of_two mux2_of found) ∙ ap gate_value (sym c.in-Mux2.is) in
     IfOk-weaker c.met-in-Mux2.result
     (λ s. skewed (g.W.CyclicWave.cells s.wave) s.skew ≡ moved values (meeting values image (map (λ p. skewed (g.W.CyclicWave.cells p.wave.wave) p.wave.skew) c.args.pins.now)) c.args.d)
     (λ s. skewed (g.W.CyclicWave.cells s.wave) s.skew ≡ gate_wave c.args.kind (map (λ p. skewed (g.W.CyclicWave.cells p.wave.wave) p.wave.skew) c.args.pins.now) (position (λ p. p.hold) c.args.pins.now) c.args.d)
@@ -65,8 +66,8 @@ returns-in-Mux2 g c =
 
 pub returns-in-Mux4 : goal.returns-in-Mux4
 returns-in-Mux4 g c =
-    let image : List Value → Value = λ found. of_four (entry3 c.mux2-in-Mux4.result.entries) found in
-    let same : image ≡ gate_value c.args.kind = (λ i found. of_four (λ u v w. c.mux2-in-Mux4.ensures u v w i) found) ∙ ap gate_value (sym c.in-Mux4.is) in
+    let image : List Value → Value = λ found. of_four mux2_of found in
+    let same : image ≡ gate_value c.args.kind = (λ i found. of_four mux2_of found) ∙ ap gate_value (sym c.in-Mux4.is) in
     IfOk-weaker c.met-in-Mux4.result
     (λ s. skewed (g.W.CyclicWave.cells s.wave) s.skew ≡ moved values (meeting values image (map (λ p. skewed (g.W.CyclicWave.cells p.wave.wave) p.wave.skew) c.args.pins.now)) c.args.d)
     (λ s. skewed (g.W.CyclicWave.cells s.wave) s.skew ≡ gate_wave c.args.kind (map (λ p. skewed (g.W.CyclicWave.cells p.wave.wave) p.wave.skew) c.args.pins.now) (position (λ p. p.hold) c.args.pins.now) c.args.d)
@@ -75,8 +76,8 @@ returns-in-Mux4 g c =
 
 pub returns-in-Mux8 : goal.returns-in-Mux8
 returns-in-Mux8 g c =
-    let image : List Value → Value = λ found. of_eight (entry3 c.mux2-in-Mux8.result.entries) found in
-    let same : image ≡ gate_value c.args.kind = (λ i found. of_eight (λ u v w. c.mux2-in-Mux8.ensures u v w i) found) ∙ ap gate_value (sym c.in-Mux8.is) in
+    let image : List Value → Value = λ found. of_eight mux2_of found in
+    let same : image ≡ gate_value c.args.kind = (λ i found. of_eight mux2_of found) ∙ ap gate_value (sym c.in-Mux8.is) in
     IfOk-weaker c.met-in-Mux8.result
     (λ s. skewed (g.W.CyclicWave.cells s.wave) s.skew ≡ moved values (meeting values image (map (λ p. skewed (g.W.CyclicWave.cells p.wave.wave) p.wave.skew) c.args.pins.now)) c.args.d)
     (λ s. skewed (g.W.CyclicWave.cells s.wave) s.skew ≡ gate_wave c.args.kind (map (λ p. skewed (g.W.CyclicWave.cells p.wave.wave) p.wave.skew) c.args.pins.now) (position (λ p. p.hold) c.args.pins.now) c.args.d)

@@ -1,41 +1,35 @@
-use Rattle.std.proofs.Common.{◌≡◌, ◌++◌, [], ◌∷◌, ℕ, map, length, rules, ap, ◌∙◌, arith}
-use Rattle.std.proofs.lemmas.List.{length-map}
+use Rattle.std.proofs.Common.{◌≡◌, [], ◌∷◌, map, get_or, rules, ◌∙◌, arith}
+use Rattle.std.specs.List.{zip}
 use Rattle.std.proofs.lemmas.Result.{IfOk-weaker}
 use Rattle.wave_core.specs.Slots.{slots}
-use Rattle.wave_core.proofs.Slots.{slots-push, length-slots, period-length}
+use Rattle.step_values.specs.declared.value.Value.{Value}
 use Rattle.step_values.specs.Cell.{values}
 use Rattle.skew_algebra.specs.Wave.{cell_at}
+use Rattle.gate_eval.proofs.Few.{alone-imaged, both-imaged}
 use Rattle.gate_eval.proofs.meeting.imaged.Goals as goal
 
-pub loop-slot-init : goal.loop-slot-init
-loop-slot-init g c = record {
-  so_far = search rules;
-  long = ap length c.in_ok-read_slot.ensures ∙ length-map c.args.waves.now (λ w. cell_at values (g.W.CyclicWave.cells w) 0);
-  before = c.value-made.ensures ∙ ap (g.I.Image.value_of c.args.image.now) c.deref.ensures.value;
-}
+pub returns-in-len1 : goal.returns-in-len1
+returns-in-len1 g c =
+    let least = c.in-len1.len_at_least in
+    let most = c.in-len1.len_below in
+    let is : c.only-item.result ≡ get_or c.args.waves.now 0 c.only-item.result = search rules in
+    IfOk-weaker c.imaged_alone.result
+    (λ w. g.W.CyclicWave.cells w ≡ map (λ (v : Value). g.I.Image.value_of c.args.image.now (v ∷ [])) (g.W.CyclicWave.cells c.only-item.result))
+    (λ w. g.W.CyclicWave.cells w ≡ slots c.args.period (λ p. g.I.Image.value_of c.args.image.now (map (λ u. cell_at values (g.W.CyclicWave.cells u) p) c.args.waves.now)))
+    (λ w e. e ∙ alone-imaged (g.I.Image.value_of c.args.image.now) g.W.CyclicWave.cells c.args.waves.now c.only-item.result c.args.period
+    (omega (arith, least, most)) is c.requires.waves)
+    c.imaged_alone.ensures
 
-pub loop-slot-preserved : goal.loop-slot-preserved
-loop-slot-preserved g c =
-    let made = λ (p : ℕ). g.I.Image.value_of c.args.image.now (map (λ u. cell_at values (g.W.CyclicWave.cells u) p) c.args.waves.now) in
-    let pushed : c.push.new.self.items ≡ c.loop-slot.cells.items ++ c.in_ok-made.made ∷ [] = search rules in
-    record {
-      so_far = pushed ∙ slots-push c.loop-slot.slot made c.loop-slot.cells.items c.in_ok-made.made c.loop-slot.invariant.so_far
-          (c.in_ok-made.ensures.made ∙ ap (g.I.Image.value_of c.args.image.now) c.in_ok-made.ensures.found);
-      long = ap length c.in_ok-made.ensures.found ∙ length-map c.args.waves.now (λ w. cell_at values (g.W.CyclicWave.cells w) c.loop-slot.slot);
-      before = c.in_ok-made.ensures.made;
-    }
-
-pub from_slots-requires : goal.from_slots-requires
-from_slots-requires g c =
-    let made = λ (p : ℕ). g.I.Image.value_of c.args.image.now (map (λ u. cell_at values (g.W.CyclicWave.cells u) p) c.args.waves.now) in
-    let end : c.loop-slot.slot ≡ c.args.period = omega arith in
-    let all : c.deref-2.result.now ≡ slots c.args.period made = c.deref-2.ensures.value ∙ c.loop-slot.invariant.so_far ∙ ap (λ (n : ℕ). slots n made) end in
-    period-length c.deref-2.result.now c.args.period (ap length all ∙ length-slots c.args.period made) c.requires.period
-
-pub returns : goal.returns
-returns g c =
-    let made = λ (p : ℕ). g.I.Image.value_of c.args.image.now (map (λ u. cell_at values (g.W.CyclicWave.cells u) p) c.args.waves.now) in
-    let end : c.loop-slot.slot ≡ c.args.period = omega arith in
-    let all : c.deref-2.result.now ≡ slots c.args.period made = c.deref-2.ensures.value ∙ c.loop-slot.invariant.so_far ∙ ap (λ (n : ℕ). slots n made) end in
-    IfOk-weaker c.from_slots.result (λ w. g.W.CyclicWave.cells w ≡ c.deref-2.result.now) (λ w. g.W.CyclicWave.cells w ≡ slots c.args.period made)
-    (λ w e. e ∙ all) c.from_slots.ensures
+pub returns-in-len2 : goal.returns-in-len2
+returns-in-len2 g c =
+    let least = c.in-len2.len_at_least in
+    let most = c.in-len2.len_below in
+    let is : c.one-item.result ≡ get_or c.args.waves.now 0 c.one-item.result = search rules in
+    let is' : c.other-item.result ≡ get_or c.args.waves.now 1 c.other-item.result = search rules in
+    IfOk-weaker c.imaged_both.result
+    (λ w. g.W.CyclicWave.cells w ≡ map (λ (q : Value × Value). g.I.Image.value_of c.args.image.now (q.0 ∷ q.1 ∷ []))
+    (zip (g.W.CyclicWave.cells c.one-item.result) (g.W.CyclicWave.cells c.other-item.result)))
+    (λ w. g.W.CyclicWave.cells w ≡ slots c.args.period (λ p. g.I.Image.value_of c.args.image.now (map (λ u. cell_at values (g.W.CyclicWave.cells u) p) c.args.waves.now)))
+    (λ w e. e ∙ both-imaged (g.I.Image.value_of c.args.image.now) g.W.CyclicWave.cells c.args.waves.now c.one-item.result c.other-item.result c.args.period
+    (omega (arith, least, most)) is is' c.requires.waves)
+    c.imaged_both.ensures

@@ -1,5 +1,4 @@
-use Rattle.std.proofs.Common.{arith, ◌<◌, ◌+◌, length, take, sym}
-use Rattle.run_wave.specs.Run.{cells_of}
+use Rattle.std.proofs.Common.{arith}
 use Rattle.run_wave.proofs.Search.{in-run}
 use Rattle.run_wave.proofs.run_list.RunList.at.Goals as goal
 

@@ -1,5 +1,4 @@
-use Rattle.std.proofs.Common.{arith, sym, ap, ◌≡◌, ◌+◌, length, take}
-use Rattle.run_wave.specs.Run.{cells_of}
+use Rattle.std.proofs.Common.{arith}
 use Rattle.run_wave.proofs.Runs.{length-cells_of-more, slots-within}
 use Rattle.run_wave.proofs.run_list.RunList.run_with.Goals as goal
 

@@ -10,8 +10,8 @@ pub parts-init : goal.parts-init
 parts-init g c =
     let mine = c.whole-mine.ensures.cells in
     let theirs = c.whole-theirs.ensures.cells in
-    let none : cells_of c.new-list.result.runs.items ≡ [] = ap cells_of c.new-list.ensures in
-    let empty : length (cells_of c.new-list.result.runs.items) ≡ 0 = ap length none in
+    let none : cells_of c.in_ok-list.list.runs.items ≡ [] = ap cells_of c.in_ok-list.ensures in
+    let empty : length (cells_of c.in_ok-list.list.runs.items) ≡ 0 = ap length none in
     record {
       so_far = continues-start (λ p d. g.F.Fn.post c.args.f (p.0, (p.1, tt)) d) _ _ _ (λ i. zip (mine i) (theirs i)) none;
       together = ap length mine ∙ c.requires.periods ∙ sym (ap length theirs);
