@@ -24,7 +24,10 @@ pub mod SpelledStatement
 pub mod SpelledDrawing
 pub mod CanonicalText
 pub mod Matching
+pub mod DrawingParts
+pub mod PhraseSteps
 pub mod PhraseExpression
+pub mod PhraseComparison
 pub mod PhraseForms
 pub mod PhraseConnection
 pub mod PhraseConnections

@@ -20,9 +20,9 @@ use Rattle.drawing_grammar.proofs.Leaves as leaf
 use Rattle.drawing_grammar.proofs.CanonicalTokens.{word, name, number, comma, less, greater, equals, semicolon, listed_tokens, entry_tokens, case_tokens}
 use Rattle.drawing_grammar.proofs.Drawable.{HasOne, IsDrawnEntry, IsDrawnCase}
 use Rattle.drawing_grammar.proofs.Matching.{bare, Are, parts, single, terminal_is}
-use Rattle.drawing_grammar.proofs.PhraseExpression.{bare_symbol, spelled_two}
+use Rattle.drawing_grammar.proofs.PhraseSteps.{bare_symbol, cons_stands, spelled_item, spelled_two}
 use Rattle.drawing_grammar.proofs.PhraseConnection.{PartBuilt, signal_again, nothing_spelled}
-use Rattle.drawing_grammar.proofs.PhraseConnections.{GroupBuilt, spelled_item, cons_stands}
+use Rattle.drawing_grammar.proofs.PhraseConnections.{GroupBuilt}
 
 -- ---- numbers
 

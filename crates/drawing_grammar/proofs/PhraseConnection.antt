@@ -20,7 +20,7 @@ use Rattle.drawing_grammar.proofs.Leaves as leaf
 use Rattle.drawing_grammar.proofs.CanonicalTokens.{name, minus, colon, less, greater, sum_tokens, last_tokens, range_tokens, signal_tokens, item_tokens, minus_tokens}
 use Rattle.drawing_grammar.proofs.Drawable.{IsDrawn}
 use Rattle.drawing_grammar.proofs.Matching.{bare, Are, parts, single, terminal_is, text_is}
-use Rattle.drawing_grammar.proofs.PhraseExpression.{Fits, bare_symbol, spelled_one, spelled_single}
+use Rattle.drawing_grammar.proofs.PhraseSteps.{Fits, bare_symbol, spelled_one, spelled_single}
 use Rattle.drawing_grammar.proofs.PhraseForms.{forms}
 
 -- ---- within the limits

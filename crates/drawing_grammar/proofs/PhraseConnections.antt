@@ -15,7 +15,7 @@ use Rattle.drawing_grammar.proofs.Leaves as leaf
 use Rattle.drawing_grammar.proofs.CanonicalTokens.{word, comma, ampersand, exclamation, term_tokens, hold_tokens, connection_tokens, listed_tokens}
 use Rattle.drawing_grammar.proofs.Drawable.{HasOne}
 use Rattle.drawing_grammar.proofs.Matching.{Are, parts, single, terminal_is, text_is}
-use Rattle.drawing_grammar.proofs.PhraseExpression.{Fits, bare_symbol, spelled_two}
+use Rattle.drawing_grammar.proofs.PhraseSteps.{Fits, bare_symbol, cons_stands, spelled_item, spelled_two}
 use Rattle.drawing_grammar.proofs.PhraseConnection.{IsShortItem, PartBuilt, term_built, nothing_spelled}
 
 pub record IsShortConnection (c : tree.Connection) : Type 0 where
@@ -31,9 +31,6 @@ pub record GroupBuilt (p : Group) (good : GroupMeaning p → Type 0) (ts : List 
 
 -- ---- small steps
 
-pub cons_stands : {A : Type 0} (x : A) (xs : List A) (y : A) (ys : List A) → y ≡ x → ys ≡ xs → y ∷ ys ≡ x ∷ xs
-cons_stands x xs y ys e f = rw (e, f) refl
-
 connection_stands : (x : tree.Term) (xs : List tree.Term) (hold : Bool) (place : Place) (first : Placed tree.Term) (more : List tree.Term) (held : Bool) → first.item ≡ x → more ≡ xs → held ≡ hold → unplaced_connection (connection first more held) ≡ unplaced_connection (record { terms = x ∷ xs; hold = hold; place = place })
 connection_stands x xs hold place first more held e f h = rw (e, f, h) refl
 
@@ -42,10 +39,6 @@ pair_spelled ts first second t u rest a b c = rw (a, b, c) refl
 
 three_spelled : (ts first second before last rest : List Lexeme) → ts ≡ before ++ last → before ≡ first ++ second → first ++ (second ++ (last ++ rest)) ≡ ts ++ rest
 three_spelled ts first second before last rest a b = rw (a, b) (sym (append_assoc (first ++ second) last rest ∙ append_assoc first second (last ++ rest)))
-
--- a mark, an item and what follows it
-pub spelled_item : (ts first second before last : List Lexeme) (t : Lexeme) (rest : List Lexeme) → ts ≡ before ++ last → before ≡ first ++ second → first ≡ t ∷ [] → t ∷ (second ++ (last ++ rest)) ≡ ts ++ rest
-spelled_item ts first second before last t rest e f h = rw (e, f, h) (ap (λ (us : List Lexeme). t ∷ us) (sym (append_assoc second last rest)))
 
 -- ---- the terms of a connection
 
@@ -141,29 +134,34 @@ more_connections (c ∷ cs) is ts are rest w =
       fits = λ f a. (omega arith, b.fits (λ d. m.fits f d) a);
     }
 
-pub some_connections : (c : tree.Connection) (cs : List tree.Connection) → AllByRecursion IsShortConnection (c ∷ cs) → (ts : List Lexeme) → Are ts (listed_tokens connection_tokens (c ∷ cs)) → (rest : List Need) (w : Written rest) → GroupBuilt SomeConns (AreConnections (c ∷ cs)) ts rest w
-some_connections c cs is ts are rest w =
+-- the first one and those behind it, whatever group they make
+record ConnectionsBuilt (c : tree.Connection) (cs : List tree.Connection) (ts : List Lexeme) (rest : List Need) (w : Written rest) : Type 0 where
+  written : Written (part Term 0 ∷ part MoreTerms 0 ∷ part Hold 0 ∷ part MoreConns 0 ∷ rest)
+  spelled : spelling written ≡ ts ++ spelling w
+  stands : AreConnections (c ∷ cs) (connection (values written).0 (values written).1.0 (values written).1.1.0 ∷ (values written).1.1.1.0)
+  others : (values written).1.1.1.1 ≡ values w
+  fits : ((a : ℕ) → Fits w a) → (a : ℕ) → Fits written a
+
+listed_connections : (c : tree.Connection) (cs : List tree.Connection) → AllByRecursion IsShortConnection (c ∷ cs) → (ts : List Lexeme) → Are ts (listed_tokens connection_tokens (c ∷ cs)) → (rest : List Need) (w : Written rest) → ConnectionsBuilt c cs ts rest w
+listed_connections c cs is ts are rest w =
     let two = parts ts (connection_tokens c) (flat_map (λ d. comma ++ connection_tokens d) cs) are in
     let m = more_connections cs is.1 two.second two.back rest w in
     let b = connection_built c is.0 two.first two.front (part MoreConns 0 ∷ rest) m.written in
     record {
-      written = grouped b.written;
+      written = b.written;
       spelled = b.spelled ∙ (ap (λ (us : List Lexeme). two.first ++ us) m.spelled ∙ spelled_two ts two.first two.second (spelling w) two.whole);
       stands = cons_stands (unplaced_connection c) (map unplaced_connection cs) (unplaced_connection (connection (values b.written).0 (values b.written).1.0 (values b.written).1.1.0)) (map unplaced_connection (values b.written).1.1.1.0) b.stands (ap (λ (v : Values (part MoreConns 0 ∷ rest)). map unplaced_connection v.0) b.others ∙ m.stands);
       others = ap (λ (v : Values (part MoreConns 0 ∷ rest)). v.1) b.others ∙ m.others;
       fits = λ f a. b.fits (λ d. m.fits f d) a;
     }
 
+pub some_connections : (c : tree.Connection) (cs : List tree.Connection) → AllByRecursion IsShortConnection (c ∷ cs) → (ts : List Lexeme) → Are ts (listed_tokens connection_tokens (c ∷ cs)) → (rest : List Need) (w : Written rest) → GroupBuilt SomeConns (AreConnections (c ∷ cs)) ts rest w
+some_connections c cs is ts are rest w =
+    let b = listed_connections c cs is ts are rest w in
+    record { written = grouped b.written; spelled = b.spelled; stands = b.stands; others = b.others; fits = b.fits }
+
 pub all_connections : (cs : List tree.Connection) → AllByRecursion IsShortConnection cs → (ts : List Lexeme) → Are ts (listed_tokens connection_tokens cs) → (rest : List Need) (w : Written rest) → GroupBuilt Conns (AreConnections cs) ts rest w
 all_connections [] is ts are rest w = record { written = lacking [] refl w; spelled = nothing_spelled ts (spelling w) are; stands = refl; others = refl; fits = λ f a. f a }
 all_connections (c ∷ cs) is ts are rest w =
-    let two = parts ts (connection_tokens c) (flat_map (λ d. comma ++ connection_tokens d) cs) are in
-    let m = more_connections cs is.1 two.second two.back rest w in
-    let b = connection_built c is.0 two.first two.front (part MoreConns 0 ∷ rest) m.written in
-    record {
-      written = grouped b.written;
-      spelled = b.spelled ∙ (ap (λ (us : List Lexeme). two.first ++ us) m.spelled ∙ spelled_two ts two.first two.second (spelling w) two.whole);
-      stands = cons_stands (unplaced_connection c) (map unplaced_connection cs) (unplaced_connection (connection (values b.written).0 (values b.written).1.0 (values b.written).1.1.0)) (map unplaced_connection (values b.written).1.1.1.0) b.stands (ap (λ (v : Values (part MoreConns 0 ∷ rest)). map unplaced_connection v.0) b.others ∙ m.stands);
-      others = ap (λ (v : Values (part MoreConns 0 ∷ rest)). v.1) b.others ∙ m.others;
-      fits = λ f a. b.fits (λ d. m.fits f d) a;
-    }
+    let b = listed_connections c cs is ts are rest w in
+    record { written = grouped b.written; spelled = b.spelled; stands = b.stands; others = b.others; fits = b.fits }

@@ -11,14 +11,14 @@ use Rattle.drawing_grammar.specs.declared.terminal.Terminal.TheVariants.{OpenPar
 use Rattle.drawing_grammar.specs.Lexeme.{Lexeme, terminal, symbol_terminal}
 use Rattle.drawing_grammar.specs.Grammar.{Need, mark, part, Formal, MoreFormals, FormalOutputs, SomeFormals, Formals}
 use Rattle.drawing_grammar.specs.Grammar as g
-use Rattle.drawing_grammar.specs.Sketch.{Values, Placed, PlacedList, no_items, with_item, signal_of}
+use Rattle.drawing_grammar.specs.Sketch.{Values, no_items, with_item, signal_of}
 use Rattle.drawing_grammar.specs.Written.{Written, marked, chosen, left_out, grouped, lacking, spelling, values}
 use Rattle.drawing_grammar.proofs.Leaves as leaf
 use Rattle.drawing_grammar.proofs.CanonicalTokens.{name, comma, arrow, open_parenthesis, close_parenthesis, range_tokens, formal_tokens, outputs_tokens, listed_tokens}
 use Rattle.drawing_grammar.proofs.Matching.{bare, Are, parts, single, terminal_is}
-use Rattle.drawing_grammar.proofs.PhraseExpression.{bare_symbol, spelled_one, spelled_two}
+use Rattle.drawing_grammar.proofs.PhraseSteps.{Fits, bare_symbol, items_stand, spelled_item, spelled_one, spelled_two}
 use Rattle.drawing_grammar.proofs.PhraseConnection.{IsShortRange, PartBuilt, range_built, signal_again, nothing_spelled}
-use Rattle.drawing_grammar.proofs.PhraseConnections.{GroupBuilt, spelled_item}
+use Rattle.drawing_grammar.proofs.PhraseConnections.{GroupBuilt}
 use Rattle.drawing_grammar.proofs.PhraseParameters.{arrow_bare, outputs_spelled}
 
 pub record IsShortFormal (f : tree.Formal) : Type 0 where
@@ -55,9 +55,6 @@ formal_built f is ts are rest w =
 
 -- ---- several
 
-items_stand : (f : tree.Formal) (xs : List tree.Formal) (first : Placed tree.Formal) (more : PlacedList tree.Formal) → first.item ≡ f → more.items ≡ xs → (with_item first more).items ≡ f ∷ xs
-items_stand f xs first more e h = rw (e, h) refl
-
 more_formals : (xs : List tree.Formal) → AllByRecursion IsShortFormal xs → (ts : List Lexeme) → Are ts (flat_map (λ f. comma ++ formal_tokens f) xs) → (rest : List Need) (w : Written rest) → PartBuilt MoreFormals (λ v. v.items ≡ xs) ts rest w
 unfolding symbol_terminal
 more_formals [] is ts are rest w = record { written = left_out no_items refl w; spelled = nothing_spelled ts (spelling w) are; stands = refl; others = refl; fits = λ h a. h a }
@@ -77,32 +74,37 @@ more_formals (f ∷ xs) is ts are rest w =
       fits = λ h a. (omega arith, b.fits (λ d. m.fits h d) a);
     }
 
-some_formals : (f : tree.Formal) (xs : List tree.Formal) → AllByRecursion IsShortFormal (f ∷ xs) → (ts : List Lexeme) → Are ts (listed_tokens formal_tokens (f ∷ xs)) → (rest : List Need) (w : Written rest) → GroupBuilt SomeFormals (λ v. v.items ≡ f ∷ xs) ts rest w
-some_formals f xs is ts are rest w =
+-- the first one and those behind it, whatever group they make
+record FormalsBuilt (f : tree.Formal) (xs : List tree.Formal) (ts : List Lexeme) (rest : List Need) (w : Written rest) : Type 0 where
+  written : Written (part Formal 0 ∷ part MoreFormals 0 ∷ rest)
+  spelled : spelling written ≡ ts ++ spelling w
+  stands : (with_item (values written).0 (values written).1.0).items ≡ f ∷ xs
+  others : (values written).1.1 ≡ values w
+  fits : ((a : ℕ) → Fits w a) → (a : ℕ) → Fits written a
+
+listed_formals : (f : tree.Formal) (xs : List tree.Formal) → AllByRecursion IsShortFormal (f ∷ xs) → (ts : List Lexeme) → Are ts (listed_tokens formal_tokens (f ∷ xs)) → (rest : List Need) (w : Written rest) → FormalsBuilt f xs ts rest w
+listed_formals f xs is ts are rest w =
     let two = parts ts (formal_tokens f) (flat_map (λ x. comma ++ formal_tokens x) xs) are in
     let m = more_formals xs is.1 two.second two.back rest w in
     let b = formal_built f is.0 two.first two.front (part MoreFormals 0 ∷ rest) m.written in
     record {
-      written = grouped b.written;
+      written = b.written;
       spelled = b.spelled ∙ (ap (λ (us : List Lexeme). two.first ++ us) m.spelled ∙ spelled_two ts two.first two.second (spelling w) two.whole);
       stands = items_stand f xs (values b.written).0 (values b.written).1.0 b.stands (ap (λ (v : Values (part MoreFormals 0 ∷ rest)). v.0.items) b.others ∙ m.stands);
       others = ap (λ (v : Values (part MoreFormals 0 ∷ rest)). v.1) b.others ∙ m.others;
       fits = λ h a. b.fits (λ d. m.fits h d) a;
     }
 
+some_formals : (f : tree.Formal) (xs : List tree.Formal) → AllByRecursion IsShortFormal (f ∷ xs) → (ts : List Lexeme) → Are ts (listed_tokens formal_tokens (f ∷ xs)) → (rest : List Need) (w : Written rest) → GroupBuilt SomeFormals (λ v. v.items ≡ f ∷ xs) ts rest w
+some_formals f xs is ts are rest w =
+    let b = listed_formals f xs is ts are rest w in
+    record { written = grouped b.written; spelled = b.spelled; stands = b.stands; others = b.others; fits = b.fits }
+
 pub all_formals : (xs : List tree.Formal) → AllByRecursion IsShortFormal xs → (ts : List Lexeme) → Are ts (listed_tokens formal_tokens xs) → (rest : List Need) (w : Written rest) → GroupBuilt Formals (λ v. v.items ≡ xs) ts rest w
 all_formals [] is ts are rest w = record { written = lacking no_items refl w; spelled = nothing_spelled ts (spelling w) are; stands = refl; others = refl; fits = λ h a. h a }
 all_formals (f ∷ xs) is ts are rest w =
-    let two = parts ts (formal_tokens f) (flat_map (λ x. comma ++ formal_tokens x) xs) are in
-    let m = more_formals xs is.1 two.second two.back rest w in
-    let b = formal_built f is.0 two.first two.front (part MoreFormals 0 ∷ rest) m.written in
-    record {
-      written = grouped b.written;
-      spelled = b.spelled ∙ (ap (λ (us : List Lexeme). two.first ++ us) m.spelled ∙ spelled_two ts two.first two.second (spelling w) two.whole);
-      stands = items_stand f xs (values b.written).0 (values b.written).1.0 b.stands (ap (λ (v : Values (part MoreFormals 0 ∷ rest)). v.0.items) b.others ∙ m.stands);
-      others = ap (λ (v : Values (part MoreFormals 0 ∷ rest)). v.1) b.others ∙ m.others;
-      fits = λ h a. b.fits (λ d. m.fits h d) a;
-    }
+    let b = listed_formals f xs is ts are rest w in
+    record { written = grouped b.written; spelled = b.spelled; stands = b.stands; others = b.others; fits = b.fits }
 
 -- ---- outputs
 

@@ -1,5 +1,5 @@
 -- Each canonical expression has a phrase at each level of the grammar, in parentheses where its text has them.
-use Rattle.std.proofs.Common.{◌≡◌, ℕ, suc, Bool, true, false, List, ◌++◌, pos, negsuc, refl, sym, subst, append_assoc}
+use Rattle.std.proofs.Common.{◌≡◌, ℕ, suc, Bool, true, false, List, ◌++◌, pos, negsuc, refl, sym, ap, subst, append_assoc}
 use Rattle.std.specs.Prelude.{◌||◌, max, ℤ}
 use Rattle.scald_expr.specs.declared.expr.Op as op_type
 use Rattle.scald_expr.specs.declared.expr.Op.TheVariants as op
@@ -11,7 +11,8 @@ use Rattle.drawing_grammar.specs.Nesting.{enclosed_nesting, nesting}
 use Rattle.drawing_grammar.proofs.Cutting.{Bare}
 use Rattle.drawing_grammar.proofs.CanonicalTokens.{equals, exclamation, less, greater, enclosed_tokens, condition_tokens}
 use Rattle.drawing_grammar.proofs.Drawable.{IsDrawn}
-use Rattle.drawing_grammar.proofs.PhraseExpression.{AsUnary, AsProduct, AsSum, AsWhole, product_of_unary, sum_of_product, whole_of_sum, unary_of_whole, number_unary, word_unary, minus_unary, product_times, product_divided, sum_plus, sum_less, whole_compared, compared_equal, compared_unequal, compared_below, compared_above, compared_at_most, compared_at_least}
+use Rattle.drawing_grammar.proofs.PhraseExpression.{AsUnary, AsProduct, AsSum, AsWhole, product_of_unary, sum_of_product, whole_of_sum, unary_of_whole, number_unary, word_unary, minus_unary, product_times, product_divided, sum_plus, sum_less}
+use Rattle.drawing_grammar.proofs.PhraseComparison.{whole_compared, compared_equal, compared_unequal, compared_below, compared_above, compared_at_most, compared_at_least}
 
 -- its tokens and how deep it nests, in parentheses where they are asked for
 abbrev pub tokens_at : Bool → Expression → List Bare
@@ -33,6 +34,9 @@ or_false true = refl
 or_false false = refl
 
 -- asked for in another way
+unary_at : (asked other : Bool) (x : Expression) → asked ≡ other → AsUnary x (tokens_at asked x) (deep_at asked x) → AsUnary x (tokens_at other x) (deep_at other x)
+unary_at asked other x h u = subst (λ (b : Bool). AsUnary x (tokens_at b x) (deep_at b x)) h u
+
 sum_at : (asked other : Bool) (x : Expression) → asked ≡ other → AsSum x (tokens_at asked x) (deep_at asked x) → AsSum x (tokens_at other x) (deep_at other x)
 sum_at asked other x h s = subst (λ (b : Bool). AsSum x (tokens_at b x) (deep_at b x)) h s
 
@@ -192,6 +196,18 @@ at_least_whole : (a b : Expression) → Forms a → Forms b → AsWhole (e.Binar
 unfolding condition_tokens nesting
 at_least_whole a b f g = regrouped op.Ge a b (left_tokens a) (greater ++ equals) (right_tokens b) (max (left_deep a) (right_deep b)) (whole_compared op.Ge a b (left_tokens a) ((greater ++ equals) ++ right_tokens b) (left_deep a) (right_deep b) (left_sum a f) (compared_at_least b (right_tokens b) (right_deep b) (right_sum b g)))
 
+-- Every operand that is a comparison stands in parentheses.
+compared_forms : (x : Expression) → minus_enclosed x ≡ true → is_comparison x ≡ true → AsWhole x (condition_tokens x) (nesting x) → Forms x
+compared_forms x behind compared w =
+    let h = from_whole x (condition_tokens x) (nesting x) w in
+    record {
+      behind_minus = unary_at true (minus_enclosed x) x (sym behind) h.enclosed;
+      unary = unary_at true (is_comparison x || is_sum x || is_product x) x (sym (ap (λ b. b || is_sum x || is_product x) compared)) h.enclosed;
+      product = product_at true (is_comparison x || is_sum x) x (sym (ap (λ b. b || is_sum x) compared)) h.product;
+      sum = sum_at true (is_comparison x) x (sym compared) h.sum;
+      whole = w;
+    }
+
 -- ---- all expressions
 
 pub forms : (x : Expression) → IsDrawn x → Forms x
@@ -203,33 +219,9 @@ forms (e.Binary op.Add a b) is = plus_forms a b (forms a is.0) (forms b is.1)
 forms (e.Binary op.Sub a b) is = less_forms a b (forms a is.0) (forms b is.1)
 forms (e.Binary op.Mul a b) is = times_forms a b (forms a is.0) (forms b is.1)
 forms (e.Binary op.Div a b) is = divided_forms a b (forms a is.0) (forms b is.1)
-forms (e.Binary op.Eq a b) is =
-    let x = e.Binary op.Eq a b in
-    let w = equal_whole a b (forms a is.0) (forms b is.1) in
-    let h = from_whole x (condition_tokens x) (nesting x) w in
-    record { behind_minus = h.enclosed; unary = h.enclosed; product = h.product; sum = h.sum; whole = w }
-forms (e.Binary op.Ne a b) is =
-    let x = e.Binary op.Ne a b in
-    let w = unequal_whole a b (forms a is.0) (forms b is.1) in
-    let h = from_whole x (condition_tokens x) (nesting x) w in
-    record { behind_minus = h.enclosed; unary = h.enclosed; product = h.product; sum = h.sum; whole = w }
-forms (e.Binary op.Lt a b) is =
-    let x = e.Binary op.Lt a b in
-    let w = below_whole a b (forms a is.0) (forms b is.1) in
-    let h = from_whole x (condition_tokens x) (nesting x) w in
-    record { behind_minus = h.enclosed; unary = h.enclosed; product = h.product; sum = h.sum; whole = w }
-forms (e.Binary op.Le a b) is =
-    let x = e.Binary op.Le a b in
-    let w = at_most_whole a b (forms a is.0) (forms b is.1) in
-    let h = from_whole x (condition_tokens x) (nesting x) w in
-    record { behind_minus = h.enclosed; unary = h.enclosed; product = h.product; sum = h.sum; whole = w }
-forms (e.Binary op.Gt a b) is =
-    let x = e.Binary op.Gt a b in
-    let w = above_whole a b (forms a is.0) (forms b is.1) in
-    let h = from_whole x (condition_tokens x) (nesting x) w in
-    record { behind_minus = h.enclosed; unary = h.enclosed; product = h.product; sum = h.sum; whole = w }
-forms (e.Binary op.Ge a b) is =
-    let x = e.Binary op.Ge a b in
-    let w = at_least_whole a b (forms a is.0) (forms b is.1) in
-    let h = from_whole x (condition_tokens x) (nesting x) w in
-    record { behind_minus = h.enclosed; unary = h.enclosed; product = h.product; sum = h.sum; whole = w }
+forms (e.Binary op.Eq a b) is = compared_forms (e.Binary op.Eq a b) refl refl (equal_whole a b (forms a is.0) (forms b is.1))
+forms (e.Binary op.Ne a b) is = compared_forms (e.Binary op.Ne a b) refl refl (unequal_whole a b (forms a is.0) (forms b is.1))
+forms (e.Binary op.Lt a b) is = compared_forms (e.Binary op.Lt a b) refl refl (below_whole a b (forms a is.0) (forms b is.1))
+forms (e.Binary op.Le a b) is = compared_forms (e.Binary op.Le a b) refl refl (at_most_whole a b (forms a is.0) (forms b is.1))
+forms (e.Binary op.Gt a b) is = compared_forms (e.Binary op.Gt a b) refl refl (above_whole a b (forms a is.0) (forms b is.1))
+forms (e.Binary op.Ge a b) is = compared_forms (e.Binary op.Ge a b) refl refl (at_least_whole a b (forms a is.0) (forms b is.1))

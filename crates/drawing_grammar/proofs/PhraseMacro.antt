@@ -14,7 +14,7 @@ use Rattle.drawing_grammar.specs.Written.{Written, marked, token, chosen, groupe
 use Rattle.drawing_grammar.proofs.Leaves as leaf
 use Rattle.drawing_grammar.proofs.CanonicalTokens.{word, semicolon, open_parenthesis, close_parenthesis, params_tokens, inputs_tokens, outputs_tokens, formal_tokens, listed_tokens, statements_tokens, end_tokens, body_tokens, macro_tokens}
 use Rattle.drawing_grammar.proofs.Matching.{Are, parts, single, terminal_is, text_is, word_is_free}
-use Rattle.drawing_grammar.proofs.PhraseExpression.{Fits, bare_symbol, spelled_two}
+use Rattle.drawing_grammar.proofs.PhraseSteps.{Fits, bare_symbol, spelled_two}
 use Rattle.drawing_grammar.proofs.PhraseConnection.{PartBuilt, nothing_spelled}
 use Rattle.drawing_grammar.proofs.PhraseConnections.{GroupBuilt}
 use Rattle.drawing_grammar.proofs.PhraseParameters.{IsShortAssignment, params_built}

@@ -10,15 +10,15 @@ use Rattle.drawing_grammar.specs.declared.terminal.Terminal.TheVariants.{Equals,
 use Rattle.drawing_grammar.specs.Lexeme.{Lexeme, terminal, symbol_terminal}
 use Rattle.drawing_grammar.specs.Grammar.{Need, mark, fresh, part, group, Sum, Assign, MoreAssigns, Parameters, Delay, Outputs}
 use Rattle.drawing_grammar.specs.Grammar as g
-use Rattle.drawing_grammar.specs.Sketch.{Values, Placed, PlacedList, no_items, with_item}
+use Rattle.drawing_grammar.specs.Sketch.{Values, no_items}
 use Rattle.drawing_grammar.specs.Written.{Written, marked, chosen, left_out, grouped, spelling, values}
 use Rattle.drawing_grammar.proofs.Cutting.{Bare}
 use Rattle.drawing_grammar.proofs.Leaves as leaf
 use Rattle.drawing_grammar.proofs.CanonicalTokens.{word, comma, equals, open_brace, close_brace, arrow, open_parenthesis, close_parenthesis, sum_tokens, assignment_tokens, params_tokens, connection_tokens, outputs_tokens, listed_tokens}
 use Rattle.drawing_grammar.proofs.Matching.{Are, parts, single, terminal_is, text_is, word_is_free}
-use Rattle.drawing_grammar.proofs.PhraseExpression.{bare_symbol, spelled_two, spelled_between}
+use Rattle.drawing_grammar.proofs.PhraseSteps.{bare_symbol, items_stand, spelled_between, spelled_item, spelled_two}
 use Rattle.drawing_grammar.proofs.PhraseConnection.{IsShort, PartBuilt, own_sum, nothing_spelled}
-use Rattle.drawing_grammar.proofs.PhraseConnections.{IsShortConnection, AreConnections, spelled_item, some_connections}
+use Rattle.drawing_grammar.proofs.PhraseConnections.{IsShortConnection, AreConnections, some_connections}
 
 pub record IsShortAssignment (a : tree.Assignment) : Type 0 where
   pub name : IsFreeWord a.name
@@ -50,9 +50,6 @@ assign_built a is ts are rest w =
     }
 
 -- ---- several
-
-items_stand : (a : tree.Assignment) (xs : List tree.Assignment) (first : Placed tree.Assignment) (more : PlacedList tree.Assignment) → first.item ≡ a → more.items ≡ xs → (with_item first more).items ≡ a ∷ xs
-items_stand a xs first more e f = rw (e, f) refl
 
 more_assigns : (xs : List tree.Assignment) → AllByRecursion IsShortAssignment xs → (ts : List Lexeme) → Are ts (flat_map (λ a. comma ++ assignment_tokens a) xs) → (rest : List Need) (w : Written rest) → PartBuilt MoreAssigns (λ v. v.items ≡ xs) ts rest w
 unfolding symbol_terminal

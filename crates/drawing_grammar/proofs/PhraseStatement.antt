@@ -17,7 +17,7 @@ use Rattle.drawing_grammar.proofs.Leaves as leaf
 use Rattle.drawing_grammar.proofs.CanonicalTokens.{word, name, colon, semicolon, sum_tokens, bounds_tokens, range_tokens, signal_tokens, condition_tokens, wire_tokens, end_tokens, statement_tokens, statements_tokens, else_tokens}
 use Rattle.drawing_grammar.proofs.Drawable.{IsDrawn}
 use Rattle.drawing_grammar.proofs.Matching.{Are, parts, single, terminal_is}
-use Rattle.drawing_grammar.proofs.PhraseExpression.{Fits, bare_symbol, spelled_one, spelled_two}
+use Rattle.drawing_grammar.proofs.PhraseSteps.{Fits, bare_symbol, spelled_one, spelled_two}
 use Rattle.drawing_grammar.proofs.PhraseForms.{forms}
 use Rattle.drawing_grammar.proofs.PhraseConnection.{IsShort, IsShortRange, own_sum, range_built, signal_again, nothing_spelled}
 use Rattle.drawing_grammar.proofs.PhraseUse.{IsShortUse, use_built}

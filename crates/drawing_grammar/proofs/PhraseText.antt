@@ -1,25 +1,26 @@
 -- The phrase of a whole canonical text.
 use Rattle.std.proofs.Common.{◌≡◌, ℕ, pos, List, [], ◌∷◌, ◌++◌, map, Option, Some, None, refl, sym, ap, subst, ◌∙◌, arith, append_assoc}
 use Rattle.std.specs.Prelude.{codes}
-use Rattle.std.specs.List.{flat_map, AllByRecursion}
+use Rattle.std.specs.List.{AllByRecursion}
 use Rattle.scald_lex.specs.declared.token.TokenKind.TheVariants.{End}
 use Rattle.drawing_tree.specs.Tree as tree
 use Rattle.drawing_tree.specs.Places.{unplaced_statements, unplaced_macro, unplaced_case}
 use Rattle.drawing_tree.specs.WellFormed.{IsFreeWord}
 use Rattle.drawing_grammar.specs.declared.header.NumberPair.{NumberPair}
 use Rattle.drawing_grammar.specs.declared.terminal.Terminal.TheVariants as is
-use Rattle.drawing_grammar.specs.Lexeme.{Lexeme, terminal, symbol_terminal, word_terminal}
-use Rattle.drawing_grammar.specs.Grammar.{Need, mark, item, part, group, WireBounds, PrecisionSkew, ClockSkew, Macros, Statements, Cases}
+use Rattle.drawing_grammar.specs.Lexeme.{Lexeme, terminal, symbol_terminal, word_terminal, number_of}
+use Rattle.drawing_grammar.specs.Grammar.{Need, mark, item, part, group, bounds, WireBounds, PrecisionSkew, ClockSkew, Macros, Statements, Cases}
 use Rattle.drawing_grammar.specs.Grammar as g
 use Rattle.drawing_grammar.specs.Sketch.{Sketch, Values}
 use Rattle.drawing_grammar.specs.Written.{Written, nothing, marked, token, lettered, chosen, spelling, values}
 use Rattle.drawing_grammar.specs.Draws.{whole}
 use Rattle.drawing_grammar.proofs.Cutting.{Bare}
 use Rattle.drawing_grammar.proofs.Leaves as leaf
-use Rattle.drawing_grammar.proofs.CanonicalTokens.{word, number, semicolon, pair_tokens, macro_tokens, body_tokens, case_tokens, drawing_tokens, end_of_text}
+use Rattle.drawing_grammar.proofs.CanonicalTokens.{word, number, semicolon, pair_tokens, drawing_tokens, end_of_text}
 use Rattle.drawing_grammar.proofs.Drawable.{IsDrawnCase}
 use Rattle.drawing_grammar.proofs.Matching.{bare, Are, parts, single, terminal_is, text_is, word_is_free}
-use Rattle.drawing_grammar.proofs.PhraseExpression.{Fits, bare_symbol}
+use Rattle.drawing_grammar.proofs.DrawingParts.{drawing_parts}
+use Rattle.drawing_grammar.proofs.PhraseSteps.{Fits, bare_symbol}
 use Rattle.drawing_grammar.proofs.PhraseConnection.{PartBuilt}
 use Rattle.drawing_grammar.proofs.PhraseStatement.{AreShort}
 use Rattle.drawing_grammar.proofs.PhraseMacro.{IsShortMacro, AreMacros, body_built, macros_built}
@@ -44,41 +45,41 @@ none_left (t ∷ ts) e = absurd cc
 
 -- ---- statements of two numbers
 
-record Line (text : List ℕ) (a b : ℕ) (ts : List Lexeme) : Type 0 where
+record Line (text : List ℕ) (a b : ℕ) (ts : List Lexeme) (rest : List Need) (w : Written rest) : Type 0 where
   begin : Lexeme
-  first : Lexeme
-  middle : Lexeme
-  second : Lexeme
-  end : Lexeme
-  whole : ts ≡ begin ∷ first ∷ middle ∷ second ∷ end ∷ []
   is_begin : bare begin ≡ leaf.word text
-  is_first : bare first ≡ leaf.number a
-  is_middle : bare middle ≡ bare_symbol 58
-  is_second : bare second ≡ leaf.number b
-  is_end : bare end ≡ bare_symbol 59
+  written : Written (bounds rest)
+  spelled : begin ∷ spelling written ≡ ts ++ spelling w
+  first : number_of (values written).0 ≡ pos a
+  second : number_of (values written).1.0 ≡ pos b
+  others : (values written).1.1 ≡ values w
+  fits : ((d : ℕ) → Fits w d) → (d : ℕ) → Fits written d
 
 joined : (ts r0 r1 r2 r3 r4 : List Lexeme) (t0 t1 t2 t3 t4 : Lexeme) → ts ≡ t0 ∷ r0 → r0 ≡ t1 ∷ r1 → r1 ≡ t2 ∷ r2 → r2 ≡ t3 ∷ r3 → r3 ≡ t4 ∷ r4 → r4 ≡ [] → ts ≡ t0 ∷ t1 ∷ t2 ∷ t3 ∷ t4 ∷ []
 joined ts r0 r1 r2 r3 r4 t0 t1 t2 t3 t4 a b c d e f = rw (a, b, c, d, e, f) refl
 
-line : (text : List ℕ) (a b : ℕ) (ts : List Lexeme) → Are ts (word text ++ pair_tokens a b ++ semicolon) → Line text a b ts
-line text a b ts are =
+line : (text : List ℕ) (a b : ℕ) (ts : List Lexeme) (rest : List Need) (w : Written rest) → Are ts (word text ++ pair_tokens a b ++ semicolon) → Line text a b ts rest w
+unfolding symbol_terminal
+line text a b ts rest w are =
     let n0 = next ts (leaf.word text) (leaf.number a ∷ bare_symbol 58 ∷ leaf.number b ∷ bare_symbol 59 ∷ []) are in
     let n1 = next n0.rest (leaf.number a) (bare_symbol 58 ∷ leaf.number b ∷ bare_symbol 59 ∷ []) n0.behind in
     let n2 = next n1.rest (bare_symbol 58) (leaf.number b ∷ bare_symbol 59 ∷ []) n1.behind in
     let n3 = next n2.rest (leaf.number b) (bare_symbol 59 ∷ []) n2.behind in
     let n4 = next n3.rest (bare_symbol 59) [] n3.behind in
+    let firsts : terminal n1.token ≡ is.Number = terminal_is n1.token (leaf.number a) n1.is in
+    let middles : terminal n2.token ≡ is.Colon = terminal_is n2.token (bare_symbol 58) n2.is in
+    let seconds : terminal n3.token ≡ is.Number = terminal_is n3.token (leaf.number b) n3.is in
+    let ends : terminal n4.token ≡ is.Semicolon = terminal_is n4.token (bare_symbol 59) n4.is in
+    let whole = joined ts n0.rest n1.rest n2.rest n3.rest n4.rest n0.token n1.token n2.token n3.token n4.token n0.whole n1.whole n2.whole n3.whole n4.whole (none_left n4.rest n4.behind) in
     record {
       begin = n0.token;
-      first = n1.token;
-      middle = n2.token;
-      second = n3.token;
-      end = n4.token;
-      whole = joined ts n0.rest n1.rest n2.rest n3.rest n4.rest n0.token n1.token n2.token n3.token n4.token n0.whole n1.whole n2.whole n3.whole n4.whole (none_left n4.rest n4.behind);
       is_begin = n0.is;
-      is_first = n1.is;
-      is_middle = n2.is;
-      is_second = n3.is;
-      is_end = n4.is;
+      written = token n1.token firsts (marked n2.token middles (token n3.token seconds (marked n4.token ends w)));
+      spelled = ap (λ (us : List Lexeme). us ++ spelling w) (sym whole);
+      first = number_is n1.token a n1.is;
+      second = number_is n3.token b n3.is;
+      others = refl;
+      fits = λ f c. (omega arith, (omega arith, (omega arith, (omega arith, f c))));
     }
 
 -- these two numbers are written
@@ -88,55 +89,25 @@ IsPair a b (Some pair) = (pair.first ≡ pos a) × (pair.second ≡ pos b)
 
 module _ (a b : ℕ) (ts : List Lexeme) (rest : List Need) (w : Written rest) where
   wire_line : Are ts (word (codes "WIRE") ++ pair_tokens a b ++ semicolon) → PartBuilt WireBounds (IsPair a b) ts rest w
-  unfolding symbol_terminal word_terminal
+  unfolding word_terminal
   wire_line are =
-      let l = line (codes "WIRE") a b ts are in
+      let l = line (codes "WIRE") a b ts rest w are in
       let begins : terminal l.begin ≡ g.opening g.wire_bounds = terminal_is l.begin (leaf.word (codes "WIRE")) l.is_begin in
-      let firsts : terminal l.first ≡ is.Number = terminal_is l.first (leaf.number a) l.is_first in
-      let middles : terminal l.middle ≡ is.Colon = terminal_is l.middle (bare_symbol 58) l.is_middle in
-      let seconds : terminal l.second ≡ is.Number = terminal_is l.second (leaf.number b) l.is_second in
-      let ends : terminal l.end ≡ is.Semicolon = terminal_is l.end (bare_symbol 59) l.is_end in
-      record {
-        written = chosen g.wire_bounds l.begin begins (token l.first firsts (marked l.middle middles (token l.second seconds (marked l.end ends w))));
-        spelled = ap (λ (us : List Lexeme). us ++ spelling w) (sym l.whole);
-        stands = (number_is l.first a l.is_first, number_is l.second b l.is_second);
-        others = refl;
-        fits = λ f c. (omega arith, (omega arith, (omega arith, (omega arith, (omega arith, f c)))));
-      }
+      record { written = chosen g.wire_bounds l.begin begins l.written; spelled = l.spelled; stands = (l.first, l.second); others = l.others; fits = λ f c. (omega arith, l.fits f c) }
 
   precision_line : Are ts (word (codes "PSKEW") ++ pair_tokens a b ++ semicolon) → PartBuilt PrecisionSkew (IsPair a b) ts rest w
-  unfolding symbol_terminal word_terminal
+  unfolding word_terminal
   precision_line are =
-      let l = line (codes "PSKEW") a b ts are in
+      let l = line (codes "PSKEW") a b ts rest w are in
       let begins : terminal l.begin ≡ g.opening g.precision_skew = terminal_is l.begin (leaf.word (codes "PSKEW")) l.is_begin in
-      let firsts : terminal l.first ≡ is.Number = terminal_is l.first (leaf.number a) l.is_first in
-      let middles : terminal l.middle ≡ is.Colon = terminal_is l.middle (bare_symbol 58) l.is_middle in
-      let seconds : terminal l.second ≡ is.Number = terminal_is l.second (leaf.number b) l.is_second in
-      let ends : terminal l.end ≡ is.Semicolon = terminal_is l.end (bare_symbol 59) l.is_end in
-      record {
-        written = chosen g.precision_skew l.begin begins (token l.first firsts (marked l.middle middles (token l.second seconds (marked l.end ends w))));
-        spelled = ap (λ (us : List Lexeme). us ++ spelling w) (sym l.whole);
-        stands = (number_is l.first a l.is_first, number_is l.second b l.is_second);
-        others = refl;
-        fits = λ f c. (omega arith, (omega arith, (omega arith, (omega arith, (omega arith, f c)))));
-      }
+      record { written = chosen g.precision_skew l.begin begins l.written; spelled = l.spelled; stands = (l.first, l.second); others = l.others; fits = λ f c. (omega arith, l.fits f c) }
 
   clock_line : Are ts (word (codes "CSKEW") ++ pair_tokens a b ++ semicolon) → PartBuilt ClockSkew (IsPair a b) ts rest w
-  unfolding symbol_terminal word_terminal
+  unfolding word_terminal
   clock_line are =
-      let l = line (codes "CSKEW") a b ts are in
+      let l = line (codes "CSKEW") a b ts rest w are in
       let begins : terminal l.begin ≡ g.opening g.clock_skew = terminal_is l.begin (leaf.word (codes "CSKEW")) l.is_begin in
-      let firsts : terminal l.first ≡ is.Number = terminal_is l.first (leaf.number a) l.is_first in
-      let middles : terminal l.middle ≡ is.Colon = terminal_is l.middle (bare_symbol 58) l.is_middle in
-      let seconds : terminal l.second ≡ is.Number = terminal_is l.second (leaf.number b) l.is_second in
-      let ends : terminal l.end ≡ is.Semicolon = terminal_is l.end (bare_symbol 59) l.is_end in
-      record {
-        written = chosen g.clock_skew l.begin begins (token l.first firsts (marked l.middle middles (token l.second seconds (marked l.end ends w))));
-        spelled = ap (λ (us : List Lexeme). us ++ spelling w) (sym l.whole);
-        stands = (number_is l.first a l.is_first, number_is l.second b l.is_second);
-        others = refl;
-        fits = λ f c. (omega arith, (omega arith, (omega arith, (omega arith, (omega arith, f c)))));
-      }
+      record { written = chosen g.clock_skew l.begin begins l.written; spelled = l.spelled; stands = (l.first, l.second); others = l.others; fits = λ f c. (omega arith, l.fits f c) }
 
 -- ---- the first two lines
 
@@ -301,19 +272,12 @@ text_built d short ts are =
     let b5 = word (codes "PSKEW") ++ pair_tokens h.pskew.0 h.pskew.1 ++ semicolon in
     let p5 = p6 ++ b5 in
     let b4 = word (codes "CSKEW") ++ pair_tokens h.cskew.0 h.cskew.1 ++ semicolon in
-    let p4 = p5 ++ b4 in
-    let b3 = flat_map macro_tokens d.macros in
-    let p3 = p4 ++ b3 in
-    let b2 = word (codes "DRAWING") ++ word d.name ++ semicolon in
-    let p2 = p3 ++ b2 in
-    let b1 = body_tokens d.body in
-    let p1 = p2 ++ b1 in
-    let b0 = flat_map case_tokens d.cases in
-    let a0 = parts ts (p1 ++ b0) end_of_text are in
-    let a1 = parts a0.first p1 b0 a0.front in
-    let a2 = parts a1.first p2 b1 a1.front in
-    let a3 = parts a2.first p3 b2 a2.front in
-    let a4 = parts a3.first p4 b3 a3.front in
+    let cut = drawing_parts d ts are in
+    let a0 = cut.end in
+    let a1 = cut.cases in
+    let a2 = cut.body in
+    let a3 = cut.title in
+    let a4 = cut.macros in
     let a5 = parts a4.first p5 b4 a4.front in
     let a6 = parts a5.first p6 b5 a5.front in
     let a7 = parts a6.first p7 b6 a6.front in

@@ -15,7 +15,7 @@ use Rattle.drawing_grammar.specs.Written.{Written, marked, token, chosen, left_o
 use Rattle.drawing_grammar.proofs.Leaves as leaf
 use Rattle.drawing_grammar.proofs.CanonicalTokens.{word, colon, semicolon, open_bracket, close_bracket, open_parenthesis, close_parenthesis, sum_tokens, bounds_tokens, delay_tokens, params_tokens, inputs_tokens, outputs_tokens, connection_tokens, listed_tokens, use_tokens}
 use Rattle.drawing_grammar.proofs.Matching.{Are, parts, single, terminal_is, text_is, word_is_free}
-use Rattle.drawing_grammar.proofs.PhraseExpression.{Fits, bare_symbol}
+use Rattle.drawing_grammar.proofs.PhraseSteps.{Fits, bare_symbol}
 use Rattle.drawing_grammar.proofs.PhraseConnection.{IsShort, PartBuilt, own_sum, nothing_spelled}
 use Rattle.drawing_grammar.proofs.PhraseConnections.{IsShortConnection, all_connections}
 use Rattle.drawing_grammar.proofs.PhraseParameters.{IsShortAssignment, params_built, outputs_built}

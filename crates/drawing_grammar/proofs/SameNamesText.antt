@@ -13,9 +13,10 @@ use Rattle.drawing_grammar.specs.Lexeme.{Lexeme, terminal, symbol_terminal, word
 use Rattle.drawing_grammar.specs.Names.{names_at, head_behind, names_from, AreGood}
 use Rattle.drawing_grammar.proofs.Cutting.{Bare}
 use Rattle.drawing_grammar.proofs.Leaves as leaf
-use Rattle.drawing_grammar.proofs.CanonicalTokens.{word, semicolon, header_tokens, macro_tokens, body_tokens, case_tokens, drawing_tokens, end_of_text}
+use Rattle.drawing_grammar.proofs.CanonicalTokens.{semicolon, header_tokens, macro_tokens, body_tokens, case_tokens, drawing_tokens, end_of_text}
 use Rattle.drawing_grammar.proofs.Matching.{bare, Are, parts, single, terminal_is}
-use Rattle.drawing_grammar.proofs.PhraseExpression.{bare_symbol}
+use Rattle.drawing_grammar.proofs.DrawingParts.{drawing_parts, title_tokens}
+use Rattle.drawing_grammar.proofs.PhraseSteps.{bare_symbol}
 use Rattle.drawing_grammar.proofs.Proper.{IsMacroOf, AreStatementsOf, IsCaseOf}
 use Rattle.drawing_grammar.proofs.SameNames.{AreCalm, calm_names, head_tokens, head, header, title, body, cases, end}
 
@@ -73,25 +74,18 @@ module _ (h : Header) where
   pub text_names : (d : tree.Drawing) → IsFreeWord d.name → AllByRecursion (IsMacroOf Good) d.macros → AreStatementsOf Good d.body → AllByRecursion (IsCaseOf Good) d.cases → (ts : List Lexeme) → Are ts (drawing_tokens d ++ end_of_text) → AreGood h (names_from false ts)
   unfolding names_from
   text_names d named macros inside listed ts are =
-      let p4 = header_tokens d.version d.header in
-      let b3 = flat_map macro_tokens d.macros in
-      let p3 = p4 ++ b3 in
-      let b2 = word (codes "DRAWING") ++ word d.name ++ semicolon in
-      let p2 = p3 ++ b2 in
-      let b1 = body_tokens d.body in
-      let p1 = p2 ++ b1 in
-      let b0 = flat_map case_tokens d.cases in
-      let a0 = parts ts (p1 ++ b0) end_of_text are in
-      let a1 = parts a0.first p1 b0 a0.front in
-      let a2 = parts a1.first p2 b1 a1.front in
-      let a3 = parts a2.first p3 b2 a2.front in
-      let a4 = parts a3.first p4 b3 a3.front in
+      let cut = drawing_parts d ts are in
+      let a0 = cut.end in
+      let a1 = cut.cases in
+      let a2 = cut.body in
+      let a3 = cut.title in
+      let a4 = cut.macros in
       let g0 : AreGoodFrom false (a0.second ++ []) = calm_over false a0.second [] end_of_text a0.back (end h) tt in
-      let g1 : AreGoodFrom false (a1.second ++ (a0.second ++ [])) = calm_over false a1.second (a0.second ++ []) b0 a1.back (cases h d.cases listed) g0 in
-      let g2 : AreGoodFrom false (a2.second ++ (a1.second ++ (a0.second ++ []))) = calm_over false a2.second (a1.second ++ (a0.second ++ [])) b1 a2.back (body h d.body inside) g1 in
-      let g3 : AreGoodFrom false (a3.second ++ (a2.second ++ (a1.second ++ (a0.second ++ [])))) = calm_over false a3.second (a2.second ++ (a1.second ++ (a0.second ++ []))) b2 a3.back (title h d.name named) g2 in
+      let g1 : AreGoodFrom false (a1.second ++ (a0.second ++ [])) = calm_over false a1.second (a0.second ++ []) (flat_map case_tokens d.cases) a1.back (cases h d.cases listed) g0 in
+      let g2 : AreGoodFrom false (a2.second ++ (a1.second ++ (a0.second ++ []))) = calm_over false a2.second (a1.second ++ (a0.second ++ [])) (body_tokens d.body) a2.back (body h d.body inside) g1 in
+      let g3 : AreGoodFrom false (a3.second ++ (a2.second ++ (a1.second ++ (a0.second ++ [])))) = calm_over false a3.second (a2.second ++ (a1.second ++ (a0.second ++ []))) (title_tokens d) a3.back (title h d.name named) g2 in
       let g4 : AreGoodFrom false (a4.second ++ (a3.second ++ (a2.second ++ (a1.second ++ (a0.second ++ []))))) = macros_over d.macros macros a4.second (a3.second ++ (a2.second ++ (a1.second ++ (a0.second ++ [])))) a4.back g3 in
-      let g5 : AreGoodFrom false (a4.first ++ (a4.second ++ (a3.second ++ (a2.second ++ (a1.second ++ (a0.second ++ [])))))) = calm_over false a4.first (a4.second ++ (a3.second ++ (a2.second ++ (a1.second ++ (a0.second ++ []))))) p4 a4.front (header h d.version d.header) g4 in
+      let g5 : AreGoodFrom false (a4.first ++ (a4.second ++ (a3.second ++ (a2.second ++ (a1.second ++ (a0.second ++ [])))))) = calm_over false a4.first (a4.second ++ (a3.second ++ (a2.second ++ (a1.second ++ (a0.second ++ []))))) (header_tokens d.version d.header) a4.front (header h d.version d.header) g4 in
       let k3 = over_two false a3.first a4.first a4.second (a3.second ++ (a2.second ++ (a1.second ++ (a0.second ++ [])))) a4.whole g5 in
       let k2 = over_two false a2.first a3.first a3.second (a2.second ++ (a1.second ++ (a0.second ++ []))) a3.whole k3 in
       let k1 = over_two false a1.first a2.first a2.second (a1.second ++ (a0.second ++ [])) a2.whole k2 in
