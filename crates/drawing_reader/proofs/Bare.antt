@@ -10,6 +10,7 @@ use Rattle.scald_base.specs.declared.refusal.Place.{Place}
 use Rattle.scald_base.specs.declared.assertion.AssertSpec.TheVariants.{None as Unasserted}
 use Rattle.assertion_syntax.specs.Name.{is_base_byte, well_spaced, IsBase}
 use Rattle.drawing_grammar.specs.Names.{is_inner, named, IsGood}
+use Rattle.drawing_reader.specs.Known.{IsKnown}
 
 inner_base : (b : ℕ) → is_inner b ≡ true → is_base_byte b ≡ true
 inner_base b h = grind (arith, nat_tests)
@@ -38,3 +39,19 @@ bare_good h text of_formal place is = record {
   plain = λ e. record { local = refl; bare = refl };
   fits = record { intervals = tt; edges = λ x. x };
 }
+
+-- a name may stand outside of a head wherever it may stand
+pub good_known : (h : Header) (text : List ℕ) (of_formal : Bool) (place : Place) → IsGood h (named text of_formal place) → IsKnown h text
+good_known h text of_formal place good p = record {
+  name = good.name;
+  spelled = good.spelled;
+  plain = λ e. absurd cc;
+  fits = good.fits;
+}
+
+-- the name that is known before any is read
+pub first_known : (h : Header) → IsKnown h (65 ∷ [])
+first_known h p = bare_good h (65 ∷ []) false p (bare_base (65 ∷ []) refl (omega arith) refl)
+
+pub known_good : (h : Header) (text known : List ℕ) (of_formal : Bool) (place : Place) → IsKnown h known → (of_formal ≡ false) × (known ≡ text) → IsGood h (named text of_formal place)
+known_good h text known of_formal place good same = rw (same.0, sym same.1) (good place)

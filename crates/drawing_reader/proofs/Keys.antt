@@ -58,7 +58,7 @@ either_has [] more k found = inr found
 either_has (x ∷ xs) more k (zero, below, e) = inl (0, omega arith, e)
 either_has (x ∷ xs) more k (suc n, below, e) = elim (either_has xs more k (n, omega arith, e)) [ inl h ↦ inl (later xs x k h) | inr h ↦ inr h ]
 
-neither_has : (front more : List Key) (k : Key) → (Contains front k → ⊥) → (Contains more k → ⊥) → Contains (front ++ more) k → ⊥
+pub neither_has : (front more : List Key) (k : Key) → (Contains front k → ⊥) → (Contains more k → ⊥) → Contains (front ++ more) k → ⊥
 neither_has front more k f g found = elim (either_has front more k found) [ inl h ↦ f h | inr h ↦ g h ]
 
 -- ---- the primitives

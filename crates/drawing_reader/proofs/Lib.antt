@@ -9,3 +9,4 @@ pub mod Naming
 pub mod Bare
 pub mod Answered
 pub mod Slices
+pub mod Climbing

@@ -8,6 +8,7 @@ ghost use Rattle.drawing_tree.specs.Tree.{assignment_of, formal_of, statements_o
 ghost use Rattle.drawing_tree.specs.WellFormed.{primitive_names};
 ghost use Rattle.drawing_grammar.specs.DoubleNames.{key, declaration, parameters, formals, labels, statement_labels, head_declared, macros_declared, declared, primitives, double_at, Declares, IsStopAt, IsDistinct, IsDoubleStop};
 
+use crate::ascending::are_ascending;
 use crate::declared::Declared;
 use drawing_grammar::{Head, Kind};
 use drawing_tree::{Assign, Formal, IfStmt, MacroDef, MacroDefs, Stmt};
@@ -236,5 +237,9 @@ pub fn distinct_names(
 {
     let mut declarations = Declarations::new(alloc);
     declarations.definitions(macros.as_slice(), heads)?;
+    // No memory is taken for labels that are seen to differ by their order alone, as most are where there are many.
+    if are_ascending(body) {
+        return Ok(());
+    }
     declarations.statements(macros.len(), body)
 }

@@ -20,6 +20,7 @@ mod signal;
 mod statement;
 
 // what is judged behind the grammar
+mod ascending;
 mod declared;
 mod double_names;
 mod drawing;

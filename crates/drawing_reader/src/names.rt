@@ -5,6 +5,7 @@ ghost use Rattle.std.specs.List.{list_all};
 ghost use Rattle.assertion_syntax.specs.Name.{IsBase};
 ghost use Rattle.scald_base.specs.Fitting.{Fits};
 ghost use Rattle.drawing_grammar.specs.Lexeme.{lexeme_of, lexemes, terminal};
+ghost use Rattle.drawing_reader.specs.Known.{IsKnown};
 ghost use Rattle.drawing_grammar.specs.Names.{is_inner, named, names_at, head_behind, names_from, IsPlain, MayStand, IsNameFault, IsGood, AreGood, IsNameStop};
 
 use crate::cursor::{terminal_of, text_of};
@@ -80,23 +81,40 @@ fn is_bare(text: &[u8]) -> bool
     are_inner(text)
 }
 
-/// Whether a text is of a name that may stand there.
-fn judge(
+/// Whether a name outside of a head is the one that is known.
+fn is_again(text: &[u8], of_formal: bool, known: &[u8]) -> bool
+    ensures { IsTrue result → (of_formal ≡ false) × (known.now ≡ text.now) }
+{
+    if of_formal {
+        return false;
+    }
+    known == text
+}
+
+/// Whether a text is of a name that may stand there. `known` is of a name that may stand outside of a head, and so
+/// is the answer: where the text was read, it is the text.
+fn judge<'a>(
     alloc: Global,
-    text: &[u8],
+    text: &'a [u8],
     of_formal: bool,
     place: Place,
+    known: &'a [u8],
     header: &Header,
-) -> Result<(), Stop>
-    ensures { MatchResult result (λ _. IsGood header.now (named text.now of_formal place)) (IsNameStop header.now (named text.now of_formal place ∷ [])) }
+) -> Result<&'a [u8], Stop>
+    requires { IsKnown header.now known.now }
+    ensures good { MatchResult result (λ _. IsGood header.now (named text.now of_formal place)) (IsNameStop header.now (named text.now of_formal place ∷ [])) }
+    ensures known { IfOk result (λ now. IsKnown header.now now.now) }
 {
-    // No memory is taken for a name that is seen to be good by its bytes alone.
+    // No memory is taken for a name that is seen to be good by its bytes alone, nor for a clock that stands again.
     if is_bare(text) {
-        return Ok(());
+        return Ok(known);
+    }
+    if is_again(text, of_formal, known) {
+        return Ok(known);
     }
     match read_name(alloc, text) {
         Ok(name) => match fault(&name, of_formal, header) {
-            None => Ok(()),
+            None => Ok(text),
             Some(kind) => Err(refused(kind, place)),
         },
         Err(NameEnd::BadName) => Err(refused(RefusalKind::BadName, place)),
@@ -104,27 +122,30 @@ fn judge(
     }
 }
 
-/// Takes a token, inside or outside of a macro's head, and answers where the next one stands.
-fn judge_token(
+/// Takes a token, inside or outside of a macro's head, and answers where the next one stands and what name is known.
+fn judge_token<'a>(
     alloc: Global,
-    text: &[u8],
+    text: &'a [u8],
     token: Token,
     in_head: bool,
+    known: &'a [u8],
     header: &Header,
-) -> Result<bool, Stop>
-    ensures next { IfOk result (λ next. next ≡ head_behind in_head (terminal (lexeme_of text.now token))) }
+) -> Result<(bool, &'a [u8]), Stop>
+    requires { IsKnown header.now known.now }
+    ensures next { IfOk result (λ next. next.0 ≡ head_behind in_head (terminal (lexeme_of text.now token))) }
+    ensures known { IfOk result (λ next. IsKnown header.now next.1.now) }
     ensures good { IfOk result (λ _. AreGood header.now (names_at in_head (terminal (lexeme_of text.now token)) (lexeme_of text.now token))) }
     ensures refused { IfErr result (IsNameStop header.now (names_at in_head (terminal (lexeme_of text.now token)) (lexeme_of text.now token))) }
 {
     match terminal_of(text, token) {
-        Terminal::Macro => Ok(true),
-        Terminal::Semicolon => Ok(false),
+        Terminal::Macro => Ok((true, known)),
+        Terminal::Semicolon => Ok((false, known)),
         Terminal::Name => {
             let name = unquoted(text_of(text, token));
-            judge(alloc, name, in_head, token.place, header)?;
-            Ok(in_head)
+            let now = judge(alloc, name, in_head, token.place, known, header)?;
+            Ok((in_head, now))
         }
-        _ => Ok(in_head),
+        _ => Ok((in_head, known)),
     }
 }
 
@@ -140,8 +161,12 @@ pub fn judged_names(
     ensures { MatchResult result (λ _. AreGood header.now (names_from false (lexemes text.now tokens.now))) (IsNameStop header.now (names_from false (lexemes text.now tokens.now))) }
 {
     let mut in_head = false;
+    // A base alone is a name that may stand anywhere.
+    let mut known: &[u8] = b"A";
     'tokens: for token in tokens {
-        in_head = judge_token(alloc, text, *token, in_head, header)?;
+        let (next, now) = judge_token(alloc, text, *token, in_head, known, header)?;
+        in_head = next;
+        known = now;
     }
     Ok(())
 }

@@ -1,6 +1,6 @@
 //! Writes connections.
 
-ghost use Rattle.std.specs.Prelude.{◌≡◌, ◌++◌, OnOk, option_map, map, codes};
+ghost use Rattle.std.specs.Prelude.{◌≡◌, ◌++◌, IsTrue, OnOk, option_map, map, codes};
 ghost use Rattle.std.specs.List.{join_by};
 ghost use Rattle.scald_expr.specs.Expression.{expression_of};
 ghost use Rattle.assertion_syntax.specs.Name.{name_text};
@@ -11,7 +11,7 @@ use crate::connection::{Conn, Item, RangeExpr, Term};
 use crate::expression_text::add_sum;
 use crate::printed::{Printed, add_joined};
 use assertion_syntax::{SignalName, write_name};
-use scald_base::{Bytes, NoMemory};
+use scald_base::{AssertSpec, Bytes, NoMemory};
 use scald_expr::Expr;
 use std::alloc::Global;
 
@@ -48,12 +48,33 @@ pub fn add_range(out: &mut Bytes, range: &Option<RangeExpr>) -> Result<(), NoMem
     out.extend(b">")
 }
 
+/// Whether a name is its base alone, as most are.
+fn is_base_alone(name: &SignalName) -> bool
+    ensures { IsTrue result → name_text name.now ≡ name.now.base }
+{
+    if name.global {
+        return false;
+    }
+    matches!(name.spec, AssertSpec::None)
+}
+
+/// Puts a name at the end.
+fn add_spelling(alloc: Global, out: &mut Bytes, name: &SignalName) -> Result<(), NoMemory>
+    ensures { OnOk result (out.new ≡ out.old ++ name_text name.now) }
+{
+    // A base needs no memory of its own before it is put there.
+    if is_base_alone(name) {
+        return out.extend(name.base.as_slice());
+    }
+    write_name(alloc, name, out)
+}
+
 /// Puts a name in its quotes at the end.
 pub fn add_name(alloc: Global, out: &mut Bytes, name: &SignalName) -> Result<(), NoMemory>
     ensures { OnOk result (out.new ≡ out.old ++ quoted (name_text name.now)) }
 {
     out.extend(b"\"")?;
-    write_name(alloc, name, out)?;
+    add_spelling(alloc, out, name)?;
     out.extend(b"\"")
 }
 

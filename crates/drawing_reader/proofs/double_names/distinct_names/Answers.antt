@@ -4,9 +4,10 @@ use Rattle.std.specs.Prelude.{MatchResult}
 use Rattle.std.proofs.lemmas.Result.{err_from_is_err_and}
 use Rattle.drawing_tree.specs.declared.drawing.MacroDef.{MacroDef}
 use Rattle.drawing_tree.specs.Tree.{macro_of, statements_of}
-use Rattle.drawing_grammar.specs.DoubleNames.{Key, primitives, macros_declared, labels, Declares, IsStopAt}
+use Rattle.drawing_grammar.specs.DoubleNames.{Key, primitives, macros_declared, labels, keys_of, Declares, IsStopAt}
 use Rattle.drawing_grammar.proofs.Doubles.{stop_first, given_later}
 use Rattle.drawing_grammar.proofs.Distinct.{distinct_stop, distinct_given}
+use Rattle.drawing_reader.proofs.Climbing.{body_fresh, distinct_made}
 use Rattle.drawing_reader.proofs.double_names.distinct_names.Goals as goal
 
 pub returns-in_err-definitions : goal.returns-in_err-definitions
@@ -31,3 +32,14 @@ returns c =
     (given_later r primitives now c.statements.new.self first (labels (length (map macro_of ms)) body)
     (subst G c.new-declarations.ensures (subst F c.as_slice.ensures c.in_ok-definitions.ensures))
     (subst H (c.len.ensures ∙ sym (length-map ms macro_of)) c.statements.ensures))
+
+pub returns-then-are_ascending : goal.returns-then-are_ascending
+returns-then-are_ascending c =
+    let ms = c.args.macros.now in let now = c.definitions.new.self in
+    let first = macros_declared 0 (map macro_of ms) c.args.heads.now in
+    let body = statements_of c.args.body.now in
+    let n = length (map macro_of ms) in
+    let F : List MacroDef → Type 0 = λ xs. Declares c.new-declarations.result now (macros_declared 0 (map macro_of xs) c.args.heads.now) in
+    let G : List Key → Type 0 = λ ks. Declares ks now first in
+    let made = body_fresh (map macro_of ms) c.args.heads.now body now (c.are_ascending.ensures c.if-are_ascending.true n) (subst G c.new-declarations.ensures (subst F c.as_slice.ensures c.in_ok-definitions.ensures)) in
+    distinct_made (now ++ keys_of (labels n body)) (first ++ labels n body) made

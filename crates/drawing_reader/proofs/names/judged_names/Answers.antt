@@ -2,25 +2,31 @@ use Rattle.std.proofs.Common.{false, ◌+◌, get_or, drop, refl}
 use Rattle.std.proofs.lemmas.Result.{err_from_is_err_and}
 use Rattle.drawing_grammar.specs.Lexeme.{lexeme_of, lexemes, terminal}
 use Rattle.drawing_grammar.specs.Names.{names_at, head_behind, names_from}
-use Rattle.drawing_reader.proofs.Naming.{blank_token, next_names, no_names, judged_on, judged_end, judged_stop}
+use Rattle.drawing_reader.proofs.Bare.{first_known}
+use Rattle.drawing_reader.proofs.Naming.{blank_token, next_names, no_names, judged_start, judged_on, judged_end, judged_stop}
 use Rattle.drawing_reader.proofs.names.judged_names.Goals as goal
 
-pub returns-in_err-in_head : goal.returns-in_err-in_head
-returns-in_err-in_head c =
+pub returns-in_err-next : goal.returns-in_err-next
+returns-in_err-next c =
     let p = err_from_is_err_and c.from_residual.result c.from_residual.ensures.1 in
     let text = c.args.text.now in let ts = c.args.tokens.now in let i = c.tokens.token-index in let head = c.tokens.in_head in
     let t = lexeme_of text (get_or ts i blank_token) in
     rw (p.1, p.2) (judged_stop c.args.header.now (names_from false (lexemes text ts)) (names_from head (lexemes text (drop i ts))) (names_at head (terminal t) t) (names_from (head_behind head (terminal t)) (lexemes text (drop (i + 1) ts)))
-    c.in_err-in_head.field-0.0 c.tokens.invariant (next_names text ts i head (head_behind head (terminal t)) c.tokens-test.true refl) c.in_err-in_head.ensures.refused)
+    c.in_err-next.field-0.0 c.tokens.invariant.0 (next_names text ts i head (head_behind head (terminal t)) c.tokens-test.true refl) c.in_err-next.ensures.refused)
+
+pub tokens-init : goal.tokens-init
+tokens-init c = (judged_start c.args.header.now (names_from false (lexemes c.args.text.now c.args.tokens.now)), first_known c.args.header.now)
 
 pub tokens-preserved : goal.tokens-preserved
 tokens-preserved c =
     let text = c.args.text.now in let ts = c.args.tokens.now in let i = c.tokens.token-index in let head = c.tokens.in_head in
-    let t = lexeme_of text (get_or ts i blank_token) in
-    judged_on c.args.header.now (names_from false (lexemes text ts)) (names_from head (lexemes text (drop i ts))) (names_at head (terminal t) t) (names_from c.in_ok-in_head.in_head (lexemes text (drop (i + 1) ts)))
-    c.tokens.invariant (next_names text ts i head c.in_ok-in_head.in_head c.tokens-test.true c.in_ok-in_head.ensures.next) c.in_ok-in_head.ensures.good
+    let t = lexeme_of text (get_or ts i blank_token) in (
+      judged_on c.args.header.now (names_from false (lexemes text ts)) (names_from head (lexemes text (drop i ts))) (names_at head (terminal t) t) (names_from c.in_ok-next.next (lexemes text (drop (i + 1) ts)))
+          c.tokens.invariant.0 (next_names text ts i head c.in_ok-next.next c.tokens-test.true c.in_ok-next.ensures.next) c.in_ok-next.ensures.good,
+      c.in_ok-next.ensures.known,
+    )
 
 pub returns : goal.returns
 returns c =
     let text = c.args.text.now in let ts = c.args.tokens.now in let i = c.tokens.token-index in let head = c.tokens.in_head in
-    judged_end c.args.header.now (names_from false (lexemes text ts)) (names_from head (lexemes text (drop i ts))) c.tokens.invariant (no_names text ts i head c.tokens-test.false)
+    judged_end c.args.header.now (names_from false (lexemes text ts)) (names_from head (lexemes text (drop i ts))) c.tokens.invariant.0 (no_names text ts i head c.tokens-test.false)
