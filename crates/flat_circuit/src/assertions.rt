@@ -42,6 +42,9 @@ impl Assertions {
     pub(crate) fn clashes(&self, text: &[u8], spec: &AssertSpec) -> bool
         ensures { MatchBool result (Clashes self.now text.now spec.now) (¬ (Clashes self.now text.now spec.now)) }
     {
+        if !is_asserted(spec) {
+            return false;
+        }
         match self.by_text.get(text) {
             Some(before) => differ(spec, before),
             None => false,

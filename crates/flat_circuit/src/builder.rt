@@ -199,7 +199,8 @@ fn one_if(counts: bool) -> u32
 fn joined(alloc: Global, path: &[u8], base: &[u8]) -> Result<Vec<u8>, NoMemory>
     ensures { IfOk result (λ text. text.items ≡ path.now ++ base.now) }
 {
-    let mut text = Vec::from_slice(alloc, path)?;
+    let mut text = Vec::with_capacity(alloc, path.len() + base.len())?;
+    text.extend_from_slice(path)?;
     text.extend_from_slice(base)?;
     Ok(text)
 }

@@ -9,6 +9,7 @@ ghost use Rattle.macro_expander.specs.Terms.{item_bits as spec_item_bits, term_b
 ghost use Rattle.macro_expander.specs.Numbered.{BitsAt, JoinedAt, AllJoinedAt, WiresAt, turned_ref, state_of, scope_of, ScopeExists, nets_in, names_in};
 
 use crate::expansion::Expansion;
+use crate::list::Row;
 use crate::range::{at, refused, written_ends};
 use crate::scope::Scope;
 use crate::term::named_bits;
@@ -27,8 +28,8 @@ pub struct Joined {
 /// The connections of a use.
 #[derive(Drop, Debug)]
 pub struct Wires {
-    pub(crate) ins: List<Joined>,
-    pub(crate) outs: List<Joined>,
+    pub(crate) ins: Row<Joined>,
+    pub(crate) outs: Row<Joined>,
 }
 
 /// The most bits of a connection.
@@ -167,12 +168,12 @@ fn all_joined(
     scope: &Scope,
     connections: &[Conn],
     place: Place,
-) -> Result<List<Joined>, Stop>
+) -> Result<Row<Joined>, Stop>
     requires fits { All (ConnectionFits expansion.old.builder.header) (map connection_of connections.now) }
     requires exists { ScopeExists (nets_in expansion.old) scope.now }
     ensures { AllJoinedAt expansion.old expansion.new result (spec_all_joined (scope_of (names_in expansion.old) scope.now) place (map connection_of connections.now) (state_of expansion.old)) }
 {
-    let mut all = List::new(alloc);
+    let mut all = Row::with_room(alloc, connections.len())?;
     for connection in connections {
         all.push(join(expansion, alloc, scope, connection, place)?)?;
     }

@@ -1,9 +1,62 @@
 //! Lists once more.
 
-ghost use Rattle.std.specs.Prelude.{◌≡◌, IfOk};
+ghost use Rattle.std.specs.Prelude.{◌≡◌, ◌∷◌, ◌++◌, [], IfOk, OnOk, OnErr};
 
 use scald_base::{List, NoMemory};
 use std::alloc::Global;
+use std::marker::Model;
+
+/// A list with room for as many items as will come.
+#[derive(Drop, Debug)]
+pub struct Row<T> {
+    items: Vec<T>,
+}
+
+impl<T> Model for Row<T> {
+    ghost use Rattle.std.specs.Prelude.{List};
+
+    ghost Value = { List T };
+
+    ghost view = { λ r. r.items.items };
+}
+
+impl<T> Row<T> {
+    /// The empty row, which takes no memory.
+    pub(crate) fn new(alloc: Global) -> Row<T>
+        ensures { result ≡ [] }
+    {
+        Row {
+            items: Vec::new(alloc),
+        }
+    }
+
+    /// The empty row with room for so many items.
+    pub(crate) fn with_room(alloc: Global, count: usize) -> Result<Row<T>, NoMemory>
+        ensures { IfOk result (λ row. row ≡ []) }
+    {
+        Ok(Row {
+            items: Vec::with_capacity(alloc, count)?,
+        })
+    }
+
+    /// The items as a slice.
+    pub(crate) fn as_slice(&self) -> &[T]
+        ensures { result.now ≡ self.now }
+    {
+        self.items.as_slice()
+    }
+}
+
+impl<T: Drop> Row<T> {
+    /// Puts an item at the end. Where memory runs out the row is as before, and the item is let go.
+    pub(crate) fn push(&mut self, item: T) -> Result<(), NoMemory>
+        ensures ok { OnOk result (self.new ≡ self.old ++ item ∷ []) }
+        ensures err { OnErr result (self.new ≡ self.old) }
+    {
+        self.items.push(item)?;
+        Ok(())
+    }
+}
 
 /// The same items once more.
 pub(crate) fn copied<T: Copy>(alloc: Global, items: &[T]) -> Result<List<T>, NoMemory>

@@ -12,11 +12,11 @@ ghost use Rattle.macro_expander.specs.Steps.{JudgedAt};
 use crate::connection::{Joined, Wires, all_wires};
 use crate::expansion::Expansion;
 use crate::formal::{Inside, Shape, inside_of};
-use crate::list::copied;
+use crate::list::{Row, copied};
 use crate::range::refused;
 use crate::scope::{Bound, Formals, Scope};
 use drawing_tree::{MacroDef, UseStmt};
-use scald_base::{Bytes, List, NoMemory, Place, RefusalKind, Stop};
+use scald_base::{Bytes, NoMemory, Place, RefusalKind, Stop};
 use scald_expr::Env;
 use std::alloc::Global;
 use vector_names::{Bits, VectorFault, spread};
@@ -59,11 +59,11 @@ fn bound_output(alloc: Global, shape: &Shape, joined: &Joined, place: Place) -> 
 /// The formals so far, and behind them the inputs.
 fn bound_inputs(
     alloc: Global,
-    formals: List<Bound>,
+    formals: Row<Bound>,
     shapes: &[Shape],
     ins: &[Joined],
     place: Place,
-) -> Result<List<Bound>, Stop>
+) -> Result<Row<Bound>, Stop>
     requires { All IsRange shapes.now }
     ensures { JudgedAt place result (collected input_bound_ref formals (zip shapes.now ins.now)) }
 {
@@ -77,11 +77,11 @@ fn bound_inputs(
 /// The formals so far, and behind them the outputs.
 fn bound_outputs(
     alloc: Global,
-    formals: List<Bound>,
+    formals: Row<Bound>,
     shapes: &[Shape],
     outs: &[Joined],
     place: Place,
-) -> Result<List<Bound>, Stop>
+) -> Result<Row<Bound>, Stop>
     ensures { JudgedAt place result (collected output_bound_ref formals (zip shapes.now outs.now)) }
 {
     let mut formals = formals;
@@ -102,10 +102,10 @@ fn bound_formals(
     requires outs { All IsRange inside.now.outs }
     ensures { JudgedAt place result (bound_formals_ref inside.now wires.now) }
 {
-    let formals = List::new(alloc);
+    let room = Row::with_room(alloc, inside.ins.len().saturating_add(inside.outs.len()))?;
     let formals = bound_inputs(
         alloc,
-        formals,
+        room,
         inside.ins.as_slice(),
         wires.ins.as_slice(),
         place,

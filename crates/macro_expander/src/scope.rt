@@ -8,7 +8,7 @@ ghost use Rattle.macro_expander.specs.Terms.{bit_numbered, bit_at_place, outer_b
 ghost use Rattle.macro_expander.specs.Steps.{JudgedAt};
 ghost use Rattle.macro_expander.specs.Runs.{IsRun, HasRun};
 
-use crate::list::copied;
+use crate::list::{Row, copied};
 use crate::places::{Called, named, places};
 use crate::range::{numbers, refused};
 use indexmap::IndexMap;
@@ -38,7 +38,7 @@ impl Called for Bound {
 /// The formals of a macro in the order of its text, each found by its base name.
 #[derive(Drop)]
 pub struct Formals {
-    items: List<Bound>,
+    items: Row<Bound>,
     places: IndexMap<Vec<u8>, usize>,
 }
 
@@ -62,13 +62,13 @@ impl Formals {
         ensures { result ≡ [] }
     {
         Formals {
-            items: List::new(alloc),
+            items: Row::new(alloc),
             places: IndexMap::new(alloc),
         }
     }
 
     /// These formals.
-    pub(crate) fn of(alloc: Global, items: List<Bound>) -> Result<Formals, NoMemory>
+    pub(crate) fn of(alloc: Global, items: Row<Bound>) -> Result<Formals, NoMemory>
         requires { All HasRun items }
         ensures { IfOk result (λ formals. formals ≡ items) }
     {

@@ -19,7 +19,7 @@ join-requires-clause-exists c = scope_exists_stays c.args.expansion.now c.loop-c
 
 pub returns-in_err-join : goal.returns-in_err-join
 returns-in_err-join c =
-    let p = err_from_is_err_and c.from_residual.result c.from_residual.ensures.1 in
+    let p = err_from_is_err_and c.from_residual-in_err-join.result c.from_residual-in_err-join.ensures.1 in
     let scope = scope_of (names_in c.args.expansion.now) c.args.scope.now in
     let want = all_joined scope c.args.place (map connection_of c.args.connections.now) (state_of c.args.expansion.now) in
     let i = c.loop-connection.connection-index in
@@ -45,5 +45,5 @@ pub loop-connection-init : goal.loop-connection-init
 unfolding all_joined
 loop-connection-init c =
     let scope = scope_of (names_in c.args.expansion.now) c.args.scope.now in
-    subst (λ (all : List Joined). GatheredJoined (joined scope c.args.place) c.args.expansion.now (all_joined scope c.args.place (map connection_of c.args.connections.now) (state_of c.args.expansion.now)) (map connection_of c.args.connections.now) all c.args.expansion.now) (sym c.new-all.ensures)
+    subst (λ (all : List Joined). GatheredJoined (joined scope c.args.place) c.args.expansion.now (all_joined scope c.args.place (map connection_of c.args.connections.now) (state_of c.args.expansion.now)) (map connection_of c.args.connections.now) all c.args.expansion.now) (sym c.in_ok-all.ensures)
     (joined_none (joined scope c.args.place) c.args.expansion.now (map connection_of c.args.connections.now))
