@@ -1,5 +1,5 @@
 -- Each is as itself, to be alike holds both ways, and of two that are as a third.
-use Rattle.std.proofs.Common.{◌≡◌, ℕ, Bool, List, [], ◌∷◌, All, Option, Some, None, refl, sym, ap, ◌∙◌}
+use Rattle.std.proofs.Common.{ℕ, List, [], ◌∷◌, Option, Some, None, refl, sym, ◌∙◌}
 use Rattle.std.specs.List.{AllZip}
 use Rattle.vector_names.specs.declared.bits.Target.{Target}
 use Rattle.vector_names.specs.declared.bits.Target.TheVariants.{Net as OnNet, Constant}
@@ -8,7 +8,7 @@ use Rattle.flat_circuit.specs.declared.instance.Pin.{Pin}
 use Rattle.flat_circuit.specs.declared.instance.Instance.{Instance}
 use Rattle.flat_circuit.specs.declared.net.Net.{Net}
 use Rattle.flat_circuit.specs.Circuit.{Circuit}
-use Rattle.class_table.specs.Alike.{TargetsAlike, PinsAlike, InstancesAlike, DriversAlike, CasesAlike, NetsAlike, instance_of, value_in}
+use Rattle.class_table.specs.Alike.{TargetsAlike, PinsAlike, DriversAlike, CasesAlike, NetsAlike, instance_of}
 
 zip-self : {T : Type 0} (R : T → T → Type 0) → ((x : T) → R x x) → (xs : List T) → AllZip R xs xs
 zip-self R self [] = tt

@@ -7,8 +7,10 @@
 #![tactic(auto)]
 
 mod class_map;
+mod feeds;
+mod key;
 mod likeness;
-mod order;
+mod numbers;
 mod partition;
 mod stability;
 

@@ -1,4 +1,4 @@
-use Rattle.std.proofs.Common.{rules, arith, ◌≡◌, ◌<◌, ℕ, sym, subst}
+use Rattle.std.proofs.Common.{arith, ℕ, sym, subst}
 use Rattle.class_table.specs.Alike.{class_of}
 use Rattle.class_table.specs.Stable.{AreAlikeAt}
 use Rattle.class_table.proofs.Pairs.{next-one, as-its-number, stable-by-numbers}
