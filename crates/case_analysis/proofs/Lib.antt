@@ -7,3 +7,4 @@ pub mod Far
 pub mod Entries
 pub mod Listing
 pub mod Together
+pub mod Answered

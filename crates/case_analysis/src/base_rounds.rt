@@ -78,7 +78,8 @@ pub fn start_waves<W: CyclicWave<Item = Value>>(
     alloc: Global,
     c: &Circuit,
 ) -> Result<Waves<W>, NoMemory>
-    ensures { IfOk result (λ waves. map (λ s. skewed (W.cells s.wave) s.skew) waves ≡ map (base_start c.now) (range_with_len 0 (length c.now.nets))) }
+    ensures is { IfOk result (λ waves. (i : ℕ) → waves_of (map (λ s. skewed (W.cells s.wave) s.skew) waves) i ≡ base_start c.now i) }
+    ensures fit { IfOk result (λ waves. FitWaves c.now (map (λ s. skewed (W.cells s.wave) s.skew) waves)) }
 {
     let mut waves = List::new(alloc);
     for i in 0..c.net_count() {

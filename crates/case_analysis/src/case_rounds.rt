@@ -74,7 +74,7 @@ pub fn start_waves<W: CyclicWave<Item = Value>>(
     requires fit { FitWaves c.now (map (λ s. skewed (W.cells s.wave) s.skew) before.now) }
     ensures is { let old = waves_of (map (λ s. skewed (W.cells s.wave) s.skew) before.now) in
         IfOk result (λ waves. (i : ℕ) → waves_of (map (λ s. skewed (W.cells s.wave) s.skew) waves) i ≡ case_start c.now case.now (marked_in cone.now) old i) }
-    ensures each_net { IfOk result (λ waves. length waves ≡ length c.now.nets) }
+    ensures fit { IfOk result (λ waves. FitWaves c.now (map (λ s. skewed (W.cells s.wave) s.skew) waves)) }
 {
     let mut waves = unset_waves(alloc, c, cone, before)?;
     for value in case.as_slice() {

@@ -15,10 +15,11 @@ ghost use Rattle.case_analysis.specs.Case.{EndsInCone, HasCone, IsCase, IsCone, 
 use crate::base_rounds::driven_nets;
 use crate::case_rounds::driven_in;
 use crate::cones::cone;
+use crate::parts::case_at;
 use crate::{base_rounds, case_rounds};
 use class_table::ClassMap;
 use fixpoint_engine::{EngineEnd, Settled, settle_classes};
-use flat_circuit::{Case, CaseList, Circuit};
+use flat_circuit::{CaseList, Circuit};
 use std::alloc::Global;
 use step_values::Value;
 use wave_core::CyclicWave;
@@ -30,15 +31,15 @@ pub fn base_classes<W: CyclicWave<Item = Value>>(
     alloc: Global,
     c: &Circuit,
     cases: &CaseList,
-    k: &ClassMap,
+    classes: &ClassMap,
     limit: u32,
 ) -> Result<Settled<W>, EngineEnd>
-    requires one_each { length k.now ≡ length c.now.nets }
-    requires stable { IsStable c.now cases.now k.now }
+    requires one_each { length classes.now ≡ length c.now.nets }
+    requires stable { IsStable c.now cases.now classes.now }
     ensures rest { IfOk result (λ s. IsBase c.now limit s.rounds (waves_of (map (λ w. skewed (W.cells w.wave) w.skew) s.waves))) }
     ensures within { IfOk result (λ s. s.rounds ≤ limit) }
     ensures fit { IfOk result (λ s. FitWaves c.now (map (λ w. skewed (W.cells w.wave) w.skew) s.waves)) }
-    ensures work { IfOk result (λ s. s.evals ≡ class_work_to c.now k.now (is_driven c.now) (base_round c.now) (s.rounds + 1)) }
+    ensures work { IfOk result (λ s. s.evals ≡ class_work_to c.now classes.now (is_driven c.now) (base_round c.now) (s.rounds + 1)) }
     ensures sound { IfOk result (λ s. PermitInputs c.now s.rounds (waves_of (map (λ w. skewed (W.cells w.wave) w.skew) s.waves))) }
     ensures unsettled { IfErr result (EndsFor c.now.order (base_round c.now) limit) }
     ensures loopless { HasNoLoop c.now → outputs c.now.instances ≤ limit → MatchResult result (λ s. s.rounds ≤ outputs c.now.instances) (λ e. e ≡ EngineEnd.NoMemory) }
@@ -47,18 +48,7 @@ pub fn base_classes<W: CyclicWave<Item = Value>>(
     c.header().known();
     let start = base_rounds::start_waves(alloc, c)?;
     let active = driven_nets(alloc, c)?;
-    settle_classes(alloc, c, cases, k, &start, &active, limit)
-}
-
-/// The case of a number that is known to be there.
-fn case_at(cases: &CaseList, number: u32) -> &Case
-    requires { number < length cases.now }
-    ensures { result.now ≡ case_at cases.now number }
-{
-    match cases.get(number as usize) {
-        Some(case) => case,
-        None => unreachable!(),
-    }
+    settle_classes(alloc, c, cases, classes, &start, &active, limit)
 }
 
 /// The waves at rest of the case with this number from 0, as `case_waves` gives them, where nets fall
@@ -69,13 +59,13 @@ pub fn case_classes<W: CyclicWave<Item = Value>>(
     alloc: Global,
     c: &Circuit,
     cases: &CaseList,
-    k: &ClassMap,
+    classes: &ClassMap,
     base: &Settled<W>,
     number: u32,
     limit: u32,
 ) -> Result<Settled<W>, EngineEnd>
-    requires one_each { length k.now ≡ length c.now.nets }
-    requires stable { IsStable c.now cases.now k.now }
+    requires one_each { length classes.now ≡ length c.now.nets }
+    requires stable { IsStable c.now cases.now classes.now }
     requires number { number < length cases.now }
     requires exist { NetsExist c.now (case_at cases.now number) }
     requires base { IsBase c.now base.now.rounds base.now.rounds (waves_of (map (λ s. skewed (W.cells s.wave) s.skew) base.now.waves)) }
@@ -87,7 +77,7 @@ pub fn case_classes<W: CyclicWave<Item = Value>>(
     ensures fit { IfOk result (λ s. FitWaves c.now (map (λ w. skewed (W.cells w.wave) w.skew) s.waves)) }
     ensures work { let case = case_at cases.now number in
         let before = waves_of (map (λ s. skewed (W.cells s.wave) s.skew) base.now.waves) in
-        IfOk result (λ s. (cone : ℕ → Bool) → IsCone c.now case cone → s.evals ≡ class_work_to c.now k.now (case_active c.now cone) (case_round c.now case cone before) (s.rounds + 1)) }
+        IfOk result (λ s. (cone : ℕ → Bool) → IsCone c.now case cone → s.evals ≡ class_work_to c.now classes.now (case_active c.now cone) (case_round c.now case cone before) (s.rounds + 1)) }
     ensures sound { IfOk result (λ s. PermitCase c.now (case_at cases.now number) (base.now.rounds + s.rounds) (waves_of (map (λ w. skewed (W.cells w.wave) w.skew) s.waves))) }
     ensures unsettled { let case = case_at cases.now number in
         let before = waves_of (map (λ s. skewed (W.cells s.wave) s.skew) base.now.waves) in
@@ -101,5 +91,5 @@ pub fn case_classes<W: CyclicWave<Item = Value>>(
     let cone = cone(alloc, c, case)?;
     let start = case_rounds::start_waves(alloc, c, case, &cone, &base.waves)?;
     let active = driven_in(alloc, c, &cone)?;
-    settle_classes(alloc, c, cases, k, &start, &active, limit)
+    settle_classes(alloc, c, cases, classes, &start, &active, limit)
 }

@@ -1,16 +1,16 @@
 //! Cones: the nets that a case may reach.
 
 ghost use Rattle.std.specs.Prelude.{◌≡◌, ◌<◌, ◌==◌, [], IfOk, OnOk, false, length, replicate, slice_get};
-ghost use Rattle.flat_circuit.specs.Instances.{out_at, readers_of};
+ghost use Rattle.flat_circuit.specs.Instances.{out_at};
 ghost use Rattle.fixpoint_engine.specs.Rounds.{driver};
 ghost use Rattle.fixpoint_engine.specs.Settled.{marked_in};
 ghost use Rattle.fixpoint_engine.specs.Work.{hears_in};
-ghost use Rattle.fixpoint_engine.specs.Worklist.{IsQueue, drives_in, output_net};
+ghost use Rattle.fixpoint_engine.specs.Worklist.{IsQueue, drives_in};
 ghost use Rattle.case_analysis.specs.Case.{IsCone, NetsExist};
 ghost use Rattle.case_analysis.specs.Found.{Extends};
 
-use fixpoint_engine::NetSet;
-use flat_circuit::{Case, Circuit, Target};
+use fixpoint_engine::{NetSet, output_of, readers_of};
+use flat_circuit::{Case, Circuit};
 use scald_base::NoMemory;
 use std::alloc::Global;
 use std::marker::Model;
@@ -94,27 +94,6 @@ impl Found {
         ensures { result ≡ self.marks }
     {
         self.marks
-    }
-}
-
-/// The net that an instance drives.
-fn output_of(c: &Circuit, instance: u32) -> Option<u32>
-    ensures { result ≡ output_net (out_at c.now.instances instance) }
-{
-    match c.instance(instance)?.out? {
-        Target::Net(net) => Some(net),
-        Target::Constant(_) => None,
-    }
-}
-
-/// The instances with an output that listen to a net.
-fn readers_of(c: &Circuit, net: u32) -> &[u32]
-    requires { net < length c.now.nets }
-    ensures { result.now ≡ readers_of c.now.instances net }
-{
-    match c.readers(net) {
-        Some(readers) => readers,
-        None => unreachable!(),
     }
 }
 

@@ -4,9 +4,9 @@
 //! The layer above calls [`base`] for the waves, and [`reach`] and [`tick`] for that tick. `specs/Base`
 //! says which runs the waves permit, and `specs/Tick` from which tick on checks may rest on them.
 //!
-//! [`check_cases`] gives the cases that a drawing lists, and [`case_waves`] the waves of one of them at
-//! rest, from those of the base. `specs/Listed` says which nets a case sets, and `specs/Case` what its
-//! cone and its rounds are.
+//! [`check_cases`] gives the cases that a drawing lists, [`case_at`] one of them, and [`case_waves`] its
+//! waves at rest, from those of the base. `specs/Listed` says which nets a case sets, and `specs/Case`
+//! what its cone and its rounds are.
 //!
 //! [`base_classes`] and [`case_classes`] give the same waves where classes of nets that nothing tells
 //! apart are known.
@@ -25,6 +25,7 @@ pub use case_list::check_cases;
 pub use case_rounds::case_waves;
 pub use class_rounds::{base_classes, case_classes};
 pub use cones::cone;
+pub use parts::case_at;
 pub use printed_tick::{reach, tick};
 
 #[cfg(test)]

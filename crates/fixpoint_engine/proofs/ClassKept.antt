@@ -1,7 +1,7 @@
 -- What the worklist of classes has come to after some rounds, and how a round more, rest and the limit follow.
 use Rattle.std.proofs.Common.{◌≡◌, ℕ, zero, suc, ◌+◌, ◌*◌, ◌<◌, ◌≤◌, ◌==◌, inl, inr, Bool, true, false, not, ◌&&◌, ◌||◌, cond, All, List, [], ◌∷◌, length, map, refl, sym, ap, subst, ◌∙◌, arith}
 use Rattle.std.specs.List.{list_any, range_with_len}
-use Rattle.std.proofs.lemmas.Bool.{both_ways, cases_lt, and_parts, and_from, eqb-true, eq-eqb, false_from_ne_true}
+use Rattle.std.proofs.lemmas.Bool.{cases_lt, and_parts, and_from, eqb-true, eq-eqb, false_from_ne_true}
 use Rattle.std.proofs.lemmas.List.{length-set}
 use Rattle.std.proofs.lemmas.List.Elements.{All-filter, All-map, All-head, All-tail, Contains-get_or}
 use Rattle.std.proofs.lemmas.List.FromFn.{get_or-range_with_len, length-range_with_len}
@@ -19,10 +19,9 @@ use Rattle.flat_circuit.specs.Run.{net_signal}
 use Rattle.class_table.specs.Alike.{class_of}
 use Rattle.class_table.specs.Stable.{IsStable}
 use Rattle.fixpoint_engine.specs.declared.rounds.EngineEnd.{EngineEnd}
-use Rattle.fixpoint_engine.specs.declared.rounds.EngineEnd.TheVariants.{Unsettled, NoMemory}
 use Rattle.fixpoint_engine.specs.Value.{Waves}
 use Rattle.fixpoint_engine.specs.Reach.{reach}
-use Rattle.fixpoint_engine.specs.Rounds.{driver, evaluated, net_at, round, AreSame}
+use Rattle.fixpoint_engine.specs.Rounds.{driver, evaluated, round, AreSame}
 use Rattle.fixpoint_engine.specs.Work.{same_wave, differs, hears_in, is_due}
 use Rattle.fixpoint_engine.specs.Settled.{waves_of, marked_in, FitWaves, FitActive, AreAtRest, KeepRuns}
 use Rattle.fixpoint_engine.specs.End.{EndsAt, EndsFor}
@@ -32,10 +31,10 @@ use Rattle.fixpoint_engine.specs.Members.{for_classes}
 use Rattle.fixpoint_engine.proofs.Same.{same_wave-is, same_wave-self, not-false}
 use Rattle.fixpoint_engine.proofs.Fits.{NetsFit}
 use Rattle.fixpoint_engine.proofs.Listening.{same-tests, hears-same}
-use Rattle.fixpoint_engine.proofs.Changing.{moves, changed-nets, changes-exist, set-at, length-changed}
+use Rattle.fixpoint_engine.proofs.Changing.{moves, changed-nets, changes-exist, set-at}
 use Rattle.fixpoint_engine.proofs.Waiting.{waiting-below}
-use Rattle.fixpoint_engine.proofs.Reached.{Reached, reached-start, reached-more, at-rest, not-at-rest, undue-stays, due-takes}
-use Rattle.fixpoint_engine.proofs.Sound.{round-fits, round-sound}
+use Rattle.fixpoint_engine.proofs.Reached.{Reached, reached-start, undue-stays, due-takes}
+use Rattle.fixpoint_engine.proofs.Sound.{round-sound}
 use Rattle.fixpoint_engine.proofs.Turns.{nets_of, Turn, turn-rests, turn-reaches, turn-fits, turn-ends}
 use Rattle.fixpoint_engine.proofs.Kept.{among-waiting, waiting-count, changes-is, first-due, later-due, nets-made}
 use Rattle.fixpoint_engine.proofs.Classes.{rounds-same}

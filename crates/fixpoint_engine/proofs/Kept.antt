@@ -1,7 +1,7 @@
 -- What the worklist has come to after some rounds, and how a round more, rest and the limit follow.
-use Rattle.std.proofs.Common.{◌≡◌, ℕ, suc, ◌+◌, ◌*◌, ◌<◌, ◌≤◌, ◌==◌, Bool, true, false, not, ◌&&◌, ◌||◌, cond, List, [], ◌∷◌, length, map, refl, sym, ap, subst, ◌∙◌, arith, All, count_by}
+use Rattle.std.proofs.Common.{◌≡◌, ℕ, suc, ◌+◌, ◌*◌, ◌<◌, ◌≤◌, ◌==◌, Bool, true, false, not, ◌&&◌, cond, List, [], ◌∷◌, length, map, refl, sym, ap, subst, ◌∙◌, arith, All, count_by}
 use Rattle.std.specs.List.{Contains, range_with_len}
-use Rattle.std.proofs.lemmas.Bool.{both_ways, eqb-true, eqb-false}
+use Rattle.std.proofs.lemmas.Bool.{eqb-true, eqb-false}
 use Rattle.std.proofs.lemmas.Bool.Decides.{nat_tests}
 use Rattle.std.proofs.lemmas.List.{map-id, length-map}
 use Rattle.std.proofs.lemmas.List.Elements.{All-filter, All-map, All-nil, All-cons, All-head, All-tail}
@@ -13,13 +13,12 @@ use Rattle.step_values.specs.declared.value.Value.{Value}
 use Rattle.skew_algebra.specs.Wave.{Wave}
 use Rattle.flat_circuit.specs.Circuit.{Circuit, IsCircuit}
 use Rattle.fixpoint_engine.specs.declared.rounds.EngineEnd.{EngineEnd}
-use Rattle.fixpoint_engine.specs.declared.rounds.EngineEnd.TheVariants.{Unsettled, NoMemory}
 use Rattle.step_values.specs.Cell.{values}
 use Rattle.skew_algebra.specs.Permits.{Permits}
 use Rattle.flat_circuit.specs.Run.{net_signal}
 use Rattle.fixpoint_engine.specs.Value.{Waves}
 use Rattle.fixpoint_engine.specs.Reach.{reach}
-use Rattle.fixpoint_engine.specs.Rounds.{driver, evaluated, net_at, round, AreSame}
+use Rattle.fixpoint_engine.specs.Rounds.{driver, evaluated, round, AreSame}
 use Rattle.fixpoint_engine.specs.Work.{same_wave, differs, hears_in, is_due, work_to}
 use Rattle.fixpoint_engine.specs.Settled.{waves_of, marked_in, FitWaves, FitActive, AreAtRest, KeepRuns}
 use Rattle.fixpoint_engine.specs.End.{EndsAt, EndsFor}
@@ -28,11 +27,11 @@ use Rattle.fixpoint_engine.proofs.Same.{same_wave-is, same_wave-self, not-false}
 use Rattle.fixpoint_engine.proofs.Fits.{NetsFit}
 use Rattle.fixpoint_engine.proofs.Marks.{count-marks}
 use Rattle.fixpoint_engine.proofs.Listening.{same-tests, hears-same}
-use Rattle.fixpoint_engine.proofs.Changing.{moves, changed-nets, waves-changed, length-changed}
+use Rattle.fixpoint_engine.proofs.Changing.{moves, changed-nets, waves-changed}
 use Rattle.fixpoint_engine.proofs.Waiting.{waiting-below}
-use Rattle.fixpoint_engine.proofs.Reached.{Reached, reached-start, reached-more, at-rest, not-at-rest, undue-stays, due-takes, work-more}
+use Rattle.fixpoint_engine.proofs.Reached.{Reached, reached-start, undue-stays, due-takes, work-more}
 use Rattle.fixpoint_engine.proofs.Turns.{nets_of, Turn, turn-rests, turn-reaches, turn-fits, turn-ends}
-use Rattle.fixpoint_engine.proofs.Sound.{round-fits, round-sound}
+use Rattle.fixpoint_engine.proofs.Sound.{round-sound}
 
 -- After r rounds: the waves are those of round r, the queue has what is due in the next round, and so many evaluations
 -- were made.

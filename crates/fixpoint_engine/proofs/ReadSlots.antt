@@ -1,25 +1,18 @@
 -- What code reads of the values of a period, slot by slot.
-use Rattle.std.proofs.Common.{inl, inr, ◌≡◌, ℕ, ◌+◌, ◌-◌, ◌%◌, ◌<◌, ◌≤◌, List, length, refl, sym, ap, ◌∙◌, arith, Some}
+use Rattle.std.proofs.Common.{inl, inr, ◌≡◌, ℕ, ◌<◌, ◌≤◌, List, length, refl, sym, ap, ◌∙◌, arith, Some}
 use Rattle.std.specs.Prelude.{slice_get}
 use Rattle.std.proofs.lemmas.Bool.{cases_lt}
-use Rattle.std.proofs.Math.Nat.{mod-lt, mod-add-mod, mod-eq_of_lt}
 use Rattle.step_values.specs.declared.value.Value.{Value}
 use Rattle.step_values.specs.Cell.{values}
 use Rattle.wave_core.specs.Slots.{SameUntil}
 use Rattle.wave_core.proofs.Slots.{length-slots}
 use Rattle.skew_algebra.specs.Wave.{Wave, fold, folded}
-use Rattle.skew_algebra.proofs.Moves.{here-cell, earlier-mod, earlier-folded}
+use Rattle.skew_algebra.proofs.Moves.{here-cell, earlier-folded}
 use Rattle.fixpoint_engine.specs.Pins.{read}
 
 -- what stands in a slot of the period
 pub read-at : (cells : List Value) (slot s : ℕ) (v : Value) → slot ≡ s → slot < length cells → slice_get cells slot ≡ Some v → read cells s ≡ v
 read-at cells slot s v same below is = ap (read cells) (sym same) ∙ sym (here-cell values cells slot v below is)
-
--- and in one that is counted on over its end
-pub read-mod : (cells : List Value) (period s : ℕ) (v : Value) → period ≡ length cells → 0 < length cells → slice_get cells (s % period) ≡ Some v → read cells s ≡ v
-read-mod cells period s v same some is =
-    sym (earlier-mod values cells s 0)
-    ∙ sym (here-cell values cells (s % length cells) v (mod-lt s some) (ap (λ (p : ℕ). slice_get cells (s % p)) (sym same) ∙ is))
 
 -- the folds of a wave, read
 pub read-folded : (w : Wave Value) (cells : List Value) → 0 < length w.cells → cells ≡ folded values w → read cells ≡ fold values w
@@ -39,18 +32,3 @@ pub same-read : (cells : List Value) (slot end s : ℕ) (v : Value) → SameUnti
 same-read cells slot end s v until is from below =
     let within = until.within in
     read-at cells s s v refl (omega (arith, within, below)) (until.same s from below ∙ is)
-
-in-run : (period t slot end k : ℕ) → slot ≡ t % period → t ≤ k → k < t + (end - slot) → end ≤ period → k % period ≡ slot + (k - t)
-in-run period t slot end k at from below within =
-    let on : t + (k - t) ≡ k = omega arith in
-    let small : t % period + (k - t) < period = omega (arith, at, from, below, within) in
-    ap (λ (z : ℕ). z % period) (sym on) ∙ sym (mod-add-mod t period (k - t)) ∙ mod-eq_of_lt small ∙ ap (λ (z : ℕ). z + (k - t)) (sym at)
-
--- also where they are counted on over the end of the period
-pub same-round : (cells : List Value) (period t slot end k : ℕ) (v : Value) → period ≡ length cells → 0 < length cells → slot ≡ t % period → SameUntil cells slot end → slice_get cells slot ≡ Some v →
-    t ≤ k → k < t + (end - slot) → read cells k ≡ v
-same-round cells period t slot end k v same some at until is from below =
-    let within = until.within in
-    let there : k % period ≡ slot + (k - t) = in-run period t slot end k at from below (omega (arith, same, within)) in
-    read-mod cells period k v same some
-    (ap (slice_get cells) there ∙ until.same (slot + (k - t)) (omega arith) (omega (arith, below, from)) ∙ is)

@@ -19,6 +19,7 @@ mod value;
 // one round
 mod changes;
 mod queue;
+mod readers;
 
 // nets of one class, which change together
 mod class_changes;
@@ -32,6 +33,7 @@ pub use class_rounds::settle_classes;
 pub use class_table::ClassMap;
 pub use net_set::NetSet;
 pub use pins::{pin_wave, waves_at_pins};
+pub use readers::{output_of, readers_of};
 pub use rounds::{EngineEnd, Settled, settle};
 pub use waves::Waves;
 

@@ -2,15 +2,16 @@
 
 ghost use Rattle.std.specs.Prelude.{◌≡◌, ◌<◌, ◌==◌, ◌&&◌, [], ℕ, IfOk, OnOk, false, length, map, replicate};
 ghost use Rattle.std.specs.List.{All};
-ghost use Rattle.flat_circuit.specs.Instances.{out_at, readers_of};
+ghost use Rattle.flat_circuit.specs.Instances.{out_at};
 ghost use Rattle.fixpoint_engine.specs.Rounds.{driver};
 ghost use Rattle.fixpoint_engine.specs.Settled.{FitActive, marked_in};
 ghost use Rattle.fixpoint_engine.specs.Work.{hears_in};
-ghost use Rattle.fixpoint_engine.specs.Worklist.{Adds, IsQueue, among, drives_in, output_net};
+ghost use Rattle.fixpoint_engine.specs.Worklist.{Adds, IsQueue, among, drives_in};
 
 use crate::changes::Change;
 use crate::net_set::NetSet;
-use flat_circuit::{Circuit, Target};
+use crate::readers::{output_of, readers_of};
+use flat_circuit::Circuit;
 use scald_base::NoMemory;
 use std::alloc::Global;
 use std::marker::Model;
@@ -126,26 +127,5 @@ impl Queue {
             self.add_hearers(c, active, change.net)?;
         }
         Ok(())
-    }
-}
-
-/// The instances with an output that listen to a net.
-fn readers_of(c: &Circuit, net: u32) -> &[u32]
-    requires { net < length c.now.nets }
-    ensures { result.now ≡ readers_of c.now.instances net }
-{
-    match c.readers(net) {
-        Some(readers) => readers,
-        None => unreachable!(),
-    }
-}
-
-/// The net that an instance drives.
-fn output_of(c: &Circuit, instance: u32) -> Option<u32>
-    ensures { result ≡ output_net (out_at c.now.instances instance) }
-{
-    match c.instance(instance)?.out? {
-        Target::Net(net) => Some(net),
-        Target::Constant(_) => None,
     }
 }
