@@ -95,10 +95,12 @@ module _ (cells : List Value) (period from left : ℕ) (same : period ≡ length
       ap (λ (z : ℕ). has (read cells z) false true) (sym on) ∙ sym (none (s - from) (omega arith))
 
   pub no-next : ((k : ℕ) → k < left → false ≡ has (read cells (from + k)) false true) → IsNextEdge (read cells) from (length cells) period
-  no-next none = record { after = most; within = omega (arith, same); none = λ s above below. no-rise left s none above (omega (arith, is, below, most)) }
+  no-next none = record { after = most; within = omega (arith, same); none = λ s above below. no-rise left s none above (omega (arith, is, below, most)); at = λ below. absurd (omega (arith, same, below)) }
 
-  pub is-next : (place : ℕ) → place < left → ((k : ℕ) → k < place → false ≡ has (read cells (from + k)) false true) → IsNextEdge (read cells) from (length cells) (from + place)
-  is-next place within before = record { after = omega arith; within = omega (arith, is, within, most, same); none = λ s above below. no-rise place s before above below }
+  pub is-next : (place : ℕ) → place < left → ((k : ℕ) → k < place → false ≡ has (read cells (from + k)) false true) → true ≡ has (read cells (from + place)) false true →
+      IsNextEdge (read cells) from (length cells) (from + place)
+  is-next place within before here =
+      record { after = omega arith; within = omega (arith, is, within, most, same); none = λ s above below. no-rise place s before above below; at = λ below. sym here }
 
 pub past-edges : (kind : Kind) (p k : ℕ) (clock input : Folds) (limits : ℕ × ℕ) (edge next : ℕ) → ((s : ℕ) → s < edge → edge_fault kind p k clock input limits s ≡ None) →
     None ≡ edge_fault kind p k clock input limits edge → IsNextEdge clock (edge + 1) p next → (s : ℕ) → s < next → edge_fault kind p k clock input limits s ≡ None

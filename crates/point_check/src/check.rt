@@ -12,6 +12,7 @@ ghost use Rattle.point_check.specs.Sound.{KeepsConstraints};
 
 use crate::assertion::{assertion_fault, is_held};
 use crate::checker::limited_fault;
+use crate::folds::Folds;
 use crate::mark::mark_fault;
 use fixpoint_engine::Waves;
 use flat_circuit::{Circuit, Fault, Faults, Instance, Kind};
@@ -23,6 +24,7 @@ use wave_core::CyclicWave;
 /// The fault of an instance, if it has one.
 fn fault_by_kind<W: CyclicWave<Item = Value>>(
     alloc: Global,
+    folds: &mut Folds<W>,
     c: &Circuit,
     waves: &Waves<W>,
     number: u32,
@@ -34,7 +36,7 @@ fn fault_by_kind<W: CyclicWave<Item = Value>>(
 {
     match instance.kind {
         Kind::SetupHold | Kind::RiseFall => {
-            limited_fault(alloc, c, waves, number, instance, instance.limits)
+            limited_fault(alloc, folds, c, waves, number, instance, instance.limits)
         }
         Kind::And | Kind::Or => mark_fault(alloc, c, waves, number, instance),
         _ => Ok(None),
@@ -44,6 +46,7 @@ fn fault_by_kind<W: CyclicWave<Item = Value>>(
 /// The fault of the instance of a number, if it has one.
 fn instance_fault<W: CyclicWave<Item = Value>>(
     alloc: Global,
+    folds: &mut Folds<W>,
     c: &Circuit,
     waves: &Waves<W>,
     number: u32,
@@ -55,7 +58,7 @@ fn instance_fault<W: CyclicWave<Item = Value>>(
     match c.instance(number) {
         None => Ok(None),
         Some(instance) => {
-            let found = fault_by_kind(alloc, c, waves, number, instance)?;
+            let found = fault_by_kind(alloc, folds, c, waves, number, instance)?;
             Ok(found)
         }
     }
@@ -116,8 +119,9 @@ fn instance_faults<W: CyclicWave<Item = Value>>(
     ensures { IfOk result (λ faults. faults ≡ filter_map (fault_of_instance c.now (waves_of (map (λ s. skewed (W.cells s.wave) s.skew) waves.now))) (range_with_len 0 (length c.now.instances))) }
 {
     let mut faults = Faults::new(alloc);
+    let mut folds = Folds::new();
     for number in 0..c.instance_count() {
-        let found = instance_fault(alloc, c, waves, number)?;
+        let found = instance_fault(alloc, &mut folds, c, waves, number)?;
         add(&mut faults, found)?;
     }
     Ok(faults)

@@ -10,6 +10,7 @@ ghost use Rattle.point_check.specs.Point.{checker_fault as fault_of_checker};
 ghost use Rattle.point_check.specs.Faults.{IsPointChecker, checks_points, limited_fault as fault_with, limited_fault_at};
 
 use crate::edges::first_fault;
+use crate::folds::Folds;
 use fixpoint_engine::{Waves, pin_wave};
 use flat_circuit::{Circuit, Fault, Instance, Kind, Pin};
 use scald_base::NoMemory;
@@ -21,6 +22,7 @@ use wave_core::CyclicWave;
 /// The fault of a checker by the waves at its clock and its input.
 fn fault_between<W: CyclicWave<Item = Value>>(
     alloc: Global,
+    folds: &mut Folds<W>,
     kind: Kind,
     instance: u32,
     clock: &Skewed<W>,
@@ -34,14 +36,15 @@ fn fault_between<W: CyclicWave<Item = Value>>(
     if input.is_steady() {
         return Ok(None);
     }
-    let clock_folds = clock.folded(alloc)?;
-    let input_folds = input.folded(alloc)?;
+    let clock_folds = folds.clocks.of(alloc, clock)?;
+    let input_folds = folds.inputs.of(alloc, input)?;
     Ok(first_fault(kind, instance, &clock_folds, &input_folds, limits))
 }
 
 /// The fault of a checker with these pins and limits.
 fn checker_fault<W: CyclicWave<Item = Value>>(
     alloc: Global,
+    folds: &mut Folds<W>,
     c: &Circuit,
     waves: &Waves<W>,
     kind: Kind,
@@ -59,13 +62,22 @@ fn checker_fault<W: CyclicWave<Item = Value>>(
 {
     let clock_wave = pin_wave(alloc, c, waves, clock)?;
     let input_wave = pin_wave(alloc, c, waves, input)?;
-    let found = fault_between(alloc, kind, instance, &clock_wave, &input_wave, limits)?;
+    let found = fault_between(
+        alloc,
+        folds,
+        kind,
+        instance,
+        &clock_wave,
+        &input_wave,
+        limits,
+    )?;
     Ok(found)
 }
 
 /// The fault of a checker with these limits.
 pub fn limited_fault<W: CyclicWave<Item = Value>>(
     alloc: Global,
+    folds: &mut Folds<W>,
     c: &Circuit,
     waves: &Waves<W>,
     number: u32,
@@ -82,7 +94,17 @@ pub fn limited_fault<W: CyclicWave<Item = Value>>(
     let pins = checker.pins.as_slice();
     let clock = pins[0];
     let input = pins[1];
-    let found = checker_fault(alloc, c, waves, checker.kind, number, clock, input, limits)?;
+    let found = checker_fault(
+        alloc,
+        folds,
+        c,
+        waves,
+        checker.kind,
+        number,
+        clock,
+        input,
+        limits,
+    )?;
     Ok(found)
 }
 
@@ -107,7 +129,8 @@ pub fn point_fault<W: CyclicWave<Item = Value>>(
     match c.instance(instance) {
         None => unreachable!(),
         Some(checker) => {
-            let found = limited_fault(alloc, c, waves, instance, checker, limits)?;
+            let folds = &mut Folds::new();
+            let found = limited_fault(alloc, folds, c, waves, instance, checker, limits)?;
             Ok(found)
         }
     }

@@ -9,6 +9,7 @@
 
 // an input about the edges of a clock
 mod edges;
+mod folds;
 mod window;
 
 // checkers, marked pins and assertions

@@ -124,11 +124,17 @@ first-nowhere period level wave limit none = first_some-beyond (narrow_at level 
 
 -- ---- the next slot in which one may begin
 
-pub none-yet : (level : Bool) (wave : Slots) (from p : ℕ) → from ≤ p → IsNextStart level wave from p from
+-- from a slot on no pulse at the level may begin before this one, which is a slot of the period or its end
+pub record NoStart (level : Bool) (wave : Slots) (from p slot : ℕ) : Type 0 where
+  pub after : from ≤ slot
+  pub within : slot ≤ p
+  pub none : (s : ℕ) → from ≤ s → s < slot → may_begin level (wave s) ≡ false
+
+pub none-yet : (level : Bool) (wave : Slots) (from p : ℕ) → from ≤ p → NoStart level wave from p from
 none-yet level wave from p most = record { after = omega arith; within = most; none = λ s above below. absurd (omega (arith, above, below)) }
 
-pub none-to : (level : Bool) (wave : Slots) (from p slot end : ℕ) → IsNextStart level wave from p slot → slot ≤ end → end ≤ p → ((s : ℕ) → slot ≤ s → s < end → may_begin level (wave s) ≡ false) →
-    IsNextStart level wave from p end
+pub none-to : (level : Bool) (wave : Slots) (from p slot end : ℕ) → NoStart level wave from p slot → slot ≤ end → end ≤ p → ((s : ℕ) → slot ≤ s → s < end → may_begin level (wave s) ≡ false) →
+    NoStart level wave from p end
 none-to level wave from p slot end so_far more within run = record {
   after = let after = so_far.after in omega (arith, after, more);
   within = within;
@@ -139,11 +145,16 @@ none-to level wave from p slot end so_far more within run = record {
     by s above below (inl less) = so_far.none s above less
     by s above below (inr most) = run s most below
 
-pub none-left : (level : Bool) (wave : Slots) (from p slot period : ℕ) → IsNextStart level wave from p slot → period ≡ p → period ≤ slot → IsNextStart level wave from p period
-none-left level wave from p slot period so_far same past =
-    let within = so_far.within in
-    let e : slot ≡ period = omega (arith, within, same, past) in
-    subst (λ (z : ℕ). IsNextStart level wave from p z) e so_far
+pub starts-at : (level : Bool) (wave : Slots) (from p slot : ℕ) → NoStart level wave from p slot → may_begin level (wave slot) ≡ true → IsNextStart level wave from p slot
+starts-at level wave from p slot so_far here = record { after = so_far.after; within = so_far.within; none = so_far.none; at = λ below. here }
+
+pub none-left : (level : Bool) (wave : Slots) (from p slot period : ℕ) → NoStart level wave from p slot → period ≡ p → period ≤ slot → IsNextStart level wave from p period
+none-left level wave from p slot period so_far same past = record {
+  after = let after = so_far.after in let within = so_far.within in omega (arith, after, within, same);
+  within = omega (arith, same);
+  none = λ s above below. so_far.none s above (omega (arith, below, past));
+  at = λ below. absurd (omega (arith, same, below));
+}
 
 pub past-starts : (level : Bool) (wave : Slots) (limit p start next : ℕ) → ((s : ℕ) → s < start → narrow_at level wave limit s ≡ None) → narrow_at level wave limit start ≡ None →
     IsNextStart level wave (start + 1) p next → (s : ℕ) → s < next → narrow_at level wave limit s ≡ None

@@ -2,8 +2,9 @@ use Rattle.std.proofs.Common.{◌≡◌, ℕ, ◌+◌, ◌-◌, ◌%◌, ◌≤�
 use Rattle.std.specs.Prelude.{IfSome}
 use Rattle.step_values.specs.declared.value.Value.{Value}
 use Rattle.step_values.specs.Steps.{has}
+use Rattle.step_values.specs.Cell.{values}
+use Rattle.wave_core.proofs.Places.{same-cell}
 use Rattle.fixpoint_engine.specs.Pins.{read}
-use Rattle.fixpoint_engine.proofs.ReadSlots.{same-round}
 use Rattle.point_check.proofs.Where.{last_to-run, last_to-small}
 use Rattle.point_check.proofs.edges.last_fall.Goals as goal
 
@@ -20,7 +21,7 @@ runs-preserved-then-may_fall g c =
       within = omega (arith, next);
       last = sym (last_to-run (λ k. has (read cells (c.args.edge + k)) true false) (c.runs.fall - 1) (c.min-next.result - 1) true (omega (arith, next, begun, far))
           (λ k above most. ap (λ (v : Value). has v true false)
-          (same-round cells c.period-period.result (c.args.edge + c.runs.fall) _ c.same_until.result (c.args.edge + k) c.at.result p (omega arith) refl c.same_until.ensures c.at.ensures
+          (same-cell values cells c.period-period.result c.args.edge c.runs.fall slot c.same_until.result k c.at.result p refl c.at.ensures c.same_until.ensures
           (omega (arith, above, begun)) (omega (arith, most, next, begun, far)))
           ∙ sym c.may_fall.ensures ∙ c.if-may_fall.true));
     }
@@ -39,7 +40,7 @@ runs-preserved g c =
       last = c.runs.invariant.last
           ∙ sym (last_to-run (λ k. has (read cells (c.args.edge + k)) true false) (c.runs.fall - 1) (c.min-next.result - 1) false (omega (arith, next, begun, far))
           (λ k above most. ap (λ (v : Value). has v true false)
-          (same-round cells c.period-period.result (c.args.edge + c.runs.fall) _ c.same_until.result (c.args.edge + k) c.at.result p (omega arith) refl c.same_until.ensures c.at.ensures
+          (same-cell values cells c.period-period.result c.args.edge c.runs.fall slot c.same_until.result k c.at.result p refl c.at.ensures c.same_until.ensures
           (omega (arith, above, begun)) (omega (arith, most, next, begun, far)))
           ∙ sym c.may_fall.ensures ∙ c.if-may_fall.false));
     }

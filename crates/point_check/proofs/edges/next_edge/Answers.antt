@@ -13,4 +13,4 @@ returns-in-Some g c =
     let p = c.period-period.ensures in
     let found = c.in-Some.ensures in
     is-next (g.W.CyclicWave.cells c.args.clock.now) c.period-period.result c.args.from _ p (omega (arith, p)) refl c.in-Some.place found.within
-    (λ k below. let said = found.before k (omega arith) below in search rules)
+    (λ k below. let said = found.before k (omega arith) below in search rules) (let said = found.passes in search rules)

@@ -1,6 +1,8 @@
-use Rattle.std.proofs.Common.{◌+◌, ◌≤◌, length, arith, refl, sym, ap, ◌∙◌}
+use Rattle.std.proofs.Common.{◌+◌, ◌%◌, ◌≤◌, arith, refl, sym, ap, ◌∙◌}
+use Rattle.step_values.specs.Cell.{values}
+use Rattle.wave_core.proofs.Places.{cell-round, same-cell}
 use Rattle.fixpoint_engine.specs.Pins.{read}
-use Rattle.fixpoint_engine.proofs.ReadSlots.{read-mod, below_run, same-round}
+use Rattle.fixpoint_engine.proofs.ReadSlots.{below_run}
 use Rattle.pulse_check.specs.Pulse.{may_end, may_last}
 use Rattle.pulse_check.proofs.Narrow.{GoesOn, unended-on, ends-here, stops-here, never-ends}
 use Rattle.pulse_check.proofs.pulse.least_width.Goals as goal
@@ -11,7 +13,7 @@ returns-then-may_end g c =
     let p = c.period-period.ensures in
     let one = c.runs.invariant.begun in
     sym (ends-here c.args.level (read cells) c.args.limit c.args.start c.runs.width one c.runs-test.true c.runs.invariant.goes_on
-    (ap (may_end c.args.level) (read-mod cells c.period-period.result (c.args.start + c.runs.width) c.at-value.result p (omega arith) c.at-value.ensures)
+    (ap (may_end c.args.level) (cell-round values cells c.period-period.result (c.args.start + c.runs.width) _ c.at-value.result p refl c.at-value.ensures)
     ∙ sym c.may_end.ensures ∙ c.if-may_end.true))
 
 pub returns-then-not-may_last : goal.returns-then-not-may_last
@@ -19,7 +21,7 @@ returns-then-not-may_last g c =
     let cells = g.W.CyclicWave.cells c.args.wave.now in
     let p = c.period-period.ensures in
     let one = c.runs.invariant.begun in
-    let at = read-mod cells c.period-period.result (c.args.start + c.runs.width) c.at-value.result p (omega arith) c.at-value.ensures in
+    let at = cell-round values cells c.period-period.result (c.args.start + c.runs.width) ((c.args.start + c.runs.width) % c.period-period.result) c.at-value.result p refl c.at-value.ensures in
     sym (stops-here c.args.level (read cells) c.args.limit c.args.start c.runs.width one c.runs.invariant.goes_on
     (ap (may_end c.args.level) at ∙ sym c.may_end.ensures ∙ c.if-may_end.false)
     (ap (may_last c.args.level) at ∙ sym c.may_last.ensures ∙ c.if-not-may_last.true))
@@ -36,7 +38,7 @@ runs-preserved g c =
       begun = omega (arith, one);
       goes_on = below_run (λ k. 1 ≤ k → GoesOn c.args.level (read cells) c.args.start k) c.runs.width _ c.runs.invariant.goes_on
           (λ k above below one. unended-on c.args.level (read cells) c.args.start k c.at-value.result c.may_end.result c.may_last.result
-          (same-round cells c.period-period.result (c.args.start + c.runs.width) _ c.same_until.result (c.args.start + k) c.at-value.result p (omega arith) refl c.same_until.ensures c.at-value.ensures
+          (same-cell values cells c.period-period.result c.args.start c.runs.width ((c.args.start + c.runs.width) % c.period-period.result) c.same_until.result k c.at-value.result p refl c.at-value.ensures c.same_until.ensures
           (omega arith) (omega (arith, below)))
           c.may_end.ensures c.if-may_end.false c.may_last.ensures c.if-not-may_last.false);
     }

@@ -1,4 +1,4 @@
-use Rattle.std.proofs.Common.{arith, refl, sym, ap, ◌∙◌}
+use Rattle.std.proofs.Common.{refl, sym, ap, ◌∙◌}
 use Rattle.fixpoint_engine.specs.Pins.{read}
 use Rattle.fixpoint_engine.proofs.ReadSlots.{read-at}
 use Rattle.pulse_check.specs.Pulse.{may_begin}
