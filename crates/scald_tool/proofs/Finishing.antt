@@ -1,5 +1,5 @@
 -- What passes every stage has a finished answer.
-use Rattle.std.proofs.Common.{◌≡◌, ◌⊎◌, inl, inr, ℕ, Bool, true, false, cond, List, ap, refl, subst, ◌∙◌, arith, Option, None}
+use Rattle.std.proofs.Common.{◌≡◌, ◌⊎◌, inl, inr, ℕ, Bool, true, false, cond, List, refl, subst, arith, Option, None}
 use Rattle.std.specs.Prelude.{◌==◌}
 use Rattle.scald_base.specs.Device.{Rose}
 use Rattle.drawing_tree.specs.Canonical.{canonical}
@@ -7,7 +7,6 @@ use Rattle.design_gen.specs.Datapath.{datapath}
 use Rattle.scald_tool.specs.declared.outcome.Outcome.{Outcome}
 use Rattle.scald_tool.specs.declared.outcome.Outcome.TheVariants.{Clean, Faulty, Done, NoMemory}
 use Rattle.scald_tool.specs.declared.words.Command.{Command}
-use Rattle.scald_tool.specs.declared.words.Command.TheVariants.{Verify, Format, Bench}
 use Rattle.scald_tool.specs.Case.{fault_count}
 use Rattle.scald_tool.specs.Report.{verdict_of}
 use Rattle.scald_tool.specs.Answer as answer

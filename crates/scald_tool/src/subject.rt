@@ -12,10 +12,10 @@ ghost use Rattle.case_analysis.specs.Case.{EndsInCone, HasCone, IsCase, IsCone, 
 ghost use Rattle.scald_tool.specs.Subject.{AreClasses};
 
 use crate::drawn::Drawn;
-use case_analysis::{base, base_classes, case_classes, case_waves};
+use case_analysis::{base, base_classes, case_at, case_classes, case_waves};
 use class_table::{ClassMap, classes, stable};
 use fixpoint_engine::{EngineEnd, Settled};
-use flat_circuit::{Case, CaseList, Circuit};
+use flat_circuit::{CaseList, Circuit};
 use scald_base::NoMemory;
 use std::alloc::Global;
 use step_values::Value;
@@ -42,17 +42,6 @@ fn stable_classes(
         Ok(Some(classes))
     } else {
         Ok(None)
-    }
-}
-
-/// The case of a number from 0 that is known to be there.
-fn case_at(cases: &CaseList, number: u32) -> &Case
-    requires { number < length cases.now }
-    ensures { result.now ≡ case_at cases.now number }
-{
-    match cases.get(number as usize) {
-        Some(case) => case,
-        None => unreachable!(),
     }
 }
 

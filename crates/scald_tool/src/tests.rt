@@ -112,23 +112,8 @@ fn devices(rt: HostRuntime) -> Result<(), Fail> {
 }
 
 #[test]
-fn words_and_room(rt: HostRuntime) -> Result<(), Fail> {
-    let table: [(&[&[u8]], u32, Outcome, usize, usize); 6] = [
-        (&[b"verify"], 4096, Outcome::Clean, 0, 157),
-        (&[b"verify"], 100, Outcome::WriteFault, 0, 100),
-        // words of no form: nothing is read or written
-        (&[], 4096, Outcome::BadWords(0), 106, 0),
-        (&[b"bench"], 4096, Outcome::BadWords(1), 106, 0),
-        (&[b"bench", b"201"], 4096, Outcome::BadWords(1), 106, 0),
-        (
-            &[b"verify", b"rounds=5", b"faults"],
-            4096,
-            Outcome::BadWords(2),
-            106,
-            0,
-        ),
-    ];
-    for (words, room, outcome, left, taken) in table {
+fn a_sink_with_room(rt: HostRuntime) -> Result<(), Fail> {
+    for (room, outcome, taken) in [(4096, Outcome::Clean, 157), (100, Outcome::WriteFault, 100)] {
         let to = Device {
             piece: 32,
             failing: None,
@@ -136,11 +121,57 @@ fn words_and_room(rt: HostRuntime) -> Result<(), Fail> {
         };
         let end = End {
             outcome,
-            left,
+            left: 0,
             taken,
         };
-        ends(&rt, words, SURE, to, end)?;
+        ends(&rt, &[b"verify"], SURE, to, end)?;
     }
+    Ok(())
+}
+
+/// Words of no form, each with the number of the first word with which no form goes on: nothing is read for
+/// them, and nothing is written.
+#[test]
+fn words_of_no_form(rt: HostRuntime) -> Result<(), Fail> {
+    let table: [(&[&[u8]], u32); 13] = [
+        (&[], 0),
+        (&[b"check"], 0),
+        (&[b"upgrade"], 0),
+        (&[b"verify", b"twice"], 1),
+        (&[b"verify", b"rounds=0"], 1),
+        (&[b"verify", b"rounds=05"], 1),
+        (&[b"verify", b"rounds=5", b"faults"], 2),
+        (&[b"verify", b"waves", b"faults"], 2),
+        (&[b"verify", b"waves", b"rounds=5", b"faults"], 3),
+        (&[b"format", b"waves"], 1),
+        (&[b"bench"], 1),
+        (&[b"bench", b"201"], 1),
+        (&[b"bench", b"3", b"3"], 2),
+    ];
+    for (words, number) in table {
+        let end = End {
+            outcome: Outcome::BadWords(number),
+            left: 106,
+            taken: 0,
+        };
+        ends(&rt, words, SURE, SURE, end)?;
+    }
+    Ok(())
+}
+
+/// A text on one line, in its canonical form.
+#[test]
+fn a_text_is_formatted(rt: HostRuntime) -> Result<(), Fail> {
+    let alloc = rt.alloc();
+    let words = words_of(alloc, &[b"format"])?;
+    let text = b"SCALD 1; CLOCK 8 x 50; DRAWING T; b1:BUF[0:0](-\"A\")->(\"B\"); END;";
+    let mut source = MemorySource::new(Bytes::of(alloc, text)?, 4096, Calls::new(alloc));
+    let mut sink = MemorySink::new(alloc, 4096, 4096, Calls::new(alloc))?;
+    let outcome = tool_main(alloc, &words, &mut source, &mut sink);
+    assert_eq!(rt; outcome, Outcome::Done);
+    let canonical =
+        b"SCALD 1;\nCLOCK 8 x 50;\nWIRE 0:0;\nPSKEW 0:0;\nCSKEW 0:0;\nDRAWING T;\n  b1 : BUF [0:0] (-\"A\") -> (\"B\");\nEND;\n";
+    assert_eq!(rt; sink.taken(), canonical.as_slice());
     Ok(())
 }
 

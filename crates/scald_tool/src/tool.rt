@@ -5,6 +5,7 @@ ghost use Rattle.std.specs.Io.KnownBytes.{IsAtEnd};
 ghost use Rattle.scald_base.specs.Device.{Rose, ReadsAll, ReadsFront, ReadsPast};
 ghost use Rattle.scald_tool.specs.Words.{are_reading, command_of, reads};
 ghost use Rattle.scald_tool.specs.Answer.{most_bytes};
+ghost use Rattle.scald_tool.specs.Finished.{AsksWell, IsFinished};
 ghost use Rattle.scald_tool.specs.Promise.{AreTold, IsAnswered, IsCutShort, RestsWithoutLoops, FaultlessNeverBreaks, NeverBreaks, has_read, has_report, is_silent, may_answer, speaks};
 
 use crate::answer::answer;
@@ -39,6 +40,12 @@ pub fn tool_main<S: Source, K: Sink>(
     ensures whole { (text : List ℕ) → AreTold words.now (S.left source.old) text →
         (are_reading (command_of words.now) ≡ true → ¬ Rose (S.faults source.old) (S.faults source.new)) → ¬ Rose (K.faults sink.old) (K.faults sink.new) →
         (result ≡ Outcome.NoMemory) ⊎ IsAnswered words.now text result (K.taken sink.old) (K.taken sink.new) }
+
+    // The same where the words are of a form and the text passes every stage of it: the answer is the
+    // report, or what else was asked for.
+    ensures finished { (text : List ℕ) → AreTold words.now (S.left source.old) text →
+        (are_reading (command_of words.now) ≡ true → ¬ Rose (S.faults source.old) (S.faults source.new)) → ¬ Rose (K.faults sink.old) (K.faults sink.new) →
+        AsksWell words.now text → (result ≡ Outcome.NoMemory) ⊎ IsFinished words.now text result (K.taken sink.old) (K.taken sink.new) }
 
     // Whatever the devices did, an outcome that speaks of the text comes only where it is the text's
     // own, all of the text was read, and all of the answer was written. No more than one byte past the

@@ -77,7 +77,7 @@ fn every_front_of_a_text(rt: HostRuntime) -> Result<(), Fail> {
     let (text, mode, report) = UNIT;
     let mut bytes = Bytes::new(rt.alloc());
     // Its last two bytes are the semicolon of END and the end of the line.
-    for length in 0..text.len().saturating_sub(2) {
+    for length in 0..text.len().saturating_sub(1) {
         let outcome = verify_text::<RunWave<Value>>(
             rt.alloc(),
             &text[..length],

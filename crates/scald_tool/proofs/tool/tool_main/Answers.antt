@@ -1,5 +1,6 @@
 use Rattle.std.proofs.Common.{ap, inr, refl, sym, Err}
 use Rattle.scald_tool.specs.Promise.{FaultlessNeverBreaks, NeverBreaks, has_report}
+use Rattle.scald_tool.proofs.Finishing.{finished_or_not}
 use Rattle.scald_tool.proofs.Told.{answered, cut_short, too_long_answered, long_text, to_end, of_report, loopless, bad_words_answered, whole_unread, given_by}
 use Rattle.scald_tool.proofs.tool.tool_main.Goals as goal
 
@@ -55,3 +56,21 @@ returns-in-Ok-write_all-clause-faultless g c =
 pub returns-in-Ok-write_all-clause-loopless : goal.returns-in-Ok-write_all-clause-loopless
 returns-in-Ok-write_all-clause-loopless g c text told =
     loopless c.args.words.now c.in-Ok.command _ _ (sym c.in-Ok.ensures.is) _ _ text _ c.in-Ok-text_for.ensures.all c.as_slice.ensures c.in-Ok-answer.ensures.loopless told
+
+-- ---- a text that passes every stage
+
+pub returns-in-Err-clause-finished : goal.returns-in-Err-clause-finished
+returns-in-Err-clause-finished g c text told read written asks =
+    finished_or_not c.args.words.now text _ _ _ (returns-in-Err-clause-whole g c text told read written) asks
+
+pub returns-in-Err-TooLong-clause-finished : goal.returns-in-Err-TooLong-clause-finished
+returns-in-Err-TooLong-clause-finished g c text told read written asks =
+    finished_or_not c.args.words.now text _ _ _ (returns-in-Err-TooLong-clause-whole g c text told read written) asks
+
+pub returns-in-Err-ReadFault-clause-finished : goal.returns-in-Err-ReadFault-clause-finished
+returns-in-Err-ReadFault-clause-finished g c text told read written asks =
+    finished_or_not c.args.words.now text _ _ _ (returns-in-Err-ReadFault-clause-whole g c text told read written) asks
+
+pub returns-in-Ok-write_all-clause-finished : goal.returns-in-Ok-write_all-clause-finished
+returns-in-Ok-write_all-clause-finished g c text told read written asks =
+    finished_or_not c.args.words.now text _ _ _ (returns-in-Ok-write_all-clause-whole g c text told read written) asks

@@ -1,4 +1,4 @@
-use Rattle.std.proofs.Common.{◌≡◌, inr}
+use Rattle.std.proofs.Common.{inr}
 use Rattle.scald_tool.proofs.Given.{verify-may}
 use Rattle.scald_tool.proofs.Verifying.{put_behind, spoken_remembers}
 use Rattle.scald_tool.proofs.verified.verify_text.Goals as goal

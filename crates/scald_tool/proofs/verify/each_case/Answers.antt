@@ -1,4 +1,4 @@
-use Rattle.std.proofs.Common.{◌≡◌, List, [], take, refl, subst, arith}
+use Rattle.std.proofs.Common.{◌≡◌, List, take, subst, arith}
 use Rattle.std.proofs.lemmas.List.{take_all}
 use Rattle.std.proofs.lemmas.Result.{err_from_is_err_and}
 use Rattle.flat_circuit.specs.declared.case.CaseValue.{CaseValue}
