@@ -2,30 +2,19 @@
 # Small texts, each with the canonical text of what it draws, one for each way to write a part of a drawing: what
 # `format` answers, and that it answers the canonical text with that text itself.
 # Usage: checks/canonical.sh [PROGRAM]. Without a built program it says so and ends with 0.
-set -u
-top=$(CDPATH='' cd -- "$(dirname -- "$0")/.." && pwd) || exit 2
-program=${1:-$top/crates/scald/out/scald}
-if [ ! -x "$program" ]; then
-    echo "checks/canonical.sh: no program at $program (./scald builds it): nothing is tried"
-    exit 0
-fi
-work=$(mktemp -d) || exit 2
-trap 'rm -rf "$work"' EXIT
-failed=0
-tried=0
+. "$(dirname -- "$0")/common.sh"
+begin "${1-}"
 
 # formats NAME TEXT: the text's canonical text is the one in $work/want
 formats() {
-    tried=$((tried + 1))
+    trying "$1"
     printf '%s' "$2" | "$program" format >"$work/out"
     status=$?
     if [ "$status" -ne 0 ] || ! cmp -s "$work/out" "$work/want"; then
-        failed=$((failed + 1))
-        echo "FAILED $1: status $status, and this canonical text:"
+        failure "$1: status $status, and this canonical text:"
         sed 's/^/    /' "$work/out"
     elif ! "$program" format <"$work/want" | cmp -s - "$work/want"; then
-        failed=$((failed + 1))
-        echo "FAILED $1: its canonical text has another one"
+        failure "$1: its canonical text has another one"
     fi
 }
 
@@ -91,6 +80,9 @@ statement 'outputs' 'a:B()->("Y","Z");' 'a : B () -> ("Y", "Z");'
 statement 'an IF within an IF' 'IF A THEN IF B THEN a:B();END;END;' 'IF A THEN' '  IF B THEN' '    a : B ();' '  END;' 'END;'
 statement 'an ELSE' 'IF A THEN a:B();ELSE b:B();END;' 'IF A THEN' '  a : B ();' 'ELSE' '  b : B ();' 'END;'
 
+statement 'parameters without a delay' 't:T{N=(1+2)*3-(-(4))}("A")->("Z");' 't : T {N=(1 + 2) * 3 - -4} ("A") -> ("Z");'
+statement 'all parts of a use' 't:T[0:1]{N=(1+2)*3-(-(4))}(-"A")->("Z");' 't : T [0:1] {N=(1 + 2) * 3 - -4} (-"A") -> ("Z");'
+
 # --- what stands around statements
 drawn 'the shortest drawing' 'DRAWING D;END;' 'DRAWING D;' 'END;'
 drawn 'a macro' 'MACRO M();END;DRAWING D;END;' 'MACRO M ();' 'END;' 'DRAWING D;' 'END;'
@@ -101,8 +93,10 @@ drawn 'two macros' 'MACRO M();a:B();END;MACRO N();a:B();END;DRAWING D;a:B();END;
     'MACRO M ();' '  a : B ();' 'END;' 'MACRO N ();' '  a : B ();' 'END;' 'DRAWING D;' '  a : B ();' 'END;'
 drawn 'cases' 'DRAWING D;END;CASE"X"=1,"Y"<2>=0;CASE"X"=0;' \
     'DRAWING D;' 'END;' 'CASE "X"<0>=1, "Y"<2>=0;' 'CASE "X"<0>=0;'
+drawn 'numbers past 32 bits' 'DRAWING D;END;CASE"X"<4294967296>=4294967296;' 'DRAWING D;' 'END;' 'CASE "X"<4294967295>=4294967295;'
 printf '%s\n' 'SCALD 1;' 'CLOCK 10 x 5;' 'WIRE 1:2;' 'PSKEW 3:4;' 'CSKEW 5:6;' 'DRAWING D;' 'END;' >"$work/want"
 formats 'all statements of a header' 'SCALD 1;CLOCK 10 x 5;WIRE 1:2;PSKEW 3:4;CSKEW 5:6;DRAWING D;END;'
+printf '%s\n' 'SCALD 1;' 'CLOCK 8 x 50;' 'WIRE 0:0;' 'PSKEW 0:0;' 'CSKEW 0:0;' 'DRAWING T;' '  b1 : BUF [0:0] (-"A") -> ("B");' 'END;' >"$work/want"
+formats 'a drawing on one line' 'SCALD 1; CLOCK 8 x 50; DRAWING T; b1:BUF[0:0](-"A")->("B"); END;'
 
-echo "checks/canonical.sh: $tried tried, $failed failed"
-[ "$tried" -gt 0 ] && [ "$failed" -eq 0 ]
+ended

@@ -1,23 +1,8 @@
 #!/bin/sh
 # Compares the report of each drawing of examples/ with the one that stands beside it, and the status with its
 # last line. Usage: checks/examples.sh [PROGRAM]. Without a built program it says so and ends with 0.
-set -u
-top=$(CDPATH='' cd -- "$(dirname -- "$0")/.." && pwd) || exit 2
-program=${1:-$top/crates/scald/out/scald}
-if [ ! -x "$program" ]; then
-    echo "checks/examples.sh: no program at $program (./scald builds it): nothing is tried"
-    exit 0
-fi
-work=$(mktemp -d) || exit 2
-trap 'rm -rf "$work"' EXIT
-failed=0
-tried=0
-
-# failure NAME WHY
-failure() {
-    echo "FAILED $1: $2"
-    failed=$((failed + 1))
-}
+. "$(dirname -- "$0")/common.sh"
+begin "${1-}"
 
 # The status that goes with the last line of a report.
 status_of() {
@@ -33,26 +18,25 @@ status_of() {
 for drawing in "$top"/examples/*.scald; do
     name=$(basename -- "$drawing" .scald)
     report=${drawing%.scald}.report
-    tried=$((tried + 1))
+    trying "$name"
     if [ ! -f "$report" ]; then
-        failure "$name" "no report beside it"
+        failure "$name: no report beside it"
         continue
     fi
     "$program" verify <"$drawing" >"$work/report"
     status=$?
     wanted=$(status_of "$report")
-    [ "$status" = "$wanted" ] || failure "$name" "status $status in place of $wanted"
-    cmp -s "$work/report" "$report" || failure "$name" "another report"
+    [ "$status" = "$wanted" ] || failure "$name: status $status in place of $wanted"
+    cmp -s "$work/report" "$report" || failure "$name: another report"
 
     # The canonical text draws the same, and is canonical.
-    "$program" format <"$drawing" >"$work/text" || failure "$name" "no canonical text"
+    "$program" format <"$drawing" >"$work/text" || failure "$name: no canonical text"
     "$program" verify <"$work/text" >"$work/report"
-    cmp -s "$work/report" "$report" || failure "$name" "another report of its canonical text"
-    "$program" format <"$work/text" | cmp -s - "$work/text" || failure "$name" "another canonical text"
+    cmp -s "$work/report" "$report" || failure "$name: another report of its canonical text"
+    "$program" format <"$work/text" | cmp -s - "$work/text" || failure "$name: another canonical text"
 done
 for report in "$top"/examples/*.report; do
-    [ -f "${report%.report}.scald" ] || failure "$(basename -- "$report")" "no drawing beside it"
+    [ -f "${report%.report}.scald" ] || failure "$(basename -- "$report"): no drawing beside it"
 done
 
-echo "checks/examples.sh: $tried tried, $failed failed"
-[ "$tried" -gt 0 ] && [ "$failed" -eq 0 ]
+ended

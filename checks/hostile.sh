@@ -5,32 +5,18 @@
 # Usage: checks/hostile.sh [--short] [PROGRAM [COUNT]], COUNT random texts in place of 20000, or of 400.
 # Needs python3; cc where allocations are to be refused one by one; and GNU time where it is not short.
 # A random text whose answer is wrong is kept in the folder KEPT, or else in the current one.
-set -u
-top=$(CDPATH='' cd -- "$(dirname -- "$0")/.." && pwd) || exit 2
+. "$(dirname -- "$0")/common.sh"
 short=no
 if [ "${1-}" = --short ]; then
     short=yes
     shift
 fi
-program=${1:-$top/crates/scald/out/scald}
+begin "${1-}"
 count=${2:-20000}
 [ $short = no ] || count=${2:-400}
-if [ ! -x "$program" ]; then
-    echo "checks/hostile.sh: no program at $program (./scald builds it): nothing is tried"
-    exit 0
-fi
-work=$(mktemp -d) || exit 2
-trap 'rm -rf "$work"' EXIT
-failed=0
 begun=$(date +%s)
 
-# failure WHY
-failure() {
-    echo "FAILED $1"
-    failed=$((failed + 1))
-}
-
-# frame: a drawing of the lines on standard input, from line 4 on
+# frame [CLOCK]: a drawing of the lines on standard input, from line 4 on
 frame() {
     printf 'SCALD 1;\nCLOCK %s;\nDRAWING ROW;\n' "${1:-8 x 50}"
     cat
@@ -43,6 +29,7 @@ for seed in 1 2 3 4; do
 done
 wait
 for seed in 1 2 3 4; do
+    trying "random texts from seed $seed"
     cat "$work/random$seed"
     grep -q ' tried, 0 failed' "$work/random$seed" || failure "random texts from seed $seed"
 done
@@ -71,6 +58,7 @@ END
 
 # refused_in_turn NAME WORD STATUS LINE: the text on standard input, whose answer has this status and last line
 refused_in_turn() {
+    trying "$1"
     cat >"$work/text"
     CALLS=$work/calls LD_PRELOAD=$work/refuse.so "$program" "$2" <"$work/text" >"$work/own"
     [ $? -eq "$3" ] && [ "$(tail -n 1 "$work/own")" = "$4" ] || failure "$1 with all its memory"
@@ -93,7 +81,7 @@ refused_in_turn() {
 
 if command -v cc >/dev/null 2>&1 && cc -shared -fPIC -o "$work/refuse.so" "$work/refuse.c"; then
     echo 'c1 : SETUP_HOLD_CHK {SETUP=20, HOLD=10} ("CK .P2-3", "D .S1-4");' | frame | refused_in_turn 'a checker' verify 0 CLEAN
-    echo 'b1:BUF[0:0](-"A")->("B");' | frame | refused_in_turn 'a text to be formatted' format 0 'END;'
+    echo 'SCALD 1; CLOCK 8 x 50; DRAWING T; b1:BUF[0:0](-"A")->("B"); END;' | refused_in_turn 'a text to be formatted' format 0 'END;'
     if [ $short = no ]; then
         {
             frame <<'END'
@@ -140,6 +128,7 @@ done
 names='first alu or_tree'
 [ $short = no ] || names=first
 for name in $names; do
+    trying "$name.scald with little memory"
     none=0
     own=0
     wrong=0
@@ -163,18 +152,13 @@ for name in $names; do
     echo "memory for $name.scald from $least KB on: $none times too little, $own times its own report, $wrong failed"
 done
 
-# ended: says how many failed, and ends so
-ended() {
-    echo "checks/hostile.sh: $failed failed, in $(($(date +%s) - begun)) seconds"
-    [ "$failed" -eq 0 ]
-    exit
-}
-[ $short = no ] || ended
+[ $short = no ] || ended ", in $(($(date +%s) - begun)) seconds"
 
 # --- a text that is cut short anywhere is refused for its tokens or its grammar, with one line
 alu=$top/examples/alu.scald
 bytes=$(wc -c <"$alu")
 wrong=0
+trying "cuts of alu.scald"
 for length in $(seq 0 $((bytes - 2))); do
     head -c "$length" "$alu" | "$program" verify >"$work/out"
     [ $? -eq 2 ] && grep -q '^REFUSED [23] ' "$work/out" && [ "$(wc -l <"$work/out")" -eq 1 ] || wrong=$((wrong + 1))
@@ -184,17 +168,6 @@ head -c $((bytes - 1)) "$alu" | "$program" verify | cmp -s - "$top/examples/alu.
 echo "cuts of alu.scald: $bytes tried, $wrong failed"
 
 # --- each limit, met and passed by one; and the texts that cost most
-# many COUNT TEXT: so many times the text
-many() {
-    awk -v count="$1" -v text="$2" 'BEGIN { for (i = 0; i < count; i++) printf "%s", text }'
-}
-
-# ranges COUNT BEFORE AFTER: statements labelled l0, l1 .., each with the next 256 bits between BEFORE and AFTER
-ranges() {
-    awk -v count="$1" -v before="$2" -v after="$3" 'BEGIN {
-        for (i = 0; i < count; i++) printf "l%d : %s<%d:%d>%s\n", i, before, 256 * i, 256 * i + 255, after }'
-}
-
 # tries NAME STATUS LINE [WORD ..]: the text on standard input, verified with these words behind; the last line of the
 # answer must be LINE, or none be there where LINE is empty
 tries() {
@@ -202,6 +175,7 @@ tries() {
     wanted=$2
     line=$3
     shift 3
+    trying "$name"
     cat >"$work/text"
     (
         ulimit -t 120
@@ -213,12 +187,10 @@ tries() {
     last=$(tail -n 1 "$work/out")
     printf '%-44s %9d %8s %7d  %d %s\n' "$name" "$(wc -c <"$work/text")" "$seconds" "$memory" "$status" "$last"
     if [ "$status" -ne "$wanted" ] || [ "$last" != "$line" ]; then
-        echo "FAILED $name: status $wanted and '$line' are wanted"
-        echo "$name" >>"$work/limits"
+        failure "$name: status $wanted and '$line' are wanted"
     fi
 }
 
-: >"$work/limits"
 printf '%-44s %9s %8s %7s  %s\n' text bytes seconds MB answer
 head -c 4194304 /dev/zero | tr '\0' ' ' | tries 'the most bytes, all spaces' 2 'REFUSED 3 Syntax 1:4194305'
 head -c 4194305 /dev/zero | tr '\0' ' ' | tries 'one byte more' 5 ''
@@ -282,6 +254,9 @@ echo 'c : MIN_PULSE_CHK {HIGH=400, LOW=400} ("K");' | frame | tries 'the longest
 echo 'c : MIN_PULSE_CHK {LOW=401} ("K");' | frame | tries 'a longer pulse' 2 'REFUSED 14 Bounds 4:1'
 echo 'c : SETUP_HOLD_CHK {SETUP=390, HOLD=10} ("CK .P2-3", "D .S");' | frame | tries 'the longest setup and hold' 0 CLEAN faults
 echo 'c : SETUP_HOLD_CHK {SETUP=391, HOLD=10} ("CK .P2-3", "D .S");' | frame | tries 'a longer setup' 2 'REFUSED 14 Bounds 4:1'
+for bound in WIRE PSKEW CSKEW; do
+    printf 'SCALD 1;\nCLOCK 8 x 50;\n%s 4095:4095;\nDRAWING ROW;\nEND;\n' "$bound" | tries "the greatest $bound of a header" 0 CLEAN faults
+done
 # cases COUNT: a drawing with so many cases from line 6 on
 cases() {
     echo 'b : BUF [0:0] ("A") -> ("X");' | frame
@@ -318,7 +293,4 @@ printf '%s\n' 'p : BUF [0:0] ("X"<0:254>) -> ("X"<1:255>);' 'q : BUF [0:0] ("X"<
 echo 'a : AND [1:1] ("CK .P0-7", "X"<0:15>) -> ("X"<0:15>);' | frame '8 x 512' | tries '16 loops in the longest period' 0 CLEAN faults rounds=10000
 ranges 40 'BUF [0:9] ("CK .P2-3") -> ("X"' ');' | frame '8 x 512' | tries '10240 elements in the longest period' 0 CLEAN faults
 
-while read -r name; do
-    failure "$name"
-done <"$work/limits"
-ended
+ended ", in $(($(date +%s) - begun)) seconds"

@@ -1,29 +1,14 @@
 #!/bin/sh
 # Tries the built program over real streams: what each of them must answer, and with which status.
 # Usage: checks/program.sh [PROGRAM]. Without a built program it says so and ends with 0.
-set -u
-top=$(CDPATH='' cd -- "$(dirname -- "$0")/.." && pwd) || exit 2
-program=${1:-$top/crates/scald/out/scald}
-if [ ! -x "$program" ]; then
-    echo "checks/program.sh: no program at $program (./scald builds it): nothing is tried"
-    exit 0
-fi
-work=$(mktemp -d) || exit 2
-trap 'rm -rf "$work"' EXIT
+. "$(dirname -- "$0")/common.sh"
+begin "${1-}"
 first=$top/examples/first.scald
 report=$top/crates/scald/stdout
-failed=0
-tried=0
-
-# failure WHY
-failure() {
-    echo "FAILED $1"
-    failed=$((failed + 1))
-}
 
 # expect NAME STATUS GOT: compares the last command's status GOT, and its output in $work/out with $work/want.
 expect() {
-    tried=$((tried + 1))
+    trying "$1"
     if [ "$3" -ne "$2" ]; then
         failure "$1: status $3 in place of $2"
     elif ! cmp -s "$work/out" "$work/want"; then
@@ -50,18 +35,6 @@ expect "the most bytes" 2 $?
 echo "REFUSED 3 Syntax 1:1" >"$work/want"
 "$program" verify </dev/null >"$work/out"
 expect "no bytes" 2 $?
-
-# drawing LINE ..: a drawing in a period of 8 units of 50 ticks, whose own lines begin on line 4
-drawing() {
-    printf 'SCALD 1;\nCLOCK 8 x 50;\nDRAWING ROW;\n'
-    printf '%s\n' "$@" 'END;'
-}
-
-# body LINE ..: a text with these lines from line 3 on
-body() {
-    printf 'SCALD 1;\nCLOCK 8 x 50;\n'
-    printf '%s\n' "$@"
-}
 
 cat >"$work/want" <<'END'
 SCALD 1 PERIOD 400
@@ -94,7 +67,7 @@ done
 expect "texts cut short" 0 "$cut"
 
 loop() {
-    drawing 'b : BUF [0:0] ("X"<0:39>) -> ("X"<1:40>);' 'a : AND [1:1] ("CK .P2-3", "X"<40>) -> ("X"<0>);'
+    drawing_of 'b : BUF [0:0] ("X"<0:39>) -> ("X"<1:40>);' 'a : AND [1:1] ("CK .P2-3", "X"<40>) -> ("X"<0>);'
 }
 echo "UNSETTLED X<17> ROUND 1657" >"$work/want"
 loop | "$program" verify >"$work/out"
@@ -105,9 +78,12 @@ expect "a loop one round short" 3 $?
 printf 'SCALD 1 PERIOD 400\nNETS 42 INSTANCES 41 CHECKS 0\nCASE 0 BASE 2132 ROUNDS 0 T 4266\nCLEAN\n' >"$work/want"
 loop | "$program" verify faults rounds=2132 >"$work/out"
 expect "a loop at rest" 0 $?
+echo 41 >"$work/want"
+loop | "$program" verify waves rounds=2132 | grep -c '^WAVE X<[0-9]*> SKEW 0 0:400$' >"$work/out"
+expect "its waves at rest" 0 $?
 
 nested() {
-    body 'MACRO D {N=1} ("A") -> ("Z");' 'IF N > 1 THEN x : D {N=N-1} ("A") -> ("Z");' \
+    clocked 'MACRO D {N=1} ("A") -> ("Z");' 'IF N > 1 THEN x : D {N=N-1} ("A") -> ("Z");' \
         'ELSE b : BUF [1:1] ("A") -> ("Z"); END;' 'END;' 'DRAWING ROW;' "t : D {N=$1} (\"IN\") -> (\"OUT\");" 'END;'
 }
 printf 'SCALD 1 PERIOD 400\nNETS 2 INSTANCES 1 CHECKS 0\nSTABLE IN<0>\nCASE 0 BASE 1 ROUNDS 0 T 4\nCLEAN\n' >"$work/want"
@@ -118,7 +94,7 @@ nested 65 | "$program" verify >"$work/out"
 expect "65 uses inside one another" 2 $?
 
 echo "REFUSED 16 TooMany 6:1" >"$work/want"
-body 'MACRO E {N=1} ();' 'IF N > 0 THEN' 'a : E {N=N-1} ();' 'b : E {N=N-1} ();' 'END;' 'END;' \
+clocked 'MACRO E {N=1} ();' 'IF N > 0 THEN' 'a : E {N=N-1} ();' 'b : E {N=N-1} ();' 'END;' 'END;' \
     'DRAWING ROW;' 't : E {N=20} ();' 'END;' | "$program" verify >"$work/out"
 expect "too many statements" 2 $?
 
@@ -135,6 +111,8 @@ expect "a canonical text" 0 $?
 echo "REFUSED 3 Syntax 1:4194305" >"$work/want"
 head -c 4194304 /dev/zero | tr '\0' ' ' | "$program" format >"$work/out"
 expect "spaces alone" 2 $?
+head -c 4194304 /dev/zero | tr '\0' ' ' | "$program" verify >"$work/out"
+expect "spaces alone, to be verified" 2 $?
 
 # nothing nests so deep that the stack would feel it
 echo "REFUSED 15 TooDeep 4:74" >"$work/want"
@@ -171,7 +149,7 @@ expect "no words" 4 "$(cat "$work/status")"
 
 # says NAME STATUS LINE GOT: the last command's status GOT, its output in $work/out and its first line in $work/said
 says() {
-    tried=$((tried + 1))
+    trying "$1"
     if [ "$4" -ne "$2" ]; then
         failure "$1: status $4 in place of $2"
     elif [ -s "$work/out" ]; then
@@ -182,12 +160,12 @@ says() {
 }
 
 forms='scald: these words are none of its forms, which are'
-for words in '' 'verify twice' 'verify rounds=5 faults' check bench 'bench 201' 'verify rounds=05' 'format waves'; do
+for words in '' 'verify twice' 'verify rounds=5 faults' check bench 'bench 201' 'verify rounds=0' 'verify rounds=05' 'format waves'; do
     # shellcheck disable=SC2086
     "$program" $words <"$first" >"$work/out" 2>"$work/said"
     says "the words '$words'" 4 "$forms" $?
 done
-tried=$((tried + 1))
+trying "the forms"
 [ "$(sed -n 's/^    scald \([a-z]*\) .*/\1/p' "$work/said" | tr '\n' ' ')" = 'verify format bench ' ] || failure "the forms are not all said"
 
 : >"$work/said"
@@ -217,7 +195,7 @@ says "a word that is no text" 20 'scald: the system gives no arguments, or not a
 # Where there is an answer nothing is said.
 for text in "$first" "$top/examples/skew_hold.scald" "$top/examples/loop_unsettled.scald" /dev/null; do
     "$program" verify <"$text" >/dev/null 2>"$work/said"
-    tried=$((tried + 1))
+    trying "$text"
     [ ! -s "$work/said" ] || failure "something is said beside the answer to $text"
 done
 
@@ -242,5 +220,4 @@ echo "BENCH 200 NETS 3209 INSTANCES 3200 CHECKS 1600 ROUNDS 2 T 189 FAULTS 0" >"
 bench 200
 expect "two hundred sections" 0 "$(cat "$work/status")"
 
-echo "checks/program.sh: $tried tried, $failed failed"
-[ "$failed" -eq 0 ]
+ended

@@ -2,34 +2,23 @@
 # Every refusal of docs/LANGUAGE.md with a small text that gets it: what `verify` answers, and that `format`
 # answers the same where the refusal comes before the expansion, and else formats the text.
 # Usage: checks/refusals.sh [PROGRAM]. Without a built program it says so and ends with 0.
-set -u
-top=$(CDPATH='' cd -- "$(dirname -- "$0")/.." && pwd) || exit 2
-program=${1:-$top/crates/scald/out/scald}
-if [ ! -x "$program" ]; then
-    echo "checks/refusals.sh: no program at $program (./scald builds it): nothing is tried"
-    exit 0
-fi
-work=$(mktemp -d) || exit 2
-trap 'rm -rf "$work"' EXIT
-# A line for each text, and for each wrong answer: most texts come through a pipe, whose end counts for itself.
-: >"$work/tried"
-: >"$work/failed"
+. "$(dirname -- "$0")/common.sh"
+begin "${1-}"
 
 # answers WORD STATUS WANT: the program's answer to $work/text
 answers() {
     "$program" "$1" <"$work/text" >"$work/out"
     status=$?
     if [ "$status" -ne "$2" ] || { [ -n "$3" ] && ! printf '%s\n' "$3" | cmp -s - "$work/out"; }; then
-        echo "FAILED $1: status $status in place of $2, '$(head -n 1 "$work/out")' in place of '$3':"
+        failure "$1: status $status in place of $2, '$(head -n 1 "$work/out")' in place of '$3':"
         head -c 400 "$work/text" | sed 's/^/    /'
-        echo "$1" >>"$work/failed"
     fi
 }
 
 # refused WANT: the text on standard input is refused so by both forms of words
 refused() {
     cat >"$work/text"
-    echo "$1" >>"$work/tried"
+    trying "$1"
     answers verify 2 "REFUSED $1"
     answers format 2 "REFUSED $1"
 }
@@ -37,7 +26,7 @@ refused() {
 # unexpanded WANT: the text on standard input is formatted, and refused so by `verify`
 unexpanded() {
     cat >"$work/text"
-    echo "$1" >>"$work/tried"
+    trying "$1"
     answers verify 2 "REFUSED $1"
     answers format 0 ''
 }
@@ -49,25 +38,18 @@ text() {
     printf '%s\n' "$@" | refused "$want"
 }
 
-# frame LINE ..: a drawing in a period of 8 units of 50 ticks, whose own lines begin on line 4
-frame() {
-    printf 'SCALD 1;\nCLOCK 8 x 50;\nDRAWING ROW;\n'
-    [ $# -eq 0 ] || printf '%s\n' "$@"
-    printf 'END;\n'
-}
-
 # early WANT LINE ..: a drawing of these lines, refused before the expansion
 early() {
     want=$1
     shift
-    frame "$@" | refused "$want"
+    drawing_of "$@" | refused "$want"
 }
 
 # drawing WANT LINE ..: a drawing of these lines, refused by the expansion or for its circuit
 drawing() {
     want=$1
     shift
-    frame "$@" | unexpanded "$want"
+    drawing_of "$@" | unexpanded "$want"
 }
 
 # macro WANT HEAD LINE ..: a macro M with this head and body from line 3 on, refused where it is used, or before
@@ -75,21 +57,7 @@ macro() {
     command=$1
     want=$2
     shift 2
-    {
-        printf 'SCALD 1;\nCLOCK 8 x 50;\n'
-        printf '%s\n' "$@"
-    } | "$command" "$want"
-}
-
-# many COUNT TEXT: so many times the text
-many() {
-    awk -v count="$1" -v text="$2" 'BEGIN { for (i = 0; i < count; i++) printf "%s", text }'
-}
-
-# ranges COUNT BEFORE AFTER: statements labelled l0, l1 .., each with the next 256 bits between BEFORE and AFTER
-ranges() {
-    awk -v count="$1" -v before="$2" -v after="$3" 'BEGIN {
-        for (i = 0; i < count; i++) printf "l%d : %s<%d:%d>%s\n", i, before, 256 * i, 256 * i + 255, after }'
+    clocked "$@" | "$command" "$want"
 }
 
 # --- bytes and tokens
@@ -97,7 +65,7 @@ printf -- '-- caf\351\nSCALD 1;\n' | refused '1 BadByte 1:7'
 printf 'SCALD 1;\n\001' | refused '1 BadByte 2:1'
 printf 'SCALD 1;\nCLOCK 8 x 50;\nDRAWING ROW;\nb1 : BUF [0:0] ("CK' | refused '2 BadToken 4:17'
 early '2 BadToken 4:17' 'b1 : BUF [0:0] ("C	K") -> ("X");'
-frame 'b1 : BUF [0:0] ("CK' '") -> ("X");' | refused '2 BadToken 4:17'
+drawing_of 'b1 : BUF [0:0] ("CK' '") -> ("X");' | refused '2 BadToken 4:17'
 printf 'SCALD 1;\nCLOCK 8 x 50;\nDRAWING ROW;\nb1 : BUF [0:0] ("C\rK") -> ("X");\nEND;\n' | refused '2 BadToken 4:17'
 early '2 BadToken 4:1' "$(many 65 a) : BUF [0:0] (\"A\") -> (\"X\");"
 early '2 BadToken 4:13' 'b1 : BUF [0:9223372036854775808] ("A") -> ("X");'
@@ -113,6 +81,7 @@ early '3 Syntax 4:9' 'a:B()->();'
 early '3 Syntax 4:4' 'IF : BUF [0:0] ("A") -> ("X");'
 early '3 Syntax 4:11' 'b1 : BUF [ONE:1] ("A") -> ("X");'
 early '15 TooDeep 4:75' "b1 : BUF [$(many 65 '(')0$(many 65 ')'):0] (\"A\") -> (\"X\");"
+early '15 TooDeep 4:75' "b1 : BUF [$(many 33 '-(')0$(many 33 ')'):0] (\"A\") -> (\"X\");"
 early '15 TooDeep 4:139' "b1 : BUF [$(many 65 '- ')0:0] (\"A\") -> (\"X\");"
 early '15 TooDeep 4:140' "b1 : BUF [0$(many 65 '+1'):70] (\"A\") -> (\"X\");"
 early '15 TooDeep 4:641' "$(many 65 'IF 1 THEN ')b1 : BUF [0:0] (\"A\") -> (\"X\"); $(many 65 'END; ')"
@@ -138,6 +107,7 @@ early '20 EdgesOverlap 4:17' 'b1 : BUF [0:0] ("CK .C2-3(25,25)") -> ("X");'
 early '20 EdgesOverlap 4:17' 'b1 : BUF [0:0] ("CK .C2-3(400,0)") -> ("X");'
 macro refused '7 BadName 3:10' 'MACRO M ("/A") -> ("Z");' 'END;' 'DRAWING ROW;' 'END;'
 macro refused '7 BadName 3:10' 'MACRO M ("A .S") -> ("Z");' 'END;' 'DRAWING ROW;' 'END;'
+macro refused '7 BadName 3:10' 'MACRO M ("A .C2-3(25,25)") -> ("Z");' 'END;' 'DRAWING ROW;' 'END;'
 early '7 BadName 4:11' 'a:B();a:B("X .P2-9");'
 
 # --- double names
@@ -201,6 +171,27 @@ drawing '12 Width 4:1' 'b1 : BUF [0:0] ("A"<0:2>) -> ("X"<0:3>);'
 drawing '12 Width 4:1' 'c1 : SETUP_HOLD_CHK ("CK"<0:1>, "D"<0:2>);'
 macro unexpanded '12 Width 6:1' 'MACRO M ("A") -> ("Z"<0:1>);' 'END;' 'DRAWING ROW;' 'u : M ("A") -> ("X");' 'END;'
 macro unexpanded '12 Width 6:1' 'MACRO M ("A"<0:2>);' 'END;' 'DRAWING ROW;' 'u : M ("A"<0:1>);' 'END;'
+
+# --- two refusals in one statement: the first of the order is answered
+drawing '6 UnknownKind 4:1' 'b1 : BUFF {N=1/0} ("A", "B") -> ("X");'
+drawing '14 Bounds 4:1' 'b1 : BUF {N=1} ("A") -> ("X");'
+drawing '9 BadParameter 4:1' 'b1 : BUF [0:1/0] {N=1} ("A") -> ("X");'
+drawing '22 UnknownName 4:1' 'b1 : BUF [N:1/0] ("A") -> ("X");'
+drawing '21 ZeroDivisor 4:1' 'c1 : SETUP_HOLD_CHK {SETUP=391, HOLD=10+1/0} ("CK", "D");'
+drawing '14 Bounds 4:1' 'b1 : BUF [3:2] ("A", "B") -> ("X");'
+drawing '13 PinCount 4:1' 'b1 : BUF [0:0] ("A"<65536>, "B") -> ("X");'
+drawing '8 AssertionClash 4:1' 'a1 : AND [0:0] ("A .S", "A .S0-4", "B"<65536>) -> ("X");'
+drawing '11 BadRange 4:1' 'a1 : AND [0:0] ("A .S", "A .S0-4"<65536>) -> ("X");'
+drawing '12 Width 4:1' 'a1 : AND [0:0] ("A"<0:255> & "B", "B"<65536>) -> ("X");'
+drawing '11 BadRange 4:1' 'a1 : AND [0:0] ("A"<0:1>, "B"<0:2>) -> ("X"<65536>);'
+drawing '21 ZeroDivisor 4:1' 'WIRE "A"<65536> 0:1/0;'
+drawing '11 BadRange 4:1' 'WIRE "A"<65536> 2:1;'
+macro unexpanded '13 PinCount 6:1' 'MACRO M ("A"<65536>) -> ("Z");' 'END;' 'DRAWING ROW;' 'u : M ("A", "B") -> ("X");' 'END;'
+macro unexpanded '21 ZeroDivisor 6:1' 'MACRO M {N=1/0} ("A"<65536>) -> ("Z");' 'END;' 'DRAWING ROW;' 'u : M ("A"<65536>) -> ("X");' 'END;'
+macro unexpanded '22 UnknownName 7:1' 'MACRO M {N=P} ();' 'b : BUF [0:N] ("A") -> ("X");' 'END;' 'MACRO O {P=7} ();' 'u : M ();' 'END;' \
+    'DRAWING ROW;' 'o : O ();' 'END;'
+
+# --- limits of the expansion
 {
     printf 'SCALD 1;\nCLOCK 8 x 50;\nDRAWING ROW;\n'
     ranges 256 'MIN_PULSE_CHK ("A"' ');'
@@ -226,7 +217,9 @@ macro unexpanded '12 Width 6:1' 'MACRO M ("A"<0:2>);' 'END;' 'DRAWING ROW;' 'u :
 # --- the circuit
 drawing '17 TwoDrivers 5:1' 'b1 : BUF [0:0] ("A") -> ("X");' 'b2 : BUF [0:0] ("B") -> ("X");'
 drawing '17 TwoDrivers 4:1' 'b1 : BUF [0:0] ("A") -> (ZERO);'
+drawing '17 TwoDrivers 6:1' 'b1 : BUF [0:0] ("Y") -> ("X");' 'a1 : AND [0:0] ("CK .P2-3", "X") -> ("Y");' 'b2 : BUF [0:0] ("B") -> ("X");'
 drawing '18 ZeroLoop 4:1' 'b1 : BUF [0:0] ("Y") -> ("X");' 'a1 : AND [0:0] ("CK .P2-3", "X") -> ("Y");'
+drawing '18 ZeroLoop 4:1' 'r1 : REG [0:0] ("CK .P2-3", "Q") -> ("Q");'
 drawing '18 ZeroLoop 4:1' 'b1 : BUF [0:9] ("X") -> ("Y");' 'x1 : XOR [0:0] ("CK .P2-3", "X") -> ("X");'
 
 # --- the cases, which begin on line 6
@@ -235,7 +228,7 @@ cases() {
     want=$1
     shift
     {
-        frame 'm1 : MUX2 [0:0] ("SEL", "CK .P2-3", "PH .C2-3") -> ("X");'
+        drawing_of 'm1 : MUX2 [0:0] ("SEL", "CK .P2-3", "PH .C2-3") -> ("X");'
         printf '%s\n' "$@"
     } | unexpanded "$want"
 }
@@ -250,8 +243,25 @@ cases '19 CaseNet 6:15' 'CASE "SEL"=0, "SEL"=1;'
 cases '19 CaseNet 7:6' 'CASE "SEL"=0;' 'CASE "SEL"=2;'
 # shellcheck disable=SC2046
 cases '16 TooMany 262:1' $(many 257 'CASE"SEL"=0; ')
+# shellcheck disable=SC2046
+cases '16 TooMany 262:1' 'CASE"NONE"=0;' $(many 256 'CASE"SEL"=0; ')
+{
+    drawing_of 'b1 : BUF [0:0] ("A") -> ("X");'
+    echo 'CASE "X"=0;'
+} | unexpanded '19 CaseNet 6:6'
 
-tried=$(wc -l <"$work/tried")
-failed=$(wc -l <"$work/failed")
-echo "checks/refusals.sh: $tried tried, $failed failed"
-[ "$tried" -gt 0 ] && [ "$failed" -eq 0 ]
+# choices WANT LINE: this line, which is line 10, behind a drawing of two choices by one net
+choices() {
+    want=$1
+    shift
+    {
+        drawing_of 'b1 : BUF [50:50] ("IN .S1-8") -> ("SLOW1");' 'm1 : MUX2 [0:0] ("SEL", "IN", "SLOW1") -> ("MID");' \
+            'b2 : BUF [50:50] ("MID") -> ("SLOW2");' 'm2 : MUX2 [0:0] ("SEL", "SLOW2", "MID") -> ("OUT");' \
+            'c1 : SETUP_HOLD_CHK {SETUP=20, HOLD=5} ("CK .P3-4", "OUT");'
+        printf '%s\n' "$@"
+    } | unexpanded "$want"
+}
+choices '19 CaseNet 10:6' 'CASE "SEL"=2;'
+choices '19 CaseNet 10:15' 'CASE "SEL"=0, "SEL"=0;'
+
+ended

@@ -2,28 +2,8 @@
 # What the built program reports on small drawings of each kind, worked out by hand: gates, storage, loops, clocks,
 # checkers, macros and cases, with the status of each.
 # Usage: checks/reports.sh [PROGRAM]. Without a built program it says so and ends with 0.
-set -u
-top=$(CDPATH='' cd -- "$(dirname -- "$0")/.." && pwd) || exit 2
-program=${1:-$top/crates/scald/out/scald}
-if [ ! -x "$program" ]; then
-    echo "checks/reports.sh: no program at $program (./scald builds it): nothing is tried"
-    exit 0
-fi
-work=$(mktemp -d) || exit 2
-trap 'rm -rf "$work"' EXIT
-failed=0
-tried=0
-
-# failure NAME WHY
-failure() {
-    echo "FAILED $1: $2"
-    failed=$((failed + 1))
-}
-
-# many COUNT TEXT: so many times the text
-many() {
-    awk -v count="$1" -v text="$2" 'BEGIN { for (i = 0; i < count; i++) printf "%s", text }'
-}
+. "$(dirname -- "$0")/common.sh"
+begin "${1-}"
 
 # A period of 8 units of 50 ticks, and the lines from line 3 on; where none of them begins a drawing, they are those
 # of one.
@@ -55,21 +35,21 @@ answered() {
     # shellcheck disable=SC2086
     text | "$program" $words >"$work/out"
     status=$?
-    tried=$((tried + 1))
-    [ "$status" -eq "$wanted" ] || failure "$name" "status $status in place of $wanted"
+    trying "$name"
+    [ "$status" -eq "$wanted" ] || failure "$name: status $status in place of $wanted"
 }
 
 # whole NAME WORDS STATUS LINE .. -- WANT ..: the answer is these lines, and no other
 whole() {
     answered "$@"
-    cmp -s "$work/out" "$work/want" || failure "$1" 'another report'
+    cmp -s "$work/out" "$work/want" || failure "$1: another report"
 }
 
 # row NAME WORDS STATUS LINE .. -- WANT ..: these lines stand in the answer, in this order
 row() {
     answered "$@"
     awk 'BEGIN { at = 0 } NR == FNR { want[count++] = $0; next } at < count && $0 == want[at] { at++ } END { exit (at < count) }' \
-        "$work/want" "$work/out" || failure "$1" 'a line is missing'
+        "$work/want" "$work/out" || failure "$1: a line is missing"
 }
 
 # two choices by one net: what is late in the first is not late in the second
@@ -210,7 +190,8 @@ row 'a tree of gates' verify 0 \
     'MACRO TREE {SIZE=8} ("A"<0:SIZE-1>) -> ("Z");' 'IF SIZE = 1 THEN leaf : BUF [1:2] ("A"<0>) -> ("Z");' \
     'ELSE left : TREE {SIZE=SIZE/2} ("A"<0:SIZE/2-1>) -> ("L");' 'right : TREE {SIZE=SIZE/2} ("A"<SIZE/2:SIZE-1>) -> ("R");' \
     'top : OR [1:2] ("L", "R") -> ("Z"); END;' 'END;' 'DRAWING ROW;' 't : TREE ("IN"<0:7>) -> ("OUT");' 'END;' \
-    -- 'NETS 23 INSTANCES 15 CHECKS 0' 'STABLE IN<0>' 'STABLE IN<7>' 'CASE 0 BASE 4 ROUNDS 0 T 15' 'WAVE OUT<0> SKEW 0 S:400'
+    -- 'NETS 23 INSTANCES 15 CHECKS 0' 'STABLE IN<0>' 'STABLE IN<1>' 'STABLE IN<2>' 'STABLE IN<3>' 'STABLE IN<4>' 'STABLE IN<5>' 'STABLE IN<6>' \
+    'STABLE IN<7>' 'CASE 0 BASE 4 ROUNDS 0 T 15' 'WAVE OUT<0> SKEW 0 S:400'
 row 'a checker of two bits' verify 0 \
     'MACRO CHK2 {N=2} ("CK", "D"<0:N-1>);' 'c : SETUP_HOLD_CHK {SETUP=20, HOLD=10} ("CK", "D"<0:N-1>);' 'END;' 'DRAWING ROW;' \
     'u1 : CHK2 ("CK .P2-3", "D .S1-4"<0:1>);' 'END;' \
@@ -270,28 +251,4 @@ whole 'a ring that a case clears, rounds=10' 'verify faults rounds=10' 0 \
     -- 'SCALD 1 PERIOD 400' 'NETS 11 INSTANCES 10 CHECKS 0' 'STABLE A<0>' 'CASE 1 BASE 0 ROUNDS 0 T 2' 'CASE 2 BASE 0 ROUNDS 10 T 22' \
     'CLEAN'
 
-# --- canonical texts
-# formatted NAME TEXT LINE ..: the text is formatted to the lines behind the head
-formatted() {
-    name=$1
-    printf '%s' "$2" >"$work/text"
-    shift 2
-    {
-        printf 'SCALD 1;\nCLOCK 8 x 50;\nWIRE 0:0;\nPSKEW 0:0;\nCSKEW 0:0;\nDRAWING T;\n'
-        printf '%s\n' "$@"
-    } >"$work/want"
-    "$program" format <"$work/text" >"$work/out"
-    status=$?
-    tried=$((tried + 1))
-    [ "$status" -eq 0 ] || failure "$name" "status $status in place of 0"
-    cmp -s "$work/out" "$work/want" || failure "$name" 'another text'
-}
-formatted 'a complement' 'SCALD 1; CLOCK 8 x 50; DRAWING T; b1:BUF[0:0](-"A")->("B"); END;' \
-    '  b1 : BUF [0:0] (-"A") -> ("B");' 'END;'
-formatted 'few parentheses' 'SCALD 1;CLOCK 8 x 50;DRAWING T;t:T{N=(1+2)*3-(-(4))}("A")->("Z");END;' \
-    '  t : T {N=(1 + 2) * 3 - -4} ("A") -> ("Z");' 'END;'
-formatted 'what is drawn, and a case' 'SCALD 1;CLOCK 8 x 50;DRAWING T;b1:BUFF("A")->("X");END;CASE"A"=0;' \
-    '  b1 : BUFF ("A") -> ("X");' 'END;' 'CASE "A"<0>=0;'
-
-echo "checks/reports.sh: $tried tried, $failed failed"
-[ "$tried" -gt 0 ] && [ "$failed" -eq 0 ]
+ended
