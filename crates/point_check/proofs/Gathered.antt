@@ -29,7 +29,7 @@ use Rattle.point_check.specs.Point.{first_fault, checker_fault}
 use Rattle.point_check.specs.Assertion.{is_held}
 use Rattle.point_check.specs.Faults.{checks_points, hazard_at, mark_fault, fault_by_kind, fault_of, instance_fault, fault_if_held, fault_of_net, net_fault}
 
-range-next : (a n : ℕ) → range_with_len a (suc n) ≡ range_with_len a n ++ (a + n) ∷ []
+pub range-next : (a n : ℕ) → range_with_len a (suc n) ≡ range_with_len a n ++ (a + n) ∷ []
 range-next a zero = ap (λ (k : ℕ). k ∷ []) (omega arith)
 range-next a (suc n) =
     let same : a + 1 + n ≡ a + suc n = omega arith in

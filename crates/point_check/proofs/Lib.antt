@@ -10,5 +10,6 @@ pub mod Held
 pub mod Whose
 pub mod Gathered
 pub mod Kept
+pub mod AsBefore
 pub mod Reached
 mod Examples

@@ -4,5 +4,6 @@ pub mod Point
 pub mod Folds
 pub mod Assertion
 pub mod Faults
+pub mod Known
 pub mod Break
 pub mod Sound

@@ -44,7 +44,8 @@ fn fault_by_kind<W: CyclicWave<Item = Value>>(
 }
 
 /// The fault of the instance of a number, if it has one.
-fn instance_fault<W: CyclicWave<Item = Value>>(
+#[inline(always)]
+pub fn instance_fault<W: CyclicWave<Item = Value>>(
     alloc: Global,
     folds: &mut Folds<W>,
     c: &Circuit,
@@ -65,7 +66,8 @@ fn instance_fault<W: CyclicWave<Item = Value>>(
 }
 
 /// The fault of the net of a number, if something drives it, its name asserts something and it has one.
-fn net_fault<W: CyclicWave<Item = Value>>(
+#[inline(always)]
+pub fn net_fault<W: CyclicWave<Item = Value>>(
     alloc: Global,
     c: &Circuit,
     waves: &Waves<W>,
@@ -89,7 +91,7 @@ fn net_fault<W: CyclicWave<Item = Value>>(
 }
 
 /// Puts a fault, if there is one, behind the others.
-fn add(faults: &mut Faults, found: Option<Fault>) -> Result<(), NoMemory>
+pub fn add(faults: &mut Faults, found: Option<Fault>) -> Result<(), NoMemory>
     ensures { OnOk result (faults.new ≡ faults.old ++ option_to_list found) }
 {
     match found {
@@ -100,7 +102,7 @@ fn add(faults: &mut Faults, found: Option<Fault>) -> Result<(), NoMemory>
 
 /// The number of the net at a place in the order of names; past the last, 0.
 #[tactic(auto, using(fixpoint_engine::proofs::Places::past_last, fixpoint_engine::proofs::Places::at_place))]
-fn net_named(c: &Circuit, place: u32) -> u32
+pub fn net_named(c: &Circuit, place: u32) -> u32
     ensures { result ≡ net_at c.now.order place }
 {
     match c.by_name(place) {

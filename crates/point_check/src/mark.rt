@@ -16,7 +16,7 @@ use step_values::Value;
 use wave_core::CyclicWave;
 
 /// Which pin is marked.
-fn marked_pin(gate: &Instance) -> Option<usize>
+pub fn marked_pin(gate: &Instance) -> Option<usize>
     ensures { result ≡ marked gate.now }
 {
     gate.pins.as_slice().iter().position(|pin| pin.hold)

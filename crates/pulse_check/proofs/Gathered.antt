@@ -32,7 +32,7 @@ unfolding width_fault
 a-width p k from width wave level limit e = ap (option_map (fault_at k level)) e
 
 -- the wave at a checker's first pin has the circuit's period
-a-pin : (kind : Kind) (ps : List Pin) → checks_pulses kind ≡ true → PinsFit kind ps → 0 < length ps
+pub a-pin : (kind : Kind) (ps : List Pin) → checks_pulses kind ≡ true → PinsFit kind ps → 0 < length ps
 a-pin MinPulse ps is fits = fits.least
 a-pin kind ps is fits = cc
 

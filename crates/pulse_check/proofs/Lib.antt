@@ -3,3 +3,4 @@ pub mod Listed
 pub mod Gathered
 pub mod Kept
 mod Examples
+pub mod AsBefore

@@ -15,7 +15,8 @@ use step_values::Value;
 use wave_core::CyclicWave;
 
 /// Puts the faults of the instance of a number behind these.
-fn add_faults<W: CyclicWave<Item = Value>>(
+#[inline(always)]
+pub fn add_faults<W: CyclicWave<Item = Value>>(
     faults: &mut Faults,
     alloc: Global,
     c: &Circuit,

@@ -7,7 +7,7 @@ use std::io::Eprint;
 const FORMS: &str = "scald: these words are none of its forms, which are
     scald verify [waves|faults] [rounds=N] <DRAWING    whether the drawing keeps its constraints, with its waves and faults
     scald format <DRAWING                              the drawing in its canonical form
-    scald bench N                                      what is found in a made drawing of N stages, 1 to 200";
+    scald bench N                                      what is found in a made drawing of N sections, 1 to 200";
 
 const TOO_LONG: &str = "scald: the drawing has more than 4194304 bytes";
 

@@ -1,3 +1,4 @@
+pub mod Known
 pub mod Words
 pub mod Forms
 pub mod Drawn

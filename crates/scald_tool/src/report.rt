@@ -1,25 +1,21 @@
 //! A report while it is written, case by case.
 
-ghost use Rattle.std.specs.Prelude.{◌≡◌, ◌+◌, ◌++◌, ◌≤◌, ◌<◌, ◌^◌, ℕ, List, IfOk, OnOk, length, map};
+ghost use Rattle.std.specs.Prelude.{◌≡◌, ◌+◌, ◌++◌, ◌≤◌, ◌<◌, ◌^◌, IfOk, OnOk, length, map};
 ghost use Rattle.skew_algebra.specs.Wave.{skewed};
-ghost use Rattle.flat_circuit.specs.declared.case.CaseValue.{CaseValue};
 ghost use Rattle.fixpoint_engine.specs.Reach.{reach};
 ghost use Rattle.fixpoint_engine.specs.Settled.{FitWaves, waves_of};
-ghost use Rattle.case_analysis.specs.Case.{PermitCase};
 ghost use Rattle.case_analysis.specs.Tick.{tick};
 ghost use Rattle.listing.specs.Head.{head};
 ghost use Rattle.listing.specs.Case.{case_lines};
 ghost use Rattle.listing.specs.End.{last_line};
 ghost use Rattle.scald_tool.specs.Case.{faults_of};
-ghost use Rattle.scald_tool.specs.Promise.{KeepsFaultless};
 ghost use Rattle.scald_tool.specs.Report.{verdict_of};
 
-use crate::faults::faults;
 use crate::outcome::Outcome;
 use crate::reply::Reply;
 use case_analysis::{reach, tick};
 use fixpoint_engine::Settled;
-use flat_circuit::Circuit;
+use flat_circuit::{Circuit, Faults};
 use listing::{Mode, begin_report, end_report, write_case};
 use scald_base::{Bytes, NoMemory};
 use std::alloc::Global;
@@ -44,29 +40,28 @@ impl Report {
         Ok(Report { bytes, total: 0 })
     }
 
-    /// The lines of one case, which has this number and is at rest, behind those of the others.
+    /// The lines of one case, which has this number, is at rest and has these faults, behind those of the others.
     pub fn add_case<W: CyclicWave<Item = Value>>(
         &mut self,
-        alloc: Global,
         circuit: &Circuit,
         mode: Mode,
         number: u32,
         base: u32,
         case: &Settled<W>,
+        faults: &Faults,
     ) -> Result<(), NoMemory>
         requires room { self.old.total + 458752 < 2 ^ 32 }
         requires base { base ≤ 10000000 }
         requires rounds { case.now.rounds ≤ 10000000 }
         requires fit { FitWaves circuit.now (map (λ w. skewed (W.cells w.wave) w.skew) case.now.waves) }
+        requires are { faults.now ≡ faults_of circuit.now (waves_of (map (λ w. skewed (W.cells w.wave) w.skew) case.now.waves)) }
+        requires not_many { length faults.now ≤ 458752 }
         ensures told { let waves = waves_of (map (λ w. skewed (W.cells w.wave) w.skew) case.now.waves) in
             OnOk result (self.new.bytes ≡ self.old.bytes ++ case_lines circuit.now mode number base case.now.rounds (tick (reach circuit.now) base case.now.rounds) waves (faults_of circuit.now waves)) }
         ensures counted { let waves = waves_of (map (λ w. skewed (W.cells w.wave) w.skew) case.now.waves) in
             OnOk result (self.new.total ≡ self.old.total + length (faults_of circuit.now waves)) }
         ensures few { OnOk result (self.new.total ≤ self.old.total + 458752) }
-        ensures keep { let waves = waves_of (map (λ w. skewed (W.cells w.wave) w.skew) case.now.waves) in
-            OnOk result ((values : List CaseValue) → PermitCase circuit.now values (base + case.now.rounds) waves → KeepsFaultless circuit.now values (faults_of circuit.now waves) (tick (reach circuit.now) base case.now.rounds)) }
     {
-        let faults = faults(alloc, circuit, &case.waves)?;
         let tick = tick(reach(circuit), base, case.rounds);
         write_case(
             circuit,
@@ -74,7 +69,7 @@ impl Report {
             base,
             case,
             tick,
-            &faults,
+            faults,
             mode,
             &mut self.bytes,
         )?;

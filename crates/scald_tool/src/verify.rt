@@ -13,12 +13,14 @@ ghost use Rattle.listing.specs.Answer.{unsettled_line};
 ghost use Rattle.scald_tool.specs.Answer.{Judged, Verified, limit_for};
 ghost use Rattle.scald_tool.specs.Case.{listed_cases, numbered};
 ghost use Rattle.scald_tool.specs.Drawn.{IsLoopless};
+ghost use Rattle.scald_tool.specs.Known.{IsKnown};
 ghost use Rattle.scald_tool.specs.Ended.{EndsEarly, IsEnded};
 ghost use Rattle.scald_tool.specs.Reported.{EndsCase, EndsCases, IsReported, Tells};
 ghost use Rattle.scald_tool.specs.Subject.{AreClasses};
 ghost use Rattle.scald_tool.specs.Promise.{FaultlessNeverBreaks, IsKept, IsSafe, NeverBreaks, has_report, speaks};
 
 use crate::drawn::read_circuit;
+use crate::faults::{KnownFaults, faults, faults_again, known_faults};
 use crate::outcome::Outcome;
 use crate::reply::{Reply, refused};
 use crate::report::Report;
@@ -170,12 +172,14 @@ fn base_alone<W: CyclicWave<Item = Value>>(
 {
     let mut report = Report::begin(alloc, circuit)?;
     let rounds = base.rounds;
-    report.add_case(alloc, circuit, mode, 0, rounds, &only_case(base))?;
+    let case = only_case(base);
+    let found = faults(alloc, circuit, &case.waves)?;
+    report.add_case(circuit, mode, 0, rounds, &case, &found)?;
     report.end()
 }
 
 /// The report on a circuit with cases, or the end of the first that never rests. Nothing of a case is kept
-/// but its lines and how many faults it has.
+/// but its lines and how many faults it has, and what it leaves as it is in the base is not checked again.
 fn each_case<W: CyclicWave<Item = Value>>(
     alloc: Global,
     subject: &Subject,
@@ -193,9 +197,19 @@ fn each_case<W: CyclicWave<Item = Value>>(
     ensures ended { IfErr result (EndsCases subject.now.circuit limit base.now.rounds (numbered 1 subject.now.cases)) }
     ensures loopless { HasNoLoop subject.now.circuit → outputs subject.now.circuit.instances ≤ limit → IfErr result (λ end. end ≡ EngineEnd.NoMemory) }
 {
+    let known = known_faults(alloc, &subject.circuit, &base.waves)?;
     let mut report = Report::begin(alloc, &subject.circuit)?;
     for place in 0..subject.cases.len() as u32 {
-        tell_case(alloc, subject, place, mode, limit, base, &mut report)?;
+        tell_case(
+            alloc,
+            subject,
+            place,
+            mode,
+            limit,
+            base,
+            &known,
+            &mut report,
+        )?;
     }
     Ok(report.end()?)
 }
@@ -209,6 +223,7 @@ fn tell_case<W: CyclicWave<Item = Value>>(
     mode: Mode,
     limit: u32,
     base: &Settled<W>,
+    known: &KnownFaults,
     report: &mut Report,
 ) -> Result<(), EngineEnd>
     requires few { limit ≤ 10000000 }
@@ -219,6 +234,7 @@ fn tell_case<W: CyclicWave<Item = Value>>(
     requires classes { AreClasses subject.now.circuit subject.now.cases subject.now.classes }
     requires fit { FitWaves subject.now.circuit (map (λ w. skewed (W.cells w.wave) w.skew) base.now.waves) }
     requires rest { IsBase subject.now.circuit limit base.now.rounds (waves_of (map (λ w. skewed (W.cells w.wave) w.skew) base.now.waves)) }
+    requires known { IsKnown subject.now.circuit (waves_of (map (λ w. skewed (W.cells w.wave) w.skew) base.now.waves)) known.now }
     ensures told { OnOk result (Tells mode subject.now.circuit limit base.now.rounds (record { number = place + 1; values = case_at subject.now.cases place }) report.old.bytes report.new.bytes report.old.total report.new.total) }
     ensures few { OnOk result (report.new.total ≤ report.old.total + 458752) }
     ensures ended { IfErr result (EndsCase subject.now.circuit limit base.now.rounds (record { number = place + 1; values = case_at subject.now.cases place })) }
@@ -226,7 +242,15 @@ fn tell_case<W: CyclicWave<Item = Value>>(
 {
     let settled = subject.case(alloc, base, place, limit)?;
     let number = place + 1;
-    report.add_case(alloc, &subject.circuit, mode, number, base.rounds, &settled)?;
+    let found = faults_again(alloc, &subject.circuit, &base.waves, known, &settled.waves)?;
+    report.add_case(
+        &subject.circuit,
+        mode,
+        number,
+        base.rounds,
+        &settled,
+        &found,
+    )?;
     Ok(())
 }
 

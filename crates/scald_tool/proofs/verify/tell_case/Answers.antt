@@ -1,6 +1,7 @@
 use Rattle.std.proofs.lemmas.Result.{err_from_is_err_and}
 use Rattle.std.proofs.Common.{◌+◌}
 use Rattle.case_analysis.specs.Case.{case_at}
+use Rattle.scald_tool.proofs.Added.{kept-added}
 use Rattle.scald_tool.proofs.Telling.{own-limit, case-tells}
 use Rattle.scald_tool.proofs.Going.{case-ended}
 use Rattle.scald_tool.proofs.verify.tell_case.Goals as goal
@@ -17,4 +18,7 @@ returns-in_err-settled-clause-ended g c =
 pub returns-clause-told : goal.returns-clause-told
 returns-clause-told g c =
     case-tells c.args.mode c.args.subject.now.circuit c.args.limit c.args.base.now.rounds _ c.in_ok-settled.settled.rounds (case_at c.args.subject.now.cases c.args.place) _ _ _ _ _ _ c.requires.rest.waves
-    c.in_ok-settled.ensures.cone c.in_ok-settled.ensures.rest (c.in_ok-add_case.ensures.keep (case_at c.args.subject.now.cases c.args.place) c.in_ok-settled.ensures.sound) c.in_ok-add_case.ensures.told c.in_ok-add_case.ensures.counted
+    c.in_ok-settled.ensures.cone c.in_ok-settled.ensures.rest
+    (kept-added c.args.subject.now.circuit _ c.in_ok-found.found c.in_ok-found.ensures.are (case_at c.args.subject.now.cases c.args.place) _
+    (c.in_ok-found.ensures.keep (case_at c.args.subject.now.cases c.args.place) c.args.base.now.rounds c.in_ok-settled.settled.rounds c.in_ok-settled.ensures.sound))
+    c.in_ok-add_case.ensures.told c.in_ok-add_case.ensures.counted

@@ -1,11 +1,7 @@
-use Rattle.scald_tool.proofs.Added.{lines-added, kept-added}
+use Rattle.scald_tool.proofs.Added.{lines-added}
 use Rattle.scald_tool.proofs.report.Report.add_case.Goals as goal
 
 pub returns-clause-told : goal.returns-clause-told
 returns-clause-told g c =
-    lines-added c.args.circuit.now _ c.in_ok-faults.faults c.in_ok-faults.ensures.are c.args.mode c.args.number c.args.base c.args.case.now.rounds c.tick-tick.result c.reach.result _ _
+    lines-added c.args.circuit.now _ c.args.faults.now c.requires.are c.args.mode c.args.number c.args.base c.args.case.now.rounds c.tick-tick.result c.reach.result _ _
     c.tick-tick.ensures c.reach.ensures.is c.in_ok-write_case.ensures.ok
-
-pub returns-clause-keep : goal.returns-clause-keep
-returns-clause-keep g c values permits =
-    kept-added c.args.circuit.now _ c.in_ok-faults.faults c.in_ok-faults.ensures.are values _ (c.in_ok-faults.ensures.keep values c.args.base c.args.case.now.rounds permits)

@@ -1,0 +1,17 @@
+use Rattle.std.proofs.Common.{length, map, ◌∙◌, refl, arith, None}
+use Rattle.skew_algebra.specs.Wave.{skewed}
+use Rattle.fixpoint_engine.specs.Settled.{waves_of}
+use Rattle.point_check.specs.Faults.{net_fault}
+use Rattle.point_check.proofs.AsBefore.{known-long, known-at}
+use Rattle.point_check.proofs.again.net_fault_again.Goals as goal
+
+pub bounds-as_slice-number : goal.bounds-as_slice-number
+bounds-as_slice-number g c =
+    let long = known-long (net_fault c.args.c.now (waves_of (map (λ s. skewed (g.W.CyclicWave.cells s.wave) s.skew) c.args.before.now))) (length c.args.c.now.nets) c.args.known.now.nets c.as_slice.result.now c.requires.known.nets c.as_slice.ensures in
+    let below = c.if-is_net_as_before.ensures.exists refl in
+    omega (arith, long, below)
+
+pub returns-then-is_net_as_before : goal.returns-then-is_net_as_before
+returns-then-is_net_as_before g c =
+    known-at (net_fault c.args.c.now (waves_of (map (λ s. skewed (g.W.CyclicWave.cells s.wave) s.skew) c.args.before.now))) (length c.args.c.now.nets) c.args.known.now.nets c.as_slice.result.now c.args.number None
+    c.requires.known.nets c.as_slice.ensures (c.if-is_net_as_before.ensures.exists refl) ∙ (c.if-is_net_as_before.ensures.same refl)

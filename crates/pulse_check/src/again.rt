@@ -1,0 +1,151 @@
+//! The faults of a whole circuit once more, where most waves are as before.
+
+ghost use Rattle.std.specs.Prelude.{◌≡◌, ◌++◌, ◌<◌, ◌↔◌, IsTrue, IfOk, OnOk, length, map, true};
+ghost use Rattle.std.specs.List.{range_with_len};
+ghost use Rattle.skew_algebra.specs.Wave.{skewed};
+ghost use Rattle.flat_circuit.specs.Instances.{InstanceFits, PinExists};
+ghost use Rattle.fixpoint_engine.specs.Value.{target_wave};
+ghost use Rattle.fixpoint_engine.specs.Settled.{FitWaves, waves_of};
+ghost use Rattle.pulse_check.specs.Faults.{checks_pulses, instance_faults, pin_of, width_faults};
+ghost use Rattle.pulse_check.specs.Sound.{KeepsWidths};
+
+use crate::check::add_faults;
+use crate::known::PulseFaults;
+use fixpoint_engine::Waves;
+use flat_circuit::{Circuit, Faults, Instance, Kind, Pin, Target};
+use scald_base::NoMemory;
+use std::alloc::Global;
+use step_values::Value;
+use wave_core::CyclicWave;
+
+/// Whether a net has one wave in both.
+fn is_same<W: CyclicWave<Item = Value>>(
+    c: &Circuit,
+    before: &Waves<W>,
+    waves: &Waves<W>,
+    net: u32,
+) -> bool
+    requires exists { net < length c.now.nets }
+    requires before { FitWaves c.now (map (λ s. skewed (W.cells s.wave) s.skew) before.now) }
+    requires fit { FitWaves c.now (map (λ s. skewed (W.cells s.wave) s.skew) waves.now) }
+    ensures { IsTrue result ↔ (waves_of (map (λ s. skewed (W.cells s.wave) s.skew) before.now) net ≡ waves_of (map (λ s. skewed (W.cells s.wave) s.skew) waves.now) net) }
+{
+    let old = &before.as_slice()[net as usize];
+    let wave = &waves.as_slice()[net as usize];
+    old.same(wave)
+}
+
+/// Whether what a pin is on has one wave in both.
+fn is_same_at<W: CyclicWave<Item = Value>>(
+    c: &Circuit,
+    before: &Waves<W>,
+    waves: &Waves<W>,
+    pin: Pin,
+) -> bool
+    requires exists { PinExists (length c.now.nets) pin }
+    requires before { FitWaves c.now (map (λ s. skewed (W.cells s.wave) s.skew) before.now) }
+    requires fit { FitWaves c.now (map (λ s. skewed (W.cells s.wave) s.skew) waves.now) }
+    ensures { IsTrue result ↔ (target_wave c.now.header (waves_of (map (λ s. skewed (W.cells s.wave) s.skew) before.now)) pin.target ≡ target_wave c.now.header (waves_of (map (λ s. skewed (W.cells s.wave) s.skew) waves.now)) pin.target) }
+{
+    match pin.target {
+        Target::Net(net) => is_same(c, before, waves, net),
+        Target::Constant(_) => true,
+    }
+}
+
+/// Whether the pin of a checker is on one wave in both: what the pin shows is the same then.
+fn is_checked_as_before<W: CyclicWave<Item = Value>>(
+    c: &Circuit,
+    before: &Waves<W>,
+    waves: &Waves<W>,
+    checker: &Instance,
+) -> bool
+    requires checker { checks_pulses checker.now.kind ≡ true }
+    requires fits { InstanceFits c.now.header (length c.now.nets) checker.now }
+    requires before { FitWaves c.now (map (λ s. skewed (W.cells s.wave) s.skew) before.now) }
+    requires fit { FitWaves c.now (map (λ s. skewed (W.cells s.wave) s.skew) waves.now) }
+    ensures { IsTrue result → pin_of c.now (waves_of (map (λ s. skewed (W.cells s.wave) s.skew) before.now)) checker.now ≡ pin_of c.now (waves_of (map (λ s. skewed (W.cells s.wave) s.skew) waves.now)) checker.now }
+{
+    let pins = checker.pins.as_slice();
+    is_same_at(c, before, waves, pins[0])
+}
+
+/// Whether the instance of a number is a checker of pulses whose pin shows the same in both: its faults are the
+/// same then.
+fn is_as_before<W: CyclicWave<Item = Value>>(
+    c: &Circuit,
+    before: &Waves<W>,
+    waves: &Waves<W>,
+    number: u32,
+) -> bool
+    requires before { FitWaves c.now (map (λ s. skewed (W.cells s.wave) s.skew) before.now) }
+    requires fit { FitWaves c.now (map (λ s. skewed (W.cells s.wave) s.skew) waves.now) }
+    ensures { IsTrue result → instance_faults c.now (waves_of (map (λ s. skewed (W.cells s.wave) s.skew) before.now)) number ≡ instance_faults c.now (waves_of (map (λ s. skewed (W.cells s.wave) s.skew) waves.now)) number }
+{
+    c.known();
+    match c.instance(number) {
+        None => false,
+        Some(instance) => match instance.kind {
+            Kind::MinPulse => is_checked_as_before(c, before, waves, instance),
+            _ => false,
+        },
+    }
+}
+
+/// Puts more faults behind these.
+fn add_all(faults: &mut Faults, more: &Faults) -> Result<(), NoMemory>
+    ensures { OnOk result (faults.new ≡ faults.old ++ more.now) }
+{
+    for fault in more.as_slice() {
+        faults.push(*fault)?;
+    }
+    Ok(())
+}
+
+/// Puts the faults of the instance of a number behind these, where what each had before is known.
+fn add_faults_again<W: CyclicWave<Item = Value>>(
+    faults: &mut Faults,
+    alloc: Global,
+    c: &Circuit,
+    before: &Waves<W>,
+    known: &PulseFaults,
+    waves: &Waves<W>,
+    number: u32,
+) -> Result<(), NoMemory>
+    requires exists { number < length c.now.instances }
+    requires before { FitWaves c.now (map (λ s. skewed (W.cells s.wave) s.skew) before.now) }
+    requires known { known.now ≡ map (instance_faults c.now (waves_of (map (λ s. skewed (W.cells s.wave) s.skew) before.now))) (range_with_len 0 (length c.now.instances)) }
+    requires fit { FitWaves c.now (map (λ s. skewed (W.cells s.wave) s.skew) waves.now) }
+    ensures { OnOk result (faults.new ≡ faults.old ++ instance_faults c.now (waves_of (map (λ s. skewed (W.cells s.wave) s.skew) waves.now)) number) }
+{
+    if is_as_before(c, before, waves, number) {
+        let found = &known.as_slice()[number as usize];
+        add_all(faults, found)
+    } else {
+        add_faults(faults, alloc, c, waves, number)
+    }
+}
+
+/// What [`check_pulses`](crate::check_pulses) answers for these waves, where the faults of each instance in
+/// others are known. A checker whose pin is on the same wave in both does not measure it again.
+pub fn check_pulses_again<W: CyclicWave<Item = Value>>(
+    alloc: Global,
+    c: &Circuit,
+    before: &Waves<W>,
+    known: &PulseFaults,
+    waves: &Waves<W>,
+) -> Result<Faults, NoMemory>
+    requires before { FitWaves c.now (map (λ s. skewed (W.cells s.wave) s.skew) before.now) }
+    requires known { known.now ≡ map (instance_faults c.now (waves_of (map (λ s. skewed (W.cells s.wave) s.skew) before.now))) (range_with_len 0 (length c.now.instances)) }
+    requires fit { FitWaves c.now (map (λ s. skewed (W.cells s.wave) s.skew) waves.now) }
+    ensures faults { IfOk result (λ faults. faults ≡ width_faults c.now (waves_of (map (λ s. skewed (W.cells s.wave) s.skew) waves.now))) }
+    ensures sound { IfOk result (KeepsWidths c.now (waves_of (map (λ s. skewed (W.cells s.wave) s.skew) waves.now))) }
+{
+    c.known();
+    c.header().known();
+    let mut faults = Faults::new(alloc);
+    for number in 0..c.instance_count() {
+        add_faults_again(&mut faults, alloc, c, before, known, waves, number)?;
+    }
+    Ok(faults)
+}
