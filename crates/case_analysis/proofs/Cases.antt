@@ -1,8 +1,8 @@
 -- The waves that a case begins with, and the runs that they permit.
 use Rattle.std.proofs.Common.{◌≡◌, ℕ, ◌+◌, ◌-◌, ◌*◌, ◌<◌, ◌≤◌, ◌==◌, ◌&&◌, Bool, true, false, cond, List, [], ◌∷◌, ◌++◌, length, map, take, set, get_or, refl, sym, ap, subst, ◌∙◌, arith, Option, Some, None}
 use Rattle.std.specs.Prelude.{Result, Ok, Err, MatchResult}
-use Rattle.std.proofs.lemmas.Bool.{eqb-true, eqb-false}
-use Rattle.std.proofs.lemmas.List.{get_or_past, get_or-set_same, get_or-set_other, length-set, length-map, map-set, take_more}
+use Rattle.std.proofs.lemmas.Bool.{eqb-true}
+use Rattle.std.proofs.lemmas.List.{get_or_past, length-set, length-map, map-set, take_more}
 use Rattle.std.proofs.lemmas.List.Elements.{All-head, All-tail}
 use Rattle.scald_base.specs.Time.{Header, period}
 use Rattle.step_values.specs.declared.value.Value.{Value}
@@ -23,6 +23,7 @@ use Rattle.fixpoint_engine.specs.Start.{is_driven}
 use Rattle.fixpoint_engine.specs.Settled.{waves_of, FitWaves, KeepRuns}
 use Rattle.fixpoint_engine.specs.Interface.{PermitRun}
 use Rattle.fixpoint_engine.proofs.Listening.{same-tests}
+use Rattle.fixpoint_engine.proofs.Changing.{set-at}
 use Rattle.case_analysis.specs.Base.{PermitInputs}
 use Rattle.fixpoint_engine.specs.declared.rounds.EngineEnd.{EngineEnd}
 use Rattle.fixpoint_engine.specs.declared.rounds.EngineEnd.TheVariants.{Unsettled, NoMemory}
@@ -66,13 +67,6 @@ start-more c vs v cone base i = ap (λ (o : Option Bool). case_wave c.header o (
     by true = refl
     by false = refl
 
-wave-set : (waves : List (Wave Value)) (net i : ℕ) (w : Wave Value) → net < length waves → waves_of (set waves net w) i ≡ cond (net == i) w (waves_of waves i)
-wave-set waves net i w below = by (net == i) refl
-  where
-    by : (same : Bool) → (net == i) ≡ same → waves_of (set waves net w) i ≡ cond same w (waves_of waves i)
-    by true e = ap (waves_of (set waves net w)) (sym (eqb-true net i e)) ∙ get_or-set_same waves net w (skewed [] 0) below
-    by false e = get_or-set_other waves net i w (skewed [] 0) (λ same. eqb-false net i e (sym same))
-
 -- as code sets it
 pub long-more : {A : Type 0} (n k : ℕ) (items : List CaseValue) (d : CaseValue) (waves after : List A) (w : A) → after ≡ set waves (get_or items k d).net w → length waves ≡ n → length after ≡ n
 long-more n k items d waves after w sets long = ap length sets ∙ length-set waves (get_or items k d).net w ∙ long
@@ -89,7 +83,7 @@ case-more {A = A} wave c h vs items k d cone base waves after w same inside exis
     let long : length (map wave waves) ≡ length waves = length-map waves wave in
     ap (λ (xs : List A). waves_of (map wave xs) i) sets
     ∙ ap (λ (ws : List (Wave Value)). waves_of ws i) (map-set wave waves (get_or items k d).net w)
-    ∙ wave-set (map wave waves) (get_or items k d).net i (wave w) (omega (arith, here, each, long))
+    ∙ set-at (map wave waves) (get_or items k d).net i (wave w) (omega (arith, here, each, long))
     ∙ (λ n. cond ((get_or items k d).net == i) (is n) (so i n))
     ∙ (λ n. cond ((get_or items k d).net == i) (constant_wave (head n) (get_or items k d).one) (case_start c (take k vs) cone base i))
     ∙ sym (ap (λ (xs : List CaseValue). case_start c xs cone base i) more ∙ start-more c (take k vs) (get_or items k d) cone base i)

@@ -6,7 +6,6 @@ use Rattle.std.proofs.lemmas.Bool.Decides.{nat_tests}
 use Rattle.std.proofs.lemmas.List.{get_or_default}
 use Rattle.std.proofs.lemmas.List.Elements.{Contains-get_or}
 use Rattle.std.proofs.lemmas.List.Folds.{list_any_more}
-use Rattle.std.proofs.lemmas.List.Sums.{count_by-le-length}
 use Rattle.std.proofs.lemmas.Option.{slice_get_within, slice_get_past, get_or_from_slice_get}
 use Rattle.vector_names.specs.declared.bits.Target.{Target}
 use Rattle.vector_names.specs.declared.bits.Target.TheVariants.{Net as OnNet, Constant}
@@ -161,10 +160,6 @@ closing-end c values q next queue none closing i = (closing.inside i, all)
     all : {j : ℕ} → InCone c values j → marked_in q.marks j ≡ true
     all (Is_set {i = i} is) = closing.set i is
     all (Hears_one {from = from} {i = i} inner hears) = heard from i ((queue.are from).0 (all inner)) hears
-
--- No more are found than there are nets.
-pub found-few : (q : Queue) → IsQueue q → length q.nets ≤ length q.marks
-found-few q queue = let few = count_by-le-length (λ b. b) q.marks in let once = queue.once in omega (arith, few, once)
 
 -- a net that is found exists
 pub found-below : (c : Circuit) (q : Queue) (k net : ℕ) → IsQueue q → length q.marks ≡ length c.nets → slice_get q.nets k ≡ Some net → net < length c.nets

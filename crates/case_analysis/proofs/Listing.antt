@@ -2,10 +2,11 @@
 use Rattle.std.proofs.Common.{◌≡◌, ℕ, ◌+◌, ◌<◌, ◌≤◌, ◌==◌, ◌||◌, Bool, true, false, List, [], ◌∷◌, ◌++◌, length, map, set, replicate, refl, sym, ap, subst, ◌∙◌, arith, slice_get, Option, Some, None, cond}
 use Rattle.std.specs.Prelude.{Result, Ok, Err, IfOk, MatchResult}
 use Rattle.std.specs.List.{All}
-use Rattle.std.proofs.lemmas.Bool.{eqb-true, eqb-false}
+use Rattle.std.proofs.lemmas.Bool.{eqb-true, eqb-false, or_parts}
 use Rattle.std.proofs.lemmas.Bool.Decides.{nat_tests}
 use Rattle.std.proofs.lemmas.List.{length-map, length-append, map_push, length-set}
-use Rattle.std.proofs.lemmas.List.Elements.{All-head, All-tail, All-cons, All-nil}
+use Rattle.std.proofs.lemmas.List.Elements.{All-head, All-tail, All-nil, All-push}
+use Rattle.std.proofs.Math.Bool.{or-false, or_assoc}
 use Rattle.scald_base.specs.declared.refusal.Refusal.{Refusal}
 use Rattle.scald_base.specs.declared.refusal.RefusalKind.TheVariants.{CaseNet, TooMany}
 use Rattle.scald_base.specs.declared.refusal.Stop.{Stop}
@@ -30,16 +31,8 @@ use Rattle.case_analysis.specs.Listed.{is_free, bit_of, bits_of, AreOnce, none, 
 -- ---- values behind others
 
 set-push : (vs : List CaseValue) (v : CaseValue) (i : ℕ) → is_set (vs ++ v ∷ []) i ≡ (is_set vs i || (v.net == i))
-set-push [] v i = turned (v.net == i)
-  where
-    turned : (b : Bool) → (b || false) ≡ b
-    turned true = refl
-    turned false = refl
-set-push (w ∷ vs) v i = ap (λ b. (w.net == i) || b) (set-push vs v i) ∙ turned (w.net == i) (is_set vs i) (v.net == i)
-  where
-    turned : (a b c : Bool) → (a || (b || c)) ≡ ((a || b) || c)
-    turned true b c = refl
-    turned false b c = refl
+set-push [] v i = or-false (v.net == i)
+set-push (w ∷ vs) v i = ap (λ b. (w.net == i) || b) (set-push vs v i) ∙ sym (or_assoc (w.net == i) (is_set vs i) (v.net == i))
 
 eq-turned : (a b : ℕ) → (a == b) ≡ false → (b == a) ≡ false
 eq-turned a b h = grind (arith, nat_tests)
@@ -47,21 +40,8 @@ eq-turned a b h = grind (arith, nat_tests)
 once-push : (vs : List CaseValue) (v : CaseValue) → AreOnce vs → is_set vs v.net ≡ false → AreOnce (vs ++ v ∷ [])
 once-push [] v once free = one_more refl none
 once-push (w ∷ vs) v (one_more first others) free =
-    let apart : (w.net == v.net) ≡ false = left (w.net == v.net) (is_set vs v.net) free in
-    let later : is_set vs v.net ≡ false = right (w.net == v.net) (is_set vs v.net) free in
-    one_more (set-push vs v w.net ∙ (λ k. first k || eq-turned w.net v.net apart k)) (once-push vs v others later)
-  where
-    left : (a b : Bool) → (a || b) ≡ false → a ≡ false
-    left true b h = h
-    left false b h = refl
-
-    right : (a b : Bool) → (a || b) ≡ false → b ≡ false
-    right true b h = cc
-    right false b h = h
-
-all-push : {X : Type 0} (P : X → Type 0) (xs : List X) (x : X) → All P xs → P x → All P (xs ++ x ∷ [])
-all-push P [] x all p = All-cons P x [] p (All-nil P)
-all-push P (y ∷ xs) x all p = All-cons P y (xs ++ x ∷ []) (All-head P y xs all) (all-push P xs x (All-tail P y xs all) p)
+    let both = or_parts (w.net == v.net) (is_set vs v.net) free in
+    one_more (set-push vs v w.net ∙ (λ k. first k || eq-turned w.net v.net both.0 k)) (once-push vs v others both.1)
 
 -- ---- nets that were named before
 
@@ -118,8 +98,8 @@ module _ (c : Circuit) (known : IsCircuit c) (entries rest later : List CaseEntr
   going-more after v judged may is = record {
     each_net = ap length is ∙ length-set marks v.net true ∙ going.each_net;
     listed = record {
-      exist = all-push (λ (x : CaseValue). x.net < length c.nets) case v going.listed.exist (value-below v may);
-      free = all-push (λ (x : CaseValue). is_free (slice_get c.nets x.net) ≡ true) case v going.listed.free may.free;
+      exist = All-push (λ (x : CaseValue). x.net < length c.nets) case v going.listed.exist (value-below v may);
+      free = All-push (λ (x : CaseValue). is_free (slice_get c.nets x.net) ≡ true) case v going.listed.free may.free;
       once = once-push case v going.listed.once (sym (going.marks_are v.net) ∙ may.first);
     };
     marks_are = λ i.
@@ -171,7 +151,7 @@ module _ (c : Circuit) (written rest later : List CaseStmt) (cases : List (List 
   pub passing-more : (case : List CaseValue) → IsCaseOf c w.entries case → IsListed c case → Passing c written later (cases ++ case ∷ [])
   passing-more case is listed = record {
     each = let before = passing.each in omega (arith, length-append cases (case ∷ []), ap length next, before);
-    listed = all-push (IsListed c) cases case passing.listed listed;
+    listed = All-push (IsListed c) cases case passing.listed listed;
     left = λ s stands. passing.left s stands ∙ ap (cases_behind s (map (bits_of c.nets) cases)) next ∙ taken s (is s stands) ∙ ap (λ (bs : List (List CaseBit)). cases_behind s bs later) (sym (map_push (bits_of c.nets) cases case));
   }
     where

@@ -1,8 +1,9 @@
 -- Marks that are set one net after the other.
-use Rattle.std.proofs.Common.{◌≡◌, ℕ, zero, suc, ◌+◌, ◌<◌, ◌≤◌, Bool, true, false, List, length, set, refl, sym, ap, subst, ◌∙◌, arith, inl, inr, replicate}
+use Rattle.std.proofs.Common.{◌≡◌, ℕ, ◌+◌, ◌<◌, ◌≤◌, Bool, true, false, List, length, set, sym, ap, subst, ◌∙◌, arith, inl, inr, replicate}
 use Rattle.std.proofs.lemmas.Bool.{cases_lt, cases_eq}
 use Rattle.std.proofs.lemmas.List.{get_or-set_same, get_or-set_other, length-set, length-replicate}
 use Rattle.fixpoint_engine.specs.Settled.{marked_in}
+use Rattle.fixpoint_engine.proofs.Waiting.{unmarked}
 
 -- of n marks, those below k are as a test says, and no other is set
 pub record MarkedTo (test : ℕ → Bool) (n k : ℕ) (marks : List Bool) : Type 0 where
@@ -10,16 +11,11 @@ pub record MarkedTo (test : ℕ → Bool) (n k : ℕ) (marks : List Bool) : Type
   pub below : (i : ℕ) → i < k → marked_in marks i ≡ test i
   pub above : (i : ℕ) → k ≤ i → marked_in marks i ≡ false
 
-none-set : (n i : ℕ) → marked_in (replicate n false) i ≡ false
-none-set zero i = refl
-none-set (suc n) zero = refl
-none-set (suc n) (suc i) = none-set n i
-
 pub marked-start : (test : ℕ → Bool) (n : ℕ) (marks : List Bool) → marks ≡ replicate n false → MarkedTo test n 0 marks
 marked-start test n marks is = record {
   long = ap length is ∙ length-replicate n false;
   below = λ i less. absurd (omega arith);
-  above = λ i more. ap (λ (ms : List Bool). marked_in ms i) is ∙ none-set n i;
+  above = λ i more. ap (λ (ms : List Bool). marked_in ms i) is ∙ unmarked n i;
 }
 
 pub marked-set : (test : ℕ → Bool) (n k : ℕ) (marks after : List Bool) → MarkedTo test n k marks → k < n → test k ≡ true → after ≡ set marks k true → MarkedTo test n (k + 1) after

@@ -166,13 +166,13 @@ fn cases_of(alloc: Global, c: &Circuit, written: &[CaseStmt]) -> Result<CaseList
 /// first entry that names a net with an assertion, or one that does not exist, is driven, is an asserted
 /// clock or was named before in the same case, or whose value is not 0 or 1; `NoMemory` comes where
 /// memory runs out.
-pub fn check_cases(alloc: Global, c: &Circuit, d: &Drawing) -> Result<CaseList, Stop>
-    ensures is { MatchResult result (AreCasesOf c.now (drawing_of d.now)) (AreCasesStop c.now (drawing_of d.now)) }
+pub fn check_cases(alloc: Global, c: &Circuit, drawing: &Drawing) -> Result<CaseList, Stop>
+    ensures is { MatchResult result (AreCasesOf c.now (drawing_of drawing.now)) (AreCasesStop c.now (drawing_of drawing.now)) }
     ensures listed { IfOk result (All (IsListed c.now)) }
     ensures few { IfOk result (λ cases. length cases ≤ 256) }
 {
-    match d.cases.get(MOST_CASES) {
+    match drawing.cases.get(MOST_CASES) {
         Some(case) => Err(refused(RefusalKind::TooMany, case.place)),
-        None => cases_of(alloc, c, d.cases.as_slice()),
+        None => cases_of(alloc, c, drawing.cases.as_slice()),
     }
 }

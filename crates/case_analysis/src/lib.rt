@@ -27,6 +27,3 @@ pub use class_rounds::{base_classes, case_classes};
 pub use cones::cone;
 pub use parts::case_at;
 pub use printed_tick::{reach, tick};
-
-#[cfg(test)]
-mod tests;

@@ -17,6 +17,3 @@ mod stability;
 pub use class_map::ClassMap;
 pub use partition::classes;
 pub use stability::stable;
-
-#[cfg(test)]
-mod tests;

@@ -31,10 +31,12 @@ fn are_targets_alike(classes: &[u32], a: Target, b: Target) -> bool
     }
 }
 
-fn are_pins_alike(classes: &[u32], p: Pin, q: Pin) -> bool
-    ensures { MatchBool result (PinsAlike classes.now p q) (¬ (PinsAlike classes.now p q)) }
+fn are_pins_alike(classes: &[u32], pin: Pin, other: Pin) -> bool
+    ensures { MatchBool result (PinsAlike classes.now pin other) (¬ (PinsAlike classes.now pin other)) }
 {
-    p.inverted == q.inverted && p.hold == q.hold && are_targets_alike(classes, p.target, q.target)
+    pin.inverted == other.inverted
+        && pin.hold == other.hold
+        && are_targets_alike(classes, pin.target, other.target)
 }
 
 fn are_all_pins_alike(classes: &[u32], a: &[Pin], b: &[Pin]) -> bool
@@ -94,31 +96,31 @@ pub fn value_in(values: &[CaseValue], net: u32) -> Option<bool>
     found
 }
 
-fn are_cases_alike(cases: &[Case], i: u32, j: u32) -> bool
-    ensures { MatchBool result (CasesAlike cases.now i j) (¬ (CasesAlike cases.now i j)) }
+fn are_cases_alike(cases: &[Case], net: u32, other: u32) -> bool
+    ensures { MatchBool result (CasesAlike cases.now net other) (¬ (CasesAlike cases.now net other)) }
 {
     for case in cases {
-        if value_in(case.as_slice(), i) != value_in(case.as_slice(), j) {
+        if value_in(case.as_slice(), net) != value_in(case.as_slice(), other) {
             return false;
         }
     }
     true
 }
 
-/// Whether two nets of a circuit, `m` of number `i` and `n` of number `j`, are alike.
+/// Whether two nets of a circuit, which have these numbers, are alike.
 pub fn are_nets_alike(
     c: &Circuit,
     cases: &CaseList,
     classes: &[u32],
-    i: u32,
-    j: u32,
-    m: &Net,
-    n: &Net,
+    number: u32,
+    other: u32,
+    net: &Net,
+    other_net: &Net,
 ) -> bool
-    ensures { MatchBool result (NetsAlike c.now cases.now classes.now i j m.now n.now) (¬ (NetsAlike c.now cases.now classes.now i j m.now n.now)) }
+    ensures { MatchBool result (NetsAlike c.now cases.now classes.now number other net.now other_net.now) (¬ (NetsAlike c.now cases.now classes.now number other net.now other_net.now)) }
 {
-    m.wire == n.wire
-        && is_same_assertion(&m.spec, &n.spec)
-        && are_drivers_alike(classes, driver(c, m.driver), driver(c, n.driver))
-        && are_cases_alike(cases.as_slice(), i, j)
+    net.wire == other_net.wire
+        && is_same_assertion(&net.spec, &other_net.spec)
+        && are_drivers_alike(classes, driver(c, net.driver), driver(c, other_net.driver))
+        && are_cases_alike(cases.as_slice(), number, other)
 }

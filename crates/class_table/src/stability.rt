@@ -8,14 +8,14 @@ use crate::likeness::{are_nets_alike, class_of};
 use flat_circuit::{CaseList, Circuit};
 
 /// Whether the nets of two numbers are alike, where there are such nets.
-fn are_alike(c: &Circuit, cases: &CaseList, classes: &[u32], i: u32, j: u32) -> bool
-    ensures { MatchBool result (AreAlikeAt c.now cases.now classes.now i j) (¬ (AreAlikeAt c.now cases.now classes.now i j)) }
+fn are_alike(c: &Circuit, cases: &CaseList, classes: &[u32], number: u32, other: u32) -> bool
+    ensures { MatchBool result (AreAlikeAt c.now cases.now classes.now number other) (¬ (AreAlikeAt c.now cases.now classes.now number other)) }
 {
-    match c.net(i) {
+    match c.net(number) {
         None => true,
-        Some(m) => match c.net(j) {
+        Some(net) => match c.net(other) {
             None => true,
-            Some(n) => are_nets_alike(c, cases, classes, i, j, m, n),
+            Some(other_net) => { are_nets_alike(c, cases, classes, number, other, net, other_net) }
         },
     }
 }
@@ -85,11 +85,11 @@ fn are_alike_in_pairs(c: &Circuit, cases: &CaseList, classes: &[u32]) -> bool
 /// Whether nothing tells nets of one class apart, in the circuit and in each of these cases: then they have
 /// the same wave in every round. It takes no memory. Where each class has the number of one of its nets,
 /// it looks at each net once; else at all pairs of nets.
-pub fn stable(c: &Circuit, cases: &CaseList, k: &ClassMap) -> bool
-    requires { length k.now ≡ length c.now.nets }
-    ensures { MatchBool result (IsStable c.now cases.now k.now) (¬ (IsStable c.now cases.now k.now)) }
+pub fn stable(c: &Circuit, cases: &CaseList, numbers: &ClassMap) -> bool
+    requires { length numbers.now ≡ length c.now.nets }
+    ensures { MatchBool result (IsStable c.now cases.now numbers.now) (¬ (IsStable c.now cases.now numbers.now)) }
 {
-    let classes = k.as_slice();
+    let classes = numbers.as_slice();
     if are_numbers_of_nets(classes) {
         are_as_their_numbers(c, cases, classes)
     } else {

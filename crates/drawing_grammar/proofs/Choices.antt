@@ -1,7 +1,7 @@
 -- Each terminal is itself alone, and each choice of a part begins with a terminal of its own.
-use Rattle.std.proofs.Common.{◌≡◌, ℕ, zero, suc, ◌<◌, Bool, true, false, ◌&&◌, Some, List, [], ◌∷◌, length, refl, sym, ap, ◌∙◌, get_or, arith, lit<}
+use Rattle.std.proofs.Common.{◌≡◌, ℕ, zero, suc, ◌<◌, Bool, true, Some, List, [], ◌∷◌, length, refl, sym, ap, ◌∙◌, get_or, arith, lit<}
 use Rattle.std.specs.List.{list_all}
-use Rattle.std.proofs.lemmas.Bool.{eqb-true, eq-eqb}
+use Rattle.std.proofs.lemmas.Bool.{eqb-true, eq-eqb, and_parts}
 use Rattle.drawing_grammar.specs.declared.terminal.Terminal.{Terminal}
 use Rattle.drawing_grammar.specs.declared.terminal.Terminal.TheVariants as is
 use Rattle.drawing_grammar.specs.Grammar.{Part, Choice, opening}
@@ -10,12 +10,6 @@ use Rattle.drawing_grammar.specs.Machine.{code, same, choice}
 
 abbrev pub all : List Terminal
 all = is.Scald ∷ is.Clock ∷ is.Wire ∷ is.Pskew ∷ is.Cskew ∷ is.Macro ∷ is.Drawing ∷ is.Case ∷ is.If ∷ is.Then ∷ is.Else ∷ is.End ∷ is.Zero ∷ is.One ∷ is.Word ∷ is.Number ∷ is.Name ∷ is.Arrow ∷ is.Semicolon ∷ is.Colon ∷ is.Comma ∷ is.OpenParenthesis ∷ is.CloseParenthesis ∷ is.Less ∷ is.Greater ∷ is.OpenBracket ∷ is.CloseBracket ∷ is.OpenBrace ∷ is.CloseBrace ∷ is.Equals ∷ is.Plus ∷ is.Minus ∷ is.Star ∷ is.Slash ∷ is.Ampersand ∷ is.Exclamation ∷ is.EndOfText ∷ []
-
--- both of a conjunction hold
-pub and_parts : (a b : Bool) → (a && b) ≡ true → (a ≡ true) × (b ≡ true)
-and_parts true true e = (refl, refl)
-and_parts true false e = absurd cc
-and_parts false b e = absurd cc
 
 decoded : (l : Terminal) → get_or all (code l) is.Scald ≡ l
 decoded is.Scald = refl

@@ -4,6 +4,8 @@ use Rattle.std.specs.Prelude.{Result, Ok, Err, MatchResult}
 use Rattle.std.specs.List.{list_any}
 use Rattle.std.specs.Str.{bytes_eq}
 use Rattle.std.proofs.lemmas.Slice.Eq.{bytes_eq-Decides}
+use Rattle.std.proofs.Math.Bool.{or-true}
+use Rattle.std.proofs.lemmas.Bool.{and_parts}
 use Rattle.scald_base.specs.declared.refusal.Stop.{Stop}
 use Rattle.scald_base.specs.declared.refusal.Stop.TheVariants.{Refused, NoMemory}
 use Rattle.drawing_grammar.specs.DoubleNames.{Key, Declaration, primitives, AreDifferent, IsDistinct, IsDoubleStop, Declares, IsStopAt}
@@ -16,21 +18,13 @@ abbrev all_fresh : List Key → Bool
 all_fresh [] = true
 all_fresh (k ∷ ks) = not (named_in k.name ks) && all_fresh ks
 
-or_true : (a : Bool) → (a || true) ≡ true
-or_true true = refl
-or_true false = refl
-
 is_named : (k : Key) (ks : List Key) (j : ℕ) (d : Key) → j < length ks → k ≡ get_or ks j d → named_in k.name ks ≡ true
 is_named k [] j d below e = absurd (omega arith)
 is_named k (l ∷ ks) zero d below e =
     let names : k.name ≡ l.name = ap (λ (x : Key). x.name) e in
     let test : bytes_eq k.name l.name ≡ true = grind (arith, bytes_eq-Decides) in
     ap (λ (b : Bool). b || named_in k.name ks) test
-is_named k (l ∷ ks) (suc j) d below e = ap (λ (b : Bool). bytes_eq k.name l.name || b) (is_named k ks j d (omega arith) e) ∙ or_true (bytes_eq k.name l.name)
-
-both : (a b : Bool) → (a && b) ≡ true → (a ≡ true) × (b ≡ true)
-both true b h = (refl, h)
-both false b h = absurd cc
+is_named k (l ∷ ks) (suc j) d below e = ap (λ (b : Bool). bytes_eq k.name l.name || b) (is_named k ks j d (omega arith) e) ∙ or-true (bytes_eq k.name l.name)
 
 not_both : (a : Bool) → not a ≡ true → a ≡ true → ⊥
 not_both true f t = cc
@@ -39,9 +33,9 @@ not_both false f t = cc
 differ : (ks : List Key) → all_fresh ks ≡ true → (i j : ℕ) (d : Key) → i < j → j < length ks → get_or ks i d ≡ get_or ks j d → ⊥
 differ [] h i j d before below e = absurd (omega arith)
 differ (k ∷ ks) h zero zero d before below e = absurd (omega arith)
-differ (k ∷ ks) h zero (suc j) d before below e = not_both (named_in k.name ks) (both (not (named_in k.name ks)) (all_fresh ks) h).0 (is_named k ks j d (omega arith) e)
+differ (k ∷ ks) h zero (suc j) d before below e = not_both (named_in k.name ks) (and_parts (not (named_in k.name ks)) (all_fresh ks) h).0 (is_named k ks j d (omega arith) e)
 differ (k ∷ ks) h (suc i) zero d before below e = absurd (omega arith)
-differ (k ∷ ks) h (suc i) (suc j) d before below e = differ ks (both (not (named_in k.name ks)) (all_fresh ks) h).1 i j d (omega arith) (omega arith) e
+differ (k ∷ ks) h (suc i) (suc j) d before below e = differ ks (and_parts (not (named_in k.name ks)) (all_fresh ks) h).1 i j d (omega arith) (omega arith) e
 
 primitives_differ : AreDifferent primitives
 unfolding primitives

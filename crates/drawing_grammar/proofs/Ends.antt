@@ -1,5 +1,6 @@
 -- The end of a text is its last token.
 use Rattle.std.proofs.Common.{◌≡◌, ℕ, Bool, true, false, not, ◌&&◌, List, [], ◌∷◌, ◌++◌, refl, sym, ap, ◌∙◌}
+use Rattle.std.proofs.lemmas.Bool.{and_parts, not-true}
 use Rattle.drawing_grammar.specs.declared.terminal.Terminal.{Terminal}
 use Rattle.drawing_grammar.specs.declared.terminal.Terminal.TheVariants as is
 use Rattle.drawing_grammar.specs.Lexeme.{Lexeme, terminal}
@@ -8,7 +9,7 @@ use Rattle.drawing_grammar.specs.Grammar as g
 use Rattle.drawing_grammar.specs.Written.{Written, nothing, marked, token, lettered, begun, chosen, left_out, grouped, lacking, spelling}
 use Rattle.drawing_grammar.specs.Draws.{whole}
 use Rattle.drawing_grammar.specs.Machine.{same}
-use Rattle.drawing_grammar.proofs.Choices.{is_same, and_parts}
+use Rattle.drawing_grammar.proofs.Choices.{is_same}
 
 abbrev pub is_end : Terminal → Bool
 is_end l = same l is.EndOfText
@@ -37,17 +38,13 @@ Tidy (fresh ∷ rest) = Tidy rest
 Tidy (part p n ∷ rest) = (is_whole p ≡ false) × Tidy rest
 Tidy (group h n ∷ rest) = Tidy rest
 
-no_end : (b : Bool) → not b ≡ true → b ≡ false
-no_end true e = absurd cc
-no_end false e = refl
-
 tidy_on : (xs rest : List Need) → inner xs ≡ true → Tidy rest → Tidy (xs ++ rest)
 tidy_on [] rest e t = t
-tidy_on (mark l ∷ xs) rest e t = let k = and_parts (not (is_end l)) (inner xs) e in (λ f. let h = no_end (is_end l) k.0 in absurd cc, tidy_on xs rest k.1 t)
-tidy_on (item l ∷ xs) rest e t = let k = and_parts (not (is_end l)) (inner xs) e in (no_end (is_end l) k.0, tidy_on xs rest k.1 t)
+tidy_on (mark l ∷ xs) rest e t = let k = and_parts (not (is_end l)) (inner xs) e in (λ f. let h = not-true (is_end l) k.0 in absurd cc, tidy_on xs rest k.1 t)
+tidy_on (item l ∷ xs) rest e t = let k = and_parts (not (is_end l)) (inner xs) e in (not-true (is_end l) k.0, tidy_on xs rest k.1 t)
 tidy_on (letter x ∷ xs) rest e t = tidy_on xs rest e t
 tidy_on (fresh ∷ xs) rest e t = tidy_on xs rest e t
-tidy_on (part p n ∷ xs) rest e t = let k = and_parts (not (is_whole p)) (inner xs) e in (no_end (is_whole p) k.0, tidy_on xs rest k.1 t)
+tidy_on (part p n ∷ xs) rest e t = let k = and_parts (not (is_whole p)) (inner xs) e in (not-true (is_whole p) k.0, tidy_on xs rest k.1 t)
 tidy_on (group h n ∷ xs) rest e t = tidy_on xs rest e t
 
 choice_inner : {p : Part} (c : Choice p) (n : ℕ) → is_whole p ≡ false → inner (following c n) ≡ true

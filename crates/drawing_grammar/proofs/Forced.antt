@@ -3,6 +3,7 @@ use Rattle.std.proofs.Common.{◌≡◌, ℕ, Bool, true, false, not, ◌&&◌, 
 use Rattle.std.specs.Prelude.{is_some}
 use Rattle.std.specs.Str.{bytes_eq}
 use Rattle.std.proofs.lemmas.Slice.Eq.{bytes_eq-Decides}
+use Rattle.std.proofs.lemmas.Bool.{and_parts, or_left, or_right, and_from, not_from_false}
 use Rattle.drawing_grammar.specs.declared.terminal.Letter.{Letter}
 use Rattle.drawing_grammar.specs.declared.terminal.Terminal.{Terminal}
 use Rattle.drawing_grammar.specs.declared.terminal.Terminal.TheVariants as is
@@ -11,7 +12,7 @@ use Rattle.drawing_grammar.specs.Grammar.{Part, Group, letter_text, Need, mark, 
 use Rattle.drawing_grammar.specs.Sketch.{Meaning, GroupMeaning, Values, absent_value, absent_group}
 use Rattle.drawing_grammar.specs.Written.{Written, nothing, marked, token, lettered, begun, chosen, left_out, grouped, lacking, spelling, weights, values}
 use Rattle.drawing_grammar.specs.Machine.{same, choice, Step, Next, Stuck, passed, entered, group_entered, step}
-use Rattle.drawing_grammar.proofs.Choices.{is_same, chooses, and_parts, tested_at}
+use Rattle.drawing_grammar.proofs.Choices.{is_same, chooses, tested_at}
 use Rattle.drawing_grammar.proofs.Follow.{extends, extends_group, among, starts, apart, well_chained, choice_chained, group_chained, goes_on, part_goes_on, group_goes, group_goes_on, leads}
 
 abbrev pub never : Terminal → Bool
@@ -28,14 +29,6 @@ Chained (part p n ∷ rest) = ((l : Terminal) → starts rest never l ≡ true �
 Chained (group h n ∷ rest) = ((l : Terminal) → starts rest never l ≡ true → among (extends_group h) l ≡ false) × Chained rest
 
 -- ---- what begins a list of needs
-
-or_left : (a b : Bool) → a ≡ true → (a || b) ≡ true
-or_left true b e = refl
-or_left false b e = absurd cc
-
-or_right : (a b : Bool) → b ≡ true → (a || b) ≡ true
-or_right true b e = refl
-or_right false b e = e
 
 starts_append : (xs ys : List Need) (f : Terminal → Bool) (l : Terminal) → starts (xs ++ ys) f l ≡ starts xs (starts ys f) l
 starts_append [] ys f l = refl
@@ -71,22 +64,14 @@ starts_written (token {l = l} u h w) f t zs e = let k : u ≡ t = cc in is_same 
 starts_written (lettered u h i w) f t zs e = let k : u ≡ t = cc in is_same (terminal t) is.Word (ap terminal (sym k) ∙ h)
 starts_written (begun w) f t zs e = starts_written w f t zs e
 starts_written (chosen {p = p} {rest = rest} c u h w) f t zs e = let k : u ≡ t = cc in or_left (is_some (choice p (terminal t))) (is_some (absent_value p) && starts rest f (terminal t)) (is_some_at (choice p (terminal t)) c (chooses c (terminal t) (ap terminal (sym k) ∙ h)))
-starts_written (left_out {p = p} {rest = rest} v h w) f t zs e = or_right (is_some (choice p (terminal t))) (is_some (absent_value p) && starts rest f (terminal t)) (both (is_some (absent_value p)) (starts rest f (terminal t)) (is_some_at (absent_value p) v h) (starts_written w f t zs e))
-  where
-    both : (a b : Bool) → a ≡ true → b ≡ true → (a && b) ≡ true
-    both true b e h = h
-    both false b e h = absurd cc
+starts_written (left_out {p = p} {rest = rest} v h w) f t zs e = or_right (is_some (choice p (terminal t))) (is_some (absent_value p) && starts rest f (terminal t)) (and_from (is_some (absent_value p)) (starts rest f (terminal t)) (is_some_at (absent_value p) v h) (starts_written w f t zs e))
 starts_written (grouped {g = g} {n = n} {rest = rest} w) f t zs e = or_left (is_some (choice (lead g) (terminal t))) (is_some (absent_group g) && starts rest f (terminal t)) (led (is_some (choice (lead g) (terminal t))) (is_some (absent_value (lead g))) (starts (others g n ++ rest) f (terminal t)) (ap is_some (leads g)) (starts_written w f t zs e))
   where
     led : (a b c : Bool) → b ≡ false → (a || (b && c)) ≡ true → a ≡ true
     led true b c h e = refl
     led false true c h e = absurd cc
     led false false c h e = absurd cc
-starts_written (lacking {g = g} {rest = rest} v h w) f t zs e = or_right (is_some (choice (lead g) (terminal t))) (is_some (absent_group g) && starts rest f (terminal t)) (both (is_some (absent_group g)) (starts rest f (terminal t)) (is_some_at (absent_group g) v h) (starts_written w f t zs e))
-  where
-    both : (a b : Bool) → a ≡ true → b ≡ true → (a && b) ≡ true
-    both true b e h = h
-    both false b e h = absurd cc
+starts_written (lacking {g = g} {rest = rest} v h w) f t zs e = or_right (is_some (choice (lead g) (terminal t))) (is_some (absent_group g) && starts rest f (terminal t)) (and_from (is_some (absent_group g)) (starts rest f (terminal t)) (is_some_at (absent_group g) v h) (starts_written w f t zs e))
 
 -- ---- chains of needs
 
@@ -98,13 +83,9 @@ apart_at ls rest behind e l s = one (starts rest (λ k. not (among behind k)) l)
     one true false e s = refl
     one false b e s = absurd cc
 
-not_false : (b : Bool) → b ≡ false → not b ≡ true
-not_false true e = absurd cc
-not_false false e = refl
-
 -- a need's part is apart from what comes behind it, also where the list goes on
 apart_on : (ls : List Terminal) (xs rest : List Need) (behind : List Terminal) → apart ls xs behind ≡ true → ((l : Terminal) → starts rest never l ≡ true → among behind l ≡ false) → (l : Terminal) → starts (xs ++ rest) never l ≡ true → among ls l ≡ false
-apart_on ls xs rest behind e h l s = apart_at ls xs behind e l (starts_more xs (starts rest never) (λ k. not (among behind k)) l (λ k. not_false (among behind l) (h l k)) (sym (starts_append xs rest never l) ∙ s))
+apart_on ls xs rest behind e h l s = apart_at ls xs behind e l (starts_more xs (starts rest never) (λ k. not (among behind k)) l (λ k. not_from_false (among behind l) (h l k)) (sym (starts_append xs rest never l) ∙ s))
 
 pub chained_on : (xs rest : List Need) (behind : List Terminal) → well_chained xs behind ≡ true → ((l : Terminal) → starts rest never l ≡ true → among behind l ≡ false) → Chained rest → Chained (xs ++ rest)
 chained_on [] rest behind e h c = c

@@ -1,9 +1,7 @@
 -- What a text within the rules draws: its drawing is well formed, and one that canonical texts draw.
-use Rattle.std.proofs.Common.{◌≡◌, ℕ, Bool, true, false, List, [], ◌∷◌, ◌++◌, ℤ, pos, negsuc, Option, Some, None, map, refl, arith, sym, subst}
-use Rattle.std.specs.Prelude.{IfSome, All, Result, Ok}
+use Rattle.std.proofs.Common.{◌≡◌, ℕ, true, false, List, ◌++◌, ℤ, pos, negsuc, Option, Some, None, map, arith, sym, subst}
+use Rattle.std.specs.Prelude.{IfSome, All, Ok}
 use Rattle.std.proofs.lemmas.Bool.Decides.{nat_tests}
-use Rattle.scald_base.specs.declared.refusal.Place.{Place}
-use Rattle.scald_base.specs.declared.refusal.Refusal.{Refusal}
 use Rattle.std.specs.List.{AllByRecursion}
 use Rattle.std.proofs.lemmas.List.Elements.{All-from_recursion}
 use Rattle.scald_base.specs.Time.{Header, IsHeader}
@@ -18,9 +16,8 @@ use Rattle.drawing_tree.specs.Tree as tree
 use Rattle.drawing_tree.specs.WellFormed as well
 use Rattle.drawing_tree.specs.WellFormed.{IsGoodName, IsGoodExpression, IsGoodRange}
 use Rattle.drawing_grammar.specs.Lexeme.{lexemes}
-use Rattle.drawing_grammar.specs.declared.header.NumberPair.{NumberPair}
 use Rattle.drawing_grammar.specs.declared.header.WrittenHeader.{WrittenHeader}
-use Rattle.drawing_grammar.specs.Header.{natural, is_version, is_clock, is_bounds, is_skew, judged_statement, judged_pair, judged, header_of}
+use Rattle.drawing_grammar.specs.Header.{natural, is_version, is_clock, is_bounds, is_skew, judged, header_of}
 use Rattle.drawing_grammar.specs.Drawing.{drawing_of_sketch}
 use Rattle.drawing_grammar.specs.Sketch.{Sketch}
 use Rattle.drawing_grammar.specs.Written.{Written, spelling, values}
@@ -30,6 +27,8 @@ use Rattle.drawing_grammar.proofs.Drawable as drawn
 use Rattle.drawing_grammar.proofs.Drawable.{IsDrawn, IsDrawnRange}
 use Rattle.drawing_grammar.proofs.Proper.{IsItemOf, IsTermOf, IsConnectionOf, IsUseOf, IsWireOf, IsStatementOf, AreStatementsOf, IsOtherwiseOf, IsMacroOf, IsEntryOf, IsCaseOf, IsSketchOf, AreProper, values_of}
 use Rattle.drawing_grammar.proofs.ProperTokens.{tokens_proper}
+use Rattle.drawing_grammar.proofs.Judging.{passed, passed_pair}
+use Rattle.drawing_grammar.proofs.SpelledLists.{all_map}
 
 -- ---- what a text stands for
 
@@ -43,10 +42,6 @@ sketch_proper h text tokens w are spelled good =
 
 -- ---- drawn
 
-each : {A : Type 0} (P Q : A → Type 0) → ((x : A) → P x → Q x) → (xs : List A) → AllByRecursion P xs → AllByRecursion Q xs
-each P Q f [] a = tt
-each P Q f (x ∷ xs) a = (f x a.0, each P Q f xs a.1)
-
 module _ (G : SignalName → Type 0) (k : (n : SignalName) → G n → IsName n) where
   item_drawn : (i : tree.Item) → IsItemOf G i → drawn.IsDrawnItem i
   item_drawn tree.Zero a = tt
@@ -54,10 +49,10 @@ module _ (G : SignalName → Type 0) (k : (n : SignalName) → G n → IsName n)
   item_drawn (tree.Named name range) a = (k name a.0, a.1)
 
   connection_drawn : (c : tree.Connection) → IsConnectionOf G c → drawn.IsDrawnConnection c
-  connection_drawn c a = record { some = a.some; terms = each (IsTermOf G) drawn.IsDrawnTerm (λ t h. item_drawn t.item h) c.terms a.terms }
+  connection_drawn c a = record { some = a.some; terms = all_map (IsTermOf G) drawn.IsDrawnTerm (λ t h. item_drawn t.item h) c.terms a.terms }
 
   use_drawn : (u : tree.UseStatement) → IsUseOf G u → drawn.IsDrawnUse u
-  use_drawn u a = record { label = a.label; kind = a.kind; delay = a.delay; params = a.params; ins = each (IsConnectionOf G) drawn.IsDrawnConnection connection_drawn u.ins a.ins; outs = each (IsConnectionOf G) drawn.IsDrawnConnection connection_drawn u.outs a.outs }
+  use_drawn u a = record { label = a.label; kind = a.kind; delay = a.delay; params = a.params; ins = all_map (IsConnectionOf G) drawn.IsDrawnConnection connection_drawn u.ins a.ins; outs = all_map (IsConnectionOf G) drawn.IsDrawnConnection connection_drawn u.outs a.outs }
 
   wire_drawn : (w : tree.WireStatement) → IsWireOf G w → drawn.IsDrawnWire w
   wire_drawn w a = record { name = k w.name a.name; range = a.range; min = a.min; max = a.max }
@@ -83,21 +78,21 @@ module _ (G : SignalName → Type 0) (k : (n : SignalName) → G n → IsName n)
   entry_drawn e a = record { name = k e.name a.name; bit = a.bit; value = a.value }
 
   case_drawn : (c : CaseStmt) → IsCaseOf G c → drawn.IsDrawnCase c
-  case_drawn c a = record { some = a.some; entries = each (IsEntryOf G) drawn.IsDrawnEntry entry_drawn c.entries a.entries }
+  case_drawn c a = record { some = a.some; entries = all_map (IsEntryOf G) drawn.IsDrawnEntry entry_drawn c.entries a.entries }
 
   pub macros_drawn : (ms : List tree.Macro) → AllByRecursion (IsMacroOf G) ms → AllByRecursion drawn.IsDrawnMacro ms
-  macros_drawn ms a = each (IsMacroOf G) drawn.IsDrawnMacro macro_drawn ms a
+  macros_drawn ms a = all_map (IsMacroOf G) drawn.IsDrawnMacro macro_drawn ms a
 
   pub body_drawn : (ss : tree.Statements) → AreStatementsOf G ss → drawn.AreDrawn ss
   body_drawn ss a = statements_drawn ss a
 
   pub cases_drawn : (cs : List CaseStmt) → AllByRecursion (IsCaseOf G) cs → AllByRecursion drawn.IsDrawnCase cs
-  cases_drawn cs a = each (IsCaseOf G) drawn.IsDrawnCase case_drawn cs a
+  cases_drawn cs a = all_map (IsCaseOf G) drawn.IsDrawnCase case_drawn cs a
 
 -- ---- well formed
 
 all_of : {A : Type 0} (P Q : A → Type 0) → ((x : A) → P x → Q x) → (xs : List A) → AllByRecursion P xs → All Q xs
-all_of P Q f xs a = All-from_recursion Q xs (each P Q f xs a)
+all_of P Q f xs a = All-from_recursion Q xs (all_map P Q f xs a)
 
 expression_good : (e : Expression) → IsDrawn e → IsGoodExpression e
 expression_good (Number n) a = tt
@@ -188,22 +183,14 @@ version_one : (n : ℤ) → is_version n ≡ true → natural n ≡ 1
 version_one (pos n) e = grind (arith, nat_tests)
 version_one (negsuc n) e = absurd cc
 
-passed : {A : Type 0} (b : Bool) (place : Place) (said : Result A Refusal) (x : A) → judged_statement b place said ≡ Ok x → (b ≡ true) × (said ≡ Ok x)
-passed true place said x e = (refl, e)
-passed false place said x e = absurd cc
-
-passed_pair : {A : Type 0} (test : ℤ → ℤ → Bool) (o : Option NumberPair) (said : Result A Refusal) (x : A) → judged_pair test o said ≡ Ok x → said ≡ Ok x
-passed_pair test None said x e = e
-passed_pair test (Some pair) said x e = (passed (test pair.first pair.second) pair.place said x e).1
-
 -- a header that is not refused is the one that its numbers give
 pub judged_ok : (w : WrittenHeader) (h : Header) → judged w ≡ Ok h → (header_of w ≡ h) × (natural w.version ≡ 1)
 judged_ok w h e =
     let first = passed (is_version w.version) w.place _ h e in
     let second = passed (is_clock w.clock.first w.clock.second) w.clock.place _ h first.1 in
-    let third = passed_pair is_bounds w.wire _ h second.1 in
-    let fourth = passed_pair is_skew w.pskew _ h third in
-    let last = passed_pair is_skew w.cskew _ h fourth in
+    let third = (passed_pair is_bounds w.wire _ h second.1).1 in
+    let fourth = (passed_pair is_skew w.pskew _ h third).1 in
+    let last = (passed_pair is_skew w.cskew _ h fourth).1 in
     let same : header_of w ≡ h = cc in
     (same, version_one w.version first.0)
 

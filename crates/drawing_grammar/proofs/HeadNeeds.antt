@@ -65,10 +65,6 @@ abbrev pub stand : Bool → List Need → Bool
 stand in_head [] = true
 stand in_head (x ∷ rest) = stands in_head x && stand (behind_need in_head x) rest
 
-pub both : (a b : Bool) → (a && b) ≡ true → (a ≡ true) × (b ≡ true)
-both true b h = (refl, h)
-both false b h = absurd cc
-
 -- ---- choices and groups
 
 pub choice_stands : (in_head : Bool) {p : Part} (c : Choice p) (n : ℕ) (rest : List Need) → stand in_head (part p n ∷ rest) ≡ true → stand (head_behind in_head (opening c)) (following c n ++ rest) ≡ true

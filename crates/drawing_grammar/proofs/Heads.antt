@@ -1,5 +1,6 @@
 -- The names of what is written are those of its tokens: only the head of a macro has formals, and no semicolon.
 use Rattle.std.proofs.Common.{◌≡◌, Bool, true, false, List, [], ◌∷◌, ◌++◌, refl, sym, ap, ◌∙◌}
+use Rattle.std.proofs.lemmas.Bool.{and_parts}
 use Rattle.drawing_grammar.specs.declared.terminal.Terminal.{Terminal}
 use Rattle.drawing_grammar.specs.declared.terminal.Terminal.TheVariants as is
 use Rattle.drawing_grammar.specs.Lexeme.{Lexeme, terminal}
@@ -7,7 +8,7 @@ use Rattle.drawing_grammar.specs.Grammar.{Need, mark, item, opening}
 use Rattle.drawing_grammar.specs.Written.{Written, nothing, marked, token, lettered, begun, chosen, left_out, grouped, lacking, spelling}
 use Rattle.drawing_grammar.specs.Draws.{whole}
 use Rattle.drawing_grammar.specs.Names.{Naming, choice_names, item_names, names, names_at, head_behind, names_from}
-use Rattle.drawing_grammar.proofs.HeadNeeds.{part_stands, group_stands, stand, both, choice_stands, choice_named, group_parts}
+use Rattle.drawing_grammar.proofs.HeadNeeds.{part_stands, group_stands, stand, choice_stands, choice_named, group_parts}
 
 -- ---- single tokens
 
@@ -53,9 +54,9 @@ names_found in_head (token {l = l} {rest = rest} t e w) h = one_more in_head l t
 names_found in_head (lettered t e f w) h = one_more in_head is.Word t [] (names w) (spelling w) e refl (names_found in_head w h)
 names_found in_head (begun w) h = names_found in_head w h
 names_found in_head (chosen {p = p} {n = n} {rest = rest} c t e w) h = one_more in_head (opening c) t (choice_names c t) (names w) (spelling w) e (choice_named in_head c n rest t h) (names_found (head_behind in_head (opening c)) w (choice_stands in_head c n rest h))
-names_found in_head (left_out {p = p} v e w) h = names_found in_head w (both (part_stands in_head p) _ h).1
+names_found in_head (left_out {p = p} v e w) h = names_found in_head w (and_parts (part_stands in_head p) _ h).1
 names_found in_head (grouped {g = k} {n = n} {rest = rest} w) h = names_found in_head w (group_parts in_head k n rest h)
-names_found in_head (lacking {g = k} v e w) h = names_found in_head w (both (group_stands in_head k) _ h).1
+names_found in_head (lacking {g = k} v e w) h = names_found in_head w (and_parts (group_stands in_head k) _ h).1
 
 -- The names of a text are those of its tokens.
 pub names_of_text : (w : Written whole) → names w ≡ names_from false (spelling w)

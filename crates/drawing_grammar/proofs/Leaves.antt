@@ -1,33 +1,26 @@
 -- The texts of single tokens.
-use Rattle.std.proofs.Common.{◌≡◌, ℕ, ◌+◌, ◌-◌, ◌*◌, ◌/◌, ◌%◌, ◌<◌, ◌≤◌, ◌^◌, Bool, true, false, not, nat_le, List, [], ◌∷◌, ◌++◌, length, take, drop, Some, pos, decimal, refl, ap, ◌∙◌, arith, append_assoc, length-append}
-use Rattle.std.specs.Prelude.{◌&&◌, ◌||◌, ◌==◌, codes}
+use Rattle.std.proofs.Common.{◌≡◌, ℕ, ◌+◌, ◌-◌, ◌*◌, ◌/◌, ◌%◌, ◌<◌, ◌≤◌, ◌^◌, Bool, true, false, nat_le, List, [], ◌∷◌, ◌++◌, length, take, drop, Some, pos, decimal, refl, ap, ◌∙◌, arith, append_assoc, length-append}
+use Rattle.std.specs.Prelude.{◌||◌, ◌==◌, codes}
 use Rattle.std.specs.List.{list_all, prefix_len}
 use Rattle.std.proofs.lemmas.Fmt.{decimal_by_steps}
 use Rattle.std.proofs.lemmas.Bool.Decides.{nat_tests}
 use Rattle.std.proofs.lemmas.List.Folds.{list_all-append}
 use Rattle.std.proofs.Math.Seq.{take-append_seam, drop-append_seam}
+use Rattle.std.proofs.lemmas.Bool.{and_parts, not-true}
 use Rattle.scald_base.specs.Word.{is_letter, is_digit, is_word_byte, longest_word, IsWord}
 use Rattle.scald_lex.specs.declared.token.TokenKind.TheVariants.{Word, Number, Name}
 use Rattle.scald_lex.specs.declared.piece.Piece.TheVariants.{Lexeme}
 use Rattle.scald_lex.specs.Bytes.{quote, is_space, is_name_byte, is_allowed, value_after, value_of}
 use Rattle.scald_lex.specs.Piece.{begins_with, greatest_number, word_at, number_at, name_behind, piece_at}
 use Rattle.drawing_grammar.proofs.Cutting.{Bare, lexes_one, stops, Spells, Closes}
+use Rattle.scald_lex.proofs.Pieces.{letter_in_word}
 
 -- ---- fronts
-
-pub both_true : (a b : Bool) → (a && b) ≡ true → (a ≡ true) × (b ≡ true)
-both_true true true h = (refl, refl)
-both_true true false h = absurd cc
-both_true false b h = absurd cc
 
 -- A front of a list goes as far as its bytes pass.
 pub prefix_over : (p : ℕ → Bool) (xs rest : List ℕ) → list_all p xs ≡ true → prefix_len p rest ≡ 0 → prefix_len p (xs ++ rest) ≡ length xs
 prefix_over p [] rest h k = k
-prefix_over p (x ∷ xs) rest h k = let a = both_true (p x) (list_all p xs) h in rw a.0 (ap (λ (n : ℕ). 1 + n) (prefix_over p xs rest a.1 k) ∙ omega arith)
-
-pub not_true : (b : Bool) → not b ≡ true → b ≡ false
-not_true true h = absurd cc
-not_true false h = refl
+prefix_over p (x ∷ xs) rest h k = let a = and_parts (p x) (list_all p xs) h in rw a.0 (ap (λ (n : ℕ). 1 + n) (prefix_over p xs rest a.1 k) ∙ omega arith)
 
 none_by : (p : ℕ → Bool) → ((b : ℕ) → p b ≡ true → is_word_byte b ≡ true) → (b : ℕ) (bs : List ℕ) (t : Bool) → p b ≡ t → is_word_byte b ≡ false → prefix_len p (b ∷ bs) ≡ 0
 none_by p h b bs true e k = absurd (let x : is_word_byte b ≡ true = h b e in cc)
@@ -36,16 +29,13 @@ none_by p h b bs false e k = rw e refl
 -- Where no word goes on, nothing of a word stands.
 pub none_at_stop : (p : ℕ → Bool) → ((b : ℕ) → p b ≡ true → is_word_byte b ≡ true) → (rest : List ℕ) → stops rest ≡ true → prefix_len p rest ≡ 0
 none_at_stop p h [] k = refl
-none_at_stop p h (b ∷ bs) k = none_by p h b bs (p b) refl (not_true (is_word_byte b) k)
+none_at_stop p h (b ∷ bs) k = none_by p h b bs (p b) refl (not-true (is_word_byte b) k)
 
 pub all_by : (p q : ℕ → Bool) → ((b : ℕ) → p b ≡ true → q b ≡ true) → (xs : List ℕ) → list_all p xs ≡ true → list_all q xs ≡ true
 all_by p q h [] k = refl
-all_by p q h (x ∷ xs) k = let a = both_true (p x) (list_all p xs) k in rw (h x a.0, all_by p q h xs a.1) refl
+all_by p q h (x ∷ xs) k = let a = and_parts (p x) (list_all p xs) k in rw (h x a.0, all_by p q h xs a.1) refl
 
 -- ---- kinds of bytes
-
-letter_in_word : (b : ℕ) → is_letter b ≡ true → is_word_byte b ≡ true
-letter_in_word b h = rw h refl
 
 digit_in_word : (b : ℕ) → is_digit b ≡ true → is_word_byte b ≡ true
 digit_in_word b h = by_letter (is_letter b) (is_digit b) (b == 95) h
@@ -89,7 +79,7 @@ word_piece b bs rest l w short h =
 pub word_spells : (text : List ℕ) → IsWord text → Spells text (word text ∷ [])
 word_spells [] is = absurd (let h = is.form in cc)
 word_spells (b ∷ bs) is =
-    let a = both_true (is_letter b) (list_all is_word_byte bs) is.form in
+    let a = and_parts (is_letter b) (list_all is_word_byte bs) is.form in
     record {
       allowed = all_by is_word_byte is_allowed word_is_allowed (b ∷ bs) (rw (letter_in_word b a.0, a.1) refl);
       lexes = λ rest h. lexes_one (b ∷ bs) rest Word (word_piece b bs rest a.0 a.1 is.short h);
@@ -134,7 +124,7 @@ number_of_length s n k e v h = rw (e, v, h) refl
 number_piece : (n b : ℕ) (bs rest : List ℕ) → list_all is_digit (b ∷ bs) ≡ true → value_of (b ∷ bs) ≡ n → n ≤ greatest_number → stops rest ≡ true → piece_at ((b ∷ bs) ++ rest) ≡ Some (Lexeme (Number (pos n)) (length (b ∷ bs)))
 number_piece n b bs rest all v small h =
     let fits : nat_le n greatest_number ≡ true = grind (arith, nat_tests) in
-    piece_of_digit b (bs ++ rest) (both_true (is_digit b) (list_all is_digit bs) all).0
+    piece_of_digit b (bs ++ rest) (and_parts (is_digit b) (list_all is_digit bs) all).0
     ∙ number_of_length ((b ∷ bs) ++ rest) n (length (b ∷ bs))
     (prefix_over is_digit (b ∷ bs) rest all (none_at_stop is_digit digit_in_word rest h))
     (ap value_of (take-append_seam (b ∷ bs) rest) ∙ v) fits

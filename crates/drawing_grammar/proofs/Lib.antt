@@ -43,6 +43,7 @@ pub mod Heads
 pub mod Proper
 pub mod WordTerminals
 pub mod ProperTokens
+pub mod Judging
 pub mod Formed
 pub mod Whole
 pub mod First

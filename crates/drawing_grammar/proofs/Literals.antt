@@ -2,6 +2,7 @@
 use Rattle.std.proofs.Common.{◌≡◌, ℕ, Bool, true, false, not, List, [], ◌∷◌, ◌++◌, nat_le, length, Some, refl, ap, ◌∙◌, rules, tests}
 use Rattle.std.specs.Prelude.{codes, ◌&&◌, ◌==◌}
 use Rattle.std.specs.List.{list_all}
+use Rattle.std.proofs.lemmas.Bool.{and_parts, not-true}
 use Rattle.scald_lex.specs.declared.token.TokenKind.TheVariants.{Symbol}
 use Rattle.scald_lex.specs.declared.piece.Piece.{Piece}
 use Rattle.scald_lex.specs.declared.piece.Piece.TheVariants.{Space, LineEnd, Lexeme}
@@ -13,7 +14,7 @@ use Rattle.scald_expr.specs.declared.expr.Op.{Op}
 use Rattle.scald_expr.specs.declared.expr.Op.TheVariants.{Add, Sub, Mul, Div, Eq, Ne, Lt, Le, Gt, Ge}
 use Rattle.drawing_tree.specs.ExpressionText.{op_text}
 use Rattle.drawing_grammar.proofs.Cutting.{Bare, Cuts, bares, Lexes, lexes_on, Spells, Closes, before}
-use Rattle.drawing_grammar.proofs.Leaves.{both_true, not_true, word_spells}
+use Rattle.drawing_grammar.proofs.Leaves.{word_spells}
 use Rattle.drawing_grammar.proofs.CanonicalTokens.{word, symbol, semicolon, colon, comma, equals, minus, ampersand, exclamation, less, greater, open_parenthesis, close_parenthesis, open_bracket, close_bracket, open_brace, close_brace, arrow, op_tokens}
 
 -- by the pieces that it is cut into
@@ -144,10 +145,10 @@ plain_dash b bs h k = rw (h, k) refl
 
 lexes_minus : (b : ℕ) (bs rest : List ℕ) → is_plain_first (b ∷ bs) ≡ true → Lexes (45 ∷ ((b ∷ bs) ++ rest)) minus ((b ∷ bs) ++ rest)
 lexes_minus b bs rest h =
-    let a = both_true (not (b == 45)) (not (b == 62)) h in
+    let a = and_parts (not (b == 45)) (not (b == 62)) h in
     record {
       pieces = Lexeme (Symbol 45) 1 ∷ [];
-      cut = (piece_of_dash ((b ∷ bs) ++ rest) ∙ ap (λ (p : Piece). Some p) (plain_dash b (bs ++ rest) (not_true (b == 45) a.0) (not_true (b == 62) a.1)), refl);
+      cut = (piece_of_dash ((b ∷ bs) ++ rest) ∙ ap (λ (p : Piece). Some p) (plain_dash b (bs ++ rest) (not-true (b == 45) a.0) (not-true (b == 62) a.1)), refl);
       are = refl;
     }
 

@@ -1,7 +1,8 @@
 -- Tokens with their places that are these tokens.
-use Rattle.std.proofs.Common.{◌≡◌, ℕ, Bool, true, false, List, [], ◌∷◌, ◌++◌, map, refl, ap, ◌∙◌}
-use Rattle.std.specs.Prelude.{◌||◌, codes}
+use Rattle.std.proofs.Common.{◌≡◌, ℕ, false, List, [], ◌∷◌, ◌++◌, map, refl, ap, ◌∙◌}
+use Rattle.std.specs.Prelude.{codes}
 use Rattle.std.specs.Str.{bytes_eq}
+use Rattle.std.proofs.lemmas.Bool.{or_parts}
 use Rattle.scald_base.specs.Word.{is_reserved}
 use Rattle.drawing_tree.specs.WellFormed.{IsFreeWord}
 use Rattle.drawing_grammar.specs.declared.terminal.Terminal.TheVariants.{Word}
@@ -51,29 +52,25 @@ terminal_is t x e = ap (λ (b : Bare). terminal_by b.kind b.text) e
 pub text_is : (t : Lexeme) (x : Bare) → bare t ≡ x → t.text ≡ x.text
 text_is t x e = ap (λ (b : Bare). b.text) e
 
-both_false : (a b : Bool) → (a || b) ≡ false → (a ≡ false) × (b ≡ false)
-both_false true b e = absurd cc
-both_false false b e = (refl, e)
-
 -- A word that is not reserved is no more than a word.
 pub free_word : (w : List ℕ) → is_reserved w ≡ false → word_terminal w ≡ Word
 unfolding word_terminal
 free_word w h =
     let t = λ (x : List ℕ). bytes_eq w x in
-    let a = both_false (t (codes "SCALD")) _ h in
-    let b = both_false (t (codes "CLOCK")) _ a.1 in
-    let c = both_false (t (codes "WIRE")) _ b.1 in
-    let d = both_false (t (codes "PSKEW")) _ c.1 in
-    let e = both_false (t (codes "CSKEW")) _ d.1 in
-    let f = both_false (t (codes "MACRO")) _ e.1 in
-    let g = both_false (t (codes "DRAWING")) _ f.1 in
-    let i = both_false (t (codes "CASE")) _ g.1 in
-    let j = both_false (t (codes "IF")) _ i.1 in
-    let k = both_false (t (codes "THEN")) _ j.1 in
-    let l = both_false (t (codes "ELSE")) _ k.1 in
-    let m = both_false (t (codes "END")) _ l.1 in
-    let n = both_false (t (codes "ZERO")) _ m.1 in
-    let o = both_false (t (codes "ONE")) _ n.1 in
+    let a = or_parts (t (codes "SCALD")) _ h in
+    let b = or_parts (t (codes "CLOCK")) _ a.1 in
+    let c = or_parts (t (codes "WIRE")) _ b.1 in
+    let d = or_parts (t (codes "PSKEW")) _ c.1 in
+    let e = or_parts (t (codes "CSKEW")) _ d.1 in
+    let f = or_parts (t (codes "MACRO")) _ e.1 in
+    let g = or_parts (t (codes "DRAWING")) _ f.1 in
+    let i = or_parts (t (codes "CASE")) _ g.1 in
+    let j = or_parts (t (codes "IF")) _ i.1 in
+    let k = or_parts (t (codes "THEN")) _ j.1 in
+    let l = or_parts (t (codes "ELSE")) _ k.1 in
+    let m = or_parts (t (codes "END")) _ l.1 in
+    let n = or_parts (t (codes "ZERO")) _ m.1 in
+    let o = or_parts (t (codes "ONE")) _ n.1 in
     rw (a.0, b.0, c.0, d.0, e.0, f.0, g.0, i.0, j.0, k.0, l.0, m.0, n.0, o.0) refl
 
 pub word_is_free : (t : Lexeme) (w : List ℕ) → bare t ≡ leaf.word w → IsFreeWord w → terminal t ≡ Word

@@ -2,6 +2,7 @@
 use Rattle.std.proofs.Common.{◌≡◌, ℕ, suc, ◌+◌, ◌≤◌, List, [], ◌∷◌, ◌++◌, Some, refl, sym, subst, arith}
 use Rattle.std.specs.Prelude.{IfSome, ⊤}
 use Rattle.std.specs.List.{AllByRecursion}
+use Rattle.std.proofs.lemmas.Option.{same_Some}
 use Rattle.scald_expr.specs.Expression.{Expression}
 use Rattle.scald_expr.specs.Expression as e
 use Rattle.scald_expr.specs.declared.expr.Op.{Op}
@@ -275,32 +276,29 @@ group_ok g.Cases n first v a c b p m = tt
 
 -- ---- what is left out
 
-from_some : {A : Type 0} (P : A → Type 0) (x v : A) → Some x ≡ Some v → P x → P v
-from_some P x v h p = let k : x ≡ v = cc in subst P k p
-
 absent_ok : (p : Part) (n : ℕ) (v : Meaning p) (a : ℕ) → absent_value p ≡ Some v → IsPartOk p n v a a
 absent_ok g.Unary n v a h = absurd cc
-absent_ok g.Factors n v a h = from_some (λ (f : Expression → Expression). Adds f a a) _ v h (nothing_added a)
-absent_ok g.Terms n v a h = from_some (λ (f : Expression → Expression). Adds f a a) _ v h (nothing_added a)
-absent_ok g.Comparison n v a h = from_some (λ (f : Expression → Expression). Adds f a a) _ v h (nothing_added a)
+absent_ok g.Factors n v a h = subst (λ (f : Expression → Expression). Adds f a a) (same_Some _ v h) (nothing_added a)
+absent_ok g.Terms n v a h = subst (λ (f : Expression → Expression). Adds f a a) (same_Some _ v h) (nothing_added a)
+absent_ok g.Comparison n v a h = subst (λ (f : Expression → Expression). Adds f a a) (same_Some _ v h) (nothing_added a)
 absent_ok g.OrEqual n v a h = refl
-absent_ok g.Range n v a h = from_some (λ (o : Meaning g.Range). IsPartOk g.Range n o a a) _ v h tt
-absent_ok g.RangeEnd n v a h = from_some (λ (o : Meaning g.RangeEnd). IsPartOk g.RangeEnd n o a a) _ v h tt
-absent_ok g.Parameters n v a h = from_some (λ (o : Meaning g.Parameters). IsPartOk g.Parameters n o a a) _ v h tt
+absent_ok g.Range n v a h = subst (λ (o : Meaning g.Range). IsPartOk g.Range n o a a) (same_Some _ v h) tt
+absent_ok g.RangeEnd n v a h = subst (λ (o : Meaning g.RangeEnd). IsPartOk g.RangeEnd n o a a) (same_Some _ v h) tt
+absent_ok g.Parameters n v a h = subst (λ (o : Meaning g.Parameters). IsPartOk g.Parameters n o a a) (same_Some _ v h) tt
 absent_ok g.Assign n v a h = absurd cc
-absent_ok g.MoreAssigns n v a h = from_some (λ (o : Meaning g.MoreAssigns). IsPartOk g.MoreAssigns n o a a) _ v h tt
+absent_ok g.MoreAssigns n v a h = subst (λ (o : Meaning g.MoreAssigns). IsPartOk g.MoreAssigns n o a a) (same_Some _ v h) tt
 absent_ok g.Formal n v a h = absurd cc
-absent_ok g.MoreFormals n v a h = from_some (λ (o : Meaning g.MoreFormals). IsPartOk g.MoreFormals n o a a) _ v h tt
-absent_ok g.FormalOutputs n v a h = from_some (λ (o : Meaning g.FormalOutputs). IsPartOk g.FormalOutputs n o a a) _ v h tt
-absent_ok g.Delay n v a h = from_some (λ (o : Meaning g.Delay). IsPartOk g.Delay n o a a) _ v h tt
+absent_ok g.MoreFormals n v a h = subst (λ (o : Meaning g.MoreFormals). IsPartOk g.MoreFormals n o a a) (same_Some _ v h) tt
+absent_ok g.FormalOutputs n v a h = subst (λ (o : Meaning g.FormalOutputs). IsPartOk g.FormalOutputs n o a a) (same_Some _ v h) tt
+absent_ok g.Delay n v a h = subst (λ (o : Meaning g.Delay). IsPartOk g.Delay n o a a) (same_Some _ v h) tt
 absent_ok g.Term n v a h = absurd cc
 absent_ok g.Atom n v a h = absurd cc
-absent_ok g.MoreTerms n v a h = from_some (λ (o : Meaning g.MoreTerms). IsPartOk g.MoreTerms n o a a) _ v h tt
+absent_ok g.MoreTerms n v a h = subst (λ (o : Meaning g.MoreTerms). IsPartOk g.MoreTerms n o a a) (same_Some _ v h) tt
 absent_ok g.Hold n v a h = tt
-absent_ok g.MoreConns n v a h = from_some (λ (o : Meaning g.MoreConns). IsPartOk g.MoreConns n o a a) _ v h tt
-absent_ok g.Outputs n v a h = from_some (λ (o : Meaning g.Outputs). IsPartOk g.Outputs n o a a) _ v h tt
+absent_ok g.MoreConns n v a h = subst (λ (o : Meaning g.MoreConns). IsPartOk g.MoreConns n o a a) (same_Some _ v h) tt
+absent_ok g.Outputs n v a h = subst (λ (o : Meaning g.Outputs). IsPartOk g.Outputs n o a a) (same_Some _ v h) tt
 absent_ok g.Statement n v a h = absurd cc
-absent_ok g.Otherwise n v a h = from_some (λ (o : Meaning g.Otherwise). IsPartOk g.Otherwise n o a a) _ v h tt
+absent_ok g.Otherwise n v a h = subst (λ (o : Meaning g.Otherwise). IsPartOk g.Otherwise n o a a) (same_Some _ v h) tt
 absent_ok g.Macro n v a h = absurd cc
 absent_ok g.Index n v a h = tt
 absent_ok g.Entry n v a h = absurd cc
@@ -317,13 +315,13 @@ lacking_ok g.Sum n v a h = absurd cc
 lacking_ok g.Expr n v a h = absurd cc
 lacking_ok g.Conn n v a h = absurd cc
 lacking_ok g.SomeConns n v a h = absurd cc
-lacking_ok g.Conns n v a h = from_some (λ (o : GroupMeaning g.Conns). IsGroupOk g.Conns n o a a) _ v h tt
+lacking_ok g.Conns n v a h = subst (λ (o : GroupMeaning g.Conns). IsGroupOk g.Conns n o a a) (same_Some _ v h) tt
 lacking_ok g.SomeFormals n v a h = absurd cc
-lacking_ok g.Formals n v a h = from_some (λ (o : GroupMeaning g.Formals). IsGroupOk g.Formals n o a a) _ v h tt
+lacking_ok g.Formals n v a h = subst (λ (o : GroupMeaning g.Formals). IsGroupOk g.Formals n o a a) (same_Some _ v h) tt
 lacking_ok g.Assigns n v a h = absurd cc
 lacking_ok g.Entries n v a h = tt
-lacking_ok g.Statements n v a h = from_some (λ (o : GroupMeaning g.Statements). IsGroupOk g.Statements n o a a) _ v h tt
-lacking_ok g.Macros n v a h = from_some (λ (o : GroupMeaning g.Macros). IsGroupOk g.Macros n o a a) _ v h tt
+lacking_ok g.Statements n v a h = subst (λ (o : GroupMeaning g.Statements). IsGroupOk g.Statements n o a a) (same_Some _ v h) tt
+lacking_ok g.Macros n v a h = subst (λ (o : GroupMeaning g.Macros). IsGroupOk g.Macros n o a a) (same_Some _ v h) tt
 lacking_ok g.Cases n v a h = tt
 
 -- ---- all of it

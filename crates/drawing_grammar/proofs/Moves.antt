@@ -1,9 +1,9 @@
 -- The steps of a reader, over plain lists: what the tokens give of the needs before a step and of those behind it.
-use Rattle.std.proofs.Common.{◌≡◌, ◌≢◌, ℕ, ◌≤◌, ◌<◌, Bool, true, false, ◌&&◌, List, [], ◌∷◌, ◌++◌, Option, Some, None, if◌then◌else◌, refl, sym, ap, ◌∙◌, arith}
+use Rattle.std.proofs.Common.{◌≡◌, ◌≢◌, ℕ, ◌≤◌, ◌<◌, Bool, true, false, ◌&&◌, List, [], ◌∷◌, ◌++◌, Option, Some, None, if◌then◌else◌, refl, sym, ap, ◌∙◌}
 use Rattle.std.specs.Prelude.{nat_le, is_some}
 use Rattle.std.specs.Str.{bytes_eq}
 use Rattle.std.proofs.lemmas.Slice.Eq.{bytes_eq-Decides}
-use Rattle.std.proofs.lemmas.Grind.{common_steps}
+use Rattle.std.proofs.lemmas.Bool.{le-leb, lt-leb}
 use Rattle.scald_base.specs.declared.refusal.Place.{Place}
 use Rattle.scald_base.specs.declared.refusal.Refusal.{Refusal}
 use Rattle.scald_base.specs.declared.refusal.RefusalKind.TheVariants.{Syntax, TooDeep}
@@ -43,12 +43,6 @@ pub refuses : {xs : List Need} {x : Verdict xs} {r : Refusal} → x ≡ Refused 
 refuses e = record { is = e }
 
 -- ---- tokens
-
-at_most : (m : ℕ) → m ≤ limit → nat_le m limit ≡ true
-at_most m h = grind (arith, common_steps)
-
-beyond : (m : ℕ) → limit < m → nat_le m limit ≡ false
-beyond m h = grind (arith, common_steps)
 
 other : (k l : Terminal) → k ≢ l → same k l ≡ false
 other k l h = one (same k l) refl
@@ -93,11 +87,11 @@ letter_stops x a (t ∷ ts) h rest = one (same (terminal t) is.Word) (bytes_eq t
 
 pub enters : {p : Part} (c : Choice p) (n a : ℕ) (ts us : List Lexeme) (t : Lexeme) → ts ≡ t ∷ us → terminal t ≡ opening c → weight (cost c) n a ≤ limit → (rest : List Need) → verdict ts (part p n ∷ rest) a ≡ given (λ v. (choice_value c n t (front (following c n) rest v), behind (following c n) rest v)) (verdict us (following c n ++ rest) (counted (cost c) a))
 unfolding verdict
-enters {p} c n a ts us t e h w rest = ap (λ (ys : List Lexeme). verdict ys (part p n ∷ rest) a) e ∙ (ap (λ (o : Option (Choice p)). go_on (entered p n rest a t o (absent_value p) (step rest a t)) (verdict us) t.place) (chooses c (terminal t) h) ∙ ap (λ (b : Bool). if b then given {needs = part p n ∷ rest} (λ v. (choice_value c n t (front (following c n) rest v), behind (following c n) rest v)) (verdict us (following c n ++ rest) (counted (cost c) a)) else Refused (refusal TooDeep t.place)) (at_most (weight (cost c) n a) w))
+enters {p} c n a ts us t e h w rest = ap (λ (ys : List Lexeme). verdict ys (part p n ∷ rest) a) e ∙ (ap (λ (o : Option (Choice p)). go_on (entered p n rest a t o (absent_value p) (step rest a t)) (verdict us) t.place) (chooses c (terminal t) h) ∙ ap (λ (b : Bool). if b then given {needs = part p n ∷ rest} (λ v. (choice_value c n t (front (following c n) rest v), behind (following c n) rest v)) (verdict us (following c n ++ rest) (counted (cost c) a)) else Refused (refusal TooDeep t.place)) (le-leb (weight (cost c) n a) limit w))
 
 pub too_deep : {p : Part} (c : Choice p) (n a : ℕ) (ts us : List Lexeme) (t : Lexeme) → ts ≡ t ∷ us → terminal t ≡ opening c → limit < weight (cost c) n a → (rest : List Need) → verdict ts (part p n ∷ rest) a ≡ Refused (refusal TooDeep t.place)
 unfolding verdict
-too_deep {p} c n a ts us t e h w rest = ap (λ (ys : List Lexeme). verdict ys (part p n ∷ rest) a) e ∙ (ap (λ (o : Option (Choice p)). go_on (entered p n rest a t o (absent_value p) (step rest a t)) (verdict us) t.place) (chooses c (terminal t) h) ∙ ap (λ (b : Bool). if b then given {needs = part p n ∷ rest} (λ v. (choice_value c n t (front (following c n) rest v), behind (following c n) rest v)) (verdict us (following c n ++ rest) (counted (cost c) a)) else Refused (refusal TooDeep t.place)) (beyond (weight (cost c) n a) w))
+too_deep {p} c n a ts us t e h w rest = ap (λ (ys : List Lexeme). verdict ys (part p n ∷ rest) a) e ∙ (ap (λ (o : Option (Choice p)). go_on (entered p n rest a t o (absent_value p) (step rest a t)) (verdict us) t.place) (chooses c (terminal t) h) ∙ ap (λ (b : Bool). if b then given {needs = part p n ∷ rest} (λ v. (choice_value c n t (front (following c n) rest v), behind (following c n) rest v)) (verdict us (following c n ++ rest) (counted (cost c) a)) else Refused (refusal TooDeep t.place)) (lt-leb (weight (cost c) n a) limit w))
 
 pass : (needs later : List Need) (f : Values later → Values needs) (s : Step later) (us : List Lexeme) (place : Place) → go_on {needs = needs} (passed s f) (verdict us) place ≡ given {needs = needs} f (go_on s (verdict us) place)
 pass needs later f (Next more a m build) us place = one (nat_le m limit) (verdict us more a)

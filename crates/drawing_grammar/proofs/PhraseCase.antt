@@ -1,5 +1,5 @@
 -- The phrases of canonical cases.
-use Rattle.std.proofs.Common.{◌≡◌, ℕ, ◌-◌, ◌<◌, ◌^◌, min, pos, ℤ, List, [], ◌∷◌, ◌++◌, map, refl, sym, ap, ◌∙◌, arith, append_assoc}
+use Rattle.std.proofs.Common.{◌≡◌, ℕ, ◌-◌, ◌<◌, ◌^◌, min, pos, ℤ, List, [], ◌∷◌, ◌++◌, map, refl, ap, ◌∙◌, arith}
 use Rattle.std.specs.Prelude.{codes}
 use Rattle.std.specs.List.{flat_map, AllByRecursion}
 use Rattle.scald_base.specs.declared.refusal.Place.{Place}
@@ -11,7 +11,7 @@ use Rattle.drawing_tree.specs.Places.{unplaced_entry, unplaced_case}
 use Rattle.drawing_grammar.specs.declared.terminal.Terminal.TheVariants.{Number, Equals, Greater, Semicolon}
 use Rattle.drawing_grammar.specs.Header.{natural}
 use Rattle.drawing_grammar.specs.Lexeme.{Lexeme, terminal, symbol_terminal, word_terminal, kind_number, number_of}
-use Rattle.drawing_grammar.specs.Grammar.{Need, mark, item, part, group, Index, Entry, MoreEntries, Entries, CaseStatement, Cases}
+use Rattle.drawing_grammar.specs.Grammar.{Need, mark, part, group, Entry, MoreEntries, Entries, CaseStatement, Cases}
 use Rattle.drawing_grammar.specs.Grammar as g
 use Rattle.drawing_grammar.specs.Sketch.{Values, signal_of, capped}
 use Rattle.drawing_grammar.specs.Written.{Written, marked, token, chosen, left_out, grouped, lacking, spelling, values}
@@ -20,7 +20,7 @@ use Rattle.drawing_grammar.proofs.Leaves as leaf
 use Rattle.drawing_grammar.proofs.CanonicalTokens.{word, name, number, comma, less, greater, equals, semicolon, listed_tokens, entry_tokens, case_tokens}
 use Rattle.drawing_grammar.proofs.Drawable.{HasOne, IsDrawnEntry, IsDrawnCase}
 use Rattle.drawing_grammar.proofs.Matching.{bare, Are, parts, single, terminal_is}
-use Rattle.drawing_grammar.proofs.PhraseSteps.{bare_symbol, cons_stands, spelled_item, spelled_two}
+use Rattle.drawing_grammar.proofs.PhraseSteps.{bare_symbol, cons_stands, spelled_item, spelled_two, spelled_between}
 use Rattle.drawing_grammar.proofs.PhraseConnection.{PartBuilt, signal_again, nothing_spelled}
 use Rattle.drawing_grammar.proofs.PhraseConnections.{GroupBuilt}
 
@@ -118,9 +118,6 @@ entries_built (e ∷ es) some is ts are rest w =
 case_stands : (c : CaseStmt) (es : List CaseEntry) (place : Place) → AreEntries c.entries es → unplaced_case (record { entries = es; place = place }) ≡ unplaced_case c
 case_stands c es place a = rw a refl
 
-case_spelled : (ts z0 semi begin entries : List Lexeme) (t s : Lexeme) (rest : List Lexeme) → ts ≡ z0 ++ semi → z0 ≡ begin ++ entries → begin ≡ t ∷ [] → semi ≡ s ∷ [] → t ∷ (entries ++ s ∷ rest) ≡ ts ++ rest
-case_spelled ts z0 semi begin entries t s rest a b c d = rw (a, b, c, d) (ap (λ (us : List Lexeme). t ∷ us) (sym (append_assoc entries (s ∷ []) rest)))
-
 case_built : (c : CaseStmt) → IsDrawnCase c → (ts : List Lexeme) → Are ts (case_tokens c) → (rest : List Need) (w : Written rest) → PartBuilt CaseStatement (λ v. unplaced_case v ≡ unplaced_case c) ts rest w
 unfolding symbol_terminal word_terminal
 case_built c is ts are rest w =
@@ -133,7 +130,7 @@ case_built c is ts are rest w =
     let b = entries_built c.entries is.some is.entries a1.second a1.back (mark Semicolon ∷ rest) (marked s.token ends w) in
     record {
       written = chosen g.case_ t.token opens b.written;
-      spelled = ap (λ (us : List Lexeme). t.token ∷ us) b.spelled ∙ case_spelled ts a0.first a0.second a1.first a1.second t.token s.token (spelling w) a0.whole a1.whole t.whole s.whole;
+      spelled = ap (λ (us : List Lexeme). t.token ∷ us) b.spelled ∙ spelled_between ts a1.first a1.second a0.first a0.second t.token s.token (spelling w) a0.whole a1.whole t.whole s.whole;
       stands = case_stands c (values b.written).0 t.token.place b.stands;
       others = b.others;
       fits = λ f a. (omega arith, b.fits (λ d. (omega arith, f d)) a);

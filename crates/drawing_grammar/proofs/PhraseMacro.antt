@@ -7,18 +7,17 @@ use Rattle.drawing_tree.specs.Places.{unplaced_statements, unplaced_macro}
 use Rattle.drawing_tree.specs.WellFormed.{IsFreeWord}
 use Rattle.drawing_grammar.specs.declared.terminal.Terminal.TheVariants.{End, Semicolon, OpenParenthesis, CloseParenthesis}
 use Rattle.drawing_grammar.specs.Lexeme.{Lexeme, terminal, symbol_terminal, word_terminal}
-use Rattle.drawing_grammar.specs.Grammar.{Need, mark, part, group, Statements, Formals, FormalOutputs, Parameters, Macro, Macros}
+use Rattle.drawing_grammar.specs.Grammar.{Need, mark, part, group, Statements, Formals, FormalOutputs, Macro, Macros}
 use Rattle.drawing_grammar.specs.Grammar as g
 use Rattle.drawing_grammar.specs.Sketch.{Values, PlacedList, HeadedMacro, HeadedMacros, headed_macro, with_macro}
 use Rattle.drawing_grammar.specs.Written.{Written, marked, token, chosen, grouped, lacking, spelling, values}
 use Rattle.drawing_grammar.proofs.Leaves as leaf
 use Rattle.drawing_grammar.proofs.CanonicalTokens.{word, semicolon, open_parenthesis, close_parenthesis, params_tokens, inputs_tokens, outputs_tokens, formal_tokens, listed_tokens, statements_tokens, end_tokens, body_tokens, macro_tokens}
 use Rattle.drawing_grammar.proofs.Matching.{Are, parts, single, terminal_is, text_is, word_is_free}
-use Rattle.drawing_grammar.proofs.PhraseSteps.{Fits, bare_symbol, spelled_two}
+use Rattle.drawing_grammar.proofs.PhraseSteps.{Fits, bare_symbol, spelled_two, spelled_between}
 use Rattle.drawing_grammar.proofs.PhraseConnection.{PartBuilt, nothing_spelled}
 use Rattle.drawing_grammar.proofs.PhraseConnections.{GroupBuilt}
 use Rattle.drawing_grammar.proofs.PhraseParameters.{IsShortAssignment, params_built}
-use Rattle.drawing_grammar.proofs.PhraseUse.{ins_spelled}
 use Rattle.drawing_grammar.proofs.PhraseStatement.{AreShort, statements_built}
 use Rattle.drawing_grammar.proofs.PhraseFormals.{IsShortFormal, all_formals, formal_outputs_built}
 
@@ -73,7 +72,7 @@ ins_built fs is ts are rest w =
     let b = all_formals fs is b1.second b1.back (mark CloseParenthesis ∷ rest) (marked x.token closes w) in
     record {
       written = marked o.token opens b.written;
-      spelled = ap (λ (us : List Lexeme). o.token ∷ us) b.spelled ∙ ins_spelled ts b0.first b0.second b1.first b1.second o.token x.token (spelling w) b0.whole b1.whole o.whole x.whole;
+      spelled = ap (λ (us : List Lexeme). o.token ∷ us) b.spelled ∙ spelled_between ts b1.first b1.second b0.first b0.second o.token x.token (spelling w) b0.whole b1.whole o.whole x.whole;
       stands = b.stands;
       others = b.others;
       fits = λ f a. (omega arith, b.fits (λ c. (omega arith, f c)) a);

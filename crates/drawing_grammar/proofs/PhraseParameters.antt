@@ -8,7 +8,7 @@ use Rattle.drawing_tree.specs.Tree as tree
 use Rattle.drawing_tree.specs.WellFormed.{IsFreeWord}
 use Rattle.drawing_grammar.specs.declared.terminal.Terminal.TheVariants.{Equals, CloseBrace, OpenParenthesis, CloseParenthesis}
 use Rattle.drawing_grammar.specs.Lexeme.{Lexeme, terminal, symbol_terminal}
-use Rattle.drawing_grammar.specs.Grammar.{Need, mark, fresh, part, group, Sum, Assign, MoreAssigns, Parameters, Delay, Outputs}
+use Rattle.drawing_grammar.specs.Grammar.{Need, mark, part, Assign, MoreAssigns, Parameters, Outputs}
 use Rattle.drawing_grammar.specs.Grammar as g
 use Rattle.drawing_grammar.specs.Sketch.{Values, no_items}
 use Rattle.drawing_grammar.specs.Written.{Written, marked, chosen, left_out, grouped, spelling, values}
@@ -16,7 +16,7 @@ use Rattle.drawing_grammar.proofs.Cutting.{Bare}
 use Rattle.drawing_grammar.proofs.Leaves as leaf
 use Rattle.drawing_grammar.proofs.CanonicalTokens.{word, comma, equals, open_brace, close_brace, arrow, open_parenthesis, close_parenthesis, sum_tokens, assignment_tokens, params_tokens, connection_tokens, outputs_tokens, listed_tokens}
 use Rattle.drawing_grammar.proofs.Matching.{Are, parts, single, terminal_is, text_is, word_is_free}
-use Rattle.drawing_grammar.proofs.PhraseSteps.{bare_symbol, items_stand, spelled_between, spelled_item, spelled_two}
+use Rattle.drawing_grammar.proofs.PhraseSteps.{bare_symbol, items_stand, spelled_between, spelled_item, spelled_two, spelled_pair}
 use Rattle.drawing_grammar.proofs.PhraseConnection.{IsShort, PartBuilt, own_sum, nothing_spelled}
 use Rattle.drawing_grammar.proofs.PhraseConnections.{IsShortConnection, AreConnections, some_connections}
 
@@ -29,9 +29,6 @@ pub record IsShortAssignment (a : tree.Assignment) : Type 0 where
 assigned : (a : tree.Assignment) (name : List ℕ) (value : Expression) → name ≡ a.name → value ≡ a.value → (let x : tree.Assignment = record { name = name; value = value } in x) ≡ a
 assigned a name value e f = rw (e, f) refl
 
-assign_spelled : (ts first second before last : List Lexeme) (t u : Lexeme) (rest : List Lexeme) → ts ≡ before ++ last → before ≡ first ++ second → first ≡ t ∷ [] → second ≡ u ∷ [] → t ∷ u ∷ (last ++ rest) ≡ ts ++ rest
-assign_spelled ts first second before last t u rest a b c d = rw (a, b, c, d) refl
-
 assign_built : (a : tree.Assignment) → IsShortAssignment a → (ts : List Lexeme) → Are ts (assignment_tokens a) → (rest : List Need) (w : Written rest) → PartBuilt Assign (λ v. v.item ≡ a) ts rest w
 unfolding symbol_terminal
 assign_built a is ts are rest w =
@@ -43,7 +40,7 @@ assign_built a is ts are rest w =
     let s = own_sum a.value is.value two.second two.back rest w in
     record {
       written = chosen g.assign t.token (word_is_free t.token a.name t.is is.name) (marked u.token next s.written);
-      spelled = ap (λ (us : List Lexeme). t.token ∷ u.token ∷ us) s.spelled ∙ assign_spelled ts one.first one.second two.first two.second t.token u.token (spelling w) two.whole one.whole t.whole u.whole;
+      spelled = ap (λ (us : List Lexeme). t.token ∷ u.token ∷ us) s.spelled ∙ spelled_pair ts one.first one.second two.first two.second t.token u.token (spelling w) two.whole one.whole t.whole u.whole;
       stands = assigned a t.token.text (values s.written).0 (text_is t.token (leaf.word a.name) t.is) s.stands;
       others = s.others;
       fits = λ f c. (omega arith, (omega arith, s.fits f c));

@@ -8,14 +8,14 @@ use Rattle.drawing_tree.specs.Places.{unplaced_connection, unplaced_use}
 use Rattle.drawing_tree.specs.WellFormed.{IsFreeWord}
 use Rattle.drawing_grammar.specs.declared.terminal.Terminal.TheVariants.{Colon, Semicolon, CloseBracket, OpenParenthesis, CloseParenthesis}
 use Rattle.drawing_grammar.specs.Lexeme.{Lexeme, terminal, symbol_terminal}
-use Rattle.drawing_grammar.specs.Grammar.{Need, mark, item, fresh, part, group, Sum, Delay, Parameters, Outputs, Conns, Statement}
+use Rattle.drawing_grammar.specs.Grammar.{Need, mark, fresh, part, group, Sum, Delay, Parameters, Outputs, Conns, Statement}
 use Rattle.drawing_grammar.specs.Grammar as g
 use Rattle.drawing_grammar.specs.Sketch.{Values}
 use Rattle.drawing_grammar.specs.Written.{Written, marked, token, chosen, left_out, spelling, values}
 use Rattle.drawing_grammar.proofs.Leaves as leaf
 use Rattle.drawing_grammar.proofs.CanonicalTokens.{word, colon, semicolon, open_bracket, close_bracket, open_parenthesis, close_parenthesis, sum_tokens, bounds_tokens, delay_tokens, params_tokens, inputs_tokens, outputs_tokens, connection_tokens, listed_tokens, use_tokens}
 use Rattle.drawing_grammar.proofs.Matching.{Are, parts, single, terminal_is, text_is, word_is_free}
-use Rattle.drawing_grammar.proofs.PhraseSteps.{Fits, bare_symbol}
+use Rattle.drawing_grammar.proofs.PhraseSteps.{Fits, bare_symbol, spelled_between}
 use Rattle.drawing_grammar.proofs.PhraseConnection.{IsShort, PartBuilt, own_sum, nothing_spelled}
 use Rattle.drawing_grammar.proofs.PhraseConnections.{IsShortConnection, all_connections}
 use Rattle.drawing_grammar.proofs.PhraseParameters.{IsShortAssignment, params_built, outputs_built}
@@ -65,10 +65,6 @@ pub record IsShortUse (u : tree.UseStatement) : Type 0 where
 
 use_stands : (u v : tree.UseStatement) → v.label ≡ u.label → v.kind ≡ u.kind → v.delay ≡ u.delay → v.params ≡ u.params → map unplaced_connection v.ins ≡ map unplaced_connection u.ins → map unplaced_connection v.outs ≡ map unplaced_connection u.outs → unplaced_use v ≡ unplaced_use u
 use_stands u v a b c d e f = rw (a, b, c, d, e, f) refl
-
--- the inputs in their parentheses
-pub ins_spelled : (ts before last first second : List Lexeme) (t u : Lexeme) (rest : List Lexeme) → ts ≡ before ++ last → before ≡ first ++ second → first ≡ t ∷ [] → last ≡ u ∷ [] → t ∷ (second ++ u ∷ rest) ≡ ts ++ rest
-ins_spelled ts before last first second t u rest a b c d = rw (a, b, c, d) (ap (λ (us : List Lexeme). t ∷ us) (sym (append_assoc second (u ∷ []) rest)))
 
 use_spelled : (ts z0 semi z1 outs z2 ins z3 params z4 delay z5 kind label colons : List Lexeme) (t c k s : Lexeme) (rest : List Lexeme) → ts ≡ z0 ++ semi → z0 ≡ z1 ++ outs → z1 ≡ z2 ++ ins → z2 ≡ z3 ++ params → z3 ≡ z4 ++ delay → z4 ≡ z5 ++ kind → z5 ≡ label ++ colons → label ≡ t ∷ [] → colons ≡ c ∷ [] → kind ≡ k ∷ [] → semi ≡ s ∷ [] →
     t ∷ c ∷ k ∷ (delay ++ (params ++ (ins ++ (outs ++ s ∷ rest)))) ≡ ts ++ rest
@@ -134,7 +130,7 @@ use_built u is n ts are rest w =
           (delay.spelled ∙ ap (λ (us : List Lexeme). a4.second ++ us)
           (params.spelled ∙ ap (λ (us : List Lexeme). a3.second ++ us)
           (ap (λ (us : List Lexeme). o.token ∷ us) (ins.spelled ∙ ap (λ (us : List Lexeme). b1.second ++ x.token ∷ us) outs.spelled)
-          ∙ ins_spelled a2.second b0.first b0.second b1.first b1.second o.token x.token (a1.second ++ s.token ∷ spelling w) b0.whole b1.whole o.whole x.whole)))
+          ∙ spelled_between a2.second b1.first b1.second b0.first b0.second o.token x.token (a1.second ++ s.token ∷ spelling w) b0.whole b1.whole o.whole x.whole)))
           ∙ use_spelled ts a0.first a0.second a1.first a1.second a2.first a2.second a3.first a3.second a4.first a4.second a5.first a5.second a6.first a6.second t.token c.token k.token s.token (spelling w)
           a0.whole a1.whole a2.whole a3.whole a4.whole a5.whole a6.whole t.whole c.whole k.whole s.whole;
       found = found;

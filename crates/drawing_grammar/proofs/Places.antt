@@ -1,7 +1,7 @@
 -- What the verdict on tokens says of them.
-use Rattle.std.proofs.Common.{◌≡◌, ℕ, ◌≤◌, ◌<◌, Bool, true, false, List, [], ◌∷◌, ◌++◌, if◌then◌else◌, refl, sym, ap, ◌∙◌, arith}
+use Rattle.std.proofs.Common.{◌≡◌, ℕ, ◌≤◌, ◌<◌, Bool, true, false, List, [], ◌∷◌, ◌++◌, if◌then◌else◌, refl, sym, ap, ◌∙◌}
 use Rattle.std.specs.Prelude.{nat_le}
-use Rattle.std.proofs.lemmas.Grind.{common_steps}
+use Rattle.std.proofs.lemmas.Bool.{leb-true, leb-false, le-leb}
 use Rattle.scald_base.specs.declared.refusal.Refusal.{Refusal}
 use Rattle.scald_base.specs.declared.refusal.RefusalKind.TheVariants.{Syntax, TooDeep}
 use Rattle.drawing_grammar.specs.Lexeme.{Lexeme}
@@ -12,15 +12,6 @@ use Rattle.drawing_grammar.specs.Machine.{Step, Next, Stuck, step, Verdict, Comp
 use Rattle.drawing_grammar.proofs.Undo.{Before, Undone, undo}
 use Rattle.drawing_grammar.proofs.Forced.{Chained, After, Forces, forced}
 use Rattle.drawing_grammar.proofs.Least.{least, IsRefused, unfinished, DoneAt, finished, empty}
-
-at_most : (m : ℕ) → nat_le m limit ≡ true → m ≤ limit
-at_most m e = grind (arith, common_steps)
-
-above : (m : ℕ) → nat_le m limit ≡ false → limit < m
-above m e = grind (arith, common_steps)
-
-is_at_most : (m : ℕ) → m ≤ limit → nat_le m limit ≡ true
-is_at_most m h = grind (arith, common_steps)
 
 -- ---- what is complete is written
 
@@ -50,7 +41,7 @@ found (t ∷ ts) needs a v e = one (λ later b y f. found ts later b y f) (step 
         inside (Complete y) g e = let k = again later b y g in let z = u k.written in let s : build y ≡ v = cc in record {
           written = z.written;
           spelled = z.spelled ∙ ap (λ (zs : List Lexeme). t ∷ zs) k.spelled;
-          within = within_from ts t m (weights k.written b) (weights z.written a) z.weighed (at_most m f) k.within;
+          within = within_from ts t m (weights k.written b) (weights z.written a) z.weighed (leb-true m limit f) k.within;
           valued = z.valued ∙ (ap build k.valued ∙ s);
         }
         inside (Refused r) g e = absurd cc
@@ -62,7 +53,7 @@ found (t ∷ ts) needs a v e = one (λ later b y f. found ts later b y f) (step 
 
 -- ---- what is written is complete
 
-within_parts : (ts : List Lexeme) (t : Lexeme) (m : ℕ) (xs ys : List ℕ) → ys ≡ m ∷ xs → Within (t ∷ ts) ys → (m ≤ limit) × Within ts xs
+pub within_parts : (ts : List Lexeme) (t : Lexeme) (m : ℕ) (xs ys : List ℕ) → ys ≡ m ∷ xs → Within (t ∷ ts) ys → (m ≤ limit) × Within ts xs
 within_parts ts t m xs [] e w = absurd cc
 within_parts ts t m xs (y ∷ ys) e w = let i : m ≡ y = cc in let j : xs ≡ ys = cc in rw (i, j) w
 
@@ -76,7 +67,7 @@ complete (t ∷ ts) needs a w c e h = one (λ later b x d f i. complete ts later
     go again later b m build f false g = absurd cc
 
     one : ((later : List Need) (b : ℕ) (w : Written later) → Chained later → spelling w ≡ ts → Within ts (weights w b) → verdict ts later b ≡ Complete (values w)) → (x : Step needs) → Forces w a ts x → go_on x (verdict ts) t.place ≡ Complete (values w)
-    one again (Next later b m build) f = go again later b m build f (nat_le m limit) (is_at_most m (within_parts ts t m (weights f.rest b) (weights w a) f.weighed h).0)
+    one again (Next later b m build) f = go again later b m build f (nat_le m limit) (le-leb m limit (within_parts ts t m (weights f.rest b) (weights w a) f.weighed h).0)
     one again Stuck f = absurd f
 
 -- ---- what is refused, and where
@@ -137,12 +128,12 @@ placed (t ∷ ts) needs a r c e = one (λ later b d f. placed ts later b r d f) 
     here = record { written = least needs; rest = spelling (least needs); spelled = refl; within = tt }
 
     go : ((later : List Need) (b : ℕ) → Chained later → verdict ts later b ≡ Refused r → Placed ts later b r) → (later : List Need) (b m : ℕ) (build : Values later → Values needs) → ((ws : Written later) → Before needs a t later b m build ws) → ((w : Written needs) (zs : List Lexeme) → spelling w ≡ t ∷ zs → After w a zs later b m build) → (q : Bool) → nat_le m limit ≡ q → (if q then given {needs = needs} build (verdict ts later b) else Refused (refusal TooDeep t.place)) ≡ Refused r → Placed (t ∷ ts) needs a r
-    go again later b m build u f true g e = one_more ts needs a t r later b m build u f (at_most m g) (again later b (f (u (least later)).written (spelling (least later)) (u (least later)).spelled).chained (inside (verdict ts later b) e))
+    go again later b m build u f true g e = one_more ts needs a t r later b m build u f (leb-true m limit g) (again later b (f (u (least later)).written (spelling (least later)) (u (least later)).spelled).chained (inside (verdict ts later b) e))
       where
         inside : (x : Verdict later) → given {needs = needs} build x ≡ Refused r → x ≡ Refused r
         inside (Complete v) e = absurd cc
         inside (Refused s) e = let k : s ≡ r = cc in ap (λ (y : Refusal). Refused y) k
-    go again later b m build u f false g e = let k : refusal TooDeep t.place ≡ r = cc in let z = u (least later) in at_limit [] t ts refl here (record { written = z.written; rest = spelling (least later); spelled = z.spelled; beyond = beyond_here m (weights (least later) b) (weights z.written a) z.weighed (above m g) }) (sym k)
+    go again later b m build u f false g e = let k : refusal TooDeep t.place ≡ r = cc in let z = u (least later) in at_limit [] t ts refl here (record { written = z.written; rest = spelling (least later); spelled = z.spelled; beyond = beyond_here m (weights (least later) b) (weights z.written a) z.weighed (leb-false m limit g) }) (sym k)
 
     one : ((later : List Need) (b : ℕ) → Chained later → verdict ts later b ≡ Refused r → Placed ts later b r) → (x : Step needs) → Undone needs a t x → ((w : Written needs) (zs : List Lexeme) → spelling w ≡ t ∷ zs → Forces w a zs x) → go_on x (verdict ts) t.place ≡ Refused r → Placed (t ∷ ts) needs a r
     one again (Next later b m build) u f e = go again later b m build u f (nat_le m limit) refl e

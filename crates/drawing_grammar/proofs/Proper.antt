@@ -2,6 +2,7 @@
 use Rattle.std.proofs.Common.{◌≡◌, ℕ, ◌<◌, ◌^◌, suc, Bool, List, [], ◌∷◌, ◌++◌, length, Some, refl, ap, subst, arith}
 use Rattle.std.specs.Prelude.{IfSome, ⊤}
 use Rattle.std.specs.List.{AllByRecursion}
+use Rattle.std.proofs.lemmas.Option.{same_Some}
 use Rattle.scald_expr.specs.Expression.{Expression}
 use Rattle.assertion_syntax.specs.declared.name.SignalName.{SignalName}
 use Rattle.assertion_syntax.specs.Name.{IsName}
@@ -278,36 +279,33 @@ group_of G g.Cases n first v p a = (p, a.0)
 
 -- ---- what is left out
 
-from_some : {A : Type 0} (P : A → Type 0) (x v : A) → Some x ≡ Some v → P x → P v
-from_some P x v e p = let h : x ≡ v = cc in subst P h p
-
 absent_of : (G : SignalName → Type 0) (p : Part) (v : Meaning p) → absent_value p ≡ Some v → IsPartOf G p v
 absent_of G g.Unary v e = absurd cc
-absent_of G g.Factors v e = from_some (IsPartOf G g.Factors) _ v e (λ left h. h)
-absent_of G g.Terms v e = from_some (IsPartOf G g.Terms) _ v e (λ left h. h)
-absent_of G g.Comparison v e = from_some (IsPartOf G g.Comparison) _ v e (λ left h. h)
+absent_of G g.Factors v e = subst (IsPartOf G g.Factors) (same_Some _ v e) (λ left h. h)
+absent_of G g.Terms v e = subst (IsPartOf G g.Terms) (same_Some _ v e) (λ left h. h)
+absent_of G g.Comparison v e = subst (IsPartOf G g.Comparison) (same_Some _ v e) (λ left h. h)
 absent_of G g.OrEqual v e = tt
-absent_of G g.Range v e = from_some (IsPartOf G g.Range) _ v e tt
-absent_of G g.RangeEnd v e = from_some (IsPartOf G g.RangeEnd) _ v e tt
-absent_of G g.Parameters v e = from_some (IsPartOf G g.Parameters) _ v e (record { items = tt; places = refl })
+absent_of G g.Range v e = subst (IsPartOf G g.Range) (same_Some _ v e) tt
+absent_of G g.RangeEnd v e = subst (IsPartOf G g.RangeEnd) (same_Some _ v e) tt
+absent_of G g.Parameters v e = subst (IsPartOf G g.Parameters) (same_Some _ v e) (record { items = tt; places = refl })
 absent_of G g.Assign v e = absurd cc
-absent_of G g.MoreAssigns v e = from_some (IsPartOf G g.MoreAssigns) _ v e (record { items = tt; places = refl })
+absent_of G g.MoreAssigns v e = subst (IsPartOf G g.MoreAssigns) (same_Some _ v e) (record { items = tt; places = refl })
 absent_of G g.Formal v e = absurd cc
-absent_of G g.MoreFormals v e = from_some (IsPartOf G g.MoreFormals) _ v e (record { items = tt; places = refl })
-absent_of G g.FormalOutputs v e = from_some (IsPartOf G g.FormalOutputs) _ v e (record { items = tt; places = refl })
-absent_of G g.Delay v e = from_some (IsPartOf G g.Delay) _ v e tt
+absent_of G g.MoreFormals v e = subst (IsPartOf G g.MoreFormals) (same_Some _ v e) (record { items = tt; places = refl })
+absent_of G g.FormalOutputs v e = subst (IsPartOf G g.FormalOutputs) (same_Some _ v e) (record { items = tt; places = refl })
+absent_of G g.Delay v e = subst (IsPartOf G g.Delay) (same_Some _ v e) tt
 absent_of G g.Term v e = absurd cc
 absent_of G g.Atom v e = absurd cc
-absent_of G g.MoreTerms v e = from_some (IsPartOf G g.MoreTerms) _ v e tt
+absent_of G g.MoreTerms v e = subst (IsPartOf G g.MoreTerms) (same_Some _ v e) tt
 absent_of G g.Hold v e = tt
-absent_of G g.MoreConns v e = from_some (IsPartOf G g.MoreConns) _ v e tt
-absent_of G g.Outputs v e = from_some (IsPartOf G g.Outputs) _ v e tt
+absent_of G g.MoreConns v e = subst (IsPartOf G g.MoreConns) (same_Some _ v e) tt
+absent_of G g.Outputs v e = subst (IsPartOf G g.Outputs) (same_Some _ v e) tt
 absent_of G g.Statement v e = absurd cc
-absent_of G g.Otherwise v e = from_some (IsPartOf G g.Otherwise) _ v e tt
+absent_of G g.Otherwise v e = subst (IsPartOf G g.Otherwise) (same_Some _ v e) tt
 absent_of G g.Macro v e = absurd cc
-absent_of G g.Index v e = from_some (IsPartOf G g.Index) _ v e (omega arith)
+absent_of G g.Index v e = subst (IsPartOf G g.Index) (same_Some _ v e) (omega arith)
 absent_of G g.Entry v e = absurd cc
-absent_of G g.MoreEntries v e = from_some (IsPartOf G g.MoreEntries) _ v e tt
+absent_of G g.MoreEntries v e = subst (IsPartOf G g.MoreEntries) (same_Some _ v e) tt
 absent_of G g.CaseStatement v e = absurd cc
 absent_of G g.WireBounds v e = tt
 absent_of G g.PrecisionSkew v e = tt
@@ -320,14 +318,14 @@ lacking_of G g.Sum v e = absurd cc
 lacking_of G g.Expr v e = absurd cc
 lacking_of G g.Conn v e = absurd cc
 lacking_of G g.SomeConns v e = absurd cc
-lacking_of G g.Conns v e = from_some (IsGroupOf G g.Conns) _ v e tt
+lacking_of G g.Conns v e = subst (IsGroupOf G g.Conns) (same_Some _ v e) tt
 lacking_of G g.SomeFormals v e = absurd cc
-lacking_of G g.Formals v e = from_some (IsGroupOf G g.Formals) _ v e (record { items = tt; places = refl })
+lacking_of G g.Formals v e = subst (IsGroupOf G g.Formals) (same_Some _ v e) (record { items = tt; places = refl })
 lacking_of G g.Assigns v e = absurd cc
 lacking_of G g.Entries v e = absurd cc
-lacking_of G g.Statements v e = from_some (IsGroupOf G g.Statements) _ v e tt
-lacking_of G g.Macros v e = from_some (IsGroupOf G g.Macros) _ v e (record { macros = tt; heads = tt })
-lacking_of G g.Cases v e = from_some (IsGroupOf G g.Cases) _ v e tt
+lacking_of G g.Statements v e = subst (IsGroupOf G g.Statements) (same_Some _ v e) tt
+lacking_of G g.Macros v e = subst (IsGroupOf G g.Macros) (same_Some _ v e) (record { macros = tt; heads = tt })
+lacking_of G g.Cases v e = subst (IsGroupOf G g.Cases) (same_Some _ v e) tt
 
 -- ---- all of it
 

@@ -9,6 +9,7 @@ use Rattle.drawing_grammar.specs.declared.header.NumberPair.{NumberPair}
 use Rattle.drawing_grammar.specs.declared.header.WrittenHeader.{WrittenHeader}
 use Rattle.drawing_grammar.specs.Header.{natural, is_version, is_clock, is_bounds, is_skew, judged_statement, judged_pair, judged, header_of, pair_of, bounds_of}
 use Rattle.drawing_grammar.proofs.PhraseText.{IsPair}
+use Rattle.drawing_grammar.proofs.Judging.{passed, passed_pair}
 
 good_clock : (u t : ℕ) → 2 ≤ u * t → u * t ≤ 4096 → is_clock (pos u) (pos t) ≡ true
 good_clock zero t h k = absurd (let e : zero * t ≡ 0 = omega arith in omega arith)
@@ -37,14 +38,6 @@ skews_are : (m n : ℤ) → is_skew m n ≡ true → (natural m ≤ 4095) × (na
 skews_are (pos a) (pos b) e = (grind (arith, nat_tests), grind (arith, nat_tests))
 skews_are (pos a) (negsuc b) e = absurd (grind (arith, nat_tests))
 skews_are (negsuc a) n e = absurd cc
-
-passed : {A : Type 0} (b : Bool) (place : Place) (said : Result A Refusal) (x : A) → judged_statement b place said ≡ Ok x → (b ≡ true) × (said ≡ Ok x)
-passed true place said x e = (refl, e)
-passed false place said x e = absurd cc
-
-passed_pair : {A : Type 0} (test : ℤ → ℤ → Bool) (o : Option NumberPair) (said : Result A Refusal) (x : A) → judged_pair test o said ≡ Ok x → IfSome o (λ p. test p.first p.second ≡ true) × (said ≡ Ok x)
-passed_pair test None said x e = (tt, e)
-passed_pair test (Some p) said x e = passed (test p.first p.second) p.place said x e
 
 delay_is : (o : Option NumberPair) → IfSome o (λ p. is_bounds p.first p.second ≡ true) → IsDelay (bounds_of o)
 delay_is None h = record { ordered = omega arith; bounded = omega arith }

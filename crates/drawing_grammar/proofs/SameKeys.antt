@@ -1,9 +1,10 @@
 -- Keys of declarations are the same where their parts are.
-use Rattle.std.proofs.Common.{◌≡◌, ℕ, suc, Bool, true, false, ◌&&◌, List, ◌∷◌, refl, arith, nat_eq, subst}
+use Rattle.std.proofs.Common.{◌≡◌, ℕ, suc, true, ◌&&◌, List, ◌∷◌, refl, arith, nat_eq, subst}
 use Rattle.std.specs.Prelude.{Contains}
 use Rattle.std.specs.Str.{bytes_eq}
 use Rattle.std.proofs.lemmas.Slice.Eq.{bytes_eq-Decides}
 use Rattle.std.proofs.lemmas.Bool.Decides.{nat_tests}
+use Rattle.std.proofs.lemmas.Bool.{and_parts}
 use denote.Enum.Bare.{sameb}
 use Rattle.drawing_grammar.specs.contracts.declared.Kind.{the_type}
 use Rattle.drawing_grammar.specs.declared.declared.Kind.{Kind}
@@ -34,14 +35,10 @@ kind_same Parameter = refl
 kind_same Formal = refl
 kind_same Label = refl
 
-both : (a b : Bool) → (a && b) ≡ true → (a ≡ true) × (b ≡ true)
-both true b h = (refl, h)
-both false b h = absurd cc
-
 pub same_parts : (s t : ℕ) (j k : Kind) (x y : List ℕ) → (nat_eq s t && (sameb the_type j k && bytes_eq x y)) ≡ true → (s ≡ t) × (j ≡ k) × (x ≡ y)
 same_parts s t j k x y h =
-    let first = both (nat_eq s t) (sameb the_type j k && bytes_eq x y) h in
-    let second = both (sameb the_type j k) (bytes_eq x y) first.1 in
+    let first = and_parts (nat_eq s t) (sameb the_type j k && bytes_eq x y) h in
+    let second = and_parts (sameb the_type j k) (bytes_eq x y) first.1 in
     let p : nat_eq s t ≡ true = first.0 in
     let q : bytes_eq x y ≡ true = second.1 in
     (grind (arith, nat_tests), same_kind j k second.0, grind (arith, bytes_eq-Decides))

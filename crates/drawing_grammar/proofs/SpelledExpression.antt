@@ -3,6 +3,7 @@ use Rattle.std.proofs.Common.{◌≡◌, ℕ, ◌<◌, ◌≤◌, Bool, true, fa
 use Rattle.std.specs.Prelude.{codes, ◌||◌}
 use Rattle.std.specs.List.{list_all}
 use Rattle.std.proofs.lemmas.Bool.Decides.{nat_tests}
+use Rattle.std.proofs.lemmas.Bool.{and_parts}
 use Rattle.scald_base.specs.Word.{is_letter, is_digit, is_word_byte, IsWord}
 use Rattle.scald_lex.specs.Piece.{greatest_number}
 use Rattle.scald_expr.specs.declared.expr.Op.{Op}
@@ -11,7 +12,7 @@ use Rattle.scald_expr.specs.Expression.{Expression, Number, Param, Negate, Binar
 use Rattle.drawing_tree.specs.ExpressionText.{adds, multiplies, compares, is_comparison, left_enclosed, right_enclosed, minus_enclosed, enclosed, op_text, condition_text, sum_text}
 use Rattle.drawing_tree.specs.Canonical.{bounds_text}
 use Rattle.drawing_grammar.proofs.Cutting.{Bare, breaks, Spells, closed, before, then_closed}
-use Rattle.drawing_grammar.proofs.Leaves.{both_true, is_numeral, word_spells, number_spells}
+use Rattle.drawing_grammar.proofs.Leaves.{is_numeral, word_spells, number_spells}
 use Rattle.drawing_grammar.proofs.Literals.{open_parenthesis_closes, close_parenthesis_closes, colon_closes, op_closes, is_plain_first, minus_before}
 use Rattle.drawing_grammar.proofs.CanonicalTokens.{open_parenthesis, close_parenthesis, colon, enclosed_tokens, op_tokens, condition_tokens, sum_tokens, bounds_tokens}
 use Rattle.drawing_grammar.proofs.Drawable.{IsDrawn}
@@ -45,11 +46,11 @@ digit_is_plain b bs h = grind (arith, nat_tests)
 
 word_is_plain : (word : List ℕ) → IsWord word → is_plain_first word ≡ true
 word_is_plain [] is = absurd (let h = is.form in cc)
-word_is_plain (b ∷ bs) is = letter_is_plain b bs (both_true (is_letter b) (list_all is_word_byte bs) is.form).0
+word_is_plain (b ∷ bs) is = letter_is_plain b bs (and_parts (is_letter b) (list_all is_word_byte bs) is.form).0
 
 digits_are_plain : (digits : List ℕ) → 0 < length digits → list_all is_digit digits ≡ true → is_plain_first digits ≡ true
 digits_are_plain [] h k = absurd (omega arith)
-digits_are_plain (b ∷ bs) h k = digit_is_plain b bs (both_true (is_digit b) (list_all is_digit bs) k).0
+digits_are_plain (b ∷ bs) h k = digit_is_plain b bs (and_parts (is_digit b) (list_all is_digit bs) k).0
 
 number_is_plain : (n : ℕ) → n ≤ greatest_number → is_plain_first (decimal n) ≡ true
 number_is_plain n h = let is = is_numeral n (omega arith) in digits_are_plain (decimal n) is.some is.all

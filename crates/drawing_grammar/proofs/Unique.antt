@@ -33,10 +33,10 @@ one_complete v u e = let k : v ≡ u = cc in ap (λ (w : Values whole). w.0) k
 sketches : (ts : List Lexeme) (w u : Written whole) → IsText ts w → IsText ts u → (values w).0 ≡ (values u).0
 sketches ts w u a b = one_complete (values w) (values u) (sym (completes ts w a) ∙ completes ts u b)
 
-not_refused : (v : Values whole) (r : Refusal) → ◌≡◌ {A = Verdict whole} (Complete v) (Refused r) → ⊥
+pub not_refused : (v : Values whole) (r : Refusal) → ◌≡◌ {A = Verdict whole} (Complete v) (Refused r) → ⊥
 not_refused v r e = cc
 
-one_refused : (r s : Refusal) → ◌≡◌ {A = Verdict whole} (Refused r) (Refused s) → r ≡ s
+pub one_refused : (r s : Refusal) → ◌≡◌ {A = Verdict whole} (Refused r) (Refused s) → r ≡ s
 one_refused r s e = cc
 
 written_not_refused : (ts : List Lexeme) (w : Written whole) (r : Refusal) → IsText ts w → IsRefused ts r → ⊥

@@ -1,7 +1,7 @@
 -- The whole text: what the tokens say is what the definitions say.
-use Rattle.std.proofs.Common.{◌≡◌, ℕ, ◌≤◌, ◌<◌, Bool, true, false, List, [], ◌∷◌, ◌++◌, if◌then◌else◌, refl, sym, ap, ◌∙◌, append_assoc, arith}
+use Rattle.std.proofs.Common.{◌≡◌, ℕ, ◌≤◌, ◌<◌, Bool, List, [], ◌∷◌, ◌++◌, if◌then◌else◌, refl, sym, ap, ◌∙◌, append_assoc}
 use Rattle.std.specs.Prelude.{nat_le}
-use Rattle.std.proofs.lemmas.Grind.{common_steps}
+use Rattle.std.proofs.lemmas.Bool.{le-leb, lt-leb}
 use Rattle.scald_base.specs.declared.refusal.Refusal.{Refusal}
 use Rattle.scald_base.specs.declared.refusal.RefusalKind.TheVariants.{Syntax, TooDeep}
 use Rattle.scald_lex.specs.declared.token.Token as lex
@@ -10,24 +10,14 @@ use Rattle.drawing_grammar.specs.declared.terminal.Terminal.TheVariants as is
 use Rattle.drawing_grammar.specs.Lexeme.{Lexeme, lexeme_of, lexemes, terminal}
 use Rattle.drawing_grammar.specs.Grammar.{Need}
 use Rattle.drawing_grammar.specs.Sketch.{Sketch, Values}
-use Rattle.drawing_grammar.specs.Written.{Written, spelling, weights, limit, Within, Beyond}
+use Rattle.drawing_grammar.specs.Written.{Written, spelling, weights, limit, Beyond}
 use Rattle.drawing_grammar.specs.Draws.{whole, Reads, IsRefused, syntax, too_deep}
 use Rattle.drawing_grammar.specs.Machine.{Step, Next, Stuck, step, Verdict, Complete, Refused, given, go_on, verdict, refusal}
 use Rattle.drawing_grammar.proofs.Undo.{Undone, undo}
 use Rattle.drawing_grammar.proofs.Forced.{Chained, Forces, forced}
 use Rattle.drawing_grammar.proofs.Least.{least}
-use Rattle.drawing_grammar.proofs.Places.{found, Front, Far, Placed, at_syntax, at_limit, at_end, placed}
+use Rattle.drawing_grammar.proofs.Places.{found, Front, Far, Placed, at_syntax, at_limit, at_end, placed, within_parts}
 use Rattle.drawing_grammar.proofs.Ends.{text_end_last}
-
-is_at_most : (m : ℕ) → m ≤ limit → nat_le m limit ≡ true
-is_at_most m h = grind (arith, common_steps)
-
-is_above : (m : ℕ) → limit < m → nat_le m limit ≡ false
-is_above m h = grind (arith, common_steps)
-
-within_parts : (ts : List Lexeme) (t : Lexeme) (m : ℕ) (xs ys : List ℕ) → ys ≡ m ∷ xs → Within (t ∷ ts) ys → (m ≤ limit) × Within ts xs
-within_parts ts t m xs [] e w = absurd cc
-within_parts ts t m xs (y ∷ ys) e w = let i : m ≡ y = cc in let j : xs ≡ ys = cc in rw (i, j) w
 
 beyond_first : (m : ℕ) (xs ys : List ℕ) → ys ≡ m ∷ xs → Beyond [] ys → limit < m
 beyond_first m xs [] e h = absurd h
@@ -40,7 +30,7 @@ beyond_rest ts t m xs (y ∷ ys) e h = let i : xs ≡ ys = cc in rw i h
 -- ---- a refusal of the definitions is one of the tokens
 
 passes : (needs later : List Need) (m : ℕ) (build : Values later → Values needs) (x : Verdict later) (place : _) (r : Refusal) → m ≤ limit → x ≡ Refused r → (if nat_le m limit then given {needs = needs} build x else Refused (refusal TooDeep place)) ≡ Refused r
-passes needs later m build x place r h e = ap (λ (b : Bool). if b then given {needs = needs} build x else Refused (refusal TooDeep place)) (is_at_most m h) ∙ ap (λ (y : Verdict later). given {needs = needs} build y) e
+passes needs later m build x place r h e = ap (λ (b : Bool). if b then given {needs = needs} build x else Refused (refusal TooDeep place)) (le-leb m limit h) ∙ ap (λ (y : Verdict later). given {needs = needs} build y) e
 
 pub refused_syntax : (before : List Lexeme) (t : Lexeme) (after : List Lexeme) (needs : List Need) (a : ℕ) → Chained needs → Front before needs a → ((w : Written needs) (z : List Lexeme) → spelling w ≡ before ++ t ∷ z → ⊥) → verdict (before ++ t ∷ after) needs a ≡ Refused (refusal Syntax t.place)
 unfolding verdict
@@ -60,7 +50,7 @@ unfolding verdict
 refused_deep [] t after needs a c f far = one (step needs a t) (forced far.written a t far.rest c far.spelled)
   where
     one : (x : Step needs) → Forces far.written a far.rest x → go_on x (verdict after) t.place ≡ Refused (refusal TooDeep t.place)
-    one (Next later b m build) k = ap (λ (q : Bool). if q then given {needs = needs} build (verdict after later b) else Refused (refusal TooDeep t.place)) (is_above m (beyond_first m (weights k.rest b) (weights far.written a) k.weighed far.beyond))
+    one (Next later b m build) k = ap (λ (q : Bool). if q then given {needs = needs} build (verdict after later b) else Refused (refusal TooDeep t.place)) (lt-leb m limit (beyond_first m (weights k.rest b) (weights far.written a) k.weighed far.beyond))
     one Stuck k = absurd k
 refused_deep (x ∷ before) t after needs a c f far = one (λ later b d g n. refused_deep before t after later b d g n) (step needs a x) (forced f.written a x (before ++ f.rest) c f.spelled) (forced far.written a x (before ++ t ∷ far.rest) c far.spelled)
   where

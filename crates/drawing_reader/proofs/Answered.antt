@@ -22,15 +22,10 @@ use Rattle.drawing_reader.specs.Sketched.{sketch_of, GivesSketch, GivesRefusal, 
 use Rattle.drawing_grammar.specs.Draws.{IsStop}
 use Rattle.drawing_grammar.proofs.Places.{complete}
 use Rattle.drawing_grammar.proofs.Whole.{refused_so, Ending, is_refused, is_read, chained_whole}
+use Rattle.drawing_grammar.proofs.Unique.{not_refused, one_refused}
 
 one_sketch : (s u : Sketch) (v : Values whole) → ◌≡◌ {A = Verdict whole} (Complete (s, tt)) (Complete v) → v.0 ≡ u → s ≡ u
 one_sketch s u v e h = let k : (let p : Values whole = (s, tt) in p) ≡ v = cc in ap (λ (w : Values whole). w.0) k ∙ h
-
-not_both : (v : Values whole) (r : Refusal) → ◌≡◌ {A = Verdict whole} (Complete v) (Refused r) → ⊥
-not_both v r e = cc
-
-one_refusal : (q r : Refusal) → ◌≡◌ {A = Verdict whole} (Refused q) (Refused r) → q ≡ r
-one_refusal q r e = cc
 
 pub found_so : (ts : List Lexeme) (x : Result code.Sketch Stop) → Answers x ts → IfOk x (λ s. Reads ts (sketch_of s))
 found_so ts (Ok s) h = is_read ts (sketch_of s) h
@@ -47,15 +42,15 @@ only_sketch ts x h s r = one x h (complete ts whole 0 r.written chained_whole r.
     one : (x : Result code.Sketch Stop) → Answers x ts → verdict ts whole 0 ≡ Complete (values r.written) → GivesSketch s x
     one (Ok f) h e = one_sketch (sketch_of f) s (values r.written) (sym h ∙ e) r.stands
     one (Err stop.NoMemory) h e = refl
-    one (Err (stop.Refused q)) h e = absurd (not_both (values r.written) q (sym e ∙ h))
+    one (Err (stop.Refused q)) h e = absurd (not_refused (values r.written) q (sym e ∙ h))
 
 pub only_refusal : (ts : List Lexeme) (x : Result code.Sketch Stop) → Answers x ts → (r : Refusal) → IsRefused ts r → GivesRefusal r x
 only_refusal ts x h r i = one x h (refused_so ts r i)
   where
     one : (x : Result code.Sketch Stop) → Answers x ts → verdict ts whole 0 ≡ Refused r → GivesRefusal r x
-    one (Ok f) h e = not_both (sketch_of f, tt) r (sym h ∙ e)
+    one (Ok f) h e = not_refused (sketch_of f, tt) r (sym h ∙ e)
     one (Err stop.NoMemory) h e = inr refl
-    one (Err (stop.Refused q)) h e = inl (ap (λ (p : Refusal). stop.Refused p) (one_refusal q r (sym h ∙ e)))
+    one (Err (stop.Refused q)) h e = inl (ap (λ (p : Refusal). stop.Refused p) (one_refused q r (sym h ∙ e)))
 
 -- ---- at the end of the reader
 

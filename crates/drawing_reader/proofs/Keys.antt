@@ -7,6 +7,7 @@ use Rattle.drawing_tree.specs.WellFormed.{primitive_names}
 use Rattle.std.specs.List.{list_any}
 use Rattle.std.specs.Str.{bytes_eq}
 use Rattle.std.proofs.lemmas.Slice.Eq.{bytes_eq-Decides}
+use Rattle.std.proofs.Math.Bool.{or-true}
 use Rattle.drawing_reader.specs.declared.declared.Declared.{Declared}
 use Rattle.drawing_grammar.specs.declared.declared.Kind.{Kind}
 use Rattle.drawing_grammar.specs.declared.declared.Kind.TheVariants.{Macro}
@@ -23,10 +24,6 @@ same_key a b h = let e = same_parts a.scope b.scope a.kind b.kind a.name.now b.n
 key_same : (a b : Declared) → key_of a ≡ key_of b → eq-value.it a b ≡ true
 key_same a b h = parts_same a.scope b.scope a.kind b.kind a.name.now b.name.now (ap (λ (k : Key). k.scope) h) (ap (λ (k : Key). k.kind) h) (ap (λ (k : Key). k.name) h)
 
-or_true : (a : Bool) → (a || true) ≡ true
-or_true true = refl
-or_true false = refl
-
 -- the first is the key, or else it is among the others
 found_by : (d x : Declared) (xs : List Declared) (b : Bool) → eq-value.it d x ≡ b → (list_any (eq-value.it d) xs ≡ true → Contains (map key_of xs) (key_of d)) → (b || list_any (eq-value.it d) xs) ≡ true → Contains (key_of x ∷ map key_of xs) (key_of d)
 found_by d x xs true e rest h = (0, omega arith, sym (same_key d x e))
@@ -40,7 +37,7 @@ found_key d (x ∷ xs) h = found_by d x xs (eq-value.it d x) refl (found_key d x
 pub key_found : (d : Declared) (ds : List Declared) → Contains (map key_of ds) (key_of d) → list_any (eq-value.it d) ds ≡ true
 key_found d [] h = absurd (omega (arith, h.1))
 key_found d (x ∷ xs) (zero, below, e) = ap (λ (b : Bool). b || list_any (eq-value.it d) xs) (key_same d x (sym e))
-key_found d (x ∷ xs) (suc k, below, e) = ap (λ (b : Bool). eq-value.it d x || b) (key_found d xs (k, omega arith, e)) ∙ or_true (eq-value.it d x)
+key_found d (x ∷ xs) (suc k, below, e) = ap (λ (b : Bool). eq-value.it d x || b) (key_found d xs (k, omega arith, e)) ∙ or-true (eq-value.it d x)
 
 -- ---- keys of a front and of more behind it
 
@@ -71,7 +68,7 @@ taken_key (x ∷ xs) scope kind name (zero, below, e) =
     (ap (λ (k : Key). k.scope) e, ap (λ (k : Key). k.kind) e, ap (λ (b : Bool). b || list_any (bytes_eq name) xs) test)
 taken_key (x ∷ xs) scope kind name (suc n, below, e) =
     let rest = taken_key xs scope kind name (n, omega arith, e) in
-    (rest.0, rest.1, ap (λ (b : Bool). bytes_eq name x || b) rest.2 ∙ or_true (bytes_eq name x))
+    (rest.0, rest.1, ap (λ (b : Bool). bytes_eq name x || b) rest.2 ∙ or-true (bytes_eq name x))
 
 key_taken_by : (name x : List ℕ) (xs : List (List ℕ)) (b : Bool) → bytes_eq name x ≡ b → (list_any (bytes_eq name) xs ≡ true → Contains (map (key 0 Macro) xs) (key 0 Macro name)) → (b || list_any (bytes_eq name) xs) ≡ true → Contains (key 0 Macro x ∷ map (key 0 Macro) xs) (key 0 Macro name)
 key_taken_by name x xs true e rest h = let same : x ≡ name = grind (arith, bytes_eq-Decides) in (0, omega arith, ap (key 0 Macro) same)

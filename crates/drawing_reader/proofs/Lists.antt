@@ -13,9 +13,6 @@ pub more_mapped : {A B : Type 0} (f : A → B) (xs : List A) (x : A) (ys : List 
 more_mapped f [] x ys = refl
 more_mapped f (y ∷ xs) x ys = ap (λ zs. f y ∷ zs) (more_mapped f xs x ys)
 
-pub none_more : {A : Type 0} (xs : List A) → xs ++ [] ≡ xs
-none_more xs = append-nil xs
-
 pub joined_terms : (hold : Bool) (place : Place) {xs ys : List tree.Term} → xs ≡ ys → ◌≡◌ {A = tree.Connection} (record { terms = xs; hold = hold; place = place }) (record { terms = ys; hold = hold; place = place })
 joined_terms hold place e = ap (λ (ts : List tree.Term). let c : tree.Connection = record { terms = ts; hold = hold; place = place } in c) e
 

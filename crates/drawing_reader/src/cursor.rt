@@ -79,12 +79,14 @@ impl<'a> Cursor<'a> {
         })
     }
 
+    /// The next token, or `None` where none is left.
     pub fn peek(&self) -> Option<Token>
         ensures { result ≡ first_token self.now.rest.now }
     {
         self.rest.first().copied()
     }
 
+    /// Goes past the next token, where one is left.
     pub fn advance(&mut self)
         ensures rest { self.new.rest.now ≡ other_tokens self.old.rest.now }
         ensures no_longer { length self.new.rest.now ≤ length self.old.rest.now }

@@ -1,7 +1,7 @@
 -- What the worklist of classes has come to after some rounds, and how a round more, rest and the limit follow.
 use Rattle.std.proofs.Common.{◌≡◌, ℕ, zero, suc, ◌+◌, ◌*◌, ◌<◌, ◌≤◌, ◌==◌, inl, inr, Bool, true, false, not, ◌&&◌, ◌||◌, cond, All, List, [], ◌∷◌, length, map, refl, sym, ap, subst, ◌∙◌, arith}
 use Rattle.std.specs.List.{list_any, range_with_len}
-use Rattle.std.proofs.lemmas.Bool.{cases_lt, and_parts, and_from, eqb-true, eq-eqb, false_from_ne_true}
+use Rattle.std.proofs.lemmas.Bool.{cases_lt, and_parts, and_from, eqb-true, eq-eqb, false_from_ne_true, not-false}
 use Rattle.std.proofs.lemmas.List.{length-set}
 use Rattle.std.proofs.lemmas.List.Elements.{All-filter, All-map, All-head, All-tail, Contains-get_or}
 use Rattle.std.proofs.lemmas.List.FromFn.{get_or-range_with_len, length-range_with_len}
@@ -28,7 +28,7 @@ use Rattle.fixpoint_engine.specs.End.{EndsAt, EndsFor}
 use Rattle.fixpoint_engine.specs.Worklist.{Queue, IsQueue, Change, changes_of, changed, among}
 use Rattle.fixpoint_engine.specs.Classes.{HaveOneWave, AreTogether, is_first, due_classes, class_work_to}
 use Rattle.fixpoint_engine.specs.Members.{for_classes}
-use Rattle.fixpoint_engine.proofs.Same.{same_wave-is, same_wave-self, not-false}
+use Rattle.fixpoint_engine.proofs.Same.{same_wave-is, same_wave-self}
 use Rattle.fixpoint_engine.proofs.Fits.{NetsFit}
 use Rattle.fixpoint_engine.proofs.Listening.{same-tests, hears-same}
 use Rattle.fixpoint_engine.proofs.Changing.{moves, changed-nets, changes-exist, set-at}

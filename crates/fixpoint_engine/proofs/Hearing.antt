@@ -1,5 +1,6 @@
 -- Where nothing that an instance listens to has changed, its value has not changed.
 use Rattle.std.proofs.Common.{◌≡◌, ℕ, ◌+◌, Bool, true, false, ◌&&◌, cond, List, [], ◌∷◌, map, refl, sym, ap, ◌∙◌, Option, Some, None}
+use Rattle.std.proofs.lemmas.Bool.{not-false, or_parts}
 use Rattle.scald_base.specs.Time.{Header, Bounds}
 use Rattle.vector_names.specs.declared.bits.Target.{Target}
 use Rattle.vector_names.specs.declared.bits.Target.TheVariants.{Net as OnNet, Constant}
@@ -19,7 +20,7 @@ use Rattle.pin_waves.specs.Pin.{pin_wave as wave_behind}
 use Rattle.fixpoint_engine.specs.Value.{Waves, target_wave, target_wire, pin_wave, marked_pin, made_by, turned_wave, instance_wave}
 use Rattle.fixpoint_engine.specs.Rounds.{driver, wave_from, evaluated, next}
 use Rattle.fixpoint_engine.specs.Work.{same_wave, differs, is_on_any, hears_from, hears_in}
-use Rattle.fixpoint_engine.proofs.Same.{same_wave-is, not-false, or-parts}
+use Rattle.fixpoint_engine.proofs.Same.{same_wave-is}
 
 target-same : (h : Header) (ws vs : Waves) (t : Target) → is_on_any (differs ws vs) t ≡ false → target_wave h ws t ≡ target_wave h vs t
 target-same h ws vs (OnNet i) same = same_wave-is (ws i) (vs i) (not-false (same_wave (ws i) (vs i)) same)
@@ -33,7 +34,7 @@ listening-same : (c : Circuit) (ws vs : Waves) (kind : Kind) (place : ℕ) (ps :
     listening_from kind place (map (pin_wave c ws) ps) ≡ listening_from kind place (map (pin_wave c vs) ps)
 listening-same c ws vs kind place [] unheard = refl
 listening-same c ws vs kind place (p ∷ ps) unheard =
-    let parts = or-parts (listens kind place && is_on_any (differs ws vs) p.target) (hears_from (differs ws vs) kind (place + 1) ps) unheard in
+    let parts = or_parts (listens kind place && is_on_any (differs ws vs) p.target) (hears_from (differs ws vs) kind (place + 1) ps) unheard in
     by (listens kind place) parts.0 (listening-same c ws vs kind (place + 1) ps parts.1)
   where
     by : (heard : Bool) → (heard && is_on_any (differs ws vs) p.target) ≡ false →

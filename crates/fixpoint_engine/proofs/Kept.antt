@@ -1,13 +1,12 @@
 -- What the worklist has come to after some rounds, and how a round more, rest and the limit follow.
 use Rattle.std.proofs.Common.{◌≡◌, ℕ, suc, ◌+◌, ◌*◌, ◌<◌, ◌≤◌, ◌==◌, Bool, true, false, not, ◌&&◌, cond, List, [], ◌∷◌, length, map, refl, sym, ap, subst, ◌∙◌, arith, All, count_by}
 use Rattle.std.specs.List.{Contains, range_with_len}
-use Rattle.std.proofs.lemmas.Bool.{eqb-true, eqb-false}
+use Rattle.std.proofs.lemmas.Bool.{eqb-true, eqb-false, not-false}
 use Rattle.std.proofs.lemmas.Bool.Decides.{nat_tests}
 use Rattle.std.proofs.lemmas.List.{map-id, length-map}
 use Rattle.std.proofs.lemmas.List.Elements.{All-filter, All-map, All-nil, All-cons, All-head, All-tail}
 use Rattle.std.proofs.lemmas.List.FromFn.{fill_by_all}
 use Rattle.std.proofs.lemmas.List.Folds.{Any-from_list_any, list_any-from_Any}
-use Rattle.std.proofs.lemmas.List.Sums.{count_by-le-length}
 use Rattle.scald_base.specs.Time.{period}
 use Rattle.step_values.specs.declared.value.Value.{Value}
 use Rattle.skew_algebra.specs.Wave.{Wave}
@@ -23,12 +22,12 @@ use Rattle.fixpoint_engine.specs.Work.{same_wave, differs, hears_in, is_due, wor
 use Rattle.fixpoint_engine.specs.Settled.{waves_of, marked_in, FitWaves, FitActive, AreAtRest, KeepRuns}
 use Rattle.fixpoint_engine.specs.End.{EndsAt, EndsFor}
 use Rattle.fixpoint_engine.specs.Worklist.{Queue, IsQueue, Change, changes_of, changed, among}
-use Rattle.fixpoint_engine.proofs.Same.{same_wave-is, same_wave-self, not-false}
+use Rattle.fixpoint_engine.proofs.Same.{same_wave-is, same_wave-self}
 use Rattle.fixpoint_engine.proofs.Fits.{NetsFit}
 use Rattle.fixpoint_engine.proofs.Marks.{count-marks}
 use Rattle.fixpoint_engine.proofs.Listening.{same-tests, hears-same}
 use Rattle.fixpoint_engine.proofs.Changing.{moves, changed-nets, waves-changed}
-use Rattle.fixpoint_engine.proofs.Waiting.{waiting-below}
+use Rattle.fixpoint_engine.proofs.Waiting.{waiting-below, waiting-few}
 use Rattle.fixpoint_engine.proofs.Reached.{Reached, reached-start, undue-stays, due-takes, work-more}
 use Rattle.fixpoint_engine.proofs.Turns.{nets_of, Turn, turn-rests, turn-reaches, turn-fits, turn-ends}
 use Rattle.fixpoint_engine.proofs.Sound.{round-sound}
@@ -145,9 +144,6 @@ pub rests : (c : Circuit) (active : ℕ → Bool) (start : Waves) (waves : List 
 rests c active start waves q limit r evals made kept is none within = turn-rests c active start waves r kept.reached limit made (turn c active start waves q r evals made kept is) none within
 
 -- ---- how many evaluations
-
-waiting-few : (q : Queue) → IsQueue q → length q.nets ≤ length q.marks
-waiting-few q queue = let few = count_by-le-length (λ b. b) q.marks in let once = queue.once in omega (arith, few, once)
 
 evals-fit : (c : Circuit) (active : ℕ → Bool) (start : Waves) (waves : List (Wave Value)) (q : Queue) (r evals : ℕ) → Kept c active start waves q r evals → IsCircuit c → IsQueue q → evals + length q.nets ≤ 65536 * (r + 1)
 evals-fit c active start waves q r evals kept known queue =

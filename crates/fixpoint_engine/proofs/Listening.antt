@@ -1,6 +1,7 @@
 -- Which nets are due, found through the instances that listen to what changed.
 use Rattle.std.proofs.Common.{◌≡◌, ℕ, zero, suc, ◌+◌, ◌<◌, ◌==◌, Bool, true, false, ◌&&◌, ◌||◌, cond, inl, inr, List, [], ◌∷◌, ◌++◌, length, map, take, get_or, refl, sym, ap, ◌∙◌, arith, slice_get, Option, Some, None, is_some}
 use Rattle.std.specs.List.{list_any}
+use Rattle.std.proofs.Math.Bool.{or-false}
 use Rattle.std.proofs.lemmas.Bool.{and_parts, or_cases, or_left, or_right, eqb-true}
 use Rattle.std.proofs.lemmas.Bool.Decides.{nat_tests}
 use Rattle.std.proofs.lemmas.List.{take_more, map-append}
@@ -64,14 +65,10 @@ pub hears-none : (d : Option Instance) → hears_in (λ j. false) d ≡ false
 hears-none None = refl
 hears-none (Some j) = from-none j.kind 0 j.pins
 
-or-none : (a : Bool) → (a || false) ≡ a
-or-none true = refl
-or-none false = refl
-
 pub hears-more : (nets : List ℕ) (net : ℕ) (d : Option Instance) → hears_in (among (nets ++ net ∷ [])) d ≡ (hears_in (among nets) d || hears_in (λ j. net == j) d)
 hears-more nets net d =
     hears-same (among (nets ++ net ∷ [])) (λ j. among nets j || (net == j)) d
-    (λ j. list_any-append (λ n. n == j) nets (net ∷ []) ∙ ap (λ b. among nets j || b) (or-none (net == j)))
+    (λ j. list_any-append (λ n. n == j) nets (net ∷ []) ∙ ap (λ b. among nets j || b) (or-false (net == j)))
     ∙ hears-either (among nets) (λ j. net == j) d
 
 pub heard-more : (d : Option Instance) (active : Bool) (nets more : List ℕ) (net : ℕ) (before after : Bool) → more ≡ nets ++ net ∷ [] → before ≡ (active && hears_in (among nets) d) →

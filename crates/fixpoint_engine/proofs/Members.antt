@@ -2,16 +2,16 @@
 use Rattle.std.proofs.Common.{◌≡◌, ℕ, zero, suc, ◌+◌, ◌<◌, ◌≤◌, ◌==◌, Bool, true, false, ◌&&◌, ◌||◌, cond, below_more, All, List, [], ◌∷◌, ◌++◌, append-nil, length, map, take, get_or, refl, sym, ap, subst, ◌∙◌, arith, Option, Some, None, is_some, not}
 use Rattle.std.specs.List.{list_any, range_with_len}
 use Rattle.std.proofs.lemmas.Bool.{eqb-true, eqb-false, eq-eqb, false_from_ne_true}
-use Rattle.std.proofs.lemmas.List.{append_assoc, map-append, map-id, length-set, take_more}
+use Rattle.std.proofs.lemmas.List.{append_assoc, map-append, length-set, take_more}
 use Rattle.std.proofs.lemmas.List.Elements.{All-nil, All-cons, All-append, All-map, All-head, All-tail}
 use Rattle.std.proofs.Math.ListN.{set, get_or-append}
 use Rattle.std.proofs.Math.Seq.{get_or-append_seam}
 use Rattle.std.proofs.lemmas.Grind.{get_or_default_zero}
 use Rattle.std.proofs.lemmas.List.Concat.{flat_map-append}
-use Rattle.std.proofs.lemmas.List.FromFn.{map-range_with_len_more, get_or-range_with_len}
 use Rattle.std.proofs.lemmas.List.Folds.{Any-from_list_any, list_any-append}
 use Rattle.step_values.specs.declared.value.Value.{Value}
 use Rattle.skew_algebra.specs.Wave.{Wave}
+use Rattle.flat_circuit.proofs.Names.{range_more}
 use Rattle.class_table.specs.Alike.{class_of}
 use Rattle.fixpoint_engine.specs.Value.{Waves}
 use Rattle.fixpoint_engine.specs.Settled.{marked_in}
@@ -206,9 +206,6 @@ waves-for-classes ks (ch ∷ changes) ws one exist to =
 
 -- ---- whether a net is the first of its class
 
-pub range-more : (m : ℕ) → range_with_len 0 (m + 1) ≡ range_with_len 0 m ++ m ∷ []
-range-more m = sym (map-id (range_with_len 0 (m + 1))) ∙ map-range_with_len_more (λ x. x) 0 m m (omega arith) ∙ (λ k. map-id (range_with_len 0 m) k ++ m ∷ [])
-
 some-below : (ks : List ℕ) (class m : ℕ) → list_any (λ j. class_of ks j == class) (range_with_len 0 m) ≡ is_some (last_below ks class m)
 unfolding last_below
 some-below ks class zero = refl
@@ -217,7 +214,7 @@ some-below ks class (suc m) =
     ∙ (λ k. some-below ks class m k || ((class_of ks m == class) || false)) ∙ by (class_of ks m == class) (last_below ks class m)
   where
     range : range_with_len 0 (suc m) ≡ range_with_len 0 m ++ m ∷ []
-    range = ap (range_with_len 0) (let e : suc m ≡ m + 1 = omega arith in e) ∙ range-more m
+    range = ap (range_with_len 0) (let e : suc m ≡ m + 1 = omega arith in e) ∙ range_more m
 
     by : (here : Bool) (found : Option ℕ) → (is_some found || (here || false)) ≡ is_some (cond here (Some m) found)
     by true None = refl
@@ -264,10 +261,3 @@ first-more ks marks first new m false below adds is before after = (
   where
     at : (i : ℕ) → marked_in new i ≡ marked_in first i
     at i = ap (λ (ms : List Bool). marked_in ms i) is
-
--- classes of one net each
-pub lone-same : (ks : List ℕ) (n : ℕ) → ks ≡ range_with_len 0 n → (i j : ℕ) → i < n → j < n → class_of ks i ≡ class_of ks j → i ≡ j
-lone-same ks n is i j below below' same = sym (at i below) ∙ same ∙ at j below'
-  where
-    at : (i : ℕ) → i < n → class_of ks i ≡ i
-    at i below = ap (λ (xs : List ℕ). class_of xs i) is ∙ get_or-range_with_len 0 n i 0 below ∙ (let e : 0 + i ≡ i = omega arith in e)

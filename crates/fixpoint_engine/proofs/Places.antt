@@ -5,7 +5,7 @@ use Rattle.std.proofs.lemmas.Bool.{both_ways, eq-eqb}
 use Rattle.std.proofs.lemmas.List.Elements.{All-head}
 use Rattle.std.proofs.lemmas.List.Sorted.{length_permutation, Contains-permutation}
 use Rattle.std.proofs.lemmas.List.FromFn.{length-range_with_len, get_or-range_with_len}
-use Rattle.std.proofs.lemmas.List.{length-map}
+use Rattle.std.proofs.lemmas.List.{length-map, get_or_default}
 use Rattle.flat_circuit.specs.declared.net.Net.{Net}
 use Rattle.flat_circuit.specs.Name.{IsNameOrder}
 use Rattle.flat_circuit.specs.Circuit.{net_name, net_names}
@@ -38,17 +38,12 @@ placed nets order net named below =
     Contains-permutation (range_with_len 0 (length (net_names nets))) order net named.each
     (net, omega (arith, long, numbers), get_or-range_with_len 0 (length (net_names nets)) net net (omega (arith, long)) ∙ omega arith)
 
-any-default : (xs : List ℕ) (i d : ℕ) → i < length xs → get_or xs i d ≡ get_or xs i 0
-any-default [] i d below = absurd (omega arith)
-any-default (x ∷ xs) zero d below = refl
-any-default (x ∷ xs) (suc i) d below = any-default xs i d (omega arith)
-
 -- Where there is a net, the order has one.
 pub some-named : (nets : List Net) (order some : List ℕ) (set : ℕ → Bool) → IsNameOrder (net_names nets) order → All (λ net. net < length nets) some → 0 < length some →
     ((i : ℕ) → set i ≡ among some i) → ((k : ℕ) → k < length order → set (net_at order k) ≡ false) → ⊥
 some-named nets order [] set named exist any are none = omega arith
 some-named nets order (net ∷ some) set named exist any are none =
     let at = placed nets order net named (All-head (λ n. n < length nets) net some exist) in
-    let is : net_at order at.0 ≡ net = sym (any-default order at.0 net at.1) ∙ at.2 in
+    let is : net_at order at.0 ≡ net = sym (get_or_default order at.0 net 0 at.1) ∙ at.2 in
     let here : set net ≡ true = are net ∙ (λ k. eq-eqb net net refl k || among some net) in
     both_ways (set net) (ap set (sym is) ∙ none at.0 at.1) here

@@ -1,13 +1,13 @@
 -- What code reads of the values of a period, slot by slot.
-use Rattle.std.proofs.Common.{inl, inr, ◌≡◌, ℕ, ◌<◌, ◌≤◌, List, length, refl, sym, ap, ◌∙◌, arith, Some}
+use Rattle.std.proofs.Common.{◌≡◌, ℕ, ◌<◌, ◌≤◌, List, length, refl, sym, ap, ◌∙◌, arith, Some}
 use Rattle.std.specs.Prelude.{slice_get}
-use Rattle.std.proofs.lemmas.Bool.{cases_lt}
 use Rattle.step_values.specs.declared.value.Value.{Value}
 use Rattle.step_values.specs.Cell.{values}
 use Rattle.wave_core.specs.Slots.{SameUntil}
 use Rattle.wave_core.proofs.Slots.{length-slots}
 use Rattle.skew_algebra.specs.Wave.{Wave, fold, folded}
 use Rattle.skew_algebra.proofs.Moves.{here-cell, earlier-folded}
+pub use Rattle.gate_eval.proofs.Found.{below_run}
 use Rattle.fixpoint_engine.specs.Pins.{read}
 
 -- what stands in a slot of the period
@@ -22,10 +22,6 @@ pub length-folded : (w : Wave Value) (cells : List Value) → cells ≡ folded v
 length-folded w cells e = ap (λ (c : List Value). length c) e ∙ length-slots (length w.cells) (fold values w)
 
 -- ---- slots in a row that have one value
-
--- what holds of each number below one, and of each from there on to below another
-pub below_run : (P : ℕ → Type 0) (i n : ℕ) → ((k : ℕ) → k < i → P k) → ((k : ℕ) → i ≤ k → k < n → P k) → (k : ℕ) → k < n → P k
-below_run P i n before run k below = elim (cases_lt k i) [ inl less ↦ before k less | inr more ↦ run k more below ]
 
 -- up to the next slot that has another, each has what is found in the first
 pub same-read : (cells : List Value) (slot end s : ℕ) (v : Value) → SameUntil cells slot end → slice_get cells slot ≡ Some v → slot ≤ s → s < end → read cells s ≡ v

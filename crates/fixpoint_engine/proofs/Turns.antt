@@ -1,6 +1,6 @@
 -- A round more, by changes that lead to it: rest, movement and the limit follow, whichever nets were evaluated for them.
 use Rattle.std.proofs.Common.{◌≡◌, ℕ, suc, ◌<◌, ◌≤◌, Bool, true, false, not, ◌||◌, List, [], ◌∷◌, length, map, refl, sym, ap, ◌∙◌, arith}
-use Rattle.std.proofs.lemmas.Bool.{both_ways, eq-eqb}
+use Rattle.std.proofs.lemmas.Bool.{both_ways, eq-eqb, not-false}
 use Rattle.scald_base.specs.Time.{period}
 use Rattle.step_values.specs.declared.value.Value.{Value}
 use Rattle.skew_algebra.specs.Wave.{Wave}
@@ -13,7 +13,7 @@ use Rattle.fixpoint_engine.specs.Work.{same_wave, differs}
 use Rattle.fixpoint_engine.specs.Settled.{waves_of, FitWaves, AreAtRest}
 use Rattle.fixpoint_engine.specs.End.{EndsAt, EndsFor}
 use Rattle.fixpoint_engine.specs.Worklist.{Change, changed, among}
-use Rattle.fixpoint_engine.proofs.Same.{same_wave-is, same_wave-self, not-false}
+use Rattle.fixpoint_engine.proofs.Same.{same_wave-is, same_wave-self}
 use Rattle.fixpoint_engine.proofs.Fits.{NetsFit}
 use Rattle.fixpoint_engine.proofs.Changing.{length-changed}
 use Rattle.fixpoint_engine.proofs.Reached.{Reached, reached-more, at-rest, not-at-rest}

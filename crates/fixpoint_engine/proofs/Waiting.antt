@@ -5,7 +5,7 @@ use Rattle.std.proofs.Math.ListN.{set}
 use Rattle.std.proofs.lemmas.Bool.{both_ways, eqb-true, eqb-false, false_from_ne_true}
 use Rattle.std.proofs.lemmas.List.{get_or-set_same, get_or-set_other, length-replicate, length_push, ext_get_or}
 use Rattle.std.proofs.lemmas.List.Elements.{Contains-append_left, Contains-push, Contains-push_cases, Contains-get_or}
-use Rattle.std.proofs.lemmas.List.Sums.{sum_by-cons, sum_by-set}
+use Rattle.std.proofs.lemmas.List.Sums.{sum_by-cons, sum_by-set, count_by-le-length}
 use Rattle.fixpoint_engine.specs.Settled.{marked_in}
 use Rattle.fixpoint_engine.specs.Worklist.{Queue, IsQueue}
 
@@ -152,6 +152,10 @@ none-waits marks queue =
     (λ i below. false_from_ne_true (marked_in marks i) (λ marked. let at = (queue.are i).0 marked in absurd (omega arith)) ∙ sym (unmarked (length marks) i))
 
 -- ---- the nets that wait exist
+
+-- No more wait than there are nets.
+pub waiting-few : (q : Queue) → IsQueue q → length q.nets ≤ length q.marks
+waiting-few q queue = let few = count_by-le-length (λ b. b) q.marks in let once = queue.once in omega (arith, few, once)
 
 pub waiting-below : (q : Queue) → IsQueue q → All (λ i. i < length q.marks) q.nets
 waiting-below q queue k d below = marked-below q.marks (get_or q.nets k d) ((queue.are (get_or q.nets k d)).1 (Contains-get_or q.nets k d below))

@@ -29,22 +29,22 @@ pub fn settle_classes<W: CyclicWave<Item = Value>>(
     alloc: Global,
     c: &Circuit,
     cases: &CaseList,
-    k: &ClassMap,
+    numbers: &ClassMap,
     start: &Waves<W>,
     active: &NetSet,
     limit: u32,
 ) -> Result<Settled<W>, EngineEnd>
     requires waves { FitWaves c.now (map (λ s. skewed (W.cells s.wave) s.skew) start.now) }
     requires active { FitActive c.now active.now }
-    requires one_each { length k.now ≡ length c.now.nets }
-    requires stable { IsStable c.now cases.now k.now }
-    requires alike { HaveOneWave c.now k.now (waves_of (map (λ s. skewed (W.cells s.wave) s.skew) start.now)) }
-    requires together { AreTogether c.now k.now (marked_in active.now) }
+    requires one_each { length numbers.now ≡ length c.now.nets }
+    requires stable { IsStable c.now cases.now numbers.now }
+    requires alike { HaveOneWave c.now numbers.now (waves_of (map (λ s. skewed (W.cells s.wave) s.skew) start.now)) }
+    requires together { AreTogether c.now numbers.now (marked_in active.now) }
     ensures rest { let first = waves_of (map (λ s. skewed (W.cells s.wave) s.skew) start.now) in
         IfOk result (λ s. AreAtRest c.now (marked_in active.now) first limit s.rounds (waves_of (map (λ w. skewed (W.cells w.wave) w.skew) s.waves))) }
     ensures fit { IfOk result (λ s. FitWaves c.now (map (λ w. skewed (W.cells w.wave) w.skew) s.waves)) }
     ensures work { let first = waves_of (map (λ s. skewed (W.cells s.wave) s.skew) start.now) in
-        IfOk result (λ s. s.evals ≡ class_work_to c.now k.now (marked_in active.now) (round c.now (marked_in active.now) first) (s.rounds + 1)) }
+        IfOk result (λ s. s.evals ≡ class_work_to c.now numbers.now (marked_in active.now) (round c.now (marked_in active.now) first) (s.rounds + 1)) }
     ensures sound { let first = waves_of (map (λ s. skewed (W.cells s.wave) s.skew) start.now) in
         IfOk result (λ s. KeepRuns c.now first s.rounds (waves_of (map (λ w. skewed (W.cells w.wave) w.skew) s.waves))) }
     ensures unsettled { let first = waves_of (map (λ s. skewed (W.cells s.wave) s.skew) start.now) in
@@ -52,7 +52,7 @@ pub fn settle_classes<W: CyclicWave<Item = Value>>(
 {
     c.known();
     c.header().known();
-    let classes = ClassNets::of(alloc, k, c.net_count())?;
+    let classes = ClassNets::of(alloc, numbers, c.net_count())?;
     let leading = classes.firsts(alloc, active, c.net_count())?;
     let mut waves = copies(alloc, start.as_slice())?;
     let mut queue = Queue::all(alloc, c, &leading)?;

@@ -36,6 +36,3 @@ pub use pins::{pin_wave, waves_at_pins};
 pub use readers::{output_of, readers_of};
 pub use rounds::{EngineEnd, Settled, settle};
 pub use waves::Waves;
-
-#[cfg(test)]
-mod tests;

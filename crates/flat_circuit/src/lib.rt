@@ -32,6 +32,3 @@ pub use instance::{Instance, Pin, Pins};
 pub use kind::Kind;
 pub use net::Net;
 pub use vector_names::Target;
-
-#[cfg(test)]
-mod tests;

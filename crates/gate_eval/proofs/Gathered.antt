@@ -57,13 +57,6 @@ all-long pins period wave one is =
     All-weaker (λ q. length (wave q).cells ≡ period_of (map wave pins)) (λ q. length (wave q).cells ≡ period) (λ q h. h ∙ sym is) pins
     (All-unmapped (λ (w : Wave _). length w.cells ≡ period_of (map wave pins)) wave pins one)
 
--- one period for all, by a scan
-pub one-period : {T P : Type 0} (pins : List P) (wave : P → Wave T) (period : ℕ) →
-    ((k : ℕ) (d : P) → k < length pins → length (wave (get_or pins k d)).cells ≡ period) → HaveOnePeriod (map wave pins)
-one-period [] wave period h = All-map (λ (w : Wave _). length w.cells ≡ 0) wave [] (λ k d below. absurd (omega arith))
-one-period (p ∷ ps) wave period h =
-    All-map (λ (w : Wave _). length w.cells ≡ length (wave p).cells) wave (p ∷ ps) (λ k d below. h k d below ∙ sym (h 0 p (omega arith)))
-
 -- each pin's wave has the period
 pub pin-long : {T P : Type 0} (pins : List P) (i : ℕ) (pin : P) (wave : P → Wave T) → i < length pins → pin ≡ get_or pins i pin → HaveOnePeriod (map wave pins) →
     length (wave pin).cells ≡ period_of (map wave pins)

@@ -30,6 +30,3 @@ pub use gate::eval_gate;
 pub use hold::hold_fault;
 pub use meeting::{Image, met};
 pub use pin_wave::{PinWave, PinWaves};
-
-#[cfg(test)]
-mod tests;

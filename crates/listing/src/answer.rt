@@ -13,21 +13,21 @@ use scald_base::{Bytes, NoMemory, Refusal};
 /// Puts the line of a refused text at the end of `out`: the number and the name of the refusal's kind,
 /// and its line and column. Where memory runs out, a part of the line may stand there.
 #[tactic(auto, unfolding(crate::specs::Answer::refusal_line))]
-pub fn write_refusal(r: &Refusal, out: &mut Bytes) -> Result<(), NoMemory>
-    ensures ok { OnOk result (out.new ≡ out.old ++ refusal_line r.now) }
-    ensures err { OnErr result (HasPart out.old out.new (refusal_line r.now)) }
+pub fn write_refusal(refusal: &Refusal, out: &mut Bytes) -> Result<(), NoMemory>
+    ensures ok { OnOk result (out.new ≡ out.old ++ refusal_line refusal.now) }
+    ensures err { OnErr result (HasPart out.old out.new (refusal_line refusal.now)) }
 {
     add_line(
         out,
         &[
             Piece::Text(b"REFUSED "),
-            Piece::Number(u64::from(r.kind.number())),
+            Piece::Number(u64::from(refusal.kind.number())),
             Piece::Text(b" "),
-            Piece::Text(r.kind.name().as_bytes()),
+            Piece::Text(refusal.kind.name().as_bytes()),
             Piece::Text(b" "),
-            Piece::Number(u64::from(r.place.line)),
+            Piece::Number(u64::from(refusal.place.line)),
             Piece::Text(b":"),
-            Piece::Number(u64::from(r.place.col)),
+            Piece::Number(u64::from(refusal.place.col)),
         ],
     )
 }

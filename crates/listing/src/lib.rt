@@ -28,6 +28,3 @@ pub use answer::{write_refusal, write_summary, write_unsettled};
 pub use case::{Mode, write_case};
 pub use end::end_report;
 pub use head::begin_report;
-
-#[cfg(test)]
-mod tests;

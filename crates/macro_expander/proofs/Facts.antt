@@ -2,7 +2,7 @@
 use Rattle.std.proofs.Common.{◌≡◌, ℕ, ℤ, pos, negsuc, zero, suc, ◌+◌, ◌*◌, ◌≤◌, Bool, true, false, ◌&&◌, cond, List, [], ◌∷◌, length, map, Ok, Err, is_some, refl, sym, ◌∙◌, subst, arith}
 use Rattle.std.specs.Prelude.{◌==◌, nat_le, slice_index_or}
 use Rattle.std.specs.List.{All, count_by, flat_map}
-use Rattle.std.proofs.lemmas.Bool.Decides.{nat_tests}
+use Rattle.std.proofs.lemmas.Bool.{and_parts, eqb-true, leb-true}
 use Rattle.std.proofs.lemmas.List.{length-map, length-append}
 use Rattle.std.proofs.lemmas.List.Sums.{sum_by-cons, sum_by-append}
 use Rattle.std.proofs.lemmas.List.Elements.{All-head, All-tail, All-nil, All-cons, All-append, All-map, All-weaker}
@@ -25,7 +25,6 @@ use Rattle.macro_expander.specs.Outcome.{Judged, judging}
 use Rattle.macro_expander.specs.Terms.{Joined}
 use Rattle.macro_expander.specs.Primitives.{demanded, are_of, takes, same_truth, written_delay, values_given, delay_of, limits_of, setup_and_hold, high_and_low, are_connected, plan_of, fewest_inputs, most_inputs, most_marks, outputs, marks, bit_at}
 use Rattle.macro_expander.specs.Numbered.{bit_of, joined_of, no_ref, pin_ref, all_refs, column_ref, pin_refs, output_ref, target_ref, instance_ref, BitExists, JoinedExists}
-use Rattle.macro_expander.proofs.Alike.{both}
 use Rattle.macro_expander.proofs.Lists.{count_by-map}
 use Rattle.macro_expander.proofs.Joints.{HasWidth, AreJoined}
 
@@ -44,16 +43,10 @@ pub judging_ok : {A B : Type 0} (j : Judged A) (next : A → Judged B) (b : B) �
 judging_ok (Ok a) next b h = record { value = a; was = refl; goes_on = h }
 judging_ok (Err kind) next b h = absurd (cc)
 
-le_so : (m n : ℕ) → nat_le m n ≡ true → m ≤ n
-le_so m n h = grind (arith, nat_tests)
-
-eq_so : (m n : ℕ) → (m == n) ≡ true → m ≡ n
-eq_so m n h = grind (arith, nat_tests)
-
 -- ---- limits
 
 sum_by_test : (b : Bool) (p s h : ℕ) (l : ℕ × ℕ) → nat_le (s + h) p ≡ b → cond b (Ok (s, h)) (Err Bounds) ≡ Ok l → l.0 + l.1 ≤ p
-sum_by_test true p s h l t e = let is : (s, h) ≡ l = cc in subst (λ (x : ℕ × ℕ). x.0 + x.1 ≤ p) is (le_so (s + h) p t)
+sum_by_test true p s h l t e = let is : (s, h) ≡ l = cc in subst (λ (x : ℕ × ℕ). x.0 + x.1 ≤ p) is (leb-true (s + h) p t)
 sum_by_test false p s h l t e = absurd (cc)
 
 setup_fits : (p : ℕ) (s h : ℤ) (l : ℕ × ℕ) → setup_and_hold p s h ≡ Ok l → l.0 + l.1 ≤ p
@@ -65,8 +58,8 @@ setup_fits p (negsuc s) (negsuc h) l e = absurd (cc)
 each_by_test : (b : Bool) (p s h : ℕ) (l : ℕ × ℕ) → (nat_le s p && nat_le h p) ≡ b → cond b (Ok (s, h)) (Err Bounds) ≡ Ok l → (l.0 ≤ p) × (l.1 ≤ p)
 each_by_test true p s h l t e =
     let is : (s, h) ≡ l = cc in
-    let q = both (nat_le s p) (nat_le h p) t in
-    subst (λ (x : ℕ × ℕ). (x.0 ≤ p) × (x.1 ≤ p)) is (le_so s p q.0, le_so h p q.1)
+    let q = and_parts (nat_le s p) (nat_le h p) t in
+    subst (λ (x : ℕ × ℕ). (x.0 ≤ p) × (x.1 ≤ p)) is (leb-true s p q.0, leb-true h p q.1)
 each_by_test false p s h l t e = absurd (cc)
 
 high_fits : (p : ℕ) (s h : ℤ) (l : ℕ × ℕ) → high_and_low p s h ≡ Ok l → (l.0 ≤ p) × (l.1 ≤ p)
@@ -238,22 +231,22 @@ module _ (h : Header) (names : List Name) (kind : Kind) (u : UseStatement) (plan
     (ins_are : AreJoined u.ins (map (joined_of names) ins)) (outs_are : AreJoined u.outs (map (joined_of names) outs)) where
   pub counted : Counted kind ins
   counted =
-      let a = both (nat_le (fewest_inputs kind) (length u.ins) && nat_le (length u.ins) (most_inputs kind)) ((length u.outs == outputs kind) && (nat_le (marks u.ins) (most_marks kind) && (marks u.outs == 0))) fits.connected in
-      let b = both (nat_le (fewest_inputs kind) (length u.ins)) (nat_le (length u.ins) (most_inputs kind)) a.0 in
-      let c = both (length u.outs == outputs kind) (nat_le (marks u.ins) (most_marks kind) && (marks u.outs == 0)) a.1 in
-      let d = both (nat_le (marks u.ins) (most_marks kind)) (marks u.outs == 0) c.1 in
-      let least = le_so (fewest_inputs kind) (length u.ins) b.0 in
-      let most = le_so (length u.ins) (most_inputs kind) b.1 in
-      let marked = le_so (marks u.ins) (most_marks kind) d.0 in
+      let a = and_parts (nat_le (fewest_inputs kind) (length u.ins) && nat_le (length u.ins) (most_inputs kind)) ((length u.outs == outputs kind) && (nat_le (marks u.ins) (most_marks kind) && (marks u.outs == 0))) fits.connected in
+      let b = and_parts (nat_le (fewest_inputs kind) (length u.ins)) (nat_le (length u.ins) (most_inputs kind)) a.0 in
+      let c = and_parts (length u.outs == outputs kind) (nat_le (marks u.ins) (most_marks kind) && (marks u.outs == 0)) a.1 in
+      let d = and_parts (nat_le (marks u.ins) (most_marks kind)) (marks u.outs == 0) c.1 in
+      let least = leb-true (fewest_inputs kind) (length u.ins) b.0 in
+      let most = leb-true (length u.ins) (most_inputs kind) b.1 in
+      let marked = leb-true (marks u.ins) (most_marks kind) d.0 in
       let count : length ins ≡ length u.ins = sym (length-map ins (joined_of names)) ∙ ins_are.count in
       let held : count_by (λ (x : numbered_joined.Joined). x.hold) ins ≡ marks u.ins = sym (count_by-map (λ (j : Joined). j.hold) (joined_of names) ins) ∙ ins_are.marked in
       record { least = rw count least; most = rw count most; marked = rw held marked }
 
   pub one_out : length outs ≡ outputs kind
   one_out =
-      let a = both (nat_le (fewest_inputs kind) (length u.ins) && nat_le (length u.ins) (most_inputs kind)) ((length u.outs == outputs kind) && (nat_le (marks u.ins) (most_marks kind) && (marks u.outs == 0))) fits.connected in
-      let c = both (length u.outs == outputs kind) (nat_le (marks u.ins) (most_marks kind) && (marks u.outs == 0)) a.1 in
-      sym (length-map outs (joined_of names)) ∙ (outs_are.count ∙ eq_so (length u.outs) (outputs kind) c.0)
+      let a = and_parts (nat_le (fewest_inputs kind) (length u.ins) && nat_le (length u.ins) (most_inputs kind)) ((length u.outs == outputs kind) && (nat_le (marks u.ins) (most_marks kind) && (marks u.outs == 0))) fits.connected in
+      let c = and_parts (length u.outs == outputs kind) (nat_le (marks u.ins) (most_marks kind) && (marks u.outs == 0)) a.1 in
+      sym (length-map outs (joined_of names)) ∙ (outs_are.count ∙ eqb-true (length u.outs) (outputs kind) c.0)
 
   pub bit_fits : (nets k : ℕ) (path : List ℕ) (code : UseStmt) → All (JoinedExists nets) ins → All (JoinedExists nets) outs → InstanceFits h nets (instance_ref path code kind plan ins outs k)
   bit_fits nets k path code x y = record {

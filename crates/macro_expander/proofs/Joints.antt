@@ -1,8 +1,8 @@
 -- The connections of a use: as many as were written, marked as they were written, each with 1 to 256 bits.
-use Rattle.std.proofs.Common.{◌≡◌, ℕ, ◌≤◌, Bool, true, false, cond, List, [], ◌∷◌, ◌++◌, length, refl, sym, ◌∙◌, subst, arith}
+use Rattle.std.proofs.Common.{◌≡◌, ◌≤◌, Bool, true, false, cond, List, [], ◌∷◌, ◌++◌, length, refl, sym, ◌∙◌, subst, arith}
 use Rattle.std.specs.List.{All, count_by}
 use Rattle.std.specs.Prelude.{nat_le}
-use Rattle.std.proofs.lemmas.Bool.Decides.{nat_tests}
+use Rattle.std.proofs.lemmas.Bool.{and_parts, leb-true}
 use Rattle.std.proofs.lemmas.List.{append-nil, append_assoc}
 use Rattle.std.proofs.lemmas.List.Sums.{sum_by-cons}
 use Rattle.std.proofs.lemmas.List.Elements.{All-nil, All-cons}
@@ -13,7 +13,6 @@ use Rattle.drawing_tree.specs.Tree.{Connection, UseStatement}
 use Rattle.macro_expander.specs.Named.{Bit, State}
 use Rattle.macro_expander.specs.Outcome.{Outcome, Gives, Fails, after, gathered}
 use Rattle.macro_expander.specs.Terms.{Scope, Joined, Wires, has_width, terms_bits, joined, all_joined, wires_of}
-use Rattle.macro_expander.proofs.Alike.{both}
 
 pub record HasWidth (c : Joined) : Type 0 where
   pub some : 1 ≤ length c.bits
@@ -30,14 +29,11 @@ pub record IsJoined (c : Connection) (ys : List Joined) : Type 0 where
   pub held : joint.hold ≡ c.hold
   pub wide : HasWidth joint
 
-pub le_true : (m n : ℕ) → nat_le m n ≡ true → m ≤ n
-le_true m n h = grind (arith, nat_tests)
-
 width_by : (b : Bool) (c : Connection) (bits : List Bit) (place : Place) (s t : State) (ys : List Joined) → has_width bits ≡ b → cond b (Gives ((record { bits = bits; hold = c.hold }) ∷ []) s) (Fails Width place) ≡ Gives ys t → IsJoined c ys
 width_by true c bits place s t ys h e =
-    let w = both (nat_le 1 (length bits)) (nat_le (length bits) widest) h in
+    let w = and_parts (nat_le 1 (length bits)) (nat_le (length bits) widest) h in
     let j : Joined = record { bits = bits; hold = c.hold } in
-    record { joint = j; only = cc; held = refl; wide = record { some = le_true 1 (length bits) w.0; few = le_true (length bits) widest w.1 } }
+    record { joint = j; only = cc; held = refl; wide = record { some = leb-true 1 (length bits) w.0; few = leb-true (length bits) widest w.1 } }
 width_by false c bits place s t ys h e = absurd (cc)
 
 after_terms : (o : Outcome (List Bit)) (c : Connection) (place : Place) (t : State) (ys : List Joined) → after o (λ bits s1. cond (has_width bits) (Gives ((record { bits = bits; hold = c.hold }) ∷ []) s1) (Fails Width place)) ≡ Gives ys t → IsJoined c ys

@@ -2,6 +2,7 @@
 use Rattle.std.proofs.Common.{◌≡◌, ℕ, ◌+◌, ◌-◌, ◌<◌, ◌≤◌, ℤ, Bool, true, false, cond, List, [], ◌∷◌, ◌++◌, length, get_or, reverse, nat_le, Option, Some, None, Ok, Err, refl, subst, ◌∙◌, arith}
 use Rattle.std.specs.Int.{abs_diff}
 use Rattle.std.specs.List.{All, zip, range_with_len}
+use Rattle.std.proofs.lemmas.Bool.{leb-true}
 use Rattle.std.proofs.lemmas.List.{get_or-reverse, length-reverse}
 use Rattle.std.proofs.lemmas.List.FromFn.{get_or-range_with_len, length-range_with_len}
 use Rattle.std.proofs.lemmas.List.Elements.{All-nil, All-cons, All-push, All-head, All-tail}
@@ -19,7 +20,6 @@ use Rattle.macro_expander.specs.Terms.{written_ends, numbers_of}
 use Rattle.macro_expander.specs.Macros.{input_bits, output_bits, parameters_of, shape_of, shapes_of, inside_of}
 use Rattle.macro_expander.specs.Runs.{IsRun, HasRun}
 use Rattle.macro_expander.specs.Numbered.{IsRange, bound_ref, input_bound_ref, output_bound_ref}
-use Rattle.macro_expander.proofs.Joints.{le_true}
 use Rattle.macro_expander.proofs.Binding.{collected-are}
 
 -- both steps of a judgement that has a value have one
@@ -69,7 +69,7 @@ between (Some first) None ns e = absurd (cc)
 between (Some first) (Some last) ns e = by (nat_le (length (from_to first last)) widest) refl e
   where
     by : (b : Bool) → nat_le (length (from_to first last)) widest ≡ b → cond b (Some (from_to first last)) None ≡ Some ns → AreNumbers ns
-    by true h q = let s : from_to first last ≡ ns = cc in subst AreNumbers s (record { few = le_true (length (from_to first last)) widest h; run = run_between first last })
+    by true h q = let s : from_to first last ≡ ns = cc in subst AreNumbers s (record { few = leb-true (length (from_to first last)) widest h; run = run_between first last })
     by false h q = absurd (cc)
 
 unless_refused : (o : Option (List ℕ)) (ns : List ℕ) → ((xs : List ℕ) → o ≡ Some xs → AreNumbers xs) → or_refuse o BadRange ≡ Ok ns → AreNumbers ns

@@ -1,32 +1,13 @@
 -- Wire bounds by the numbers and by the names of nets.
 use Rattle.std.proofs.Common.{◌≡◌, ℕ, zero, suc, ◌<◌, Bool, true, false, List, [], ◌∷◌, length, set, refl, sym, ◌∙◌, subst, arith}
-use Rattle.std.specs.Prelude.{◌==◌}
-use Rattle.std.specs.Str.{bytes_eq}
-use Rattle.std.proofs.lemmas.Bool.Decides.{nat_tests}
-use Rattle.std.proofs.lemmas.Slice.Eq.{bytes_eq-Decides}
 use Rattle.scald_base.specs.Time.{Bounds}
 use Rattle.flat_circuit.specs.Name.{Name, name_at, AreDistinct}
 use Rattle.flat_circuit.specs.Builder.{Built, same_name, IsBuilt, after_wire}
+use Rattle.flat_circuit.proofs.Tables.{same_name-is, same_name-refl}
 use Rattle.macro_expander.specs.Flat.{set_wire, with_wire}
 use Rattle.macro_expander.specs.declared.expansion.Expansion.{Expansion}
 use Rattle.macro_expander.specs.Named.{On}
 use Rattle.macro_expander.specs.Numbered.{Wired, names_in, nets_in, state_of}
-use Rattle.macro_expander.proofs.Alike.{both}
-use Rattle.macro_expander.proofs.Lists.{two}
-
-eq_so : (m n : ℕ) → (m == n) ≡ true → m ≡ n
-eq_so m n h = grind (arith, nat_tests)
-
-eq_self : (n : ℕ) → (n == n) ≡ true
-eq_self n = grind (arith, nat_tests)
-
-same_is : (a b : Name) → same_name a b ≡ true → a ≡ b
-same_is a b h =
-    let p = both (bytes_eq a.text b.text) (a.bit == b.bit) h in
-    two (λ (text : List ℕ) (bit : ℕ). let n : Name = record { text = text; bit = bit } in n) ((bytes_eq-Decides a.text b.text).0 p.0) (eq_so a.bit b.bit p.1)
-
-same_self : (a : Name) → same_name a a ≡ true
-same_self a = rw ((bytes_eq-Decides a.text a.text).1 refl, eq_self a.bit) refl
 
 tail_distinct : (n : Name) (names : List Name) → AreDistinct (n ∷ names) → AreDistinct names
 tail_distinct n names d = λ i j h k e. let q : suc i ≡ suc j = d (suc i) (suc j) (omega arith) (omega arith) e in omega arith
@@ -34,14 +15,14 @@ tail_distinct n names d = λ i j h k e. let q : suc i ≡ suc j = d (suc i) (suc
 other_by : (b : Bool) (a n : Name) (names : List Name) (i : ℕ) → same_name a n ≡ b → AreDistinct (n ∷ names) → i < length names → a ≡ name_at names i → b ≡ false
 other_by false a n names i e d h is = refl
 other_by true a n names i e d h is =
-    let same : n ≡ name_at names i = sym (same_is a n e) ∙ is in
+    let same : n ≡ name_at names i = same_name-is a n e ∙ is in
     let q : 0 ≡ suc i = d 0 (suc i) (omega arith) (omega arith) same in
     absurd (omega arith)
 
 pub set_by_name : (names : List Name) (wires : List Bounds) (i : ℕ) (w : Bounds) → AreDistinct names → i < length names → length wires ≡ length names → set_wire names wires (name_at names i) w ≡ set wires i w
 set_by_name [] wires i w d h l = absurd (omega arith)
 set_by_name (n ∷ names) [] i w d h l = absurd (omega arith)
-set_by_name (n ∷ names) (v ∷ wires) zero w d h l = rw (same_self n) refl
+set_by_name (n ∷ names) (v ∷ wires) zero w d h l = rw (same_name-refl n) refl
 set_by_name (n ∷ names) (v ∷ wires) (suc i) w d h l =
     let below : i < length names = omega arith in
     let long : length wires ≡ length names = omega arith in

@@ -20,17 +20,24 @@ const DEEPEST: u32 = 64;
 /// The circuit of a drawing: its statements in the order of the text, each macro's body at its uses, and
 /// then the circuit's own rules. A refusal of expansion stands at the statement that is expanded, and that
 /// of a rule at the statement whose bit breaks it; `NoMemory` comes where memory runs out.
-pub fn expand(alloc: Global, d: &Drawing) -> Result<Circuit, Stop>
-    requires { IsWellFormed (drawing_of d.now) }
-    ensures { MatchResult result (IsCircuitOf (drawing_of d.now)) (IsStopOf (drawing_of d.now)) }
+pub fn expand(alloc: Global, drawing: &Drawing) -> Result<Circuit, Stop>
+    requires { IsWellFormed (drawing_of drawing.now) }
+    ensures { MatchResult result (IsCircuitOf (drawing_of drawing.now)) (IsStopOf (drawing_of drawing.now)) }
 {
-    let library = Library::of(alloc, d.header.period(), &d.macros)?;
+    let library = Library::of(alloc, drawing.header.period(), &drawing.macros)?;
     let mut expansion = Expansion {
         statements: 0,
-        builder: Builder::new(alloc, d.header),
+        builder: Builder::new(alloc, drawing.header),
     };
     let top = Scope::top(alloc);
-    body(&mut expansion, alloc, &library, &d.body, &top, DEEPEST)?;
+    body(
+        &mut expansion,
+        alloc,
+        &library,
+        &drawing.body,
+        &top,
+        DEEPEST,
+    )?;
     let Expansion {
         builder,
         statements: _,

@@ -102,25 +102,6 @@ fn append(bits: &mut Bits, more: &[BitRef]) -> Result<(), NoMemory>
     Ok(())
 }
 
-fn many_bits(
-    expansion: &mut Expansion,
-    alloc: Global,
-    scope: &Scope,
-    terms: &[Term],
-    place: Place,
-) -> Result<Bits, Stop>
-    requires fits { All (TermFits expansion.old.builder.header) (map term_of terms.now) }
-    requires exists { ScopeExists (nets_in expansion.old) scope.now }
-    ensures { BitsAt expansion.old expansion.new result (spec_terms_bits (scope_of (names_in expansion.old) scope.now) place (map term_of terms.now) (state_of expansion.old)) }
-{
-    let mut bits = List::new(alloc);
-    for term in terms {
-        let more = term_bits(expansion, alloc, scope, term, place)?;
-        append(&mut bits, more.as_slice())?;
-    }
-    Ok(bits)
-}
-
 /// The bits of terms, from left to right. One term, as most connections have, needs no list of its own.
 fn terms_bits(
     expansion: &mut Expansion,
@@ -133,10 +114,15 @@ fn terms_bits(
     requires exists { ScopeExists (nets_in expansion.old) scope.now }
     ensures { BitsAt expansion.old expansion.new result (spec_terms_bits (scope_of (names_in expansion.old) scope.now) place (map term_of terms.now) (state_of expansion.old)) }
 {
-    match terms {
-        [only] => term_bits(expansion, alloc, scope, only, place),
-        _ => many_bits(expansion, alloc, scope, terms, place),
+    if let [only] = terms {
+        return term_bits(expansion, alloc, scope, only, place);
     }
+    let mut bits = List::new(alloc);
+    for term in terms {
+        let more = term_bits(expansion, alloc, scope, term, place)?;
+        append(&mut bits, more.as_slice())?;
+    }
+    Ok(bits)
 }
 
 #[tactic(auto, unfolding(crate::specs::Terms::joined))]

@@ -41,10 +41,10 @@ pub(crate) fn at<T: Drop>(place: Place, judged: Result<T, RefusalKind>) -> Resul
 }
 
 /// The value of an expression.
-pub(crate) fn value(e: &Expr, env: &Env) -> Result<i64, RefusalKind>
-    ensures { result ≡ valued env.now (expression_of e.now) }
+pub(crate) fn value(expression: &Expr, env: &Env) -> Result<i64, RefusalKind>
+    ensures { result ≡ valued env.now (expression_of expression.now) }
 {
-    match eval(e, env) {
+    match eval(expression, env) {
         Ok(value) => Ok(value),
         Err(fault) => Err(kind_of(fault)),
     }
@@ -55,7 +55,7 @@ fn last(written: &Option<Expr>, env: &Env, first: i64) -> Result<i64, RefusalKin
 {
     match written {
         None => Ok(first),
-        Some(e) => value(e, env),
+        Some(expression) => value(expression, env),
     }
 }
 

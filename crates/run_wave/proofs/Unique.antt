@@ -1,22 +1,16 @@
 -- A list of cells has one list of runs.
-use Rattle.std.proofs.Common.{◌≡◌, ◌≢◌, ℕ, zero, suc, ◌<◌, Bool, true, false, eqb, eq-eqb, List, [], ◌∷◌, ◌++◌, refl, sym, ap, arith}
+use Rattle.std.proofs.Common.{◌≡◌, ◌≢◌, ℕ, zero, suc, ◌<◌, Bool, true, eqb, eq-eqb, List, [], ◌∷◌, ◌++◌, refl, sym, ap, arith}
 use Rattle.std.specs.Prelude.{replicate, ◌&&◌}
 use Rattle.std.specs.Cmp.Derive.{both_true}
-use Rattle.std.proofs.lemmas.Bool.{eqb-true}
+use Rattle.std.proofs.lemmas.Bool.{eqb-true, and_parts}
 use Rattle.run_wave.specs.declared.run.Run.{Run}
 use Rattle.run_wave.specs.Run.{cells_of, BeginsWithout, IsRuns}
-
-both : (a b : Bool) → (a && b) ≡ true → (a ≡ true) × (b ≡ true)
-both true true h = (refl, refl)
-both true false h = absurd (let no : ⊥ = cc in no)
-both false true h = absurd (let no : ⊥ = cc in no)
-both false false h = absurd (let no : ⊥ = cc in no)
 
 -- a test of cells that finds just the same ones finds just the same runs
 pub same-run : {T : Type 0} (eq : T → T → Bool) → ((v w : T) → (eq v w ≡ true → v ≡ w) × (v ≡ w → eq v w ≡ true)) → (r s : Run T) →
     ((eq r.cell s.cell && eqb r.width s.width) ≡ true → r ≡ s) × (r ≡ s → (eq r.cell s.cell && eqb r.width s.width) ≡ true)
 same-run {T} eq is r s = (
-  λ h. (let found = both (eq r.cell s.cell) (eqb r.width s.width) h in
+  λ h. (let found = and_parts (eq r.cell s.cell) (eqb r.width s.width) h in
       let cell = (is r.cell s.cell).0 found.0 in
       let width = eqb-true r.width s.width found.1 in
       λ i. record { cell = cell i; width = width i }),

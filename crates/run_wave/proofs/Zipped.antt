@@ -2,7 +2,7 @@
 use Rattle.std.proofs.Common.{◌≡◌, ℕ, zero, suc, ◌+◌, ◌<◌, List, [], ◌∷◌, ◌++◌, length, get_or, take, refl, sym, ap, ◌∙◌, arith, subst}
 use Rattle.std.specs.Prelude.{replicate}
 use Rattle.std.specs.List.{AllZip, zip}
-use Rattle.std.proofs.lemmas.List.{append_assoc}
+use Rattle.std.proofs.lemmas.List.{append_assoc, append-nil}
 use Rattle.run_wave.specs.declared.run.Run.{Run}
 use Rattle.run_wave.specs.Run.{cells_of}
 use Rattle.run_wave.proofs.Runs.{cells_of-more}
@@ -50,10 +50,6 @@ zip-replicate {A} {B} (suc w) x y xs ys = ap (λ (l : List (A × B)). (x, y) ∷
 pub zip-next : {A B : Type 0} (w : ℕ) (x : A) (y : B) (xs xs' : List A) (ys ys' : List B) → xs ≡ replicate w x ++ xs' → ys ≡ replicate w y ++ ys' →
     zip xs ys ≡ replicate w (x, y) ++ zip xs' ys'
 zip-next w x y xs xs' ys ys' e e' = (λ i. zip (e i) (e' i)) ∙ zip-replicate w x y xs' ys'
-
-append-nil : {B : Type 0} (xs : List B) → xs ++ [] ≡ xs
-append-nil [] = refl
-append-nil {B} (x ∷ xs) = ap (λ (l : List B). x ∷ l) (append-nil xs)
 
 -- nothing is left of the first list
 pub continues-end : {A B C : Type 0} (R : A × B → C → Type 0) (all : List (A × B)) (xs : List A) (ys : List B) (done : List C) → length xs ≡ 0 →

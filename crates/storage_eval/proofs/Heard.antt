@@ -1,6 +1,6 @@
 -- What holds at all pins holds at those that listen.
-use Rattle.std.proofs.Common.{◌≡◌, ℕ, ◌+◌, ◌<◌, ◌≤◌, Bool, true, false, cond, List, [], ◌∷◌, ◌==◌, length, map, refl, sym, ◌∙◌, arith}
-use Rattle.std.specs.List.{All, list_all}
+use Rattle.std.proofs.Common.{◌≡◌, ℕ, ◌+◌, ◌<◌, ◌≤◌, Bool, true, false, cond, List, [], ◌∷◌, length, refl, sym, ◌∙◌, arith}
+use Rattle.std.specs.List.{All}
 use Rattle.std.proofs.lemmas.List.Elements.{All-nil, All-cons, All-head, All-tail, All-weaker}
 use Rattle.scald_base.specs.Signal.{Signal}
 use Rattle.step_values.specs.declared.value.Value.{Value}
@@ -90,20 +90,3 @@ pub one_period-listening : (kind : Kind) (waves : List (Wave Value)) → HaveOne
 one_period-listening kind waves long =
     All-weaker (λ (w : Wave Value). length w.cells ≡ period_of waves) (λ (w : Wave Value). length w.cells ≡ period_of (listening kind waves))
     (λ w h. h ∙ sym (period-listening kind waves)) (listening kind waves) (long-listening kind 0 (period_of waves) waves long)
-
--- waves that a test has found to be of one period
-pub tested-period : {P : Type 0} (wave : P → Wave Value) (period : ℕ) (pins : List P) → list_all (λ p. length (wave p).cells == period) pins ≡ true →
-    All (λ w. length w.cells ≡ period) (map wave pins)
-tested-period wave period [] tested = All-nil (λ (w : Wave Value). length w.cells ≡ period)
-tested-period wave period (p ∷ ps) tested =
-    let here : length (wave p).cells ≡ period = grind (arith, tested) in
-    let rest : list_all (λ q. length (wave q).cells == period) ps ≡ true = grind (arith, tested) in
-    All-cons (λ (w : Wave Value). length w.cells ≡ period) (wave p) (map wave ps) here (tested-period wave period ps rest)
-
-pub tested-one : {P : Type 0} (wave : P → Wave Value) (period : ℕ) (pins : List P) → list_all (λ p. length (wave p).cells == period) pins ≡ true →
-    HaveOnePeriod (map wave pins)
-tested-one wave period [] tested = All-nil (λ (w : Wave Value). length w.cells ≡ 0)
-tested-one wave period (p ∷ ps) tested =
-    let here : length (wave p).cells ≡ period = grind (arith, tested) in
-    All-weaker (λ (w : Wave Value). length w.cells ≡ period) (λ (w : Wave Value). length w.cells ≡ length (wave p).cells)
-    (λ w h. h ∙ sym here) (map wave (p ∷ ps)) (tested-period wave period (p ∷ ps) tested)

@@ -10,6 +10,3 @@ mod pins;
 mod storage;
 
 pub use storage::eval_storage;
-
-#[cfg(test)]
-mod tests;

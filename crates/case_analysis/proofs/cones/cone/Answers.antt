@@ -3,9 +3,9 @@ use Rattle.std.proofs.lemmas.List.{take_all, length-replicate}
 use Rattle.std.proofs.lemmas.Option.{slice_get_within}
 use Rattle.flat_circuit.specs.declared.case.CaseValue.{CaseValue}
 use Rattle.fixpoint_engine.specs.Settled.{marked_in}
-use Rattle.fixpoint_engine.proofs.Waiting.{unmarked}
+use Rattle.fixpoint_engine.proofs.Waiting.{unmarked, waiting-few}
 use Rattle.case_analysis.specs.Case.{IsCone, is_set}
-use Rattle.case_analysis.proofs.Coning.{closing-start, closing-more, closing-end, found-below, found-few, set-more}
+use Rattle.case_analysis.proofs.Coning.{closing-start, closing-more, closing-end, found-below, set-more}
 use Rattle.case_analysis.proofs.cones.cone.Goals as goal
 
 pub loop-value-init : goal.loop-value-init
@@ -33,7 +33,7 @@ add_hearers-requires-clause-exists c =
 pub nets-smaller : goal.nets-smaller
 nets-smaller c =
     let below = slice_get_within c.nets.found.nets c.nets.next c.in-Some.net (sym c.in-Some.ensures.is) in
-    let few = found-few c.nets.found c.in-Some.ensures.once in
+    let few = waiting-few c.nets.found c.in-Some.ensures.once in
     let each = c.nets.invariant.each_net in
     let less : length c.args.c.now.nets - (c.nets.next + 1) < length c.args.c.now.nets - c.nets.next = omega (arith, below, few, each) in
     less

@@ -6,7 +6,7 @@ use Rattle.fixpoint_engine.proofs.class_rounds.settle_classes.Given as goal
 
 abbrev pub invariant-rounds : goal.invariant-rounds
 invariant-rounds g l = record {
-  kept : ClassKept l.c (marked_in l.active) l.k (waves_of (map (λ s. skewed (g.W.CyclicWave.cells s.wave) s.skew) l.start)) (map (λ s. skewed (g.W.CyclicWave.cells s.wave) s.skew) l.waves) l.queue l.rounds l.evals;
+  kept : ClassKept l.c (marked_in l.active) l.numbers (waves_of (map (λ s. skewed (g.W.CyclicWave.cells s.wave) s.skew) l.start)) (map (λ s. skewed (g.W.CyclicWave.cells s.wave) s.skew) l.waves) l.queue l.rounds l.evals;
   within : l.rounds ≤ l.limit;
 }
 

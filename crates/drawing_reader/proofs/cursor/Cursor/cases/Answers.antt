@@ -8,8 +8,8 @@ use Rattle.drawing_grammar.proofs.Moves.{moves, stops}
 use Rattle.drawing_reader.proofs.Cursors.{leads_on, lacking}
 use Rattle.drawing_grammar.proofs.None as none
 use Rattle.std.proofs.Common.{append_assoc}
+use Rattle.std.proofs.lemmas.List.{append-nil}
 use Rattle.drawing_grammar.proofs.Moves.{reshaped, stays}
-use Rattle.drawing_reader.proofs.Lists.{none_more}
 use Rattle.drawing_reader.proofs.cursor.Cursor.cases.Goals as goal
 
 pub each-init : goal.each-init
@@ -22,4 +22,4 @@ pub each-preserved : goal.each-preserved
 each-preserved c = record { reads = rw (c.in_ok-push.ensures.ok) (λ rest. reshaped _ (moves (moves (c.each.invariant.reads rest) (leads_on g.Cases 0 c.each.self g.case_ (c.starts.ensures.yes (cc)) _)) (c.in_ok-next.ensures.reads _)) (λ v. ap (λ xs. (xs, v.1)) (sym (append_assoc c.each.all (_ ∷ []) v.0)))); no_longer = omega arith }
 
 pub returns-clause-reads : goal.returns-clause-reads
-returns-clause-reads c = λ rest. reshaped _ (moves (c.each.invariant.reads rest) (lacking g.Cases 0 c.each.self [] (none.no_case_statement (first_terminal (tokens_at c.each.self)) (c.starts.ensures.no (cc))) refl rest)) (λ v. ap (λ xs. (xs, v)) (none_more c.each.all))
+returns-clause-reads c = λ rest. reshaped _ (moves (c.each.invariant.reads rest) (lacking g.Cases 0 c.each.self [] (none.no_case_statement (first_terminal (tokens_at c.each.self)) (c.starts.ensures.no (cc))) refl rest)) (λ v. ap (λ xs. (xs, v)) (append-nil c.each.all))

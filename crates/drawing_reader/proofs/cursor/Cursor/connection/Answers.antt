@@ -8,9 +8,10 @@ use Rattle.drawing_grammar.proofs.Moves.{moves, stops}
 use Rattle.drawing_reader.proofs.Cursors.{plainly, is_token, left_out, always}
 use Rattle.drawing_grammar.proofs.None as none
 use Rattle.std.proofs.Common.{map}
+use Rattle.std.proofs.lemmas.List.{append-nil}
 use Rattle.drawing_tree.specs.Tree as tree
 use Rattle.drawing_grammar.proofs.Moves.{reshaped}
-use Rattle.drawing_reader.proofs.Lists.{more_mapped, none_more, joined_terms}
+use Rattle.drawing_reader.proofs.Lists.{more_mapped, joined_terms}
 use Rattle.drawing_reader.proofs.cursor.Cursor.connection.Goals as goal
 
 pub returns-in_err-first-clause-reads : goal.returns-in_err-first-clause-reads
@@ -32,4 +33,4 @@ pub returns-in_err-hold-clause-reads : goal.returns-in_err-hold-clause-reads
 returns-in_err-hold-clause-reads c = let p = err_from_is_err_and c.from_residual-in_err-hold.result c.from_residual-in_err-hold.ensures.1 in rw (p.1, p.2) (λ rest. stops (moves (c.terms.invariant.reads rest) (left_out g.MoreTerms 0 c.terms.self [] (none.no_more_terms (first_terminal (tokens_at c.terms.self)) (c.starts.ensures.no (cc))) refl _)) (c.in_err-hold.ensures.reads _))
 
 pub returns-clause-reads : goal.returns-clause-reads
-returns-clause-reads c = λ rest. reshaped _ (moves (moves (c.terms.invariant.reads rest) (left_out g.MoreTerms 0 c.terms.self [] (none.no_more_terms (first_terminal (tokens_at c.terms.self)) (c.starts.ensures.no (cc))) refl _)) (c.in_ok-hold.ensures.reads _)) (λ v. ap (λ x. (x, v)) (joined_terms c.in_ok-hold.hold _ (none_more (map tree.term_of c.terms.terms))))
+returns-clause-reads c = λ rest. reshaped _ (moves (moves (c.terms.invariant.reads rest) (left_out g.MoreTerms 0 c.terms.self [] (none.no_more_terms (first_terminal (tokens_at c.terms.self)) (c.starts.ensures.no (cc))) refl _)) (c.in_ok-hold.ensures.reads _)) (λ v. ap (λ x. (x, v)) (joined_terms c.in_ok-hold.hold _ (append-nil (map tree.term_of c.terms.terms))))

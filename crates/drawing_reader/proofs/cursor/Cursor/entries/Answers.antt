@@ -8,8 +8,8 @@ use Rattle.drawing_grammar.proofs.Moves.{moves, stops}
 use Rattle.drawing_reader.proofs.Cursors.{plainly, is_token, left_out, always}
 use Rattle.drawing_grammar.proofs.None as none
 use Rattle.std.proofs.Common.{append_assoc}
+use Rattle.std.proofs.lemmas.List.{append-nil}
 use Rattle.drawing_grammar.proofs.Moves.{reshaped}
-use Rattle.drawing_reader.proofs.Lists.{none_more}
 use Rattle.drawing_reader.proofs.cursor.Cursor.entries.Goals as goal
 
 pub returns-in_err-first-clause-reads : goal.returns-in_err-first-clause-reads
@@ -28,4 +28,4 @@ pub more-preserved : goal.more-preserved
 more-preserved c = record { reads = rw c.in_ok-push-2.ensures.ok (λ rest. reshaped _ (moves (moves (c.more.invariant.reads rest) (plainly g.next_entry 0 c.more.self c.bump.new.self c.bump.result refl (c.starts.ensures.yes (cc)) c.bump.ensures.taken c.bump.ensures.operators _)) (c.in_ok-next.ensures.reads _)) (λ v. ap (λ xs. (xs, v.1)) (sym (append_assoc c.more.all (_ ∷ []) v.0)))); no_longer = omega arith }
 
 pub returns-clause-reads : goal.returns-clause-reads
-returns-clause-reads c = λ rest. reshaped _ (moves (c.more.invariant.reads rest) (left_out g.MoreEntries 0 c.more.self [] (none.no_more_entries (first_terminal (tokens_at c.more.self)) (c.starts.ensures.no (cc))) refl rest)) (λ v. ap (λ xs. (xs, v)) (none_more (c.more.all)))
+returns-clause-reads c = λ rest. reshaped _ (moves (c.more.invariant.reads rest) (left_out g.MoreEntries 0 c.more.self [] (none.no_more_entries (first_terminal (tokens_at c.more.self)) (c.starts.ensures.no (cc))) refl rest)) (λ v. ap (λ xs. (xs, v)) (append-nil (c.more.all)))

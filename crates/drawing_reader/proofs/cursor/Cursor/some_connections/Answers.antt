@@ -8,9 +8,10 @@ use Rattle.drawing_grammar.proofs.Moves.{moves, stops}
 use Rattle.drawing_reader.proofs.Cursors.{plainly, is_token, left_out}
 use Rattle.drawing_grammar.proofs.None as none
 use Rattle.std.proofs.Common.{map}
+use Rattle.std.proofs.lemmas.List.{append-nil}
 use Rattle.drawing_tree.specs.Tree as tree
 use Rattle.drawing_grammar.proofs.Moves.{reshaped}
-use Rattle.drawing_reader.proofs.Lists.{more_mapped, none_more}
+use Rattle.drawing_reader.proofs.Lists.{more_mapped}
 use Rattle.drawing_reader.proofs.Cursors.{some_conn}
 use Rattle.drawing_reader.proofs.cursor.Cursor.some_connections.Goals as goal
 
@@ -30,4 +31,4 @@ pub more-preserved : goal.more-preserved
 more-preserved c = record { reads = rw c.in_ok-push-2.ensures.ok (λ rest. reshaped _ (moves (moves (c.more.invariant.reads rest) (plainly g.next_conn 0 c.more.self c.bump.new.self c.bump.result refl (c.starts.ensures.yes (cc)) c.bump.ensures.taken c.bump.ensures.operators _)) (c.in_ok-next.ensures.reads _)) (λ v. ap (λ xs. (xs, v.1)) (sym (more_mapped tree.connection_of c.more.all _ v.0)))); no_longer = omega arith }
 
 pub returns-clause-reads : goal.returns-clause-reads
-returns-clause-reads c = λ rest. reshaped _ (moves (c.more.invariant.reads rest) (left_out g.MoreConns 0 c.more.self [] (none.no_more_conns (first_terminal (tokens_at c.more.self)) (c.starts.ensures.no (cc))) refl rest)) (λ v. ap (λ xs. (xs, v)) (none_more (map tree.connection_of c.more.all)))
+returns-clause-reads c = λ rest. reshaped _ (moves (c.more.invariant.reads rest) (left_out g.MoreConns 0 c.more.self [] (none.no_more_conns (first_terminal (tokens_at c.more.self)) (c.starts.ensures.no (cc))) refl rest)) (λ v. ap (λ xs. (xs, v)) (append-nil (map tree.connection_of c.more.all)))

@@ -1,0 +1,117 @@
+//! Reports on a circuit of one net, spelled out on paper.
+
+ghost use Rattle.std.specs.Prelude.{map};
+ghost use Rattle.skew_algebra.specs.Wave.{skewed};
+ghost use Rattle.fixpoint_engine.specs.Settled.{FitWaves};
+
+use crate::drawings::{are_fit, read_circuit};
+use fixpoint_engine::{Settled, Waves};
+use flat_circuit::{Circuit, Fault, Faults};
+use listing::{
+    Mode, begin_report, end_report, write_case, write_refusal, write_summary, write_unsettled,
+};
+use scald_base::{Bytes, NoMemory, Place, Refusal, RefusalKind};
+use skew_algebra::Skewed;
+use std::alloc::Global;
+use std::process::Abort;
+use std::test::Fail;
+use step_values::Value;
+use step_values::Value::{C, R, S};
+use wave_core::{CyclicWave, SlotWave};
+
+/// A net that nothing drives, in a period of 8.
+const ONE_NET: &[u8] = br#"SCALD 1;
+CLOCK 4 x 2;
+MACRO NET ();
+WIRE "K"<3> 0:0;
+END;
+DRAWING ROW;
+u1 : NET ();
+END;
+"#;
+
+/// A wave of the one net.
+fn one_wave(alloc: Global) -> Result<Waves<SlotWave<Value>>, NoMemory> {
+    let cells = SlotWave::from_slots(alloc, &[C, C, S, S, S, R, C, C])?;
+    let mut waves = Waves::new(alloc);
+    waves.push(Skewed::normal(alloc, cells, 2)?)?;
+    Ok(waves)
+}
+
+/// A fault past the end of the period.
+fn one_fault(alloc: Global) -> Result<Faults, NoMemory> {
+    let mut faults = Faults::new(alloc);
+    faults.push(Fault::Assertion {
+        net: 0,
+        slot: 13,
+        value: b'R',
+    })?;
+    Ok(faults)
+}
+
+/// A report of three cases, one in each mode.
+fn three_cases<W: CyclicWave<Item = Value>>(
+    rt: &impl Abort,
+    alloc: Global,
+    c: &Circuit,
+    waves: Waves<W>,
+) -> Result<Bytes, NoMemory> {
+    assert!(rt; are_fit(c, &waves));
+    let settled = Settled {
+        waves,
+        rounds: 3,
+        evals: 0,
+    };
+    let faults = one_fault(alloc)?;
+    let mut out = Bytes::new(alloc);
+    begin_report(c, &mut out)?;
+    write_case(c, 1, 4, &settled, 408, &faults, Mode::Full, &mut out)?;
+    write_case(c, 2, 4, &settled, 408, &faults, Mode::Waves, &mut out)?;
+    write_case(c, 3, 4, &settled, 408, &faults, Mode::Faults, &mut out)?;
+    end_report(3, &mut out)?;
+    Ok(out)
+}
+
+#[test]
+fn one_net_in_each_mode(rt: HostRuntime) -> Result<(), Fail> {
+    let drawn = read_circuit(rt.alloc(), &[ONE_NET])?;
+    let waves = one_wave(rt.alloc())?;
+    let out = three_cases(&rt, rt.alloc(), &drawn.circuit, waves)?;
+    let expected = b"SCALD 1 PERIOD 8\n\
+        NETS 1 INSTANCES 0 CHECKS 0\n\
+        STABLE u1/K<3>\n\
+        CASE 1 BASE 4 ROUNDS 3 T 408\n\
+        WAVE u1/K<3> SKEW 2 C:2 S:3 R:1 C:2\n\
+        FAULT ASSERT u1/K<3> SLOT 5 VALUE R\n\
+        CASE 2 BASE 4 ROUNDS 3 T 408\n\
+        WAVE u1/K<3> SKEW 2 C:2 S:3 R:1 C:2\n\
+        CASE 3 BASE 4 ROUNDS 3 T 408\n\
+        FAULT ASSERT u1/K<3> SLOT 5 VALUE R\n\
+        FAULTS 3\n";
+    assert_eq!(rt; out.as_slice(), expected.as_slice());
+    Ok(())
+}
+
+/// The lines that stand in place of a report, and the last one of a clean report.
+fn single_lines(alloc: Global, c: &Circuit) -> Result<Bytes, NoMemory> {
+    let mut out = Bytes::new(alloc);
+    end_report(0, &mut out)?;
+    let place = Place { line: 4, col: 1 };
+    let kind = RefusalKind::ZeroLoop;
+    write_refusal(&Refusal { kind, place }, &mut out)?;
+    if c.by_name(0).is_some() {
+        write_unsettled(c, 0, 1657, &mut out)?;
+    }
+    write_summary(c, 3, 2, 189, 4, &mut out)?;
+    Ok(out)
+}
+
+#[test]
+fn lines_by_themselves(rt: HostRuntime) -> Result<(), Fail> {
+    let drawn = read_circuit(rt.alloc(), &[ONE_NET])?;
+    let out = single_lines(rt.alloc(), &drawn.circuit)?;
+    let expected = b"CLEAN\nREFUSED 18 ZeroLoop 4:1\nUNSETTLED u1/K<3> ROUND 1657\n\
+        BENCH 3 NETS 1 INSTANCES 0 CHECKS 0 ROUNDS 2 T 189 FAULTS 4\n";
+    assert_eq!(rt; out.as_slice(), expected.as_slice());
+    Ok(())
+}

@@ -1,0 +1,198 @@
+//! Rounds of the base: how they rest, with how many evaluations and from which tick on, and how they do not.
+
+ghost use Rattle.std.specs.Prelude.{◌≤◌};
+
+use crate::drawings::{Drawn, HEAD, read_circuit};
+use case_analysis::{base, base_classes, default_limit, reach, tick};
+use class_table::{ClassMap, stable};
+use fixpoint_engine::{EngineEnd, Settled};
+use flat_circuit::Circuit;
+use scald_base::NoMemory;
+use std::alloc::Global;
+use std::test::Fail;
+use step_values::Value;
+use wave_core::SlotWave;
+
+/// A clock and 500 buffers behind it. They are all evaluated in round 1, and one more in each round up to
+/// 500.
+const CHAIN: &[u8] = br#"DRAWING CHAIN;
+b1 : BUF [1:1] ("CK .P2-3") -> ("X"<1>);
+b2 : BUF [1:1] ("X"<1:250>) -> ("X"<2:251>);
+b3 : BUF [1:1] ("X"<251:499>) -> ("X"<252:500>);
+END;
+"#;
+
+/// An AND of a clock and the last of 40 buffers, and these behind it. A slot where the clock is low clears
+/// the slot after it, 41 rounds later: once round the loop. The clock's pulse is cleared in 52 times 41
+/// rounds.
+const LOOP: &[u8] = br#"DRAWING LOOP;
+a1 : AND [1:1] ("CK .P2-3", "X"<40>) -> ("X"<0>);
+b1 : BUF [0:0] ("X"<0:39>) -> ("X"<1:40>);
+END;
+"#;
+
+/// The number of the round at rest and of the evaluations up to there, and the printed tick.
+#[derive(Clone, Copy, PartialEq, Eq, Debug)]
+struct Rest {
+    rounds: u32,
+    evals: u64,
+    tick: u64,
+}
+
+/// The name of a row, its drawing, the limit, how the base ends, and the limit where no other is asked.
+type BaseRow = (
+    &'static str,
+    &'static [u8],
+    u16,
+    Result<Rest, EngineEnd>,
+    u32,
+);
+
+const BASES: [BaseRow; 6] = [
+    (
+        "500 buffers",
+        CHAIN,
+        500,
+        Ok(Rest {
+            rounds: 500,
+            evals: 999,
+            tick: 1002,
+        }),
+        2116,
+    ),
+    (
+        "two buffers",
+        br#"DRAWING ROW; b1 : BUF [1:1] ("X"<0:1>) -> ("X"<1:2>); END;"#,
+        2,
+        Ok(Rest {
+            rounds: 2,
+            evals: 3,
+            tick: 6,
+        }),
+        1618,
+    ),
+    (
+        "one round too few",
+        br#"DRAWING ROW; b1 : BUF [1:1] ("X"<0:1>) -> ("X"<1:2>); END;"#,
+        1,
+        Err(EngineEnd::Unsettled { net: 2, round: 1 }),
+        1618,
+    ),
+    (
+        "past a period",
+        br#"DRAWING ROW; b1 : BUF [0:4095] ("X"<0:1>) -> ("X"<1:2>); END;"#,
+        9,
+        Ok(Rest {
+            rounds: 2,
+            evals: 3,
+            tick: 12288,
+        }),
+        1618,
+    ),
+    (
+        "wires",
+        br#"WIRE 0:20; DRAWING ROW; b1 : BUF [10:30] ("X"<0:1>) -> ("X"<1:2>); END;"#,
+        9,
+        Ok(Rest {
+            rounds: 2,
+            evals: 3,
+            tick: 153,
+        }),
+        1618,
+    ),
+    (
+        "without instances the base is the start",
+        b"WIRE 5:5; DRAWING ROW; END;",
+        1,
+        Ok(Rest {
+            rounds: 0,
+            evals: 0,
+            tick: 1,
+        }),
+        1616,
+    ),
+];
+
+/// The numbers of a base at rest.
+fn numbers_of(c: &Circuit, settled: &Settled<SlotWave<Value>>) -> Rest
+    requires { settled.now.rounds ≤ 65535 }
+{
+    Rest {
+        rounds: settled.rounds,
+        evals: settled.evals,
+        tick: tick(reach(c), settled.rounds, 0),
+    }
+}
+
+/// How the base ends.
+fn by_nets(alloc: Global, c: &Circuit, limit: u16) -> Result<Rest, EngineEnd> {
+    let settled = base(alloc, c, u32::from(limit))?;
+    Ok(numbers_of(c, &settled))
+}
+
+/// Each net in a class of its own.
+fn lone_classes(alloc: Global, c: &Circuit) -> Result<ClassMap, NoMemory> {
+    let mut classes = ClassMap::new(alloc);
+    for net in 0..c.net_count() {
+        classes.push(net)?;
+    }
+    Ok(classes)
+}
+
+/// How the base ends over classes of one net each, if these are stable.
+fn by_classes(alloc: Global, drawn: &Drawn, limit: u16) -> Result<Option<Rest>, EngineEnd> {
+    let c = &drawn.circuit;
+    let classes = lone_classes(alloc, c)?;
+    if classes.len() != c.net_count() as usize || !stable(c, &drawn.cases, &classes) {
+        return Ok(None);
+    }
+    let settled = base_classes(alloc, c, &drawn.cases, &classes, u32::from(limit))?;
+    Ok(Some(numbers_of(c, &settled)))
+}
+
+#[test]
+fn bases(rt: HostRuntime) -> Result<(), Fail> {
+    let alloc = rt.alloc();
+    for (name, lines, limit, want, default) in BASES {
+        let drawn = read_circuit(alloc, &[HEAD, lines])?;
+        assert_eq!(rt; by_nets(alloc, &drawn.circuit, limit), want, "{name}");
+        assert_eq!(rt;
+            by_classes(alloc, &drawn, limit),
+            want.map(Some),
+            "{name}, by classes"
+        );
+        assert_eq!(rt; default_limit(&drawn.circuit), default, "{name}");
+    }
+    Ok(())
+}
+
+/// A limit of rounds, and the number of the round at rest, or the net that still changes.
+type LimitRow = (u16, Result<u32, EngineEnd>);
+
+const LIMITS: [LimitRow; 3] = [
+    (
+        1657,
+        Err(EngineEnd::Unsettled {
+            net: 18,
+            round: 1657,
+        }),
+    ),
+    (
+        2131,
+        Err(EngineEnd::Unsettled {
+            net: 41,
+            round: 2131,
+        }),
+    ),
+    (2132, Ok(2132)),
+];
+
+#[test]
+fn a_loop_rests_late(rt: HostRuntime) -> Result<(), Fail> {
+    let drawn = read_circuit(rt.alloc(), &[HEAD, LOOP])?;
+    for (limit, want) in LIMITS {
+        let outcome = by_nets(rt.alloc(), &drawn.circuit, limit);
+        assert_eq!(rt; outcome.map(|rest| rest.rounds), want, "limit {limit}");
+    }
+    Ok(())
+}

@@ -1,0 +1,19 @@
+//! What is tested of elements: gates, change functions and marks of `gate_eval`, registers and latches of
+//! `storage_eval`. Each row has the waves at the pins of one element, and the wave of its output as it was
+//! worked out on paper.
+//!
+//! The crate has tests alone, and nothing stands on it. `pins` makes the waves of a row and asks the
+//! evaluator; the other modules have the rows.
+#![tactic(auto)]
+
+// rows, and what the evaluators make of them
+#[cfg(test)]
+mod pins;
+
+// the rows
+#[cfg(test)]
+mod gates;
+#[cfg(test)]
+mod marks;
+#[cfg(test)]
+mod storage;

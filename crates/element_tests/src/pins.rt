@@ -1,0 +1,201 @@
+//! The waves of a row, and what the evaluators make of them.
+
+ghost use Rattle.std.specs.Prelude.{◌≡◌, ◌==◌, IsTrue, count_by, length, map};
+ghost use Rattle.std.specs.List.{list_all};
+ghost use Rattle.skew_algebra.specs.Wave.{skewed};
+ghost use Rattle.flat_circuit.specs.Kind.{greatest_marks, pin_counts as counts};
+ghost use Rattle.gate_eval.specs.Meeting.{HaveOnePeriod};
+ghost use Rattle.gate_eval.specs.Instance.{CountsFit, is_gate as gate};
+ghost use Rattle.storage_eval.specs.Storage.{is_storage as storage};
+
+use flat_circuit::Kind;
+use gate_eval::{PinWave, PinWaves, eval_gate, hold_fault};
+use scald_base::{Delay, NoMemory};
+use skew_algebra::Skewed;
+use std::alloc::Global;
+use std::process::Abort;
+use step_values::Value;
+use storage_eval::eval_storage;
+use wave_core::{CyclicWave, SlotWave};
+
+/// A wave: so many slots with the same value, one such stretch after another, from slot 0 on.
+pub type Stretches = &'static [(Value, u16)];
+
+/// The wave at a pin and its skew in ticks, and whether the pin is marked.
+#[derive(Clone, Copy)]
+pub enum PinRow {
+    Free(Stretches, u16),
+    Marked(Stretches, u16),
+}
+
+/// The name of a row, an element with its delay, its pins, and the wave of its output with its skew.
+pub type ElementRow = (
+    &'static str,
+    Kind,
+    Delay,
+    &'static [PinRow],
+    (Stretches, u16),
+);
+
+/// No delay at all.
+pub const AT_ONCE: Delay = Delay { min: 0, max: 0 };
+
+fn cells_of(alloc: Global, stretches: Stretches) -> Result<Vec<Value>, NoMemory> {
+    let mut cells = Vec::new(alloc);
+    for (value, width) in stretches {
+        for _slot in 0..*width {
+            cells.push(*value)?;
+        }
+    }
+    Ok(cells)
+}
+
+/// The wave of these stretches, which come late by up to `skew` ticks.
+fn wave_of(
+    rt: &impl Abort,
+    alloc: Global,
+    stretches: Stretches,
+    skew: u16,
+) -> Result<Skewed<SlotWave<Value>>, NoMemory> {
+    let cells = cells_of(alloc, stretches)?;
+    assert!(rt; 2 <= cells.len() && cells.len() <= 4096);
+    let wave = SlotWave::from_slots(alloc, &cells)?;
+    Skewed::normal(alloc, wave, skew)
+}
+
+fn pins_of(
+    rt: &impl Abort,
+    alloc: Global,
+    rows: &[PinRow],
+) -> Result<PinWaves<SlotWave<Value>>, NoMemory> {
+    let mut pins = PinWaves::new(alloc);
+    for row in rows {
+        let (stretches, skew, hold) = match row {
+            PinRow::Free(stretches, skew) => (*stretches, *skew, false),
+            PinRow::Marked(stretches, skew) => (*stretches, *skew, true),
+        };
+        let wave = wave_of(rt, alloc, stretches, skew)?;
+        pins.push(PinWave { wave, hold })?;
+    }
+    Ok(pins)
+}
+
+fn is_gate(kind: Kind) -> bool
+    ensures { result ≡ gate kind }
+{
+    matches!(
+        kind,
+        Kind::Buf
+            | Kind::And
+            | Kind::Or
+            | Kind::Xor
+            | Kind::Mux2
+            | Kind::Mux4
+            | Kind::Mux8
+            | Kind::Chg
+    )
+}
+
+fn is_storage(kind: Kind) -> bool
+    ensures { result ≡ storage kind }
+{
+    matches!(kind, Kind::Reg | Kind::RegRs | Kind::Latch | Kind::LatchRs)
+}
+
+/// The least and the greatest number of pins of a kind, and how many of them may be marked.
+fn pin_counts(kind: Kind) -> (usize, usize, usize)
+    ensures least { result.0 ≡ (counts kind).0 }
+    ensures most { result.1 ≡ (counts kind).1 }
+    ensures marks { result.2 ≡ greatest_marks kind }
+{
+    match kind {
+        Kind::Buf | Kind::MinPulse => (1, 1, 0),
+        Kind::And | Kind::Or => (1, 16, 1),
+        Kind::Xor => (1, 16, 0),
+        Kind::Mux2 => (3, 3, 0),
+        Kind::Mux4 => (6, 6, 0),
+        Kind::Mux8 => (11, 11, 0),
+        Kind::Chg => (1, 4096, 0),
+        Kind::Reg | Kind::Latch | Kind::SetupHold | Kind::RiseFall => (2, 2, 0),
+        Kind::RegRs | Kind::LatchRs => (4, 4, 0),
+    }
+}
+
+/// How many pins are marked.
+fn marks<W: CyclicWave<Item = Value>>(pins: &[PinWave<W>]) -> usize
+    ensures { result ≡ count_by (λ p. p.hold) pins.now }
+{
+    pins.iter().filter(|pin| pin.hold).count()
+}
+
+/// Whether all waves have this period.
+fn have_period<W: CyclicWave<Item = Value>>(pins: &[PinWave<W>], period: u16) -> bool
+    ensures { result ≡ list_all (λ p. length (W.cells p.wave.wave) == period) pins.now }
+{
+    pins.iter().all(|pin| pin.wave.wave.period() == period)
+}
+
+/// Whether the kind has so many pins, so many of them marked, and all waves have this period.
+fn are_fit<W: CyclicWave<Item = Value>>(kind: Kind, pins: &[PinWave<W>], period: u16) -> bool
+    ensures counts { IsTrue result → CountsFit kind (length pins.now) (count_by (λ p. p.hold) pins.now) }
+    ensures periods { IsTrue result → HaveOnePeriod (map (λ p. skewed (W.cells p.wave.wave) p.wave.skew) pins.now) }
+{
+    let (least, most, greatest) = pin_counts(kind);
+    let fit = least <= pins.len() && pins.len() <= most && marks(pins) <= greatest;
+    fit && have_period(pins, period)
+}
+
+/// The wave of an element, which has such pins, whose waves have this period.
+fn evaluated<W: CyclicWave<Item = Value>>(
+    rt: &impl Abort,
+    alloc: Global,
+    kind: Kind,
+    delay: Delay,
+    pins: &PinWaves<W>,
+    period: u16,
+) -> Result<Skewed<W>, NoMemory> {
+    assert!(rt; are_fit(kind, pins.as_slice(), period));
+    if is_gate(kind) {
+        return eval_gate(alloc, kind, pins, delay);
+    }
+    assert!(rt; is_storage(kind));
+    eval_storage(alloc, kind, pins, delay)
+}
+
+/// Looks at the wave of each element.
+pub fn expect_outputs(
+    rt: &(impl Abort + AllocGlobal),
+    rows: &[ElementRow],
+) -> Result<(), NoMemory> {
+    let alloc = rt.alloc();
+    for (name, kind, delay, pins, output) in rows {
+        let pins = pins_of(rt, alloc, pins)?;
+        let want = wave_of(rt, alloc, output.0, output.1)?;
+        let got = evaluated(rt, alloc, *kind, *delay, &pins, want.wave.period())?;
+        assert!(rt; got.same(&want), "{name}");
+    }
+    Ok(())
+}
+
+/// The hazard at the marked pin of an AND, which has such pins, whose waves have this period.
+fn hazard<W: CyclicWave<Item = Value>>(
+    rt: &impl Abort,
+    pins: &PinWaves<W>,
+    period: u16,
+) -> Option<(u16, u16)> {
+    assert!(rt; are_fit(Kind::And, pins.as_slice(), period));
+    hold_fault(Kind::And, pins)
+}
+
+/// Looks at the hazard of an AND.
+pub fn expect_hazard(
+    rt: &(impl Abort + AllocGlobal),
+    name: &str,
+    pins: &[PinRow],
+    period: u16,
+    want: Option<(u16, u16)>,
+) -> Result<(), NoMemory> {
+    let pins = pins_of(rt, rt.alloc(), pins)?;
+    assert_eq!(rt; hazard(rt, &pins, period), want, "{name}");
+    Ok(())
+}
