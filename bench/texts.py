@@ -9,10 +9,10 @@ def drawing(lines, clock="8 x 50", macros=(), after=(), header=()):
     return "\n".join([*head, *macros, "DRAWING MEASURED;", *lines, "END;", *after]) + "\n"
 
 
-def datapath(stages):
-    """What the crate design_gen makes: stages of eight bits, each a change function, a checker and a register."""
+def datapath(sections):
+    """What the crate design_gen makes: sections of eight bits, each a change function, a checker and a register."""
     lines = []
-    for i in range(1, stages + 1):
+    for i in range(1, sections + 1):
         before = "Q0 .S4-3" if i == 1 else f"Q{i - 1}"
         lines.append(f'g{i} : CHG [20:60] ("{before}"<0:7>) -> ("D{i}"<0:7>);')
         lines.append(f'c{i} : SETUP_HOLD_CHK {{SETUP=20, HOLD=5}} ("CK .P2-3", "D{i}"<0:7>);')
@@ -112,6 +112,14 @@ def cases(count):
     lines.append('c : SETUP_HOLD_CHK {SETUP=20, HOLD=5} ("CK .P6-7", "W5"<0:31>);')
     after = ["CASE " + ", ".join(f'"SEL{i}"={number >> i & 1}' for i in range(6)) + ";" for number in range(count)]
     return drawing(lines, macros=CASE_STAGE, after=after)
+
+
+def small_cones(count):
+    """A checker on each of 256 bits of 16 buses, beside one such stage, looked at in so many cases of the stage alone."""
+    lines = [f'c{i} : SETUP_HOLD_CHK {{SETUP=20, HOLD=10}} ("CK .P2-3", "D{i} .S1-4"<0:255>);' for i in range(1, 17)]
+    lines.append('s : STAGE ("SEL", "IN .S1-8"<0:31>) -> ("W"<0:31>);')
+    lines.append('c : SETUP_HOLD_CHK {SETUP=20, HOLD=5} ("K .P6-7", "W"<0:31>);')
+    return drawing(lines, macros=CASE_STAGE, after=[f'CASE "SEL"={number & 1};' for number in range(count)])
 
 
 def chains(count):

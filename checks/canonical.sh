@@ -76,8 +76,10 @@ statement 'complements of constants' 'a:B(-ZERO,-ONE);' 'a : B (-ZERO, -ONE);'
 statement 'a global name with an assertion' 'a:B("/X .S1-4");' 'a : B ("/X .S1-4");'
 statement 'bits one behind the other' 'a:B("X"&ONE);' 'a : B ("X" & ONE);'
 statement 'a mark' 'a:B("X"!H,"Y");' 'a : B ("X" !H, "Y");'
+statement 'a mark behind joined bits' 'a:B("X"&-"Y"<2:0>!H);' 'a : B ("X" & -"Y"<2:0> !H);'
 statement 'outputs' 'a:B()->("Y","Z");' 'a : B () -> ("Y", "Z");'
 statement 'an IF within an IF' 'IF A THEN IF B THEN a:B();END;END;' 'IF A THEN' '  IF B THEN' '    a : B ();' '  END;' 'END;'
+statement 'an IF of nothing' 'IF A THEN ELSE END;' 'IF A THEN' 'ELSE' 'END;'
 statement 'an ELSE' 'IF A THEN a:B();ELSE b:B();END;' 'IF A THEN' '  a : B ();' 'ELSE' '  b : B ();' 'END;'
 
 statement 'parameters without a delay' 't:T{N=(1+2)*3-(-(4))}("A")->("Z");' 't : T {N=(1 + 2) * 3 - -4} ("A") -> ("Z");'
@@ -89,6 +91,7 @@ drawn 'a macro' 'MACRO M();END;DRAWING D;END;' 'MACRO M ();' 'END;' 'DRAWING D;'
 drawn 'parameters' 'MACRO M{A=1,B=A}();END;DRAWING D;END;' 'MACRO M {A=1, B=A} ();' 'END;' 'DRAWING D;' 'END;'
 drawn 'formals' 'MACRO M("I"<0:A>,"J")->("O"<1>,"P");END;DRAWING D;END;' \
     'MACRO M ("I"<0:A>, "J") -> ("O"<1>, "P");' 'END;' 'DRAWING D;' 'END;'
+drawn 'outputs alone' 'MACRO M()->("O");END;DRAWING D;END;' 'MACRO M () -> ("O");' 'END;' 'DRAWING D;' 'END;'
 drawn 'two macros' 'MACRO M();a:B();END;MACRO N();a:B();END;DRAWING D;a:B();END;' \
     'MACRO M ();' '  a : B ();' 'END;' 'MACRO N ();' '  a : B ();' 'END;' 'DRAWING D;' '  a : B ();' 'END;'
 drawn 'cases' 'DRAWING D;END;CASE"X"=1,"Y"<2>=0;CASE"X"=0;' \

@@ -160,7 +160,8 @@ says() {
 }
 
 forms='scald: these words are none of its forms, which are'
-for words in '' 'verify twice' 'verify rounds=5 faults' check bench 'bench 201' 'verify rounds=0' 'verify rounds=05' 'format waves'; do
+for words in '' 'verify twice' 'verify rounds=5 faults' check bench 'bench 0' 'bench 01' 'bench 201' 'verify rounds=' \
+    'verify rounds=0' 'verify rounds=05' 'verify rounds=+5' 'verify rounds=10000001' 'verify waves waves' 'format waves' 'format format'; do
     # shellcheck disable=SC2086
     "$program" $words <"$first" >"$work/out" 2>"$work/said"
     says "the words '$words'" 4 "$forms" $?

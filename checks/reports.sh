@@ -251,4 +251,25 @@ whole 'a ring that a case clears, rounds=10' 'verify faults rounds=10' 0 \
     -- 'SCALD 1 PERIOD 400' 'NETS 11 INSTANCES 10 CHECKS 0' 'STABLE A<0>' 'CASE 1 BASE 0 ROUNDS 0 T 2' 'CASE 2 BASE 0 ROUNDS 10 T 22' \
     'CLEAN'
 
+# --- kinds of many pins, all faults together, and a case of a global net
+row 'a choice of four and of eight, by selects of which the first counts most' verify 0 \
+    'm4 : MUX4 [0:0] (ONE, ZERO, ZERO, ZERO, ONE, ZERO) -> ("X");' \
+    'm8 : MUX8 [0:0] (ONE, ONE, ZERO, ZERO, ZERO, ZERO, ZERO, ZERO, ZERO, ONE, ZERO) -> ("Y");' \
+    -- 'NETS 2 INSTANCES 2 CHECKS 0' 'WAVE X<0> SKEW 0 1:400' 'WAVE Y<0> SKEW 0 1:400'
+row 'a latch that is set, one that is reset, and one that is neither' verify 0 \
+    'l1 : LATCH_RS [0:0] (ONE, ONE, ZERO, ONE) -> ("L1");' 'l2 : LATCH_RS [0:0] (ONE, ZERO, ONE, ZERO) -> ("L2");' \
+    'l3 : LATCH_RS [0:0] ("CK .P2-3", ONE, ZERO, ZERO) -> ("L3");' \
+    -- 'CASE 0 BASE 1 ROUNDS 0 T 2' 'WAVE L1<0> SKEW 0 0:400' 'WAVE L2<0> SKEW 0 1:400' 'WAVE L3<0> SKEW 0 S:100 R:1 1:49 S:250'
+whole 'faults of each kind, in their order' 'verify faults' 1 \
+    'w1 : MIN_PULSE_CHK {HIGH=60, LOW=351} ("CK .P2-3");' 'a1 : AND [0:0] ("CK" !H, "E .S1-2") -> ("G");' \
+    'r1 : REG [5:15] ("CK", "D .S1-4") -> ("Q .S2-1");' 'r2 : REG [5:15] ("CK", "D") -> ("P .S2-1");' \
+    'c1 : SETUP_HOLD_CHK {SETUP=20, HOLD=10} ("CK", "H .S2-4");' \
+    -- 'SCALD 1 PERIOD 400' 'NETS 7 INSTANCES 3 CHECKS 2' 'CASE 0 BASE 1 ROUNDS 0 T 32' 'FAULT HAZARD a1<0> SLOT 100 PIN 1' \
+    'FAULT SETUP c1<0> EDGE 100 SLOT 81 VALUE C' 'FAULT ASSERT P<0> SLOT 105 VALUE C' 'FAULT ASSERT Q<0> SLOT 105 VALUE C' \
+    'FAULT WIDTH w1<0> HIGH FROM 100 WIDTH 50' 'FAULT WIDTH w1<0> LOW FROM 150 WIDTH 350' 'FAULTS 6'
+whole 'a case of a global net, which is named inside of a macro' verify 0 \
+    'MACRO M ("A") -> ("Z");' 'm : AND [0:0] ("/SEL", "A") -> ("Z");' 'END;' 'DRAWING ROW;' 'u : M ("IN .S1-8") -> ("OUT");' 'END;' 'CASE "/SEL"=0;' \
+    -- 'SCALD 1 PERIOD 400' 'NETS 3 INSTANCES 1 CHECKS 0' 'STABLE /SEL<0>' 'CASE 1 BASE 1 ROUNDS 1 T 3' 'WAVE /SEL<0> SKEW 0 0:400' \
+    'WAVE IN<0> SKEW 0 C:51 S:349' 'WAVE OUT<0> SKEW 0 0:400' 'CLEAN'
+
 ended
