@@ -15,7 +15,7 @@ use assertion_syntax::SignalName;
 use drawing_tree::{CaseEntry, CaseStmt, Drawing};
 use fixpoint_engine::NetSet;
 use flat_circuit::{Case, CaseList, CaseValue, Circuit, Net};
-use scald_base::{AssertSpec, Bytes, List, NoMemory, Place, Refusal, RefusalKind, Stop};
+use scald_base::{AssertSpec, Bytes, List, NoMemory, Place, RefusalKind, Stop};
 use std::alloc::Global;
 
 /// The most cases of a drawing.
@@ -121,13 +121,6 @@ fn value_of(
     }
 }
 
-/// A refusal at a place.
-fn refused(kind: RefusalKind, place: Place) -> Stop
-    ensures { result ≡ Stop.Refused (record { kind = kind; place = place }) }
-{
-    Stop::Refused(Refusal { kind, place })
-}
-
 /// The case of these entries, or the refusal of the first that may not be set.
 fn case_of(alloc: Global, c: &Circuit, entries: &[CaseEntry]) -> Result<Case, Stop>
     ensures is { MatchResult result (IsCaseOf c.now entries.now) (IsCaseStop c.now entries.now) }
@@ -142,7 +135,7 @@ fn case_of(alloc: Global, c: &Circuit, entries: &[CaseEntry]) -> Result<Case, St
                 named.add(value.net);
                 case.push(value)?;
             }
-            None => return Err(refused(RefusalKind::CaseNet, entry.place)),
+            None => return Err(Stop::refused(RefusalKind::CaseNet, entry.place)),
         }
     }
     Ok(case)
@@ -172,7 +165,7 @@ pub fn check_cases(alloc: Global, c: &Circuit, drawing: &Drawing) -> Result<Case
     ensures few { IfOk result (λ cases. length cases ≤ 256) }
 {
     match drawing.cases.get(MOST_CASES) {
-        Some(case) => Err(refused(RefusalKind::TooMany, case.place)),
+        Some(case) => Err(Stop::refused(RefusalKind::TooMany, case.place)),
         None => cases_of(alloc, c, drawing.cases.as_slice()),
     }
 }

@@ -10,7 +10,7 @@ ghost use Rattle.drawing_reader.specs.Reader.{tokens_at, ahead, at, first_token,
 ghost use Rattle.drawing_grammar.specs.Front.{first_terminal, first_place, first_text, Lettered};
 
 use drawing_grammar::{Letter, Terminal, symbol_terminal, word_terminal};
-use scald_base::{Place, Refusal, RefusalKind, Stop};
+use scald_base::{Place, RefusalKind, Stop};
 use scald_lex::{Token, TokenKind};
 
 /// Reads the tokens of a text from the front.
@@ -73,10 +73,7 @@ impl<'a> Cursor<'a> {
     pub fn refused(&self, kind: RefusalKind) -> Stop
         ensures { result ≡ Stop.Refused (refusal kind (first_place (tokens_at self.now))) }
     {
-        Stop::Refused(Refusal {
-            kind,
-            place: self.place(),
-        })
+        Stop::refused(kind, self.place())
     }
 
     /// The next token, or `None` where none is left.

@@ -3,17 +3,16 @@
 ghost use Rattle.std.specs.Prelude.{◌≡◌, ◌↔◌, ◌++◌, [], ◌∷◌, map, IsTrue, Contains, MatchResult};
 ghost use Rattle.std.specs.List.{list_any};
 ghost use Rattle.std.specs.Str.{bytes_eq};
-ghost use Rattle.scald_base.specs.declared.refusal.Stop.TheVariants.{Refused};
 ghost use Rattle.drawing_tree.specs.Tree.{assignment_of, formal_of, statements_of, statement_of, if_of, macro_of};
 ghost use Rattle.drawing_tree.specs.WellFormed.{primitive_names};
-ghost use Rattle.drawing_grammar.specs.DoubleNames.{key, declaration, parameters, formals, labels, statement_labels, head_declared, macros_declared, declared, primitives, double_at, Declares, IsStopAt, IsDistinct, IsDoubleStop};
+ghost use Rattle.drawing_grammar.specs.DoubleNames.{key, declaration, parameters, formals, labels, statement_labels, head_declared, macros_declared, declared, primitives, Declares, IsStopAt, IsDistinct, IsDoubleStop};
 
 use crate::ascending::are_ascending;
 use crate::declared::Declared;
 use drawing_grammar::{Head, Kind};
 use drawing_tree::{Assign, Formal, IfStmt, MacroDef, MacroDefs, Stmt};
 use indexmap::IndexSet;
-use scald_base::{Place, Refusal, RefusalKind, Stop};
+use scald_base::{Place, RefusalKind, Stop};
 use std::alloc::Global;
 use std::marker::Model;
 
@@ -88,13 +87,13 @@ impl<'a> Declarations<'a> {
     {
         let seen = &mut self.seen;
         if is_taken(scope, kind, name) {
-            return Err(refused(place));
+            return Err(Stop::refused(RefusalKind::DoubleName, place));
         }
         let Ok((_, is_new)) = seen.insert_full(Declared { scope, kind, name }) else {
             return Err(Stop::NoMemory);
         };
         if !is_new {
-            return Err(refused(place));
+            return Err(Stop::refused(RefusalKind::DoubleName, place));
         }
         Ok(())
     }
@@ -213,15 +212,6 @@ impl<'a> Declarations<'a> {
         }
         Ok(())
     }
-}
-
-fn refused(place: Place) -> Stop
-    ensures { result ≡ Refused (double_at place) }
-{
-    Stop::Refused(Refusal {
-        kind: RefusalKind::DoubleName,
-        place,
-    })
 }
 
 /// Whether nothing is declared twice: a macro whose name another macro or a primitive has, a parameter or

@@ -12,15 +12,9 @@ use crate::cursor::{terminal_of, text_of};
 use crate::signal::unquoted;
 use assertion_syntax::{NameEnd, NameFault, SignalName, fits, read_name};
 use drawing_grammar::Terminal;
-use scald_base::{AssertSpec, Header, Place, Refusal, RefusalKind, Stop};
+use scald_base::{AssertSpec, Header, Place, RefusalKind, Stop};
 use scald_lex::Token;
 use std::alloc::Global;
-
-fn refused(kind: RefusalKind, place: Place) -> Stop
-    ensures { result ≡ Stop.Refused (record { kind = kind; place = place }) }
-{
-    Stop::Refused(Refusal { kind, place })
-}
 
 /// Whether a name may be a formal's: it is neither global nor has an assertion.
 fn is_plain(name: &SignalName) -> bool
@@ -115,9 +109,9 @@ fn judge<'a>(
     match read_name(alloc, text) {
         Ok(name) => match fault(&name, of_formal, header) {
             None => Ok(text),
-            Some(kind) => Err(refused(kind, place)),
+            Some(kind) => Err(Stop::refused(kind, place)),
         },
-        Err(NameEnd::BadName) => Err(refused(RefusalKind::BadName, place)),
+        Err(NameEnd::BadName) => Err(Stop::refused(RefusalKind::BadName, place)),
         Err(NameEnd::NoMemory) => Err(Stop::NoMemory),
     }
 }

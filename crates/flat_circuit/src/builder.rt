@@ -9,7 +9,6 @@ ghost use Rattle.flat_circuit.specs.Builder.{empty, IsBuilt, GivesNet, IsNetRefu
 use crate::assertions::Assertions;
 use crate::instance::Instance;
 use crate::net_table::{NetName, NetTable};
-use crate::refused::refused;
 use scald_base::{AssertSpec, Delay, Header, List, NoMemory, Place, RefusalKind, Stop};
 use std::alloc::Global;
 use std::marker::Model;
@@ -91,7 +90,7 @@ impl Builder {
             bit,
         };
         if self.assertions.clashes(&name.text, spec) {
-            return Err(refused(RefusalKind::AssertionClash, place));
+            return Err(Stop::refused(RefusalKind::AssertionClash, place));
         }
         let asserted_before = self.assertions.len();
         self.assert(&name.text, spec)?;
@@ -138,7 +137,7 @@ impl Builder {
         }
         let number = self.nets.len();
         if number >= MOST_BITS {
-            return Err(refused(RefusalKind::TooMany, place));
+            return Err(Stop::refused(RefusalKind::TooMany, place));
         }
         let wire = self.default_wire();
         self.nets.add(name, wire)?;
@@ -164,7 +163,7 @@ impl Builder {
         ensures refused { IfErr result (λ stop. (self.new ≡ self.old) × IsInstanceRefusal self.old instance stop) }
     {
         if !self.has_room(&instance) {
-            return Err(refused(RefusalKind::TooMany, instance.place));
+            return Err(Stop::refused(RefusalKind::TooMany, instance.place));
         }
         let number = self.instances.len() as u32;
         let has_output = instance.kind.has_output();

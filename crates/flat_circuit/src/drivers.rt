@@ -6,7 +6,6 @@ ghost use Rattle.flat_circuit.specs.Instances.{InstanceExists, OutExists};
 ghost use Rattle.flat_circuit.specs.Steps.{DrivenTo, Took, StopsAtTaken};
 
 use crate::instance::Instance;
-use crate::refused::refused;
 use scald_base::{NoMemory, RefusalKind, Stop};
 use std::alloc::Global;
 use vector_names::Target;
@@ -25,7 +24,7 @@ pub(crate) fn drivers(
     let mut drivers = undriven(alloc, nets)?;
     for k in 0..instances.len() {
         if !take_output(&mut drivers, instances[k].out, k as u32) {
-            return Err(refused(RefusalKind::TwoDrivers, instances[k].place));
+            return Err(Stop::refused(RefusalKind::TwoDrivers, instances[k].place));
         }
     }
     Ok(drivers)

@@ -20,7 +20,6 @@ mod net_table;
 mod order;
 mod passages;
 mod readers;
-mod refused;
 mod search;
 
 pub use assertions::is_same_assertion;

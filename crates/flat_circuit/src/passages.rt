@@ -9,7 +9,6 @@ ghost use Rattle.flat_circuit.specs.Steps.{DrivenTo, StopsAtLoop, entry, if_at_o
 
 use crate::instance::{Instance, Pin};
 use crate::net_table::NetTable;
-use crate::refused::refused;
 use crate::search::{Node, first_from_loop};
 use scald_base::{NoMemory, Place, RefusalKind, Stop};
 use std::alloc::Global;
@@ -29,7 +28,7 @@ pub(crate) fn no_loop(
     let nodes = nodes(alloc, nets, drivers, instances)?;
     match first_from_loop(alloc, &nodes)? {
         None => Ok(()),
-        Some(k) => Err(refused(RefusalKind::ZeroLoop, place_at(instances, k))),
+        Some(k) => Err(Stop::refused(RefusalKind::ZeroLoop, place_at(instances, k))),
     }
 }
 

@@ -10,7 +10,7 @@ ghost use Rattle.macro_expander.specs.Numbered.{BitsAt, JoinedAt, AllJoinedAt, W
 
 use crate::expansion::Expansion;
 use crate::list::Row;
-use crate::range::{at, refused, written_ends};
+use crate::range::{at, written_ends};
 use crate::scope::Scope;
 use crate::term::named_bits;
 use drawing_tree::{Conn, Item, Term, UseStmt};
@@ -139,7 +139,7 @@ fn join(
 {
     let bits = terms_bits(expansion, alloc, scope, connection.terms.as_slice(), place)?;
     if bits.len() == 0 || bits.len() > WIDEST {
-        return Err(refused(RefusalKind::Width, place));
+        return Err(Stop::refused(RefusalKind::Width, place));
     }
     Ok(Joined {
         bits,

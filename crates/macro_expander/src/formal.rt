@@ -11,7 +11,7 @@ ghost use Rattle.macro_expander.specs.Steps.{JudgedAt};
 use crate::parameter::{comes_again, values_given};
 use crate::places::{Called, FEW, led, named, places};
 use crate::primitive::marks;
-use crate::range::{at, numbers, refused, value, written_ends};
+use crate::range::{at, numbers, value, written_ends};
 use drawing_tree::{Assign, Assigns, Defaults, Formal, Formals, MacroDef, UseStmt};
 use indexmap::IndexMap;
 use scald_base::{Bytes, List, NoMemory, Place, RefusalKind, Stop};
@@ -217,14 +217,14 @@ pub(crate) fn given_to(
 {
     let place = statement.place;
     if statement.delay.is_some() {
-        return Err(refused(RefusalKind::Bounds, place));
+        return Err(Stop::refused(RefusalKind::Bounds, place));
     }
     if !are_parameters(alloc, definition, &statement.params)? {
-        return Err(refused(RefusalKind::BadParameter, place));
+        return Err(Stop::refused(RefusalKind::BadParameter, place));
     }
     let given = values_given(alloc, &statement.params, env, place)?;
     if !fits_formals(definition, statement) {
-        return Err(refused(RefusalKind::PinCount, place));
+        return Err(Stop::refused(RefusalKind::PinCount, place));
     }
     Ok(given)
 }

@@ -12,7 +12,6 @@ ghost use Rattle.macro_expander.specs.Numbered.{bits_in, no_ref, pin_ref, all_re
 use crate::connection::Joined;
 use crate::expansion::Expansion;
 use crate::primitive::{Plan, planned};
-use crate::range::refused;
 use crate::scope::Scope;
 use drawing_tree::UseStmt;
 use flat_circuit::{Instance, Kind, Pin, Pins};

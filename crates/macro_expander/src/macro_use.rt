@@ -13,7 +13,6 @@ use crate::connection::{Joined, Wires, all_wires};
 use crate::expansion::Expansion;
 use crate::formal::{Inside, Shape, inside_of};
 use crate::list::{Row, copied};
-use crate::range::refused;
 use crate::scope::{Bound, Formals, Scope};
 use drawing_tree::{MacroDef, UseStmt};
 use scald_base::{Bytes, NoMemory, Place, RefusalKind, Stop};
@@ -41,7 +40,7 @@ fn bound_input(alloc: Global, shape: &Shape, joined: &Joined, place: Place) -> R
     match spread(alloc, &joined.bits, shape.numbers.len() as u16) {
         Ok(bits) => Ok(bound(alloc, shape, bits)?),
         Err(VectorFault::NoMemory) => Err(Stop::NoMemory),
-        Err(_) => Err(refused(RefusalKind::Width, place)),
+        Err(_) => Err(Stop::refused(RefusalKind::Width, place)),
     }
 }
 
@@ -50,7 +49,7 @@ fn bound_output(alloc: Global, shape: &Shape, joined: &Joined, place: Place) -> 
     ensures { JudgedAt place result (output_bound_ref (shape.now, joined.now)) }
 {
     if joined.bits.len() != shape.numbers.len() {
-        return Err(refused(RefusalKind::Width, place));
+        return Err(Stop::refused(RefusalKind::Width, place));
     }
     let bits = copied(alloc, joined.bits.as_slice())?;
     Ok(bound(alloc, shape, bits)?)

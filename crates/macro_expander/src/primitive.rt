@@ -8,7 +8,7 @@ ghost use Rattle.macro_expander.specs.Primitives.{primitive_of, fewest_inputs as
 ghost use Rattle.macro_expander.specs.Steps.{JudgedAt};
 
 use crate::parameter::{comes_again, value_given, values_given};
-use crate::range::{at, refused, value};
+use crate::range::{at, value};
 use drawing_tree::{Assigns, Conns, UseStmt};
 use flat_circuit::Kind;
 use scald_base::{Delay, List, Place, RefusalKind, Stop};
@@ -246,17 +246,17 @@ pub(crate) fn planned(
 {
     let place = statement.place;
     if statement.delay.is_some() != kind.has_output() {
-        return Err(refused(RefusalKind::Bounds, place));
+        return Err(Stop::refused(RefusalKind::Bounds, place));
     }
     if !are_parameters(kind, &statement.params) {
-        return Err(refused(RefusalKind::BadParameter, place));
+        return Err(Stop::refused(RefusalKind::BadParameter, place));
     }
     let ends = at(place, written_delay(&statement.delay, env))?;
     let given = values_given(alloc, &statement.params, env, place)?;
     let delay = at(place, delay_of(ends))?;
     let limits = at(place, limits_of(period, kind, &given))?;
     if !are_connected(kind, statement) {
-        return Err(refused(RefusalKind::PinCount, place));
+        return Err(Stop::refused(RefusalKind::PinCount, place));
     }
     Ok(Plan { delay, limits })
 }

@@ -11,7 +11,6 @@ use crate::connection::all_wires;
 use crate::expansion::Expansion;
 use crate::instance_bits::{Wiring, add_bits, inputs_fit, width_of};
 use crate::primitive::planned;
-use crate::range::refused;
 use crate::scope::Scope;
 use drawing_tree::UseStmt;
 use flat_circuit::Kind;
@@ -36,7 +35,7 @@ pub(crate) fn primitive_use(
     let wires = all_wires(expansion, alloc, scope, statement)?;
     let width = width_of(kind, wires.ins.as_slice(), wires.outs.as_slice());
     if !inputs_fit(kind, width, wires.ins.as_slice()) {
-        return Err(refused(RefusalKind::Width, statement.place));
+        return Err(Stop::refused(RefusalKind::Width, statement.place));
     }
     let wiring = Wiring {
         path: scope.path.as_slice(),

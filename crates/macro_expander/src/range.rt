@@ -8,7 +8,7 @@ ghost use Rattle.macro_expander.specs.Terms.{valued, last_of, ends_of, written_e
 ghost use Rattle.macro_expander.specs.Steps.{JudgedAt};
 
 use drawing_tree::RangeExpr;
-use scald_base::{List, Place, Refusal, RefusalKind, Stop};
+use scald_base::{List, Place, RefusalKind, Stop};
 use scald_expr::{Env, Expr, ExprFault, eval};
 use std::alloc::Global;
 use vector_names::{Indices, VectorFault, bits_of};
@@ -23,20 +23,13 @@ fn kind_of(fault: ExprFault) -> RefusalKind
     }
 }
 
-/// A refusal at a place.
-pub(crate) fn refused(kind: RefusalKind, place: Place) -> Stop
-    ensures { result ≡ Stop.Refused (record { kind = kind; place = place }) }
-{
-    Stop::Refused(Refusal { kind, place })
-}
-
 /// A value, or its refusal at a place.
 pub(crate) fn at<T: Drop>(place: Place, judged: Result<T, RefusalKind>) -> Result<T, Stop>
     ensures { JudgedAt place result judged }
 {
     match judged {
         Ok(value) => Ok(value),
-        Err(kind) => Err(refused(kind, place)),
+        Err(kind) => Err(Stop::refused(kind, place)),
     }
 }
 
@@ -101,7 +94,7 @@ pub(crate) fn numbers(
         Some((first, last)) => match bits_of(alloc, first, last) {
             Ok(numbers) => Ok(numbers),
             Err(VectorFault::NoMemory) => Err(Stop::NoMemory),
-            Err(_) => Err(refused(RefusalKind::BadRange, place)),
+            Err(_) => Err(Stop::refused(RefusalKind::BadRange, place)),
         },
     }
 }

@@ -10,7 +10,7 @@ ghost use Rattle.macro_expander.specs.Runs.{IsRun, HasRun};
 
 use crate::list::{Row, copied};
 use crate::places::{Called, named, places};
-use crate::range::{numbers, refused};
+use crate::range::numbers;
 use indexmap::IndexMap;
 use scald_base::{AssertSpec, Bytes, List, NoMemory, Place, RefusalKind, Stop};
 use scald_expr::Env;
@@ -100,7 +100,7 @@ impl Scope {
         ensures { result ≡ record { path = []; env = []; formals = [] } }
     {
         Scope {
-            path: List::new(alloc),
+            path: Bytes::new(alloc),
             env: List::new(alloc),
             formals: Formals::new(alloc),
         }
@@ -147,7 +147,7 @@ fn outer_bits(alloc: Global, bound: &Bound, chosen: &[u16], place: Place) -> Res
     for number in chosen {
         match outer_bit(bound.numbers.as_slice(), bound.bits.as_slice(), *number) {
             Some(bit) => bits.push(bit)?,
-            None => return Err(refused(RefusalKind::BadRange, place)),
+            None => return Err(Stop::refused(RefusalKind::BadRange, place)),
         }
     }
     Ok(bits)
@@ -184,6 +184,6 @@ pub(crate) fn formal_term(
     let bits = formal_bits(alloc, bound, ends, place)?;
     match spec {
         AssertSpec::None => Ok(bits),
-        _ => Err(refused(RefusalKind::AssertionClash, place)),
+        _ => Err(Stop::refused(RefusalKind::AssertionClash, place)),
     }
 }

@@ -14,7 +14,7 @@ use crate::library::Library;
 use crate::macro_use::inner_scope;
 use crate::primitive::primitive;
 use crate::primitive_use::primitive_use;
-use crate::range::{at, refused, value};
+use crate::range::{at, value};
 use crate::scope::Scope;
 use crate::wire::wire_bounds;
 use drawing_tree::{IfStmt, MacroDef, Stmt, UseStmt};
@@ -31,7 +31,7 @@ fn count(expansion: &mut Expansion, place: Place) -> Result<(), Stop>
     ensures refused { IfErr result (IsOneTooMany expansion.old place) }
 {
     if expansion.statements >= MOST_STATEMENTS {
-        return Err(refused(RefusalKind::TooMany, place));
+        return Err(Stop::refused(RefusalKind::TooMany, place));
     }
     expansion.statements += 1;
     Ok(())
@@ -146,7 +146,7 @@ fn expand_use(
         Some(definition) => {
             expand_macro(expansion, alloc, library, definition, used, scope, levels)
         }
-        None => Err(refused(RefusalKind::UnknownKind, used.place)),
+        None => Err(Stop::refused(RefusalKind::UnknownKind, used.place)),
     }
 }
 
@@ -169,7 +169,7 @@ fn expand_macro(
 {
     let given = given_to(alloc, definition, &scope.env, used)?;
     if levels == 0 {
-        return Err(refused(RefusalKind::TooDeep, used.place));
+        return Err(Stop::refused(RefusalKind::TooDeep, used.place));
     }
     let inner = inner_scope(expansion, alloc, definition, &given, scope, used)?;
     body(

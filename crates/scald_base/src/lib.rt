@@ -8,6 +8,7 @@
 #![tactic(auto)]
 
 mod assertion;
+mod bytes;
 mod header;
 mod list;
 mod memory;
@@ -19,8 +20,9 @@ mod sure;
 mod transfer;
 
 pub use assertion::{AssertSpec, ClockSpec, Span, Spans};
+pub use bytes::Bytes;
 pub use header::{Delay, Header};
-pub use list::{Bytes, Calls, List, NoMemory};
+pub use list::{Calls, List, NoMemory};
 pub use memory::{MemorySink, MemorySource};
 pub use refusal::{Place, Refusal, RefusalKind, Stop};
 pub use sink::Sink;

@@ -1,6 +1,6 @@
 //! A growing list, which contracts see as the list of its items.
 
-ghost use Rattle.std.specs.Prelude.{◌≡◌, ◌==◌, ◌<◌, [], ◌∷◌, ◌++◌, length, slice_get, slice_set, OnOk, OnErr, IfOk};
+ghost use Rattle.std.specs.Prelude.{◌≡◌, ◌==◌, ◌<◌, [], ◌∷◌, ◌++◌, length, slice_get, slice_set, OnOk, OnErr};
 ghost use Rattle.std.specs.Option.{option_copied};
 ghost use Rattle.scald_base.specs.declared.list.NoMemory.{NoMemory};
 
@@ -116,28 +116,6 @@ impl<T: Drop> List<T> {
         ensures { self.new ≡ slice_set self.old i item }
     {
         self.items[i] = item;
-    }
-}
-
-/// Bytes, of a text or of a name in it.
-pub type Bytes = List<u8>;
-
-impl List<u8> {
-    /// These bytes once more.
-    pub fn of(alloc: Global, bytes: &[u8]) -> Result<Bytes, NoMemory>
-        ensures { IfOk result (λ copied. copied ≡ bytes.now) }
-    {
-        let items = Vec::from_slice(alloc, bytes)?;
-        Ok(List { items })
-    }
-
-    /// Puts bytes at the end. Where memory runs out the list is as before.
-    pub fn extend(&mut self, bytes: &[u8]) -> Result<(), NoMemory>
-        ensures ok { OnOk result (self.new ≡ self.old ++ bytes.now) }
-        ensures err { OnErr result (self.new ≡ self.old) }
-    {
-        self.items.extend_from_slice(bytes)?;
-        Ok(())
     }
 }
 

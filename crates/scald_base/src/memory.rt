@@ -5,7 +5,8 @@ ghost use Rattle.std.specs.Io.KnownBytes.{Keeps};
 ghost use Rattle.scald_base.specs.Device.{CountsFaults, Gives, Takes};
 ghost use Rattle.scald_base.specs.Memory.{given_to, after_giving, after_failing_read, WriteFails, taken_of, after_taking, after_failing_write};
 
-use crate::list::{Bytes, Calls, NoMemory};
+use crate::bytes::Bytes;
+use crate::list::{Calls, NoMemory};
 use crate::sink::Sink;
 use crate::source::{Failed, Source};
 use std::alloc::Global;

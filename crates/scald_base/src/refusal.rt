@@ -139,6 +139,15 @@ pub enum Stop {
     NoMemory,
 }
 
+impl Stop {
+    /// The refusal for this reason, at this place.
+    pub fn refused(kind: RefusalKind, place: Place) -> Stop
+        ensures { result ≡ Stop.Refused (record { kind = kind; place = place }) }
+    {
+        Stop::Refused(Refusal { kind, place })
+    }
+}
+
 impl From<NoMemory> for Stop {
     ghost use Rattle.scald_base.specs.declared.refusal.Stop.TheVariants.{NoMemory as OutOfMemory};
 

@@ -4,7 +4,7 @@ ghost use Rattle.std.specs.Prelude.{◌≡◌, ◌+◌, ◌-◌, ◌^◌, IfOk, 
 ghost use Rattle.std.specs.Io.KnownBytes.{Keeps};
 ghost use Rattle.scald_base.specs.Device.{CountsFaults, Gives, Takes};
 
-use crate::list::Bytes;
+use crate::bytes::Bytes;
 use crate::sink::Sink;
 use crate::source::{Failed, Source};
 use std::marker::Model;

@@ -4,7 +4,8 @@ ghost use Rattle.std.specs.Prelude.{◌≡◌, ◌≢◌, ◌-◌, ◌^◌, ◌<
 ghost use Rattle.std.specs.Io.KnownBytes.{Appends};
 ghost use Rattle.scald_base.specs.Device.{Rose, CountsFaults, ReadsAll, ReadsFront, ReadsPast, TakesFront};
 
-use crate::list::{Bytes, NoMemory};
+use crate::bytes::Bytes;
+use crate::list::NoMemory;
 use crate::sink::Sink;
 use crate::source::{Failed, Source};
 use std::alloc::Global;

@@ -12,7 +12,7 @@ ghost use Rattle.scald_lex.specs.Scan.{IsRead, IsStop, GivesList, GivesRefusal};
 use crate::bytes;
 use crate::piece::{Piece, front};
 use crate::token::{Token, TokenKind, TokenList};
-use scald_base::{NoMemory, Place, Refusal, RefusalKind, Stop};
+use scald_base::{NoMemory, Place, RefusalKind, Stop};
 use std::alloc::Global;
 
 /// The tokens of the text, the last of which is its end. Refused are, with their places, `BadByte` before
@@ -36,10 +36,7 @@ fn read(alloc: Global, text: &[u8]) -> Result<TokenList, Stop>
 {
     if let Some(at) = bad_byte(text) {
         let place = place_of(&text[..at]);
-        return Err(Stop::Refused(Refusal {
-            kind: RefusalKind::BadByte,
-            place,
-        }));
+        return Err(Stop::refused(RefusalKind::BadByte, place));
     }
     let mut scan = Scan::new(alloc);
     while scan.at < text.len() {
@@ -137,10 +134,7 @@ impl Scan {
         ensures refused { IfErr result (λ stop. IsStop text.now stop) }
     {
         let Some(piece) = front(&text[self.at..]) else {
-            return Err(Stop::Refused(Refusal {
-                kind: RefusalKind::BadToken,
-                place: self.place,
-            }));
+            return Err(Stop::refused(RefusalKind::BadToken, self.place));
         };
         match piece {
             Piece::Space => {

@@ -1,6 +1,7 @@
-use Rattle.std.proofs.Common.{refl, sym, arith}
+use Rattle.std.proofs.Common.{refl, sym, subst, arith}
 use Rattle.std.proofs.lemmas.List.{append-nil}
 use Rattle.scald_lex.specs.declared.piece.Piece.TheVariants.{Space, LineEnd, Comment, Lexeme}
+use Rattle.scald_lex.specs.Scan.{IsStop}
 use Rattle.scald_lex.proofs.Pieces.{advances}
 use Rattle.scald_lex.proofs.Cuts.{on_line_fits, line_fits, takes_on_line, takes_line_end, stands_here, none_here, refused_here, listed}
 use Rattle.scald_lex.proofs.scan.Scan.step.Goals as goal
@@ -8,7 +9,8 @@ use Rattle.scald_lex.proofs.scan.Scan.step.Goals as goal
 pub returns-in_default-clause-refused : goal.returns-in_default-clause-refused
 returns-in_default-clause-refused c =
     let s = c.args.self.now in
-    refused_here c.args.text.now s c.requires.read c.requires.allowed c.requires.more (none_here c.args.text.now s.at c.front.result c.front.ensures c.in_default.is)
+    subst (IsStop c.args.text.now) (sym c.refused.ensures)
+    (refused_here c.args.text.now s c.requires.read c.requires.allowed c.requires.more (none_here c.args.text.now s.at c.front.result c.front.ensures c.in_default.is))
 
 pub move_on-requires-clause-col : goal.move_on-requires-clause-col
 move_on-requires-clause-col c =
