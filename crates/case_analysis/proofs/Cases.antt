@@ -1,6 +1,7 @@
 -- The waves that a case begins with, and the runs that they permit.
 use Rattle.std.proofs.Common.{◌≡◌, ℕ, ◌+◌, ◌-◌, ◌*◌, ◌<◌, ◌≤◌, ◌==◌, ◌&&◌, Bool, true, false, cond, List, [], ◌∷◌, ◌++◌, length, map, take, set, get_or, refl, sym, ap, subst, ◌∙◌, arith, Option, Some, None}
 use Rattle.std.specs.Prelude.{Result, Ok, Err, MatchResult}
+use Rattle.std.specs.Cmp.{both_ways}
 use Rattle.std.proofs.lemmas.Bool.{eqb-true}
 use Rattle.std.proofs.lemmas.List.{get_or_past, length-set, length-map, map-set, take_more}
 use Rattle.std.proofs.lemmas.List.Elements.{All-head, All-tail}
@@ -22,7 +23,6 @@ use Rattle.fixpoint_engine.specs.Reach.{reach}
 use Rattle.fixpoint_engine.specs.Start.{is_driven}
 use Rattle.fixpoint_engine.specs.Settled.{waves_of, FitWaves, KeepRuns}
 use Rattle.fixpoint_engine.specs.Interface.{PermitRun}
-use Rattle.fixpoint_engine.proofs.Listening.{same-tests}
 use Rattle.fixpoint_engine.proofs.Changing.{set-at}
 use Rattle.case_analysis.specs.Base.{PermitInputs}
 use Rattle.fixpoint_engine.specs.declared.rounds.EngineEnd.{EngineEnd}
@@ -34,7 +34,7 @@ use Rattle.case_analysis.proofs.Inputs.{as-same}
 -- ---- one cone
 
 pub one-cone : (c : Circuit) (vs : List CaseValue) (a b : ℕ → Bool) → IsCone c vs a → IsCone c vs b → (i : ℕ) → a i ≡ b i
-one-cone c vs a b one other i = same-tests (a i) (b i) (λ is. (other i).1 ((one i).0 is)) (λ is. (one i).1 ((other i).0 is))
+one-cone c vs a b one other i = both_ways (a i) (b i) (λ is. (other i).1 ((one i).0 is)) (λ is. (one i).1 ((other i).0 is))
 
 pub start-same : (c : Circuit) (vs : List CaseValue) (a b : ℕ → Bool) (base : Waves) → ((i : ℕ) → a i ≡ b i) → (i : ℕ) → case_start c vs a base i ≡ case_start c vs b base i
 start-same c vs a b base same i = ap (λ reached. case_wave c.header (value_of vs i) reached (base i)) (same i)

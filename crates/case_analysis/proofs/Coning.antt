@@ -2,7 +2,6 @@
 use Rattle.std.proofs.Common.{◌≡◌, ℕ, zero, suc, ◌+◌, ◌<◌, ◌≤◌, ◌==◌, ◌||◌, Bool, true, false, List, [], ◌∷◌, length, take, get_or, refl, sym, ap, subst, ◌∙◌, arith, inl, inr, slice_get, Option, Some, None}
 use Rattle.std.specs.List.{Contains}
 use Rattle.std.proofs.lemmas.Bool.{cases_eq, cases_lt, or_cases, or_left, or_right}
-use Rattle.std.proofs.lemmas.Bool.Decides.{nat_tests}
 use Rattle.std.proofs.lemmas.List.{get_or_default}
 use Rattle.std.proofs.lemmas.List.Elements.{Contains-get_or}
 use Rattle.std.proofs.lemmas.List.Folds.{list_any_more}
@@ -17,7 +16,7 @@ use Rattle.fixpoint_engine.specs.Settled.{marked_in}
 use Rattle.fixpoint_engine.specs.Work.{hears_in}
 use Rattle.fixpoint_engine.specs.Loops.{Hears}
 use Rattle.fixpoint_engine.specs.Worklist.{Queue, IsQueue, drives_in, output_net}
-use Rattle.fixpoint_engine.proofs.Listening.{hears-same}
+use Rattle.fixpoint_engine.proofs.Listening.{hears-same, same-order}
 use Rattle.fixpoint_engine.proofs.Waiting.{marked-below}
 use Rattle.case_analysis.specs.Case.{InCone, Is_set, Hears_one, IsCone, is_set}
 use Rattle.case_analysis.specs.Found.{Extends}
@@ -106,10 +105,7 @@ set-more values items k d old new same below extends marks i =
     ∙ sym (list_any_more (λ (v : CaseValue). v.net == i) values k d inside)
 
 turned-hears : (c : Circuit) (net i : ℕ) → hears_in (λ j. net == j) (driver c i) ≡ hears_in (λ j. j == net) (driver c i)
-turned-hears c net i = hears-same (λ j. net == j) (λ j. j == net) (driver c i) (λ j. either net j)
-  where
-    either : (m n : ℕ) → (m == n) ≡ (n == m)
-    either m n = grind (arith, nat_tests)
+turned-hears c net i = hears-same (λ j. net == j) (λ j. j == net) (driver c i) (λ j. same-order net j)
 
 pub found-marked : (q : Queue) (k net : ℕ) → IsQueue q → slice_get q.nets k ≡ Some net → marked_in q.marks net ≡ true
 found-marked q k net queue at =

@@ -1,8 +1,8 @@
 -- Where nets of one class are alike, they begin with one wave, are active together, and lie in the same cones.
 use Rattle.std.proofs.Common.{◌≡◌, ℕ, ◌+◌, ◌<◌, ◌==◌, ◌&&◌, ◌||◌, Bool, true, false, cond, List, [], ◌∷◌, length, All, refl, sym, ap, subst, ◌∙◌, arith, inl, inr, slice_get, Option, Some, None, is_some}
+use Rattle.std.specs.Cmp.{both_ways}
 use Rattle.std.specs.List.{AllZip}
-use Rattle.std.proofs.lemmas.Bool.{and_parts, cases_lt, eqb-true, or_cases, or_left, or_right}
-use Rattle.std.proofs.lemmas.Bool.Decides.{nat_tests}
+use Rattle.std.proofs.lemmas.Bool.{and_parts, cases_lt, eq-eqb, eqb-true, or_cases, or_left, or_right}
 use Rattle.std.proofs.lemmas.List.Elements.{All-head, All-tail}
 use Rattle.std.proofs.lemmas.Option.{slice_get_cases, slice_get_past}
 use Rattle.scald_base.specs.Time.{Header}
@@ -26,7 +26,6 @@ use Rattle.fixpoint_engine.specs.Work.{hears_from, hears_in, is_on_any}
 use Rattle.fixpoint_engine.specs.Classes.{AreTogether, HaveOneWave}
 use Rattle.fixpoint_engine.proofs.Classes.{rounds-same}
 use Rattle.fixpoint_engine.proofs.Drivers.{driver-fits}
-use Rattle.fixpoint_engine.proofs.Listening.{same-tests}
 use Rattle.case_analysis.specs.Base.{IsBase}
 use Rattle.case_analysis.specs.Case.{Hears_one, InCone, IsCone, Is_set, NetsExist, case_active, case_at, case_start, case_wave, is_set, value_after, value_of}
 use Rattle.case_analysis.proofs.Start.{started}
@@ -119,16 +118,13 @@ pins-hear n k kind place from (p ∷ ps) (q ∷ qs) alike exist hears =
           record { net = one.net; exists = one.exists; alike = one.alike; is = or_right (listens kind place && is_on_any (λ i. i == one.net) q.target) _ one.is }
     ]
   where
-    self : (j : ℕ) → (j == j) ≡ true
-    self j = grind (arith, nat_tests)
-
     first : (a b : Target) → q.target ≡ b → TargetsAlike k a b → TargetExists n q.target → listens kind place ≡ true → is_on_any (λ i. i == from) a ≡ true →
         OneHears n k from (λ net. hears_from (λ i. i == net) kind place (q ∷ qs))
     first (OnNet i) (OnNet j) at same exists heard on = record {
       net = j;
       exists = subst (TargetExists n) at exists;
       alike = ap (class_of k) (sym (eqb-true i from on)) ∙ same;
-      is = or_left (listens kind place && is_on_any (λ i. i == j) q.target) (hears_from (λ i. i == j) kind (place + 1) qs) ((λ t. heard t && is_on_any (λ i. i == j) (at t)) ∙ self j);
+      is = or_left (listens kind place && is_on_any (λ i. i == j) q.target) (hears_from (λ i. i == j) kind (place + 1) qs) ((λ t. heard t && is_on_any (λ i. i == j) (at t)) ∙ eq-eqb j j refl);
     }
     first (OnNet i) (Constant b) at same exists heard on = absurd same
     first (Constant a) b at same exists heard on = cc
@@ -204,7 +200,7 @@ module _ (c : Circuit) (cases : List (List CaseValue)) (k : List ℕ) (known : I
 
     pub cone-together : (cone : ℕ → Bool) → NetsExist c (case_at cases number) → IsCone c (case_at cases number) cone → AreTogether c k cone
     cone-together cone exist is i j below_i below_j same =
-        same-tests (cone i) (cone j)
+        both_ways (cone i) (cone j)
         (λ inside. (is j).1 (cone-closed exist ((is i).0 inside) j below_j same))
         (λ inside. (is i).1 (cone-closed exist ((is j).0 inside) i below_i (sym same)))
 

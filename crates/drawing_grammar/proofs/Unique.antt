@@ -46,7 +46,7 @@ same_names : (ts : List Lexeme) (w u : Written whole) → IsText ts w → IsText
 same_names ts w u a b =
     names_of_text w ∙ (ap (λ (xs : List Lexeme). names_from false xs) (a.spelled ∙ sym b.spelled) ∙ sym (names_of_text u))
 
-one_refusal_by : (r s : Refusal) → r.kind ≡ s.kind → r.place ≡ s.place → r ≡ s
+pub one_refusal_by : (r s : Refusal) → r.kind ≡ s.kind → r.place ≡ s.place → r ≡ s
 one_refusal_by r s k p =
     ap (λ (x : RefusalKind). let q : Refusal = record { kind = x; place = r.place } in q) k
     ∙ ap (λ (x : Place). let q : Refusal = record { kind = s.kind; place = x } in q) p

@@ -4,6 +4,7 @@ use Rattle.std.proofs.lemmas.List.Sums.{fold_push}
 use Rattle.std.proofs.lemmas.List.{map-append, map-set, length-map, length-set, get_or-set_same, get_or-set_other}
 use Rattle.std.proofs.lemmas.List.Elements.{filter-append, All-filter, All-map, All-head, All-tail}
 use Rattle.std.proofs.lemmas.Bool.{eqb-true, eqb-false}
+use Rattle.std.proofs.Math.Bool.{and-false}
 use Rattle.std.proofs.Math.ListN.{set}
 use Rattle.step_values.specs.declared.value.Value.{Value}
 use Rattle.skew_algebra.specs.Wave.{Wave, skewed}
@@ -57,10 +58,6 @@ nothing-added pair old c ws i w made same =
 abbrev pub moves : Circuit → Waves → ℕ → Bool
 moves c ws i = not (same_wave (evaluated c ws i) (ws i))
 
-pub and-none : (a : Bool) → (a && false) ≡ false
-and-none true = refl
-and-none false = refl
-
 -- the nets that change
 pub changed-nets : (c : Circuit) (ws : Waves) (nets : List ℕ) (i : ℕ) → among (map (λ (ch : Change). ch.0) (changes_of c ws nets)) i ≡ (among nets i && moves c ws i)
 changed-nets c ws [] i = refl
@@ -73,7 +70,7 @@ changed-nets c ws (net ∷ nets) i = by (net == i) refl (moves c ws net) refl (c
     by false e false m rest = rest
     by true e false m rest =
         let still : moves c ws i ≡ false = ap (moves c ws) (sym (eqb-true net i e)) ∙ m in
-        rest ∙ (λ k. among nets i && still k) ∙ and-none (among nets i) ∙ sym still
+        rest ∙ (λ k. among nets i && still k) ∙ and-false (among nets i) ∙ sym still
 
 pub set-at : (waves : List (Wave Value)) (net i : ℕ) (w : Wave Value) → net < length waves → waves_of (set waves net w) i ≡ cond (net == i) w (waves_of waves i)
 set-at waves net i w below = by (net == i) refl

@@ -1,6 +1,8 @@
 -- What the worklist of classes has come to after some rounds, and how a round more, rest and the limit follow.
 use Rattle.std.proofs.Common.{◌≡◌, ℕ, zero, suc, ◌+◌, ◌*◌, ◌<◌, ◌≤◌, ◌==◌, inl, inr, Bool, true, false, not, ◌&&◌, ◌||◌, cond, All, List, [], ◌∷◌, length, map, refl, sym, ap, subst, ◌∙◌, arith}
+use Rattle.std.specs.Cmp.{both_ways}
 use Rattle.std.specs.List.{list_any, range_with_len}
+use Rattle.std.proofs.Math.Bool.{and_assoc}
 use Rattle.std.proofs.lemmas.Bool.{cases_lt, and_parts, and_from, eqb-true, eq-eqb, false_from_ne_true, not-false}
 use Rattle.std.proofs.lemmas.List.{length-set}
 use Rattle.std.proofs.lemmas.List.Elements.{All-filter, All-map, All-head, All-tail, Contains-get_or}
@@ -30,7 +32,7 @@ use Rattle.fixpoint_engine.specs.Classes.{HaveOneWave, AreTogether, is_first, du
 use Rattle.fixpoint_engine.specs.Members.{for_classes}
 use Rattle.fixpoint_engine.proofs.Same.{same_wave-is, same_wave-self}
 use Rattle.fixpoint_engine.proofs.Fits.{NetsFit}
-use Rattle.fixpoint_engine.proofs.Listening.{same-tests, hears-same}
+use Rattle.fixpoint_engine.proofs.Listening.{hears-same}
 use Rattle.fixpoint_engine.proofs.Changing.{moves, changed-nets, changes-exist, set-at}
 use Rattle.fixpoint_engine.proofs.Waiting.{waiting-below}
 use Rattle.fixpoint_engine.proofs.Reached.{Reached, reached-start, undue-stays, due-takes}
@@ -147,16 +149,12 @@ module _ (c : Circuit) (active : ℕ → Bool) (ks : List ℕ) (start : Waves) (
     firsts-change queue i =
         changed-nets c (waves_of waves) q.nets i
         ∙ (λ k. waiting-is queue i k && moves c (waves-are k) i)
-        ∙ and-assoc (is_first ks i) (is_due c active (round c active start) (suc r) i) (moves c (round c active start r) i)
+        ∙ and_assoc (is_first ks i) (is_due c active (round c active start) (suc r) i) (moves c (round c active start r) i)
         ∙ ap (λ (b : Bool). is_first ks i && b) (changes-is c active start r i)
-      where
-        and-assoc : (x y z : Bool) → ((x && y) && z) ≡ (x && (y && z))
-        and-assoc true y z = refl
-        and-assoc false y z = refl
 
     -- a class has a net that changes where its nets differ
     class-changes : IsQueue q → (i : ℕ) → i < length c.nets → is_with ks (nets_in (changes_of c (waves_of waves) q.nets)) i ≡ differs (round c active start r) (round c active start (suc r)) i
-    class-changes queue i below = same-tests _ _ to from
+    class-changes queue i below = both_ways _ _ to from
       where
         exist : All (λ net. net < length c.nets) (nets_in (changes_of c (waves_of waves) q.nets))
         exist = All-map (λ net. net < length c.nets) (λ (ch : Change). ch.0) (changes_of c (waves_of waves) q.nets) (changes-exist c (waves_of waves) q.nets (length c.nets) (waiting-exist queue))

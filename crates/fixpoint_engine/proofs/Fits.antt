@@ -18,6 +18,7 @@ use Rattle.skew_algebra.proofs.Moves.{length-later}
 use Rattle.flat_circuit.specs.declared.instance.Pin.{Pin}
 use Rattle.flat_circuit.specs.Circuit.{Circuit}
 use Rattle.flat_circuit.specs.Instances.{PinExists, TargetExists}
+use Rattle.gate_eval.specs.Instance.{wave_of_pin}
 use Rattle.gate_eval.proofs.Fitting.{Fits, AllFit}
 use Rattle.pin_waves.specs.Pin.{pin_wave as wave_behind}
 use Rattle.pin_waves.proofs.Pins.{length-pin}
@@ -37,6 +38,10 @@ normal-is w some = by (is_steady values w.cells) refl
 
 pub normal-fits : (p : ℕ) (w : Wave Value) → 0 < p → length w.cells ≡ p → Fits values p (normal values w)
 normal-fits p w some long = record { long = length-normal values w ∙ long; normal = normal-is w (omega arith) }
+
+pub length-turned : (inverted : Bool) (w : Wave Value) → length (turned_wave inverted w).cells ≡ length w.cells
+length-turned true w = length-map w.cells flip
+length-turned false w = refl
 
 pub flipped-fits : (p : ℕ) (inverted : Bool) (w : Wave Value) → Fits values p w → Fits values p (turned_wave inverted w)
 flipped-fits p true w fits = record { long = length-map w.cells flip ∙ fits.long; normal = flipped-normal values values_lawful w fits.normal }
@@ -62,7 +67,13 @@ pub long-pin : (c : Circuit) (ws : Waves) (p : Pin) → AreLong c ws → PinExis
 long-pin c ws p long exists =
     length-pin (target_wave c.header ws p.target) (target_wire c.nets p.target) p.inverted ∙ long-target c ws p.target long exists
 
-pub length-target : (c : Circuit) (ws : Waves) (t : Target) → NetsFit c ws → TargetExists (length c.nets) t → length (target_wave c.header ws t).cells ≡ period c.header
+pub long-pin-at : (c : Circuit) (ws : Waves) (ps : List Pin) (i : ℕ) → AreLong c ws → All (PinExists (length c.nets)) ps → i < length ps →
+    length (wave_of_pin (map (pin_wave c ws) ps) i).cells ≡ period c.header
+long-pin-at c ws [] i long exist below = absurd (omega arith)
+long-pin-at c ws (p ∷ ps) zero long exist below = long-pin c ws p long (All-head (PinExists (length c.nets)) p ps exist)
+long-pin-at c ws (p ∷ ps) (suc i) long exist below = long-pin-at c ws ps i long (All-tail (PinExists (length c.nets)) p ps exist) (omega arith)
+
+length-target : (c : Circuit) (ws : Waves) (t : Target) → NetsFit c ws → TargetExists (length c.nets) t → length (target_wave c.header ws t).cells ≡ period c.header
 length-target c ws t fit exists = long-target c ws t (λ i below. (fit i below).long) exists
 
 pub pin-fits : (c : Circuit) (ws : Waves) (p : Pin) → 0 < period c.header → NetsFit c ws → PinExists (length c.nets) p → Fits values (period c.header) (pin_wave c ws p)

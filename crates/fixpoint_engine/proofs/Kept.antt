@@ -1,8 +1,8 @@
 -- What the worklist has come to after some rounds, and how a round more, rest and the limit follow.
 use Rattle.std.proofs.Common.{◌≡◌, ℕ, suc, ◌+◌, ◌*◌, ◌<◌, ◌≤◌, ◌==◌, Bool, true, false, not, ◌&&◌, cond, List, [], ◌∷◌, length, map, refl, sym, ap, subst, ◌∙◌, arith, All, count_by}
+use Rattle.std.specs.Cmp.{both_ways}
 use Rattle.std.specs.List.{Contains, range_with_len}
-use Rattle.std.proofs.lemmas.Bool.{eqb-true, eqb-false, not-false}
-use Rattle.std.proofs.lemmas.Bool.Decides.{nat_tests}
+use Rattle.std.proofs.lemmas.Bool.{eqb-true, eqb-false, eq-eqb, not-false}
 use Rattle.std.proofs.lemmas.List.{map-id, length-map}
 use Rattle.std.proofs.lemmas.List.Elements.{All-filter, All-map, All-nil, All-cons, All-head, All-tail}
 use Rattle.std.proofs.lemmas.List.FromFn.{fill_by_all}
@@ -25,7 +25,7 @@ use Rattle.fixpoint_engine.specs.Worklist.{Queue, IsQueue, Change, changes_of, c
 use Rattle.fixpoint_engine.proofs.Same.{same_wave-is, same_wave-self}
 use Rattle.fixpoint_engine.proofs.Fits.{NetsFit}
 use Rattle.fixpoint_engine.proofs.Marks.{count-marks}
-use Rattle.fixpoint_engine.proofs.Listening.{same-tests, hears-same}
+use Rattle.fixpoint_engine.proofs.Listening.{hears-same}
 use Rattle.fixpoint_engine.proofs.Changing.{moves, changed-nets, waves-changed}
 use Rattle.fixpoint_engine.proofs.Waiting.{waiting-below, waiting-few}
 use Rattle.fixpoint_engine.proofs.Reached.{Reached, reached-start, undue-stays, due-takes, work-more}
@@ -44,11 +44,8 @@ pub record Kept (c : Circuit) (active : ℕ → Bool) (start : Waves) (waves : L
 
 -- ---- the nets that wait
 
-self-number : (n : ℕ) → (n == n) ≡ true
-self-number n = grind (arith, nat_tests)
-
 pub among-waiting : (q : Queue) (i : ℕ) → IsQueue q → among q.nets i ≡ marked_in q.marks i
-among-waiting q i queue = same-tests (among q.nets i) (marked_in q.marks i) to from
+among-waiting q i queue = both_ways (among q.nets i) (marked_in q.marks i) to from
   where
     to : among q.nets i ≡ true → marked_in q.marks i ≡ true
     to any =
@@ -56,7 +53,7 @@ among-waiting q i queue = same-tests (among q.nets i) (marked_in q.marks i) to f
         (queue.are i).1 (subst (Contains q.nets) (eqb-true at.1 i at.4) (at.0, at.2, at.3))
 
     from : marked_in q.marks i ≡ true → among q.nets i ≡ true
-    from marked = let at = (queue.are i).0 marked in list_any-from_Any (λ net. net == i) q.nets (at.0, i, at.1, at.2, self-number i)
+    from marked = let at = (queue.are i).0 marked in list_any-from_Any (λ net. net == i) q.nets (at.0, i, at.1, at.2, eq-eqb i i refl)
 
 -- as many wait as are due
 pub waiting-count : (c : Circuit) (due : ℕ → Bool) (q : Queue) → IsQueue q → length q.marks ≡ length c.nets → ((i : ℕ) → marked_in q.marks i ≡ due i) → length q.nets ≡ count_by due (range_with_len 0 (length c.nets))
@@ -71,7 +68,7 @@ pub changes-is : (c : Circuit) (active : ℕ → Bool) (start : Waves) (r i : �
 changes-is c active start r i = by (is_due c active (round c active start) (suc r) i) refl
   where
     turned : (w v : Wave Value) → same_wave w v ≡ same_wave v w
-    turned w v = same-tests (same_wave w v) (same_wave v w) (λ same. flip w v (same_wave-is w v same)) (λ same. flip v w (same_wave-is v w same))
+    turned w v = both_ways (same_wave w v) (same_wave v w) (λ same. flip w v (same_wave-is w v same)) (λ same. flip v w (same_wave-is v w same))
       where
         flip : (w v : Wave Value) → w ≡ v → same_wave v w ≡ true
         flip w v same = ap (same_wave v) same ∙ same_wave-self v

@@ -2,6 +2,8 @@ pub mod Same
 pub mod Hearing
 pub mod Fits
 pub mod ReadSlots
+pub mod SameWaves
+pub mod ByNumber
 pub mod Asked
 pub mod Made
 pub mod Drivers

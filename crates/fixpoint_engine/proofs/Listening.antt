@@ -1,8 +1,9 @@
 -- Which nets are due, found through the instances that listen to what changed.
 use Rattle.std.proofs.Common.{◌≡◌, ℕ, zero, suc, ◌+◌, ◌<◌, ◌==◌, Bool, true, false, ◌&&◌, ◌||◌, cond, inl, inr, List, [], ◌∷◌, ◌++◌, length, map, take, get_or, refl, sym, ap, ◌∙◌, arith, slice_get, Option, Some, None, is_some}
+use Rattle.std.specs.Cmp.{both_ways}
 use Rattle.std.specs.List.{list_any}
 use Rattle.std.proofs.Math.Bool.{or-false}
-use Rattle.std.proofs.lemmas.Bool.{and_parts, or_cases, or_left, or_right, eqb-true}
+use Rattle.std.proofs.lemmas.Bool.{and_parts, or_cases, or_left, or_right, eqb-true, eq-eqb}
 use Rattle.std.proofs.lemmas.Bool.Decides.{nat_tests}
 use Rattle.std.proofs.lemmas.List.{take_more, map-append}
 use Rattle.std.proofs.lemmas.List.Folds.{list_any-append}
@@ -18,12 +19,6 @@ use Rattle.fixpoint_engine.specs.Rounds.{instance_in, driver}
 use Rattle.fixpoint_engine.specs.Settled.{marked_in}
 use Rattle.fixpoint_engine.specs.Work.{is_on_any, hears_from, hears_in}
 use Rattle.fixpoint_engine.specs.Worklist.{Queue, Adds, among, drives_in}
-
-pub same-tests : (a b : Bool) → (a ≡ true → b ≡ true) → (b ≡ true → a ≡ true) → a ≡ b
-same-tests true true to from = refl
-same-tests false false to from = refl
-same-tests true false to from = sym (to refl)
-same-tests false true to from = from refl
 
 -- ---- listening to one set or another
 
@@ -126,7 +121,7 @@ found test P (y ∷ ys) from any = by (found test P ys (from + 1)) (test y) refl
 
 -- ---- what they drive
 
-same-order : (m n : ℕ) → (m == n) ≡ (n == m)
+pub same-order : (m n : ℕ) → (m == n) ≡ (n == m)
 same-order m n = grind (arith, nat_tests)
 
 on-one : (net : ℕ) (t : Target) → is_on_any (λ j. net == j) t ≡ is_on net t
@@ -143,10 +138,7 @@ drives-is (Some (OnNet n)) i drives = ap (λ m. Some (OnNet m)) (eqb-true n i dr
 drives-is (Some (Constant one)) i drives = cc
 
 is-drives : (out : Option Target) (i : ℕ) → out ≡ Some (OnNet i) → drives_in out i ≡ true
-is-drives out i is = ap (λ (o : Option Target). drives_in o i) is ∙ self
-  where
-    self : (i == i) ≡ true
-    self = grind (arith, nat_tests)
+is-drives out i is = ap (λ (o : Option Target). drives_in o i) is ∙ eq-eqb i i refl
 
 -- The driver of a net is listed, where it listens.
 driver-listed : (c : Circuit) (net i k : ℕ) (found : Option Instance) → slice_get c.instances k ≡ found → hears_in (λ j. net == j) found ≡ true → out_of found ≡ Some (OnNet i) →
@@ -161,7 +153,7 @@ driver-listed c net i k (Some j) at heard out =
 
 -- Of the instances that listen to a net, the one that drives another is that one's driver.
 pub heard-by-reader : (c : Circuit) (net i : ℕ) → IsCircuit c → list_any (λ k. drives_in (out_at c.instances k) i) (readers_of c.instances net) ≡ hears_in (λ j. net == j) (driver c i)
-heard-by-reader c net i known = same-tests _ _ to (λ heard. from (driver_at c.nets i) refl heard)
+heard-by-reader c net i known = both_ways _ _ to (λ heard. from (driver_at c.nets i) refl heard)
   where
     to : list_any (λ k. drives_in (out_at c.instances k) i) (readers_of c.instances net) ≡ true → hears_in (λ j. net == j) (driver c i) ≡ true
     to any =

@@ -1,22 +1,21 @@
 -- What each kind makes is sound, and has the period of its pins' waves.
-use Rattle.std.proofs.Common.{◌≡◌, ℕ, zero, suc, ◌+◌, ◌-◌, ◌<◌, ◌≤◌, Bool, true, false, List, [], ◌∷◌, length, map, refl, sym, subst, ◌∙◌, arith, All, Option, Some, None}
+use Rattle.std.proofs.Common.{◌≡◌, ℕ, zero, suc, ◌<◌, ◌≤◌, true, List, [], ◌∷◌, length, map, refl, sym, subst, ◌∙◌, arith, All, Option, Some, None}
 use Rattle.std.proofs.lemmas.List.{length-map}
 use Rattle.std.proofs.lemmas.List.Elements.{All-nil, All-cons}
 use Rattle.scald_base.specs.Time.{Bounds, period}
 use Rattle.step_values.specs.declared.value.Value.{Value}
 use Rattle.step_values.specs.declared.value.Value.TheVariants.{S}
 use Rattle.step_values.specs.Cell.{values}
-use Rattle.wave_core.specs.Slots.{later}
-use Rattle.skew_algebra.specs.Wave.{Wave, skewed, moved, IsNormal}
+use Rattle.skew_algebra.specs.Wave.{Wave, skewed, IsNormal}
 use Rattle.skew_algebra.proofs.Normal.{length-normal}
-use Rattle.skew_algebra.proofs.Moves.{length-later}
 use Rattle.flat_circuit.specs.declared.kind.Kind.{Kind}
-use Rattle.flat_circuit.specs.declared.kind.Kind.TheVariants.{And, Or, Chg, Reg, RegRs, Latch, LatchRs, SetupHold, RiseFall, MinPulse}
+use Rattle.flat_circuit.specs.declared.kind.Kind.TheVariants.{Chg, Reg, RegRs, Latch, LatchRs, SetupHold, RiseFall, MinPulse}
 use Rattle.flat_circuit.specs.declared.instance.Pin.{Pin}
 use Rattle.flat_circuit.specs.declared.instance.Instance.{Instance}
 use Rattle.flat_circuit.specs.Kind.{has_output, pin_counts}
 use Rattle.flat_circuit.specs.Instances.{InstanceFits}
 use Rattle.flat_circuit.specs.Circuit.{Circuit}
+use Rattle.pin_waves.proofs.Pins.{length-moved}
 use Rattle.gate_eval.specs.Meeting.{period_of, HaveOnePeriod}
 use Rattle.gate_eval.specs.Gates.{gate_value}
 use Rattle.gate_eval.specs.Hold.{hazard}
@@ -24,13 +23,13 @@ use Rattle.gate_eval.specs.Instance.{wave_of_pin, image_by, gate_image, gate_wav
 use Rattle.gate_eval.proofs.Fitting.{Fits, AllFit}
 use Rattle.gate_eval.proofs.Meets.{length-meeting}
 use Rattle.gate_eval.proofs.Chosen.{mark-fits, some-pins}
-use Rattle.gate_eval.proofs.Sound.{gate-sound, length-change}
+use Rattle.gate_eval.proofs.Sound.{fit-at, gate-sound, length-change, mark-below}
 use Rattle.gate_eval.specs.Change.{change_wave}
 use Rattle.storage_eval.proofs.Sounds.{storage-sound}
 use Rattle.storage_eval.proofs.Dependence.{length-storage_wave}
 use Rattle.fixpoint_engine.specs.Value.{Waves, pin_wave, pin_waves, marked_pin, made_by, turned_wave, instance_wave}
 use Rattle.fixpoint_engine.specs.Settled.{waves_of, FitWaves}
-use Rattle.fixpoint_engine.proofs.Fits.{NetsFit, normal-fits, pins-fit}
+use Rattle.fixpoint_engine.proofs.Fits.{NetsFit, length-turned, normal-fits, pins-fit}
 
 -- ---- the period
 
@@ -38,27 +37,13 @@ pub period-is : (p : ℕ) (waves : List (Wave Value)) → AllFit values p waves 
 period-is p [] fits some = absurd (omega arith)
 period-is p (w ∷ waves) fits some = fits.0.long
 
-long-at : (p : ℕ) (waves : List (Wave Value)) (i : ℕ) → AllFit values p waves → i < length waves → length (wave_of_pin waves i).cells ≡ p
-long-at p [] i fits below = absurd (omega arith)
-long-at p (w ∷ waves) zero fits below = fits.0.long
-long-at p (w ∷ waves) (suc i) fits below = long-at p waves i fits.1 (omega arith)
-
-mark-below : (kind : Kind) (marked pins : ℕ) → MarkFits kind (Some marked) pins → marked < pins
-mark-below And marked pins fits = fits
-mark-below Or marked pins fits = fits
-mark-below kind marked pins fits = absurd fits
-
-length-moved : (w : Wave Value) (d : Bounds) → length (moved values w d).cells ≡ length w.cells
-unfolding moved
-length-moved w d = length-normal values (skewed (later values w.cells d.min) (w.skew + (d.max - d.min))) ∙ length-later values w.cells d.min
-
 length-image : (kind : Kind) (waves : List (Wave Value)) (marked : Option ℕ) (h : Option (ℕ × ℕ)) → AllFit values (period_of waves) waves → MarkFits kind marked (length waves) →
     length (image_by (gate_value kind) waves marked h).cells ≡ period_of waves
 length-image kind waves None h fits mark = length-meeting values (gate_value kind) waves
 length-image kind waves (Some marked) (Some h) fits mark = length-meeting values (gate_value kind) waves
 length-image kind waves (Some marked) None fits mark =
     length-map (wave_of_pin waves marked).cells (λ v. gate_value kind (v ∷ S ∷ []))
-    ∙ long-at (period_of waves) waves marked fits (mark-below kind marked (length waves) mark)
+    ∙ (fit-at values (period_of waves) waves marked (skewed [] 0) fits (mark-below kind marked (length waves) mark)).long
 
 length-gate : (kind : Kind) (waves : List (Wave Value)) (marked : Option ℕ) (d : Bounds) → AllFit values (period_of waves) waves → MarkFits kind marked (length waves) →
     length (gate_wave kind waves marked d).cells ≡ period_of waves
@@ -127,10 +112,6 @@ unfolding instance_wave
 instance-fits c ws j some fit fits =
     let w : Wave Value = made_by j.kind (pin_waves c ws j) (marked_pin j) j.delay in
     normal-fits (period c.header) (turned_wave j.out_inverted w) some (length-turned j.out_inverted w ∙ made-long c ws j some fit fits)
-  where
-    length-turned : (inverted : Bool) (w : Wave Value) → length (turned_wave inverted w).cells ≡ length w.cells
-    length-turned true w = length-map w.cells _
-    length-turned false w = refl
 
 -- ---- by what code knows
 

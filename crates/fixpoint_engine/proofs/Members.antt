@@ -1,5 +1,6 @@
 -- The nets of a class, found from the last to the first, and changes for all of them.
 use Rattle.std.proofs.Common.{◌≡◌, ℕ, zero, suc, ◌+◌, ◌<◌, ◌≤◌, ◌==◌, Bool, true, false, ◌&&◌, ◌||◌, cond, below_more, All, List, [], ◌∷◌, ◌++◌, append-nil, length, map, take, get_or, refl, sym, ap, subst, ◌∙◌, arith, Option, Some, None, is_some, not}
+use Rattle.std.specs.Cmp.{both_ways}
 use Rattle.std.specs.List.{list_any, range_with_len}
 use Rattle.std.proofs.lemmas.Bool.{eqb-true, eqb-false, eq-eqb, false_from_ne_true}
 use Rattle.std.proofs.lemmas.List.{append_assoc, map-append, length-set, take_more}
@@ -18,7 +19,6 @@ use Rattle.fixpoint_engine.specs.Settled.{marked_in}
 use Rattle.fixpoint_engine.specs.Worklist.{Change, among}
 use Rattle.fixpoint_engine.specs.Classes.{is_first}
 use Rattle.fixpoint_engine.specs.Members.{last_below, members_below, for_class, for_classes}
-use Rattle.fixpoint_engine.proofs.Listening.{same-tests}
 use Rattle.fixpoint_engine.proofs.Waiting.{marked-set}
 
 -- ---- from one net of a class to the one before
@@ -139,7 +139,7 @@ among-members ks class (suc m) i below is = by (class_of ks m == class) refl (λ
 
 -- the net is of the class, where it is a net
 member-tests : (ks : List ℕ) (class i : ℕ) → i < length ks → among (members_below ks class (length ks)) i ≡ (class == class_of ks i)
-member-tests ks class i below = same-tests (among (members_below ks class (length ks)) i) (class == class_of ks i) to from
+member-tests ks class i below = both_ways (among (members_below ks class (length ks)) i) (class == class_of ks i) to from
   where
     to : among (members_below ks class (length ks)) i ≡ true → (class == class_of ks i) ≡ true
     to any =

@@ -11,7 +11,7 @@ pub round-next : (c : Circuit) (active : ℕ → Bool) (start : Waves) (r i : �
 unfolding round
 round-next c active start r i = refl
 
-inactive-stays : (c : Circuit) (active : ℕ → Bool) (ws : Waves) (i : ℕ) → active i ≡ false → next c active ws i ≡ ws i
+pub inactive-stays : (c : Circuit) (active : ℕ → Bool) (ws : Waves) (i : ℕ) → active i ≡ false → next c active ws i ≡ ws i
 unfolding next
 inactive-stays c active ws i passive = rw passive refl
 

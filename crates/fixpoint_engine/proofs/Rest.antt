@@ -42,11 +42,8 @@ record IsHeard (set : ℕ → Bool) (heard : (ℕ → Bool) → Bool) : Type 0 w
   of : set net ≡ true
   is : heard (λ i. i == net) ≡ true
 
-self : (n : ℕ) → (n == n) ≡ true
-self n = eq-eqb n n refl
-
 heard-target : (set : ℕ → Bool) (t : Target) → is_on_any set t ≡ true → IsHeard set (λ nets. is_on_any nets t)
-heard-target set (OnNet i) on = record { net = i; of = on; is = self i }
+heard-target set (OnNet i) on = record { net = i; of = on; is = eq-eqb i i refl }
 heard-target set (Constant one) on = cc
 
 heard-from : (set : ℕ → Bool) (kind : Kind) (place : ℕ) (ps : List Pin) → hears_from set kind place ps ≡ true → IsHeard set (λ nets. hears_from nets kind place ps)
@@ -92,7 +89,7 @@ output-among : (js : List Instance) (k i : ℕ) → out_at js k ≡ Some (OnNet 
 unfolding output_nets
 output-among [] k i is = cc
 output-among (j ∷ js) zero i is =
-    subst (λ (out : Option Target). is_member nat_eq (option_to_list (output_net out) ++ output_nets js) i ≡ true) (sym is) (or_left _ _ (self i))
+    subst (λ (out : Option Target). is_member nat_eq (option_to_list (output_net out) ++ output_nets js) i ≡ true) (sym is) (or_left _ _ (eq-eqb i i refl))
 output-among (j ∷ js) (suc k) i is =
     list_any-append (nat_eq i) (option_to_list (output_net j.out)) (output_nets js) ∙ or_right _ _ (output-among js k i is)
 

@@ -1,9 +1,7 @@
 -- Rounds are sound: where waves permit a run from some tick on, those of the next round permit it `reach` ticks later.
 use Rattle.std.proofs.Common.{◌≡◌, ℕ, zero, suc, ◌+◌, ◌-◌, ◌*◌, ◌<◌, ◌≤◌, Bool, true, false, List, [], ◌∷◌, length, map, refl, sym, ap, subst, ◌∙◌, arith, All, slice_get, Option, Some, None}
 use Rattle.std.proofs.lemmas.Bool.{cond_both}
-use Rattle.std.proofs.lemmas.List.{length-map}
 use Rattle.std.proofs.lemmas.List.Elements.{All-head, All-tail}
-use Rattle.step_values.specs.Steps.{flip}
 use Rattle.scald_base.specs.Time.{period}
 use Rattle.scald_base.specs.Signal.{Signal, turned}
 use Rattle.vector_names.specs.declared.bits.Target.{Target}
@@ -29,7 +27,7 @@ use Rattle.fixpoint_engine.specs.Value.{Waves, target_wave, target_wire, pin_wav
 use Rattle.fixpoint_engine.specs.Rounds.{instance_in, wave_from, evaluated, next, round}
 use Rattle.fixpoint_engine.specs.Reach.{greatest_wire, greatest_delay, farthest, reach}
 use Rattle.fixpoint_engine.specs.Interface.{PermitRun}
-use Rattle.fixpoint_engine.proofs.Fits.{NetsFit, length-target}
+use Rattle.fixpoint_engine.proofs.Fits.{NetsFit, AreLong, length-turned, long-target}
 use Rattle.fixpoint_engine.proofs.Asked.{wire-within, wires-within, asked}
 use Rattle.fixpoint_engine.proofs.Drivers.{fits-of, makes-of}
 use Rattle.fixpoint_engine.proofs.Made.{made-sound, made-long, instance-fits}
@@ -50,28 +48,28 @@ pub shown : (run : Run) (t : Target) (w s : ℕ) → target_signal run t w s ≡
 shown run (OnNet i) w s = ap (net_signal run i) (omega arith)
 shown run (Constant one) w s = refl
 
-pin-permits : (c : Circuit) (run : Run) (ws : Waves) (p : Pin) (w v u : ℕ) → 0 < period c.header → NetsFit c ws → PinExists (length c.nets) p → PermitRun c run ws v → 1 ≤ v →
+pub pin-permits : (c : Circuit) (run : Run) (ws : Waves) (p : Pin) (w v u : ℕ) → 0 < period c.header → AreLong c ws → PinExists (length c.nets) p → PermitRun c run ws v → 1 ≤ v →
     WireFits c.nets p.target w → v + (target_wire c.nets p.target).max ≤ u →
     Permits values (pin_wave c ws p) run.ticks (pin_signal run p w) u
-pin-permits c run ws p w v u some fit exists permits v1 wire far =
+pin-permits c run ws p w v u some long exists permits v1 wire far =
     let within = wire-within c.nets p.target w wire in
     let low : (target_wire c.nets p.target).min ≤ w = within.0 in
     let high : w ≤ (target_wire c.nets p.target).max = within.1 in
-    let long = length-target c ws p.target fit exists in
-    Permits-pin (target_wave c.header ws p.target) (target_wire c.nets p.target) p.inverted (omega (arith, long))
+    let size = long-target c ws p.target long exists in
+    Permits-pin (target_wave c.header ws p.target) (target_wire c.nets p.target) p.inverted (omega (arith, size))
     run.ticks run.ticks v u w (target_signal run p.target 0) (pin_signal run p w)
     (target-permits c run ws p.target v some exists permits) low high v1 (omega (arith, high, far)) (omega arith)
     (λ t tu tm. ap (turned p.inverted) (shown run p.target w t))
 
-pins-permit : (c : Circuit) (run : Run) (ws : Waves) (ps : List Pin) (wires : List ℕ) (v u : ℕ) → 0 < period c.header → NetsFit c ws → All (PinExists (length c.nets)) ps → PermitRun c run ws v → 1 ≤ v →
+pins-permit : (c : Circuit) (run : Run) (ws : Waves) (ps : List Pin) (wires : List ℕ) (v u : ℕ) → 0 < period c.header → AreLong c ws → All (PinExists (length c.nets)) ps → PermitRun c run ws v → 1 ≤ v →
     WiresFit c.nets ps wires → v + greatest_wire c.nets ps ≤ u →
     AllPermit values (map (pin_wave c ws) ps) run.ticks (pin_signals run ps wires) u
-pins-permit c run ws [] [] v u some fit exist permits v1 fits far = tt
-pins-permit c run ws [] (w ∷ wires) v u some fit exist permits v1 fits far = absurd fits
-pins-permit c run ws (p ∷ ps) [] v u some fit exist permits v1 fits far = absurd fits
-pins-permit c run ws (p ∷ ps) (w ∷ wires) v u some fit exist permits v1 fits far = (
-  pin-permits c run ws p w v u some fit (All-head (PinExists (length c.nets)) p ps exist) permits v1 fits.0 (omega arith),
-  pins-permit c run ws ps wires v u some fit (All-tail (PinExists (length c.nets)) p ps exist) permits v1 fits.1 (omega arith),
+pins-permit c run ws [] [] v u some long exist permits v1 fits far = tt
+pins-permit c run ws [] (w ∷ wires) v u some long exist permits v1 fits far = absurd fits
+pins-permit c run ws (p ∷ ps) [] v u some long exist permits v1 fits far = absurd fits
+pins-permit c run ws (p ∷ ps) (w ∷ wires) v u some long exist permits v1 fits far = (
+  pin-permits c run ws p w v u some long (All-head (PinExists (length c.nets)) p ps exist) permits v1 fits.0 (omega arith),
+  pins-permit c run ws ps wires v u some long (All-tail (PinExists (length c.nets)) p ps exist) permits v1 fits.1 (omega arith),
 )
 
 -- ---- one instance
@@ -97,7 +95,7 @@ instance-permits c run ws j i choice v u some fit fits permits v1 at makes out f
     let wires = wires-within c.nets j.pins choice.wires at.wires in
     let made_permits : Permits values made run.ticks output (seen + j.delay.max + 1) =
     made-sound c ws j some fit fits makes run.ticks run.ticks seen choice.delay (pin_signals run j.pins choice.wires) output
-    (pins-permit c run ws j.pins choice.wires v seen some fit fits.exists.reads permits v1 at.wires (omega arith))
+    (pins-permit c run ws j.pins choice.wires v seen some (λ k below. (fit k below).long) fits.exists.reads permits v1 at.wires (omega arith))
     (omega arith) at.delay (omega arith)
     (λ t tv tm. at.obeys t tm (asked j.kind j.delay choice.delay choice.wires t makes at.delay (omega (arith, wires)))) in
     let long : length made.cells ≡ period c.header = made-long c ws j some fit fits in
@@ -107,10 +105,6 @@ instance-permits c run ws j i choice v u some fit fits permits v1 at makes out f
     Permits-after values (normal values (turned_wave j.out_inverted made)) run.ticks (seen + j.delay.max + 1) u (net_signal run i) far
     (subst (λ (x : Signal). Permits values (normal values (turned_wave j.out_inverted made)) run.ticks x (seen + j.delay.max + 1)) (is-net j.out out j.out_inverted) normal_permits)
   where
-    length-turned : (inverted : Bool) (w : Wave Value) → length (turned_wave inverted w).cells ≡ length w.cells
-    length-turned true w = length-map w.cells flip
-    length-turned false w = refl
-
     minus-zero : (s : ℕ) → s - 0 ≡ s
     minus-zero s = omega arith
 

@@ -7,6 +7,7 @@ pub mod Loops
 pub mod Interface
 pub mod Pins
 pub mod Settled
+pub mod SameWaves
 pub mod End
 pub mod Worklist
 pub mod Classes

@@ -3,13 +3,14 @@
 //!
 //! The layer above calls [`settle`], which answers the waves at rest, or the net that still changes at
 //! the limit, or [`settle_classes`], which answers the same where one net of each class may stand for
-//! all. `specs/Value` says what an instance makes of all waves, `specs/Rounds` what a round is and when
-//! rounds rest, `specs/Work` and `specs/Classes` what is evaluated, and `specs/Settled` which runs the
-//! waves permit.
+//! all. [`has_one_wave`] tells the layers above where two answers do not differ. `specs/Value` says what
+//! an instance makes of all waves, `specs/Rounds` what a round is and when rounds rest, `specs/Work` and
+//! `specs/Classes` what is evaluated, and `specs/Settled` which runs the waves permit.
 #![tactic(auto)]
 
-// sets of nets, and the waves of all nets
+// sets of nets, the waves of all nets, and where two of them are the same
 mod net_set;
+mod same_waves;
 mod waves;
 
 // one instance
@@ -35,4 +36,5 @@ pub use net_set::NetSet;
 pub use pins::{pin_wave, waves_at_pins};
 pub use readers::{output_of, readers_of};
 pub use rounds::{EngineEnd, Settled, settle};
+pub use same_waves::{has_one_wave, has_one_wave_at};
 pub use waves::Waves;

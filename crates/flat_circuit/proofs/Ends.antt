@@ -58,7 +58,7 @@ driver-at [] i = refl
 driver-at (n ∷ ns) zero = refl
 driver-at (n ∷ ns) (suc i) = driver-at ns i
 
-wire-at : (nets : List Net) (i : ℕ) → wire_at nets i ≡ bounds_at (map (λ (n : Net). n.wire) nets) i
+pub wire-at : (nets : List Net) (i : ℕ) → wire_at nets i ≡ bounds_at (map (λ (n : Net). n.wire) nets) i
 wire-at [] i = refl
 wire-at (n ∷ ns) zero = refl
 wire-at (n ∷ ns) (suc i) = wire-at ns i

@@ -1,5 +1,5 @@
 -- A gate's value has the step that the gate makes of a step of each value.
-use Rattle.std.proofs.Common.{◌≡◌, ℕ, suc, ◌-◌, Bool, true, false, ◌&&◌, ◌||◌, List, [], ◌∷◌, length, refl, sym, ap, ◌∙◌, arith}
+use Rattle.std.proofs.Common.{◌≡◌, ℕ, ◌-◌, Bool, true, false, ◌&&◌, ◌||◌, List, [], ◌∷◌, length, refl, sym, ◌∙◌, arith}
 use Rattle.std.specs.List.{fold, list_all, list_any}
 use Rattle.scald_base.specs.Signal.{Signal, turned}
 use Rattle.step_values.specs.declared.value.Value.{Value}
@@ -12,6 +12,7 @@ use Rattle.flat_circuit.specs.declared.kind.Kind.TheVariants.{Buf, And, Or, Xor,
 use Rattle.flat_circuit.specs.Equation.{gate_bit, parity, bits_at, selected as selected_bit}
 use Rattle.gate_eval.specs.Permitted.{AllHave}
 use Rattle.gate_eval.specs.Gates.{from_left, of_two, of_four, of_eight, gate_value}
+use Rattle.gate_eval.proofs.Fitting.{as-many-cells}
 
 -- ---- two pins at a time
 
@@ -76,13 +77,6 @@ eight-bits false true false a b c d e f g h = refl
 eight-bits false false true a b c d e f g h = refl
 eight-bits false false false a b c d e f g h = refl
 
--- as many signals as values
-counts : (vs : List Value) (xs : List Signal) (t : ℕ) → AllHave values vs xs t → length vs ≡ length xs
-counts [] [] t hs = refl
-counts [] (x ∷ xs) t hs = absurd hs
-counts (v ∷ vs) [] t hs = absurd hs
-counts (v ∷ vs) (x ∷ xs) t hs = ap suc (counts vs xs t hs.1)
-
 two-has : (s a b : Value) (xs : List Signal) (t : ℕ) → AllHave values (s ∷ a ∷ b ∷ []) xs t →
     has (mux2_of s a b) (selected_bit 1 (bits_at xs (t - 1))) (selected_bit 1 (bits_at xs t)) ≡ true
 two-has s a b (x ∷ y ∷ z ∷ []) t hs =
@@ -90,7 +84,7 @@ two-has s a b (x ∷ y ∷ z ∷ []) t hs =
     let now : selected_bit 1 (x t ∷ y t ∷ z t ∷ []) ≡ selected (x t) (y t) (z t) = two-bits (x t) (y t) (z t) in
     (λ i. has (mux2_of s a b) (before i) (now i))
     ∙ mux2_of-has s a b (x (t - 1)) (x t) (y (t - 1)) (y t) (z (t - 1)) (z t) hs.0 hs.1.0 hs.1.1.0
-two-has s a b xs t hs = let long : 3 ≡ length xs = counts (s ∷ a ∷ b ∷ []) xs t hs in absurd (omega arith)
+two-has s a b xs t hs = let long : 3 ≡ length xs = as-many-cells values (s ∷ a ∷ b ∷ []) xs t hs in absurd (omega arith)
 
 pub of_two-has : (vs : List Value) (xs : List Signal) (t : ℕ) → AllHave values vs xs t →
     has (of_two mux2_of vs) (selected_bit 1 (bits_at xs (t - 1))) (selected_bit 1 (bits_at xs t)) ≡ true
@@ -117,7 +111,7 @@ four-has s1 s0 a b c d (k1 ∷ k0 ∷ p ∷ q ∷ r ∷ u ∷ []) t hs =
     (λ i. has (mux2_of s1 (mux2_of s0 a b) (mux2_of s0 c d)) (before i) (now i))
     ∙ chosen4-has s1 s0 a b c d (k1 (t - 1)) (k1 t) (k0 (t - 1)) (k0 t) (p (t - 1)) (p t) (q (t - 1)) (q t) (r (t - 1)) (r t) (u (t - 1)) (u t)
     hs.0 hs.1.0 hs.1.1.0 hs.1.1.1.0 hs.1.1.1.1.0 hs.1.1.1.1.1.0
-four-has s1 s0 a b c d xs t hs = let long : 6 ≡ length xs = counts (s1 ∷ s0 ∷ a ∷ b ∷ c ∷ d ∷ []) xs t hs in absurd (omega arith)
+four-has s1 s0 a b c d xs t hs = let long : 6 ≡ length xs = as-many-cells values (s1 ∷ s0 ∷ a ∷ b ∷ c ∷ d ∷ []) xs t hs in absurd (omega arith)
 
 pub of_four-has : (vs : List Value) (xs : List Signal) (t : ℕ) → AllHave values vs xs t →
     has (of_four mux2_of vs) (selected_bit 2 (bits_at xs (t - 1))) (selected_bit 2 (bits_at xs t)) ≡ true
@@ -140,7 +134,7 @@ eight-has s2 s1 s0 a b c d e f g h (k2 ∷ k1 ∷ k0 ∷ p ∷ q ∷ r ∷ u ∷
     (chosen4-has s1 s0 e f g h (k1 (t - 1)) (k1 t) (k0 (t - 1)) (k0 t) (w (t - 1)) (w t) (x (t - 1)) (x t) (y (t - 1)) (y t) (z (t - 1)) (z t)
     hs.1.0 hs.1.1.0 hs.1.1.1.1.1.1.1.0 hs.1.1.1.1.1.1.1.1.0 hs.1.1.1.1.1.1.1.1.1.0 hs.1.1.1.1.1.1.1.1.1.1.0)
 eight-has s2 s1 s0 a b c d e f g h xs t hs =
-    let long : 11 ≡ length xs = counts (s2 ∷ s1 ∷ s0 ∷ a ∷ b ∷ c ∷ d ∷ e ∷ f ∷ g ∷ h ∷ []) xs t hs in absurd (omega arith)
+    let long : 11 ≡ length xs = as-many-cells values (s2 ∷ s1 ∷ s0 ∷ a ∷ b ∷ c ∷ d ∷ e ∷ f ∷ g ∷ h ∷ []) xs t hs in absurd (omega arith)
 
 pub of_eight-has : (vs : List Value) (xs : List Signal) (t : ℕ) → AllHave values vs xs t →
     has (of_eight mux2_of vs) (selected_bit 3 (bits_at xs (t - 1))) (selected_bit 3 (bits_at xs t)) ≡ true

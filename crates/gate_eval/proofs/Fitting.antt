@@ -1,6 +1,7 @@
 -- The waves of the pins of one element: all of one period, and in normal form.
 use Rattle.std.proofs.Common.{◌≡◌, ℕ, ◌-◌, ◌%◌, ◌<◌, ◌≤◌, true, List, [], ◌∷◌, length, get_or, sym, ap, ◌∙◌, arith}
 use Rattle.std.specs.List.{AllByRecursion}
+use Rattle.std.proofs.lemmas.Slice.Zip.{AllZip-long}
 use Rattle.scald_base.specs.Clock.{back}
 use Rattle.wave_core.specs.Cell.{Cells, IsLawful}
 use Rattle.wave_core.specs.Slots.{earlier}
@@ -21,6 +22,13 @@ abbrev pub AllFit : {T : Type 0} → Cells T → ℕ → List (Wave T) → Type 
 AllFit k period waves = AllByRecursion (Fits k period) waves
 
 module _ {T : Type 0} (k : Cells T) where
+  -- as many waves as signals, and as many cells
+  pub as-many-waves : (waves : List (Wave T)) (n : ℕ) (xs : List Signal) (v : ℕ) → AllPermit k waves n xs v → length waves ≡ length xs
+  as-many-waves waves n xs v ps = sym (AllZip-long (λ w (x : Signal). Permits k w n x v) waves xs ps)
+
+  pub as-many-cells : (cells : List T) (xs : List Signal) (t : ℕ) → AllHave k cells xs t → length cells ≡ length xs
+  as-many-cells cells xs t hs = sym (AllZip-long (λ c (x : Signal). k.has c (x (t - 1)) (x t) ≡ true) cells xs hs)
+
   -- the cell of a slot that is o slots before slot t
   pub cell-back : (period : ℕ) (w : Wave T) (t o : ℕ) → length w.cells ≡ period → cell_at k w.cells (back period t o) ≡ earlier k w.cells t o
   unfolding earlier

@@ -1,7 +1,8 @@
 -- What a search for a hazard has found.
-use Rattle.std.proofs.Common.{inl, inr, ◌≡◌, ◌≢◌, ℕ, zero, suc, ◌+◌, ◌<◌, ◌≤◌, Bool, true, false, not, ◌&&◌, cond, eqb, List, length, map, get_or, refl, sym, ap, ◌∙◌, Option, Some, None, arith, eq-eqb}
+use Rattle.std.proofs.Common.{inl, inr, ◌≡◌, ◌≢◌, ℕ, zero, suc, ◌+◌, ◌<◌, ◌≤◌, true, false, not, ◌&&◌, cond, eqb, List, length, map, get_or, refl, sym, ap, ◌∙◌, Option, Some, None, arith, eq-eqb}
 use Rattle.std.specs.Prelude.{slice_get, is_none, is_some}
 use Rattle.std.specs.Option.{option_or, option_map}
+use Rattle.std.proofs.Math.Bool.{and-false}
 use Rattle.std.proofs.lemmas.Bool.{cases_eq, cases_lt, ne_eqb, cond-true, cond-false}
 use Rattle.std.proofs.lemmas.List.{get_or-map, length-map}
 use Rattle.std.proofs.lemmas.Option.{get_or_from_slice_get}
@@ -78,10 +79,7 @@ beside-moves marked folds pin v is apart moves =
 
 pub beside-quiet : (marked : ℕ) (folds : List Value) (pin : ℕ) (v : Value) → v ≡ value_of_pin folds pin → is_quiet v ≡ true → moves_beside marked folds pin ≡ false
 beside-quiet marked folds pin v is still =
-    ap (λ b. not (eqb pin marked) && not b) (ap is_quiet (sym is) ∙ still) ∙ right_false (not (eqb pin marked))
-  where
-    right_false : (a : Bool) → (a && false) ≡ false
-    right_false a = grind arith
+    ap (λ b. not (eqb pin marked) && not b) (ap is_quiet (sym is) ∙ still) ∙ and-false (not (eqb pin marked))
 
 pub beside-itself : (marked : ℕ) (folds : List Value) (pin : ℕ) → pin ≡ marked → moves_beside marked folds pin ≡ false
 beside-itself marked folds pin e =

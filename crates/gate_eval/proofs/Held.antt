@@ -1,7 +1,7 @@
 -- Where no slot has a hazard, the marked pin keeps the gate's output, or the other pins stay as they are.
-use Rattle.std.proofs.Common.{inl, inr, ◌≡◌, ◌≢◌, ℕ, zero, suc, ◌+◌, ◌-◌, ◌%◌, ◌<◌, ◌≤◌, Bool, true, false, not, ◌&&◌, cond, List, [], ◌∷◌, length, eqb, refl, sym, ap, ◌∙◌, Option, Some, None, arith}
+use Rattle.std.proofs.Common.{inl, inr, ◌≡◌, ◌≢◌, ℕ, zero, suc, ◌+◌, ◌-◌, ◌%◌, ◌<◌, ◌≤◌, Bool, true, false, not, ◌&&◌, cond, List, [], ◌∷◌, length, eqb, refl, sym, ap, subst, ◌∙◌, Option, Some, None, arith}
 use Rattle.std.specs.Option.{option_or, option_map}
-use Rattle.std.proofs.lemmas.Bool.{cases_eq, ne_eqb}
+use Rattle.std.proofs.lemmas.Bool.{and_parts, cases_eq, ne_eqb, not-true}
 use Rattle.std.proofs.lemmas.List.{length-map}
 use Rattle.std.proofs.Math.Nat.{mod-lt}
 use Rattle.scald_base.specs.Signal.{Signal}
@@ -18,7 +18,7 @@ use Rattle.flat_circuit.specs.Equation.{nth_signal, bits_at}
 use Rattle.gate_eval.specs.Meeting.{folds_in, period_of}
 use Rattle.gate_eval.specs.Permitted.{AllPermit, AllHave}
 use Rattle.gate_eval.specs.Hold.{first_some, value_of_pin, is_closed, moves_beside, mover_beside, disturber, hazard_beside, closed_bit, IsHeld}
-use Rattle.gate_eval.proofs.Fitting.{AllFit, folds-have}
+use Rattle.gate_eval.proofs.Fitting.{AllFit, as-many-cells, folds-have}
 
 -- ---- first places
 
@@ -53,44 +53,25 @@ unmoved false true pin other none = refl
 unmoved false false pin other none = cc
 
 -- where nothing moves beside the marked pin, each other pin is quiet
-beside-quiet : (marked : ℕ) (folds : List Value) (pin : ℕ) → mover_beside marked folds ≡ None → pin < length folds → pin ≢ marked → is_quiet (value_of_pin folds pin) ≡ true
+pub beside-quiet : (marked : ℕ) (folds : List Value) (pin : ℕ) → mover_beside marked folds ≡ None → pin < length folds → pin ≢ marked → is_quiet (value_of_pin folds pin) ≡ true
 beside-quiet marked folds pin none below apart =
     unmoved (eqb pin marked) (is_quiet (value_of_pin folds pin)) pin (ne_eqb pin marked apart)
     (first_some-none (λ j. cond (moves_beside marked folds j) (Some j) None) (length folds) 0 pin none (omega arith) (omega arith))
 
-closed-bits : (kind : Kind) (v : Value) (a b : Bool) → is_closed kind v ≡ true → has v a b ≡ true → (a ≡ closed_bit kind) × (b ≡ closed_bit kind)
-closed-bits And v a b closed h = zero v (values_lawful.same_is v Zero closed) h
-  where
-    zero : (v : Value) → v ≡ Zero → has v a b ≡ true → (a ≡ false) × (b ≡ false)
-    zero v e h = low a b (ap (λ w. has w a b) (sym e) ∙ h)
-      where
-        low : (a b : Bool) → (not a && not b) ≡ true → (a ≡ false) × (b ≡ false)
-        low false false h = (refl, refl)
-        low false true h = cc
-        low true b h = cc
-closed-bits Or v a b closed h = one v (values_lawful.same_is v One closed) h
-  where
-    one : (v : Value) → v ≡ One → has v a b ≡ true → (a ≡ true) × (b ≡ true)
-    one v e h = high a b (ap (λ w. has w a b) (sym e) ∙ h)
-      where
-        high : (a b : Bool) → (a && b) ≡ true → (a ≡ true) × (b ≡ true)
-        high true true h = (refl, refl)
-        high true false h = cc
-        high false b h = cc
+-- a marked pin that lets nothing through is at the closing bit before and after
+pub closed-bits : (kind : Kind) (v : Value) (a b : Bool) → is_closed kind v ≡ true → has v a b ≡ true → (a ≡ closed_bit kind) × (b ≡ closed_bit kind)
+closed-bits And v a b closed h =
+    let low = and_parts (not a) (not b) (subst (λ (w : Value). has w a b ≡ true) (values_lawful.same_is v Zero closed) h) in
+    (not-true a low.0, not-true b low.1)
+closed-bits Or v a b closed h = and_parts a b (subst (λ (w : Value). has w a b ≡ true) (values_lawful.same_is v One closed) h)
 closed-bits kind v a b closed h = cc
-
-counts : (vs : List Value) (xs : List Signal) (t : ℕ) → AllHave values vs xs t → length vs ≡ length xs
-counts [] [] t hs = refl
-counts [] (x ∷ xs) t hs = absurd hs
-counts (v ∷ vs) [] t hs = absurd hs
-counts (v ∷ vs) (x ∷ xs) t hs = ap suc (counts vs xs t hs.1)
 
 held-by : (kind : Kind) (folds : List Value) (marked : ℕ) (xs : List Signal) (t : ℕ) → disturber kind marked folds ≡ None → AllHave values folds xs t →
     marked < length folds → IsHeld (closed_bit kind) marked xs t
 held-by kind folds marked xs t none hs below = by (is_closed kind (value_of_pin folds marked)) refl none
   where
     long : length folds ≡ length xs
-    long = counts folds xs t hs
+    long = as-many-cells values folds xs t hs
 
     by : (closed : Bool) → is_closed kind (value_of_pin folds marked) ≡ closed → cond closed None (mover_beside marked folds) ≡ None → IsHeld (closed_bit kind) marked xs t
     by true closed none =
@@ -116,6 +97,10 @@ held-at kind waves marked n xs v t none some fits ps below t1 tv tn =
     (omega (arith, long))
 
 -- ---- what passes of the marked pin
+
+pub stays : (b : Bool) → has S b b ≡ true
+stays true = refl
+stays false = refl
 
 module _ (bit : Bool → Bool → Bool) (whole : List Bool → Bool) (closed : Bool)
     (more : (b : Bool) (bs : List Bool) → whole (b ∷ bs) ≡ bit b (whole bs))
@@ -166,7 +151,3 @@ module _ (bit : Bool → Bool → Bool) (whole : List Bool → Bool) (closed : B
       let r = passes xs marked t below still in
       (λ i. has (pair v S) (r.1 i) (r.2 i))
       ∙ pairs v S (nth_signal xs marked (t - 1)) (nth_signal xs marked t) r.0 r.0 h (stays r.0)
-    where
-      stays : (b : Bool) → has S b b ≡ true
-      stays true = refl
-      stays false = refl

@@ -2,6 +2,7 @@
 use Rattle.std.proofs.Common.{◌≡◌, ℕ, zero, suc, ◌+◌, ◌-◌, ◌<◌, min, Bool, true, ◌&&◌, cond, List, [], ◌∷◌, ◌++◌, length, map, take, get_or, refl, sym, ap, ◌∙◌, arith, Result}
 use Rattle.std.specs.Prelude.{IfOk}
 use Rattle.std.specs.List.{list_all, fold, All, AllZip}
+use Rattle.std.proofs.Math.Bool.{and-true, and_assoc}
 use Rattle.std.proofs.lemmas.Result.{IfOk-weaker}
 use Rattle.std.proofs.lemmas.List.Elements.{All-head, All-tail}
 use Rattle.std.proofs.lemmas.List.Folds.{list_all-map}
@@ -51,15 +52,9 @@ seen-next pins i pin wave d p below is =
 
 test-fold : (test : Value → Bool) → ((v w : Value) → test (join v w) ≡ (test v && test w)) → (v : Value) (cells : List Value) →
     test (fold join v cells) ≡ (test v && list_all test cells)
-test-fold test through v [] = right_true (test v)
-  where
-    right_true : (a : Bool) → a ≡ (a && true)
-    right_true a = grind arith
+test-fold test through v [] = sym (and-true (test v))
 test-fold test through v (c ∷ cs) =
-    test-fold test through (join v c) cs ∙ ap (λ b. b && list_all test cs) (through v c) ∙ regroups (test v) (test c) (list_all test cs)
-  where
-    regroups : (a b c : Bool) → ((a && b) && c) ≡ (a && (b && c))
-    regroups a b c = grind arith
+    test-fold test through (join v c) cs ∙ ap (λ b. b && list_all test cs) (through v c) ∙ and_assoc (test v) (test c) (list_all test cs)
 
 pass-each : (test : Value → Bool) → ((v w : Value) → test (join v w) ≡ (test v && test w)) → (waves : List (Wave Value)) (d : Bounds) (period p : ℕ) →
     0 < period → All (λ w. length w.cells ≡ period) waves →

@@ -32,10 +32,10 @@ use Rattle.gate_eval.specs.Gates.{gate_value}
 use Rattle.gate_eval.specs.Hold.{hazard, hazard_beside, closed_bit, IsHeld, KeepsMark}
 use Rattle.gate_eval.specs.Change.{pass_before, is_known, change_at, change_wave}
 use Rattle.gate_eval.specs.Instance.{wave_of_pin, held_wave, image_by, gate_image, gate_wave, is_gate, MarkFits, IsSound}
-use Rattle.gate_eval.proofs.Fitting.{Fits, AllFit, folds-have}
+use Rattle.gate_eval.proofs.Fitting.{Fits, AllFit, as-many-waves, folds-have}
 use Rattle.gate_eval.proofs.Meets.{Permits-meeting, length-meeting}
 use Rattle.gate_eval.proofs.Bits.{gate-has}
-use Rattle.gate_eval.proofs.Held.{held-at, held-whole}
+use Rattle.gate_eval.proofs.Held.{stays, held-at, held-whole}
 use Rattle.gate_eval.proofs.Windows.{all_to-at}
 
 -- ---- the wave of one pin
@@ -67,16 +67,10 @@ module _ {T : Type 0} (k : Cells T) where
   permit-at (w ∷ ws) n (x ∷ xs) v zero d e ps below = ps.0
   permit-at (w ∷ ws) n (x ∷ xs) v (suc i) d e ps below = permit-at ws n xs v i d e ps.1 (omega arith)
 
-  fit-at : (period : ℕ) (waves : List (Wave T)) (i : ℕ) (d : Wave T) → AllFit k period waves → i < length waves → Fits k period (get_or waves i d)
+  pub fit-at : (period : ℕ) (waves : List (Wave T)) (i : ℕ) (d : Wave T) → AllFit k period waves → i < length waves → Fits k period (get_or waves i d)
   fit-at period [] i d fits below = absurd (omega arith)
   fit-at period (w ∷ ws) zero d fits below = fits.0
   fit-at period (w ∷ ws) (suc i) d fits below = fit-at period ws i d fits.1 (omega arith)
-
-  counts : (waves : List (Wave T)) (n : ℕ) (xs : List Signal) (v : ℕ) → AllPermit k waves n xs v → length waves ≡ length xs
-  counts [] n [] v ps = refl
-  counts [] n (x ∷ xs) v ps = absurd ps
-  counts (w ∷ ws) n [] v ps = absurd ps
-  counts (w ∷ ws) n (x ∷ xs) v ps = ap suc (counts ws n xs v ps.1)
 
 -- ---- gates
 
@@ -89,7 +83,7 @@ held-has Or marked count v xs t fits below h held =
     held-whole (λ a b. a || b) (list_any (λ b. b)) true (λ b bs. refl) (λ a b c. grind arith) (λ b. refl) (λ b. grind arith) or_of or_of-has v xs marked t below h held
 held-has kind marked count v xs t fits below h held = absurd fits
 
-mark-below : (kind : Kind) (marked count : ℕ) → MarkFits kind (Some marked) count → marked < count
+pub mark-below : (kind : Kind) (marked count : ℕ) → MarkFits kind (Some marked) count → marked < count
 mark-below And marked count fits = fits
 mark-below Or marked count fits = fits
 mark-below kind marked count fits = absurd fits
@@ -105,7 +99,7 @@ module _ (kind : Kind) (waves : List (Wave Value)) (n : ℕ) (xs : List Signal) 
       Permits values (held_wave (gate_value kind) (wave_of_pin waves marked)) n (λ t. gate_bit kind (bits_at xs t)) v
   held-sound marked none mark =
       let below : marked < length waves = mark-below kind marked (length waves) mark in
-      let long : length waves ≡ length xs = counts values waves n xs v ps in
+      let long : length waves ≡ length xs = as-many-waves values waves n xs v ps in
       let fit : Fits values (period_of waves) (wave_of_pin waves marked) = fit-at values (period_of waves) waves marked (skewed [] 0) fits below in
       let size : length (wave_of_pin waves marked).cells ≡ period_of waves = fit.long in
       Permits-mapped values (wave_of_pin waves marked) (λ c. gate_value kind (c ∷ S ∷ [])) n (nth_signal xs marked) (λ t. gate_bit kind (bits_at xs t)) v (omega (arith, size))
@@ -163,10 +157,6 @@ slot-before p t u some before =
 
 still-has : (a b : Bool) → a ≡ b → has S a b ≡ true
 still-has a b e = ap (λ c. has S c b) e ∙ stays b
-  where
-    stays : (b : Bool) → has S b b ≡ true
-    stays true = refl
-    stays false = refl
 
 change-sound : (waves : List (Wave Value)) (d : Bounds) (n m v : ℕ) (xs : List Signal) (y : Signal) →
     0 < period_of waves → AllFit values (period_of waves) waves → AllPermit values waves n xs v → m ≤ n + d.min →

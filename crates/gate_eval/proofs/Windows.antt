@@ -1,5 +1,6 @@
 -- A window of folds is one fold, as far as tests go that pass through joins.
-use Rattle.std.proofs.Common.{◌≡◌, ℕ, zero, suc, ◌+◌, ◌-◌, ◌%◌, ◌<◌, ◌≤◌, min, Bool, true, false, ◌&&◌, List, get_or, length, refl, sym, ap, ◌∙◌, inl, inr, arith}
+use Rattle.std.proofs.Common.{◌≡◌, ℕ, zero, suc, ◌+◌, ◌-◌, ◌%◌, ◌<◌, ◌≤◌, min, Bool, true, ◌&&◌, List, get_or, length, refl, sym, ap, ◌∙◌, inl, inr, arith}
+use Rattle.std.specs.Cmp.{both_ways}
 use Rattle.std.proofs.lemmas.Bool.{and_parts, and_from, cases_eq}
 use Rattle.std.proofs.Math.Nat.{mod-lt, mod-le}
 use Rattle.scald_base.specs.Clock.{back}
@@ -40,18 +41,11 @@ all_to-both f h (suc n) =
 pub all_to-true : (n : ℕ) → all_to (λ i. true) n ≡ true
 all_to-true n = all_to-from (λ i. true) n (λ i l. refl)
 
--- two tests that pass alike
-alike : (a b : Bool) → (a ≡ true → b ≡ true) → (b ≡ true → a ≡ true) → a ≡ b
-alike true true h h' = refl
-alike true false h h' = sym (h refl)
-alike false true h h' = h' refl
-alike false false h h' = refl
-
 -- A range of ranges is one range; and of what comes again after p places, p places are enough.
 ranges : (q : ℕ → Bool) (p skew width : ℕ) → 0 < p → ((j : ℕ) → q (j % p) ≡ q j) →
     all_to q (min (skew + width) (p - 1)) ≡ all_to (λ i. all_to (λ o. q (i + o)) skew) width
 ranges q p skew width some again =
-    alike (all_to q (min (skew + width) (p - 1))) (all_to (λ i. all_to (λ o. q (i + o)) skew) width)
+    both_ways (all_to q (min (skew + width) (p - 1))) (all_to (λ i. all_to (λ o. q (i + o)) skew) width)
     (λ h. all_to-from (λ i. all_to (λ o. q (i + o)) skew) width (λ i within. all_to-from (λ o. q (i + o)) skew (λ o near.
     sym (again (i + o)) ∙ all_to-at q (min (skew + width) (p - 1)) ((i + o) % p) h
     (let small : (i + o) % p < p = mod-lt (i + o) some in let less : (i + o) % p ≤ i + o = mod-le (i + o) p in omega arith))))

@@ -118,7 +118,7 @@ pub record Same (c d : Circuit) : Type 0 where
   pub nets : c.nets ≡ d.nets
   pub instances : c.instances ≡ d.instances
 
-exist_in : (c : Circuit) → IsCircuit c → All (Exists (length (net_names c.nets))) c.instances
+pub exist_in : (c : Circuit) → IsCircuit c → All (Exists (length (net_names c.nets))) c.instances
 exist_in c h =
     let n = length-map c.nets net_name in
     subst (λ (k : ℕ). All (Exists k) c.instances) (sym n) (All-weaker (InstanceFits c.header (length c.nets)) (Exists (length c.nets)) (λ j f. record { reads = f.exists.reads; drives = f.exists.drives }) c.instances h.each)

@@ -18,7 +18,7 @@ not-not : (b : Bool) → not (not b) ≡ b
 not-not true = refl
 not-not false = refl
 
-length-moved : (w : Wave Value) (wire : Bounds) → length (moved values w wire).cells ≡ length w.cells
+pub length-moved : (w : Wave Value) (wire : Bounds) → length (moved values w wire).cells ≡ length w.cells
 unfolding moved
 length-moved w wire =
     length-normal values (skewed (later values w.cells wire.min) (w.skew + (wire.max - wire.min))) ∙ length-later values w.cells wire.min

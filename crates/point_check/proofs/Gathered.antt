@@ -1,5 +1,5 @@
 -- Faults gathered one number after the other.
-use Rattle.std.proofs.Common.{◌≡◌, ℕ, Bool, true, zero, suc, ◌+◌, ◌<◌, ◌≤◌, List, map, [], ◌∷◌, ◌++◌, length, get_or, take, refl, sym, ap, subst, ◌∙◌, arith, append_assoc, add-one, slice_get, Option, Some, None}
+use Rattle.std.proofs.Common.{◌≡◌, ℕ, Bool, true, ◌+◌, ◌<◌, ◌≤◌, List, map, [], ◌∷◌, ◌++◌, length, get_or, take, refl, sym, ap, subst, ◌∙◌, arith, append_assoc, zero-add, slice_get, Option, Some, None}
 use Rattle.std.specs.Prelude.{filter_map}
 use Rattle.std.specs.List.{cons_option, range_with_len}
 use Rattle.std.specs.Option.{option_map, option_to_list}
@@ -8,6 +8,7 @@ use Rattle.std.proofs.lemmas.Option.{slice_get_within, get_or_from_slice_get}
 use Rattle.std.proofs.lemmas.List.Elements.{filter_map-append, All-get_or}
 use Rattle.scald_base.specs.Time.{Header, period}
 use Rattle.scald_base.specs.Fitting.{Fits}
+use Rattle.vector_names.proofs.Ranges.{range-more}
 use Rattle.step_values.specs.declared.value.Value.{Value}
 use Rattle.step_values.specs.Cell.{values}
 use Rattle.skew_algebra.specs.Wave.{Wave, skewed, folded}
@@ -29,12 +30,6 @@ use Rattle.point_check.specs.Point.{first_fault, checker_fault}
 use Rattle.point_check.specs.Assertion.{is_held}
 use Rattle.point_check.specs.Faults.{checks_points, hazard_at, mark_fault, fault_by_kind, fault_of, instance_fault, fault_if_held, fault_of_net, net_fault}
 
-pub range-next : (a n : ℕ) → range_with_len a (suc n) ≡ range_with_len a n ++ (a + n) ∷ []
-range-next a zero = ap (λ (k : ℕ). k ∷ []) (omega arith)
-range-next a (suc n) =
-    let same : a + 1 + n ≡ a + suc n = omega arith in
-    ap (λ (l : List ℕ). a ∷ l) (range-next (a + 1) n ∙ ap (λ (k : ℕ). range_with_len (a + 1) n ++ k ∷ []) same)
-
 one-found : (o : Option Fault) → cons_option o [] ≡ option_to_list o
 one-found None = refl
 one-found (Some f) = refl
@@ -45,9 +40,7 @@ found-next find xs x = filter_map-append find xs (x ∷ []) ∙ ap (λ (l : List
 pub range-found : (find : ℕ → Option Fault) (n : ℕ) (faults more : List Fault) (found : Option Fault) → faults ≡ filter_map find (range_with_len 0 n) → found ≡ find n → more ≡ faults ++ option_to_list found →
     more ≡ filter_map find (range_with_len 0 (n + 1))
 range-found find n faults more found so_far is e =
-    let same : 0 + n ≡ n = omega arith in
-    e ∙ (λ i. so_far i ++ option_to_list (is i)) ∙ sym (found-next find (range_with_len 0 n) n)
-    ∙ ap (filter_map find) (ap (λ (k : ℕ). range_with_len 0 n ++ k ∷ []) (sym same) ∙ sym (range-next 0 n) ∙ ap (range_with_len 0) (sym (add-one n)))
+    e ∙ (λ i. so_far i ++ option_to_list (is i)) ∙ sym (found-next find (range_with_len 0 n) n) ∙ ap (filter_map find) (sym (range-more 0 n n (zero-add n)))
 
 pub order-found : (find : ℕ → Option Fault) (order : List ℕ) (place number : ℕ) (before faults more : List Fault) (found : Option Fault) → place < length order → number ≡ get_or order place 0 →
     faults ≡ before ++ filter_map find (take place order) → found ≡ find number → more ≡ faults ++ option_to_list found → more ≡ before ++ filter_map find (take (place + 1) order)

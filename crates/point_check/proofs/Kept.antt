@@ -1,8 +1,9 @@
 -- What the waves permit breaks nothing of an instance or a net that has no fault.
-use Rattle.std.proofs.Common.{◌≡◌, ℕ, zero, suc, ◌+◌, ◌-◌, ◌%◌, ◌<◌, ◌≤◌, max, Bool, true, false, List, [], ◌∷◌, length, map, refl, sym, ap, ◌∙◌, arith, All, slice_get, Some, None}
+use Rattle.std.proofs.Common.{◌≡◌, ℕ, ◌+◌, ◌-◌, ◌%◌, ◌<◌, ◌≤◌, max, Bool, true, false, List, [], ◌∷◌, length, map, refl, sym, ap, ◌∙◌, arith, All, slice_get, Some, None}
 use Rattle.std.specs.List.{list_any, position}
+use Rattle.std.proofs.lemmas.Bool.{both_ways}
 use Rattle.std.proofs.lemmas.List.{length-map}
-use Rattle.std.proofs.lemmas.List.Elements.{All-head, All-tail}
+use Rattle.std.proofs.lemmas.List.Elements.{All-head}
 use Rattle.std.proofs.lemmas.List.Quantifiers.{position-Some}
 use Rattle.std.proofs.lemmas.Option.{slice_get_within}
 use Rattle.std.proofs.Math.Nat.{mod-lt}
@@ -32,7 +33,7 @@ use Rattle.gate_eval.proofs.Held.{map-none}
 use Rattle.fixpoint_engine.specs.Value.{Waves, pin_wave, pin_waves, marked_pin}
 use Rattle.fixpoint_engine.specs.Pins.{wire_to, pin_at, StepsFrom, PinsPermit, PinsPermitAt}
 use Rattle.fixpoint_engine.proofs.Drivers.{fits-of}
-use Rattle.fixpoint_engine.proofs.Fits.{AreLong, long-pin}
+use Rattle.fixpoint_engine.proofs.Fits.{AreLong, long-pin, long-pin-at}
 use Rattle.point_check.specs.Point.{checker_fault}
 use Rattle.point_check.specs.Assertion.{is_held}
 use Rattle.point_check.specs.Faults.{hazard_at, mark_fault, fault_by_kind, fault_of, instance_fault, fault_if_held, fault_of_net, net_fault, point_faults, is_of_instance, is_of_net}
@@ -44,12 +45,6 @@ use Rattle.point_check.proofs.Held.{assertion-kept}
 use Rattle.point_check.proofs.Whose.{no_instance_fault, no_net_fault}
 
 -- ---- the period of the waves at pins
-
-long-at : (c : Circuit) (ws : Waves) (ps : List Pin) (i : ℕ) → AreLong c ws → All (PinExists (length c.nets)) ps → i < length ps →
-    length (wave_of_pin (map (pin_wave c ws) ps) i).cells ≡ period c.header
-long-at c ws [] i long exist below = absurd (omega arith)
-long-at c ws (p ∷ ps) zero long exist below = long-pin c ws p long (All-head (PinExists (length c.nets)) p ps exist)
-long-at c ws (p ∷ ps) (suc i) long exist below = long-at c ws ps i long (All-tail (PinExists (length c.nets)) p ps exist) (omega arith)
 
 period-at : (c : Circuit) (ws : Waves) (ps : List Pin) → AreLong c ws → All (PinExists (length c.nets)) ps → 0 < length ps → period_of (map (pin_wave c ws) ps) ≡ period c.header
 period-at c ws [] long exist some = absurd (omega arith)
@@ -79,7 +74,7 @@ module _ (c : Circuit) (ws : Waves) (run : Run) (k : ℕ) (j : Instance) (choice
       let begins' = b.change_in.begins in
       b.changes (setup_hold-kept (period c.header) k (wave_of_pin (pin_waves c ws j) 0) (wave_of_pin (pin_waves c ws j) 1) j.limits run.ticks b.edge b.change
       (max start (wire_to choice 0 + 1)) (max start (wire_to choice 1 + 1)) (pin_at run j choice 0) (pin_at run j choice 1) pos
-      (long-at c ws j.pins 0 long fits.exists.reads (omega (arith, two))) (long-at c ws j.pins 1 long fits.exists.reads (omega (arith, two)))
+      (long-pin-at c ws j.pins 0 long fits.exists.reads (omega (arith, two))) (long-pin-at c ws j.pins 1 long fits.exists.reads (omega (arith, two)))
       (permit 0 (omega (arith, two))) (permit 1 (omega (arith, two)))
       (ap (λ (q : Kind). checker_fault q (period c.header) k (wave_of_pin (pin_waves c ws j) 0) (wave_of_pin (pin_waves c ws j) 1) j.limits) (sym is) ∙ none)
       b.rises (omega (arith, begins)) (starts 0 b.edge b.edge_in) b.edge_in.ends (omega (arith, begins')) (starts 1 b.change b.change_in) b.change_in.ends b.not_before b.not_after)
@@ -92,7 +87,7 @@ module _ (c : Circuit) (ws : Waves) (run : Run) (k : ℕ) (j : Instance) (choice
       let begins' = b.change_in.begins in
       b.changes (rise_fall-kept (period c.header) k (wave_of_pin (pin_waves c ws j) 0) (wave_of_pin (pin_waves c ws j) 1) j.limits run.ticks b.edge b.fall b.change
       (max start (wire_to choice 0 + 1)) (max start (wire_to choice 1 + 1)) (pin_at run j choice 0) (pin_at run j choice 1) pos
-      (long-at c ws j.pins 0 long fits.exists.reads (omega (arith, two))) (long-at c ws j.pins 1 long fits.exists.reads (omega (arith, two)))
+      (long-pin-at c ws j.pins 0 long fits.exists.reads (omega (arith, two))) (long-pin-at c ws j.pins 1 long fits.exists.reads (omega (arith, two)))
       (permit 0 (omega (arith, two))) (permit 1 (omega (arith, two)))
       b.is_high (omega (arith, begins)) (starts 0 b.edge b.edge_in) b.fall_in.ends (omega (arith, begins')) (starts 1 b.change b.change_in) b.change_in.ends b.not_before b.not_after
       (ap (λ (q : Kind). checker_fault q (period c.header) k (wave_of_pin (pin_waves c ws j) 0) (wave_of_pin (pin_waves c ws j) 1) j.limits) (sym is) ∙ none))
@@ -103,7 +98,7 @@ module _ (c : Circuit) (ws : Waves) (run : Run) (k : ℕ) (j : Instance) (choice
   fold-steps i t below steps =
       let begins = steps.begins in
       ap (λ (v : Value). has v (pin_at run j choice i (t - 1)) (pin_at run j choice i t))
-      (fold-mod values (period c.header) (wave_of_pin (pin_waves c ws j) i) t (long-at c ws j.pins i long fits.exists.reads below))
+      (fold-mod values (period c.header) (wave_of_pin (pin_waves c ws j) i) t (long-pin-at c ws j.pins i long fits.exists.reads below))
       ∙ fold-has values values_lawful (wave_of_pin (pin_waves c ws j) i) run.ticks (max start (wire_to choice i + 1)) t (pin_at run j choice i) (permit i below)
       (omega (arith, begins)) (starts i t steps) steps.ends
 
@@ -154,11 +149,8 @@ keeps-net : (c : Circuit) (ws : Waves) (run : Run) (i start : ℕ) → 0 < perio
     Permits values (ws i) run.ticks (net_signal run i) start → ¬ BreaksNet c run i start
 keeps-net c ws run i start pos known long none permits b =
     let below = slice_get_within c.nets i b.net b.net_is in
-    both _ (assertion-kept c.header b.net.spec i (ws i) run.ticks b.tick start (net_signal run i) pos (long i below) permits
-    (net-none c ws i b.net b.net_is b.is_held (no_net_fault c ws i known below none)) b.begins b.after b.ends) b.lacks
-  where
-    both : (x : Bool) → x ≡ true → x ≡ false → ⊥
-    both x t f = cc
+    both_ways _ b.lacks (assertion-kept c.header b.net.spec i (ws i) run.ticks b.tick start (net_signal run i) pos (long i below) permits
+    (net-none c ws i b.net b.net_is b.is_held (no_net_fault c ws i known below none)) b.begins b.after b.ends)
 
 pub keeps-constraints : (c : Circuit) (ws : Waves) (faults : List Fault) → 0 < period c.header → IsCircuit c → AreLong c ws → faults ≡ point_faults c ws → KeepsConstraints c ws faults
 keeps-constraints c ws faults pos known long is = record {

@@ -1,7 +1,7 @@
 -- Where a checker has no fault in the waves of its pins, what the waves permit does not break its constraint.
 use Rattle.std.proofs.Common.{inl, inr, ◌≡◌, ℕ, ◌+◌, ◌-◌, ◌%◌, ◌<◌, ◌≤◌, Bool, true, false, cond, length, refl, sym, ap, ◌∙◌, arith, Option, Some, None}
 use Rattle.std.specs.Prelude.{is_some, is_none}
-use Rattle.std.proofs.lemmas.Bool.{cases_lt}
+use Rattle.std.proofs.lemmas.Bool.{both_ways, cases_lt}
 use Rattle.std.proofs.Math.Nat.{mod-lt, mod-add-mod}
 use Rattle.scald_base.specs.Clock.{back}
 use Rattle.scald_base.specs.Signal.{Signal}
@@ -152,11 +152,8 @@ module _ (p k : ℕ) (clock input : Wave Value) (limits : ℕ × ℕ) (n edge fa
         let is : (has (fold values clock (edge % p + found.at)) true true ≡ false) × (found.at ≡ m) = low-at (has (fold values clock (edge % p + found.at)) true true) found.at m found.is in
         let same : found.at ≡ m = is.1 in
         let stays : has (fold values clock (edge % p + found.at)) true true ≡ true = stays-till found.at one (omega (arith, same, before)) in
-        absurd (both (has (fold values clock (edge % p + found.at)) true true) stays is.0)
+        absurd (both_ways (has (fold values clock (edge % p + found.at)) true true) is.0 stays)
   ]
-    where
-      both : (b : Bool) → b ≡ true → b ≡ false → ⊥
-      both b t f = cc
 
   by-last : (m : ℕ) → fall ≤ edge + m → window_fault p k (fold values input) (edge % p) (to_last_fall limits (last_fall (fold values clock) (edge % p) m)) ≡ None → x (change - 1) ≡ x change
   by-last m within none =

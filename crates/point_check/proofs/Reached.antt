@@ -1,12 +1,11 @@
 -- Where waves permit the nets of a run from a tick on, those at pins permit the pins as much later as instances look back;
 -- so nothing is broken from there on by what has no fault.
-use Rattle.std.proofs.Common.{◌≡◌, ℕ, zero, suc, ◌+◌, ◌<◌, ◌≤◌, max, false, List, [], ◌∷◌, length, map, ap, arith, All, slice_get, Some}
+use Rattle.std.proofs.Common.{◌≡◌, ℕ, zero, suc, ◌+◌, ◌<◌, ◌≤◌, max, false, List, [], ◌∷◌, length, map, arith, All, slice_get, Some}
 use Rattle.std.specs.Prelude.{slice_index_or}
 use Rattle.std.specs.List.{list_any}
 use Rattle.std.proofs.lemmas.List.Elements.{All-head, All-tail}
 use Rattle.std.proofs.lemmas.Option.{slice_get_within}
 use Rattle.scald_base.specs.Time.{period}
-use Rattle.scald_base.specs.Signal.{turned}
 use Rattle.step_values.specs.Cell.{values}
 use Rattle.skew_algebra.specs.Permits.{Permits}
 use Rattle.skew_algebra.proofs.Moves.{Permits-after}
@@ -17,33 +16,18 @@ use Rattle.flat_circuit.specs.declared.fault.Fault.{Fault}
 use Rattle.flat_circuit.specs.Instances.{PinExists}
 use Rattle.flat_circuit.specs.Circuit.{Circuit, IsCircuit}
 use Rattle.flat_circuit.specs.Equation.{nth_signal}
-use Rattle.flat_circuit.specs.Run.{Run, IsRun, net_signal, target_signal, pin_signal, pin_signals, WireFits, WiresFit}
-use Rattle.pin_waves.proofs.Pins.{Permits-pin}
+use Rattle.flat_circuit.specs.Run.{Run, IsRun, net_signal, pin_signals, WiresFit}
 use Rattle.gate_eval.specs.Instance.{wave_of_pin}
-use Rattle.fixpoint_engine.specs.Value.{Waves, target_wave, target_wire, pin_wave}
+use Rattle.fixpoint_engine.specs.Value.{Waves, pin_wave}
 use Rattle.fixpoint_engine.specs.Reach.{greatest_wire, farthest, reach}
 use Rattle.fixpoint_engine.specs.Interface.{PermitRun}
 use Rattle.fixpoint_engine.specs.Pins.{PinsPermitAt}
-use Rattle.fixpoint_engine.proofs.Asked.{wire-within}
 use Rattle.fixpoint_engine.proofs.Drivers.{fits-of}
-use Rattle.fixpoint_engine.proofs.Sound.{target-permits, shown}
-use Rattle.fixpoint_engine.proofs.Fits.{AreLong, long-target}
+use Rattle.fixpoint_engine.proofs.Sound.{pin-permits}
+use Rattle.fixpoint_engine.proofs.Fits.{AreLong}
 use Rattle.point_check.specs.Faults.{is_of_instance, is_of_net}
 use Rattle.point_check.specs.Break.{BreaksInstance, BreaksNet}
 use Rattle.point_check.specs.Sound.{KeepsConstraints}
-
-pin-permits : (c : Circuit) (run : Run) (ws : Waves) (p : Pin) (w v start : ℕ) → 0 < period c.header → AreLong c ws → PinExists (length c.nets) p → PermitRun c run ws v → 1 ≤ v →
-    WireFits c.nets p.target w → v + (target_wire c.nets p.target).max ≤ start →
-    Permits values (pin_wave c ws p) run.ticks (pin_signal run p w) (max start (w + 1))
-pin-permits c run ws p w v start some long exists permits v1 wire far =
-    let within = wire-within c.nets p.target w wire in
-    let low : (target_wire c.nets p.target).min ≤ w = within.0 in
-    let high : w ≤ (target_wire c.nets p.target).max = within.1 in
-    let size = long-target c ws p.target long exists in
-    Permits-pin (target_wave c.header ws p.target) (target_wire c.nets p.target) p.inverted (omega (arith, size))
-    run.ticks run.ticks v (max start (w + 1)) w (target_signal run p.target 0) (pin_signal run p w)
-    (target-permits c run ws p.target v some exists permits) low high v1 (omega (arith, high, far)) (omega arith)
-    (λ t tu tm. ap (turned p.inverted) (shown run p.target w t))
 
 pins-permit : (c : Circuit) (run : Run) (ws : Waves) (ps : List Pin) (wires : List ℕ) (v start i : ℕ) → 0 < period c.header → AreLong c ws → All (PinExists (length c.nets)) ps → PermitRun c run ws v → 1 ≤ v →
     WiresFit c.nets ps wires → v + greatest_wire c.nets ps ≤ start → i < length ps →
@@ -51,7 +35,7 @@ pins-permit : (c : Circuit) (run : Run) (ws : Waves) (ps : List Pin) (wires : Li
 pins-permit c run ws [] wires v start i some long exist permits v1 fits far below = absurd (omega arith)
 pins-permit c run ws (p ∷ ps) [] v start i some long exist permits v1 fits far below = absurd fits
 pins-permit c run ws (p ∷ ps) (w ∷ wires) v start zero some long exist permits v1 fits far below =
-    pin-permits c run ws p w v start some long (All-head (PinExists (length c.nets)) p ps exist) permits v1 fits.0 (omega arith)
+    pin-permits c run ws p w v (max start (w + 1)) some long (All-head (PinExists (length c.nets)) p ps exist) permits v1 fits.0 (omega arith)
 pins-permit c run ws (p ∷ ps) (w ∷ wires) v start (suc i) some long exist permits v1 fits far below =
     pins-permit c run ws ps wires v start i some long (All-tail (PinExists (length c.nets)) p ps exist) permits v1 fits.1 (omega arith) (omega arith)
 

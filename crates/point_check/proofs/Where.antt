@@ -1,7 +1,7 @@
 -- What a scan that goes from run to run has found.
 use Rattle.std.proofs.Common.{inl, inr, ◌≡◌, ℕ, zero, suc, ◌+◌, ◌-◌, ◌%◌, ◌<◌, ◌≤◌, Bool, true, false, not, cond, get_or, List, length, refl, sym, ap, subst, ◌∙◌, arith, Option, Some, None}
 use Rattle.std.specs.Prelude.{IfSome}
-use Rattle.std.proofs.lemmas.Bool.{cases_eq}
+use Rattle.std.proofs.lemmas.Bool.{cases_eq, not-false, not-true}
 use Rattle.std.proofs.Math.Nat.{mod-add-mod}
 use Rattle.scald_base.specs.Clock.{back}
 use Rattle.scald_base.proofs.Back.{back-back, back-sooner}
@@ -20,14 +20,6 @@ use Rattle.point_check.specs.Next.{IsNextEdge}
 use Rattle.point_check.specs.Point.{first_low, last_to, falls_somewhere, edge_fault}
 use Rattle.point_check.proofs.Found.{no_mover, a_mover, first_mover-here, first_mover-nowhere, stays_high, gets_low, first_low-here, first_low-nowhere, falls-here, falls-nowhere, no_edge}
 
-un-not : (b : Bool) → false ≡ not b → b ≡ true
-un-not true e = refl
-un-not false e = cc
-
-un-not-true : (b : Bool) → true ≡ not b → b ≡ false
-un-not-true true e = cc
-un-not-true false e = refl
-
 -- places of a window are counted on from its first slot
 read-place : (cells : List Value) (w : Window) (t from place : ℕ) → from ≡ slot_at (length cells) w t 0 → read cells (slot_at (length cells) w t place) ≡ read cells (from + place)
 unfolding earlier
@@ -39,7 +31,7 @@ read-place cells w t from place is =
 
 module _ (cells : List Value) (w : Window) (t from : ℕ) (is : from ≡ slot_at (length cells) w t 0) where
   still-quiet : (k : ℕ) → false ≡ not (is_quiet (read cells (from + k))) → mover_at (length cells) (read cells) w t k ≡ None
-  still-quiet k says = no_mover (length cells) (read cells) w t k (read cells (from + k)) (read-place cells w t from k is) (un-not _ says)
+  still-quiet k says = no_mover (length cells) (read cells) w t k (read cells (from + k)) (read-place cells w t from k is) (not-false _ (sym says))
 
   pub all-quiet : ((k : ℕ) → k < places w → false ≡ not (is_quiet (read cells (from + k)))) → None ≡ first_mover (length cells) (read cells) w t
   all-quiet none = first_mover-nowhere (length cells) (read cells) w t (λ k below. still-quiet k (none k below))
@@ -48,7 +40,7 @@ module _ (cells : List Value) (w : Window) (t from : ℕ) (is : from ≡ slot_at
       Some place ≡ first_mover (length cells) (read cells) w t
   mover-where place within before here =
       first_mover-here (length cells) (read cells) w t place (λ k below. still-quiet k (before k below)) within
-      (a_mover (length cells) (read cells) w t place (read cells (from + place)) (read-place cells w t from place is) (un-not-true _ here))
+      (a_mover (length cells) (read cells) w t place (read cells (from + place)) (read-place cells w t from place is) (not-true _ (sym here)))
 
 -- the slot that many behind a rise, counted from the slot behind it
 read-behind : (cells : List Value) (period t from k : ℕ) → period ≡ length cells → from ≡ (t + 1) % period → read cells (t + (k + 1)) ≡ read cells (from + k)
@@ -63,7 +55,7 @@ module _ (cells : List Value) (period t from : ℕ) (same : period ≡ length ce
   still-high n k none one below =
       let more : k - 1 + 1 ≡ k = omega arith in
       subst (λ (z : ℕ). cond (has (read cells (t + z)) true true) None (Some z) ≡ None) more
-      (stays_high (read cells) t (k - 1 + 1) (read cells (from + (k - 1))) (read-behind cells period t from (k - 1) same is) (un-not _ (none (k - 1) (omega arith))))
+      (stays_high (read cells) t (k - 1 + 1) (read cells (from + (k - 1))) (read-behind cells period t from (k - 1) same is) (not-false _ (sym (none (k - 1) (omega arith)))))
 
   pub never-low : ((k : ℕ) → k < period → false ≡ not (has (read cells (from + k)) true true)) → None ≡ first_low (length cells) (read cells) t
   never-low none = first_low-nowhere (length cells) (read cells) t (λ k one below. still-high period k none one (omega (arith, same, below)))
@@ -72,7 +64,7 @@ module _ (cells : List Value) (period t from : ℕ) (same : period ≡ length ce
       Some (place + 1) ≡ first_low (length cells) (read cells) t
   low-where place within before here =
       first_low-here (length cells) (read cells) t (place + 1) (λ k one less. still-high place k before one less) (omega arith) (omega (arith, within, same))
-      (gets_low (read cells) t (place + 1) (read cells (from + place)) (read-behind cells period t from place same is) (un-not-true _ here))
+      (gets_low (read cells) t (place + 1) (read cells (from + place)) (read-behind cells period t from place same is) (not-true _ (sym here)))
 
 module _ (cells : List Value) (period : ℕ) (same : period ≡ length cells) where
   falls-at : (k : ℕ) → has (read cells k) true false ≡ has (read cells (0 + k)) true false

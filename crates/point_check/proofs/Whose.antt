@@ -3,7 +3,7 @@ use Rattle.std.proofs.Common.{◌≡◌, ℕ, zero, suc, ◌+◌, ◌<◌, Bool,
 use Rattle.std.specs.Prelude.{IfSome, filter_map, slice_get}
 use Rattle.std.specs.List.{Contains, list_any, cons_option, range_with_len}
 use Rattle.std.specs.Option.{option_or, option_map}
-use Rattle.std.proofs.lemmas.Bool.{or_parts}
+use Rattle.std.proofs.lemmas.Bool.{both_ways, or_parts}
 use Rattle.std.proofs.lemmas.List.Folds.{list_any-append}
 use Rattle.std.proofs.lemmas.List.FromFn.{length-range_with_len, get_or-range_with_len}
 use Rattle.std.proofs.lemmas.List.{length-map}
@@ -99,10 +99,7 @@ net-of c ws i = by (slice_get c.nets i)
 
 head-none : (test : Fault → Bool) (o : Option Fault) (rest : List Fault) → list_any test (cons_option o rest) ≡ false → IfSome o (λ f. test f ≡ true) → o ≡ None
 head-none test None rest none each = refl
-head-none test (Some f) rest none each = absurd (both (test f) each (or_parts (test f) (list_any test rest) none).0)
-  where
-    both : (b : Bool) → b ≡ true → b ≡ false → ⊥
-    both b t f = cc
+head-none test (Some f) rest none each = absurd (both_ways (test f) (or_parts (test f) (list_any test rest) none).0 each)
 
 tail-none : (test : Fault → Bool) (o : Option Fault) (rest : List Fault) → list_any test (cons_option o rest) ≡ false → list_any test rest ≡ false
 tail-none test None rest none = none

@@ -5,9 +5,10 @@ ghost use Rattle.std.specs.List.{All, range_with_len};
 ghost use Rattle.skew_algebra.specs.Wave.{skewed};
 ghost use Rattle.flat_circuit.specs.Instances.{PinExists};
 ghost use Rattle.fixpoint_engine.specs.Value.{marked_pin as marked};
+ghost use Rattle.fixpoint_engine.specs.SameWaves.{IsSameAt};
 ghost use Rattle.fixpoint_engine.specs.Settled.{FitWaves, waves_of};
 ghost use Rattle.point_check.specs.Faults.{checks_points, instance_fault as fault_of_instance, net_fault as fault_of_net, point_faults};
-ghost use Rattle.point_check.specs.Known.{AreKnown, IsSameAt};
+ghost use Rattle.point_check.specs.Known.{AreKnown};
 ghost use Rattle.point_check.specs.Sound.{KeepsConstraints};
 
 use crate::assertion::is_held;
@@ -15,50 +16,15 @@ use crate::check::{add, instance_fault, net_fault, net_named};
 use crate::folds::Folds;
 use crate::known::PointFaults;
 use crate::mark::marked_pin;
-use fixpoint_engine::Waves;
-use flat_circuit::{Circuit, Fault, Faults, Instance, Kind, Pin, Target};
+use fixpoint_engine::{Waves, has_one_wave, has_one_wave_at};
+use flat_circuit::{Circuit, Fault, Faults, Instance, Kind, Pin};
 use scald_base::NoMemory;
 use std::alloc::Global;
 use step_values::Value;
 use wave_core::CyclicWave;
 
-/// Whether a net has one wave in both.
-fn is_same<W: CyclicWave<Item = Value>>(
-    c: &Circuit,
-    before: &Waves<W>,
-    waves: &Waves<W>,
-    net: u32,
-) -> bool
-    requires exists { net < length c.now.nets }
-    requires before { FitWaves c.now (map (λ s. skewed (W.cells s.wave) s.skew) before.now) }
-    requires fit { FitWaves c.now (map (λ s. skewed (W.cells s.wave) s.skew) waves.now) }
-    ensures { IsTrue result ↔ (waves_of (map (λ s. skewed (W.cells s.wave) s.skew) before.now) net ≡ waves_of (map (λ s. skewed (W.cells s.wave) s.skew) waves.now) net) }
-{
-    let old = &before.as_slice()[net as usize];
-    let wave = &waves.as_slice()[net as usize];
-    old.same(wave)
-}
-
-/// Whether what a pin is on has one wave in both.
-fn is_same_at<W: CyclicWave<Item = Value>>(
-    c: &Circuit,
-    before: &Waves<W>,
-    waves: &Waves<W>,
-    pin: Pin,
-) -> bool
-    requires exists { PinExists (length c.now.nets) pin }
-    requires before { FitWaves c.now (map (λ s. skewed (W.cells s.wave) s.skew) before.now) }
-    requires fit { FitWaves c.now (map (λ s. skewed (W.cells s.wave) s.skew) waves.now) }
-    ensures { IsTrue result ↔ IsSameAt (waves_of (map (λ s. skewed (W.cells s.wave) s.skew) before.now)) (waves_of (map (λ s. skewed (W.cells s.wave) s.skew) waves.now)) pin }
-{
-    match pin.target {
-        Target::Net(net) => is_same(c, before, waves, net),
-        Target::Constant(_) => true,
-    }
-}
-
-/// Whether that holds of each of these pins.
-fn are_same_at<W: CyclicWave<Item = Value>>(
+/// Whether what each of these pins is on has one wave in both.
+fn have_one_wave_at<W: CyclicWave<Item = Value>>(
     c: &Circuit,
     before: &Waves<W>,
     waves: &Waves<W>,
@@ -70,7 +36,7 @@ fn are_same_at<W: CyclicWave<Item = Value>>(
     ensures { IsTrue result ↔ All (IsSameAt (waves_of (map (λ s. skewed (W.cells s.wave) s.skew) before.now)) (waves_of (map (λ s. skewed (W.cells s.wave) s.skew) waves.now))) pins.now }
 {
     for pin in pins {
-        if !is_same_at(c, before, waves, *pin) {
+        if !has_one_wave_at(c, before, waves, *pin) {
             return false;
         }
     }
@@ -101,7 +67,7 @@ fn is_instance_as_before<W: CyclicWave<Item = Value>>(
     match c.instance(number) {
         None => false,
         Some(instance) => {
-            is_watched(instance) && are_same_at(c, before, waves, instance.pins.as_slice())
+            is_watched(instance) && have_one_wave_at(c, before, waves, instance.pins.as_slice())
         }
     }
 }
@@ -120,7 +86,7 @@ fn is_net_as_before<W: CyclicWave<Item = Value>>(
 {
     match c.net(number) {
         None => false,
-        Some(net) => is_held(net) && is_same(c, before, waves, number),
+        Some(net) => is_held(net) && has_one_wave(c, before, waves, number),
     }
 }
 

@@ -1,9 +1,11 @@
 -- A checker's faults, and those of all checkers, as code gathers them.
-use Rattle.std.proofs.Common.{◌≡◌, ◌≢◌, ℕ, zero, suc, ◌+◌, ◌<◌, Bool, true, List, [], ◌++◌, length, append-nil, append_assoc, add-one, get_or, refl, sym, ap, subst, ◌∙◌, arith, slice_get, Option, Some, None}
+use Rattle.std.proofs.Common.{◌≡◌, ◌≢◌, ℕ, ◌+◌, ◌<◌, Bool, true, List, [], ◌++◌, length, append-nil, zero-add, get_or, refl, sym, ap, subst, ◌∙◌, slice_get, Option, Some, None}
 use Rattle.std.specs.List.{flat_map, range_with_len}
 use Rattle.std.specs.Option.{option_map}
+use Rattle.std.proofs.lemmas.List.{flat_map_more}
 use Rattle.std.proofs.lemmas.List.Elements.{All-get_or}
 use Rattle.scald_base.specs.Time.{period}
+use Rattle.vector_names.proofs.Ranges.{range-more}
 use Rattle.step_values.specs.declared.value.Value.{Value}
 use Rattle.skew_algebra.specs.Wave.{Wave}
 use Rattle.flat_circuit.specs.declared.kind.Kind.{Kind}
@@ -64,15 +66,6 @@ other-more c ws k j faults at not =
 
 -- ---- all
 
-flat-next : (find : ℕ → List Fault) (a n : ℕ) → flat_map find (range_with_len a (suc n)) ≡ flat_map find (range_with_len a n) ++ find (a + n)
-flat-next find a zero = let same : a ≡ a + 0 = omega arith in append-nil (find a) ∙ ap find same
-flat-next find a (suc n) =
-    let same : a + 1 + n ≡ a + suc n = omega arith in
-    ap (λ (l : List Fault). find a ++ l) (flat-next find (a + 1) n)
-    ∙ sym (append_assoc (find a) (flat_map find (range_with_len (a + 1) n)) (find (a + 1 + n)))
-    ∙ ap (λ (k : ℕ). (find a ++ flat_map find (range_with_len (a + 1) n)) ++ find k) same
-
 pub flat-more : (find : ℕ → List Fault) (n : ℕ) (faults more : List Fault) → faults ≡ flat_map find (range_with_len 0 n) → more ≡ faults ++ find n → more ≡ flat_map find (range_with_len 0 (n + 1))
 flat-more find n faults more so_far e =
-    let same : n ≡ 0 + n = omega arith in
-    e ∙ (λ i. so_far i ++ find (same i)) ∙ sym (flat-next find 0 n) ∙ ap (λ (m : ℕ). flat_map find (range_with_len 0 m)) (sym (add-one n))
+    e ∙ (λ i. so_far i ++ find n) ∙ flat_map_more find [] (range_with_len 0 n) n ∙ ap (flat_map find) (sym (range-more 0 n n (zero-add n)))

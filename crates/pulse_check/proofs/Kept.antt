@@ -1,9 +1,8 @@
 -- What the wave at a pin permits has no pulse that is narrower than the wave's own.
-use Rattle.std.proofs.Common.{◌≡◌, ℕ, ◌+◌, ◌-◌, ◌<◌, ◌≤◌, max, Bool, true, false, not, cond, List, [], ◌∷◌, length, map, refl, sym, ap, ◌∙◌, arith, All, Option, Some, None}
+use Rattle.std.proofs.Common.{◌≡◌, ℕ, ◌+◌, ◌-◌, ◌<◌, ◌≤◌, max, Bool, true, false, not, cond, List, length, refl, sym, ap, ◌∙◌, arith, Option, Some, None}
 use Rattle.std.specs.Prelude.{slice_index_or}
 use Rattle.std.specs.List.{list_any}
 use Rattle.std.specs.Option.{option_map}
-use Rattle.std.proofs.lemmas.List.Elements.{All-head}
 use Rattle.std.proofs.lemmas.Option.{slice_get_within}
 use Rattle.scald_base.specs.Time.{period}
 use Rattle.scald_base.specs.Signal.{Signal}
@@ -18,19 +17,18 @@ use Rattle.skew_algebra.specs.Wave.{Wave}
 use Rattle.skew_algebra.specs.Permits.{Permits}
 use Rattle.flat_circuit.specs.declared.kind.Kind.{Kind}
 use Rattle.flat_circuit.specs.declared.kind.Kind.TheVariants.{MinPulse}
-use Rattle.flat_circuit.specs.declared.instance.Pin.{Pin}
 use Rattle.flat_circuit.specs.declared.instance.Instance.{Instance}
 use Rattle.flat_circuit.specs.declared.fault.Fault.{Fault}
 use Rattle.flat_circuit.specs.Kind.{PinsFit, pin_counts}
-use Rattle.flat_circuit.specs.Instances.{InstanceFits, PinExists}
+use Rattle.flat_circuit.specs.Instances.{InstanceFits}
 use Rattle.flat_circuit.specs.Circuit.{Circuit, IsCircuit}
 use Rattle.flat_circuit.specs.Run.{Run, Choice}
 use Rattle.gate_eval.specs.Instance.{wave_of_pin}
 use Rattle.gate_eval.proofs.Held.{first_some-none, map-none}
-use Rattle.fixpoint_engine.specs.Value.{Waves, pin_wave, pin_waves}
+use Rattle.fixpoint_engine.specs.Value.{Waves, pin_waves}
 use Rattle.fixpoint_engine.specs.Pins.{wire_to, pin_at, PinsPermit, PinsPermitAt, read}
 use Rattle.fixpoint_engine.proofs.Drivers.{fits-of}
-use Rattle.fixpoint_engine.proofs.Fits.{AreLong, long-pin}
+use Rattle.fixpoint_engine.proofs.Fits.{AreLong, long-pin-at}
 use Rattle.pulse_check.specs.Pulse.{may_begin, may_end, may_last, least_width, narrow_at, first_narrow}
 use Rattle.pulse_check.specs.Faults.{faults_by_kind, instance_faults, width_faults}
 use Rattle.pulse_check.specs.Break.{IsPulse, limit_of, BreaksWidth, BreaksKind, BreaksPulse}
@@ -98,16 +96,12 @@ module _ (level : Bool) (wave : Wave Value) (n v start end limit : ℕ) (x : Sig
 
 -- ---- one checker
 
-first-long : (c : Circuit) (ws : Waves) (ps : List Pin) → AreLong c ws → All (PinExists (length c.nets)) ps → 0 < length ps → length (wave_of_pin (map (pin_wave c ws) ps) 0).cells ≡ period c.header
-first-long c ws [] long exist some = absurd (omega arith)
-first-long c ws (p ∷ ps) long exist some = long-pin c ws p long (All-head (PinExists (length c.nets)) p ps exist)
-
 module _ (c : Circuit) (ws : Waves) (run : Run) (k : ℕ) (j : Instance) (choice : Choice) (level : Bool) (start : ℕ) (pos : 0 < period c.header) (long : AreLong c ws)
     (fits : InstanceFits c.header (length c.nets) j) (permit : PinsPermit c ws run j choice start) where
   keeps-width : j.kind ≡ MinPulse → list_any (is_of_pulse k level) (faults_by_kind MinPulse c ws k j) ≡ false → ¬ BreaksWidth run j choice level start
   keeps-width is none b =
       let some : 0 < length j.pins = a-pin is fits.pins in
-      let size = first-long c ws j.pins long fits.exists.reads some in
+      let size = long-pin-at c ws j.pins 0 long fits.exists.reads some in
       let after = b.start_in.after in
       let begins = b.start_in.begins in
       narrow-kept level (wave_of_pin (pin_waves c ws j) 0) run.ticks (max start (wire_to choice 0 + 1)) b.start b.end (limit_of j level) (pin_at run j choice 0)

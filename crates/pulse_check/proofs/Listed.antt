@@ -2,7 +2,7 @@
 use Rattle.std.proofs.Common.{◌≡◌, ℕ, zero, suc, ◌+◌, ◌<◌, Bool, true, false, ◌&&◌, eq-eqb, List, [], ◌∷◌, ◌++◌, length, get_or, refl, sym, ap, subst, ◌∙◌, arith, slice_get, Option, Some, None}
 use Rattle.std.specs.List.{list_any, flat_map, range_with_len}
 use Rattle.std.specs.Option.{option_map}
-use Rattle.std.proofs.lemmas.Bool.{or_parts}
+use Rattle.std.proofs.lemmas.Bool.{both_ways, or_parts}
 use Rattle.std.proofs.lemmas.List.Folds.{list_any-append}
 use Rattle.std.proofs.lemmas.List.FromFn.{length-range_with_len, get_or-range_with_len}
 use Rattle.scald_base.specs.Time.{period}
@@ -26,13 +26,10 @@ same-level false = refl
 is-own : (k : ℕ) (level : Bool) (found : ℕ × ℕ) → is_of_pulse k level (fault_at k level found) ≡ true
 is-own k level found = ap (λ b. b && same_level level level) (eq-eqb k k refl) ∙ same-level level
 
-clash : (b : Bool) → b ≡ true → b ≡ false → ⊥
-clash b t f = cc
-
 -- a fault that is listed is not missing
 none-listed : (k : ℕ) (level : Bool) (o : Option (ℕ × ℕ)) → list_any (is_of_pulse k level) (listed (option_map (fault_at k level) o)) ≡ false → o ≡ None
 none-listed k level None none = refl
-none-listed k level (Some found) none = absurd (clash (is_of_pulse k level (fault_at k level found)) (is-own k level found) (or_parts (is_of_pulse k level (fault_at k level found)) false none).0)
+none-listed k level (Some found) none = absurd (both_ways (is_of_pulse k level (fault_at k level found)) (or_parts (is_of_pulse k level (fault_at k level found)) false none).0 (is-own k level found))
 
 pub none-limited : (c : Circuit) (ws : Waves) (k : ℕ) (j : Instance) (level : Bool) (limit : ℕ) (wave : Wave Value) → list_any (is_of_pulse k level) (listed (width_fault (period c.header) k wave level limit)) ≡ false →
     first_narrow (period c.header) level (read wave.cells) limit ≡ None

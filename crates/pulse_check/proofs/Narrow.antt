@@ -1,22 +1,12 @@
 -- Where the least width of a pulse is found, and why none is.
-use Rattle.std.proofs.Common.{inl, inr, ◌⊎◌, ◌≡◌, ℕ, zero, suc, ◌+◌, ◌-◌, ◌<◌, ◌≤◌, Bool, true, false, ◌&&◌, cond, refl, sym, ap, subst, ◌∙◌, arith, Option, Some, None}
+use Rattle.std.proofs.Common.{inl, inr, ◌⊎◌, ◌≡◌, ℕ, zero, suc, ◌+◌, ◌-◌, ◌<◌, ◌≤◌, Bool, true, false, cond, refl, sym, ap, subst, ◌∙◌, arith, Option, Some, None}
 use Rattle.std.specs.Option.{option_map}
-use Rattle.std.proofs.lemmas.Bool.{cases_lt, cases_eq}
+use Rattle.std.proofs.lemmas.Bool.{cases_lt, cases_eq, and_from, and_left, and_right}
 use Rattle.step_values.specs.declared.value.Value.{Value}
 use Rattle.gate_eval.proofs.Found.{first_some-from, first_some-beyond}
 use Rattle.fixpoint_engine.proofs.ReadSlots.{below_run}
 use Rattle.pulse_check.specs.Next.{IsNextStart}
 use Rattle.pulse_check.specs.Pulse.{Slots, may_begin, may_end, may_last, lasts_for, may_be_wide, least_width, narrow_at, first_narrow}
-
-both-true : (a b : Bool) → a ≡ true → b ≡ true → (a && b) ≡ true
-both-true a b e e' = ap (λ (x : Bool). x && b) e ∙ e'
-
-first-false : (a b : Bool) → a ≡ false → (a && b) ≡ false
-first-false a b e = ap (λ (x : Bool). x && b) e
-
-second-false : (a b : Bool) → b ≡ false → (a && b) ≡ false
-second-false true b e = e
-second-false false b e = refl
 
 -- ---- going on
 
@@ -24,7 +14,7 @@ pub lasts-all : (level : Bool) (wave : Slots) (slot n : ℕ) → ((k : ℕ) → 
 lasts-all level wave slot zero each = refl
 lasts-all level wave slot (suc n) each =
     let here : slot ≡ slot + 0 = omega arith in
-    both-true (may_last level (wave slot)) (lasts_for level wave (slot + 1) n)
+    and_from (may_last level (wave slot)) (lasts_for level wave (slot + 1) n)
     (ap (λ (s : ℕ). may_last level (wave s)) here ∙ each 0 (omega arith))
     (lasts-all level wave (slot + 1) n (λ k below. next k below))
   where
@@ -37,10 +27,10 @@ lasts-not : (level : Bool) (wave : Slots) (slot n k : ℕ) → k < n → may_las
 lasts-not level wave slot zero k below stops = absurd (omega arith)
 lasts-not level wave slot (suc n) zero below stops =
     let here : slot ≡ slot + 0 = omega arith in
-    first-false (may_last level (wave slot)) (lasts_for level wave (slot + 1) n) (ap (λ (s : ℕ). may_last level (wave s)) here ∙ stops)
+    and_left (may_last level (wave slot)) (lasts_for level wave (slot + 1) n) (ap (λ (s : ℕ). may_last level (wave s)) here ∙ stops)
 lasts-not level wave slot (suc n) (suc k) below stops =
     let same : slot + 1 + k ≡ slot + suc k = omega arith in
-    second-false (may_last level (wave slot)) (lasts_for level wave (slot + 1) n)
+    and_right (may_last level (wave slot)) (lasts_for level wave (slot + 1) n)
     (lasts-not level wave (slot + 1) n k (omega arith) (ap (λ (s : ℕ). may_last level (wave s)) same ∙ stops))
 
 -- ---- the least width
@@ -59,12 +49,12 @@ module _ (level : Bool) (wave : Slots) (limit a : ℕ) where
 
   unended-none : (k : ℕ) → may_end level (wave (a + k)) ≡ false → width_at k ≡ None
   unended-none k e =
-      ap (λ b. cond b (Some k) None) (first-false (may_end level (wave (a + k))) (lasts_for level wave (a + 1) (k - 1)) e)
+      ap (λ b. cond b (Some k) None) (and_left (may_end level (wave (a + k))) (lasts_for level wave (a + 1) (k - 1)) e)
 
   pub is-wide : (width : ℕ) → 1 ≤ width → ((k : ℕ) → 1 ≤ k → k < width → may_last level (wave (a + k)) ≡ true) → may_end level (wave (a + width)) ≡ true →
       may_be_wide level wave a width ≡ true
   is-wide width one each end =
-      both-true (may_end level (wave (a + width))) (lasts_for level wave (a + 1) (width - 1)) end
+      and_from (may_end level (wave (a + width))) (lasts_for level wave (a + 1) (width - 1)) end
       (lasts-all level wave (a + 1) (width - 1) (λ k below. later k below))
     where
       later : (k : ℕ) → k < width - 1 → may_last level (wave (a + 1 + k)) ≡ true
@@ -86,7 +76,7 @@ module _ (level : Bool) (wave : Slots) (limit a : ℕ) where
       beyond k over =
           let same : a + 1 + (width - 1) ≡ a + width = omega arith in
           ap (λ b. cond b (Some k) None)
-          (second-false (may_end level (wave (a + k))) (lasts_for level wave (a + 1) (k - 1))
+          (and_right (may_end level (wave (a + k))) (lasts_for level wave (a + 1) (k - 1))
           (lasts-not level wave (a + 1) (k - 1) (width - 1) (omega arith) (ap (λ (s : ℕ). may_last level (wave s)) same ∙ stops)))
 
       by : (k : ℕ) → 1 ≤ k → (k < width) ⊎ (width ≤ k) → (width < k) ⊎ (k ≤ width) → width_at k ≡ None

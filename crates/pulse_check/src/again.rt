@@ -1,57 +1,21 @@
 //! The faults of a whole circuit once more, where most waves are as before.
 
-ghost use Rattle.std.specs.Prelude.{◌≡◌, ◌++◌, ◌<◌, ◌↔◌, IsTrue, IfOk, OnOk, length, map, true};
+ghost use Rattle.std.specs.Prelude.{◌≡◌, ◌++◌, ◌<◌, IsTrue, IfOk, OnOk, length, map, true};
 ghost use Rattle.std.specs.List.{range_with_len};
 ghost use Rattle.skew_algebra.specs.Wave.{skewed};
-ghost use Rattle.flat_circuit.specs.Instances.{InstanceFits, PinExists};
-ghost use Rattle.fixpoint_engine.specs.Value.{target_wave};
+ghost use Rattle.flat_circuit.specs.Instances.{InstanceFits};
 ghost use Rattle.fixpoint_engine.specs.Settled.{FitWaves, waves_of};
 ghost use Rattle.pulse_check.specs.Faults.{checks_pulses, instance_faults, pin_of, width_faults};
 ghost use Rattle.pulse_check.specs.Sound.{KeepsWidths};
 
 use crate::check::add_faults;
 use crate::known::PulseFaults;
-use fixpoint_engine::Waves;
-use flat_circuit::{Circuit, Faults, Instance, Kind, Pin, Target};
+use fixpoint_engine::{Waves, has_one_wave_at};
+use flat_circuit::{Circuit, Faults, Instance, Kind};
 use scald_base::NoMemory;
 use std::alloc::Global;
 use step_values::Value;
 use wave_core::CyclicWave;
-
-/// Whether a net has one wave in both.
-fn is_same<W: CyclicWave<Item = Value>>(
-    c: &Circuit,
-    before: &Waves<W>,
-    waves: &Waves<W>,
-    net: u32,
-) -> bool
-    requires exists { net < length c.now.nets }
-    requires before { FitWaves c.now (map (λ s. skewed (W.cells s.wave) s.skew) before.now) }
-    requires fit { FitWaves c.now (map (λ s. skewed (W.cells s.wave) s.skew) waves.now) }
-    ensures { IsTrue result ↔ (waves_of (map (λ s. skewed (W.cells s.wave) s.skew) before.now) net ≡ waves_of (map (λ s. skewed (W.cells s.wave) s.skew) waves.now) net) }
-{
-    let old = &before.as_slice()[net as usize];
-    let wave = &waves.as_slice()[net as usize];
-    old.same(wave)
-}
-
-/// Whether what a pin is on has one wave in both.
-fn is_same_at<W: CyclicWave<Item = Value>>(
-    c: &Circuit,
-    before: &Waves<W>,
-    waves: &Waves<W>,
-    pin: Pin,
-) -> bool
-    requires exists { PinExists (length c.now.nets) pin }
-    requires before { FitWaves c.now (map (λ s. skewed (W.cells s.wave) s.skew) before.now) }
-    requires fit { FitWaves c.now (map (λ s. skewed (W.cells s.wave) s.skew) waves.now) }
-    ensures { IsTrue result ↔ (target_wave c.now.header (waves_of (map (λ s. skewed (W.cells s.wave) s.skew) before.now)) pin.target ≡ target_wave c.now.header (waves_of (map (λ s. skewed (W.cells s.wave) s.skew) waves.now)) pin.target) }
-{
-    match pin.target {
-        Target::Net(net) => is_same(c, before, waves, net),
-        Target::Constant(_) => true,
-    }
-}
 
 /// Whether the pin of a checker is on one wave in both: what the pin shows is the same then.
 fn is_checked_as_before<W: CyclicWave<Item = Value>>(
@@ -67,7 +31,7 @@ fn is_checked_as_before<W: CyclicWave<Item = Value>>(
     ensures { IsTrue result → pin_of c.now (waves_of (map (λ s. skewed (W.cells s.wave) s.skew) before.now)) checker.now ≡ pin_of c.now (waves_of (map (λ s. skewed (W.cells s.wave) s.skew) waves.now)) checker.now }
 {
     let pins = checker.pins.as_slice();
-    is_same_at(c, before, waves, pins[0])
+    has_one_wave_at(c, before, waves, pins[0])
 }
 
 /// Whether the instance of a number is a checker of pulses whose pin shows the same in both: its faults are the

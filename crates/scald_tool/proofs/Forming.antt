@@ -2,7 +2,7 @@
 use Rattle.std.proofs.Common.{◌≡◌, ◌<◌, ◌≤◌, ◌+◌, ◌^◌, ℕ, suc, Bool, true, false, ◌&&◌, cond, nat_le, List, [], ◌∷◌, ◌++◌, length, take, drop, codes, decimal, Option, Some, None, Err, refl, sym, ap, subst, ◌∙◌, append-nil, append_assoc, arith}
 use Rattle.std.specs.Prelude.{◌≢◌}
 use Rattle.std.specs.Str.{bytes_eq}
-use Rattle.std.proofs.lemmas.Bool.{leb-true, le-leb}
+use Rattle.std.proofs.lemmas.Bool.{and_parts, leb-true, le-leb}
 use Rattle.std.proofs.lemmas.Slice.Eq.{bytes_eq-Decides}
 use Rattle.std.proofs.lemmas.List.{take-append-drop}
 use Rattle.scald_lex.specs.Bytes.{value_of}
@@ -25,10 +25,6 @@ other-bytes xs ys e same = let yes : bytes_eq xs ys ≡ true = (bytes_eq-Decides
 alike : (xs ys : List ℕ) → xs ≡ ys → bytes_eq xs ys ≡ true
 alike xs ys same = (bytes_eq-Decides xs ys).1 same
 
-and-both : (a b : Bool) → (a && b) ≡ true → (a ≡ true) × (b ≡ true)
-and-both true b e = (refl, e)
-and-both false b e = absurd (cc)
-
 -- ---- numbers
 
 -- a number of 1 to the most
@@ -47,8 +43,8 @@ passes most digits v same from = rw (alike digits (decimal v) same, le-leb 1 v f
 
 by-test : (most : ℕ) (digits : List ℕ) (v : ℕ) (t : Bool) → most < 2 ^ 64 → v ≡ value_of digits → (bytes_eq digits (decimal v) && (nat_le 1 v && nat_le v most)) ≡ t → IsNumber most digits (cond t (Some v) None)
 by-test most digits v true few value e =
-    let first = and-both (bytes_eq digits (decimal v)) (nat_le 1 v && nat_le v most) e in
-    let second = and-both (nat_le 1 v) (nat_le v most) first.1 in
+    let first = and_parts (bytes_eq digits (decimal v)) (nat_le 1 v && nat_le v most) e in
+    let second = and_parts (nat_le 1 v) (nat_le v most) first.1 in
     (same-bytes digits (decimal v) first.0, (leb-true 1 v second.0, leb-true v most second.1))
 by-test most digits v false few value e = λ n from same.
     let is : v ≡ n = value ∙ ap value_of same ∙ value-decimal n (omega (arith, few, from.1)) in

@@ -7,6 +7,7 @@ use Rattle.scald_base.specs.declared.refusal.Refusal.{Refusal}
 use Rattle.scald_base.specs.declared.refusal.Stop.TheVariants.{Refused as Stopped}
 use Rattle.drawing_tree.specs.Tree.{Drawing}
 use Rattle.drawing_tree.specs.Canonical.{canonical}
+use Rattle.drawing_grammar.proofs.Unique.{one_refusal_by}
 use Rattle.flat_circuit.specs.declared.case.CaseValue.{CaseValue}
 use Rattle.flat_circuit.specs.Name.{name_at}
 use Rattle.flat_circuit.specs.Circuit.{Circuit, IsCircuit, net_name, net_names}
@@ -32,7 +33,7 @@ use Rattle.scald_tool.specs.Answer.{Telling, limit_for, Concluded, Evaluated, me
 use Rattle.scald_tool.specs.Laws.{OneCircuit, OneAnswer}
 use Rattle.scald_tool.proofs.Trees.{one_tree, no_tree, one_cause}
 use Rattle.scald_tool.proofs.OneRest.{one_rest, one_place, one_cases, rest_or_stop, one_stop}
-use Rattle.scald_tool.proofs.OneCircuit.{one_circuit, one_break, no_break, same-refusal}
+use Rattle.scald_tool.proofs.OneCircuit.{one_circuit, one_break, no_break}
 
 -- ---- circuits
 
@@ -91,7 +92,7 @@ one-stop : (d : Drawing) (r q : Refusal) → IsStopOf d (Stopped r) → IsStopOf
 one-stop d r q (inl e) (inl f) =
     let kind : r.kind ≡ q.kind = cc (e, f) in
     let place : r.place ≡ q.place = cc (e, f) in
-    same-refusal r q kind place
+    one_refusal_by r q kind place
 one-stop d r q (inl e) (inr b) = absurd (cc (e, b.expanded))
 one-stop d r q (inr a) (inl f) = absurd (cc (f, a.expanded))
 one-stop d r q (inr a) (inr b) =

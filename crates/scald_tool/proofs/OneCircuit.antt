@@ -1,9 +1,7 @@
 -- A drawing has one circuit, or is refused by the circuit's rules in one way.
-use Rattle.std.proofs.Common.{◌≡◌, ℕ, zero, suc, List, [], ◌∷◌, length, map, Option, Some, None, refl, sym, ap, subst, ◌∙◌, arith, inl, inr}
+use Rattle.std.proofs.Common.{◌≡◌, ℕ, List, length, map, Option, Some, None, refl, sym, ap, subst, ◌∙◌, arith, inl, inr}
 use Rattle.std.specs.Prelude.{slice_get}
 use Rattle.std.specs.List.{All}
-use Rattle.std.proofs.lemmas.List.{length-map}
-use Rattle.std.proofs.lemmas.List.Elements.{All-weaker}
 use Rattle.scald_base.specs.Time.{Bounds}
 use Rattle.scald_base.specs.declared.refusal.Place.{Place}
 use Rattle.scald_base.specs.declared.refusal.Refusal.{Refusal}
@@ -12,18 +10,20 @@ use Rattle.scald_base.specs.declared.refusal.RefusalKind.TheVariants.{TwoDrivers
 use Rattle.flat_circuit.specs.declared.net.Net.{Net}
 use Rattle.flat_circuit.specs.declared.instance.Instance.{Instance}
 use Rattle.flat_circuit.specs.Name.{Name, IsNameOrder}
-use Rattle.flat_circuit.specs.Instances.{InstanceFits, AreDrivers, IsTaken, Is_constant, Is_driven}
+use Rattle.flat_circuit.specs.Instances.{AreDrivers, IsTaken, Is_constant, Is_driven}
 use Rattle.flat_circuit.specs.Loop.{IsLooped, HoldsOfNone}
-use Rattle.flat_circuit.specs.Circuit.{Circuit, IsCircuit, net_name, net_names, wire_at, driver_at}
+use Rattle.flat_circuit.specs.Circuit.{Circuit, IsCircuit, net_names, wire_at, driver_at}
 use Rattle.flat_circuit.specs.Builder.{Built, IsBuilt, IsFirst, IsRuleBroken, StandsAt, bounds_at}
+use Rattle.flat_circuit.proofs.Ends.{wire-at}
 use Rattle.flat_circuit.proofs.Loops.{none_looped_by}
 use Rattle.flat_circuit.proofs.Names.{below}
 use Rattle.drawing_tree.specs.Tree.{Drawing}
+use Rattle.drawing_grammar.proofs.Unique.{one_refusal_by}
 use Rattle.macro_expander.specs.Named.{State}
 use Rattle.macro_expander.specs.Numbered.{instance_of}
 use Rattle.macro_expander.specs.Stands.{Stands, IsNumbered, IsCircuitOf}
-use Rattle.macro_expander.proofs.Nets.{Exists}
-use Rattle.macro_expander.proofs.Only.{Same, same_instances, only_circuit}
+use Rattle.macro_expander.proofs.Nets.{Exists, all_exist}
+use Rattle.macro_expander.proofs.Only.{Same, same_instances, exist_in, only_circuit}
 use Rattle.scald_tool.proofs.OneOrder.{one_order}
 
 -- ---- the circuit
@@ -40,26 +40,18 @@ one_circuit d c c' is is' fit fit' =
     same-circuit : (c c' : Circuit) → c.header ≡ c'.header → c.nets ≡ c'.nets → c.instances ≡ c'.instances → c.order ≡ c'.order → c ≡ c'
     same-circuit c c' header nets instances order = grind arith
 
-exist : (c : Circuit) → IsCircuit c → All (Exists (length (net_names c.nets))) c.instances
-exist c fit =
-    subst (λ (n : ℕ). All (Exists n) c.instances) (sym (length-map c.nets net_name))
-    (All-weaker (InstanceFits c.header (length c.nets)) (Exists (length c.nets)) (λ j f. record { reads = f.exists.reads; drives = f.exists.drives }) c.instances fit.each)
-
 -- ---- the rules of circuits
 
 same-built : (b b' : Built) → b.header ≡ b'.header → b.names ≡ b'.names → b.wires ≡ b'.wires → b.asserted ≡ b'.asserted → b.instances ≡ b'.instances → b ≡ b'
 same-built b b' header names wires asserted instances = grind arith
-
-built-exist : (b : Built) → IsBuilt b → All (Exists (length b.names)) b.instances
-built-exist b fit = All-weaker (InstanceFits b.header (length b.names)) (Exists (length b.names)) (λ j f. record { reads = f.exists.reads; drives = f.exists.drives }) b.instances fit.each
 
 -- what was built of a drawing is one thing
 one-built : (s : State) (b b' : Built) → IsNumbered s b → IsNumbered s b' → IsBuilt b → IsBuilt b' → b ≡ b'
 one-built s b b' is is' fit fit' =
     let names : b.names ≡ b'.names = is.names ∙ sym is'.names in
     same-built b b' (is.header ∙ sym is'.header) names (is.wires ∙ sym is'.wires) (is.asserted ∙ sym is'.asserted)
-    (same_instances b.names fit.distinct b.instances b'.instances (built-exist b fit)
-    (subst (λ (ns : List Name). All (Exists (length ns)) b'.instances) (sym names) (built-exist b' fit'))
+    (same_instances b.names fit.distinct b.instances b'.instances (all_exist b fit)
+    (subst (λ (ns : List Name). All (Exists (length ns)) b'.instances) (sym names) (all_exist b' fit'))
     (is.instances ∙ sym is'.instances ∙ ap (λ (ns : List Name). map (instance_of ns) b'.instances) (sym names)))
 
 -- what is first is one instance
@@ -94,9 +86,6 @@ one-rule b at at' kind kind' (Taken e f) (Looped e' none g) = absurd (none f.k f
 one-rule b at at' kind kind' (Looped e none f) (Taken e' g) = absurd (none g.k g.below g.is)
 one-rule b at at' kind kind' (Looped e none f) (Looped e' none' g) = (e ∙ sym e', first-same (IsLooped (bounds_at b.wires) b.instances) b.instances at at' f g)
 
-pub same-refusal : (r q : Refusal) → r.kind ≡ q.kind → r.place ≡ q.place → r ≡ q
-same-refusal r q kind place = grind arith
-
 -- A circuit's rules are broken in one way.
 pub one_break : (s : State) (b b' : Built) (r q : Refusal) → IsNumbered s b → IsNumbered s b' → IsBuilt b → IsBuilt b' → IsRuleBroken b r.place r.kind → IsRuleBroken b' q.place q.kind → r ≡ q
 one_break s b b' r q is is' fit fit' broken broken' =
@@ -104,7 +93,7 @@ one_break s b b' r q is is' fit fit' broken broken' =
     let both : (r.kind ≡ q.kind) × (r.place ≡ q.place) =
     one-rule b r.place q.place r.kind q.kind (rule-of b r.place r.kind broken)
     (rule-of b q.place q.kind (subst (λ (x : Built). IsRuleBroken x q.place q.kind) same broken')) in
-    same-refusal r q both.0 both.1
+    one_refusal_by r q both.0 both.1
 
 -- ---- a circuit breaks none
 
@@ -116,23 +105,18 @@ none-taken js driver k are (Is_driven {i} {d} l x y) =
     let same : d ≡ k = cc in
     omega arith
 
-bounds-wires : (nets : List Net) (i : ℕ) → wire_at nets i ≡ bounds_at (map (λ (n : Net). n.wire) nets) i
-bounds-wires [] i = refl
-bounds-wires (n ∷ ns) zero = refl
-bounds-wires (n ∷ ns) (suc i) = bounds-wires ns i
-
 -- What was built of a drawing breaks no rule where there is a circuit of it.
 pub no_break : (s : State) (b : Built) (c : Circuit) (r : Refusal) → IsNumbered s b → IsBuilt b → Stands s c → IsCircuit c → IsRuleBroken b r.place r.kind → ⊥
 no_break s b c r is fit stands circuit broken =
     let names : net_names c.nets ≡ b.names = stands.names ∙ sym is.names in
     let instances : b.instances ≡ c.instances =
-    same_instances b.names fit.distinct b.instances c.instances (built-exist b fit)
-    (subst (λ (ns : List Name). All (Exists (length ns)) c.instances) names (exist c circuit))
+    same_instances b.names fit.distinct b.instances c.instances (all_exist b fit)
+    (subst (λ (ns : List Name). All (Exists (length ns)) c.instances) names (exist_in c circuit))
     (is.instances ∙ sym stands.instances ∙ ap (λ (ns : List Name). map (instance_of ns) c.instances) names) in
     let drivers : AreDrivers b.instances (driver_at c.nets) = subst (λ (js : List Instance). AreDrivers js (driver_at c.nets)) (sym instances) circuit.drivers in
     let wires : map (λ (n : Net). n.wire) c.nets ≡ b.wires = stands.wires ∙ sym is.wires in
     let loopless : HoldsOfNone (IsLooped (bounds_at b.wires) b.instances) b.instances =
-    none_looped_by (wire_at c.nets) (bounds_at b.wires) b.instances (λ i. bounds-wires c.nets i ∙ ap (λ (ws : List Bounds). bounds_at ws i) wires)
+    none_looped_by (wire_at c.nets) (bounds_at b.wires) b.instances (λ i. wire-at c.nets i ∙ ap (λ (ws : List Bounds). bounds_at ws i) wires)
     (subst (λ (js : List Instance). HoldsOfNone (IsLooped (wire_at c.nets) js) js) (sym instances) circuit.no_loop) in
     unbroken (rule-of b r.place r.kind broken)
     (λ k taken. none-taken b.instances (driver_at c.nets) k drivers taken) loopless

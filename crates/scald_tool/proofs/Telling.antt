@@ -3,7 +3,7 @@ use Rattle.std.proofs.Common.{◌≡◌, ℕ, suc, ◌+◌, Bool, false, List, [
 use Rattle.std.specs.Prelude.{Result, Ok, Err, IfOk}
 use Rattle.std.specs.List.{All, flat_map}
 use Rattle.std.proofs.lemmas.List.{map_push, append_assoc}
-use Rattle.std.proofs.lemmas.List.Elements.{All-head, All-tail, All-cons, All-nil, All-weaker}
+use Rattle.std.proofs.lemmas.List.Elements.{All-nil, All-push, All-weaker}
 use Rattle.std.proofs.lemmas.List.Sums.{sum_by-append, sum_by-cons}
 use Rattle.std.proofs.lemmas.Grind.{flat_map-append}
 use Rattle.scald_base.specs.declared.list.NoMemory.{NoMemory as OutOfMemory}
@@ -11,7 +11,8 @@ use Rattle.flat_circuit.specs.declared.case.CaseValue.{CaseValue}
 use Rattle.flat_circuit.specs.Circuit.{Circuit}
 use Rattle.fixpoint_engine.specs.Value.{Waves}
 use Rattle.fixpoint_engine.specs.Reach.{reach}
-use Rattle.fixpoint_engine.specs.Rounds.{next, round, AreSame, IsUnsettled}
+use Rattle.fixpoint_engine.specs.Rounds.{round, AreSame, IsUnsettled}
+use Rattle.fixpoint_engine.proofs.Reached.{round-next, inactive-stays}
 use Rattle.case_analysis.specs.Base.{base_round, IsBase, PermitInputs}
 use Rattle.case_analysis.specs.Case.{InCone, Is_set, Hears_one, IsCone, IsCase, HasCone, NetsExist, PermitCase, case_active, case_start, case_round}
 use Rattle.case_analysis.specs.Listed.{IsListed}
@@ -43,10 +44,6 @@ numbered-split from (x ∷ xs) v ys =
 
 -- ---- the cases so far
 
-all-push : {X : Type 0} (P : X → Type 0) (xs : List X) (x : X) → All P xs → P x → All P (xs ++ x ∷ [])
-all-push P [] x all p = All-cons P x [] p (All-nil P)
-all-push P (y ∷ xs) x all p = All-cons P y (xs ++ x ∷ []) (All-head P y xs all) (all-push P xs x (All-tail P y xs all) p)
-
 module _ (mode : Mode) (c : Circuit) (limit base : ℕ) where
   -- These cases are told, and so many faults of theirs.
   pub record Told (listed : List Listed) (bytes : List ℕ) (total : ℕ) : Type 0 where
@@ -70,9 +67,9 @@ module _ (mode : Mode) (c : Circuit) (limit base : ℕ) where
     cases = told.cases ++ tells.case ∷ [];
     at_rest = record {
       each = map_push (λ (k : Case). k.listed) told.cases tells.case ∙ ap (λ (ls : List Listed). ls ++ tells.case.listed ∷ []) told.at_rest.each ∙ ap (λ (k : Listed). listed ++ k ∷ []) tells.is;
-      rest = all-push (IsAtRest c limit base) told.cases tells.case told.at_rest.rest tells.rests;
+      rest = All-push (IsAtRest c limit base) told.cases tells.case told.at_rest.rest tells.rests;
     };
-    kept = all-push (IsKept c base) told.cases tells.case told.kept tells.kept;
+    kept = All-push (IsKept c base) told.cases tells.case told.kept tells.kept;
     text = tells.text ∙ ap (λ (bs : List ℕ). bs ++ case_text mode c base tells.case) told.text ∙ append_assoc (head c) (flat_map (case_text mode c base) told.cases) (case_text mode c base tells.case)
         ∙ ap (λ (bs : List ℕ). head c ++ bs) (sym (flat_map-append (case_text mode c base) told.cases (tells.case ∷ []) ∙ ap (λ (bs : List ℕ). flat_map (case_text mode c base) told.cases ++ bs) (append-nil (case_text mode c base tells.case))));
     count =
@@ -118,17 +115,9 @@ none-in c i (Hears_one {from} h hears) = none-in c from h
 no-cone : (c : Circuit) → IsCone c [] (λ i. false)
 no-cone c i = ((λ e. absurd (cc)), (λ h. absurd (none-in c i h)))
 
-round-next : (c : Circuit) (active : ℕ → Bool) (start : Waves) (r i : ℕ) → round c active start (suc r) i ≡ next c active (round c active start r) i
-unfolding round
-round-next c active start r i = refl
-
 round-first : (c : Circuit) (active : ℕ → Bool) (start : Waves) (i : ℕ) → round c active start 0 i ≡ start i
 unfolding round
 round-first c active start i = refl
-
-inactive-stays : (c : Circuit) (active : ℕ → Bool) (ws : Waves) (i : ℕ) → active i ≡ false → next c active ws i ≡ ws i
-unfolding next
-inactive-stays c active ws i passive = rw passive refl
 
 -- The base is the one case of a drawing without cases.
 base-rests : (c : Circuit) (limit base : ℕ) (ws : Waves) → IsBase c limit base ws → IsAtRest c limit base (record { listed = record { number = 0; values = [] }; rounds = 0; waves = ws })
@@ -188,10 +177,6 @@ base-tells mode c limit base r ws bytes after total now none is keeps text count
   text = text;
   count = count;
 }
-
--- the base is at rest within its own rounds
-pub own-limit : (c : Circuit) (limit base : ℕ) (ws : Waves) → IsBase c limit base ws → IsBase c base base ws
-own-limit c limit base ws is = record { rests = record { still = is.rests.still; first = is.rests.first; within = omega arith }; waves = is.waves }
 
 pub case-never : (c : Circuit) (limit base number place : ℕ) (values : List CaseValue) (before : Waves) → AreSame before (base_round c base) → HasCone c values →
     ((cone : ℕ → Bool) → IsCone c values cone → IsUnsettled c.order (case_round c values cone before) limit place) → NeverRests c limit base (record { number = number; values = values }) place

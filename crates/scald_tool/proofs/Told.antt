@@ -1,8 +1,9 @@
 -- What the whole call answers, by what it reads and writes.
-use Rattle.std.proofs.Common.{◌⊎◌, ◌≡◌, ℕ, ◌<◌, ◌≤◌, Bool, List, [], ◌++◌, length, true, false, refl, sym, subst, ap, ◌∙◌, append-nil, length-append, arith, IfSome, Result, Ok, Err, Option, Some, None}
+use Rattle.std.proofs.Common.{◌⊎◌, ◌≡◌, ℕ, ◌<◌, ◌≤◌, List, [], ◌++◌, length, true, false, refl, sym, subst, ap, ◌∙◌, append-nil, length-append, arith, IfSome, Result, Ok, Err, Option, Some, None}
 use Rattle.std.specs.Prelude.{◌≢◌}
 use Rattle.std.specs.Io.KnownBytes.{Appends, IsAtEnd}
 use Rattle.std.proofs.KnownBytes.{Appends-nil}
+use Rattle.std.proofs.lemmas.Bool.{both_ways}
 use Rattle.scald_base.specs.Device.{Rose, ReadsAll, ReadsPast, TakesFront}
 use Rattle.scald_tool.specs.declared.outcome.Outcome.{Outcome}
 use Rattle.scald_tool.specs.declared.outcome.Outcome.TheVariants.{Clean, Faulty, Done, Refused, Unsettled, BadWords, TooLong, ReadFault, WriteFault, NoMemory}
@@ -25,10 +26,6 @@ form-unread words command form unread = sym (ap are_reading form) ∙ unread
 
 form-read : (words : List (List ℕ)) (command : Command) → command_of words ≡ Ok command → are_reading (command_of words) ≡ true → reads command ≡ true
 form-read words command form read = sym (ap are_reading form) ∙ read
-
-true-false : (b : Bool) → b ≡ true → b ≡ false → ⊥
-true-false true on off = absurd (cc)
-true-false false on off = absurd (cc)
 
 -- only `verify` gives a report
 report-reads : (command : Command) (o : Outcome) → may_give command o ≡ true → has_report o ≡ true → reads command ≡ true
@@ -68,7 +65,7 @@ module _ (words : List (List ℕ)) (command : Command) (left left' : Option (Lis
   -- what is read is what is told, where the form reads
   told-all : (all text : List ℕ) → (reads command ≡ true → ReadsAll left left' most_bytes all) → AreTold words left text → reads command ≡ true → all ≡ text
   told-all all text read (by_source told) asks = read-whole left left' all text (read asks) told
-  told-all all text read (by_words unread) asks = absurd (true-false (reads command) asks (form-unread words command form unread))
+  told-all all text read (by_words unread) asks = absurd (both_ways (reads command) (form-unread words command form unread) asks)
 
   replied-to : (k : Command) (all text : List ℕ) (o : Outcome) (bytes : List ℕ) → (reads k ≡ true → all ≡ text) → Replied k all o bytes → Replied k text o bytes
   replied-to (Verify mode rounds) all text o bytes same is = subst (λ (z : List ℕ). Replied (Verify mode rounds) z o bytes) (same refl) is
@@ -112,7 +109,7 @@ module _ (words : List (List ℕ)) (command : Command) (left left' : Option (Lis
         only = λ p others other. words_have_one_answer words text p TooLong others [] other is;
         written = Appends-nil taken;
       }
-  too_long_answered text taken asks read (by_words unread) = absurd (true-false (reads command) asks (form-unread words command form unread))
+  too_long_answered text taken asks read (by_words unread) = absurd (both_ways (reads command) (form-unread words command form unread) asks)
 
   pub long_text : (all : List ℕ) (o : Outcome) (before now : ℕ) → (reads command ≡ true → ReadsAll left left' most_bytes all) → length all ≤ most_bytes →
       IfSome left (λ text. are_reading (command_of words) ≡ true → most_bytes < length text → ¬ Rose before now → (o ≡ NoMemory) ⊎ (o ≡ TooLong))

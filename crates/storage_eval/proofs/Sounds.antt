@@ -1,5 +1,5 @@
 -- A storage element is sound: its wave permits each output that obeys its equation.
-use Rattle.std.proofs.Common.{◌≡◌, ℕ, ◌+◌, ◌-◌, ◌<◌, ◌≤◌, true, List, [], ◌∷◌, length, refl, sym, ap, ◌∙◌, subst, arith}
+use Rattle.std.proofs.Common.{◌≡◌, ℕ, ◌+◌, ◌-◌, ◌<◌, ◌≤◌, true, List, length, sym, ap, ◌∙◌, subst, arith}
 use Rattle.scald_base.specs.Time.{Bounds}
 use Rattle.scald_base.specs.Signal.{Signal}
 use Rattle.step_values.specs.declared.value.Value.{Value}
@@ -15,7 +15,7 @@ use Rattle.flat_circuit.specs.Equation.{Equation}
 use Rattle.flat_circuit.specs.Run.{Within, DelayFits}
 use Rattle.gate_eval.specs.Meeting.{period_of, meeting}
 use Rattle.gate_eval.specs.Permitted.{AllPermit}
-use Rattle.gate_eval.proofs.Fitting.{AllFit}
+use Rattle.gate_eval.proofs.Fitting.{AllFit, as-many-waves}
 use Rattle.gate_eval.proofs.Meets.{Makes, length-meeting, Permits-meeting}
 use Rattle.storage_eval.specs.Storage.{is_storage, listening, storage_value}
 use Rattle.gate_eval.specs.Instance.{IsSound}
@@ -30,13 +30,6 @@ delay-within RegRs d delay s fits = fits
 delay-within Latch d delay s fits = fits
 delay-within LatchRs d delay s fits = fits
 delay-within kind d delay s fits = cc
-
--- as many signals as waves
-counts : (waves : List (Wave Value)) (signals : List Signal) (n v : ℕ) → AllPermit values waves n signals v → length waves ≡ length signals
-counts [] [] n v ps = refl
-counts [] (x ∷ xs) n v ps = absurd ps
-counts (w ∷ ws) [] n v ps = absurd ps
-counts (w ∷ ws) (x ∷ xs) n v ps = let rest : length ws ≡ length xs = counts ws xs n v ps.1 in grind (arith, rest)
 
 -- the output as it would be without the delay
 makes : (kind : Kind) (d : Bounds) (signals : List Signal) (output : Signal) (m v u delay : ℕ) → length signals ≡ (pin_counts kind).0 →
@@ -66,7 +59,7 @@ storage-sound kind d waves stores count some fits n m v delay signals output ps 
     let u : ℕ = v + d.max - delay + 1 in
     let one : period_of (listening kind waves) ≡ period_of waves = period-listening kind waves in
     let some_heard : 0 < period_of (listening kind waves) = omega arith in
-    let long : length signals ≡ (pin_counts kind).0 = sym (counts waves signals n v ps) ∙ count in
+    let long : length signals ≡ (pin_counts kind).0 = sym (as-many-waves values waves n signals v ps) ∙ count in
     let fit : AllFit values (period_of (listening kind waves)) (listening kind waves) =
     subst (λ (p : ℕ). AllFit values p (listening kind waves)) (sym one) (fit-listening kind 0 (period_of waves) waves fits) in
     let permitted : AllPermit values (listening kind waves) (m - delay) (listening kind signals) u =

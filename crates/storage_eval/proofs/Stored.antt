@@ -49,13 +49,6 @@ equation-allows LatchRs bounds delay xs output t e =
     (enabled (nth_signal xs 0 (t - delay)) (nth_signal xs 1 (t - delay)) (output (t - 1)) (output t)) e
 equation-allows kind bounds delay xs output t e = refl
 
--- as many signals as values
-counts : (vs : List Value) (xs : List Signal) (s : ℕ) → AllHave values vs xs s → length vs ≡ length xs
-counts [] [] s hs = refl
-counts [] (x ∷ xs) s hs = absurd hs
-counts (v ∷ vs) [] s hs = absurd hs
-counts (v ∷ vs) (x ∷ xs) s hs = let rest : length vs ≡ length xs = counts vs xs s hs.1 in grind (arith, rest)
-
 reg-has : (vs : List Value) (c i : Signal) (s : ℕ) (older x y : Bool) → AllHave values vs (c ∷ []) s →
     allows Reg (c ∷ i ∷ []) (s - 1) older x ≡ true → allows Reg (c ∷ i ∷ []) s x y ≡ true → has (storage_value Reg vs) x y ≡ true
 unfolding allows

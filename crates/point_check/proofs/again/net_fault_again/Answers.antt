@@ -2,7 +2,7 @@ use Rattle.std.proofs.Common.{length, map, ◌∙◌, refl, arith, None}
 use Rattle.skew_algebra.specs.Wave.{skewed}
 use Rattle.fixpoint_engine.specs.Settled.{waves_of}
 use Rattle.point_check.specs.Faults.{net_fault}
-use Rattle.point_check.proofs.AsBefore.{known-long, known-at}
+use Rattle.fixpoint_engine.proofs.ByNumber.{known-long, known-at}
 use Rattle.point_check.proofs.again.net_fault_again.Goals as goal
 
 pub bounds-as_slice-number : goal.bounds-as_slice-number

@@ -3,7 +3,7 @@ use Rattle.std.specs.List.{range_with_len}
 use Rattle.skew_algebra.specs.Wave.{skewed}
 use Rattle.fixpoint_engine.specs.Settled.{waves_of}
 use Rattle.point_check.specs.Faults.{net_fault}
-use Rattle.point_check.proofs.AsBefore.{known-more}
+use Rattle.fixpoint_engine.proofs.ByNumber.{known-more}
 use Rattle.point_check.proofs.known.known_nets.Goals as goal
 
 pub loop-number-preserved : goal.loop-number-preserved

@@ -3,7 +3,7 @@ use Rattle.skew_algebra.specs.Wave.{skewed}
 use Rattle.flat_circuit.specs.declared.fault.Fault.{Fault}
 use Rattle.fixpoint_engine.specs.Settled.{waves_of}
 use Rattle.pulse_check.specs.Faults.{instance_faults}
-use Rattle.pulse_check.proofs.AsBefore.{known-long, known-at}
+use Rattle.fixpoint_engine.proofs.ByNumber.{known-long, known-at}
 use Rattle.pulse_check.proofs.again.add_faults_again.Goals as goal
 
 pub bounds-as_slice-number : goal.bounds-as_slice-number

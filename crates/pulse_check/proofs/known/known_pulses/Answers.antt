@@ -4,7 +4,7 @@ use Rattle.skew_algebra.specs.Wave.{skewed}
 use Rattle.flat_circuit.specs.declared.fault.Fault.{Fault}
 use Rattle.fixpoint_engine.specs.Settled.{waves_of}
 use Rattle.pulse_check.specs.Faults.{instance_faults}
-use Rattle.pulse_check.proofs.AsBefore.{known-more}
+use Rattle.fixpoint_engine.proofs.ByNumber.{known-more}
 use Rattle.pulse_check.proofs.known.known_pulses.Goals as goal
 
 pub loop-number-preserved : goal.loop-number-preserved

@@ -1,13 +1,14 @@
 use Rattle.std.proofs.lemmas.Result.{err_from_is_err_and}
 use Rattle.std.proofs.Common.{◌+◌}
 use Rattle.case_analysis.specs.Case.{case_at}
+use Rattle.case_analysis.proofs.Inputs.{settled_base}
 use Rattle.scald_tool.proofs.Added.{kept-added}
-use Rattle.scald_tool.proofs.Telling.{own-limit, case-tells}
+use Rattle.scald_tool.proofs.Telling.{case-tells}
 use Rattle.scald_tool.proofs.Going.{case-ended}
 use Rattle.scald_tool.proofs.verify.tell_case.Goals as goal
 
 pub case-requires-clause-base : goal.case-requires-clause-base
-case-requires-clause-base g c = own-limit c.args.subject.now.circuit c.args.limit c.args.base.now.rounds _ c.requires.rest
+case-requires-clause-base g c = settled_base c.args.subject.now.circuit c.args.limit c.args.base.now.rounds _ c.requires.rest
 
 pub returns-in_err-settled-clause-ended : goal.returns-in_err-settled-clause-ended
 returns-in_err-settled-clause-ended g c =

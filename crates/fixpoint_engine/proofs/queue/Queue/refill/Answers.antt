@@ -1,8 +1,8 @@
 use Rattle.std.proofs.Common.{◌∙◌, ◌&&◌, sym, ap, false, length, map, take}
+use Rattle.std.proofs.Math.Bool.{and-false}
 use Rattle.std.proofs.lemmas.List.{length-replicate}
 use Rattle.fixpoint_engine.specs.Rounds.{driver}
 use Rattle.fixpoint_engine.specs.Settled.{marked_in}
-use Rattle.fixpoint_engine.proofs.Changing.{and-none}
 use Rattle.fixpoint_engine.proofs.Listening.{hears-none, taken-more, heard-more}
 use Rattle.fixpoint_engine.proofs.Waiting.{unmarked}
 use Rattle.fixpoint_engine.proofs.queue.Queue.refill.Goals as goal
@@ -11,7 +11,7 @@ pub loop-change-init : goal.loop-change-init
 loop-change-init g c = record {
   each_net = ap length c.clear.ensures.marks ∙ length-replicate (length c.args.self.now.marks) false ∙ c.requires.each_net;
   due = λ i. ap (λ marks. marked_in marks i) c.clear.ensures.marks ∙ unmarked (length c.args.self.now.marks) i
-      ∙ sym (ap (λ b. marked_in c.args.active.now i && b) (hears-none (driver c.args.c.now i)) ∙ and-none (marked_in c.args.active.now i));
+      ∙ sym (ap (λ b. marked_in c.args.active.now i && b) (hears-none (driver c.args.c.now i)) ∙ and-false (marked_in c.args.active.now i));
 }
 
 pub loop-change-preserved : goal.loop-change-preserved

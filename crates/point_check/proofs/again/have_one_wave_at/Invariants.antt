@@ -1,8 +1,8 @@
 use Rattle.std.proofs.Common.{All, map, take}
 use Rattle.skew_algebra.specs.Wave.{skewed}
 use Rattle.fixpoint_engine.specs.Settled.{waves_of}
-use Rattle.point_check.specs.Known.{IsSameAt}
-use Rattle.point_check.proofs.again.are_same_at.Given as goal
+use Rattle.fixpoint_engine.specs.SameWaves.{IsSameAt}
+use Rattle.point_check.proofs.again.have_one_wave_at.Given as goal
 
 abbrev pub invariant-loop-pin : goal.invariant-loop-pin
 invariant-loop-pin g l =

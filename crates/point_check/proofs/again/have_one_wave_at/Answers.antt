@@ -3,13 +3,13 @@ use Rattle.std.proofs.lemmas.List.{take_all}
 use Rattle.std.proofs.lemmas.List.Elements.{All-more}
 use Rattle.skew_algebra.specs.Wave.{skewed}
 use Rattle.fixpoint_engine.specs.Settled.{waves_of}
-use Rattle.point_check.specs.Known.{IsSameAt}
-use Rattle.point_check.proofs.again.are_same_at.Goals as goal
+use Rattle.fixpoint_engine.specs.SameWaves.{IsSameAt}
+use Rattle.point_check.proofs.again.have_one_wave_at.Goals as goal
 
 pub loop-pin-preserved : goal.loop-pin-preserved
 loop-pin-preserved g c =
     All-more (IsSameAt (waves_of (map (λ s. skewed (g.W.CyclicWave.cells s.wave) s.skew) c.args.before.now)) (waves_of (map (λ s. skewed (g.W.CyclicWave.cells s.wave) s.skew) c.args.waves.now))) c.args.pins.now c.loop-pin.pin-index _
-    (let inside = c.loop-pin-test.true in omega (arith, inside)) c.loop-pin.invariant (c.if-not-is_same_at.ensures.0 refl)
+    (let inside = c.loop-pin-test.true in omega (arith, inside)) c.loop-pin.invariant (c.if-not-has_one_wave_at.ensures.0 refl)
 
 pub returns : goal.returns
 returns g c =

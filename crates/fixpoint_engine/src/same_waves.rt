@@ -1,0 +1,48 @@
+//! Where two lists of waves have one wave.
+
+ghost use Rattle.std.specs.Prelude.{◌≡◌, ◌<◌, ◌↔◌, IsTrue, length, map};
+ghost use Rattle.skew_algebra.specs.Wave.{skewed};
+ghost use Rattle.flat_circuit.specs.Instances.{PinExists};
+ghost use Rattle.fixpoint_engine.specs.SameWaves.{IsSameAt};
+ghost use Rattle.fixpoint_engine.specs.Settled.{FitWaves, waves_of};
+
+use crate::waves::Waves;
+use flat_circuit::{Circuit, Pin, Target};
+use step_values::Value;
+use wave_core::CyclicWave;
+
+/// Whether a net has one wave in both.
+pub fn has_one_wave<W: CyclicWave<Item = Value>>(
+    c: &Circuit,
+    before: &Waves<W>,
+    waves: &Waves<W>,
+    net: u32,
+) -> bool
+    requires exists { net < length c.now.nets }
+    requires before { FitWaves c.now (map (λ s. skewed (W.cells s.wave) s.skew) before.now) }
+    requires fit { FitWaves c.now (map (λ s. skewed (W.cells s.wave) s.skew) waves.now) }
+    ensures { IsTrue result ↔ (waves_of (map (λ s. skewed (W.cells s.wave) s.skew) before.now) net ≡ waves_of (map (λ s. skewed (W.cells s.wave) s.skew) waves.now) net) }
+{
+    let old = &before.as_slice()[net as usize];
+    let wave = &waves.as_slice()[net as usize];
+    old.same(wave)
+}
+
+/// Whether what a pin is on has one wave in both. The pin shows the same wave then, behind the wire and the
+/// complement that are its own.
+pub fn has_one_wave_at<W: CyclicWave<Item = Value>>(
+    c: &Circuit,
+    before: &Waves<W>,
+    waves: &Waves<W>,
+    pin: Pin,
+) -> bool
+    requires exists { PinExists (length c.now.nets) pin }
+    requires before { FitWaves c.now (map (λ s. skewed (W.cells s.wave) s.skew) before.now) }
+    requires fit { FitWaves c.now (map (λ s. skewed (W.cells s.wave) s.skew) waves.now) }
+    ensures { IsTrue result ↔ IsSameAt (waves_of (map (λ s. skewed (W.cells s.wave) s.skew) before.now)) (waves_of (map (λ s. skewed (W.cells s.wave) s.skew) waves.now)) pin }
+{
+    match pin.target {
+        Target::Net(net) => has_one_wave(c, before, waves, net),
+        Target::Constant(_) => true,
+    }
+}
