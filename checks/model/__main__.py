@@ -1,0 +1,94 @@
+"""Compares the program with the model over random drawings, which are numbered; each number has always the same one.
+
+Usage: python3 -B -m model PROGRAM COUNT [FIRST], with checks/ as PYTHONPATH. One line is printed for each drawing: its
+number and Clean, Faulty, Unsettled or `Refused KIND`; or, where bytes or status differ, FAILED and the names of the
+files that its text and both answers are kept in, in the folder KEPT or else in the temporary one. It stops where many
+have failed.
+"""
+import multiprocessing
+import os
+import subprocess
+import sys
+import tempfile
+from random import Random
+
+from .mending import mend
+from .random_drawings import make_drawing
+from .report import Answer, Mode, verify
+from .spoiling import spoil
+from .writing import write_drawing
+
+SHARE_SPOILT = 0.12
+MOST_SECONDS = 60
+MOST_WRONG = 20
+
+
+def drawing_of(random, number):
+    drawing = make_drawing(random, is_large=number % 5 == 0)
+    mend(drawing, random)
+    if random.random() < SHARE_SPOILT:
+        spoil(drawing, random)
+    return drawing
+
+
+def words_of(mode, rounds):
+    """The words that ask for a report."""
+    return ["verify", *([mode.value] if mode.value else []), *([f"rounds={rounds}"] if rounds else [])]
+
+
+def answer_of(program, words, text):
+    """The program's own answer, whose outcome is left open where there is one."""
+    try:
+        ended = subprocess.run([program, *words], input=text.encode(), capture_output=True, timeout=MOST_SECONDS)
+    except subprocess.TimeoutExpired:
+        return Answer(-1, "", f"no answer in {MOST_SECONDS} seconds")
+    return Answer(ended.returncode, ended.stdout.decode("latin-1"), "")
+
+
+def keep(number, text, wanted, given):
+    """Writes a text and both answers to files, and says where."""
+    folder = os.environ.get("KEPT", tempfile.gettempdir())
+    os.makedirs(folder, exist_ok=True)
+    front = os.path.join(folder, f"model-{number}")
+    for ending, content in ((".scald", text), (".wanted", wanted.text), (".given", given.text)):
+        with open(front + ending, "w", encoding="ascii", errors="backslashreplace") as file:
+            file.write(content)
+    return f"{front}.scald, .wanted and .given"
+
+
+def try_drawing(program, number):
+    """The line of one drawing."""
+    random = Random(number)
+    drawing = drawing_of(random, number)
+    text = write_drawing(drawing)
+    mode = random.choice([Mode.WHOLE] * 4 + [Mode.WAVES, Mode.FAULTS])
+    rounds = random.choice([None] * 6 + [1, 2, 3, 7, 20])
+    words = words_of(mode, rounds)
+    wanted = verify(drawing, mode, rounds)
+    given = answer_of(program, words, text)
+    if (given.status, given.text) == (wanted.status, wanted.text):
+        return f"{number} {wanted.outcome}"
+    why = "other bytes" if given.status == wanted.status else f"status {given.status} in place of {wanted.status}"
+    why = given.outcome or why
+    return f"{number} FAILED `{' '.join(words)}`: {why}; {keep(number, text, wanted, given)}"
+
+
+def try_one(job):
+    return try_drawing(*job)
+
+
+def main():
+    program, count = sys.argv[1], int(sys.argv[2])
+    first = int(sys.argv[3]) if len(sys.argv) > 3 else 1
+    jobs = ((program, number) for number in range(first, first + count))
+    wrong = 0
+    with multiprocessing.Pool() as pool:
+        for line in pool.imap(try_one, jobs, chunksize=10):
+            print(line)
+            wrong += " FAILED " in line
+            if wrong == MOST_WRONG:
+                break
+
+
+if __name__ == "__main__":
+    main()

@@ -1,0 +1,114 @@
+"""The faults that are read off the waves at rest (docs/MEANING.md, "A fault"), as lines of the report."""
+from .assertions import wide_wave
+from .elements import first_hazard
+from .rounds import pin_wave
+from .values import FALLS, RISES, STAYS_HIGH, STAYS_LOW, STEPS, is_quiet, permits
+from .waves import fold
+
+
+def first_change(data, slots):
+    """The first of these slots, which may lie in a period before or behind, in which the input may change."""
+    return next((slot for slot in slots if not is_quiet(data[slot % len(data)])), None)
+
+
+def window_fault(checker, data, edge, high_end, end):
+    """The fault at one edge: the input may change in the window from SETUP slots before to its end. Up to the edge it
+    is SETUP, and then HIGH up to a second slot, and HOLD behind."""
+    slot = first_change(data, range(edge - checker.limits["SETUP"] + 1, end + 1))
+    if slot is None:
+        return None
+    part = "SETUP" if slot <= edge else "HIGH" if slot <= high_end else "HOLD"
+    period = len(data)
+    return f"FAULT {part} {checker} EDGE {edge} SLOT {slot % period} VALUE {data[slot % period]}"
+
+
+def rises(clock):
+    return [slot for slot, value in enumerate(clock) if permits(value, RISES)]
+
+
+def setup_hold_fault(checker, clock, data):
+    """SETUP_HOLD_CHK: of the first edge that has one."""
+    faults = (window_fault(checker, data, edge, edge, edge + checker.limits["HOLD"]) for edge in rises(clock))
+    return next(filter(None, faults), None)
+
+
+def last_fall(clock, edge):
+    """The last slot in which the clock may fall while it may have been 1 since the edge, or None where none is; and
+    whether it may stay at 1 in every slot."""
+    period = len(clock)
+    behind = range(edge + 1, edge + period + 1)
+    low = next((slot for slot in behind if not permits(clock[slot % period], STAYS_HIGH)), None)
+    until = edge + period if low is None else low
+    falls = [slot for slot in range(edge + 1, until + 1) if permits(clock[slot % period], FALLS)]
+    return (max(falls) if falls else None), low is None
+
+
+def rise_fall_fault(checker, clock, data):
+    """SETUP_RISE_HOLD_FALL_CHK: of the first edge that has one. Without a fall there is no window."""
+    for edge in rises(clock):
+        fall, may_stay_high = last_fall(clock, edge)
+        if fall is None:
+            continue
+        high_end, end = fall, fall + checker.limits["HOLD"]
+        if may_stay_high:
+            high_end = end = edge + len(clock)
+        fault = window_fault(checker, data, edge, high_end, end)
+        if fault is not None:
+            return fault
+    return None
+
+
+def point_fault(circuit, waves, instance):
+    """The fault of setup and hold of a checker, or the hazard of a marked element."""
+    pins = [pin_wave(circuit, waves, pin) for pin in instance.pins]
+    if instance.kind == "SETUP_HOLD_CHK":
+        return setup_hold_fault(instance, *map(fold, pins))
+    if instance.kind == "SETUP_RISE_HOLD_FALL_CHK":
+        return rise_fall_fault(instance, *map(fold, pins))
+    hazard = first_hazard(instance.kind, pins, instance.marked)
+    return None if hazard is None else f"FAULT HAZARD {instance} SLOT {hazard.slot} PIN {hazard.pin}"
+
+
+def assertion_fault(circuit, waves, net):
+    """The first slot in which a driven net may do what its assertion nowhere permits."""
+    if net not in circuit.drivers or circuit.assertion(net) is None:
+        return None
+    permitted = wide_wave(circuit.assertion(net), circuit.header)
+    for slot, value in enumerate(fold(waves[net])):
+        if not STEPS[value] <= STEPS[permitted[slot]]:
+            return f"FAULT ASSERT {net} SLOT {slot} VALUE {value}"
+    return None
+
+
+def shortest_pulse(wave, begin, step_out, stays, least):
+    """How long a pulse that begins in a slot may be, where that is less than the least; else None. The pulse is
+    measured on the wave itself, since all of it comes late together."""
+    for width in range(1, least):
+        value = wave.slots[(begin + width) % len(wave.slots)]
+        if permits(value, step_out):
+            return width
+        if not permits(value, stays):
+            return None
+    return None
+
+
+def width_fault(checker, wave, level):
+    """The first pulse of a level that may be too short."""
+    step_in, stays, step_out = {"HIGH": (RISES, STAYS_HIGH, FALLS), "LOW": (FALLS, STAYS_LOW, RISES)}[level]
+    for begin, value in enumerate(wave.slots):
+        if permits(value, step_in):
+            width = shortest_pulse(wave, begin, step_out, stays, checker.limits[level])
+            if width is not None:
+                return f"FAULT WIDTH {checker} {level} FROM {begin} WIDTH {width}"
+    return None
+
+
+def faults(circuit, waves):
+    """All faults: points in the order of expansion, assertions in the order of names, widths in that of expansion."""
+    found = [point_fault(circuit, waves, instance) for instance in circuit.instances]
+    found += [assertion_fault(circuit, waves, net) for net in circuit.in_name_order()]
+    for checker in circuit.checkers:
+        if checker.kind == "MIN_PULSE_CHK":
+            wave = pin_wave(circuit, waves, checker.pins[0])
+            found += [width_fault(checker, wave, level) for level in ("HIGH", "LOW")]
+    return [fault for fault in found if fault is not None]

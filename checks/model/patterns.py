@@ -1,0 +1,51 @@
+"""Parts of drawings that chance alone would seldom draw: macros that use themselves, and a loop that rests slowly."""
+from .drawing import (
+    Assign, Binary, Clock, Connection, Delay, Formal, If, Interval, Macro, Name, Number, Parameter, Range, Term, Use,
+)
+
+
+def signal(base, bits=None, assertion=None):
+    """A connection of one name."""
+    return Connection([Term(Name(base, assertion), bits)])
+
+
+def less(expression, number):
+    return Binary("-", expression, Number(number))
+
+
+def tree_macro(kind, delay):
+    """A macro that halves its inputs until one is left."""
+    size = Parameter("SIZE")
+    half = Binary("/", size, Number(2))
+    all_bits = Range(Number(0), less(size, 1))
+    lower_half = Range(Number(0), less(half, 1))
+    upper_half = Range(half, less(size, 1))
+    leaf = Use("leaf", "BUF", [signal("A", Range(Number(0)))], [signal("Z")], delay)
+    halves = [
+        Use("left", "TREE", [signal("A", lower_half)], [signal("L")], None, [Assign("SIZE", half)]),
+        Use("right", "TREE", [signal("A", upper_half)], [signal("R")], None, [Assign("SIZE", half)]),
+        Use("top", kind, [signal("L"), signal("R")], [signal("Z")], delay),
+    ]
+    body = [If(Binary("=", size, Number(1)), [leaf], halves)]
+    return Macro("TREE", [Assign("SIZE", Number(4))], [Formal(Name("A"), all_bits)], [Formal(Name("Z"))], body)
+
+
+def chain_macro():
+    """A macro that uses itself N times inside one another."""
+    count = Parameter("N")
+    again = Use("x", "CHAIN", [signal("A")], [signal("Z")], None, [Assign("N", less(count, 1))])
+    last = Use("b", "BUF", [signal("A")], [signal("Z")], Delay(Number(1), Number(1)))
+    body = [If(Binary(">", count, Number(1)), [again], [last])]
+    return Macro("CHAIN", [Assign("N", Number(1))], [Formal(Name("A"))], [Formal(Name("Z"))], body)
+
+
+def ring(count, kind, header):
+    """Buffers without delay in a loop with an AND or OR whose clock lets the loop's own wave through in all units but
+    one: the waves rest slowly, or not within the limit of rounds."""
+    front, back = Range(Number(0), Number(count - 1)), Range(Number(1), Number(count))
+    clock = signal("TURN", None, Clock("P", (Interval(0, header.units - 1),), None, kind == "OR"))
+    fed_back = signal("RING", Range(Number(count)))
+    return [
+        Use("ring", "BUF", [signal("RING", front)], [signal("RING", back)], Delay(Number(0), Number(0))),
+        Use("gate", kind, [clock, fed_back], [signal("RING")], Delay(Number(1), Number(1))),
+    ]

@@ -1,0 +1,80 @@
+"""The answer of `verify` (docs/LANGUAGE.md, "The report" and "Words and statuses")."""
+from enum import Enum
+from itertools import groupby
+from typing import NamedTuple
+
+from .drawing import Refused
+from .expansion import expand
+from .faults import faults
+from .names import check_before_expansion
+from .rounds import Unsettled, default_limit, printed_tick, settle_all
+from .rules import keep_rules
+
+
+class Mode(Enum):
+    """What is shown of a report, by the word that asks for it."""
+
+    WHOLE = ""
+    WAVES = "waves"
+    FAULTS = "faults"
+
+
+class Answer(NamedTuple):
+    """The status, what is written, and in a word what it is."""
+
+    status: int
+    text: str
+    outcome: str
+
+
+def circuit_of(drawing):
+    check_before_expansion(drawing)
+    circuit = expand(drawing)
+    keep_rules(circuit, drawing)
+    return circuit
+
+
+def head_lines(circuit):
+    nets, elements, checkers = len(circuit.nets), len(circuit.elements), len(circuit.checkers)
+    yield f"SCALD 1 PERIOD {circuit.period}"
+    yield f"NETS {nets} INSTANCES {elements} CHECKS {checkers}"
+    for net in circuit.in_name_order():
+        if net not in circuit.drivers and circuit.assertion(net) is None:
+            yield f"STABLE {net}"
+
+
+def wave_line(net, wave):
+    stretches = " ".join(f"{value}:{len(list(slots))}" for value, slots in groupby(wave.slots))
+    return f"WAVE {net} SKEW {wave.skew} {stretches}"
+
+
+def report(circuit, settled, mode):
+    """The lines of a report, and how many faults there are."""
+    lines = list(head_lines(circuit))
+    count = 0
+    for case in settled.cases:
+        tick = printed_tick(circuit, settled.base_rounds, case.rounds)
+        lines.append(f"CASE {case.number} BASE {settled.base_rounds} ROUNDS {case.rounds} T {tick}")
+        if mode != Mode.FAULTS:
+            lines += [wave_line(net, case.waves[net]) for net in circuit.in_name_order()]
+        found = faults(circuit, case.waves)
+        count += len(found)
+        if mode != Mode.WAVES:
+            lines += found
+    lines.append(f"FAULTS {count}" if count else "CLEAN")
+    return lines, count
+
+
+def verify(drawing, mode=Mode.WHOLE, rounds=None):
+    """The answer on a drawing whose text is written, with another limit of rounds where one is given."""
+    try:
+        circuit = circuit_of(drawing)
+        settled = settle_all(circuit, default_limit(circuit) if rounds is None else rounds)
+    except Refused as refused:
+        kind, place = refused.kind, refused.place
+        text = f"REFUSED {kind.value} {kind.name} {place.line}:{place.column}\n"
+        return Answer(2, text, f"Refused {kind.name}")
+    except Unsettled as unsettled:
+        return Answer(3, f"UNSETTLED {unsettled.net} ROUND {unsettled.limit}\n", "Unsettled")
+    lines, count = report(circuit, settled, mode)
+    return Answer(1 if count else 0, "\n".join(lines) + "\n", "Faulty" if count else "Clean")
