@@ -4,7 +4,7 @@
 # time that it took.
 # Usage: checks/hostile.sh [--short] [PROGRAM [COUNT]], COUNT random texts in place of 20000, or of 400.
 # Needs python3; cc where allocations are to be refused one by one; and GNU time where it is not short.
-# A random text whose answer is wrong is kept in the folder KEPT, or else in the current one.
+# A random text whose answer is wrong is kept in the folder KEPT, or else in the temporary one.
 . "$(dirname -- "$0")/common.sh"
 short=no
 if [ "${1-}" = --short ]; then

@@ -135,6 +135,10 @@ row 'a choice whose two sides are never chosen together' verify 1 \
 row 'a skew past the period' verify 0 \
     'b1 : BUF [0:4095] ("CK .P2-3") -> ("A");' 'b2 : BUF [0:4095] ("A") -> ("B");' \
     -- 'CASE 0 BASE 2 ROUNDS 0 T 12288' 'WAVE A<0> SKEW 399 0:100 R:1 1:49 F:1 0:249' 'WAVE B<0> SKEW 399 0:100 R:1 1:49 F:1 0:249'
+row 'folds of skews past the period' 'verify faults' 1 \
+    'b1 : BUF [0:4095] ("CK .P2-3") -> ("A");' 'b2 : BUF [0:4095] ("A") -> ("B");' \
+    'c1 : SETUP_HOLD_CHK {SETUP=400, HOLD=0} ("A", "B");' 'c2 : SETUP_HOLD_CHK {SETUP=1} ("B", "A");' \
+    -- 'FAULT SETUP c1<0> EDGE 0 SLOT 1 VALUE C' 'FAULT SETUP c2<0> EDGE 0 SLOT 0 VALUE C' 'FAULTS 2'
 row 'a hazard' verify 1 \
     'a1 : AND [0:0] ("CK .P2-3" !H, "E .S1-2") -> ("G");' \
     -- 'WAVE G<0> SKEW 0 0:100 C:51 0:249' 'FAULT HAZARD a1<0> SLOT 100 PIN 1'
