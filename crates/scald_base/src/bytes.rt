@@ -1,14 +1,22 @@
 //! The bytes of a text or of a name in it.
 
-ghost use Rattle.std.specs.Prelude.{◌≡◌, ◌==◌, [], ◌∷◌, ◌++◌, length, nat_eq, slice_get, OnOk, OnErr, IfOk};
+ghost use Rattle.std.specs.Prelude.{◌≡◌, ◌+◌, ◌<◌, ◌≤◌, ◌==◌, [], ◌∷◌, ◌++◌, length, nat_eq, slice_get, IsOk, OnOk, OnErr, IfOk};
 ghost use Rattle.std.specs.Cmp.Lexicographic.{pointwise, nat_list_eq_equiv};
 ghost use Rattle.std.specs.Cmp.{partial_equiv_from_equiv};
 ghost use Rattle.std.specs.Option.{option_copied};
+ghost use Rattle.std.specs.Str.{bytes_eq};
 
 use crate::list::NoMemory;
 use smallvec::SmallVec;
 use std::alloc::Global;
 use std::marker::Model;
+
+/// Whether two texts are the same, byte for byte.
+pub fn same_bytes(text: &[u8], other: &[u8]) -> bool
+    ensures { result ≡ bytes_eq text.now other.now }
+{
+    text == other
+}
 
 /// Bytes of a text, or of a name in it, which contracts see as the list of them.
 ///
@@ -50,9 +58,10 @@ impl Bytes {
         }
     }
 
-    /// These bytes once more.
+    /// These bytes once more. Up to 16 want no memory.
     pub fn of(alloc: Global, bytes: &[u8]) -> Result<Bytes, NoMemory>
-        ensures { IfOk result (λ copied. copied ≡ bytes.now) }
+        ensures copied { IfOk result (λ copied. copied ≡ bytes.now) }
+        ensures inline { length bytes.now ≤ 16 → IsOk result }
     {
         let items = SmallVec::from_slice(alloc, bytes)?;
         Ok(Bytes { items })
@@ -86,20 +95,26 @@ impl Bytes {
         self.items.as_slice()
     }
 
-    /// Puts a byte at the end. Where memory runs out the bytes are as before.
+    /// Puts a byte at the end. Up to 16 bytes want no memory; where it runs out the bytes are as before.
     pub fn push(&mut self, byte: u8) -> Result<(), NoMemory>
+        ensures inline { length self.old < 16 → IsOk result }
         ensures ok { OnOk result (self.new ≡ self.old ++ byte ∷ []) }
         ensures err { OnErr result (self.new ≡ self.old) }
     {
+        // For the proof: `capacity` says that there is room for 16, so that fewer ask nothing of memory.
+        let _room = self.items.capacity();
         self.items.push(byte)?;
         Ok(())
     }
 
-    /// Puts bytes at the end. Where memory runs out the bytes are as before.
+    /// Puts bytes at the end. Up to 16 bytes in all want no memory; where it runs out the bytes are as before.
     pub fn extend(&mut self, bytes: &[u8]) -> Result<(), NoMemory>
+        ensures inline { length self.old + length bytes.now ≤ 16 → IsOk result }
         ensures ok { OnOk result (self.new ≡ self.old ++ bytes.now) }
         ensures err { OnErr result (self.new ≡ self.old) }
     {
+        // For the proof, as in `push`.
+        let _room = self.items.capacity();
         self.items.extend_from_slice(bytes)?;
         Ok(())
     }

@@ -20,7 +20,7 @@ mod sure;
 mod transfer;
 
 pub use assertion::{AssertSpec, ClockSpec, Span, Spans};
-pub use bytes::Bytes;
+pub use bytes::{Bytes, same_bytes};
 pub use header::{Delay, Header};
 pub use list::{Calls, List, NoMemory};
 pub use memory::{MemorySink, MemorySource};
@@ -30,6 +30,3 @@ pub use source::{Failed, Source};
 pub use standard::{StdSink, StdSource};
 pub use sure::{CountSink, SureSource};
 pub use transfer::{ReadEnd, WriteFault, read_all, write_all};
-
-#[cfg(test)]
-mod tests;

@@ -1,6 +1,6 @@
 //! Where bytes come from.
 
-ghost use Rattle.std.specs.Prelude.{◌≡◌, ℕ, List, Option, IfOk, OnErr};
+ghost use Rattle.std.specs.Prelude.{ℕ, List, Option, IfOk, OnErr};
 ghost use Rattle.std.specs.Io.KnownBytes.{Keeps};
 ghost use Rattle.scald_base.specs.Device.{CountsFaults, Gives};
 

@@ -1,8 +1,6 @@
 //! Sources and sinks over the standard library's readers and writers.
 
-ghost use Rattle.std.specs.Prelude.{◌≡◌, ℕ, IfOk, OnErr};
-ghost use Rattle.std.specs.Io.KnownBytes.{Keeps};
-ghost use Rattle.scald_base.specs.Device.{CountsFaults, Gives, Takes};
+ghost use Rattle.std.specs.Prelude.{◌≡◌};
 
 use crate::sink::Sink;
 use crate::source::{Failed, Source};
