@@ -13,13 +13,6 @@ behind before read = read >>= λ x. Some (before ++ x.0, x.1)
 abbrev pub GoesOn : List ℕ → List Span → List ℕ → Type 0
 GoesOn text before rest = (most whole : ℕ) → whole ≡ length before + most → spans_at whole text ≡ behind before (spans_at most rest)
 
-behind_none : (read : Option (List Span × List ℕ)) → read ≡ behind [] read
-behind_none None = refl
-behind_none (Some x) = refl
-
-pub goes_from_start : (text : List ℕ) → GoesOn text [] text
-goes_from_start text most whole e = ap (λ (k : ℕ). spans_at k text) (e ∙ omega arith) ∙ behind_none (spans_at most text)
-
 behind_more : (before : List Span) (s : Span) (read : Option (List Span × List ℕ)) → behind before (read >>= λ more. Some (s ∷ more.0, more.1)) ≡ behind (before ++ s ∷ []) read
 behind_more before s None = refl
 behind_more before s (Some x) = ap (λ (l : List Span). Some (l, x.1)) (sym (append_assoc before (s ∷ []) x.0))

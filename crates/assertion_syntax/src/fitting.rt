@@ -1,6 +1,6 @@
 //! Whether an assertion fits a header.
 
-ghost use Rattle.std.specs.Prelude.{◌≡◌, ◌+◌, ◌*◌, ◌<◌, IsTrue, MatchBool, MatchResult};
+ghost use Rattle.std.specs.Prelude.{◌≡◌, ◌+◌, ◌*◌, ◌<◌, MatchBool, MatchResult};
 ghost use Rattle.std.specs.List.{list_all};
 ghost use Rattle.scald_base.specs.Time.{period};
 ghost use Rattle.scald_base.specs.Span.{span_fits};

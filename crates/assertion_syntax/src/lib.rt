@@ -16,6 +16,3 @@ pub use meaning::{ideal, quiet};
 pub use name::{NameEnd, SignalName};
 pub use reader::{one_name, one_text, read_name};
 pub use writer::write_name;
-
-#[cfg(test)]
-mod tests;

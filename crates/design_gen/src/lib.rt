@@ -9,6 +9,3 @@ mod datapath;
 mod piece;
 
 pub use datapath::generate;
-
-#[cfg(test)]
-mod tests;

@@ -1,7 +1,6 @@
 //! Lines, piece by piece.
 
-ghost use Rattle.std.specs.Prelude.{◌≡◌, ◌++◌, decimal, map, OnOk};
-ghost use Rattle.std.specs.List.{flat_map};
+ghost use Rattle.std.specs.Prelude.{◌≡◌, ◌++◌, map, OnOk};
 ghost use Rattle.design_gen.specs.Piece.{piece_text};
 ghost use Rattle.design_gen.specs.Text.{line};
 

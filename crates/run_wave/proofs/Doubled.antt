@@ -3,10 +3,10 @@ use Rattle.std.proofs.Common.{◌≡◌, ℕ, zero, suc, ◌+◌, ◌-◌, ◌<�
 use Rattle.std.specs.List.{AllZip, zip}
 use Rattle.std.proofs.lemmas.Bool.{cases_lt}
 use Rattle.scald_base.specs.Clock.{back}
-use Rattle.scald_base.proofs.Back.{back-lt, back-back}
+use Rattle.scald_base.proofs.Back.{back-back}
 use Rattle.wave_core.specs.Cell.{Cells, IsLawful}
 use Rattle.wave_core.specs.Slots.{slots_from, slots, earlier, later, join_to, fold_at, folded}
-use Rattle.wave_core.proofs.Slots.{get_or-slots, length-slots, mapped}
+use Rattle.wave_core.proofs.Slots.{length-slots, earlier-slots, mapped}
 use Rattle.wave_core.proofs.Fold.{join_to-same}
 
 slots_from-same : {T : Type 0} (n i : ℕ) (f h : ℕ → T) → ((p : ℕ) → f p ≡ h p) → slots_from n i f ≡ slots_from n i h
@@ -68,13 +68,6 @@ module _ {T : Type 0} (k : Cells T) (laws : IsLawful k) where
           ∙ above-through (k.join (join_to k f n) (join_to k (λ i. f (s + i)) n)) (join_to k (λ i. f (s + i)) n) (f (s + (i - s)))
           (laws.join_above_right (join_to k f n) (join_to k (λ i. f (s + i)) n)) (above-each (λ i. f (s + i)) n (i - s) (omega (arith, e)))
 
-  -- a slot of a list by slots, some slots before
-  earlier-slots : (period : ℕ) (f : ℕ → T) (p o : ℕ) → 0 < period → earlier k (slots period f) p o ≡ f (back period p o)
-  unfolding earlier
-  earlier-slots period f p o some =
-      ap (λ (n : ℕ). get_or (slots period f) (back n p o) k.any) (length-slots period f)
-      ∙ get_or-slots period (back period p o) f k.any (back-lt period p o some)
-
   fold-earlier : (cells : List T) (n p s : ℕ) → fold_at k cells n (back (length cells) p s) ≡ join_to k (λ o. earlier k cells p (s + o)) n
   unfolding earlier
   fold-earlier cells n p s =
@@ -86,7 +79,7 @@ module _ {T : Type 0} (k : Cells T) (laws : IsLawful k) where
   later-folded cells n s some =
       ap (λ (m : ℕ). slots m (λ p. earlier k (folded k cells n) p s)) (length-slots (length cells) (fold_at k cells n))
       ∙ slots_from-same (length cells) 0 (λ p. earlier k (folded k cells n) p s) (λ p. join_to k (λ o. earlier k cells p (s + o)) n)
-      (λ p. earlier-slots (length cells) (fold_at k cells n) p s some ∙ fold-earlier cells n p s)
+      (λ p. earlier-slots k (length cells) (fold_at k cells n) p s some ∙ fold-earlier cells n p s)
 
   pub doubled : (cells : List T) (n s t : ℕ) → 0 < length cells → s ≤ n + 1 → t ≡ n + s →
       map (λ (p : T × T). k.join p.0 p.1) (zip (folded k cells n) (later k (folded k cells n) s)) ≡ folded k cells t

@@ -1,5 +1,5 @@
 -- Marks in a list of runs: what is put behind the list leaves them as they are, and where a search for a slot begins.
-use Rattle.std.proofs.Common.{◌≡◌, ℕ, zero, suc, ◌+◌, ◌-◌, ◌<◌, ◌≤◌, ◌⊎◌, inl, inr, Bool, true, false, if◌then◌else◌, List, [], ◌∷◌, ◌++◌, length, get_or, take, drop, set, refl, sym, ap, ◌∙◌, arith, subst}
+use Rattle.std.proofs.Common.{◌≡◌, ℕ, zero, suc, ◌+◌, ◌-◌, ◌<◌, ◌≤◌, ◌⊎◌, inl, inr, Bool, true, false, if◌then◌else◌, List, [], ◌∷◌, ◌++◌, length, get_or, take, set, refl, sym, ap, ◌∙◌, arith, subst}
 use Rattle.std.specs.Prelude.{slice_get}
 use Rattle.std.specs.List.Sorted.{IsNonDecreasingBy}
 use Rattle.std.proofs.lemmas.Bool.{cases_lt}
@@ -8,7 +8,7 @@ use Rattle.std.proofs.lemmas.List.Sorted.{IsNonDecreasingBy-from_default}
 use Rattle.run_wave.specs.declared.run.Run.{Run}
 use Rattle.run_wave.specs.Run.{cells_of}
 use Rattle.run_wave.specs.Mark.{AreMarks, marked_run}
-use Rattle.run_wave.proofs.Runs.{length-next, cells_of-parts}
+use Rattle.run_wave.proofs.Runs.{length-next}
 use Rattle.run_wave.proofs.Turned.{get_or-append_left}
 
 module _ {T : Type 0} where
@@ -94,18 +94,3 @@ module _ {T : Type 0} where
   slice_get-behind (x ∷ xs) ys (suc n) within =
       let same : n - length xs ≡ suc n - length (x ∷ xs) = omega arith in
       slice_get-behind xs ys n (omega arith) ∙ ap (slice_get ys) same
-
-  -- the cell of a slot, from a run at or before it on
-  pub from-mark : (rs : List (Run T)) (first before slot : ℕ) → before ≡ length (cells_of (take first rs)) → before ≤ slot →
-      slice_get (cells_of (drop first rs)) (slot - before) ≡ slice_get (cells_of rs) slot
-  from-mark rs first before slot is within =
-      let whole = cells_of-parts rs first in
-      sym (ap (λ (l : List T). slice_get l slot) whole
-      ∙ slice_get-behind (cells_of (take first rs)) (cells_of (drop first rs)) slot (omega (arith, is))
-      ∙ ap (λ (n : ℕ). slice_get (cells_of (drop first rs)) (slot - n)) (sym is))
-
-  pub within-mark : (rs : List (Run T)) (first before slot : ℕ) → before ≡ length (cells_of (take first rs)) → before ≤ slot →
-      slot < length (cells_of rs) → slot - before < length (cells_of (drop first rs))
-  within-mark rs first before slot is within below =
-      let long = ap length (cells_of-parts rs first) ∙ length-append (cells_of (take first rs)) (cells_of (drop first rs)) in
-      omega (arith, long, is)

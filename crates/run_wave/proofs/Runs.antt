@@ -47,10 +47,6 @@ module _ {T : Type 0} where
 
   -- ---- a run that is pushed, as a run of its own or as part of the last
 
-  pub none-ends : (rs : List (Run T)) (c : T) → length rs ≡ 0 → EndsWith rs c → ⊥
-  none-ends [] c e h = h
-  none-ends (r ∷ rs) c e h = absurd (omega arith)
-
   pub ends-some : (rs : List (Run T)) (c : T) → EndsWith rs c → 0 < length rs
   ends-some [] c h = absurd h
   ends-some (r ∷ rs) c h = omega arith

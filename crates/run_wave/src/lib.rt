@@ -12,6 +12,3 @@ mod run_wave;
 
 pub use run::Run;
 pub use run_wave::RunWave;
-
-#[cfg(test)]
-mod tests;

@@ -12,6 +12,3 @@ mod expr;
 pub use environment::{Binding, Env};
 pub use evaluation::{ExprFault, eval};
 pub use expr::{Expr, Op};
-
-#[cfg(test)]
-mod tests;

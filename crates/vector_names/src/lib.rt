@@ -12,6 +12,3 @@ mod range;
 pub use bits::{BitRef, Bits, Target, complement, concat, spread};
 pub use fault::VectorFault;
 pub use range::{Indices, bits_of};
-
-#[cfg(test)]
-mod tests;

@@ -1,7 +1,7 @@
 //! Drawings of 1, 3 and 200 sections, whose lengths, first lines and last lines were worked out from
 //! the format.
 
-use crate::generate;
+use design_gen::generate;
 use std::test::Fail;
 
 const FIRST: &[u8] = b"SCALD 1;\n\

@@ -1,6 +1,6 @@
 //! Tables of names, of the assertions that fit a header, and of what they say at each tick.
 
-use crate::{NameEnd, NameFault, fits, ideal, quiet, read_name, write_name};
+use assertion_syntax::{NameEnd, NameFault, fits, ideal, quiet, read_name, write_name};
 use scald_base::{AssertSpec, Bytes, Delay, Header, NoMemory};
 use std::alloc::Global;
 use std::test::Fail;

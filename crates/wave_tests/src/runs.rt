@@ -1,6 +1,6 @@
 //! The waves of clocks, turned, folded and paired on paper.
 
-use crate::{Run, RunWave};
+use run_wave::{Run, RunWave};
 use std::alloc::Global;
 use std::mem::size_of;
 use std::process::Abort;

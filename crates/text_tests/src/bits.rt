@@ -1,10 +1,10 @@
 //! Ranges and connections, on the values that a drawing has.
 
-use crate::{BitRef, Bits, Target, VectorFault, bits_of, complement, concat, spread};
 use scald_base::{List, NoMemory};
 use std::alloc::Global;
 use std::process::Abort;
 use std::test::Fail;
+use vector_names::{BitRef, Bits, Target, VectorFault, bits_of, complement, concat, spread};
 
 /// One row of the table of ranges: the first and the last number, and what comes.
 fn range_is(

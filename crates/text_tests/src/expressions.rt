@@ -1,7 +1,7 @@
 //! Values of small expressions. The least whole number of 64 bits is -9223372036854775808.
 
-use crate::{Binding, Env, Expr, ExprFault, Op, eval};
 use scald_base::{Bytes, NoMemory};
+use scald_expr::{Binding, Env, Expr, ExprFault, Op, eval};
 use std::alloc::Global;
 use std::test::Fail;
 

@@ -1,0 +1,19 @@
+//! What is tested of texts: devices, tokens, expressions, signal names, the bits of vectors, and the drawing
+//! of a bench. Each row has a text or the parts of one, and what is read of it or written for it as it was
+//! worked out on paper.
+//!
+//! The crate has tests alone, and nothing stands on it.
+#![tactic(auto)]
+
+#[cfg(test)]
+mod bench_text;
+#[cfg(test)]
+mod bits;
+#[cfg(test)]
+mod devices;
+#[cfg(test)]
+mod expressions;
+#[cfg(test)]
+mod names;
+#[cfg(test)]
+mod tokens;

@@ -1,0 +1,103 @@
+//! Waves with a skew, over cells that say no more than whether a net may change, on paper.
+
+use crate::cells::{M, S, Slot, expect_slots};
+use scald_base::{Delay, NoMemory};
+use skew_algebra::Skewed;
+use std::alloc::Global;
+use std::process::Abort;
+use std::test::Fail;
+use wave_core::{CyclicWave, SlotWave};
+
+/// One change in a period of six ticks.
+const ONE: [Slot; 6] = [S, S, M, S, S, S];
+
+/// The wave of these slots, which may come late by up to `skew` ticks.
+fn wave_of(
+    alloc: Global,
+    slots: &[Slot; 6],
+    skew: u16,
+) -> Result<Skewed<SlotWave<Slot>>, NoMemory> {
+    let wave = SlotWave::from_slots(alloc, slots)?;
+    Skewed::normal(alloc, wave, skew)
+}
+
+/// That of one change, late by a delay within these bounds as well.
+fn moved_by(alloc: Global, skew: u16, delay: Delay) -> Result<Skewed<SlotWave<Slot>>, NoMemory> {
+    let wave = wave_of(alloc, &ONE, skew)?;
+    wave.moved(alloc, delay)
+}
+
+/// Looks at each slot, and at the skew.
+fn expect_wave(rt: &impl Abort, wave: &Skewed<SlotWave<Slot>>, want: &[Slot; 6], skew: u16) {
+    expect_slots(rt, "beside a skew", &wave.wave, want);
+    assert_eq!(rt; wave.skew, skew);
+}
+
+/// A skew is less than a period, and a wave of one cell has none.
+#[test]
+fn normal_forms(rt: HostRuntime) -> Result<(), Fail> {
+    let a = rt.alloc();
+    expect_wave(&rt, &wave_of(a, &ONE, 5)?, &ONE, 5);
+    expect_wave(&rt, &wave_of(a, &ONE, 6)?, &ONE, 5);
+    expect_wave(&rt, &wave_of(a, &[S; 6], 3)?, &[S; 6], 0);
+    expect_wave(&rt, &wave_of(a, &[M; 6], 3)?, &[M; 6], 0);
+    Ok(())
+}
+
+/// The least delay turns the wave, and what the greatest is more adds to the skew.
+#[test]
+fn moves(rt: HostRuntime) -> Result<(), Fail> {
+    let a = rt.alloc();
+    expect_wave(
+        &rt,
+        &moved_by(a, 0, Delay { min: 1, max: 3 })?,
+        &[S, S, S, M, S, S],
+        2,
+    );
+    expect_wave(
+        &rt,
+        &moved_by(a, 1, Delay { min: 5, max: 8 })?,
+        &[S, M, S, S, S, S],
+        4,
+    );
+    expect_wave(
+        &rt,
+        &moved_by(a, 5, Delay { min: 4, max: 4095 })?,
+        &[M, S, S, S, S, S],
+        5,
+    );
+    Ok(())
+}
+
+/// A change that may come up to two ticks late lasts three slots.
+#[test]
+fn folds(rt: HostRuntime) -> Result<(), Fail> {
+    let a = rt.alloc();
+    let wave = wave_of(a, &ONE, 2)?;
+    let want = [S, S, M, M, M, S];
+    expect_slots(&rt, "folded", &wave.folded(a)?, &want);
+    for slot in 0..wave.wave.period() {
+        assert_eq!(rt;
+            Some(&wave.fold_at(slot)),
+            want.get(slot as usize),
+            "slot {slot}"
+        );
+    }
+    Ok(())
+}
+
+/// Copies, complements and compares.
+#[test]
+fn others(rt: HostRuntime) -> Result<(), Fail> {
+    let a = rt.alloc();
+    let wave = wave_of(a, &ONE, 2)?;
+    expect_wave(&rt, &wave.flipped(a)?, &ONE, 2);
+    let same = wave.copy(a)?;
+    assert!(rt; same.same(&wave));
+    let less = wave_of(a, &ONE, 1)?;
+    assert!(rt; !less.same(&wave));
+    assert!(rt; !wave.is_steady());
+    let steady = wave_of(a, &[S; 6], 2)?;
+    assert!(rt; steady.is_steady());
+    Ok(())
+}
