@@ -66,9 +66,6 @@ repeats_one taken d found = record {
 
 -- ---- a list of declarations, some at a time
 
-pub goes_start : (taken : List Key) (all : List Declaration) → Goes taken taken all all
-goes_start taken all = record { done = []; parts = refl; declares = declares_none taken }
-
 pub goes_end : (taken now : List Key) (all rest : List Declaration) → Goes taken now all rest → rest ≡ [] → Declares taken now all
 goes_end taken now all rest goes none =
     let e : all ≡ goes.done = goes.parts ∙ (ap (λ (ds : List Declaration). goes.done ++ ds) none ∙ append-nil goes.done) in

@@ -1,5 +1,5 @@
 -- The texts of single tokens.
-use Rattle.std.proofs.Common.{◌≡◌, ℕ, ◌+◌, ◌-◌, ◌*◌, ◌/◌, ◌%◌, ◌<◌, ◌≤◌, ◌^◌, Bool, true, false, nat_le, List, [], ◌∷◌, ◌++◌, length, take, drop, Some, pos, decimal, refl, ap, ◌∙◌, arith, append_assoc, length-append}
+use Rattle.std.proofs.Common.{◌≡◌, ℕ, ◌+◌, ◌-◌, ◌/◌, ◌%◌, ◌<◌, ◌≤◌, ◌^◌, Bool, true, false, nat_le, List, [], ◌∷◌, ◌++◌, length, take, drop, Some, pos, decimal, refl, ap, ◌∙◌, arith, append_assoc, length-append}
 use Rattle.std.specs.Prelude.{◌||◌, ◌==◌, codes}
 use Rattle.std.specs.List.{list_all, prefix_len}
 use Rattle.std.proofs.lemmas.Fmt.{decimal_by_steps}
@@ -10,10 +10,11 @@ use Rattle.std.proofs.lemmas.Bool.{and_parts, not-true}
 use Rattle.scald_base.specs.Word.{is_letter, is_digit, is_word_byte, longest_word, IsWord}
 use Rattle.scald_lex.specs.declared.token.TokenKind.TheVariants.{Word, Number, Name}
 use Rattle.scald_lex.specs.declared.piece.Piece.TheVariants.{Lexeme}
-use Rattle.scald_lex.specs.Bytes.{quote, is_space, is_name_byte, is_allowed, value_after, value_of}
+use Rattle.scald_lex.specs.Bytes.{quote, is_space, is_name_byte, is_allowed, value_of}
 use Rattle.scald_lex.specs.Piece.{begins_with, greatest_number, word_at, number_at, name_behind, piece_at}
 use Rattle.drawing_grammar.proofs.Cutting.{Bare, lexes_one, stops, Spells, Closes}
 use Rattle.scald_lex.proofs.Pieces.{letter_in_word}
+use Rattle.scald_lex.proofs.Values.{value_after_more}
 
 -- ---- fronts
 
@@ -87,10 +88,6 @@ word_spells (b ∷ bs) is =
 
 -- ---- numbers
 
-value_after_more : (n : ℕ) (digits : List ℕ) (b : ℕ) → value_after n (digits ++ b ∷ []) ≡ value_after n digits * 10 + (b - 48)
-value_after_more n [] b = refl
-value_after_more n (d ∷ ds) b = value_after_more (n * 10 + (d - 48)) ds b
-
 -- what is known of the digits of a number
 pub record IsNumeral (n : ℕ) (digits : List ℕ) : Type 0 where
   pub all : list_all is_digit digits ≡ true
@@ -143,9 +140,6 @@ pub number_spells : (n : ℕ) → n ≤ greatest_number → Spells (decimal n) (
 number_spells n small = digits_spell n (decimal n) (is_numeral n (omega arith)) small
 
 -- ---- names
-
-abbrev quote_text : List ℕ
-quote_text = codes "\""
 
 -- a name in its quotes
 abbrev pub name : List ℕ → Bare

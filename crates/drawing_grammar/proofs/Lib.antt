@@ -61,3 +61,5 @@ pub mod Again
 pub mod Decided
 pub mod SpelledNames
 pub mod SameKeys
+pub mod PlacedValues
+pub mod PlacedDrawings

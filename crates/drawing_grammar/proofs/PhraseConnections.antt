@@ -7,7 +7,7 @@ use Rattle.drawing_tree.specs.Tree as tree
 use Rattle.drawing_tree.specs.Places.{unplaced_connection}
 use Rattle.drawing_grammar.specs.declared.terminal.Terminal.TheVariants.{Word}
 use Rattle.drawing_grammar.specs.Lexeme.{Lexeme, terminal, symbol_terminal, word_terminal}
-use Rattle.drawing_grammar.specs.Grammar.{Group, Need, part, group, Term, MoreTerms, Hold, MoreConns, Conn, SomeConns, Conns}
+use Rattle.drawing_grammar.specs.Grammar.{Group, Need, part, group, Term, MoreTerms, Hold, MoreConns, SomeConns, Conns}
 use Rattle.drawing_grammar.specs.Grammar as g
 use Rattle.drawing_grammar.specs.Sketch.{GroupMeaning, Values, Placed, connection}
 use Rattle.drawing_grammar.specs.Written.{Written, chosen, lettered, left_out, grouped, lacking, spelling, values}

@@ -9,7 +9,7 @@ use Rattle.drawing_grammar.specs.Nesting.{nesting, operators}
 use Rattle.drawing_tree.specs.Places.{unplaced_wire, unplaced_statement, unplaced_statements, unplaced_otherwise}
 use Rattle.drawing_grammar.specs.declared.terminal.Terminal.TheVariants.{Name, Colon, Semicolon, Then, End}
 use Rattle.drawing_grammar.specs.Lexeme.{Lexeme, terminal, symbol_terminal, word_terminal}
-use Rattle.drawing_grammar.specs.Grammar.{Need, mark, item, fresh, part, group, Sum, Expr, Range, Statement, Statements, Otherwise}
+use Rattle.drawing_grammar.specs.Grammar.{Need, mark, fresh, part, group, Sum, Expr, Statement, Statements, Otherwise}
 use Rattle.drawing_grammar.specs.Grammar as g
 use Rattle.drawing_grammar.specs.Sketch.{Values, signal_of}
 use Rattle.drawing_grammar.specs.Written.{Written, marked, token, begun, chosen, left_out, grouped, lacking, spelling, values, limit}

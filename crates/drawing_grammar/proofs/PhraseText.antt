@@ -259,9 +259,6 @@ clock_needs = part ClockSkew 0 ∷ macros_needs
 abbrev precision_needs : List Need
 precision_needs = part PrecisionSkew 0 ∷ clock_needs
 
-abbrev wire_needs : List Need
-wire_needs = part WireBounds 0 ∷ precision_needs
-
 pub text_built : (d : tree.Drawing) → IsShortDrawing d → (ts : List Lexeme) → Are ts (drawing_tokens d ++ end_of_text) → TextBuilt d ts
 unfolding symbol_terminal word_terminal
 text_built d short ts are =

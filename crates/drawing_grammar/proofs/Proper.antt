@@ -1,5 +1,5 @@
 -- What a text stands for is made of words, numbers and names as its tokens are.
-use Rattle.std.proofs.Common.{◌≡◌, ℕ, ◌<◌, ◌^◌, suc, Bool, List, [], ◌∷◌, ◌++◌, length, Some, refl, ap, subst, arith}
+use Rattle.std.proofs.Common.{◌≡◌, ℕ, ◌<◌, ◌^◌, suc, List, [], ◌∷◌, ◌++◌, length, Some, refl, ap, subst, arith}
 use Rattle.std.specs.Prelude.{IfSome, ⊤}
 use Rattle.std.specs.List.{AllByRecursion}
 use Rattle.std.proofs.lemmas.Option.{same_Some}
@@ -208,9 +208,6 @@ capped_fits t = omega arith
 
 with_item_of : {A : Type 0} (P : A → Type 0) (x : Placed A) (xs : PlacedList A) → P x.item → AllPlaced P xs → AllPlaced P (record { items = x.item ∷ xs.items; places = x.place ∷ xs.places })
 with_item_of P x xs p ps = record { items = (p, ps.items); places = ap suc ps.places }
-
-less_or_binary : (b : Bool) (left right : Expression) → IsDrawn left → IsDrawn right → IsDrawn left × IsDrawn right
-less_or_binary b left right p q = (p, q)
 
 choice_of : (G : SignalName → Type 0) → ((name : SignalName) → G name → IsName name) → {p : Part} (c : Choice p) (n : ℕ) (t : Lexeme) (v : Values (following c n)) → IsProper G t → terminal t ≡ opening c → AreOf G (following c n) v → IsPartOf G p (choice_value c n t v)
 choice_of G k g.number n t v p e a = p.number e

@@ -1,5 +1,5 @@
 -- What has still to come, token by token.
-use Rattle.std.specs.Prelude.{◌≡◌, ℕ, Bool, true, false, ◌&&◌, ◌==◌, nat_le, List, [], ◌∷◌, ◌++◌, Option, Some, None, Result, Ok, Err, ⊤, if◌then◌else◌}
+use Rattle.std.specs.Prelude.{◌≡◌, ℕ, Bool, ◌&&◌, ◌==◌, nat_le, List, [], ◌∷◌, ◌++◌, Option, Some, None, Result, Ok, Err, ⊤, if◌then◌else◌}
 use Rattle.std.specs.Str.{bytes_eq}
 use Rattle.scald_base.specs.declared.refusal.Place.{Place}
 use Rattle.scald_base.specs.declared.refusal.Refusal.{Refusal}
@@ -10,7 +10,7 @@ use Rattle.scald_base.specs.declared.refusal.Stop.TheVariants as stop
 use Rattle.drawing_grammar.specs.declared.terminal.Terminal.{Terminal}
 use Rattle.drawing_grammar.specs.declared.terminal.Terminal.TheVariants as is
 use Rattle.drawing_grammar.specs.Lexeme.{Lexeme, terminal}
-use Rattle.drawing_grammar.specs.Grammar.{Part, Group, letter_text, Need, mark, item, letter, fresh, part, group, Choice, opening, following, lead, others, cost}
+use Rattle.drawing_grammar.specs.Grammar.{Part, Group, letter_text, Need, mark, item, letter, fresh, part, group, Choice, following, lead, others, cost}
 use Rattle.drawing_grammar.specs.Grammar as g
 use Rattle.drawing_grammar.specs.Sketch.{Meaning, GroupMeaning, Values, front, behind, choice_value, absent_value, group_value, absent_group}
 use Rattle.drawing_grammar.specs.Written.{weight, counted, limit}
@@ -117,11 +117,6 @@ pub data Step (needs : List Need) : Type 0 where
 abbrev pub passed : {needs later : List Need} → Step later → (Values later → Values needs) → Step needs
 passed (Next later a m build) f = Next later a m (λ v. f (build v))
 passed Stuck f = Stuck
-
--- a token that is needed
-abbrev pub taken : {rest : List Need} → Bool → Step rest → Step rest
-taken true s = s
-taken false s = Stuck
 
 -- a part, where the choice that begins so is this
 abbrev pub entered : (p : Part) (n : ℕ) (rest : List Need) → ℕ → Lexeme → Option (Choice p) → Option (Meaning p) → Step rest → Step (part p n ∷ rest)

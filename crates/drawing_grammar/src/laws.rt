@@ -1,7 +1,7 @@
 //! Laws of drawings and their texts. The functions do nothing: what each states is its contract.
 
 ghost use Rattle.drawing_grammar.specs.CanonicalDraws.{CanonicalDraws};
-ghost use Rattle.drawing_grammar.specs.Laws.{DrawnOrRefused, NamesAreSpelled, NotBoth, OneDrawing, OneRefusal};
+ghost use Rattle.drawing_grammar.specs.Laws.{DrawnAtTokens, DrawnIsWellFormed, DrawnOrRefused, NamesAreSpelled, NotBoth, OneDrawing, OneRefusal, WrongAtTokens};
 
 /// Tokens draw one drawing alone.
 pub fn one_drawing()
@@ -32,4 +32,19 @@ pub fn names_are_spelled()
 /// too deep: at most 64 parentheses and minus signs are open at once in an expression.
 pub fn canonical_draws()
     ensures { CanonicalDraws }
+{}
+
+/// A drawing that a text draws is well formed.
+pub fn drawn_is_well_formed()
+    ensures { DrawnIsWellFormed }
+{}
+
+/// Tokens are refused at the place of one of them.
+pub fn wrong_at_tokens()
+    ensures { WrongAtTokens }
+{}
+
+/// Each place that stands in a drawing is that of one of the tokens that draw it.
+pub fn drawn_at_tokens()
+    ensures { DrawnAtTokens }
 {}

@@ -4,6 +4,8 @@ ghost use Rattle.std.specs.Prelude.{◌≡◌};
 ghost use Rattle.drawing_grammar.specs.Grammar.{letter_text};
 ghost use Rattle.drawing_grammar.specs.Lexeme.{is_first, begins_reserved, word_terminal, symbol_terminal};
 
+use scald_base::same_bytes;
+
 /// A token as the grammar sees it: a word that stands for itself, any other word, a number, a name, a symbol or
 /// the end.
 #[derive(Clone, Copy, PartialEq, Eq, Debug)]
@@ -106,33 +108,33 @@ pub fn word_terminal(word: &[u8]) -> Terminal
     if !begins_reserved(word) {
         return Terminal::Word;
     }
-    if word == b"SCALD".as_slice() {
+    if same_bytes(word, b"SCALD") {
         Terminal::Scald
-    } else if word == b"CLOCK".as_slice() {
+    } else if same_bytes(word, b"CLOCK") {
         Terminal::Clock
-    } else if word == b"WIRE".as_slice() {
+    } else if same_bytes(word, b"WIRE") {
         Terminal::Wire
-    } else if word == b"PSKEW".as_slice() {
+    } else if same_bytes(word, b"PSKEW") {
         Terminal::Pskew
-    } else if word == b"CSKEW".as_slice() {
+    } else if same_bytes(word, b"CSKEW") {
         Terminal::Cskew
-    } else if word == b"MACRO".as_slice() {
+    } else if same_bytes(word, b"MACRO") {
         Terminal::Macro
-    } else if word == b"DRAWING".as_slice() {
+    } else if same_bytes(word, b"DRAWING") {
         Terminal::Drawing
-    } else if word == b"CASE".as_slice() {
+    } else if same_bytes(word, b"CASE") {
         Terminal::Case
-    } else if word == b"IF".as_slice() {
+    } else if same_bytes(word, b"IF") {
         Terminal::If
-    } else if word == b"THEN".as_slice() {
+    } else if same_bytes(word, b"THEN") {
         Terminal::Then
-    } else if word == b"ELSE".as_slice() {
+    } else if same_bytes(word, b"ELSE") {
         Terminal::Else
-    } else if word == b"END".as_slice() {
+    } else if same_bytes(word, b"END") {
         Terminal::End
-    } else if word == b"ZERO".as_slice() {
+    } else if same_bytes(word, b"ZERO") {
         Terminal::Zero
-    } else if word == b"ONE".as_slice() {
+    } else if same_bytes(word, b"ONE") {
         Terminal::One
     } else {
         Terminal::Word

@@ -2,3 +2,4 @@ pub mod Joined
 pub mod Views
 pub mod Lines
 pub mod Examples
+pub mod Every

@@ -11,7 +11,6 @@ use Rattle.drawing_tree.specs.declared.statement.Stmt.{Stmt}
 use Rattle.drawing_tree.specs.declared.statement.Stmt.TheVariants as stmt
 use Rattle.drawing_tree.specs.declared.statement.Stmt.TheVariants.{rolls-Use, rolls-Wire, rolls-If}
 use Rattle.drawing_tree.specs.declared.statement.Stmt.TheOpen as layer
-use Rattle.drawing_tree.specs.declared.statement.Stmt.TheOpen.{IfStmt-F}
 use Rattle.drawing_tree.specs.declared.statement.Stmt.TheFolds.{fold-roll-Stmt, fold-roll-IfStmt}
 use Rattle.drawing_tree.specs.Tree.{Statement, Use, Wire, If, statement_layer, if_layer, use_of, wire_of, statement_of, if_of, statements_of, else_of}
 

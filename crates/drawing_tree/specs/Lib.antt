@@ -3,3 +3,4 @@ pub mod Places
 pub mod ExpressionText
 pub mod Canonical
 pub mod WellFormed
+pub mod EachPlace

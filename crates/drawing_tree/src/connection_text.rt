@@ -5,7 +5,7 @@ ghost use Rattle.std.specs.List.{join_by};
 ghost use Rattle.scald_expr.specs.Expression.{expression_of};
 ghost use Rattle.assertion_syntax.specs.Name.{name_text};
 ghost use Rattle.drawing_tree.specs.Tree.{range_of, item_of, term_of, connection_of};
-ghost use Rattle.drawing_tree.specs.Canonical.{quoted, bounds_text, last_text, range_text, signal_text, item_text, term_text, connection_text, hold_text};
+ghost use Rattle.drawing_tree.specs.Canonical.{quoted, bounds_text, last_text, range_text, signal_text, item_text, term_text, connection_text};
 
 use crate::connection::{Conn, Item, RangeExpr, Term};
 use crate::expression_text::add_sum;

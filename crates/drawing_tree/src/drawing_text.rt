@@ -2,9 +2,8 @@
 
 ghost use Rattle.std.specs.Prelude.{◌≡◌, ◌++◌, [], OnOk, IfOk, map, codes, decimal};
 ghost use Rattle.std.specs.List.{flat_map};
-ghost use Rattle.assertion_syntax.specs.Name.{name_text};
-ghost use Rattle.drawing_tree.specs.Tree.{assignment_of, formal_of, macro_of, statements_of, drawing_of};
-ghost use Rattle.drawing_tree.specs.Canonical.{quoted, pair_text, header_lines, formal_text, inputs_text, outputs_text, macro_head, macro_lines, body_lines, line, entry_text, case_lines, canonical};
+ghost use Rattle.drawing_tree.specs.Tree.{formal_of, macro_of, statements_of, drawing_of};
+ghost use Rattle.drawing_tree.specs.Canonical.{header_lines, formal_text, inputs_text, outputs_text, macro_head, macro_lines, body_lines, line, entry_text, case_lines, canonical};
 
 use crate::connection_text::{add_name, add_range};
 use crate::drawing::{CaseEntry, CaseStmt, Drawing, Formal, MacroDef};

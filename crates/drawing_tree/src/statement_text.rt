@@ -1,6 +1,6 @@
 //! Writes statements.
 
-ghost use Rattle.std.specs.Prelude.{◌≡◌, ◌++◌, ◌∷◌, [], OnOk, IfOk, option_map, map, codes};
+ghost use Rattle.std.specs.Prelude.{◌≡◌, ◌++◌, OnOk, IfOk, option_map, map, codes};
 ghost use Rattle.scald_expr.specs.Expression.{expression_of};
 ghost use Rattle.drawing_tree.specs.Tree.{assignment_of, connection_of, both_of, use_of, wire_of, statement_of, statements_of, if_of};
 ghost use Rattle.drawing_tree.specs.ExpressionText.{condition_text};

@@ -78,9 +78,6 @@ module _ (e : Expansion) (j : Instance) (built : IsBuilt e.builder) where
         subst (λ (x : Refusal). adding (instance_of (names_in e) j) (state_of e) ≡ Fails x.kind x.place) (sym h.0 ∙ same) (rw full refl);
   }
 
-  pub bit_same : (b : Built) (k : ℕ) → GivesInstance e.builder b j k → SameNets e (after_bit b)
-  bit_same b k g = subst (λ (x : Built). SameNets e (after_bit x)) (sym g.after) (record { names = refl; header = refl })
-
 -- ---- an instance by names
 
 module _ (names : List Name) where

@@ -1,7 +1,7 @@
 -- Loops that gather bits and connections, and what stays valid as the circuit grows.
 use Rattle.std.proofs.Common.{◌≡◌, ℕ, ◌+◌, ◌<◌, ◌≤◌, Bool, List, [], ◌∷◌, ◌++◌, length, map, get_or, drop, refl, ap, sym, ◌∙◌, subst, arith}
 use Rattle.std.specs.List.{All}
-use Rattle.std.proofs.lemmas.List.{drop_more, drop_all, map-append, length-append, length-map, get_or-map}
+use Rattle.std.proofs.lemmas.List.{drop_more, map-append, length-append, length-map, get_or-map}
 use Rattle.std.proofs.lemmas.List.Elements.{All-head, All-tail, All-append, All-weaker, All-nil, All-cons, All-get_or, All-map}
 use Rattle.scald_base.specs.declared.refusal.Stop.{Stop}
 use Rattle.vector_names.specs.declared.bits.Target.{Target}
@@ -14,16 +14,12 @@ use Rattle.macro_expander.specs.declared.scope.Bound as numbered_bound
 use Rattle.macro_expander.specs.declared.scope.Scope as numbered_scope
 use Rattle.macro_expander.specs.declared.connection.Joined as numbered_joined
 use Rattle.macro_expander.specs.Named.{Bit, State}
-use Rattle.macro_expander.specs.Outcome.{Outcome, Gives, Fails, after, gathered, each}
+use Rattle.macro_expander.specs.Outcome.{Outcome, Gives, Fails, gathered, each}
 use Rattle.scald_base.specs.declared.refusal.Place.{Place}
 use Rattle.drawing_tree.specs.Tree.{Term}
 use Rattle.macro_expander.specs.Terms.{Joined, Scope, turned_bit, item_bits, term_bits}
-use Rattle.macro_expander.specs.Numbered.{bit_of, turned_ref, bound_of, scope_of, joined_of, BitExists, BoundExists, ScopeExists, JoinedExists, Grows, Failed, GivesBits, GivesJoined, GivesAllJoined, nets_in, names_in, state_of, Gathered, GatheredJoined, Went, GivesDone}
+use Rattle.macro_expander.specs.Numbered.{bit_of, turned_ref, bound_of, scope_of, joined_of, BitExists, BoundExists, ScopeExists, JoinedExists, Grows, Failed, GivesBits, GivesJoined, nets_in, names_in, state_of, Gathered, GatheredJoined, Went, GivesDone}
 use Rattle.macro_expander.proofs.Nets.{where_stays, grows_refl, grows_trans}
-
--- a refusal stays, whatever would come next
-pub after_failed : {A B : Type 0} (stop : Stop) (o : Outcome A) (next : A → State → Outcome B) → Failed stop o → Failed stop (after o next)
-after_failed stop o next h = record { told = λ r e. rw (h.told r e) refl }
 
 -- ---- what stays
 
@@ -75,9 +71,6 @@ scope_exists_stays e f s g h = record {
 pub next_of : {X Y : Type 0} (f : X → Y) (xs : List X) (i : ℕ) (x : X) → i < length xs → x ≡ get_or xs i x → map f (drop i xs) ≡ f x ∷ map f (drop (i + 1) xs)
 next_of f xs i x h is = rw (drop_more xs i x h, sym is) refl
 
-pub end_of : {X Y : Type 0} (f : X → Y) (xs : List X) (i : ℕ) → length xs ≤ i → map f (drop i xs) ≡ []
-end_of f xs i h = rw (drop_all i xs h) refl
-
 pub at_of : {X Y : Type 0} (P : Y → Type 0) (f : X → Y) (xs : List X) (i : ℕ) (x : X) → All P (map f xs) → i < length xs → x ≡ get_or xs i x → P (f x)
 at_of P f xs i x all h is =
     let below : i < length (map f xs) = rw (length-map xs f) h in
@@ -103,14 +96,6 @@ module _ {X : Type 0} (step : X → State → Outcome (List Bit)) (start : Expan
         sym w.told ∙ failed;
   }
 
-pub gathered_all : {X : Type 0} (step : X → State → Outcome (List Bit)) (start : Expansion) (want : Outcome (List Bit)) (rest : List X) (bits : List BitRef) (e : Expansion) → rest ≡ [] → Gathered step start want rest bits e → GivesBits start e bits want
-gathered_all step start want rest bits e none w =
-    let done : gathered step (map (bit_of (names_in e)) bits) rest (state_of e) ≡ Gives (map (bit_of (names_in e)) bits) (state_of e) = rw none refl in
-    record { is = sym w.told ∙ done; grows = w.grows; exist = w.exist }
-
-pub gathered_none : {X : Type 0} (step : X → State → Outcome (List Bit)) (e : Expansion) (xs : List X) → Gathered step e (gathered step [] xs (state_of e)) xs [] e
-gathered_none step e xs = record { told = refl; grows = grows_refl e; exist = All-nil (BitExists (nets_in e)) }
-
 -- ---- loops that gather connections
 
 module _ {X : Type 0} (step : X → State → Outcome (List Joined)) (start : Expansion) (want : Outcome (List Joined)) (rest others : List X) (x : X) (cs : List numbered_joined.Joined) (e : Expansion) (split : rest ≡ x ∷ others) where
@@ -130,11 +115,6 @@ module _ {X : Type 0} (step : X → State → Outcome (List Joined)) (start : Ex
         let failed : gathered step (map (joined_of (names_in e)) cs) rest (state_of e) ≡ Fails r.kind r.place = rw (split, g.told r s) refl in
         sym w.told ∙ failed;
   }
-
-pub joined_all : {X : Type 0} (step : X → State → Outcome (List Joined)) (start : Expansion) (want : Outcome (List Joined)) (rest : List X) (cs : List numbered_joined.Joined) (e : Expansion) → rest ≡ [] → GatheredJoined step start want rest cs e → GivesAllJoined start e cs want
-joined_all step start want rest cs e none w =
-    let done : gathered step (map (joined_of (names_in e)) cs) rest (state_of e) ≡ Gives (map (joined_of (names_in e)) cs) (state_of e) = rw none refl in
-    record { is = sym w.told ∙ done; grows = w.grows; exist = w.exist }
 
 pub joined_none : {X : Type 0} (step : X → State → Outcome (List Joined)) (e : Expansion) (xs : List X) → GatheredJoined step e (gathered step [] xs (state_of e)) xs [] e
 joined_none step e xs = record { told = refl; grows = grows_refl e; exist = All-nil (JoinedExists (nets_in e)) }

@@ -18,3 +18,4 @@ pub mod WireBounds
 pub mod Statements
 pub mod Whole
 pub mod Only
+pub mod Standing

@@ -21,7 +21,7 @@ use Rattle.macro_expander.specs.declared.primitive.Plan.{Plan}
 use Rattle.macro_expander.specs.declared.scope.Scope as numbered_scope
 use Rattle.macro_expander.specs.declared.connection.Joined as numbered_joined
 use Rattle.macro_expander.specs.declared.connection.Wires as numbered_wires
-use Rattle.macro_expander.specs.Outcome.{Outcome, Fails, Judged, judged}
+use Rattle.macro_expander.specs.Outcome.{Outcome, Fails}
 use Rattle.macro_expander.specs.Steps.{IsJudgedRefusal}
 use Rattle.macro_expander.specs.Terms.{Joined, Wires, wires_of}
 use Rattle.macro_expander.specs.Primitives.{width, greatest, width_of, width_in, inputs_fit, plan_of, all_added, primitive_use}
@@ -29,9 +29,6 @@ use Rattle.macro_expander.specs.Numbered.{bit_of, joined_of, bits_in, instance_r
 use Rattle.macro_expander.proofs.Nets.{grows_trans}
 use Rattle.macro_expander.proofs.Joints.{HasWidth, AreWires, are_wires}
 use Rattle.macro_expander.proofs.Facts.{plan_fits, bit_fits}
-
-pub judged_failed : {A B : Type 0} (j : Judged A) (place : Place) (next : A → Outcome B) (stop : Stop) → IsJudgedRefusal place stop j → Failed stop (judged j place next)
-judged_failed j place next stop h = record { told = λ r is. rw (h.told r is, h.here r is) refl }
 
 pub done_later : (d e f : Expansion) (r : Result (Unit {0}) Stop) (o o' : Outcome (Unit {0})) → Grows d e → o' ≡ o → DoneAt e f r o → DoneAt d f r o'
 done_later d e f (Ok done) o o' g is h = record { is = is ∙ h.is; grows = grows_trans d e f g h.grows }

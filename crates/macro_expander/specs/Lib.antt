@@ -15,3 +15,4 @@ pub mod Statements
 pub mod Places
 pub mod Parameters
 pub mod Runs
+pub mod Laws

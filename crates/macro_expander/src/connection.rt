@@ -1,6 +1,6 @@
 //! The bits of terms and connections.
 
-ghost use Rattle.std.specs.Prelude.{◌≡◌, ◌∷◌, [], ◌++◌, length, map, IfOk, OnOk, not, if◌then◌else◌, true, false};
+ghost use Rattle.std.specs.Prelude.{◌≡◌, ◌∷◌, [], ◌++◌, map, IfOk, OnOk, true, false};
 ghost use Rattle.vector_names.specs.declared.bits.Target.TheVariants.{Constant};
 ghost use Rattle.drawing_tree.specs.Tree.{item_of, term_of, connection_of, use_of};
 ghost use Rattle.macro_expander.specs.Fitting.{ItemFits, TermFits, ConnectionFits, UseFits};

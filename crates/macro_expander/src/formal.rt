@@ -1,7 +1,6 @@
 //! The parameters and the formals of a macro at a use.
 
-ghost use Rattle.std.specs.Prelude.{◌≡◌, ◌==◌, ◌&&◌, map, length, IfOk};
-ghost use Rattle.std.specs.List.{find, list_any};
+ghost use Rattle.std.specs.Prelude.{◌≡◌, ◌==◌, ◌&&◌, map, IfOk};
 ghost use Rattle.drawing_tree.specs.Tree.{assignment_of, formal_of, macro_of, use_of};
 ghost use Rattle.macro_expander.specs.Primitives.{are_of};
 ghost use Rattle.macro_expander.specs.Macros.{value_given as spec_value_given, value_or_default as spec_value_or_default, parameter as spec_parameter, parameters_of, shape_of, shapes_of, has_parameter, fits_formals as spec_fits_formals, given_to as spec_given_to, inside_of as spec_inside_of};

@@ -1,21 +1,18 @@
 //! The instance and checker bits that the use of a primitive makes.
 
-ghost use Rattle.std.specs.Prelude.{◌≡◌, ℕ, ◌∷◌, [], ◌++◌, ◌<◌, ◌≤◌, length, map, IfOk, OnOk, if◌then◌else◌, ◌==◌, ◌||◌};
-ghost use Rattle.std.specs.List.{All, flat_map, list_all};
-ghost use Rattle.scald_base.specs.Time.{period};
+ghost use Rattle.std.specs.Prelude.{◌≡◌, ℕ, [], ◌++◌, ◌<◌, ◌≤◌, map, IfOk, OnOk};
+ghost use Rattle.std.specs.List.{flat_map, list_all};
 ghost use Rattle.flat_circuit.specs.Instances.{InstanceFits};
-ghost use Rattle.drawing_tree.specs.Tree.{use_of, connection_of};
-ghost use Rattle.macro_expander.specs.Fitting.{UseFits};
-ghost use Rattle.macro_expander.specs.Primitives.{all_added, greatest as spec_greatest, width_of as spec_width_of, can_have, inputs_fit as spec_inputs_fit, bit_at as spec_bit_at, primitive_use as spec_primitive_use, adding, instance_at};
-ghost use Rattle.macro_expander.specs.Numbered.{bits_in, no_ref, pin_ref, all_refs, column_ref, pin_refs, output_ref, target_ref, inverted_ref, instance_ref, instance_of, joined_of, SameNets, DoneAt, state_of, scope_of, ScopeExists, nets_in, names_in};
+ghost use Rattle.drawing_tree.specs.Tree.{use_of};
+ghost use Rattle.macro_expander.specs.Primitives.{all_added, greatest as spec_greatest, width_of as spec_width_of, can_have, inputs_fit as spec_inputs_fit, bit_at as spec_bit_at, adding};
+ghost use Rattle.macro_expander.specs.Numbered.{bits_in, no_ref, pin_ref, all_refs, column_ref, pin_refs, output_ref, target_ref, inverted_ref, instance_ref, instance_of, joined_of, SameNets, DoneAt, state_of, nets_in, names_in};
 
 use crate::connection::Joined;
 use crate::expansion::Expansion;
-use crate::primitive::{Plan, planned};
-use crate::scope::Scope;
+use crate::primitive::Plan;
 use drawing_tree::UseStmt;
 use flat_circuit::{Instance, Kind, Pin, Pins};
-use scald_base::{Bytes, List, NoMemory, RefusalKind, Stop};
+use scald_base::{Bytes, List, NoMemory, Stop};
 use std::alloc::Global;
 use vector_names::{BitRef, Target};
 

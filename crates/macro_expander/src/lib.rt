@@ -6,6 +6,7 @@
 //! what the numbers stand for while a circuit grows. `circuit` begins and ends an expansion, `statement`
 //! goes down the statements and the bodies of macros, and the other modules are the steps on the way:
 //! the bits of names, terms and connections, the use of a primitive, the scope of a macro's body, WIRE.
+//! [`laws`] has where a drawing is refused.
 #![tactic(auto)]
 
 mod circuit;
@@ -13,6 +14,7 @@ mod connection;
 mod expansion;
 mod formal;
 mod instance_bits;
+pub mod laws;
 mod library;
 mod list;
 mod macro_use;

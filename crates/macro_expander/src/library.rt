@@ -1,6 +1,6 @@
 //! The macros of a drawing by their names.
 
-ghost use Rattle.std.specs.Prelude.{◌≡◌, map, IfOk, option_map};
+ghost use Rattle.std.specs.Prelude.{◌≡◌, IfOk, option_map};
 ghost use Rattle.std.specs.Option.{option_copied};
 ghost use Rattle.drawing_tree.specs.Tree.{macro_of};
 ghost use Rattle.macro_expander.specs.Macros.{macro_of as first_called};

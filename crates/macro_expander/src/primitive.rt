@@ -1,17 +1,17 @@
 //! What a use of a primitive says before its connections are looked at.
 
-ghost use Rattle.std.specs.Prelude.{◌≡◌, ◌+◌, ◌∷◌, [], length, map, is_some, nat_le, if◌then◌else◌, option_map};
-ghost use Rattle.std.specs.List.{find, list_any};
+ghost use Rattle.std.specs.Prelude.{◌≡◌, ◌+◌, ◌∷◌, [], map, is_some, option_map};
+ghost use Rattle.std.specs.List.{list_any};
 ghost use Rattle.std.specs.Str.{bytes_eq};
 ghost use Rattle.drawing_tree.specs.Tree.{assignment_of, connection_of, both_of, use_of};
-ghost use Rattle.macro_expander.specs.Primitives.{primitive_of, fewest_inputs as spec_fewest, most_inputs as spec_most, most_marks as spec_most_marks, takes as spec_takes, are_of, assigns, marks as spec_marks, delay_between as spec_delay_between, written_delay as spec_written_delay, delay_of as spec_delay_of, given_or_zero as spec_given_or_zero, setup_and_hold as spec_setup_and_hold, high_and_low as spec_high_and_low, limits_of as spec_limits_of, are_connected as spec_are_connected, plan_of};
+ghost use Rattle.macro_expander.specs.Primitives.{primitive_of, fewest_inputs as spec_fewest, most_inputs as spec_most, most_marks as spec_most_marks, takes as spec_takes, are_of, marks as spec_marks, delay_between as spec_delay_between, written_delay as spec_written_delay, delay_of as spec_delay_of, setup_and_hold as spec_setup_and_hold, high_and_low as spec_high_and_low, limits_of as spec_limits_of, are_connected as spec_are_connected, plan_of};
 ghost use Rattle.macro_expander.specs.Steps.{JudgedAt};
 
 use crate::parameter::{comes_again, value_given, values_given};
 use crate::range::{at, value};
 use drawing_tree::{Assigns, Conns, UseStmt};
 use flat_circuit::Kind;
-use scald_base::{Delay, List, Place, RefusalKind, Stop};
+use scald_base::{Delay, RefusalKind, Stop, same_bytes};
 use scald_expr::{Env, Expr};
 use std::alloc::Global;
 
@@ -28,49 +28,49 @@ const LONGEST_DELAY: i64 = 4095;
 pub(crate) fn primitive(name: &[u8]) -> Option<Kind>
     ensures { result ≡ option_map (λ p. p.kind) (primitive_of name.now) }
 {
-    if name == b"BUF".as_slice() {
+    if same_bytes(name, b"BUF") {
         return Some(Kind::Buf);
     }
-    if name == b"AND".as_slice() {
+    if same_bytes(name, b"AND") {
         return Some(Kind::And);
     }
-    if name == b"OR".as_slice() {
+    if same_bytes(name, b"OR") {
         return Some(Kind::Or);
     }
-    if name == b"XOR".as_slice() {
+    if same_bytes(name, b"XOR") {
         return Some(Kind::Xor);
     }
-    if name == b"MUX2".as_slice() {
+    if same_bytes(name, b"MUX2") {
         return Some(Kind::Mux2);
     }
-    if name == b"MUX4".as_slice() {
+    if same_bytes(name, b"MUX4") {
         return Some(Kind::Mux4);
     }
-    if name == b"MUX8".as_slice() {
+    if same_bytes(name, b"MUX8") {
         return Some(Kind::Mux8);
     }
-    if name == b"CHG".as_slice() {
+    if same_bytes(name, b"CHG") {
         return Some(Kind::Chg);
     }
-    if name == b"REG".as_slice() {
+    if same_bytes(name, b"REG") {
         return Some(Kind::Reg);
     }
-    if name == b"REG_RS".as_slice() {
+    if same_bytes(name, b"REG_RS") {
         return Some(Kind::RegRs);
     }
-    if name == b"LATCH".as_slice() {
+    if same_bytes(name, b"LATCH") {
         return Some(Kind::Latch);
     }
-    if name == b"LATCH_RS".as_slice() {
+    if same_bytes(name, b"LATCH_RS") {
         return Some(Kind::LatchRs);
     }
-    if name == b"SETUP_HOLD_CHK".as_slice() {
+    if same_bytes(name, b"SETUP_HOLD_CHK") {
         return Some(Kind::SetupHold);
     }
-    if name == b"SETUP_RISE_HOLD_FALL_CHK".as_slice() {
+    if same_bytes(name, b"SETUP_RISE_HOLD_FALL_CHK") {
         return Some(Kind::RiseFall);
     }
-    if name == b"MIN_PULSE_CHK".as_slice() {
+    if same_bytes(name, b"MIN_PULSE_CHK") {
         return Some(Kind::MinPulse);
     }
     None
@@ -110,7 +110,7 @@ fn most_marks(kind: Kind) -> usize
 fn is_one_of(name: &[u8], one: &[u8], other: &[u8]) -> bool
     ensures { result ≡ list_any (bytes_eq name.now) (one.now ∷ other.now ∷ []) }
 {
-    name == one || name == other
+    same_bytes(name, one) || same_bytes(name, other)
 }
 
 fn takes(kind: Kind, name: &[u8]) -> bool

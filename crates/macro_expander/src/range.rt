@@ -1,6 +1,6 @@
 //! The values of expressions, and the numbers of ranges.
 
-ghost use Rattle.std.specs.Prelude.{◌≡◌, Ok, MatchResult};
+ghost use Rattle.std.specs.Prelude.{◌≡◌, Ok};
 ghost use Rattle.std.specs.Option.{option_map};
 ghost use Rattle.scald_expr.specs.Expression.{expression_of};
 ghost use Rattle.drawing_tree.specs.Tree.{range_of};

@@ -1,11 +1,10 @@
 //! The bits of nets and of formals.
 
-ghost use Rattle.std.specs.Prelude.{◌≡◌, ◌++◌, [], map, IfOk, IfSome, codes, None, if◌then◌else◌};
-ghost use Rattle.std.specs.Option.{option_copied, option_map};
+ghost use Rattle.std.specs.Prelude.{◌≡◌, ◌++◌, [], IfOk, IfSome, codes, None, if◌then◌else◌};
+ghost use Rattle.std.specs.Option.{option_copied};
 ghost use Rattle.std.specs.List.{find};
 ghost use Rattle.std.specs.Str.{bytes_eq};
 ghost use Rattle.scald_base.specs.Fitting.{Fits};
-ghost use Rattle.flat_circuit.specs.Builder.{IsBuilt};
 ghost use Rattle.macro_expander.specs.Terms.{net_bit, net_bits as spec_net_bits, net_text, meant, named_bits as spec_named_bits};
 ghost use Rattle.macro_expander.specs.Runs.{HasRun};
 ghost use Rattle.macro_expander.specs.Numbered.{BitAt, BitsAt, state_of, scope_of, ScopeExists, nets_in, names_in};

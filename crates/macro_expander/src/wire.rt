@@ -1,6 +1,6 @@
 //! WIRE statements.
 
-ghost use Rattle.std.specs.Prelude.{◌≡◌, map};
+ghost use Rattle.std.specs.Prelude.{map};
 ghost use Rattle.std.specs.List.{All};
 ghost use Rattle.scald_base.specs.Fitting.{Fits};
 ghost use Rattle.flat_circuit.specs.Instances.{TargetExists};

@@ -8,3 +8,4 @@ pub mod Whole
 pub mod Spelt
 pub mod Stands
 pub mod Longest
+pub mod Placed

@@ -19,7 +19,7 @@ nothing_past text at p true e h = ltb-true at (length text) e
 nothing_past text at p false e h = absurd (let n : piece_at (drop at text) ≡ None = ap piece_at (drop_all at text (ltb-false at (length text) e)) in cc)
 
 -- A piece stands before the end of the text.
-before_end : (text : List ℕ) (at : ℕ) (p : Piece) → piece_at (drop at text) ≡ Some p → at < length text
+pub before_end : (text : List ℕ) (at : ℕ) (p : Piece) → piece_at (drop at text) ≡ Some p → at < length text
 before_end text at p h = nothing_past text at p (nat_lt at (length text)) refl h
 
 lower : (text : List ℕ) (low from : ℕ) (ts : List Token) → low ≤ from → StandFrom text from ts → StandFrom text low ts

@@ -3,7 +3,8 @@ use Rattle.std.proofs.Common.{◌≡◌, ℕ, ◌+◌, ◌-◌, ◌*◌, ◌<◌
 use Rattle.std.proofs.lemmas.List.{take_more}
 use Rattle.scald_lex.specs.Bytes.{value_after, value_of}
 
-value_after_more : (n : ℕ) (digits : List ℕ) (b : ℕ) → value_after n (digits ++ b ∷ []) ≡ value_after n digits * 10 + (b - 48)
+-- One digit more.
+pub value_after_more : (n : ℕ) (digits : List ℕ) (b : ℕ) → value_after n (digits ++ b ∷ []) ≡ value_after n digits * 10 + (b - 48)
 value_after_more n [] b = refl
 value_after_more n (d ∷ ds) b = value_after_more (n * 10 + (d - 48)) ds b
 

@@ -1,6 +1,6 @@
 -- Laws of the tokens of a text, whichever it is.
 use Rattle.std.specs.Prelude.{◌≡◌, ℕ, ◌<◌, ◌≤◌, true, List, [], ◌∷◌, ◌++◌, length, take, slice_range, codes, pos, Some, ◌⊎◌}
-use Rattle.std.specs.List.{list_all}
+use Rattle.std.specs.List.{All, list_all}
 use Rattle.scald_base.specs.Word.{is_digit, IsWord}
 use Rattle.scald_base.specs.declared.refusal.Refusal.{Refusal}
 use Rattle.scald_lex.specs.declared.token.TokenKind.{TokenKind}
@@ -8,7 +8,7 @@ use Rattle.scald_lex.specs.declared.token.TokenKind.TheVariants.{Word, Number, N
 use Rattle.scald_lex.specs.declared.token.Token.{Token}
 use Rattle.scald_lex.specs.declared.piece.Piece.TheVariants.{Lexeme}
 use Rattle.scald_lex.specs.Bytes.{quote, is_name_byte, is_symbol, value_of}
-use Rattle.scald_lex.specs.Place.{place_at}
+use Rattle.scald_lex.specs.Place.{place_at, IsPlaceOf}
 use Rattle.scald_lex.specs.Piece.{greatest_number, piece_at}
 use Rattle.scald_lex.specs.Tokens.{AreTokens, end_token, IsRefused}
 
@@ -85,3 +85,11 @@ abbrev pub TokensAreLongest : Type 0
 TokensAreLongest =
     (rest : List ℕ) (kind : TokenKind) (count : ℕ) → piece_at rest ≡ Some (Lexeme kind count) →
     (other : TokenKind) (more : ℕ) → count < more → more ≤ length rest → ¬ Spells other (take more rest)
+
+-- A refusal has the place of a byte, or of the end.
+abbrev pub RefusalsArePlaced : Type 0
+RefusalsArePlaced = (text : List ℕ) (r : Refusal) → IsRefused text r → IsPlaceOf text r.place
+
+-- A token has the place of a byte, or of the end.
+abbrev pub TokensArePlaced : Type 0
+TokensArePlaced = (text : List ℕ) (tokens : List Token) → AreTokens text tokens → All (λ t. IsPlaceOf text t.place) tokens

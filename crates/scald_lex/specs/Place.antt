@@ -1,5 +1,5 @@
 -- Places of a text. Lines and columns count from 1, and a column is a byte.
-use Rattle.std.specs.Prelude.{ℕ, ◌+◌, ◌==◌, if◌then◌else◌, List, [], ◌∷◌, take}
+use Rattle.std.specs.Prelude.{◌≡◌, ℕ, ◌+◌, ◌≤◌, ◌==◌, if◌then◌else◌, List, [], ◌∷◌, length, take}
 use Rattle.scald_base.specs.declared.refusal.Place.{Place}
 use Rattle.scald_lex.specs.Bytes.{line_end}
 
@@ -18,3 +18,9 @@ place_behind p (b ∷ bs) = place_behind (next_place p b) bs
 -- the place of the byte with this number, from 0
 abbrev pub place_at : List ℕ → ℕ → Place
 place_at text at = place_behind first_place (take at text)
+
+-- It is the place of a byte of the text, or of its end.
+pub record IsPlaceOf (text : List ℕ) (place : Place) : Type 0 where
+  pub at : ℕ
+  pub within : at ≤ length text
+  pub is : place ≡ place_at text at

@@ -1,6 +1,6 @@
 //! Laws of the tokens of a text. The functions do nothing: what each states is its contract.
 
-ghost use Rattle.scald_lex.specs.Laws.{OneList, NotBoth, OneRefusal, TokensAreLongest, TokensOrRefusal, TokensStand};
+ghost use Rattle.scald_lex.specs.Laws.{OneList, NotBoth, OneRefusal, RefusalsArePlaced, TokensAreLongest, TokensArePlaced, TokensOrRefusal, TokensStand};
 
 /// A text has one list of tokens.
 pub fn one_list()
@@ -30,4 +30,14 @@ pub fn tokens_stand()
 /// No token is the front of a longer one that stands there.
 pub fn tokens_are_longest()
     ensures { TokensAreLongest }
+{}
+
+/// A text is refused at the place of one of its bytes, or of its end.
+pub fn refusals_are_placed()
+    ensures { RefusalsArePlaced }
+{}
+
+/// A token stands at the place of a byte of the text, or of its end.
+pub fn tokens_are_placed()
+    ensures { TokensArePlaced }
 {}

@@ -12,10 +12,8 @@ mod scan;
 mod token;
 
 pub use laws::{
-    not_both, one_list, one_refusal, tokens_are_longest, tokens_or_refusal, tokens_stand,
+    not_both, one_list, one_refusal, refusals_are_placed, tokens_are_longest, tokens_are_placed,
+    tokens_or_refusal, tokens_stand,
 };
 pub use scan::tokens;
 pub use token::{Token, TokenKind, TokenList};
-
-#[cfg(test)]
-mod tests;

@@ -1,6 +1,6 @@
 //! What stands in front of a rest of a text.
 
-ghost use Rattle.std.specs.Prelude.{◌≡◌, ◌≤◌, ◌<◌, ◌∷◌, ◌^◌, ◌-◌, min, length};
+ghost use Rattle.std.specs.Prelude.{◌≡◌, ◌≤◌, ◌<◌, ◌^◌, ◌-◌, min, length};
 ghost use Rattle.std.specs.List.{prefix_len};
 ghost use Rattle.scald_base.specs.Word.{is_digit, is_word_byte};
 ghost use Rattle.scald_lex.specs.Bytes.{is_name_byte, is_comment_byte, value_of};

@@ -10,7 +10,7 @@ use Rattle.scald_tool.specs.declared.words.Command.{Command}
 use Rattle.scald_tool.specs.Case.{fault_count}
 use Rattle.scald_tool.specs.Report.{verdict_of}
 use Rattle.scald_tool.specs.Answer as answer
-use Rattle.scald_tool.specs.Answer.{Telling, Evaluated, Replied, limit_for, measured, reported, replied}
+use Rattle.scald_tool.specs.Answer.{Telling, Evaluated, Replied, measured, reported, replied}
 use Rattle.scald_tool.specs.Promise.{IsAnswered}
 use Rattle.scald_tool.specs.Finished.{ComesToRest, Passes, formatted, verified, benched, is_finished, IsFinished, AsksWell}
 

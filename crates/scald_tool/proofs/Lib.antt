@@ -16,3 +16,4 @@ pub mod Told
 pub mod Finishing
 pub mod Ending
 pub mod Forming
+pub mod Placed

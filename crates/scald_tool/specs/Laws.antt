@@ -1,9 +1,11 @@
 -- Laws of texts and answers on which the promise of the whole call rests.
 use Rattle.std.specs.Prelude.{◌≡◌, ℕ, List}
+use Rattle.scald_base.specs.declared.refusal.Refusal.{Refusal}
+use Rattle.scald_lex.specs.Place.{IsPlaceOf}
 use Rattle.flat_circuit.specs.declared.case.CaseValue.{CaseValue}
 use Rattle.flat_circuit.specs.Circuit.{Circuit}
 use Rattle.scald_tool.specs.declared.outcome.Outcome.{Outcome}
-use Rattle.scald_tool.specs.Drawn.{DrawsCircuit}
+use Rattle.scald_tool.specs.Drawn.{DrawsCircuit, IsTextRefused}
 use Rattle.scald_tool.specs.Answer.{Answer}
 
 -- a text draws one circuit at most, with the same cases
@@ -17,3 +19,7 @@ abbrev pub OneAnswer : Type 0
 OneAnswer =
     (words : List (List ℕ)) (text : List ℕ) (o o' : Outcome) (bytes bytes' : List ℕ) →
     Answer words text o bytes → Answer words text o' bytes' → (o ≡ o') × (bytes ≡ bytes')
+
+-- a text is refused at the place of one of its bytes, or of its end
+abbrev pub RefusalsArePlaced : Type 0
+RefusalsArePlaced = (text : List ℕ) (r : Refusal) → IsTextRefused text r → IsPlaceOf text r.place

@@ -1,6 +1,6 @@
 //! From a text to the canonical text of its drawing.
 
-ghost use Rattle.std.specs.Prelude.{◌≡◌, ◌≢◌, ◌-◌, ◌^◌, ◌<◌, IfOk, length, true};
+ghost use Rattle.std.specs.Prelude.{◌≡◌, ◌-◌, ◌^◌, ◌<◌, IfOk, length, true};
 ghost use Rattle.drawing_tree.specs.Tree.{drawing_of};
 ghost use Rattle.drawing_tree.specs.Canonical.{canonical};
 ghost use Rattle.scald_tool.specs.Answer.{Formatted};

@@ -3,7 +3,7 @@
 ghost use Rattle.std.specs.Prelude.{◌≡◌, ◌⊎◌, None};
 ghost use Rattle.scald_tool.specs.Finished.{AsksWell, IsFinished};
 ghost use Rattle.scald_tool.specs.Forms.{WordsAreKnown, WordsAreRead};
-ghost use Rattle.scald_tool.specs.Laws.{OneAnswer, OneCircuit};
+ghost use Rattle.scald_tool.specs.Laws.{OneAnswer, OneCircuit, RefusalsArePlaced};
 ghost use Rattle.scald_tool.specs.Promise.{IsAnswered};
 
 use crate::outcome::Outcome;
@@ -27,6 +27,11 @@ pub fn text_draws_one_circuit()
 /// Words and a text have one answer.
 pub fn words_have_one_answer()
     ensures { OneAnswer }
+{}
+
+/// A text is refused at the place of one of its bytes, or of its end.
+pub fn refusals_are_placed()
+    ensures { RefusalsArePlaced }
 {}
 
 /// The whole call over devices that never fail, of which nothing is asked: the answer is the one that the

@@ -27,8 +27,6 @@ mod tool;
 
 // beside the call
 pub mod laws;
-#[cfg(test)]
-mod tests;
 
 pub use outcome::{Outcome, status};
 pub use tool::tool_main;

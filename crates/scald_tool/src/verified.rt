@@ -3,7 +3,7 @@
 ghost use Rattle.std.specs.Prelude.{◌≡◌, ◌≢◌, ◌-◌, ◌^◌, ◌<◌, ◌≤◌, ◌⊎◌, ℕ, true, None, IfOk, IfSome, length};
 ghost use Rattle.scald_tool.specs.Answer.{Verified};
 ghost use Rattle.scald_tool.specs.Drawn.{IsLoopless};
-ghost use Rattle.scald_tool.specs.Promise.{FaultlessNeverBreaks, IsVerified, NeverBreaks, has_report, may_give, speaks};
+ghost use Rattle.scald_tool.specs.Promise.{FaultlessNeverBreaks, IsVerified, NeverBreaks, has_report, may_give};
 
 use crate::outcome::Outcome;
 use crate::reply::Reply;
