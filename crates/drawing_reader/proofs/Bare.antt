@@ -40,15 +40,6 @@ bare_good h text of_formal place is = record {
   fits = record { intervals = tt; edges = λ x. x };
 }
 
--- a name may stand outside of a head wherever it may stand
-pub good_known : (h : Header) (text : List ℕ) (of_formal : Bool) (place : Place) → IsGood h (named text of_formal place) → IsKnown h text
-good_known h text of_formal place good p = record {
-  name = good.name;
-  spelled = good.spelled;
-  plain = λ e. absurd cc;
-  fits = good.fits;
-}
-
 -- the name that is known before any is read
 pub first_known : (h : Header) → IsKnown h (65 ∷ [])
 first_known h p = bare_good h (65 ∷ []) false p (bare_base (65 ∷ []) refl (omega arith) refl)

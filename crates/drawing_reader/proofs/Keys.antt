@@ -7,6 +7,7 @@ use Rattle.drawing_tree.specs.WellFormed.{primitive_names}
 use Rattle.std.specs.List.{list_any}
 use Rattle.std.specs.Str.{bytes_eq}
 use Rattle.std.proofs.lemmas.Slice.Eq.{bytes_eq-Decides}
+use Rattle.std.proofs.lemmas.Bool.{not-false, not-true}
 use Rattle.std.proofs.Math.Bool.{or-true}
 use Rattle.drawing_reader.specs.declared.declared.Declared.{Declared}
 use Rattle.drawing_grammar.specs.declared.declared.Kind.{Kind}
@@ -95,18 +96,10 @@ taken_test scope kind name taken e f g =
 
 -- ---- a declaration that is put into a set
 
-known : (b new : Bool) → new ≡ not b → new ≡ false → b ≡ true
-known true new e f = refl
-known false new e f = absurd cc
-
-unknown : (b new : Bool) → new ≡ not b → new ≡ true → b ≡ false
-unknown false new e f = refl
-unknown true new e f = absurd cc
-
 pub taken_again : (front : List Key) (seen : List Declared) (d : Declared) (place : Place) (new : Bool) → new ≡ not (list_any (eq-value.it d) seen) → new ≡ false → Repeats (front ++ map key_of seen) (declaration d.scope d.kind d.name.now place ∷ []) (double_at place)
 taken_again front seen d place new e f =
     repeats_one (front ++ map key_of seen) (declaration d.scope d.kind d.name.now place)
-    (more_has front (map key_of seen) (key_of d) (found_key d seen (known (list_any (eq-value.it d) seen) new e f)))
+    (more_has front (map key_of seen) (key_of d) (found_key d seen (not-false (list_any (eq-value.it d) seen) (sym e ∙ f))))
 
 pub taken_before : (front more : List Key) (d : Declaration) → Contains front d.key → Repeats (front ++ more) (d ∷ []) (double_at d.place)
 taken_before front more d found = repeats_one (front ++ more) d (front_has front more d.key found)
@@ -117,7 +110,7 @@ pushed seen keys d false e f = ap (map key_of) e ∙ map_push key_of seen d
 
 pub taken_new : (front : List Key) (seen keys : List Declared) (d : Declared) (place : Place) (new : Bool) → (Contains front (key_of d) → ⊥) → new ≡ not (list_any (eq-value.it d) seen) → new ≡ true → keys ≡ (if list_any (eq-value.it d) seen then seen else seen ++ d ∷ []) → Declares (front ++ map key_of seen) (front ++ map key_of keys) (declaration d.scope d.kind d.name.now place ∷ [])
 taken_new front seen keys d place new free e f g =
-    let none = unknown (list_any (eq-value.it d) seen) new e f in
+    let none = not-true (list_any (eq-value.it d) seen) (sym e ∙ f) in
     let one = declaration d.scope d.kind d.name.now place in
     let more : front ++ map key_of keys ≡ (front ++ map key_of seen) ++ key_of d ∷ [] =
     ap (λ (ks : List Key). front ++ ks) (pushed seen keys d (list_any (eq-value.it d) seen) g none) ∙ sym (append_assoc front (map key_of seen) (key_of d ∷ [])) in

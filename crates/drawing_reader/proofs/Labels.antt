@@ -1,5 +1,5 @@
 -- What each part of a drawing declares.
-use Rattle.std.proofs.Common.{◌≡◌, ℕ, ◌+◌, ◌<◌, ◌≤◌, suc, List, [], ◌∷◌, ◌++◌, length, map, get_or, drop, refl, sym, ap, ◌∙◌, add-one, drop-cons, Option, Some, None}
+use Rattle.std.proofs.Common.{◌≡◌, ℕ, ◌+◌, ◌<◌, ◌≤◌, suc, List, [], ◌∷◌, ◌++◌, length, map, get_or, drop, sym, ap, ◌∙◌, add-one, drop-cons, Option, Some, None}
 use Rattle.std.specs.Global.{Vec}
 use Rattle.std.proofs.lemmas.List.{append-nil, drop_all}
 use Rattle.scald_base.specs.declared.refusal.Place.{Place}
@@ -12,7 +12,7 @@ use Rattle.drawing_tree.specs.declared.statement.Stmt.TheVariants as stmt
 use Rattle.drawing_tree.specs.declared.drawing.Formal as written
 use Rattle.drawing_tree.specs.declared.drawing.MacroDef.{MacroDef}
 use Rattle.drawing_grammar.specs.declared.head.Head.{Head}
-use Rattle.drawing_tree.specs.Tree.{Macro, macro_of, assignment_of, formal_of, statement_of, statements_of, if_of, else_of}
+use Rattle.drawing_tree.specs.Tree.{macro_of, assignment_of, formal_of, statement_of, statements_of, if_of, else_of}
 use Rattle.drawing_tree.proofs.Views.{view_use, view_wire, view_choice, view_if}
 use Rattle.drawing_grammar.specs.declared.declared.Kind.TheVariants.{Parameter, Formal, Label}
 use Rattle.drawing_grammar.specs.DoubleNames.{declaration, parameters, formals, labels, statement_labels, else_labels, head_declared, macros_declared}
@@ -76,9 +76,6 @@ label_of scope u s name e f = ap (λ (x : Stmt). statement_labels scope (stateme
 pub no_label : (scope : ℕ) (w : WireStmt) (s : Stmt) → s ≡ stmt.Wire w → statement_labels scope (statement_of s) ≡ []
 no_label scope w s e = ap (λ (x : Stmt). statement_labels scope (statement_of x)) e ∙ wire_labels scope w
 
-pub inner_labels : (scope : ℕ) (i : IfStmt) (s : Stmt) → s ≡ stmt.If i → statement_labels scope (statement_of s) ≡ statement_labels scope (if_of i)
-inner_labels scope i s e = ap (λ (x : Stmt). statement_labels scope (statement_of x)) e ∙ choice_labels scope i
-
 -- no statement is left
 pub no_labels : (scope : ℕ) (ss : List Stmt) (i : ℕ) → length ss ≤ i → labels scope (statements_of (drop i ss)) ≡ []
 unfolding labels
@@ -89,10 +86,3 @@ next_macro xs i x heads head more below is split =
     ap (λ (hs : List Head). macros_declared i (map macro_of (drop i xs)) hs) split
     ∙ (ap (λ (ys : List MacroDef). macros_declared i (map macro_of ys) (head ∷ more)) (dropped xs i x below is)
     ∙ ap (λ (n : ℕ). (head_declared i (macro_of x) head ++ labels i (macro_of x).body) ++ macros_declared n (map macro_of (drop (i + 1) xs)) more) (sym (add-one i)))
-
-pub no_macros : (xs : List MacroDef) (i : ℕ) (heads : List Head) → length xs ≤ i → macros_declared i (map macro_of (drop i xs)) heads ≡ []
-no_macros xs i heads past = ap (λ (ys : List MacroDef). macros_declared i (map macro_of ys) heads) (drop_all i xs past)
-
-pub no_heads : (scope : ℕ) (ms : List Macro) (heads : List Head) → heads ≡ [] → macros_declared scope ms heads ≡ []
-no_heads scope [] heads none = refl
-no_heads scope (m ∷ ms) heads none = ap (λ (hs : List Head). macros_declared scope (m ∷ ms) hs) none

@@ -1,4 +1,3 @@
-pub mod Taken
 pub mod Cursors
 pub mod Lone
 pub mod Lists

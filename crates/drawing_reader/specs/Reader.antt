@@ -1,13 +1,21 @@
 -- What a cursor has before it.
-use Rattle.std.specs.Prelude.{◌≡◌, List, [], ◌∷◌, Option, Some, None, Result, Ok, Err}
+use Rattle.std.specs.Prelude.{◌≡◌, ℕ, List, [], ◌∷◌, map, Option, Some, None, option_map, Result, Ok, Err}
+use Rattle.std.specs.Global.{Vec}
 use Rattle.scald_base.specs.declared.refusal.Place.{Place}
 use Rattle.scald_base.specs.declared.refusal.Stop.{Stop}
 use Rattle.drawing_grammar.specs.declared.header.NumberPair.{NumberPair}
 use Rattle.scald_lex.specs.declared.token.Token as lex
-use Rattle.drawing_grammar.specs.declared.terminal.Terminal.TheVariants.{EndOfText}
+use Rattle.assertion_syntax.specs.declared.name.SignalName.{SignalName}
+use Rattle.drawing_tree.specs.declared.connection.RangeExpr.{RangeExpr}
+use Rattle.drawing_tree.specs.declared.statement.Stmt.{Stmt}
+use Rattle.drawing_tree.specs.Tree.{range_of, assignment_of, both_of, connection_of, statements_of}
+use Rattle.drawing_grammar.specs.declared.terminal.Letter.TheVariants.{By}
+use Rattle.drawing_grammar.specs.declared.terminal.Terminal.TheVariants.{Clock, Drawing, End, Word, Number, Name, Semicolon, OpenParenthesis, CloseParenthesis, EndOfText}
+use Rattle.drawing_reader.specs.declared.statement.Details.{Details}
 use Rattle.drawing_reader.specs.declared.cursor.Cursor.{Cursor}
 use Rattle.drawing_grammar.specs.Lexeme.{Lexeme, lexeme_of, lexemes, number_of}
-use Rattle.drawing_grammar.specs.Grammar.{Need, mark, bounds}
+use Rattle.drawing_grammar.specs.Grammar.{Need, mark, item, letter, part, group, bounds, Range, Delay, Parameters, Conns, Outputs, Statements}
+use Rattle.drawing_grammar.specs.Sketch.{signal_of, number_pair}
 use Rattle.drawing_grammar.specs.Machine.{Verdict, Complete, verdict, Moves, Fails}
 
 -- the tokens before it
@@ -39,6 +47,36 @@ pub record Taken (old new : Cursor) : Type 0 where
 abbrev pub PairAt : Result NumberPair Stop → Place → Cursor → Cursor → Type 0
 PairAt (Ok x) place old new = (a : Lexeme) × (b : Lexeme) × (x ≡ record { first = number_of a; second = number_of b; place = place }) × ((rest : List Need) → Moves (ahead old (bounds rest)) (ahead new rest) (λ v. (a, (b, v))))
 PairAt (Err s) place old new = (rest : List Need) → Fails (ahead old (bounds rest)) s
+
+-- The units and ticks of the clock.
+abbrev pub clock_needs : List Need → List Need
+clock_needs rest = item Clock ∷ item Number ∷ letter By ∷ item Number ∷ mark Semicolon ∷ rest
+
+abbrev pub ClockAt : Result NumberPair Stop → Cursor → Cursor → Type 0
+ClockAt (Ok x) old new = (c : Lexeme) × (a : Lexeme) × (b : Lexeme) × (x ≡ number_pair c a b) × ((rest : List Need) → Moves (ahead old (clock_needs rest)) (ahead new rest) (λ v. (c, (a, (b, v)))))
+ClockAt (Err s) old new = (rest : List Need) → Fails (ahead old (clock_needs rest)) s
+
+-- A net, with its range where one is written.
+abbrev pub NetAt : Result (SignalName × Option RangeExpr) Stop → Cursor → Cursor → Type 0
+NetAt (Ok x) old new = (t : Lexeme) × (x.0 ≡ signal_of t) × ((rest : List Need) → Moves (ahead old (item Name ∷ part Range 0 ∷ rest)) (ahead new rest) (λ v. (t, (option_map range_of x.1, v))))
+NetAt (Err s) old new = (rest : List Need) → Fails (ahead old (item Name ∷ part Range 0 ∷ rest)) s
+
+-- What stands between the kind of a use and its end, wherever its parameters are named.
+abbrev pub details : List Need → List Need
+details rest = part Delay 0 ∷ part Parameters 0 ∷ mark OpenParenthesis ∷ group Conns 0 ∷ mark CloseParenthesis ∷ part Outputs 0 ∷ mark Semicolon ∷ rest
+
+abbrev pub DetailsAt : Result Details Stop → Cursor → Cursor → Type 0
+DetailsAt (Ok x) old new = (places : List Place) × ((rest : List Need) → Moves (ahead old (details rest)) (ahead new rest) (λ v. (option_map both_of x.delay, (record { items = map assignment_of x.params; places = places }, (map connection_of x.ins, (map connection_of x.outs, v))))))
+DetailsAt (Err s) old new = (rest : List Need) → Fails (ahead old (details rest)) s
+
+-- The statements of a macro or of a drawing, from the semicolon in front of them to the END behind them.
+abbrev pub body : List Need → List Need
+body rest = mark Semicolon ∷ group Statements 0 ∷ mark End ∷ mark Semicolon ∷ rest
+
+-- The name of a drawing, and its statements.
+abbrev pub DrawingAt : Result (List ℕ × Vec Stmt) Stop → Cursor → Cursor → Type 0
+DrawingAt (Ok x) old new = (t : Lexeme) × (x.0 ≡ t.text) × ((rest : List Need) → Moves (ahead old (mark Drawing ∷ item Word ∷ body rest)) (ahead new rest) (λ v. (t, (statements_of x.1.items, v))))
+DrawingAt (Err s) old new = (rest : List Need) → Fails (ahead old (mark Drawing ∷ item Word ∷ body rest)) s
 
 -- The end stands before the cursor and nothing behind it, or reading stops so.
 abbrev pub EndAt : {X : Type 0} → Result X Stop → Cursor → Type 0

@@ -1,12 +1,16 @@
 -- What reading a text answers, against the grammar.
-use Rattle.std.specs.Prelude.{◌≡◌, List, map, Result, Ok, Err, ◌⊎◌}
+use Rattle.std.specs.Prelude.{◌≡◌, List, ◌∷◌, map, Result, Ok, Err, ◌⊎◌}
 use Rattle.scald_base.specs.declared.refusal.Refusal.{Refusal}
 use Rattle.scald_base.specs.declared.refusal.Stop.{Stop}
 use Rattle.scald_base.specs.declared.refusal.Stop.TheVariants as stop
 use Rattle.drawing_tree.specs.Tree.{macro_of, statements_of}
 use Rattle.drawing_reader.specs.declared.reader.Sketch as written
 use Rattle.drawing_grammar.specs.Lexeme.{Lexeme}
-use Rattle.drawing_grammar.specs.Sketch.{Sketch}
+use Rattle.drawing_grammar.specs.declared.header.WrittenHeader.{WrittenHeader}
+use Rattle.drawing_grammar.specs.declared.terminal.Terminal.TheVariants.{Drawing, Word, EndOfText}
+use Rattle.drawing_grammar.specs.Grammar.{Need, mark, item, part, group, Text, Macros, Cases}
+use Rattle.drawing_grammar.specs.Sketch.{Sketch, Values}
+use Rattle.drawing_reader.specs.Reader.{body}
 use Rattle.drawing_grammar.specs.Draws.{whole}
 use Rattle.drawing_grammar.specs.Machine.{Complete, verdict, Says}
 
@@ -18,6 +22,13 @@ sketch_of x = record {
   body = statements_of x.body.items;
   cases = x.cases;
 }
+
+-- what a text needs behind its header, and what that stands for with the header
+abbrev pub behind_header : List Need → List Need
+behind_header rest = group Macros 0 ∷ mark Drawing ∷ item Word ∷ body (group Cases 0 ∷ mark EndOfText ∷ rest)
+
+abbrev pub headed : (rest : List Need) → WrittenHeader → Values (behind_header rest) → Values (part Text 0 ∷ rest)
+headed rest header v = (record { header = header; macros = v.0; name = v.1.0.text; body = v.1.1.0; cases = v.1.1.1.0 }, v.1.1.1.1)
 
 -- The answer is this, unless memory ran out.
 abbrev pub GivesSketch : Sketch → Result written.Sketch Stop → Type 0

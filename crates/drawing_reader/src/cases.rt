@@ -1,13 +1,14 @@
 //! Reads cases.
 
-ghost use Rattle.std.specs.Prelude.{◌≡◌, ◌≤◌, ◌<◌, ◌-◌, ◌^◌, ℕ, List, [], ◌∷◌, length, IfOk, OnOk, min};
+ghost use Rattle.std.specs.Prelude.{◌≡◌, ◌≤◌, ◌<◌, ◌-◌, ◌^◌, List, ◌∷◌, length, OnOk, min};
 ghost use Rattle.drawing_grammar.specs.Header.{natural};
 ghost use Rattle.drawing_grammar.specs.Lexeme.{kind_number};
 ghost use Rattle.drawing_grammar.specs.Grammar.{Need, part, group, Index, Entry, Entries, CaseStatement, Cases};
 ghost use Rattle.drawing_grammar.specs.Machine.{Gives};
 ghost use Rattle.drawing_reader.specs.Reader.{ahead};
 
-use crate::cursor::Cursor;
+use crate::cursor::{Cursor, text_of};
+use crate::signal::signal;
 use drawing_grammar::Terminal;
 use drawing_tree::{CaseEntries, CaseEntry, CaseStmt, CaseStmts};
 use scald_base::{RefusalKind, Stop};
@@ -54,10 +55,11 @@ impl<'a> Cursor<'a> {
             return Err(self.refused(RefusalKind::Syntax));
         }
         let token = self.bump();
-        let name = self.name(alloc, token)?;
+        let text = text_of(self.text, token);
         let bit = self.index()?;
         self.mark(Terminal::Equals)?;
         let number = self.item(Terminal::Number)?;
+        let name = signal(alloc, text)?;
         Ok(CaseEntry {
             name,
             bit,

@@ -1,15 +1,16 @@
 //! Reads ranges and connections.
 
-ghost use Rattle.std.specs.Prelude.{◌≡◌, ◌≢◌, ◌≤◌, ◌<◌, ℕ, List, [], ◌∷◌, ◌++◌, map, length, IfOk, OnOk, IfErr, is_some, option_map, true};
+ghost use Rattle.std.specs.Prelude.{◌≡◌, ◌≤◌, ◌<◌, List, ◌∷◌, map, length, is_some, option_map, true};
 ghost use Rattle.scald_expr.specs.Expression.{expression_of};
 ghost use Rattle.drawing_tree.specs.Tree.{range_of, item_of, term_of, connection_of};
 ghost use Rattle.drawing_grammar.specs.Grammar.{Need, part, group, Range, RangeEnd, Term as TermPart, Atom, Hold, Conn as ConnGroup, SomeConns, Conns as ConnsGroup, Outputs};
-ghost use Rattle.drawing_grammar.specs.Machine.{Gives, Moves, choice};
-ghost use Rattle.drawing_reader.specs.Reader.{tokens_at, ahead};
+ghost use Rattle.drawing_grammar.specs.Machine.{Gives, choice};
+ghost use Rattle.drawing_reader.specs.Reader.{tokens_at, ahead, NetAt};
 ghost use Rattle.drawing_grammar.specs.Front.{first_terminal};
 
 use crate::cursor::{Cursor, text_of};
 use crate::signal::signal;
+use assertion_syntax::SignalName;
 use drawing_grammar::{Letter, Terminal};
 use drawing_tree::{Conn, Conns, Item, RangeExpr, Term, Terms};
 use scald_base::{Place, RefusalKind, Stop};
@@ -42,6 +43,17 @@ impl<'a> Cursor<'a> {
         let last = self.range_end(alloc)?;
         self.mark(Terminal::Greater)?;
         Ok(Some(RangeExpr { first, last }))
+    }
+
+    /// A net, with its range where one stands behind it.
+    pub fn net(&mut self, alloc: Global) -> Result<(SignalName, Option<RangeExpr>), Stop>
+        ensures reads { NetAt result self.old self.new }
+        ensures no_longer { length self.new.rest.now ≤ length self.old.rest.now }
+    {
+        let token = self.item(Terminal::Name)?;
+        let name = self.name(alloc, token)?;
+        let range = self.range(alloc)?;
+        Ok((name, range))
     }
 
     fn atom(&mut self, alloc: Global) -> Result<Item, Stop>

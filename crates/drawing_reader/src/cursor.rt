@@ -1,6 +1,6 @@
 //! The tokens that are still to be read.
 
-ghost use Rattle.std.specs.Prelude.{◌≡◌, ◌≢◌, ◌↔◌, ◌≤◌, ◌<◌, ℕ, suc, List, [], ◌∷◌, ◌++◌, length, IfOk, OnOk, IfErr, IsTrue, IsFalse, Some, None, slice_range};
+ghost use Rattle.std.specs.Prelude.{◌≡◌, ◌≢◌, ◌≤◌, ◌<◌, List, [], ◌∷◌, length, OnOk, IsTrue, IsFalse, Some, None, slice_range};
 ghost use Rattle.scald_lex.specs.declared.token.TokenKind.TheVariants.{End};
 ghost use Rattle.drawing_grammar.specs.declared.terminal.Terminal.TheVariants.{EndOfText};
 ghost use Rattle.drawing_grammar.specs.Lexeme.{lexeme_of, terminal};
@@ -123,7 +123,7 @@ impl<'a> Cursor<'a> {
         token
     }
 
-    /// Takes a token that has to stand here.
+    /// Takes a token that has to stand here; where the next is another, `Syntax` comes at its place.
     pub fn mark(&mut self, terminal: Terminal) -> Result<(), Stop>
         requires { terminal ≢ EndOfText }
         ensures reads { (rest : List Need) → Gives result (λ _ v. v) (ahead self.old (mark terminal ∷ rest)) (ahead self.new rest) }
@@ -137,7 +137,7 @@ impl<'a> Cursor<'a> {
         Ok(())
     }
 
-    /// Takes a token that has to stand here, and whose text counts.
+    /// Takes a token that has to stand here, and whose text counts; `Syntax` comes as of `mark`.
     pub fn item(&mut self, terminal: Terminal) -> Result<Token, Stop>
         requires { terminal ≢ EndOfText }
         ensures reads { (rest : List Need) → Gives result (λ t v. (at self.old t, v)) (ahead self.old (item terminal ∷ rest)) (ahead self.new rest) }
@@ -170,7 +170,7 @@ impl<'a> Cursor<'a> {
         self.first_text() == letter.text()
     }
 
-    /// Takes a word that has to be this letter.
+    /// Takes a word that has to be this letter; where the next token is not, `Syntax` comes at its place.
     pub fn letter(&mut self, letter: Letter) -> Result<(), Stop>
         ensures reads { (rest : List Need) → Gives result (λ _ v. v) (ahead self.old (letter_need letter ∷ rest)) (ahead self.new rest) }
         ensures no_longer { length self.new.rest.now ≤ length self.old.rest.now }

@@ -12,7 +12,7 @@ use crate::declared::Declared;
 use drawing_grammar::{Head, Kind};
 use drawing_tree::{Assign, Formal, IfStmt, MacroDef, MacroDefs, Stmt};
 use indexmap::IndexSet;
-use scald_base::{Place, RefusalKind, Stop};
+use scald_base::{Place, RefusalKind, Stop, same_bytes};
 use std::alloc::Global;
 use std::marker::Model;
 
@@ -36,21 +36,21 @@ impl<'a> Model for Declarations<'a> {
 fn is_primitive(name: &[u8]) -> bool
     ensures { result ≡ list_any (bytes_eq name.now) primitive_names }
 {
-    name == b"BUF".as_slice()
-        || name == b"AND".as_slice()
-        || name == b"OR".as_slice()
-        || name == b"XOR".as_slice()
-        || name == b"MUX2".as_slice()
-        || name == b"MUX4".as_slice()
-        || name == b"MUX8".as_slice()
-        || name == b"CHG".as_slice()
-        || name == b"REG".as_slice()
-        || name == b"REG_RS".as_slice()
-        || name == b"LATCH".as_slice()
-        || name == b"LATCH_RS".as_slice()
-        || name == b"SETUP_HOLD_CHK".as_slice()
-        || name == b"SETUP_RISE_HOLD_FALL_CHK".as_slice()
-        || name == b"MIN_PULSE_CHK".as_slice()
+    same_bytes(name, b"BUF")
+        || same_bytes(name, b"AND")
+        || same_bytes(name, b"OR")
+        || same_bytes(name, b"XOR")
+        || same_bytes(name, b"MUX2")
+        || same_bytes(name, b"MUX4")
+        || same_bytes(name, b"MUX8")
+        || same_bytes(name, b"CHG")
+        || same_bytes(name, b"REG")
+        || same_bytes(name, b"REG_RS")
+        || same_bytes(name, b"LATCH")
+        || same_bytes(name, b"LATCH_RS")
+        || same_bytes(name, b"SETUP_HOLD_CHK")
+        || same_bytes(name, b"SETUP_RISE_HOLD_FALL_CHK")
+        || same_bytes(name, b"MIN_PULSE_CHK")
 }
 
 /// Whether a declaration is one that each drawing has.

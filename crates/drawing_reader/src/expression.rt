@@ -1,14 +1,14 @@
 //! Reads expressions. Each function is told how many parentheses and minus signs are open.
 
-ghost use Rattle.std.specs.Prelude.{◌≡◌, ◌≢◌, ◌≤◌, ◌<◌, ℕ, suc, List, [], ◌∷◌, length, IfOk, OnOk, IfErr, IfSome, IfNone, IsFalse, Some, None};
+ghost use Rattle.std.specs.Prelude.{◌≡◌, ◌≢◌, ◌≤◌, ◌<◌, ℕ, suc, List, ◌∷◌, length, IfOk, OnOk, IfErr, IfSome, IfNone, IsFalse, Some, None};
 ghost use Rattle.scald_expr.specs.Expression.{expression_of};
 ghost use Rattle.scald_expr.specs.Expression as Expression;
 ghost use Rattle.drawing_grammar.specs.declared.terminal.Terminal.TheVariants.{EndOfText};
 ghost use Rattle.drawing_grammar.specs.Lexeme.{kind_number};
 ghost use Rattle.drawing_grammar.specs.Grammar.{Need, part, group, fresh, Unary, Factors, Terms, OrEqual, Product, Sum, Expr as Whole};
 ghost use Rattle.drawing_grammar.specs.Sketch.{less_or, greater_or};
-ghost use Rattle.drawing_grammar.specs.Machine.{Gives, Moves, choice, refusal, nowhere};
-ghost use Rattle.drawing_reader.specs.Reader.{tokens_at, ahead, at, Taken};
+ghost use Rattle.drawing_grammar.specs.Machine.{Gives, Moves, choice, refusal};
+ghost use Rattle.drawing_reader.specs.Reader.{tokens_at, ahead, Taken};
 ghost use Rattle.drawing_grammar.specs.Front.{first_terminal, first_place};
 ghost use Rattle.drawing_reader.specs.Operators.{FactorAt, TermAt, ComparisonAt};
 

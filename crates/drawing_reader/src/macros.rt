@@ -1,17 +1,25 @@
 //! Reads macros.
 
-ghost use Rattle.std.specs.Prelude.{◌≡◌, ◌≤◌, ◌<◌, ℕ, List, [], ◌∷◌, map, length, IfOk, OnOk};
-ghost use Rattle.drawing_tree.specs.Tree.{formal_of, macro_of};
-ghost use Rattle.drawing_grammar.specs.Grammar.{Need, part, group, Formal as FormalPart, SomeFormals, Formals as FormalsGroup, FormalOutputs, Macro as MacroPart, Macros as MacrosGroup};
+ghost use Rattle.std.specs.Prelude.{◌≤◌, ◌<◌, List, ◌∷◌, map, length, OnOk};
+ghost use Rattle.drawing_tree.specs.Tree.{assignment_of, formal_of, macro_of};
+ghost use Rattle.drawing_grammar.specs.Grammar.{Need, mark, part, group, Parameters, Formal as FormalPart, SomeFormals, Formals as FormalsGroup, FormalOutputs, Macro as MacroPart, Macros as MacrosGroup};
 ghost use Rattle.drawing_grammar.specs.Machine.{Gives};
 ghost use Rattle.drawing_reader.specs.Reader.{ahead};
 
 use crate::cursor::Cursor;
 use assertion_syntax::SignalName;
 use drawing_grammar::{Head, Places, Terminal};
-use drawing_tree::{Formal, Formals, MacroDef, MacroDefs};
+use drawing_tree::{Assigns, Formal, Formals, MacroDef, MacroDefs};
 use scald_base::{List, Place, RefusalKind, Stop};
 use std::alloc::Global;
+
+/// What the head of a macro declares.
+#[derive(Drop)]
+struct Declares {
+    params: Assigns,
+    ins: Formals,
+    outs: Formals,
+}
 
 impl<'a> Cursor<'a> {
     /// A formal, and the place of its name.
@@ -62,6 +70,17 @@ impl<'a> Cursor<'a> {
         Ok(all)
     }
 
+    /// The inputs of a macro, in parentheses.
+    fn formal_inputs(&mut self, alloc: Global) -> Result<(Formals, Places), Stop>
+        ensures reads { (rest : List Need) → Gives result (λ x v. (record { items = map formal_of x.0; places = x.1 }, v)) (ahead self.old (mark Terminal.OpenParenthesis ∷ group FormalsGroup 0 ∷ mark Terminal.CloseParenthesis ∷ rest)) (ahead self.new rest) }
+        ensures no_longer { length self.new.rest.now ≤ length self.old.rest.now }
+    {
+        self.mark(Terminal::OpenParenthesis)?;
+        let all = self.formals(alloc)?;
+        self.mark(Terminal::CloseParenthesis)?;
+        Ok(all)
+    }
+
     fn formal_outputs(&mut self, alloc: Global) -> Result<(Formals, Places), Stop>
         ensures reads { (rest : List Need) → Gives result (λ x v. (record { items = map formal_of x.0; places = x.1 }, v)) (ahead self.old (part FormalOutputs 0 ∷ rest)) (ahead self.new rest) }
         ensures no_longer { length self.new.rest.now ≤ length self.old.rest.now }
@@ -76,6 +95,22 @@ impl<'a> Cursor<'a> {
         Ok(all)
     }
 
+    /// What stands between the name of a macro and its statements, and where it names what it declares.
+    fn head(&mut self, alloc: Global) -> Result<(Declares, Head), Stop>
+        ensures reads { (rest : List Need) → Gives result (λ x v. (record { items = map assignment_of x.0.params; places = x.1.parameters }, (record { items = map formal_of x.0.ins; places = x.1.ins }, (record { items = map formal_of x.0.outs; places = x.1.outs }, v)))) (ahead self.old (part Parameters 0 ∷ mark Terminal.OpenParenthesis ∷ group FormalsGroup 0 ∷ mark Terminal.CloseParenthesis ∷ part FormalOutputs 0 ∷ rest)) (ahead self.new rest) }
+        ensures no_longer { length self.new.rest.now ≤ length self.old.rest.now }
+    {
+        let (params, parameters) = self.parameters(alloc)?;
+        let (ins, in_places) = self.formal_inputs(alloc)?;
+        let (outs, out_places) = self.formal_outputs(alloc)?;
+        let head = Head {
+            parameters,
+            ins: in_places,
+            outs: out_places,
+        };
+        Ok((Declares { params, ins, outs }, head))
+    }
+
     fn definition(&mut self, alloc: Global) -> Result<(MacroDef, Head), Stop>
         ensures reads { (rest : List Need) → Gives result (λ x v. (record { macro = macro_of x.0; head = x.1 }, v)) (ahead self.old (part MacroPart 0 ∷ rest)) (ahead self.new rest) }
         ensures shorter { OnOk result (length self.new.rest.now < length self.old.rest.now) }
@@ -85,27 +120,14 @@ impl<'a> Cursor<'a> {
             return Err(self.refused(RefusalKind::Syntax));
         }
         self.bump();
-        let token = self.item(Terminal::Word)?;
-        let name = self.word(alloc, token)?;
-        let (params, parameters) = self.parameters(alloc)?;
-        self.mark(Terminal::OpenParenthesis)?;
-        let (ins, in_places) = self.formals(alloc)?;
-        self.mark(Terminal::CloseParenthesis)?;
-        let (outs, out_places) = self.formal_outputs(alloc)?;
-        self.mark(Terminal::Semicolon)?;
-        let body = self.statements(alloc, 0)?;
-        self.mark(Terminal::End)?;
-        self.mark(Terminal::Semicolon)?;
-        let head = Head {
-            parameters,
-            ins: in_places,
-            outs: out_places,
-        };
+        let (token, name) = self.next_word(alloc)?;
+        let (declares, head) = self.head(alloc)?;
+        let body = self.body(alloc)?;
         let definition = MacroDef {
             name,
-            params,
-            ins,
-            outs,
+            params: declares.params,
+            ins: declares.ins,
+            outs: declares.outs,
             body,
             place: token.place,
         };

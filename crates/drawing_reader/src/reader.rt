@@ -1,15 +1,16 @@
 //! Reads a whole text.
 
-ghost use Rattle.std.specs.Prelude.{◌≡◌, ◌≢◌, IsTrue, IsFalse, ◌≤◌, ◌<◌, ℕ, List, [], ◌∷◌, ◌++◌, map, length, Option, Some, None, IfOk, IfErr};
+ghost use Rattle.std.specs.Prelude.{◌≡◌, ◌≢◌, IsTrue, IsFalse, ◌<◌, List, [], ◌∷◌, Option, Some, None, IfOk, IfErr};
 ghost use Rattle.drawing_grammar.specs.Lexeme.{kind_number, lexemes};
-ghost use Rattle.drawing_grammar.specs.Grammar.{Need, part, WireBounds, PrecisionSkew, ClockSkew};
+ghost use Rattle.drawing_grammar.specs.Grammar.{Need, mark, part, Text, WireBounds, PrecisionSkew, ClockSkew};
+ghost use Rattle.drawing_grammar.specs.declared.terminal.Terminal.TheVariants.{EndOfText};
 ghost use Rattle.drawing_grammar.specs.Machine.{Gives};
-ghost use Rattle.drawing_reader.specs.Reader.{tokens_at, ahead, PairAt, EndAt};
+ghost use Rattle.drawing_reader.specs.Reader.{tokens_at, ahead, PairAt, ClockAt, DrawingAt, EndAt};
 ghost use Rattle.scald_base.specs.declared.refusal.Refusal.{Refusal};
 ghost use Rattle.scald_lex.specs.Tokens.{AreTokens};
 ghost use Rattle.drawing_grammar.specs.Sketch.{Sketch as Sketched};
 ghost use Rattle.drawing_grammar.specs.Draws.{Reads, IsRefused};
-ghost use Rattle.drawing_reader.specs.Sketched.{sketch_of, GivesSketch, GivesRefusal, Answers};
+ghost use Rattle.drawing_reader.specs.Sketched.{sketch_of, behind_header, headed, GivesSketch, GivesRefusal, Answers};
 ghost use Rattle.drawing_grammar.specs.Draws.{IsStop};
 
 use crate::cursor::Cursor;
@@ -144,9 +145,20 @@ impl<'a> Cursor<'a> {
         Ok(())
     }
 
-    fn text(&mut self, alloc: Global) -> Result<Sketch, Stop>
-        requires { self.old.operators ≡ 0 }
-        ensures reads { Answers result (tokens_at self.old) }
+    /// The units and ticks of the clock.
+    fn clock(&mut self) -> Result<NumberPair, Stop>
+        ensures reads { ClockAt result self.old self.new }
+    {
+        let clock = self.item(Terminal::Clock)?;
+        let units = self.item(Terminal::Number)?;
+        self.letter(Letter::By)?;
+        let ticks = self.item(Terminal::Number)?;
+        self.mark(Terminal::Semicolon)?;
+        Ok(pair_of(units.kind, ticks.kind, clock.place))
+    }
+
+    fn header(&mut self) -> Result<WrittenHeader, Stop>
+        ensures reads { (rest : List Need) → Gives result (λ x v. headed rest x v) (ahead self.old (part Text 0 ∷ rest)) (ahead self.new (behind_header rest)) }
     {
         if !self.starts(Terminal::Scald) {
             return Err(self.refused(RefusalKind::Syntax));
@@ -154,26 +166,31 @@ impl<'a> Cursor<'a> {
         let token = self.bump();
         let version = self.item(Terminal::Number)?;
         self.mark(Terminal::Semicolon)?;
-        let clock = self.item(Terminal::Clock)?;
-        let units = self.item(Terminal::Number)?;
-        self.letter(Letter::By)?;
-        let ticks = self.item(Terminal::Number)?;
-        self.mark(Terminal::Semicolon)?;
+        let clock = self.clock()?;
         let wire = self.wire_bounds()?;
         let pskew = self.precision_skew()?;
         let cskew = self.clock_skew()?;
-        let clock = pair_of(units.kind, ticks.kind, clock.place);
-        let header = written(version.kind, token.place, clock, wire, pskew, cskew);
-        let (macros, heads) = self.definitions(alloc)?;
+        Ok(written(version.kind, token.place, clock, wire, pskew, cskew))
+    }
+
+    /// The name of the drawing and its statements.
+    fn drawing(&mut self, alloc: Global) -> Result<(Bytes, Stmts), Stop>
+        ensures reads { DrawingAt result self.old self.new }
+    {
         self.mark(Terminal::Drawing)?;
-        let name_token = self.item(Terminal::Word)?;
-        let name = self.word(alloc, name_token)?;
-        self.mark(Terminal::Semicolon)?;
-        let body = self.statements(alloc, 0)?;
-        self.mark(Terminal::End)?;
-        self.mark(Terminal::Semicolon)?;
+        let (_, name) = self.next_word(alloc)?;
+        let body = self.body(alloc)?;
+        Ok((name, body))
+    }
+
+    /// All but the end of the text.
+    fn sketch(&mut self, alloc: Global) -> Result<Sketch, Stop>
+        ensures reads { (rest : List Need) → Gives result (λ x v. (sketch_of x, v)) (ahead self.old (part Text 0 ∷ rest)) (ahead self.new (mark EndOfText ∷ rest)) }
+    {
+        let header = self.header()?;
+        let (macros, heads) = self.definitions(alloc)?;
+        let (name, body) = self.drawing(alloc)?;
         let cases = self.cases(alloc)?;
-        self.finish()?;
         Ok(Sketch {
             header,
             macros,
@@ -182,6 +199,15 @@ impl<'a> Cursor<'a> {
             body,
             cases,
         })
+    }
+
+    fn text(&mut self, alloc: Global) -> Result<Sketch, Stop>
+        requires { self.old.operators ≡ 0 }
+        ensures reads { Answers result (tokens_at self.old) }
+    {
+        let sketch = self.sketch(alloc)?;
+        self.finish()?;
+        Ok(sketch)
     }
 }
 

@@ -1,11 +1,15 @@
 //! The names that stand in quotes.
 
-ghost use Rattle.std.specs.Prelude.{◌≡◌, ◌-◌, slice_range, length, IfOk, IfErr};
+ghost use Rattle.std.specs.Prelude.{◌≡◌, ◌≤◌, ◌<◌, ◌-◌, List, ◌∷◌, slice_range, length, IfOk, OnOk, IfErr};
 ghost use Rattle.scald_base.specs.declared.refusal.Stop.TheVariants.{NoMemory as OutOfMemory};
+ghost use Rattle.drawing_grammar.specs.Grammar.{Need, item};
+ghost use Rattle.drawing_grammar.specs.Machine.{Gives};
+ghost use Rattle.drawing_reader.specs.Reader.{ahead, at};
 ghost use Rattle.drawing_grammar.specs.Sketch.{blank, unquoted, signal_named};
 
 use crate::cursor::{Cursor, text_of};
 use assertion_syntax::{NameEnd, SignalName, read_name};
+use drawing_grammar::Terminal;
 use scald_base::{AssertSpec, Bytes, NoMemory, Stop};
 use scald_lex::Token;
 use std::alloc::Global;
@@ -48,6 +52,18 @@ impl<'a> Cursor<'a> {
     {
         let bytes = Bytes::of(alloc, text_of(self.text, token))?;
         Ok(bytes)
+    }
+
+    /// Takes a word that has to stand here, and its bytes.
+    pub fn next_word(&mut self, alloc: Global) -> Result<(Token, Bytes), Stop>
+        ensures reads { (rest : List Need) → Gives result (λ x v. (at self.old x.0, v)) (ahead self.old (item Terminal.Word ∷ rest)) (ahead self.new rest) }
+        ensures text { IfOk result (λ x. x.1 ≡ (at self.old x.0).text) }
+        ensures shorter { OnOk result (length self.new.rest.now < length self.old.rest.now) }
+        ensures no_longer { length self.new.rest.now ≤ length self.old.rest.now }
+    {
+        let token = self.item(Terminal::Word)?;
+        let bytes = self.word(alloc, token)?;
+        Ok((token, bytes))
     }
 
     /// The name of a token.

@@ -1,18 +1,19 @@
 //! Reads statements. Each function is told how many IFs are open.
 
-ghost use Rattle.std.specs.Prelude.{◌≡◌, ◌≤◌, ◌<◌, ℕ, List, [], ◌∷◌, ◌++◌, map, length, IfOk, OnOk, option_map, Some, None};
-ghost use Rattle.std.specs.Global.{Vec};
+ghost use Rattle.std.specs.Prelude.{◌≡◌, ◌≢◌, ◌≤◌, ◌<◌, ℕ, List, [], ◌∷◌, ◌++◌, map, length, OnOk, option_map, Some, None};
+ghost use Rattle.scald_expr.specs.Expression.{expression_of};
 ghost use Rattle.drawing_tree.specs.Tree as tree;
-ghost use Rattle.drawing_tree.specs.Tree.{assignment_of, both_of, use_of, wire_of, statement_of, statements_of, else_of};
-ghost use Rattle.drawing_grammar.specs.Grammar.{Need, part, group, Assign as AssignPart, Assigns as AssignsGroup, Parameters, Delay as DelayPart, Statement as StatementPart, Statements as StatementsGroup, Otherwise as OtherwisePart};
+ghost use Rattle.drawing_tree.specs.Tree.{assignment_of, both_of, connection_of, use_of, wire_of, statement_of, statements_of, else_of};
+ghost use Rattle.drawing_grammar.specs.Grammar.{Need, fresh, mark, part, group, own_sum, Expr as Whole, Assign as AssignPart, Assigns as AssignsGroup, Parameters, Conns as ConnsGroup, Outputs, Delay as DelayPart, Statement as StatementPart, Statements as StatementsGroup, Otherwise as OtherwisePart};
 ghost use Rattle.std.specs.Prelude.{is_some};
+ghost use Rattle.drawing_grammar.specs.declared.terminal.Terminal.TheVariants.{EndOfText};
 ghost use Rattle.drawing_grammar.specs.Machine.{Gives, choice};
-ghost use Rattle.drawing_reader.specs.Reader.{tokens_at, ahead};
+ghost use Rattle.drawing_reader.specs.Reader.{tokens_at, ahead, body, DetailsAt};
 ghost use Rattle.drawing_grammar.specs.Front.{first_terminal};
 
 use crate::cursor::Cursor;
 use drawing_grammar::{Places, Terminal};
-use drawing_tree::{Assign, Assigns, IfStmt, Stmt, Stmts, UseStmt, WireStmt};
+use drawing_tree::{Assign, Assigns, Conns, IfStmt, Stmt, Stmts, UseStmt, WireStmt};
 use scald_base::{NoMemory, Place, RefusalKind, Stop};
 use scald_expr::Expr;
 use std::alloc::Global;
@@ -22,6 +23,15 @@ fn put(all: &mut Stmts, next: Stmt) -> Result<(), NoMemory>
 {
     all.push(next)?;
     Ok(())
+}
+
+/// What stands behind the kind of a use.
+#[derive(Drop)]
+struct Details {
+    delay: Option<(Expr, Expr)>,
+    params: Assigns,
+    ins: Conns,
+    outs: Conns,
 }
 
 impl<'a> Cursor<'a> {
@@ -72,6 +82,19 @@ impl<'a> Cursor<'a> {
         Ok(all)
     }
 
+    /// Two sums with a colon between them, and what closes them.
+    fn sums(&mut self, alloc: Global, close: Terminal) -> Result<(Expr, Expr), Stop>
+        requires { close ≢ EndOfText }
+        ensures reads { (rest : List Need) → Gives result (λ x v. (expression_of x.0, (expression_of x.1, v))) (ahead self.old (own_sum (mark Terminal.Colon ∷ own_sum (mark close ∷ rest)))) (ahead self.new rest) }
+        ensures no_longer { length self.new.rest.now ≤ length self.old.rest.now }
+    {
+        let min = self.own_sum(alloc)?;
+        self.mark(Terminal::Colon)?;
+        let max = self.own_sum(alloc)?;
+        self.mark(close)?;
+        Ok((min, max))
+    }
+
     fn delay(&mut self, alloc: Global) -> Result<Option<(Expr, Expr)>, Stop>
         ensures reads { (rest : List Need) → Gives result (λ x v. (option_map both_of x, v)) (ahead self.old (part DelayPart 0 ∷ rest)) (ahead self.new rest) }
         ensures no_longer { length self.new.rest.now ≤ length self.old.rest.now }
@@ -80,11 +103,36 @@ impl<'a> Cursor<'a> {
             return Ok(None);
         }
         self.bump();
-        let min = self.own_sum(alloc)?;
-        self.mark(Terminal::Colon)?;
-        let max = self.own_sum(alloc)?;
-        self.mark(Terminal::CloseBracket)?;
-        Ok(Some((min, max)))
+        let bounds = self.sums(alloc, Terminal::CloseBracket)?;
+        Ok(Some(bounds))
+    }
+
+    /// The pins of a use, inputs before outputs, and the semicolon behind them.
+    fn pins(&mut self, alloc: Global) -> Result<(Conns, Conns), Stop>
+        ensures reads { (rest : List Need) → Gives result (λ x v. (map connection_of x.0, (map connection_of x.1, v))) (ahead self.old (mark Terminal.OpenParenthesis ∷ group ConnsGroup 0 ∷ mark Terminal.CloseParenthesis ∷ part Outputs 0 ∷ mark Terminal.Semicolon ∷ rest)) (ahead self.new rest) }
+        ensures no_longer { length self.new.rest.now ≤ length self.old.rest.now }
+    {
+        self.mark(Terminal::OpenParenthesis)?;
+        let ins = self.connections(alloc)?;
+        self.mark(Terminal::CloseParenthesis)?;
+        let outs = self.outputs(alloc)?;
+        self.mark(Terminal::Semicolon)?;
+        Ok((ins, outs))
+    }
+
+    fn details(&mut self, alloc: Global) -> Result<Details, Stop>
+        ensures reads { DetailsAt result self.old self.new }
+        ensures no_longer { length self.new.rest.now ≤ length self.old.rest.now }
+    {
+        let delay = self.delay(alloc)?;
+        let (params, _) = self.parameters(alloc)?;
+        let (ins, outs) = self.pins(alloc)?;
+        Ok(Details {
+            delay,
+            params,
+            ins,
+            outs,
+        })
     }
 
     fn use_statement(&mut self, alloc: Global) -> Result<UseStmt, Stop>
@@ -96,22 +144,15 @@ impl<'a> Cursor<'a> {
         let token = self.bump();
         let label = self.word(alloc, token)?;
         self.mark(Terminal::Colon)?;
-        let kind_token = self.item(Terminal::Word)?;
-        let kind = self.word(alloc, kind_token)?;
-        let delay = self.delay(alloc)?;
-        let (params, _) = self.parameters(alloc)?;
-        self.mark(Terminal::OpenParenthesis)?;
-        let ins = self.connections(alloc)?;
-        self.mark(Terminal::CloseParenthesis)?;
-        let outs = self.outputs(alloc)?;
-        self.mark(Terminal::Semicolon)?;
+        let (_, kind) = self.next_word(alloc)?;
+        let details = self.details(alloc)?;
         Ok(UseStmt {
             label,
             kind,
-            delay,
-            params,
-            ins,
-            outs,
+            delay: details.delay,
+            params: details.params,
+            ins: details.ins,
+            outs: details.outs,
             place: token.place,
         })
     }
@@ -123,13 +164,9 @@ impl<'a> Cursor<'a> {
         ensures no_longer { length self.new.rest.now ≤ length self.old.rest.now }
     {
         let token = self.bump();
-        let name_token = self.item(Terminal::Name)?;
-        let name = self.name(alloc, name_token)?;
-        let range = self.range(alloc)?;
-        let min = self.own_sum(alloc)?;
-        self.mark(Terminal::Colon)?;
-        let max = self.own_sum(alloc)?;
-        self.mark(Terminal::Semicolon)?;
+        let net = self.net(alloc)?;
+        let (min, max) = self.sums(alloc, Terminal::Semicolon)?;
+        let (name, range) = net;
         Ok(WireStmt {
             name,
             range,
@@ -137,6 +174,26 @@ impl<'a> Cursor<'a> {
             max,
             place: token.place,
         })
+    }
+
+    /// The condition of an IF, and the word THEN behind it.
+    fn condition(&mut self, alloc: Global) -> Result<Expr, Stop>
+        ensures reads { (rest : List Need) → Gives result (λ x v. (expression_of x, v)) (ahead self.old (fresh ∷ group Whole 0 ∷ mark Terminal.Then ∷ rest)) (ahead self.new rest) }
+        ensures no_longer { length self.new.rest.now ≤ length self.old.rest.now }
+    {
+        let test = self.own_expression(alloc)?;
+        self.mark(Terminal::Then)?;
+        Ok(test)
+    }
+
+    /// The word END, and the semicolon behind it.
+    fn end(&mut self) -> Result<(), Stop>
+        ensures reads { (rest : List Need) → Gives result (λ _ v. v) (ahead self.old (mark Terminal.End ∷ mark Terminal.Semicolon ∷ rest)) (ahead self.new rest) }
+        ensures no_longer { length self.new.rest.now ≤ length self.old.rest.now }
+    {
+        self.mark(Terminal::End)?;
+        self.mark(Terminal::Semicolon)?;
+        Ok(())
     }
 
     #[cycle(statement)]
@@ -148,12 +205,10 @@ impl<'a> Cursor<'a> {
     {
         let inner = self.deeper(depth)?;
         let token = self.bump();
-        let test = self.own_expression(alloc)?;
-        self.mark(Terminal::Then)?;
+        let test = self.condition(alloc)?;
         let yes = self.statements(alloc, inner)?;
         let no = self.otherwise(alloc, inner)?;
-        self.mark(Terminal::End)?;
-        self.mark(Terminal::Semicolon)?;
+        self.end()?;
         Ok(Stmt::If(IfStmt {
             test,
             yes,
@@ -192,9 +247,20 @@ impl<'a> Cursor<'a> {
         matches!(self.look(), Terminal::Word | Terminal::Wire | Terminal::If)
     }
 
+    /// The statements of a macro or of a drawing, from the semicolon in front of them to the END behind them.
+    pub fn body(&mut self, alloc: Global) -> Result<Stmts, Stop>
+        ensures reads { (rest : List Need) → Gives result (λ x v. (statements_of x.items, v)) (ahead self.old (body rest)) (ahead self.new rest) }
+        ensures no_longer { length self.new.rest.now ≤ length self.old.rest.now }
+    {
+        self.mark(Terminal::Semicolon)?;
+        let all = self.statements(alloc, 0)?;
+        self.end()?;
+        Ok(all)
+    }
+
     /// Statements, as many as stand here.
     #[cycle(statement)]
-    pub fn statements(&mut self, alloc: Global, depth: usize) -> Result<Stmts, Stop>
+    fn statements(&mut self, alloc: Global, depth: usize) -> Result<Stmts, Stop>
         ensures reads { (rest : List Need) → Gives result (λ x v. (statements_of x.items, v)) (ahead self.old (group StatementsGroup depth ∷ rest)) (ahead self.new rest) }
         ensures no_longer { length self.new.rest.now ≤ length self.old.rest.now }
     {

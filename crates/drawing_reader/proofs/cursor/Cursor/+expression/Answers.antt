@@ -74,7 +74,7 @@ pub unary-returns-in-Number-clause-reads : goal.unary-returns-in-Number-clause-r
 unary-returns-in-Number-clause-reads t c = let e : first_terminal (tokens_at c.args.self.now) ≡ is.Number = cc in rw c.number.ensures (λ rest. plainly g.number c.args.depth c.args.self.now c.bump-token.new.self c.bump-token.result refl e c.bump-token.ensures.taken c.bump-token.ensures.operators rest)
 
 pub unary-returns-in_ok-name-in-Word-clause-reads : goal.unary-returns-in_ok-name-in-Word-clause-reads
-unary-returns-in_ok-name-in-Word-clause-reads t c = let e : first_terminal (tokens_at c.args.self.now) ≡ is.Word = cc in let b = c.bump-token-in-Word in let q : c.in_ok-name-in-Word.name ≡ (at c.args.self.now b.result).text = c.in_ok-name-in-Word.ensures ∙ (c.text_of.ensures ∙ ap (λ (x : List ℕ). slice_range x b.result.start b.result.end) b.ensures.text) in rw q (λ rest. plainly g.parameter c.args.depth c.args.self.now b.new.self b.result refl e b.ensures.taken b.ensures.operators rest)
+unary-returns-in_ok-name-in-Word-clause-reads t c = let e : first_terminal (tokens_at c.args.self.now) ≡ is.Word = cc in let b = c.bump-token-in-Word in let q : c.in_ok-name-in-Word.name ≡ (at c.args.self.now b.result).text = c.in_ok-name-in-Word.ensures.copied ∙ (c.text_of.ensures ∙ ap (λ (x : List ℕ). slice_range x b.result.start b.result.end) b.ensures.text) in rw q (λ rest. plainly g.parameter c.args.depth c.args.self.now b.new.self b.result refl e b.ensures.taken b.ensures.operators rest)
 
 pub unary-returns-in_default : goal.unary-returns-in_default
 unary-returns-in_default t c = record { reads = rw c.refused.ensures (λ rest. stuck g.Unary c.args.depth c.args.self.now (ap (choice g.Unary) (sym c.look.ensures) ∙ none.no_unary c.look.result c.in_default.not-Number c.in_default.not-Word c.in_default.not-Minus c.in_default.not-OpenParenthesis) refl rest); no_longer = omega arith }

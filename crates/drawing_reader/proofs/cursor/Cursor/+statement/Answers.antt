@@ -22,23 +22,17 @@ if_statement-returns-in_err-inner-clause-reads t c = let p = err_from_is_err_and
 pub if_statement-returns-in_err-test-clause-reads : goal.if_statement-returns-in_err-test-clause-reads
 if_statement-returns-in_err-test-clause-reads t c = let p = err_from_is_err_and c.from_residual-in_err-test.result c.from_residual-in_err-test.ensures.1 in rw (p.1, p.2) (λ rest. stops (deeper g.if_ c.args.depth c.args.self.now c.bump-token.new.self c.bump-token.result refl c.in_ok-inner.ensures.room c.requires c.bump-token.ensures.taken c.bump-token.ensures.operators rest) (c.in_err-test.ensures.reads _))
 
-pub if_statement-returns-in_err-mark-clause-reads : goal.if_statement-returns-in_err-mark-clause-reads
-if_statement-returns-in_err-mark-clause-reads t c = let p = err_from_is_err_and c.from_residual-in_err-mark.result c.from_residual-in_err-mark.ensures.1 in rw (p.1, p.2) (λ rest. stops (moves (deeper g.if_ c.args.depth c.args.self.now c.bump-token.new.self c.bump-token.result refl c.in_ok-inner.ensures.room c.requires c.bump-token.ensures.taken c.bump-token.ensures.operators rest) (c.in_ok-test.ensures.reads _)) (c.in_err-mark.ensures.reads _))
-
 pub if_statement-returns-in_err-yes-clause-reads : goal.if_statement-returns-in_err-yes-clause-reads
-if_statement-returns-in_err-yes-clause-reads t c = let p = err_from_is_err_and c.from_residual-in_err-yes.result c.from_residual-in_err-yes.ensures.1 in rw (p.1, p.2) (λ rest. stops (moves (moves (deeper g.if_ c.args.depth c.args.self.now c.bump-token.new.self c.bump-token.result refl c.in_ok-inner.ensures.room c.requires c.bump-token.ensures.taken c.bump-token.ensures.operators rest) (c.in_ok-test.ensures.reads _)) (c.in_ok-mark.ensures.reads _)) ((let z : c.in_ok-inner.inner ≡ suc c.args.depth = c.in_ok-inner.ensures.ok in rw z at c.in_err-yes.ensures.reads) _))
+if_statement-returns-in_err-yes-clause-reads t c = let p = err_from_is_err_and c.from_residual-in_err-yes.result c.from_residual-in_err-yes.ensures.1 in rw (p.1, p.2) (λ rest. stops (moves (deeper g.if_ c.args.depth c.args.self.now c.bump-token.new.self c.bump-token.result refl c.in_ok-inner.ensures.room c.requires c.bump-token.ensures.taken c.bump-token.ensures.operators rest) (c.in_ok-test.ensures.reads _)) ((let z : c.in_ok-inner.inner ≡ suc c.args.depth = c.in_ok-inner.ensures.ok in rw z at c.in_err-yes.ensures.reads) _))
 
 pub if_statement-returns-in_err-no-clause-reads : goal.if_statement-returns-in_err-no-clause-reads
-if_statement-returns-in_err-no-clause-reads t c = let p = err_from_is_err_and c.from_residual-in_err-no.result c.from_residual-in_err-no.ensures.1 in rw (p.1, p.2) (λ rest. stops (moves (moves (moves (deeper g.if_ c.args.depth c.args.self.now c.bump-token.new.self c.bump-token.result refl c.in_ok-inner.ensures.room c.requires c.bump-token.ensures.taken c.bump-token.ensures.operators rest) (c.in_ok-test.ensures.reads _)) (c.in_ok-mark.ensures.reads _)) ((let z : c.in_ok-inner.inner ≡ suc c.args.depth = c.in_ok-inner.ensures.ok in rw z at c.in_ok-yes.ensures.reads) _)) ((let z : c.in_ok-inner.inner ≡ suc c.args.depth = c.in_ok-inner.ensures.ok in rw z at c.in_err-no.ensures.reads) _))
+if_statement-returns-in_err-no-clause-reads t c = let p = err_from_is_err_and c.from_residual-in_err-no.result c.from_residual-in_err-no.ensures.1 in rw (p.1, p.2) (λ rest. stops (moves (moves (deeper g.if_ c.args.depth c.args.self.now c.bump-token.new.self c.bump-token.result refl c.in_ok-inner.ensures.room c.requires c.bump-token.ensures.taken c.bump-token.ensures.operators rest) (c.in_ok-test.ensures.reads _)) ((let z : c.in_ok-inner.inner ≡ suc c.args.depth = c.in_ok-inner.ensures.ok in rw z at c.in_ok-yes.ensures.reads) _)) ((let z : c.in_ok-inner.inner ≡ suc c.args.depth = c.in_ok-inner.ensures.ok in rw z at c.in_err-no.ensures.reads) _))
 
-pub if_statement-returns-in_err-mark-2-clause-reads : goal.if_statement-returns-in_err-mark-2-clause-reads
-if_statement-returns-in_err-mark-2-clause-reads t c = let p = err_from_is_err_and c.from_residual-in_err-mark-2.result c.from_residual-in_err-mark-2.ensures.1 in rw (p.1, p.2) (λ rest. stops (moves (moves (moves (moves (deeper g.if_ c.args.depth c.args.self.now c.bump-token.new.self c.bump-token.result refl c.in_ok-inner.ensures.room c.requires c.bump-token.ensures.taken c.bump-token.ensures.operators rest) (c.in_ok-test.ensures.reads _)) (c.in_ok-mark.ensures.reads _)) ((let z : c.in_ok-inner.inner ≡ suc c.args.depth = c.in_ok-inner.ensures.ok in rw z at c.in_ok-yes.ensures.reads) _)) ((let z : c.in_ok-inner.inner ≡ suc c.args.depth = c.in_ok-inner.ensures.ok in rw z at c.in_ok-no.ensures.reads) _)) (c.in_err-mark-2.ensures.reads _))
-
-pub if_statement-returns-in_err-mark-3-clause-reads : goal.if_statement-returns-in_err-mark-3-clause-reads
-if_statement-returns-in_err-mark-3-clause-reads t c = let p = err_from_is_err_and c.from_residual-in_err-mark-3.result c.from_residual-in_err-mark-3.ensures.1 in rw (p.1, p.2) (λ rest. stops (moves (moves (moves (moves (moves (deeper g.if_ c.args.depth c.args.self.now c.bump-token.new.self c.bump-token.result refl c.in_ok-inner.ensures.room c.requires c.bump-token.ensures.taken c.bump-token.ensures.operators rest) (c.in_ok-test.ensures.reads _)) (c.in_ok-mark.ensures.reads _)) ((let z : c.in_ok-inner.inner ≡ suc c.args.depth = c.in_ok-inner.ensures.ok in rw z at c.in_ok-yes.ensures.reads) _)) ((let z : c.in_ok-inner.inner ≡ suc c.args.depth = c.in_ok-inner.ensures.ok in rw z at c.in_ok-no.ensures.reads) _)) (c.in_ok-mark-2.ensures.reads _)) (c.in_err-mark-3.ensures.reads _))
+pub if_statement-returns-in_err-end-clause-reads : goal.if_statement-returns-in_err-end-clause-reads
+if_statement-returns-in_err-end-clause-reads t c = let p = err_from_is_err_and c.from_residual-in_err-end.result c.from_residual-in_err-end.ensures.1 in rw (p.1, p.2) (λ rest. stops (moves (moves (moves (deeper g.if_ c.args.depth c.args.self.now c.bump-token.new.self c.bump-token.result refl c.in_ok-inner.ensures.room c.requires c.bump-token.ensures.taken c.bump-token.ensures.operators rest) (c.in_ok-test.ensures.reads _)) ((let z : c.in_ok-inner.inner ≡ suc c.args.depth = c.in_ok-inner.ensures.ok in rw z at c.in_ok-yes.ensures.reads) _)) ((let z : c.in_ok-inner.inner ≡ suc c.args.depth = c.in_ok-inner.ensures.ok in rw z at c.in_ok-no.ensures.reads) _)) (c.in_err-end.ensures.reads _))
 
 pub if_statement-returns-clause-reads : goal.if_statement-returns-clause-reads
-if_statement-returns-clause-reads t c = rw (view_choice _, view_if_parts _ _ _ _) (λ rest. moves (moves (moves (moves (moves (moves (deeper g.if_ c.args.depth c.args.self.now c.bump-token.new.self c.bump-token.result refl c.in_ok-inner.ensures.room c.requires c.bump-token.ensures.taken c.bump-token.ensures.operators rest) (c.in_ok-test.ensures.reads _)) (c.in_ok-mark.ensures.reads _)) ((let z : c.in_ok-inner.inner ≡ suc c.args.depth = c.in_ok-inner.ensures.ok in rw z at c.in_ok-yes.ensures.reads) _)) ((let z : c.in_ok-inner.inner ≡ suc c.args.depth = c.in_ok-inner.ensures.ok in rw z at c.in_ok-no.ensures.reads) _)) (c.in_ok-mark-2.ensures.reads _)) (c.in_ok-mark-3.ensures.reads _))
+if_statement-returns-clause-reads t c = rw (view_choice _, view_if_parts _ _ _ _) (λ rest. moves (moves (moves (moves (deeper g.if_ c.args.depth c.args.self.now c.bump-token.new.self c.bump-token.result refl c.in_ok-inner.ensures.room c.requires c.bump-token.ensures.taken c.bump-token.ensures.operators rest) (c.in_ok-test.ensures.reads _)) ((let z : c.in_ok-inner.inner ≡ suc c.args.depth = c.in_ok-inner.ensures.ok in rw z at c.in_ok-yes.ensures.reads) _)) ((let z : c.in_ok-inner.inner ≡ suc c.args.depth = c.in_ok-inner.ensures.ok in rw z at c.in_ok-no.ensures.reads) _)) (c.in_ok-end.ensures.reads _))
 
 pub statement-use_statement-requires : goal.statement-use_statement-requires
 statement-use_statement-requires t c = sym c.look.ensures ∙ c.in-Word.is

@@ -1,6 +1,5 @@
 use Rattle.std.proofs.Common.{None, refl}
 use Rattle.std.proofs.lemmas.Result.{err_from_is_err_and}
-use Rattle.drawing_grammar.specs.Grammar.{Need, part, group, fresh, mark, item, letter}
 use Rattle.drawing_grammar.specs.Grammar as g
 use Rattle.drawing_reader.specs.Reader.{tokens_at}
 use Rattle.drawing_grammar.specs.Front.{first_terminal}
@@ -12,17 +11,8 @@ use Rattle.drawing_reader.proofs.cursor.Cursor.delay.Goals as goal
 pub returns-then-not-starts-clause-reads : goal.returns-then-not-starts-clause-reads
 returns-then-not-starts-clause-reads c = λ rest. left_out g.Delay 0 c.args.self.now None (none.no_delay (first_terminal (tokens_at c.args.self.now)) (c.starts.ensures.no (cc))) refl rest
 
-pub returns-in_err-min-clause-reads : goal.returns-in_err-min-clause-reads
-returns-in_err-min-clause-reads c = let p = err_from_is_err_and c.from_residual.result c.from_residual.ensures.1 in rw (p.1, p.2) (λ rest. stops (plainly g.delay 0 c.args.self.now c.bump.new.self c.bump.result refl (c.starts.ensures.yes (cc)) c.bump.ensures.taken c.bump.ensures.operators rest) (c.in_err-min.ensures.reads _))
-
-pub returns-in_err-mark-clause-reads : goal.returns-in_err-mark-clause-reads
-returns-in_err-mark-clause-reads c = let p = err_from_is_err_and c.from_residual-in_err-mark.result c.from_residual-in_err-mark.ensures.1 in rw (p.1, p.2) (λ rest. stops (moves (plainly g.delay 0 c.args.self.now c.bump.new.self c.bump.result refl (c.starts.ensures.yes (cc)) c.bump.ensures.taken c.bump.ensures.operators rest) (c.in_ok-min.ensures.reads _)) (c.in_err-mark.ensures.reads _))
-
-pub returns-in_err-max-clause-reads : goal.returns-in_err-max-clause-reads
-returns-in_err-max-clause-reads c = let p = err_from_is_err_and c.from_residual-in_err-max.result c.from_residual-in_err-max.ensures.1 in rw (p.1, p.2) (λ rest. stops (moves (moves (plainly g.delay 0 c.args.self.now c.bump.new.self c.bump.result refl (c.starts.ensures.yes (cc)) c.bump.ensures.taken c.bump.ensures.operators rest) (c.in_ok-min.ensures.reads _)) (c.in_ok-mark.ensures.reads _)) (c.in_err-max.ensures.reads _))
-
-pub returns-in_err-mark-2-clause-reads : goal.returns-in_err-mark-2-clause-reads
-returns-in_err-mark-2-clause-reads c = let p = err_from_is_err_and c.from_residual-in_err-mark-2.result c.from_residual-in_err-mark-2.ensures.1 in rw (p.1, p.2) (λ rest. stops (moves (moves (moves (plainly g.delay 0 c.args.self.now c.bump.new.self c.bump.result refl (c.starts.ensures.yes (cc)) c.bump.ensures.taken c.bump.ensures.operators rest) (c.in_ok-min.ensures.reads _)) (c.in_ok-mark.ensures.reads _)) (c.in_ok-max.ensures.reads _)) (c.in_err-mark-2.ensures.reads _))
+pub returns-in_err-bounds-clause-reads : goal.returns-in_err-bounds-clause-reads
+returns-in_err-bounds-clause-reads c = let p = err_from_is_err_and c.from_residual.result c.from_residual.ensures.1 in rw (p.1, p.2) (λ rest. stops (plainly g.delay 0 c.args.self.now c.bump.new.self c.bump.result refl (c.starts.ensures.yes (cc)) c.bump.ensures.taken c.bump.ensures.operators rest) (c.in_err-bounds.ensures.reads _))
 
 pub returns-clause-reads : goal.returns-clause-reads
-returns-clause-reads c = λ rest. moves (moves (moves (moves (plainly g.delay 0 c.args.self.now c.bump.new.self c.bump.result refl (c.starts.ensures.yes (cc)) c.bump.ensures.taken c.bump.ensures.operators rest) (c.in_ok-min.ensures.reads _)) (c.in_ok-mark.ensures.reads _)) (c.in_ok-max.ensures.reads _)) (c.in_ok-mark-2.ensures.reads _)
+returns-clause-reads c = λ rest. moves (plainly g.delay 0 c.args.self.now c.bump.new.self c.bump.result refl (c.starts.ensures.yes (cc)) c.bump.ensures.taken c.bump.ensures.operators rest) (c.in_ok-bounds.ensures.reads _)
