@@ -18,6 +18,7 @@ use Rattle.flat_circuit.specs.Circuit.{Circuit}
 use Rattle.flat_circuit.specs.Run.{Run, net_signal}
 use Rattle.pin_waves.specs.Interface.{constant_wave}
 use Rattle.pin_waves.proofs.CodeSlots.{Permits-constant}
+use Rattle.class_table.specs.Alike.{value_after, value_in}
 use Rattle.fixpoint_engine.specs.Value.{Waves}
 use Rattle.fixpoint_engine.specs.Reach.{reach}
 use Rattle.fixpoint_engine.specs.Start.{is_driven}
@@ -27,7 +28,7 @@ use Rattle.fixpoint_engine.proofs.Changing.{set-at}
 use Rattle.case_analysis.specs.Base.{PermitInputs}
 use Rattle.fixpoint_engine.specs.declared.rounds.EngineEnd.{EngineEnd}
 use Rattle.fixpoint_engine.specs.declared.rounds.EngineEnd.TheVariants.{Unsettled, NoMemory}
-use Rattle.case_analysis.specs.Case.{HasCone, EndsInCone, value_after, value_of, NetsExist, IsInCase, IsCone, case_wave, case_start, case_active, PermitCase}
+use Rattle.case_analysis.specs.Case.{HasCone, EndsInCone, NetsExist, IsInCase, IsCone, case_wave, case_start, case_active, PermitCase}
 use Rattle.case_analysis.proofs.Start.{length-unknown, Permits-unknown}
 use Rattle.case_analysis.proofs.Inputs.{as-same}
 
@@ -37,7 +38,7 @@ pub one-cone : (c : Circuit) (vs : List CaseValue) (a b : ℕ → Bool) → IsCo
 one-cone c vs a b one other i = both_ways (a i) (b i) (λ is. (other i).1 ((one i).0 is)) (λ is. (one i).1 ((other i).0 is))
 
 pub start-same : (c : Circuit) (vs : List CaseValue) (a b : ℕ → Bool) (base : Waves) → ((i : ℕ) → a i ≡ b i) → (i : ℕ) → case_start c vs a base i ≡ case_start c vs b base i
-start-same c vs a b base same i = ap (λ reached. case_wave c.header (value_of vs i) reached (base i)) (same i)
+start-same c vs a b base same i = ap (λ reached. case_wave c.header (value_in vs i) reached (base i)) (same i)
 
 -- What holds of the active nets and of the waves that code begins with holds of those of the case.
 pub as-case : (c : Circuit) (vs : List CaseValue) (marks active : ℕ → Bool) (base first : Waves) (P : (ℕ → Bool) → Waves → Type 0) → IsCone c vs marks → ((i : ℕ) → active i ≡ case_active c marks i) →
@@ -63,7 +64,7 @@ start-more : (c : Circuit) (vs : List CaseValue) (v : CaseValue) (cone : ℕ →
     case_start c (vs ++ v ∷ []) cone base i ≡ cond (v.net == i) (constant_wave c.header v.one) (case_start c vs cone base i)
 start-more c vs v cone base i = ap (λ (o : Option Bool). case_wave c.header o (cone i) (base i)) (value-more None vs v i) ∙ by (v.net == i)
   where
-    by : (here : Bool) → case_wave c.header (cond here (Some v.one) (value_of vs i)) (cone i) (base i) ≡ cond here (constant_wave c.header v.one) (case_start c vs cone base i)
+    by : (here : Bool) → case_wave c.header (cond here (Some v.one) (value_in vs i)) (cone i) (base i) ≡ cond here (constant_wave c.header v.one) (case_start c vs cone base i)
     by true = refl
     by false = refl
 
@@ -102,7 +103,7 @@ case-long h None false before long = long
 pub case-fits : (c : Circuit) (vs : List CaseValue) (cone : ℕ → Bool) (base waves : List (Wave Value)) → FitWaves c base → length waves ≡ length c.nets → ((i : ℕ) → waves_of waves i ≡ case_start c vs cone (waves_of base) i) → FitWaves c waves
 case-fits c vs cone base waves fit each is = record {
   each_net = each;
-  each_slot = λ i below. ap (λ (w : Wave Value). length w.cells) (is i) ∙ case-long c.header (value_of vs i) (cone i) (waves_of base i) (fit.each_slot i below);
+  each_slot = λ i below. ap (λ (w : Wave Value). length w.cells) (is i) ∙ case-long c.header (value_in vs i) (cone i) (waves_of base i) (fit.each_slot i below);
 }
 
 -- ---- runs
@@ -120,7 +121,7 @@ value-kept run i before (v ∷ vs) one inside held is =
     next true e b is t below = let one : v.one ≡ b = cc in ap (λ n. net_signal run n t) (sym (eqb-true v.net i e)) ∙ here t below ∙ one
     next false e b is t below = held b is t below
 
-case-permits : (c : Circuit) (run : Run) (vs : List CaseValue) (i v : ℕ) (value : Option Bool) (reached : Bool) (before : Wave Value) → 0 < period c.header → IsInCase vs run → value_of vs i ≡ value →
+case-permits : (c : Circuit) (run : Run) (vs : List CaseValue) (i v : ℕ) (value : Option Bool) (reached : Bool) (before : Wave Value) → 0 < period c.header → IsInCase vs run → value_in vs i ≡ value →
     Permits values before run.ticks (net_signal run i) v → Permits values (case_wave c.header value reached before) run.ticks (net_signal run i) v
 case-permits c run vs i v (Some one) reached before some inside is permits =
     let keeps = value-kept run i None vs one inside (λ b none. cc) is in
@@ -141,4 +142,4 @@ case-permitted c vs cone base first settled b r some inputs start keeps run isru
     subst (PermitRun c run settled) later
     (keeps run (b * reach c + 1) isrun (omega arith)
     (λ i below. subst (λ (w : Wave Value). Permits values w run.ticks (net_signal run i) (b * reach c + 1)) (sym (start i))
-    (case-permits c run vs i (b * reach c + 1) (value_of vs i) (cone i) (base i) some inside refl (inputs run isrun meets i below))))
+    (case-permits c run vs i (b * reach c + 1) (value_in vs i) (cone i) (base i) some inside refl (inputs run isrun meets i below))))

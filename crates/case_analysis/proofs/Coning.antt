@@ -1,80 +1,27 @@
 -- How a search finds the nets of a cone, and that it ends with all of them.
-use Rattle.std.proofs.Common.{◌≡◌, ℕ, zero, suc, ◌+◌, ◌<◌, ◌≤◌, ◌==◌, ◌||◌, Bool, true, false, List, [], ◌∷◌, length, take, get_or, refl, sym, ap, subst, ◌∙◌, arith, inl, inr, slice_get, Option, Some, None}
+use Rattle.std.proofs.Common.{◌≡◌, ℕ, zero, suc, ◌+◌, ◌<◌, ◌≤◌, ◌==◌, ◌||◌, Bool, true, List, [], ◌∷◌, length, take, get_or, sym, ap, subst, ◌∙◌, arith, inl, inr, slice_get, Some, None}
 use Rattle.std.specs.List.{Contains}
 use Rattle.std.proofs.lemmas.Bool.{cases_eq, cases_lt, or_cases, or_left, or_right}
 use Rattle.std.proofs.lemmas.List.{get_or_default}
 use Rattle.std.proofs.lemmas.List.Elements.{Contains-get_or}
 use Rattle.std.proofs.lemmas.List.Folds.{list_any_more}
-use Rattle.std.proofs.lemmas.Option.{slice_get_within, slice_get_past, get_or_from_slice_get}
-use Rattle.vector_names.specs.declared.bits.Target.{Target}
-use Rattle.vector_names.specs.declared.bits.Target.TheVariants.{Net as OnNet, Constant}
+use Rattle.std.proofs.lemmas.Option.{slice_get_within, get_or_from_slice_get}
 use Rattle.flat_circuit.specs.declared.case.CaseValue.{CaseValue}
-use Rattle.flat_circuit.specs.Instances.{out_at}
-use Rattle.flat_circuit.specs.Circuit.{Circuit, IsCircuit, driver_at, driver_in}
+use Rattle.flat_circuit.specs.Circuit.{Circuit}
 use Rattle.fixpoint_engine.specs.Rounds.{driver, net_at}
 use Rattle.fixpoint_engine.specs.Settled.{marked_in}
 use Rattle.fixpoint_engine.specs.Work.{hears_in}
 use Rattle.fixpoint_engine.specs.Loops.{Hears}
-use Rattle.fixpoint_engine.specs.Worklist.{Queue, IsQueue, drives_in, output_net}
+use Rattle.fixpoint_engine.specs.Worklist.{Queue, IsQueue}
 use Rattle.fixpoint_engine.proofs.Listening.{hears-same, same-order}
 use Rattle.fixpoint_engine.proofs.Waiting.{marked-below}
 use Rattle.case_analysis.specs.Case.{InCone, Is_set, Hears_one, IsCone, is_set}
 use Rattle.case_analysis.specs.Found.{Extends}
 
--- ---- one net more
-
-pub nothing-added : (set : ℕ → Bool) (old new : Queue) → new ≡ old → ((i : ℕ) → set i ≡ true → marked_in old.marks i ≡ true) → Extends set old new
-nothing-added set old new same held = subst (λ (q : Queue). Extends set old q) (sym same) (record {
-  adds = record { each_net = refl; marks = λ i. by (marked_in old.marks i) (set i) (held i) };
-  longer = omega arith;
-  before = λ k below. refl;
-})
-  where
-    by : (marked in_set : Bool) → (in_set ≡ true → marked ≡ true) → marked ≡ (marked || in_set)
-    by true in_set held = refl
-    by false true held = held refl
-    by false false held = refl
-
-pub more-added : (first second : ℕ → Bool) (old between new : Queue) → Extends first old between → Extends second between new → Extends (λ i. first i || second i) old new
-more-added first second old between new one two = record {
-  adds = record {
-    each_net = two.adds.each_net ∙ one.adds.each_net;
-    marks = λ i. two.adds.marks i ∙ ap (λ b. b || second i) (one.adds.marks i) ∙ turned (marked_in old.marks i) (first i) (second i);
-  };
-  longer = let a = one.longer in let b = two.longer in omega (arith, a, b);
-  before = λ k below. two.before k (let a = one.longer in omega (arith, a, below)) ∙ one.before k below;
-}
-  where
-    turned : (a b c : Bool) → ((a || b) || c) ≡ (a || (b || c))
-    turned true b c = refl
-    turned false b c = refl
+-- ---- a set that is the same
 
 pub set-same : (set other : ℕ → Bool) (old new : Queue) → Extends set old new → ((i : ℕ) → set i ≡ other i) → Extends other old new
 set-same set other old new extends same = subst (λ (s : ℕ → Bool). Extends s old new) (λ k i. same i k) extends
-
--- an output's net exists
-pub output-below : (c : Circuit) (k net : ℕ) → IsCircuit c → output_net (out_at c.instances k) ≡ Some net → net < length c.nets
-output-below c k net known is = elim (cases_lt net (length c.nets)) [
-  | inl below ↦ below
-  | inr past ↦ absurd (let none : driver_at c.nets net ≡ None = ap driver_in (slice_get_past c.nets net past) in
-      let some : driver_at c.nets net ≡ Some k = known.drivers.of net k (of (out_at c.instances k) is) in
-      let clash : None ≡ Some k = sym none ∙ some in cc)
-]
-  where
-    of : (out : Option Target) → output_net out ≡ Some net → out ≡ Some (OnNet net)
-    of None is = cc
-    of (Some (OnNet i)) is = let same : i ≡ net = cc in ap (λ n. Some (OnNet n)) same
-    of (Some (Constant one)) is = cc
-
-pub drives-one : (out : Option Target) (net i : ℕ) → output_net out ≡ Some net → (net == i) ≡ drives_in out i
-drives-one None net i is = cc
-drives-one (Some (OnNet n)) net i is = let same : n ≡ net = cc in ap (λ m. m == i) (sym same)
-drives-one (Some (Constant one)) net i is = cc
-
-pub drives-none : (out : Option Target) (i : ℕ) → output_net out ≡ None → drives_in out i ≡ false
-drives-none None i is = refl
-drives-none (Some (OnNet n)) i is = cc
-drives-none (Some (Constant one)) i is = refl
 
 -- ---- the search
 

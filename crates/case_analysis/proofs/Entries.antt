@@ -27,9 +27,6 @@ use Rattle.case_analysis.specs.Listed.{AreNamed, IsJudged, may_set_at}
 abbrev pub AreNarrow : List Net → Type 0
 AreNarrow nets = All (λ (n : Net). n.bit < 65536) nets
 
-pub narrow-start : (nets : List Net) → AreNarrow (take 0 nets)
-narrow-start nets = All-nil (λ (n : Net). n.bit < 65536)
-
 narrow-next : (nets : List Net) (i : ℕ) (net : Net) → slice_get nets i ≡ Some net → net.bit < 65536 → AreNarrow (take i nets) → AreNarrow (take (suc i) nets)
 narrow-next [] i net is below before = cc
 narrow-next (n ∷ nets) zero net is below before =

@@ -2,12 +2,10 @@
 use Rattle.std.proofs.Common.{◌≡◌, ℕ, suc, ◌+◌, max, true, false, cond, List, ◌∷◌, drop, drop-cons, ap, ◌∙◌, arith, slice_get, Some}
 use Rattle.std.proofs.lemmas.Option.{slice_get_within, get_or_from_slice_get}
 use Rattle.std.proofs.lemmas.List.Sums.{sum_by-cons}
-use Rattle.flat_circuit.specs.declared.instance.Pin.{Pin}
 use Rattle.flat_circuit.specs.declared.instance.Instance.{Instance}
 use Rattle.flat_circuit.specs.declared.net.Net.{Net}
 use Rattle.flat_circuit.specs.Kind.{has_output}
 use Rattle.flat_circuit.specs.Instances.{outputs}
-use Rattle.fixpoint_engine.specs.Value.{target_wire}
 use Rattle.fixpoint_engine.specs.Reach.{greatest_wire, greatest_delay, farthest}
 
 -- the rest of a list from a place on
@@ -37,9 +35,3 @@ outputs-same js k n j is makes so =
     let none : cond (has_output j.kind) 1 0 ≡ 0 = ap (λ b. cond {A = ℕ} b 1 0) makes in
     let count = outputs-at js k j is in
     omega (arith, count, none, so)
-
-pub wires-more : (nets : List Net) (ps : List Pin) (k : ℕ) (p : Pin) (sofar more : ℕ) → slice_get ps k ≡ Some p → more ≡ (target_wire nets p.target).max →
-    max sofar (greatest_wire nets (drop k ps)) ≡ greatest_wire nets ps → max (max sofar more) (greatest_wire nets (drop (k + 1) ps)) ≡ greatest_wire nets ps
-wires-more nets ps k p sofar more is wire so =
-    let rest : greatest_wire nets (drop k ps) ≡ max (target_wire nets p.target).max (greatest_wire nets (drop (k + 1) ps)) = ap (greatest_wire nets) (from-place ps k p is) in
-    omega (arith, rest, wire, so)

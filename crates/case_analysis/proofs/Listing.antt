@@ -133,9 +133,6 @@ module _ (c : Circuit) (known : IsCircuit c) (entries rest later : List CaseEntr
       refused : may_set s (bits_of c.nets case) e ≡ false → case_bits s (bits_of c.nets case) (e ∷ later) ≡ Err (record { kind = CaseNet; place = e.place })
       refused h = rw h refl
 
-pub going-end : (c : Circuit) (entries rest : List CaseEntry) (marks : List Bool) (case : List CaseValue) → rest ≡ [] → Going c entries rest marks case → IsCaseOf c entries case
-going-end c entries rest marks case done going = λ s stands. going.left s stands ∙ ap (case_bits s (bits_of c.nets case)) done
-
 -- ---- cases
 
 -- Of the cases of a drawing, the rest is still to be looked at.
@@ -143,9 +140,6 @@ pub record Passing (c : Circuit) (written rest : List CaseStmt) (cases : List (L
   pub each : length cases + length rest ≡ length written
   pub listed : All (IsListed c) cases
   pub left : (s : State) → Stands s c → cases_behind s [] written ≡ cases_behind s (map (bits_of c.nets) cases) rest
-
-pub passing-start : (c : Circuit) (written : List CaseStmt) → Passing c written written []
-passing-start c written = record { each = omega arith; listed = All-nil (IsListed c); left = λ s stands. refl }
 
 module _ (c : Circuit) (written rest later : List CaseStmt) (cases : List (List CaseValue)) (w : CaseStmt) (next : rest ≡ w ∷ later) (passing : Passing c written rest cases) where
   pub passing-more : (case : List CaseValue) → IsCaseOf c w.entries case → IsListed c case → Passing c written later (cases ++ case ∷ [])
@@ -164,9 +158,6 @@ module _ (c : Circuit) (written rest later : List CaseStmt) (cases : List (List 
     where
       refused : (r : Refusal) (s : State) → case_bits s [] w.entries ≡ Err r → cases_behind s (map (bits_of c.nets) cases) (w ∷ later) ≡ Err r
       refused r s h = rw h refl
-
-pub passing-end : (c : Circuit) (written rest : List CaseStmt) (cases : List (List CaseValue)) → rest ≡ [] → Passing c written rest cases → AreCases c written cases
-passing-end c written rest cases done passing s stands = passing.left s stands ∙ ap (cases_behind s (map (bits_of c.nets) cases)) done
 
 module _ (c : Circuit) (d : Drawing) where
   pub too-many : (w : CaseStmt) → slice_get d.cases most_cases ≡ Some w → AreCasesStop c d (Refused (record { kind = TooMany; place = w.place }))

@@ -1,8 +1,8 @@
 -- The waves that the base begins with: one of the period for each net, which permits each run whose inputs keep their
 -- assertions.
-use Rattle.std.proofs.Common.{◌≡◌, ℕ, ◌-◌, ◌<◌, ◌≤◌, Bool, true, false, List, [], length, map, get_or, slice_get, refl, sym, ap, subst, ◌∙◌, arith, inl, inr, Option, Some, None, is_some}
+use Rattle.std.proofs.Common.{◌≡◌, ℕ, ◌-◌, ◌<◌, ◌≤◌, Bool, true, List, [], length, map, get_or, slice_get, refl, sym, ap, subst, ◌∙◌, arith, inl, inr, Option, Some, None}
 use Rattle.std.specs.List.{range_with_len}
-use Rattle.std.proofs.lemmas.Option.{slice_get_cases, slice_get_past}
+use Rattle.std.proofs.lemmas.Option.{slice_get_cases}
 use Rattle.std.proofs.lemmas.List.{get_or_past, length-map}
 use Rattle.std.proofs.lemmas.List.FromFn.{get_or-map-range_with_len, length-map-range_with_len}
 use Rattle.std.proofs.lemmas.Bool.{cases_lt}
@@ -14,19 +14,18 @@ use Rattle.step_values.specs.declared.value.Value.TheVariants.{U}
 use Rattle.step_values.specs.Steps.{has}
 use Rattle.step_values.specs.Cell.{values}
 use Rattle.step_values.specs.Lawful.{values_lawful}
-use Rattle.wave_core.proofs.Slots.{length-slots}
+use Rattle.wave_core.proofs.Slots.{length-slots, earlier-slots}
 use Rattle.skew_algebra.specs.Wave.{Wave, skewed}
 use Rattle.skew_algebra.specs.Permits.{Permits}
-use Rattle.skew_algebra.proofs.Moves.{earlier-slots}
 use Rattle.skew_algebra.proofs.Normal.{uniform-normal}
 use Rattle.flat_circuit.specs.declared.net.Net.{Net}
-use Rattle.flat_circuit.specs.Circuit.{Circuit, driver_in}
+use Rattle.flat_circuit.specs.Circuit.{Circuit}
 use Rattle.flat_circuit.specs.Run.{Run, net_signal}
 use Rattle.pin_waves.specs.Meets.{Meets}
 use Rattle.pin_waves.specs.Interface.{interface_wave, asserted_wave}
 use Rattle.pin_waves.proofs.Asserted.{length-asserted, length-interface, Permits-interface}
 use Rattle.fixpoint_engine.specs.Value.{Waves}
-use Rattle.fixpoint_engine.specs.Start.{unknown_wave, start_in, base_start, is_driven}
+use Rattle.fixpoint_engine.specs.Start.{unknown_wave, start_in, base_start}
 use Rattle.fixpoint_engine.specs.Interface.{MeetsInterface, PermitRun}
 use Rattle.fixpoint_engine.specs.Settled.{waves_of, FitWaves}
 use Rattle.fixpoint_engine.proofs.Changing.{wave-found}
@@ -95,10 +94,6 @@ start-past c i past = elim (slice_get_cases c.nets i).1 [
   | inl found ↦ absurd (let below = found.1 in omega (arith, below))
   | inr none ↦ ap (start_in c.header) none.1
 ]
-
--- nor a driver
-pub undriven-past : (c : Circuit) (i : ℕ) → length c.nets ≤ i → is_driven c i ≡ false
-undriven-past c i past = ap (λ (o : Option Net). is_some (driver_in o)) (slice_get_past c.nets i past)
 
 pub start-permits : (c : Circuit) (run : Run) → 0 < period c.header → MeetsInterface c run → PermitRun c run (base_start c) 1
 start-permits c run some meets i below = elim (slice_get_cases c.nets i).1 [

@@ -17,7 +17,7 @@ use Rattle.flat_circuit.specs.declared.net.Net.{Net}
 use Rattle.flat_circuit.specs.Kind.{listens}
 use Rattle.flat_circuit.specs.Instances.{PinExists, TargetExists, out_of}
 use Rattle.flat_circuit.specs.Circuit.{Circuit, IsCircuit, driver_at, driver_in}
-use Rattle.class_table.specs.Alike.{class_of, TargetsAlike, PinsAlike, DriversAlike, instance_of, value_in, value_after as value_in_after}
+use Rattle.class_table.specs.Alike.{class_of, TargetsAlike, PinsAlike, DriversAlike, instance_of, value_after, value_in}
 use Rattle.class_table.specs.Stable.{IsStable}
 use Rattle.fixpoint_engine.specs.Value.{Waves}
 use Rattle.fixpoint_engine.specs.Rounds.{driver, instance_in, round}
@@ -27,7 +27,7 @@ use Rattle.fixpoint_engine.specs.Classes.{AreTogether, HaveOneWave}
 use Rattle.fixpoint_engine.proofs.Classes.{rounds-same}
 use Rattle.fixpoint_engine.proofs.Drivers.{driver-fits}
 use Rattle.case_analysis.specs.Base.{IsBase}
-use Rattle.case_analysis.specs.Case.{Hears_one, InCone, IsCone, Is_set, NetsExist, case_active, case_at, case_start, case_wave, is_set, value_after, value_of}
+use Rattle.case_analysis.specs.Case.{Hears_one, InCone, IsCone, Is_set, NetsExist, case_active, case_at, case_start, case_wave, is_set}
 use Rattle.case_analysis.proofs.Start.{started}
 
 -- ---- sets and waves that are the same
@@ -39,10 +39,6 @@ pub as-one-wave : (c : Circuit) (k : List ℕ) (ws vs : Waves) → ((i : ℕ) �
 as-one-wave c k ws vs is one i j below below' same = is i ∙ one i j below below' same ∙ sym (is j)
 
 -- ---- the values of one case
-
-value-in-after : (before : Option Bool) (vs : List CaseValue) (i : ℕ) → value_after before vs i ≡ value_in_after before vs i
-value-in-after before [] i = refl
-value-in-after before (v ∷ vs) i = value-in-after (cond (v.net == i) (Some v.one) before) vs i
 
 some-after : (before : Option Bool) (vs : List CaseValue) (i : ℕ) → is_some (value_after before vs i) ≡ (is_some before || is_set vs i)
 some-after before [] i = by before
@@ -58,7 +54,7 @@ some-after before (v ∷ vs) i = some-after (cond (v.net == i) (Some v.one) befo
     by false before = refl
 
 set-is : (vs : List CaseValue) (i : ℕ) → is_some (value_in vs i) ≡ is_set vs i
-set-is vs i = ap is_some (sym (value-in-after None vs i)) ∙ some-after None vs i
+set-is vs i = some-after None vs i
 
 set-below : (n : ℕ) (vs : List CaseValue) (i : ℕ) → All (λ (v : CaseValue). v.net < n) vs → is_set vs i ≡ true → i < n
 set-below n [] i exist set = cc
@@ -212,8 +208,7 @@ module _ (c : Circuit) (cases : List (List CaseValue)) (k : List ℕ) (known : I
 
     pub case-together : (cone : ℕ → Bool) (before : Waves) → AreTogether c k cone → HaveOneWave c k before → HaveOneWave c k (case_start c (case_at cases number) cone before)
     case-together cone before together one i j below_i below_j same =
-        let value : value_of (case_at cases number) i ≡ value_of (case_at cases number) j =
-        value-in-after None (case_at cases number) i ∙ values-same i j below_i below_j same ∙ sym (value-in-after None (case_at cases number) j) in
+        let value = values-same i j below_i below_j same in
         let inside = together i j below_i below_j same in
         let wave = one i j below_i below_j same in
         λ t. case_wave c.header (value t) (inside t) (wave t)

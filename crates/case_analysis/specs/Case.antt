@@ -1,5 +1,5 @@
 -- Cases: nets that keep a value for ever, the nets that this may reach, and the rounds that begin with it.
-use Rattle.std.specs.Prelude.{◌≡◌, ◌↔◌, ℕ, ◌+◌, ◌*◌, ◌<◌, ◌==◌, Bool, true, false, ◌&&◌, if◌then◌else◌, List, [], ◌∷◌, length, slice_index_or, Option, Some, None}
+use Rattle.std.specs.Prelude.{◌≡◌, ◌↔◌, ℕ, ◌+◌, ◌*◌, ◌<◌, ◌==◌, Bool, true, false, ◌&&◌, List, [], length, slice_index_or, Option, Some, None}
 use Rattle.std.specs.List.{All, list_any}
 use Rattle.scald_base.specs.Time.{Header}
 use Rattle.step_values.specs.declared.value.Value.{Value}
@@ -8,6 +8,7 @@ use Rattle.flat_circuit.specs.declared.case.CaseValue.{CaseValue}
 use Rattle.flat_circuit.specs.Circuit.{Circuit}
 use Rattle.flat_circuit.specs.Run.{Run, IsRun, net_signal}
 use Rattle.pin_waves.specs.Interface.{constant_wave}
+use Rattle.class_table.specs.Alike.{value_in}
 use Rattle.fixpoint_engine.specs.declared.rounds.EngineEnd.{EngineEnd}
 use Rattle.fixpoint_engine.specs.declared.rounds.EngineEnd.TheVariants.{Unsettled, NoMemory}
 use Rattle.fixpoint_engine.specs.Value.{Waves}
@@ -17,14 +18,6 @@ use Rattle.fixpoint_engine.specs.Settled.{AreAtRest}
 use Rattle.fixpoint_engine.specs.Reach.{reach}
 use Rattle.fixpoint_engine.specs.Interface.{MeetsInterface, PermitRun}
 use Rattle.fixpoint_engine.specs.Loops.{Hears}
-
--- the value that a case gives a net, after what was known of it before
-abbrev pub value_after : Option Bool → List CaseValue → ℕ → Option Bool
-value_after before [] i = before
-value_after before (v ∷ vs) i = value_after (if v.net == i then Some v.one else before) vs i
-
-abbrev pub value_of : List CaseValue → ℕ → Option Bool
-value_of values i = value_after None values i
 
 -- whether a case gives the net a value
 abbrev pub is_set : List CaseValue → ℕ → Bool
@@ -72,7 +65,7 @@ case_wave h None true before = unknown_wave h
 case_wave h None false before = before
 
 abbrev pub case_start : Circuit → List CaseValue → (ℕ → Bool) → Waves → Waves
-case_start c values cone base i = case_wave c.header (value_of values i) (cone i) (base i)
+case_start c values cone base i = case_wave c.header (value_in values i) (cone i) (base i)
 
 -- the driven nets of the cone are active
 abbrev pub case_active : Circuit → (ℕ → Bool) → ℕ → Bool

@@ -15,7 +15,7 @@ use assertion_syntax::SignalName;
 use drawing_tree::{CaseEntry, CaseStmt, Drawing};
 use fixpoint_engine::NetSet;
 use flat_circuit::{Case, CaseList, CaseValue, Circuit, Net};
-use scald_base::{AssertSpec, Bytes, List, NoMemory, Place, RefusalKind, Stop};
+use scald_base::{AssertSpec, Bytes, List, NoMemory, RefusalKind, Stop};
 use std::alloc::Global;
 
 /// The most cases of a drawing.

@@ -1,6 +1,6 @@
 //! Cones: the nets that a case may reach.
 
-ghost use Rattle.std.specs.Prelude.{◌≡◌, ◌<◌, ◌==◌, [], IfOk, OnOk, false, length, replicate, slice_get};
+ghost use Rattle.std.specs.Prelude.{◌≡◌, ◌<◌, ◌==◌, IfOk, OnOk, false, length, replicate, slice_get};
 ghost use Rattle.flat_circuit.specs.Instances.{out_at};
 ghost use Rattle.fixpoint_engine.specs.Rounds.{driver};
 ghost use Rattle.fixpoint_engine.specs.Settled.{marked_in};

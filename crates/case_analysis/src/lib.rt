@@ -4,12 +4,9 @@
 //! The layer above calls [`base`] for the waves, and [`reach`] and [`tick`] for that tick. `specs/Base`
 //! says which runs the waves permit, and `specs/Tick` from which tick on checks may rest on them.
 //!
-//! [`check_cases`] gives the cases that a drawing lists, [`case_at`] one of them, and [`case_waves`] its
-//! waves at rest, from those of the base. `specs/Listed` says which nets a case sets, and `specs/Case`
-//! what its cone and its rounds are.
-//!
-//! [`base_classes`] and [`case_classes`] give the same waves where classes of nets that nothing tells
-//! apart are known.
+//! [`check_cases`] gives the cases that a drawing lists, [`case_waves`] the waves of one, from those of
+//! the base (`specs/Listed`, `Case`); [`base_classes`] and [`case_classes`] give the waves of the base
+//! and of a case by classes of nets.
 #![tactic(auto)]
 
 mod base_rounds;

@@ -115,22 +115,44 @@ impl Partition {
         nets.sort_unstable();
         let mut parts = self.parts(alloc, &nets)?;
         parts.sort_unstable_by(|a, b| (a.class, b.size()).cmp(&(b.class, a.size())));
-        for part in &parts {
+        self.take_at_hand(&parts);
+        let changed = self.make_classes(alloc, &nets, &parts)?;
+        self.let_go(&parts);
+        Ok(changed)
+    }
+
+    /// Counts the nets of the parts at hand, in the class that each part is of.
+    fn take_at_hand(&mut self, parts: &[Part]) {
+        for part in parts {
             let count = at(&self.at_hand, part.class).saturating_add(part.size());
             put(&mut self.at_hand, part.class, count);
         }
+    }
+
+    /// No part is at hand any more.
+    fn let_go(&mut self, parts: &[Part]) {
+        for part in parts {
+            put(&mut self.at_hand, part.class, 0);
+        }
+    }
+
+    /// Makes a class of each part at hand, but for the first of those that make up a class, and gives the
+    /// nets that have got a new class.
+    fn make_classes(
+        &mut self,
+        alloc: Global,
+        nets: &[Keyed],
+        parts: &[Part],
+    ) -> Result<Vec<u32>, NoMemory> {
         let mut changed = Vec::new(alloc);
         let mut before = None;
-        for part in &parts {
+        for part in parts {
             let is_whole = at(&self.at_hand, part.class) == at(&self.sizes, part.class);
             if before == Some(part.class) || !is_whole {
                 let members = nets.get(part.begin..part.end).unwrap_or(&[]);
                 self.make_class(members, &mut changed)?;
             }
             before = Some(part.class);
-        }
-        for part in &parts {
-            put(&mut self.at_hand, part.class, 0);
         }
         Ok(changed)
     }
@@ -190,6 +212,29 @@ impl Partition {
         self.split(alloc, keyed)
     }
 
+    /// Tells apart the nets to which some case gives a value of its own.
+    fn split_by_cases(&mut self, alloc: Global, cases: &CaseList) -> Result<(), NoMemory> {
+        for case in cases.as_slice() {
+            self.split_by_case(alloc, case, false)?;
+            self.split_by_case(alloc, case, true)?;
+        }
+        Ok(())
+    }
+
+    /// Tells apart the nets whose drivers have pins on nets of different classes, until no class splits.
+    fn split_to_the_end(&mut self, alloc: Global, c: &Circuit) -> Result<(), NoMemory> {
+        let mut feeds = Feeds::of(alloc, c)?;
+        let mut nets = all_nets(alloc, c)?;
+        for _round in 0..c.net_count() {
+            let changed = self.split_by_pins(alloc, c, &nets)?;
+            nets = feeds.fed_by(alloc, &changed)?;
+            if nets.is_empty() {
+                break;
+            }
+        }
+        Ok(())
+    }
+
     /// For each net the first of its class.
     fn numbered(&self, alloc: Global, c: &Circuit) -> Result<ClassMap, NoMemory>
         ensures { IfOk result (λ k. length k ≡ length c.now.nets) }
@@ -232,18 +277,7 @@ pub fn classes(alloc: Global, c: &Circuit, cases: &CaseList) -> Result<ClassMap,
 {
     let mut partition = Partition::whole(alloc, c.net_count())?;
     partition.split_by_kind(alloc, c)?;
-    for case in cases.as_slice() {
-        partition.split_by_case(alloc, case, false)?;
-        partition.split_by_case(alloc, case, true)?;
-    }
-    let mut feeds = Feeds::of(alloc, c)?;
-    let mut nets = all_nets(alloc, c)?;
-    for _round in 0..c.net_count() {
-        let changed = partition.split_by_pins(alloc, c, &nets)?;
-        nets = feeds.fed_by(alloc, &changed)?;
-        if nets.is_empty() {
-            break;
-        }
-    }
+    partition.split_by_cases(alloc, cases)?;
+    partition.split_to_the_end(alloc, c)?;
     partition.numbered(alloc, c)
 }

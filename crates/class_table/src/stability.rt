@@ -1,6 +1,6 @@
 //! Whether classes may stand for their nets.
 
-ghost use Rattle.std.specs.Prelude.{◌≡◌, ◌<◌, MatchBool, Some, length, slice_get};
+ghost use Rattle.std.specs.Prelude.{◌≡◌, MatchBool, Some, length, slice_get};
 ghost use Rattle.class_table.specs.Stable.{AreAlikeAt, AreAlikeBefore, AreNumbersOfNets, IsStable};
 
 use crate::class_map::ClassMap;

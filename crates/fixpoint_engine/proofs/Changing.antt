@@ -1,8 +1,8 @@
 -- What evaluating one net after another changes.
-use Rattle.std.proofs.Common.{◌≡◌, ◌≢◌, ℕ, zero, suc, ◌<◌, ◌==◌, Bool, true, false, not, ◌&&◌, ◌||◌, cond, All, List, [], ◌∷◌, ◌++◌, length, append-nil, map, filter, get_or, refl, sym, ap, subst, ◌∙◌, arith}
+use Rattle.std.proofs.Common.{◌≡◌, ◌≢◌, ℕ, zero, suc, ◌<◌, ◌==◌, Bool, true, false, not, ◌&&◌, ◌||◌, cond, All, List, [], ◌∷◌, ◌++◌, length, append-nil, map, get_or, refl, sym, ap, subst, ◌∙◌, arith}
 use Rattle.std.proofs.lemmas.List.Sums.{fold_push}
 use Rattle.std.proofs.lemmas.List.{map-append, map-set, length-map, length-set, get_or-set_same, get_or-set_other}
-use Rattle.std.proofs.lemmas.List.Elements.{filter-append, All-filter, All-map, All-head, All-tail}
+use Rattle.std.proofs.lemmas.List.Elements.{All-filter, All-map, All-head, All-tail}
 use Rattle.std.proofs.lemmas.Bool.{eqb-true, eqb-false}
 use Rattle.std.proofs.Math.Bool.{and-false}
 use Rattle.std.proofs.Math.ListN.{set}
@@ -15,11 +15,6 @@ use Rattle.fixpoint_engine.specs.Work.{same_wave}
 use Rattle.fixpoint_engine.specs.Settled.{waves_of}
 use Rattle.fixpoint_engine.specs.Worklist.{Change, changes_of, changed, among}
 use Rattle.fixpoint_engine.proofs.Same.{same_wave-is, same_wave-self}
-
-pub changes-append : (c : Circuit) (ws : Waves) (xs ys : List ℕ) → changes_of c ws (xs ++ ys) ≡ changes_of c ws xs ++ changes_of c ws ys
-changes-append c ws xs ys =
-    ap (filter (λ (ch : Change). not (same_wave ch.1 (ws ch.0)))) (map-append (λ i. (i, evaluated c ws i)) xs ys)
-    ∙ filter-append (λ (ch : Change). not (same_wave ch.1 (ws ch.0))) (map (λ i. (i, evaluated c ws i)) xs) (map (λ i. (i, evaluated c ws i)) ys)
 
 pub unchanged : (c : Circuit) (ws : Waves) (i : ℕ) → evaluated c ws i ≡ ws i → changes_of c ws (i ∷ []) ≡ []
 unchanged c ws i same =

@@ -31,6 +31,7 @@ use Rattle.fixpoint_engine.specs.Worklist.{Queue, IsQueue, Change, changes_of, c
 use Rattle.fixpoint_engine.specs.Classes.{HaveOneWave, AreTogether, is_first, due_classes, class_work_to}
 use Rattle.fixpoint_engine.specs.Members.{for_classes}
 use Rattle.fixpoint_engine.proofs.Same.{same_wave-is, same_wave-self}
+use Rattle.fixpoint_engine.proofs.Drivers.{active-past}
 use Rattle.fixpoint_engine.proofs.Fits.{NetsFit}
 use Rattle.fixpoint_engine.proofs.Listening.{hears-same}
 use Rattle.fixpoint_engine.proofs.Changing.{moves, changed-nets, changes-exist, set-at}
@@ -294,13 +295,13 @@ no-work : (c : Circuit) (ks : List ℕ) (active : ℕ → Bool) (rounds : ℕ �
 unfolding class_work_to
 no-work c ks active rounds = refl
 
-pub class-start : (c : Circuit) (active first : List Bool) (ks : List ℕ) (start waves : List (Wave Value)) (q : Queue) → FitWaves c start → length first ≡ length c.nets →
-    ((i : ℕ) → marked_in first i ≡ (marked_in active i && is_first ks i)) → waves ≡ start → q.marks ≡ first → ClassKept c (marked_in active) ks (waves_of start) waves q 0 0
-class-start c active first ks start waves q fit each lead same marks = record {
+pub class-start : (c : Circuit) (active first : List Bool) (ks : List ℕ) (start waves : List (Wave Value)) (q : Queue) → FitWaves c start →
+    ((i : ℕ) → marked_in first i ≡ (marked_in active i && is_first ks i)) → waves ≡ start → length q.marks ≡ length c.nets → ((i : ℕ) → marked_in q.marks i ≡ marked_in first i) → ClassKept c (marked_in active) ks (waves_of start) waves q 0 0
+class-start c active first ks start waves q fit lead same each marks = record {
   reached = reached-start c (marked_in active) (waves_of start) (waves_of waves) (λ i. ap (λ (ws : List (Wave Value)). waves_of ws i) same);
   fit = subst (FitWaves c) (sym same) fit;
-  each_net = ap length marks ∙ each;
-  due = λ i. ap (λ (ms : List Bool). marked_in ms i) marks ∙ lead i ∙ turned (marked_in active i) (is_first ks i)
+  each_net = each;
+  due = λ i. marks i ∙ lead i ∙ turned (marked_in active i) (is_first ks i)
       ∙ ap (λ (b : Bool). is_first ks i && b) (sym (first-due c (marked_in active) (round c (marked_in active) (waves_of start)) i));
   works = sym (no-work c ks (marked_in active) (round c (marked_in active) (waves_of start)));
   bound = omega arith;
@@ -314,17 +315,12 @@ class-start c active first ks start waves q fit each lead same marks = record {
 
 -- ---- what the caller knows
 
-past-marks : (marks : List Bool) (i : ℕ) → length marks ≤ i → marked_in marks i ≡ false
-past-marks [] i past = refl
-past-marks (m ∷ marks) zero past = absurd (omega arith)
-past-marks (m ∷ marks) (suc i) past = past-marks marks i (omega arith)
-
 pub classes-are : (c : Circuit) (cases : List (List CaseValue)) (active : List Bool) (ks : List ℕ) (start : Waves) → IsCircuit c → FitActive c active → length ks ≡ length c.nets → IsStable c cases ks → HaveOneWave c ks start →
     AreTogether c ks (marked_in active) → AreClasses c (marked_in active) ks start
 classes-are c cases active ks start known fit each stable one together = record {
   each_net = each;
   one = rounds-same c cases ks known stable (marked_in active) start together one;
-  none = λ i past. past-marks active i (let long = fit.each_net in omega (arith, long, past));
+  none = λ i past. active-past c active i fit past;
 }
 
 -- ---- the limit, as code has the changes
@@ -341,8 +337,5 @@ pub class-made : (c : Circuit) (ks classes : List ℕ) (waves : List (Wave Value
 class-made c ks classes waves q nets made queue same known is = record { queue = queue; is = is ∙ (λ k. for_classes (known k) (changes_of c (waves_of waves) (same k))) }
 
 -- the first nets of active classes are active nets
-pub first-active : (c : Circuit) (active first : List Bool) (ks : List ℕ) → FitActive c active → length first ≡ length c.nets → ((i : ℕ) → marked_in first i ≡ (marked_in active i && is_first ks i)) → FitActive c first
-first-active c active first ks fit each are = record {
-  each_net = each;
-  driven = λ i marked. fit.driven i (and_parts (marked_in active i) (is_first ks i) (sym (are i) ∙ marked)).0;
-}
+pub first-active : (c : Circuit) (active first : List Bool) (ks : List ℕ) → FitActive c active → ((i : ℕ) → marked_in first i ≡ (marked_in active i && is_first ks i)) → FitActive c first
+first-active c active first ks fit are i marked = fit i (and_parts (marked_in active i) (is_first ks i) (sym (are i) ∙ marked)).0

@@ -1,12 +1,15 @@
 -- The instances that drive nets.
-use Rattle.std.proofs.Common.{◌≡◌, ℕ, zero, suc, true, List, [], ◌∷◌, length, refl, sym, ap, subst, ◌∙◌, All, slice_get, Option, Some, None, is_some}
+use Rattle.std.proofs.Common.{◌≡◌, ℕ, zero, suc, ◌<◌, ◌≤◌, Bool, true, false, List, [], ◌∷◌, length, refl, sym, ap, subst, ◌∙◌, arith, All, slice_get, Option, Some, None, is_some}
+use Rattle.std.proofs.lemmas.Bool.{false_from_ne_true}
 use Rattle.std.proofs.lemmas.List.Elements.{All-head, All-tail}
 use Rattle.vector_names.specs.declared.bits.Target.TheVariants.{Net as OnNet}
 use Rattle.flat_circuit.specs.declared.instance.Instance.{Instance}
+use Rattle.flat_circuit.specs.declared.net.Net.{Net}
 use Rattle.flat_circuit.specs.Kind.{has_output}
 use Rattle.flat_circuit.specs.Instances.{InstanceFits, out_of}
 use Rattle.flat_circuit.specs.Circuit.{Circuit, IsCircuit, driver_at}
 use Rattle.fixpoint_engine.specs.Rounds.{instance_in, driver}
+use Rattle.fixpoint_engine.specs.Settled.{marked_in, FitActive}
 
 pub fits-of : (c : Circuit) (k : ℕ) (j : Instance) → IsCircuit c → slice_get c.instances k ≡ Some j → InstanceFits c.header (length c.nets) j
 fits-of c k j known is = at-place c.instances k j known.each is
@@ -32,3 +35,16 @@ driver-makes c i j known is = by (driver_at c.nets i) refl is
     by : (found : Option ℕ) → driver_at c.nets i ≡ found → instance_in c found ≡ Some j → has_output j.kind ≡ true
     by None at is = cc
     by (Some k) at is = makes-of c k i j known is (sym (ap out_of is) ∙ known.drivers.is i k at)
+
+-- ---- driven nets exist
+
+driven-below : (nets : List Net) (i : ℕ) → is_some (driver_at nets i) ≡ true → i < length nets
+driven-below [] i driven = cc
+driven-below (n ∷ nets) zero driven = omega arith
+driven-below (n ∷ nets) (suc i) driven = let below = driven-below nets i driven in omega (arith, below)
+
+pub active_below : (c : Circuit) (active : List Bool) (i : ℕ) → FitActive c active → marked_in active i ≡ true → i < length c.nets
+active_below c active i fit marked = driven-below c.nets i (fit i marked)
+
+pub active-past : (c : Circuit) (active : List Bool) (i : ℕ) → FitActive c active → length c.nets ≤ i → marked_in active i ≡ false
+active-past c active i fit past = false_from_ne_true (marked_in active i) (λ marked. let below = active_below c active i fit marked in omega (arith, below, past))

@@ -23,7 +23,6 @@ use Rattle.gate_eval.proofs.Fitting.{Fits, AllFit}
 use Rattle.pin_waves.specs.Pin.{pin_wave as wave_behind}
 use Rattle.pin_waves.proofs.Pins.{length-pin}
 use Rattle.fixpoint_engine.specs.Value.{Waves, target_wave, target_wire, pin_wave, turned_wave}
-use Rattle.fixpoint_engine.specs.Settled.{waves_of, FitWaves}
 
 -- the nets' waves fit
 abbrev pub NetsFit : Circuit → Waves → Type 0
@@ -89,14 +88,3 @@ pins-fit c ws (p ∷ ps) some fit exist = (
 )
 
 -- ---- waves that code has, each as long as the period
-
-long-at : {A : Type 0} (wave : A → Wave Value) (p : ℕ) (xs : List A) (i : ℕ) → All (λ x. length (wave x).cells ≡ p) xs → i < length xs → length (waves_of (map wave xs) i).cells ≡ p
-long-at wave p [] i each below = absurd (omega arith)
-long-at wave p (x ∷ xs) zero each below = All-head (λ y. length (wave y).cells ≡ p) x xs each
-long-at wave p (x ∷ xs) (suc i) each below = long-at wave p xs i (All-tail (λ y. length (wave y).cells ≡ p) x xs each) (omega arith)
-
-pub fit-all : {A : Type 0} (wave : A → Wave Value) (c : Circuit) (xs : List A) → length xs ≡ length c.nets → All (λ x. length (wave x).cells ≡ period c.header) xs → FitWaves c (map wave xs)
-fit-all wave c xs count each = record {
-  each_net = length-map xs wave ∙ count;
-  each_slot = λ i below. long-at wave (period c.header) xs i each (omega (arith, count, below));
-}

@@ -19,7 +19,7 @@ use Rattle.fixpoint_engine.specs.Value.{Waves}
 use Rattle.fixpoint_engine.specs.Reach.{reach}
 use Rattle.fixpoint_engine.specs.Rounds.{driver, evaluated, round, AreSame}
 use Rattle.fixpoint_engine.specs.Work.{same_wave, differs, hears_in, is_due, work_to}
-use Rattle.fixpoint_engine.specs.Settled.{waves_of, marked_in, FitWaves, FitActive, AreAtRest, KeepRuns}
+use Rattle.fixpoint_engine.specs.Settled.{waves_of, marked_in, FitWaves, AreAtRest, KeepRuns}
 use Rattle.fixpoint_engine.specs.End.{EndsAt, EndsFor}
 use Rattle.fixpoint_engine.specs.Worklist.{Queue, IsQueue, Change, changes_of, changed, among}
 use Rattle.fixpoint_engine.proofs.Same.{same_wave-is, same_wave-self}
@@ -174,13 +174,13 @@ no-work : (c : Circuit) (active : ℕ → Bool) (rounds : ℕ → Waves) → wor
 unfolding work_to
 no-work c active rounds = refl
 
-pub kept-start : (c : Circuit) (active : List Bool) (first waves : List (Wave Value)) (q : Queue) → FitWaves c first → FitActive c active → waves ≡ first → q.marks ≡ active →
+pub kept-start : (c : Circuit) (active : List Bool) (first waves : List (Wave Value)) (q : Queue) → FitWaves c first → waves ≡ first → length q.marks ≡ length c.nets → ((i : ℕ) → marked_in q.marks i ≡ marked_in active i) →
     Kept c (marked_in active) (waves_of first) waves q 0 0
-kept-start c active first waves q fit of same marks = record {
+kept-start c active first waves q fit same each marks = record {
   reached = reached-start c (marked_in active) (waves_of first) (waves_of waves) (λ i. ap (λ (ws : List (Wave Value)). waves_of ws i) same);
   fit = subst (FitWaves c) (sym same) fit;
-  each_net = ap length marks ∙ of.each_net;
-  due = λ i. ap (λ (ms : List Bool). marked_in ms i) marks ∙ sym (first-due c (marked_in active) (round c (marked_in active) (waves_of first)) i);
+  each_net = each;
+  due = λ i. marks i ∙ sym (first-due c (marked_in active) (round c (marked_in active) (waves_of first)) i);
   works = sym (no-work c (marked_in active) (round c (marked_in active) (waves_of first)));
   bound = omega arith;
 }

@@ -1,8 +1,8 @@
 -- The nets of a class, found from the last to the first, and changes for all of them.
-use Rattle.std.proofs.Common.{◌≡◌, ℕ, zero, suc, ◌+◌, ◌<◌, ◌≤◌, ◌==◌, Bool, true, false, ◌&&◌, ◌||◌, cond, below_more, All, List, [], ◌∷◌, ◌++◌, append-nil, length, map, take, get_or, refl, sym, ap, subst, ◌∙◌, arith, Option, Some, None, is_some, not}
+use Rattle.std.proofs.Common.{◌≡◌, ℕ, zero, suc, ◌+◌, ◌<◌, ◌≤◌, ◌==◌, Bool, true, false, ◌&&◌, ◌||◌, cond, below_more, All, List, [], ◌∷◌, ◌++◌, append-nil, length, map, take, get_or, refl, sym, ap, subst, ◌∙◌, arith, inl, inr, Option, Some, None, is_some, not}
 use Rattle.std.specs.Cmp.{both_ways}
 use Rattle.std.specs.List.{list_any, range_with_len}
-use Rattle.std.proofs.lemmas.Bool.{eqb-true, eqb-false, eq-eqb, false_from_ne_true}
+use Rattle.std.proofs.lemmas.Bool.{cases_lt, eqb-true, eqb-false, eq-eqb, false_from_ne_true}
 use Rattle.std.proofs.lemmas.List.{append_assoc, map-append, length-set, take_more}
 use Rattle.std.proofs.lemmas.List.Elements.{All-nil, All-cons, All-append, All-map, All-head, All-tail}
 use Rattle.std.proofs.Math.ListN.{set, get_or-append}
@@ -12,7 +12,7 @@ use Rattle.std.proofs.lemmas.List.Concat.{flat_map-append}
 use Rattle.std.proofs.lemmas.List.Folds.{Any-from_list_any, list_any-append}
 use Rattle.step_values.specs.declared.value.Value.{Value}
 use Rattle.skew_algebra.specs.Wave.{Wave}
-use Rattle.flat_circuit.proofs.Names.{range_more}
+use Rattle.vector_names.proofs.Ranges.{range-more}
 use Rattle.class_table.specs.Alike.{class_of}
 use Rattle.fixpoint_engine.specs.Value.{Waves}
 use Rattle.fixpoint_engine.specs.Settled.{marked_in}
@@ -214,7 +214,7 @@ some-below ks class (suc m) =
     ∙ (λ k. some-below ks class m k || ((class_of ks m == class) || false)) ∙ by (class_of ks m == class) (last_below ks class m)
   where
     range : range_with_len 0 (suc m) ≡ range_with_len 0 m ++ m ∷ []
-    range = ap (range_with_len 0) (let e : suc m ≡ m + 1 = omega arith in e) ∙ range_more m
+    range = ap (range_with_len 0) (let e : suc m ≡ m + 1 = omega arith in e) ∙ range-more 0 m m (omega arith)
 
     by : (here : Bool) (found : Option ℕ) → (is_some found || (here || false)) ≡ is_some (cond here (Some m) found)
     by true None = refl
@@ -261,3 +261,12 @@ first-more ks marks first new m false below adds is before after = (
   where
     at : (i : ℕ) → marked_in new i ≡ marked_in first i
     at i = ap (λ (ms : List Bool). marked_in ms i) is
+
+-- the nets of a set that are first in their classes, once each net of the set was looked at
+pub first-all : (ks : List ℕ) (marks first : List Bool) (m : ℕ) → ((i : ℕ) → marked_in marks i ≡ true → i < m) →
+    ((i : ℕ) → i < m → marked_in first i ≡ (marked_in marks i && is_first ks i)) → ((i : ℕ) → m ≤ i → marked_in first i ≡ false) → (i : ℕ) → marked_in first i ≡ (marked_in marks i && is_first ks i)
+first-all ks marks first m within before after i =
+    elim (cases_lt i m) [
+      | inl less ↦ before i less
+      | inr more ↦ after i more ∙ sym (ap (λ (b : Bool). b && is_first ks i) (false_from_ne_true (marked_in marks i) (λ marked. let less = within i marked in omega (arith, less, more))))
+    ]

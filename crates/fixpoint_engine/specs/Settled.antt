@@ -23,10 +23,9 @@ pub record FitWaves (c : Circuit) (waves : List (Wave Value)) : Type 0 where
   pub each_net : length waves ≡ length c.nets
   pub each_slot : (i : ℕ) → i < length c.nets → length (waves_of waves i).cells ≡ period c.header
 
--- a set of driven nets
-pub record FitActive (c : Circuit) (active : List Bool) : Type 0 where
-  pub each_net : length active ≡ length c.nets
-  pub driven : (i : ℕ) → marked_in active i ≡ true → is_some (driver_at c.nets i) ≡ true
+-- a set of driven nets, whatever room it has
+abbrev pub FitActive : Circuit → List Bool → Type 0
+FitActive c active = (i : ℕ) → marked_in active i ≡ true → is_some (driver_at c.nets i) ≡ true
 
 -- the waves are those of the first round that the next one equals
 pub record AreAtRest (c : Circuit) (active : ℕ → Bool) (start : Waves) (limit r : ℕ) (settled : Waves) : Type 0 where

@@ -1,6 +1,6 @@
 //! The nets of each class.
 
-ghost use Rattle.std.specs.Prelude.{◌≡◌, ◌<◌, ◌&&◌, ℕ, IfOk, length};
+ghost use Rattle.std.specs.Prelude.{◌≡◌, ◌<◌, ◌&&◌, ℕ, IfOk, length, true};
 ghost use Rattle.class_table.specs.Alike.{class_of};
 ghost use Rattle.fixpoint_engine.specs.Settled.{marked_in};
 ghost use Rattle.fixpoint_engine.specs.Classes.{is_first};
@@ -81,7 +81,7 @@ impl ClassNets {
     /// The nets of a set that are the first ones of their classes.
     pub fn firsts(&self, alloc: Global, set: &NetSet, nets: u32) -> Result<NetSet, NoMemory>
         requires each_net { length self.now ≡ nets }
-        requires of_nets { length set.now ≡ nets }
+        requires of_nets { (i : ℕ) → marked_in set.now i ≡ true → i < nets }
         ensures each_net { IfOk result (λ first. length first ≡ nets) }
         ensures are { IfOk result (λ first. (i : ℕ) → marked_in first i ≡ (marked_in set.now i && is_first self.now i)) }
     {

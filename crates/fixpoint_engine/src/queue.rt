@@ -39,7 +39,8 @@ impl Queue {
     /// All active nets.
     pub fn all(alloc: Global, c: &Circuit, active: &NetSet) -> Result<Queue, NoMemory>
         requires { FitActive c.now active.now }
-        ensures { IfOk result (λ q. q.marks ≡ active.now) }
+        ensures each_net { IfOk result (λ q. length q.marks ≡ length c.now.nets) }
+        ensures are { IfOk result (λ q. (i : ℕ) → marked_in q.marks i ≡ marked_in active.now i) }
     {
         let mut queue = Queue {
             nets: Vec::new(alloc),
@@ -84,6 +85,7 @@ impl Queue {
     }
 
     /// Lets the net wait that an instance drives, if it is active.
+    #[tactic(auto, using(crate::proofs::Drivers::active_below))]
     fn add_output(&mut self, c: &Circuit, active: &NetSet, instance: u32) -> Result<(), NoMemory>
         requires active { FitActive c.now active.now }
         requires each_net { length self.old.marks ≡ length c.now.nets }

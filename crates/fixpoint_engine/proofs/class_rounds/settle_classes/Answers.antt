@@ -8,6 +8,7 @@ use Rattle.fixpoint_engine.specs.Settled.{waves_of, marked_in}
 use Rattle.fixpoint_engine.specs.Work.{hears_in}
 use Rattle.fixpoint_engine.specs.Worklist.{among}
 use Rattle.fixpoint_engine.specs.Classes.{is_first}
+use Rattle.fixpoint_engine.proofs.Drivers.{active_below}
 use Rattle.fixpoint_engine.proofs.Made.{nets-fit}
 use Rattle.fixpoint_engine.proofs.Kept.{all-read, nets-below, nets-made, none-made, some-made}
 use Rattle.fixpoint_engine.proofs.ClassKept.{class-start, classes-are, class-made, waiting-exist, made-exist, rests, works, keeps, ends-by, kept-more, first-active}
@@ -20,16 +21,16 @@ pub firsts-requires-clause-each_net : goal.firsts-requires-clause-each_net
 firsts-requires-clause-each_net g c = ap length c.in_ok-classes.ensures ∙ c.requires.one_each ∙ sym c.net_count-2.ensures
 
 pub firsts-requires-clause-of_nets : goal.firsts-requires-clause-of_nets
-firsts-requires-clause-of_nets g c = c.requires.active.each_net ∙ sym c.net_count-2.ensures
+firsts-requires-clause-of_nets g c i marked = let below = active_below c.args.c.now c.args.active.now i c.requires.active marked in omega (arith, below, c.net_count-2.ensures)
 
 pub all-requires : goal.all-requires
-all-requires g c = first-active c.args.c.now c.args.active.now c.in_ok-leading.leading c.in_ok-classes.classes c.requires.active (c.in_ok-leading.ensures.each_net ∙ c.net_count-2.ensures) c.in_ok-leading.ensures.are
+all-requires g c = first-active c.args.c.now c.args.active.now c.in_ok-leading.leading c.in_ok-classes.classes c.requires.active c.in_ok-leading.ensures.are
 
 pub rounds-init : goal.rounds-init
 rounds-init g c = record {
   kept = class-start c.args.c.now c.args.active.now c.in_ok-leading.leading c.args.numbers.now (map (λ s. skewed (g.W.CyclicWave.cells s.wave) s.skew) c.args.start.now) (map (λ s. skewed (g.W.CyclicWave.cells s.wave) s.skew) c.in_ok-waves.waves) c.in_ok-queue.queue c.requires.waves
-      (c.in_ok-leading.ensures.each_net ∙ c.net_count-2.ensures) (λ i. c.in_ok-leading.ensures.are i ∙ ap (λ (ks : List ℕ). marked_in c.args.active.now i && is_first ks i) c.in_ok-classes.ensures)
-      (c.in_ok-waves.ensures ∙ ap (map (λ s. skewed (g.W.CyclicWave.cells s.wave) s.skew)) c.as_slice.ensures) c.in_ok-queue.ensures;
+      (λ i. c.in_ok-leading.ensures.are i ∙ ap (λ (ks : List ℕ). marked_in c.args.active.now i && is_first ks i) c.in_ok-classes.ensures)
+      (c.in_ok-waves.ensures ∙ ap (map (λ s. skewed (g.W.CyclicWave.cells s.wave) s.skew)) c.as_slice.ensures) c.in_ok-queue.ensures.each_net c.in_ok-queue.ensures.are;
   within = omega arith;
 }
 
@@ -68,7 +69,7 @@ returns-then-rounds-limit-clause-unsettled g c =
     c.if-rounds-limit.true c.deref.ensures.value c.in_ok-unsettled.ensures
 
 pub refill-requires-clause-active : goal.refill-requires-clause-active
-refill-requires-clause-active g c = first-active c.args.c.now c.args.active.now c.in_ok-leading.leading c.in_ok-classes.classes c.requires.active (c.in_ok-leading.ensures.each_net ∙ c.net_count-2.ensures) c.in_ok-leading.ensures.are
+refill-requires-clause-active g c = first-active c.args.c.now c.args.active.now c.in_ok-leading.leading c.in_ok-classes.classes c.requires.active c.in_ok-leading.ensures.are
 
 pub refill-requires-clause-exist : goal.refill-requires-clause-exist
 refill-requires-clause-exist g c =

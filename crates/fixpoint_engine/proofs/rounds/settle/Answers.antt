@@ -13,8 +13,8 @@ use Rattle.fixpoint_engine.proofs.rounds.settle.Goals as goal
 
 pub rounds-init : goal.rounds-init
 rounds-init g c = record {
-  kept = kept-start c.args.c.now c.args.active.now (map (λ s. skewed (g.W.CyclicWave.cells s.wave) s.skew) c.args.start.now) (map (λ s. skewed (g.W.CyclicWave.cells s.wave) s.skew) c.in_ok-waves.waves) c.in_ok-queue.queue c.requires.waves c.requires.active
-      (c.in_ok-waves.ensures ∙ ap (map (λ s. skewed (g.W.CyclicWave.cells s.wave) s.skew)) c.as_slice.ensures) c.in_ok-queue.ensures;
+  kept = kept-start c.args.c.now c.args.active.now (map (λ s. skewed (g.W.CyclicWave.cells s.wave) s.skew) c.args.start.now) (map (λ s. skewed (g.W.CyclicWave.cells s.wave) s.skew) c.in_ok-waves.waves) c.in_ok-queue.queue c.requires.waves
+      (c.in_ok-waves.ensures ∙ ap (map (λ s. skewed (g.W.CyclicWave.cells s.wave) s.skew)) c.as_slice.ensures) c.in_ok-queue.ensures.each_net c.in_ok-queue.ensures.are;
   within = omega arith;
 }
 

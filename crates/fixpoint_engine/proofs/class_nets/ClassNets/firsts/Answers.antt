@@ -1,6 +1,6 @@
 use Rattle.std.proofs.Common.{◌∙◌, ◌<◌, ◌&&◌, sym, arith, length, true, false}
 use Rattle.fixpoint_engine.specs.Classes.{is_first}
-use Rattle.fixpoint_engine.proofs.Members.{first-more}
+use Rattle.fixpoint_engine.proofs.Members.{first-more, first-all}
 use Rattle.fixpoint_engine.proofs.class_nets.ClassNets.firsts.Goals as goal
 use Rattle.fixpoint_engine.proofs.class_nets.ClassNets.firsts.Goals.{then-has+then-is_first, else-has, else-has-via-then-has+else-is_first, else-has-via-else-has}
 
@@ -23,3 +23,8 @@ loop-net-preserved c =
             record { each_net = more.0 ∙ c.loop-net.invariant.each_net; before = more.1.0; after = more.1.1 }
       ]
     ]
+
+pub returns-clause-are : goal.returns-clause-are
+returns-clause-are c =
+    first-all c.args.self.now c.args.set.now c.loop-net.first c.loop-net.net (λ i marked. let below = c.requires.of_nets i marked in omega (arith, below, c.loop-net-test.false))
+    c.loop-net.invariant.before c.loop-net.invariant.after

@@ -1,8 +1,11 @@
-use Rattle.std.proofs.Common.{◌∙◌, sym, arith, false}
-use Rattle.std.proofs.lemmas.List.{ext_get_or}
+use Rattle.std.proofs.Common.{◌∙◌, sym, arith, inl, inr}
+use Rattle.std.proofs.lemmas.Bool.{cases_lt}
+use Rattle.fixpoint_engine.proofs.Drivers.{active-past}
 use Rattle.fixpoint_engine.proofs.queue.Queue.all.Goals as goal
 
-pub returns : goal.returns
-returns c =
-    ext_get_or false c.loop-net.queue.marks c.args.active.now (c.loop-net.invariant.each_net ∙ sym c.requires.each_net)
-    (λ i below. c.loop-net.invariant.before i (omega (arith, c.loop-net.invariant.each_net, c.net_count-net-end.ensures, c.loop-net-test.false)))
+pub returns-clause-are : goal.returns-clause-are
+returns-clause-are c i =
+    elim (cases_lt i c.loop-net.net) [
+      | inl less ↦ c.loop-net.invariant.before i less
+      | inr more ↦ c.loop-net.invariant.after i more ∙ sym (active-past c.args.c.now c.args.active.now i c.requires (omega (arith, more, c.net_count-net-end.ensures, c.loop-net-test.false)))
+    ]
