@@ -64,6 +64,7 @@ fn different(alloc: Global, numbers: &ClassMap) -> Result<usize, NoMemory> {
     Ok(sorted.len())
 }
 
+/// How many evaluations bring the base to rest, net by net and class by class.
 fn evaluations(
     alloc: Global,
     c: &Circuit,
@@ -82,6 +83,7 @@ fn evaluations(
     })
 }
 
+/// Whether the classes are stable and the base comes to rest, and then its evaluations.
 fn looked_at(
     alloc: Global,
     c: &Circuit,
@@ -100,6 +102,7 @@ fn looked_at(
     }
 }
 
+/// How many nets and classes a circuit without cases has, and what is said of the classes.
 fn classified(alloc: Global, c: &Circuit) -> Result<Count, NoMemory> {
     let cases = CaseList::new(alloc);
     let numbers = classes(alloc, c, &cases)?;
@@ -110,6 +113,7 @@ fn classified(alloc: Global, c: &Circuit) -> Result<Count, NoMemory> {
     })
 }
 
+/// What is said of the drawing that a text has, or its refusal.
 fn count_of_text(alloc: Global, text: &[u8]) -> Result<Count, Stop> {
     if text.len() > MOST_BYTES as usize {
         return Err(Stop::NoMemory);

@@ -1,25 +1,20 @@
 -- How many instances there are, and what a builder holds after each call.
-use Rattle.std.proofs.Common.{◌≡◌, ℕ, ◌+◌, ◌<◌, ◌≤◌, Bool, true, false, cond, not, ◌&&◌, ◌||◌, nat_le, nat_lt, List, [], ◌∷◌, ◌++◌, length, take, refl, ap, sym, subst, ◌∙◌, arith}
+use Rattle.std.proofs.Common.{◌≡◌, ℕ, ◌+◌, ◌<◌, ◌≤◌, Bool, true, false, cond, not, ◌&&◌, ◌||◌, nat_le, nat_lt, List, [], ◌∷◌, ◌++◌, length, refl, ap, ◌∙◌, arith}
 use Rattle.std.specs.Prelude.{count_by, Option, Some, None}
 use Rattle.std.proofs.lemmas.Bool.Decides.{nat_tests}
-use Rattle.std.proofs.lemmas.List.{length_push, take_all}
-use Rattle.std.proofs.Math.Seq.{take-append_seam}
+use Rattle.std.proofs.lemmas.List.{length_push}
 use Rattle.std.proofs.lemmas.List.Sums.{sum_by-append}
-use Rattle.std.proofs.lemmas.List.Elements.{All-push, All-weaker, All-take}
+use Rattle.std.proofs.lemmas.List.Elements.{All-push, All-weaker}
 use Rattle.scald_base.specs.Time.{Header, Bounds}
 use Rattle.scald_base.specs.Fitting.{Fits}
 use Rattle.scald_base.specs.declared.assertion.AssertSpec.{AssertSpec}
-use Rattle.scald_base.specs.declared.refusal.Place.{Place}
-use Rattle.scald_base.specs.declared.refusal.Refusal.{Refusal}
-use Rattle.scald_base.specs.declared.refusal.Stop.{Stop}
-use Rattle.scald_base.specs.declared.refusal.Stop.TheVariants.{Refused, NoMemory}
 use Rattle.vector_names.specs.declared.bits.Target.{Target}
 use Rattle.vector_names.specs.declared.bits.Target.TheVariants.{Net as OnNet, Constant}
 use Rattle.flat_circuit.specs.declared.instance.Instance.{Instance}
 use Rattle.flat_circuit.specs.Kind.{has_output}
 use Rattle.flat_circuit.specs.Name.{Name}
 use Rattle.flat_circuit.specs.Instances.{TargetExists, PinExists, OutExists, InstanceExists, InstanceFits, outputs, checkers, all_pins, AreFew, AreCounts, most_bits, most_pins}
-use Rattle.flat_circuit.specs.Builder.{Built, built, Nets, Asserted, is_asserted, with_asserted, has_text, has_name, is_one_too_many, IsBuilt, after_number, after_assertion, Clashes, IsNumberRefusal, IsNetRefusal, IsNetFault}
+use Rattle.flat_circuit.specs.Builder.{built, Nets, Asserted, is_asserted, with_asserted, has_text, has_name, is_one_too_many, IsBuilt}
 use Rattle.flat_circuit.proofs.Tables.{distinct-push}
 
 abbrev pub of_bool : Bool → ℕ
@@ -149,39 +144,6 @@ built-asserted h t given js text spec b f = step (is_asserted spec) refl (has_te
   }
   step true e true = b
   step false e k = b
-
-pub built-taken : (h : Header) (t : Nets) (given : List Asserted) (js : List Instance) (n : ℕ) → IsBuilt (built h t given js) → IsBuilt (built h t (take n given) js)
-built-taken h t given js n b = record {
-  few_nets = b.few_nets;
-  few = b.few;
-  distinct = b.distinct;
-  bounded = b.bounded;
-  each = b.each;
-  real = All-take (λ (x : Asserted). is_asserted x.spec ≡ true) n given b.real;
-  fit = All-take (λ (x : Asserted). Fits h x.spec) n given b.fit;
-}
-
--- ---- the calls
-
-pub taken-asserted : (given : List Asserted) (text : List ℕ) (spec : AssertSpec) → take (length given) (with_asserted given text spec) ≡ given
-taken-asserted given text spec = step (is_asserted spec && not (has_text given text)) where
-  step : (b : Bool) → take (length given) (cond b (given ++ record { text = text; spec = spec } ∷ []) given) ≡ given
-  step true = take-append_seam given (record { text = text; spec = spec } ∷ [])
-  step false = take_all (length given) given (omega arith)
-
-pub number-then : (b : Built) (name : Name) (spec : AssertSpec) → after_number (after_assertion b name.text spec) name ≡ after_assertion (after_number b name) name.text spec
-number-then b name spec = step (has_name b.names name) where
-  more : List Asserted
-  more = with_asserted b.asserted name.text spec
-
-  step : (t : Bool) → cond t (record b { asserted = more }) (record b { names = b.names ++ name ∷ []; wires = b.wires ++ b.header.wire ∷ []; asserted = more })
-      ≡ after_assertion (cond t b (record b { names = b.names ++ name ∷ []; wires = b.wires ++ b.header.wire ∷ [] })) name.text spec
-  step true = refl
-  step false = refl
-
-pub refusal-net : (b : Built) (given : List Asserted) (name : Name) (spec : AssertSpec) (at : Place) (stop : Stop) → ¬ (Clashes b.asserted name.text spec) → IsNumberRefusal (record b { asserted = given }) name at stop → IsNetRefusal b name spec at stop
-refusal-net b given name spec at NoMemory n h = tt
-refusal-net b given name spec at (Refused r) n h = subst (λ (x : Refusal). (x.place ≡ at) × IsNetFault b name spec x.kind) (sym h.0) (refl, (n, h.1, h.2))
 
 pub not-true : (b : Bool) → not b ≡ true → b ≡ false
 not-true true h = absurd (cc)

@@ -1,20 +1,18 @@
 -- The table of drivers.
-use Rattle.std.proofs.Common.{◌≡◌, ℕ, zero, suc, ◌+◌, ◌<◌, ◌≤◌, true, false, List, [], ◌∷◌, length, get_or, set, replicate, Option, Some, None, refl, ap, sym, subst, ◌∙◌, arith, inl, inr}
-use Rattle.std.specs.Prelude.{◌⊎◌, slice_get}
+use Rattle.std.proofs.Common.{◌≡◌, ℕ, zero, suc, ◌+◌, ◌<◌, ◌≤◌, true, false, List, [], ◌∷◌, length, get_or, set, Option, Some, None, refl, ap, sym, subst, ◌∙◌, arith, inl, inr}
+use Rattle.std.specs.Prelude.{slice_get}
 use Rattle.std.specs.List.{All}
 use Rattle.std.specs.Option.{MatchOption}
-use Rattle.std.proofs.lemmas.List.{get_or-set_same, get_or-set_other, length-set, length-replicate}
+use Rattle.std.proofs.lemmas.List.{get_or-set_same, get_or-set_other, length-set}
 use Rattle.std.proofs.lemmas.List.Elements.{All-get_or}
 use Rattle.std.proofs.lemmas.Bool.{cases_eq}
+use Rattle.scald_base.proofs.Below.{below-or-last}
 use Rattle.vector_names.specs.declared.bits.Target.{Target}
 use Rattle.vector_names.specs.declared.bits.Target.TheVariants.{Net as OnNet, Constant}
 use Rattle.flat_circuit.specs.declared.instance.Instance.{Instance}
 use Rattle.flat_circuit.specs.Instances.{out_at, OutExists, InstanceExists, IsTaken, Is_constant, Is_driven, AreDrivers}
 use Rattle.flat_circuit.specs.Builder.{IsFirst}
 use Rattle.flat_circuit.specs.Steps.{entry, DrivenTo, Took}
-
-pub at_or_below : (d k : ℕ) → d < k + 1 → (d < k) ⊎ (d ≡ k)
-at_or_below d k h = elim (cases_eq d k) as (λ _. (d < k) ⊎ (d ≡ k)) [ inl e ↦ inr e | inr n ↦ inl (omega arith) ]
 
 pub get_is : {X : Type 0} (xs : List X) (k : ℕ) (x : X) → k < length xs → x ≡ get_or xs k x → slice_get xs k ≡ Some x
 get_is [] k x h e = absurd (omega arith)
@@ -26,25 +24,12 @@ get_none [] k h = refl
 get_none (y ∷ ys) zero h = absurd (omega arith)
 get_none (y ∷ ys) (suc k) h = get_none ys k (omega arith)
 
-entry_none : (n i : ℕ) → entry (replicate n None) i ≡ None
-entry_none zero i = refl
-entry_none (suc n) zero = refl
-entry_none (suc n) (suc i) = entry_none n i
-
-pub driven_start : (js : List Instance) (n : ℕ) (ds : List (Option ℕ)) → ds ≡ replicate n None → DrivenTo js n 0 ds
-driven_start js n ds e = subst (DrivenTo js n 0) (sym e) (record {
-  long = length-replicate n None;
-  is = λ i d x. let w = entry_none n i in absurd (cc);
-  of = λ i d b x. absurd (omega arith);
-  steady = λ d b h x. absurd (omega arith);
-})
-
 driven_same : (js : List Instance) (n k : ℕ) (ds : List (Option ℕ)) → None ≡ out_at js k → DrivenTo js n k ds → DrivenTo js n (k + 1) ds
 driven_same js n k ds e h = record {
   long = h.long;
   is = λ i d x. let a = h.is i d x in let b = a.0 in (omega arith, a.1);
-  of = λ i d b x. elim (at_or_below d k b) as (λ _. entry ds i ≡ Some d) [ inl l ↦ h.of i d l x | inr q ↦ let y : out_at js k ≡ Some (OnNet i) = subst (λ z. out_at js z ≡ Some (OnNet i)) q x in absurd (cc) ];
-  steady = λ d b l x. elim (at_or_below d k l) as (λ _. ⊥) [ inl m ↦ h.steady d b m x | inr q ↦ let y : out_at js k ≡ Some (Constant b) = subst (λ z. out_at js z ≡ Some (Constant b)) q x in absurd (cc) ];
+  of = λ i d b x. elim (below-or-last d k b) as (λ _. entry ds i ≡ Some d) [ inl l ↦ h.of i d l x | inr q ↦ let y : out_at js k ≡ Some (OnNet i) = subst (λ z. out_at js z ≡ Some (OnNet i)) q x in absurd (cc) ];
+  steady = λ d b l x. elim (below-or-last d k l) as (λ _. ⊥) [ inl m ↦ h.steady d b m x | inr q ↦ let y : out_at js k ≡ Some (Constant b) = subst (λ z. out_at js z ≡ Some (Constant b)) q x in absurd (cc) ];
 }
 
 abbrev net_of : Option Target → ℕ → ℕ
@@ -61,12 +46,12 @@ driven_new js n k m ds e lt o h =
         | inl q ↦ let y : entry (set ds m (Some k)) m ≡ Some d = subst (λ z. entry (set ds m (Some k)) z ≡ Some d) q x in let z : k ≡ d = cc in (omega arith, subst (λ v. out_at js v ≡ Some (OnNet i)) z (sym e ∙ ap (λ v. Some (OnNet v)) (sym q)))
         | inr q ↦ let a = h.is i d (sym (get_or-set_other ds m i (Some k) None q) ∙ x) in let b = a.0 in (omega arith, a.1)
       ];
-      of = λ i d b x. elim (at_or_below d k b) as (λ _. entry (set ds m (Some k)) i ≡ Some d) [
+      of = λ i d b x. elim (below-or-last d k b) as (λ _. entry (set ds m (Some k)) i ≡ Some d) [
         | inl t ↦ let y = h.of i d t x in elim (cases_eq i m) as (λ _. entry (set ds m (Some k)) i ≡ Some d)
             [ inl q ↦ let z : entry ds m ≡ Some d = subst (λ v. entry ds v ≡ Some d) q y in absurd (cc) | inr q ↦ get_or-set_other ds m i (Some k) None q ∙ y ]
         | inr q ↦ let y : out_at js k ≡ Some (OnNet i) = subst (λ z. out_at js z ≡ Some (OnNet i)) q x in let z : m ≡ i = ap (λ v. net_of v 0) (e ∙ y) in subst (λ v. entry (set ds m (Some k)) v ≡ Some d) z (same ∙ ap Some (sym q))
       ];
-      steady = λ d b t x. elim (at_or_below d k t) as (λ _. ⊥) [ inl v ↦ h.steady d b v x | inr q ↦ let y : out_at js k ≡ Some (Constant b) = subst (λ z. out_at js z ≡ Some (Constant b)) q x in absurd (cc) ];
+      steady = λ d b t x. elim (below-or-last d k t) as (λ _. ⊥) [ inl v ↦ h.steady d b v x | inr q ↦ let y : out_at js k ≡ Some (Constant b) = subst (λ z. out_at js z ≡ Some (Constant b)) q x in absurd (cc) ];
     }
 
 took_new : (js : List Instance) (n k m : ℕ) (ds ds' : List (Option ℕ)) (v : Option ℕ) → entry ds m ≡ v → Some (OnNet m) ≡ out_at js k → m < n → MatchOption v ((true ≡ true) × (ds' ≡ set ds m (Some k))) (λ _. true ≡ false) → DrivenTo js n k ds → DrivenTo js n (k + 1) ds'
@@ -94,11 +79,6 @@ not_taken js n k ds h m l (Is_driven {i} {d} t x y) =
     let b = h.of i m l y in
     let e : d ≡ m = cc in
     omega arith
-
-pub get_any : {X : Type 0} (xs : List X) (k : ℕ) (d e : X) → k < length xs → get_or xs k d ≡ get_or xs k e
-get_any [] k d e h = absurd (omega arith)
-get_any (y ∷ ys) zero d e h = refl
-get_any (y ∷ ys) (suc k) d e h = get_any ys k d e (omega arith)
 
 pub driven_more : (js : List Instance) (n k : ℕ) (ds ds' : List (Option ℕ)) (j : Instance) → k < length js → j ≡ get_or js k j → All (InstanceExists n) js → Took ds ds' k j.out true → DrivenTo js n k ds → DrivenTo js n (k + 1) ds'
 driven_more js n k ds ds' j l e a t h =

@@ -14,8 +14,8 @@ use Rattle.flat_circuit.specs.declared.instance.Instance.{Instance}
 use Rattle.flat_circuit.specs.Name.{Name, nameless, IsNameOrder}
 use Rattle.flat_circuit.specs.Loop.{IsLooped, HoldsOfNone}
 use Rattle.flat_circuit.specs.Circuit.{IsCircuit, net_name, net_names, wire_at, driver_at}
-use Rattle.flat_circuit.specs.Builder.{Built, built, Nets, Asserted, spec_of, bounds_at, IsBuilt, IsRefusal, IsRuleBroken, Stands}
-use Rattle.flat_circuit.specs.Steps.{DrivenTo, AreNets, IsNet, specs_of, entry, StopsAtTaken, StopsAtLoop}
+use Rattle.flat_circuit.specs.Builder.{built, Nets, Asserted, spec_of, bounds_at, IsBuilt, IsRefusal, IsRuleBroken, Stands}
+use Rattle.flat_circuit.specs.Steps.{DrivenTo, AreNets, IsNet, specs_of, entry, StopsAtLoop}
 use Rattle.flat_circuit.proofs.Driven.{drivers_are, not_taken}
 use Rattle.flat_circuit.proofs.Loops.{none_looped_by}
 
@@ -105,7 +105,3 @@ pub refusal-looped : (h : Header) (t : Nets) (given : List Asserted) (js : List 
 refusal-looped h t given js ds NoMemory dr s = tt
 refusal-looped h t given js ds (Refused r) dr s =
     subst (IsRuleBroken (built h t given js) r.place) (sym s.0) ((λ k l x. not_taken js (length t.names) (length js) ds dr k l x), s.1)
-
-pub refusal-taken : (b : Built) (stop : Stop) → StopsAtTaken b.instances stop → IsRefusal b stop
-refusal-taken b NoMemory s = tt
-refusal-taken b (Refused r) s = subst (IsRuleBroken b r.place) (sym s.0) s.1

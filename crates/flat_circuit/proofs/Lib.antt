@@ -1,5 +1,4 @@
 pub mod Examples
-pub mod Asked
 pub mod Walk
 pub mod Driven
 pub mod Names

@@ -1,5 +1,5 @@
 -- The order of names.
-use Rattle.std.proofs.Common.{◌≡◌, ℕ, zero, suc, ◌+◌, ◌<◌, ◌≤◌, List, [], ◌∷◌, ◌++◌, length, get_or, refl, ap, subst, ◌∙◌, arith, inl, inr}
+use Rattle.std.proofs.Common.{◌≡◌, ℕ, zero, suc, ◌<◌, ◌≤◌, List, [], ◌∷◌, length, get_or, refl, subst, ◌∙◌, arith, inl, inr}
 use Rattle.std.specs.Prelude.{◌⊎◌}
 use Rattle.std.specs.List.{Contains, range_with_len}
 use Rattle.std.specs.List.Sorted.{IsPartitionPoint, IsNonDecreasingBy}
@@ -43,13 +43,6 @@ name_is a b h =
     let t = cmp_is a.text b.text p.0 in
     let i = nat_cmp_is a.bit b.bit p.1 in
     grind arith
-
-range_suc : (a n : ℕ) → range_with_len a (suc n) ≡ range_with_len a n ++ (a + n) ∷ []
-range_suc a zero = let e : a + 0 ≡ a = omega arith in rw e refl
-range_suc a (suc n) = let e : a + 1 + n ≡ a + suc n = omega arith in ap (λ x. a ∷ x) (range_suc (a + 1) n ∙ rw e refl)
-
-pub range_more : (n : ℕ) → range_with_len 0 (n + 1) ≡ range_with_len 0 n ++ n ∷ []
-range_more n = let e : n + 1 ≡ suc n = omega arith in let z : 0 + n ≡ n = omega arith in ap (range_with_len 0) e ∙ range_suc 0 n ∙ ap (λ x. range_with_len 0 n ++ x ∷ []) z
 
 -- each number stands somewhere in the order
 pub order_in : (ns : List Name) (order : List ℕ) (at d : ℕ) → IsNameOrder ns order → at < length order → get_or order at d < length ns

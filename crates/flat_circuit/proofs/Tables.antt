@@ -1,6 +1,6 @@
 -- Nets and assertions in index maps.
 use Rattle.std.proofs.Common.{◌≡◌, ◌≢◌, ℕ, zero, suc, ◌+◌, ◌<◌, Bool, true, false, cond, not, ◌&&◌, ◌||◌, nat_eq, nat_lt, List, [], ◌∷◌, ◌++◌, length, map, get_or, set, Option, Some, None, refl, ap, sym, subst, ◌∙◌, arith, inl, inr}
-use Rattle.std.specs.Prelude.{◌⊎◌, MatchOption, MatchBool, is_some}
+use Rattle.std.specs.Prelude.{MatchOption, MatchBool, is_some}
 use Rattle.std.specs.Cmp.Lexicographic.{pointwise}
 use Rattle.std.specs.List.{list_any, position, position_or_len}
 use Rattle.std.specs.Str.{bytes_eq}
@@ -8,12 +8,12 @@ use Rattle.std.specs.Map.{keys_of, lookup}
 use Rattle.std.specs.Global.{Vec}
 use Rattle.std.proofs.lemmas.Slice.Eq.{bytes_eq-Decides}
 use Rattle.std.proofs.lemmas.Bool.Decides.{nat_tests}
-use Rattle.std.proofs.lemmas.Bool.{cases_eq}
 use Rattle.std.proofs.lemmas.List.{length_push, get_or_push, length-map, map_push}
 use Rattle.std.proofs.lemmas.List.Quantifiers.{position-Some}
 use Rattle.std.proofs.Math.ListN.{get_or-append}
 use Rattle.indexmap.specs.IndexMap.{insert_entry, set_value_at}
 use Rattle.scald_base.specs.Time.{Bounds}
+use Rattle.scald_base.proofs.Below.{below-or-last}
 use Rattle.scald_base.specs.declared.assertion.Span.{Span}
 use Rattle.scald_base.specs.declared.assertion.AssertSpec.{AssertSpec}
 use Rattle.scald_base.specs.declared.assertion.AssertSpec.TheVariants.{None as Unasserted}
@@ -37,18 +37,15 @@ not_there (n ∷ ns) name (suc i) h l e = step (same_name name n) h (λ r. not_t
   step true q more = absurd (cc)
   step false q more = more q
 
-pub below_or_last : (i n : ℕ) → i < n + 1 → (i < n) ⊎ (i ≡ n)
-below_or_last i n h = elim (cases_eq i n) as (λ _. (i < n) ⊎ (i ≡ n)) [ inl e ↦ inr e | inr e ↦ inl (omega arith) ]
-
 pub distinct-push : (ns : List Name) (name : Name) → AreDistinct ns → has_name ns name ≡ false → AreDistinct (ns ++ name ∷ [])
 distinct-push ns name d h i j a b e =
     let n = length_push ns name in
-    elim (below_or_last i (length ns) (omega arith)) as (λ _. i ≡ j) [
-      | inl x ↦ elim (below_or_last j (length ns) (omega arith)) as (λ _. i ≡ j) [
+    elim (below-or-last i (length ns) (omega arith)) as (λ _. i ≡ j) [
+      | inl x ↦ elim (below-or-last j (length ns) (omega arith)) as (λ _. i ≡ j) [
         | inl y ↦ d i j x y (sym (get_or-append ns (name ∷ []) nameless i x) ∙ e ∙ get_or-append ns (name ∷ []) nameless j y)
         | inr y ↦ absurd (not_there ns name i h x (sym (get_or-append ns (name ∷ []) nameless i x) ∙ e ∙ get_or_push ns name nameless j (sym y)))
       ]
-      | inr x ↦ elim (below_or_last j (length ns) (omega arith)) as (λ _. i ≡ j) [
+      | inr x ↦ elim (below-or-last j (length ns) (omega arith)) as (λ _. i ≡ j) [
         | inl y ↦ absurd (not_there ns name j h y (sym (get_or-append ns (name ∷ []) nameless j y) ∙ sym e ∙ get_or_push ns name nameless i (sym x)))
         | inr y ↦ x ∙ sym y
       ]

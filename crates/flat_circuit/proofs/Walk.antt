@@ -106,28 +106,6 @@ marks_looped nodes marks k h d a = record {
 }
 
 -- ---- the steps
-pub step_start : (nodes : List Node) (marks : List Mark) (root : ℕ) → AreMarks nodes marks → HasNoOpen marks → root < length nodes → Searching nodes (set marks root Open) (set marks root Open) [] root 0
-step_start nodes marks root a n h =
-    let l : root < length marks = omega (arith, a.length_marks) in
-    record {
-      marks_are = marks_open nodes marks root l a;
-      node_in = h;
-      passed = λ t z. absurd (omega arith);
-      chain = tt;
-      on_path = λ i o. elim (written marks root Open i l) as (λ _. (i ≡ root) ⊎ On i []) [ Here e w ↦ inl e | Elsewhere x w ↦ absurd (n i (sym w ∙ o)) ];
-      stays = λ i f. f;
-    }
-
-pub step_pass : (nodes : List Node) (start marks : List Mark) (fs : List Frame) (node at : ℕ) → mark_at marks (get_or (feeders_of nodes node) at 0) ≡ Clear → Searching nodes start marks fs node at → Searching nodes start marks fs node (at + 1)
-step_pass nodes start marks fs node at c s = record {
-  marks_are = s.marks_are;
-  node_in = s.node_in;
-  passed = below_more (λ t. mark_at marks (get_or (feeders_of nodes node) t 0) ≡ Clear) at s.passed c;
-  chain = s.chain;
-  on_path = s.on_path;
-  stays = s.stays;
-}
-
 pub step_push : (nodes : List Node) (start marks : List Mark) (fs : List Frame) (node at pin : ℕ) → AreInRange nodes → at < length (feeders_of nodes node) → pin ≡ get_or (feeders_of nodes node) at 0 → mark_at marks pin ≡ Fresh →
     Searching nodes start marks fs node at → Searching nodes start (set marks pin Open) (record { node = node; at = at + 1 } ∷ fs) pin 0
 step_push nodes start marks fs node at pin g h e m s =
@@ -296,11 +274,6 @@ path_left-push nodes [] x = omega arith
 path_left-push nodes (f ∷ fs) x = omega (arith, path_left-push nodes fs x)
 
 -- ---- as the code says it
-pub pins_is : (nodes : List Node) (j : ℕ) (n : Node) → j < length nodes → n ≡ get_or nodes j n → feeders_of nodes j ≡ n.feeders.items
-pins_is [] j n h e = absurd (omega arith)
-pins_is (x ∷ xs) zero n h e = ap (λ (y : Node). y.feeders.items) (sym e)
-pins_is (x ∷ xs) (suc j) n h e = pins_is xs j n (omega arith) e
-
 pub pushed : (nodes : List Node) (start marks : List Mark) (path items : List Frame) (node at pin : ℕ) → AreInRange nodes → IsFeeder nodes node at pin → mark_at marks pin ≡ Fresh → items ≡ path ++ record { node = node; at = at + 1 } ∷ [] →
     Searching nodes start marks (newest_first path) node at → Searching nodes start (set marks pin Open) (newest_first items) pin 0
 pushed nodes start marks path items node at pin g p m e s =

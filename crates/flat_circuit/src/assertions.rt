@@ -1,6 +1,6 @@
 //! What is asserted of whole names, while a circuit is built.
 
-ghost use Rattle.std.specs.Prelude.{◌≡◌, ◌≢◌, [], ◌++◌, length, take, IfOk, OnOk, OnErr, MatchBool};
+ghost use Rattle.std.specs.Prelude.{◌≡◌, ◌≢◌, [], length, take, IfOk, OnOk, OnErr, MatchBool};
 ghost use Rattle.flat_circuit.specs.Builder.{Differ, Clashes, with_asserted, is_asserted, has_text, spec_of};
 
 use indexmap::IndexMap;
@@ -15,7 +15,7 @@ pub struct Assertions {
 }
 
 impl Model for Assertions {
-    ghost use Rattle.std.specs.Prelude.{List, map};
+    ghost use Rattle.std.specs.Prelude.{List};
     ghost use Rattle.flat_circuit.specs.Builder.{Asserted, asserted_entries};
 
     ghost Value = { List Asserted };

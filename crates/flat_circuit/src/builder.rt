@@ -3,8 +3,8 @@
 ghost use Rattle.std.specs.Prelude.{◌≡◌, ◌<◌, ◌++◌, length, not, take, if◌then◌else◌, IfOk, IfErr, OnOk, OnErr};
 ghost use Rattle.scald_base.specs.Fitting.{Fits};
 ghost use Rattle.flat_circuit.specs.Name.{Name};
-ghost use Rattle.flat_circuit.specs.Instances.{InstanceFits, most_bits};
-ghost use Rattle.flat_circuit.specs.Builder.{empty, IsBuilt, GivesNet, IsNetRefusal, after_assertion, after_wire, GivesInstance, IsInstanceRefusal, is_one_too_many, has_name, name_of_key, GivesNumber, IsNumberRefusal};
+ghost use Rattle.flat_circuit.specs.Instances.{InstanceFits};
+ghost use Rattle.flat_circuit.specs.Builder.{empty, IsBuilt, GivesNet, IsNetRefusal, after_assertion, after_wire, GivesInstance, IsInstanceRefusal, is_one_too_many, name_of_key, GivesNumber, IsNumberRefusal};
 
 use crate::assertions::Assertions;
 use crate::instance::Instance;

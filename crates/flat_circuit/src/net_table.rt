@@ -23,7 +23,6 @@ pub struct NetTable {
 }
 
 impl Model for NetTable {
-    ghost use Rattle.std.specs.Prelude.{map};
     ghost use Rattle.flat_circuit.specs.Builder.{Nets, net_entries, IsNets};
 
     ghost Value = { Nets };

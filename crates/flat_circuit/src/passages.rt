@@ -1,7 +1,7 @@
 //! Loops without delay.
 
 ghost use Rattle.std.specs.Prelude.{◌≡◌, ◌<◌, ◌++◌, length, map, option_to_list, IfOk, OnOk, MatchResult, slice_get};
-ghost use Rattle.std.specs.List.{All, range_with_len};
+ghost use Rattle.std.specs.List.{range_with_len};
 ghost use Rattle.flat_circuit.specs.Instances.{least_delay_at};
 ghost use Rattle.flat_circuit.specs.Loop.{IsLooped, HoldsOfNone};
 ghost use Rattle.flat_circuit.specs.Builder.{bounds_at, StandsAt};

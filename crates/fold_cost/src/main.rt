@@ -1,5 +1,6 @@
 //! Folds a clock's wave of 4,096 slots, which may come up to 2,000 ticks late, as often as its argument
 //! says, so that the cost of a slot can be measured on a built program: `bench/run fold`.
+//! Nothing stands on it.
 #![tactic(auto)]
 
 use pin_waves::interface_wave;

@@ -2,11 +2,12 @@
 use Rattle.std.proofs.Common.{◌≡◌, ℕ, ◌-◌, ◌%◌, ◌<◌, ◌≤◌, true, List, [], ◌∷◌, length, get_or, sym, ap, ◌∙◌, arith}
 use Rattle.std.specs.List.{AllByRecursion}
 use Rattle.std.proofs.lemmas.Slice.Zip.{AllZip-long}
+use Rattle.scald_base.specs.Signal.{Signal}
 use Rattle.scald_base.specs.Clock.{back}
 use Rattle.wave_core.specs.Cell.{Cells, IsLawful}
 use Rattle.wave_core.specs.Slots.{earlier}
 use Rattle.skew_algebra.specs.Wave.{Wave, IsNormal, cell_at, fold, is_steady}
-use Rattle.skew_algebra.specs.Permits.{Signal, Permits}
+use Rattle.skew_algebra.specs.Permits.{Permits}
 use Rattle.skew_algebra.proofs.Cells.{equal-at}
 use Rattle.skew_algebra.proofs.Moves.{fold_at-mod, fold-has}
 use Rattle.scald_base.proofs.Back.{back-lt}

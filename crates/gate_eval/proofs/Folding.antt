@@ -6,7 +6,7 @@ use Rattle.scald_base.specs.Clock.{back}
 use Rattle.scald_base.proofs.Back.{back-zero, back-sub, back-sooner, back-later, mod-small}
 use Rattle.wave_core.specs.Cell.{Cells, IsLawful}
 use Rattle.wave_core.specs.Slots.{SameUntil, earlier, join_to, fold_at}
-use Rattle.wave_core.proofs.Fold.{join_to-same}
+use Rattle.wave_core.proofs.Fold.{join_to-same, with-last}
 use Rattle.step_values.specs.declared.value.Value.{Value}
 use Rattle.step_values.specs.Cell.{values}
 use Rattle.step_values.specs.Lawful.{values_lawful}
@@ -15,14 +15,10 @@ use Rattle.gate_eval.specs.Meeting.{folds_in}
 use Rattle.gate_eval.proofs.Few.{same-value}
 
 module _ {T : Type 0} (k : Cells T) (laws : IsLawful k) where
-  -- a join with its own first or last cell
+  -- a join with its own first cell
   with-first : (h : ℕ → T) (n : ℕ) → k.join (h 0) (join_to k h n) ≡ join_to k h n
   with-first h zero = laws.join_absorbs (h 0)
   with-first h (suc n) = sym (laws.join_regroups (h 0) (join_to k h n) (h (suc n))) ∙ ap (λ c. k.join c (h (suc n))) (with-first h n)
-
-  with-last : (h : ℕ → T) (n : ℕ) → k.join (join_to k h n) (h n) ≡ join_to k h n
-  with-last h zero = laws.join_absorbs (h 0)
-  with-last h (suc n) = laws.join_above_right (join_to k h n) (h (suc n))
 
   -- one cell more in front
   in-front : (h : ℕ → T) (n : ℕ) → k.join (h 0) (join_to k (λ i. h (suc i)) n) ≡ join_to k h (suc n)
@@ -34,7 +30,7 @@ module _ {T : Type 0} (k : Cells T) (laws : IsLawful k) where
   -- a cell is gained at one end and lost at the other, each the same as its neighbour
   join-moved : (h : ℕ → T) (n : ℕ) → h 0 ≡ h 1 → h (suc n) ≡ h n → join_to k h n ≡ join_to k (λ i. h (suc i)) n
   join-moved h n first last =
-      sym (ap (k.join (join_to k h n)) last ∙ with-last h n)
+      sym (ap (k.join (join_to k h n)) last ∙ with-last k laws h n)
       ∙ sym (in-front h n)
       ∙ ap (λ c. k.join c (join_to k (λ i. h (suc i)) n)) first
       ∙ with-first (λ i. h (suc i)) n

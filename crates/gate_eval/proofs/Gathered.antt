@@ -57,12 +57,6 @@ all-long pins period wave one is =
     All-weaker (λ q. length (wave q).cells ≡ period_of (map wave pins)) (λ q. length (wave q).cells ≡ period) (λ q h. h ∙ sym is) pins
     (All-unmapped (λ (w : Wave _). length w.cells ≡ period_of (map wave pins)) wave pins one)
 
--- each pin's wave has the period
-pub pin-long : {T P : Type 0} (pins : List P) (i : ℕ) (pin : P) (wave : P → Wave T) → i < length pins → pin ≡ get_or pins i pin → HaveOnePeriod (map wave pins) →
-    length (wave pin).cells ≡ period_of (map wave pins)
-pin-long pins i pin wave below is one =
-    ap (λ q. length (wave q).cells) is ∙ All-unmapped (λ (w : Wave _). length w.cells ≡ period_of (map wave pins)) wave pins one i pin below
-
 module _ {T A P : Type 0} (k : Cells T) (waves : List A) (pins : List P) (cells : A → List T) (wave : P → Wave T) where
   -- the waves without their skews
   pub own-cells : (slot : ℕ) → map cells waves ≡ map (λ q. (wave q).cells) pins → map (λ u. cell_at k (cells u) slot) waves ≡ cells_in k (map wave pins) slot

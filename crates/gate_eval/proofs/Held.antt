@@ -10,7 +10,7 @@ use Rattle.step_values.specs.declared.value.Value.TheVariants.{Zero, One, S}
 use Rattle.step_values.specs.Steps.{has, is_quiet}
 use Rattle.step_values.specs.Cell.{values}
 use Rattle.step_values.specs.Lawful.{values_lawful}
-use Rattle.step_values.proofs.Permits.{quiet-same}
+use Rattle.step_values.proofs.Permits.{quiet-same, still-has}
 use Rattle.skew_algebra.specs.Wave.{Wave, fold}
 use Rattle.flat_circuit.specs.declared.kind.Kind.{Kind}
 use Rattle.flat_circuit.specs.declared.kind.Kind.TheVariants.{And, Or}
@@ -98,10 +98,6 @@ held-at kind waves marked n xs v t none some fits ps below t1 tv tn =
 
 -- ---- what passes of the marked pin
 
-pub stays : (b : Bool) → has S b b ≡ true
-stays true = refl
-stays false = refl
-
 module _ (bit : Bool → Bool → Bool) (whole : List Bool → Bool) (closed : Bool)
     (more : (b : Bool) (bs : List Bool) → whole (b ∷ bs) ≡ bit b (whole bs))
     (swap : (a b c : Bool) → bit a (bit b c) ≡ bit b (bit a c))
@@ -150,4 +146,4 @@ module _ (bit : Bool → Bool → Bool) (whole : List Bool → Bool) (closed : B
   held-whole pair pairs v xs marked t below h (inr still) =
       let r = passes xs marked t below still in
       (λ i. has (pair v S) (r.1 i) (r.2 i))
-      ∙ pairs v S (nth_signal xs marked (t - 1)) (nth_signal xs marked t) r.0 r.0 h (stays r.0)
+      ∙ pairs v S (nth_signal xs marked (t - 1)) (nth_signal xs marked t) r.0 r.0 h (still-has r.0 r.0 refl)

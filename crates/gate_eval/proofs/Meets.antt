@@ -1,12 +1,12 @@
 -- What an element makes of its pins' waves permits what it makes of their signals.
 use Rattle.std.proofs.Common.{◌≡◌, ℕ, ◌-◌, ◌%◌, ◌<◌, ◌≤◌, true, List, length, refl, ap, ◌∙◌, Option, Some, None, arith}
+use Rattle.scald_base.specs.Signal.{Signal}
 use Rattle.scald_base.specs.Clock.{back}
 use Rattle.wave_core.specs.Cell.{Cells, IsLawful}
 use Rattle.scald_base.proofs.Back.{back-zero}
-use Rattle.wave_core.proofs.Slots.{length-slots}
+use Rattle.wave_core.proofs.Slots.{length-slots, earlier-slots}
 use Rattle.skew_algebra.specs.Wave.{Wave}
-use Rattle.skew_algebra.specs.Permits.{Signal, Permits}
-use Rattle.skew_algebra.proofs.Moves.{earlier-slots}
+use Rattle.skew_algebra.specs.Permits.{Permits}
 use Rattle.gate_eval.specs.Meeting.{cells_in, folds_in, movers, kept_skew, period_of, meeting_by, meeting}
 use Rattle.gate_eval.specs.Permitted.{AllPermit, AllHave}
 use Rattle.gate_eval.proofs.Fitting.{AllFit, folds-have}

@@ -1,9 +1,9 @@
 -- One offset for all pins, where at most one of them moves.
 use Rattle.std.proofs.Common.{◌≡◌, ℕ, ◌-◌, ◌<◌, ◌≤◌, Bool, true, false, not, List, [], ◌∷◌, refl, sym, ap, ◌∙◌, cond, Some, arith}
+use Rattle.scald_base.specs.Signal.{Signal}
 use Rattle.scald_base.specs.Clock.{back}
 use Rattle.wave_core.specs.Cell.{Cells, IsLawful}
 use Rattle.skew_algebra.specs.Wave.{Wave, is_steady}
-use Rattle.skew_algebra.specs.Permits.{Signal}
 use Rattle.gate_eval.specs.Meeting.{cells_in, movers, kept_skew}
 use Rattle.gate_eval.specs.Permitted.{AllPermit, AllHave}
 use Rattle.gate_eval.proofs.Fitting.{AllFit, cell-back, steady-has}

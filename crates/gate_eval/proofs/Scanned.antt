@@ -7,7 +7,7 @@ use Rattle.wave_core.specs.Cell.{Cells}
 use Rattle.wave_core.specs.Slots.{slots}
 use Rattle.skew_algebra.specs.Wave.{Wave, skewed, is_steady}
 use Rattle.gate_eval.specs.Meeting.{cells_in, folds_in, period_of, movers, kept_skew, meeting_by, meeting}
-use Rattle.gate_eval.proofs.Movers.{movers-moving, movers-steady}
+use Rattle.gate_eval.proofs.Movers.{movers-moving}
 
 -- one item more, by what stands for it
 pub map-next : {A B : Type 0} (f : A → B) (xs : List A) (i : ℕ) (x : A) (ys : List B) (y : B) → i < length xs → x ≡ get_or xs i x → ys ≡ map f (take i xs) → y ≡ f x →
@@ -29,37 +29,7 @@ pub record Keeps {T : Type 0} (found : List (Wave T)) (moves : Bool) (skew : ℕ
   pub none : moves ≡ false → (found ≡ []) × (skew ≡ 0)
   pub one : moves ≡ true → (w : Wave T) × (found ≡ w ∷ []) × (w.skew ≡ skew)
 
-pub keeps-skew : {T : Type 0} (found : List (Wave T)) (moves : Bool) (skew : ℕ) → Keeps found moves skew → Some skew ≡ kept_skew found
-keeps-skew found false skew h = let p = h.none refl in sym (ap kept_skew p.0 ∙ ap (λ (s : ℕ). Some s) (sym p.1))
-keeps-skew found true skew h = let p = h.one refl in sym (ap kept_skew p.1 ∙ ap (λ (s : ℕ). Some s) p.2)
-
 module _ {T P : Type 0} (k : Cells T) (wave : P → Wave T) (pins : List P) (i : ℕ) (pin : P) (below : i < length pins) (is : pin ≡ get_or pins i pin) where
-  before : List (Wave T)
-  before = movers k (map wave (take i pins))
-
-  movers-next : movers k (map wave (take (i + 1) pins)) ≡ movers k (map wave (take i pins)) ++ movers k (wave pin ∷ [])
-  movers-next =
-      ap (movers k) (sym (map-next wave pins i pin (map wave (take i pins)) (wave pin) below is refl refl))
-      ∙ filter-append _ (map wave (take i pins)) (wave pin ∷ [])
-
-  pub keeps-steady : (moves : Bool) (skew : ℕ) → is_steady k (wave pin).cells ≡ true → Keeps (movers k (map wave (take i pins))) moves skew →
-      Keeps (movers k (map wave (take (i + 1) pins))) moves skew
-  keeps-steady moves skew quiet h =
-      let e : movers k (map wave (take (i + 1) pins)) ≡ movers k (map wave (take i pins)) ++ [] =
-      movers-next ∙ ap (λ l. movers k (map wave (take i pins)) ++ l) (movers-steady k (wave pin) [] quiet) in
-      record {
-        none = λ m. let p = h.none m in (e ∙ ap (λ l. l ++ []) p.0, p.1);
-        one = λ m. let p = h.one m in (p.0, e ∙ ap (λ l. l ++ []) p.1, p.2);
-      }
-
-  pub keeps-first : (skew : ℕ) → is_steady k (wave pin).cells ≡ false → Keeps (movers k (map wave (take i pins))) false skew →
-      Keeps (movers k (map wave (take (i + 1) pins))) true (wave pin).skew
-  keeps-first skew moves h =
-      let p = h.none refl in
-      let e : movers k (map wave (take (i + 1) pins)) ≡ [] ++ wave pin ∷ [] =
-      movers-next ∙ (λ j. p.0 j ++ movers-moving k (wave pin) [] moves j) in
-      record { none = λ m. cc; one = λ m. (wave pin, e, refl) }
-
   -- a second one that moves
   pub kept-two : (skew : ℕ) → is_steady k (wave pin).cells ≡ false → Keeps (movers k (map wave (take i pins))) true skew →
       None ≡ kept_skew (movers k (map wave pins))

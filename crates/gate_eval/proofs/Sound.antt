@@ -10,7 +10,7 @@ use Rattle.scald_base.specs.Signal.{Signal}
 use Rattle.scald_base.proofs.Back.{back-lt, back-zero, back-later, back-mod}
 use Rattle.wave_core.specs.Cell.{Cells}
 use Rattle.wave_core.specs.Slots.{earlier}
-use Rattle.wave_core.proofs.Slots.{length-slots}
+use Rattle.wave_core.proofs.Slots.{length-slots, earlier-slots}
 use Rattle.step_values.specs.declared.value.Value.{Value}
 use Rattle.step_values.specs.declared.value.Value.TheVariants.{S, C, U}
 use Rattle.step_values.specs.Steps.{has, is_quiet}
@@ -18,10 +18,10 @@ use Rattle.step_values.specs.Cell.{values}
 use Rattle.step_values.specs.Lawful.{values_lawful}
 use Rattle.step_values.specs.Image.{and_of, or_of}
 use Rattle.step_values.proofs.Sound.{and_of-has, or_of-has}
-use Rattle.step_values.proofs.Permits.{quiet-same}
+use Rattle.step_values.proofs.Permits.{quiet-same, still-has}
 use Rattle.skew_algebra.specs.Wave.{Wave, skewed, moved}
 use Rattle.skew_algebra.specs.Permits.{Permits}
-use Rattle.skew_algebra.proofs.Moves.{Permits-moved, Permits-normal, earlier-slots}
+use Rattle.skew_algebra.proofs.Moves.{Permits-moved, Permits-normal}
 use Rattle.flat_circuit.specs.declared.kind.Kind.{Kind}
 use Rattle.flat_circuit.specs.declared.kind.Kind.TheVariants.{Buf, And, Or, Xor, Mux2, Mux4, Mux8, Chg}
 use Rattle.flat_circuit.specs.Equation.{gate_bit, bits_at, nth_signal, AreStill, IsInReach}
@@ -35,7 +35,7 @@ use Rattle.gate_eval.specs.Instance.{wave_of_pin, held_wave, image_by, gate_imag
 use Rattle.gate_eval.proofs.Fitting.{Fits, AllFit, as-many-waves, folds-have}
 use Rattle.gate_eval.proofs.Meets.{Permits-meeting, length-meeting}
 use Rattle.gate_eval.proofs.Bits.{gate-has}
-use Rattle.gate_eval.proofs.Held.{stays, held-at, held-whole}
+use Rattle.gate_eval.proofs.Held.{held-at, held-whole}
 use Rattle.gate_eval.proofs.Windows.{all_to-at}
 
 -- ---- the wave of one pin
@@ -154,9 +154,6 @@ slot-before p t u some before =
     ∙ ap (back p (u + (t - u))) (let e : t - u ≡ t - u + 0 = omega arith in e)
     ∙ back-later p u (t - u) 0 some
     ∙ back-zero p u
-
-still-has : (a b : Bool) → a ≡ b → has S a b ≡ true
-still-has a b e = ap (λ c. has S c b) e ∙ stays b
 
 change-sound : (waves : List (Wave Value)) (d : Bounds) (n m v : ℕ) (xs : List Signal) (y : Signal) →
     0 < period_of waves → AllFit values (period_of waves) waves → AllPermit values waves n xs v → m ≤ n + d.min →

@@ -1,9 +1,10 @@
 -- What the waves of several pins permit their signals to do.
 use Rattle.std.specs.Prelude.{◌≡◌, ℕ, ◌-◌, true, List}
 use Rattle.std.specs.List.{AllZip}
+use Rattle.scald_base.specs.Signal.{Signal}
 use Rattle.wave_core.specs.Cell.{Cells}
 use Rattle.skew_algebra.specs.Wave.{Wave}
-use Rattle.skew_algebra.specs.Permits.{Signal, Permits}
+use Rattle.skew_algebra.specs.Permits.{Permits}
 
 -- each wave permits its pin's signal, n ticks long, from tick v on
 abbrev pub AllPermit : {T : Type 0} → Cells T → List (Wave T) → ℕ → List Signal → ℕ → Type 0

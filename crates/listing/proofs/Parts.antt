@@ -5,10 +5,6 @@ use Rattle.std.specs.List.{concat, flat_map}
 use Rattle.std.proofs.lemmas.Result.{on_err_weaker, on_ok_weaker}
 use Rattle.listing.specs.Text.{HasPart, line}
 
--- nothing of a text, and all of it
-pub part-none : (old text : List ℕ) → HasPart old old text
-part-none old text = record { part = []; rest = text; added = sym (append-nil old); is = refl }
-
 pub part-all : (old new text : List ℕ) → new ≡ old ++ text → HasPart old new text
 part-all old new text added = record { part = text; rest = []; added = added; is = append-nil text }
 

@@ -3,7 +3,7 @@
 //! Each function puts its text at the end of the bytes. Its one error is that memory ran out, and then
 //! a part of the text may stand there.
 
-ghost use Rattle.std.specs.Prelude.{◌≡◌, ◌++◌, ◌∷◌, [], decimal, map, OnErr, OnOk};
+ghost use Rattle.std.specs.Prelude.{◌≡◌, ◌++◌, decimal, map, OnErr, OnOk};
 ghost use Rattle.std.specs.List.{flat_map};
 ghost use Rattle.listing.specs.Piece.{piece_text};
 ghost use Rattle.listing.specs.Text.{HasPart, bit_text, line};

@@ -15,13 +15,14 @@ use Rattle.step_values.specs.declared.value.Value.TheVariants.{S, C}
 use Rattle.step_values.specs.Steps.{has}
 use Rattle.step_values.specs.Cell.{values}
 use Rattle.step_values.specs.Lawful.{values_lawful}
-use Rattle.wave_core.proofs.Slots.{length-slots}
+use Rattle.step_values.proofs.Permits.{still-has}
+use Rattle.wave_core.proofs.Slots.{length-slots, earlier-slots}
 use Rattle.skew_algebra.specs.Wave.{Wave, skewed}
 use Rattle.skew_algebra.specs.Permits.{Permits}
 use Rattle.skew_algebra.proofs.Normal.{length-normal}
-use Rattle.skew_algebra.proofs.Moves.{earlier-slots, Permits-capped, Permits-normal}
+use Rattle.skew_algebra.proofs.Moves.{Permits-capped, Permits-normal}
 use Rattle.pin_waves.specs.Meets.{MeetsStable, Meets}
-use Rattle.pin_waves.specs.Interface.{sooner, stable_wave, asserted_wave, interface_wave, PermitsAsserted, wide_wave}
+use Rattle.pin_waves.specs.Interface.{sooner, stable_wave, asserted_wave, interface_wave, PermitsAsserted}
 use Rattle.pin_waves.proofs.ClockEdges.{step-has, step_slots, earlier-sooner_steps, length-sooner_steps, Permits-clock}
 
 -- a clock that is shifted as a whole
@@ -44,9 +45,6 @@ Permits-shifted p f a b by n x pos within bits =
           ∙ rw (now, before) (step-has (f (back p (t + a) (by + 1))) (f (back p (t + a) by)));
     }))
 
-stable-has : (before after : Bool) → before ≡ after → has S before after ≡ true
-stable-has before after same = grind arith
-
 -- a net that steps in no quiet slot
 Permits-stable : (h : Header) (spans : List Span) (n : ℕ) (x : Signal) → 0 < period h → MeetsStable h spans n x → Permits values (stable_wave h spans) n x 1
 Permits-stable h spans n x pos meets =
@@ -56,7 +54,7 @@ Permits-stable h spans n x pos meets =
       steps = λ t t1 tv tn.
           ap (λ v. has v (x (t - 1)) (x t)) (earlier-slots values (period h) (λ p. cond (quiet spans h p) S C) t 0 pos)
           ∙ cond_both (quiet spans h (back (period h) t 0)) S C (λ v. has v (x (t - 1)) (x t) ≡ true)
-          (λ q. stable-has (x (t - 1)) (x t) (meets t t1 tn q)) (λ q. refl);
+          (λ q. still-has (x (t - 1)) (x t) (meets t t1 tn q)) (λ q. refl);
     }
 
 pub length-asserted : (h : Header) (a : AssertSpec) → length (asserted_wave h a).cells ≡ period h
@@ -74,9 +72,6 @@ Permits-asserted h (Stable spans) n x pos meets = Permits-stable h spans n x pos
 
 pub length-interface : (h : Header) (a : AssertSpec) → length (interface_wave h a).cells ≡ period h
 length-interface h a = length-normal values (asserted_wave h a) ∙ length-asserted h a
-
-pub length-wide : (h : Header) (a : AssertSpec) → length (wide_wave h a) ≡ period h
-length-wide h a = length-slots _ _ ∙ length-interface h a
 
 -- The wave of an undriven net permits from tick 1 on each net that keeps the assertion.
 pub Permits-interface : (h : Header) (a : AssertSpec) (n : ℕ) (x : Signal) → 0 < period h → Meets h a n x → Permits values (interface_wave h a) n x 1

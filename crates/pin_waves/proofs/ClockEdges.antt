@@ -14,10 +14,10 @@ use Rattle.step_values.specs.Steps.{has}
 use Rattle.step_values.specs.Cell.{values}
 use Rattle.step_values.specs.Lawful.{values_lawful}
 use Rattle.wave_core.specs.Slots.{slots, earlier, fold_at}
-use Rattle.wave_core.proofs.Slots.{length-slots}
+use Rattle.wave_core.proofs.Slots.{length-slots, earlier-slots}
 use Rattle.skew_algebra.specs.Permits.{Permits}
 use Rattle.skew_algebra.proofs.Cells.{join_to-has}
-use Rattle.skew_algebra.proofs.Moves.{earlier-slots, earlier-period, earlier-folded}
+use Rattle.skew_algebra.proofs.Moves.{earlier-period, earlier-folded}
 use Rattle.pin_waves.specs.Meets.{NearEdge, MeetsClock}
 use Rattle.pin_waves.specs.Interface.{step_value, sooner, skewed_clock, clock_wave}
 

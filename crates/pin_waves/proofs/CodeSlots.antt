@@ -12,9 +12,8 @@ use Rattle.step_values.specs.declared.value.Value.TheVariants.{Zero, One, S, C}
 use Rattle.step_values.specs.Steps.{has}
 use Rattle.step_values.specs.Cell.{values}
 use Rattle.wave_core.specs.Slots.{slots, earlier}
-use Rattle.wave_core.proofs.Slots.{length-slots}
+use Rattle.wave_core.proofs.Slots.{length-slots, earlier-slots}
 use Rattle.skew_algebra.specs.Permits.{Permits}
-use Rattle.skew_algebra.proofs.Moves.{earlier-slots}
 use Rattle.pin_waves.specs.Interface.{step_value, ideal_slots, sooner, constant_wave}
 
 -- a step of the ideal clock, by the slot before as code finds it

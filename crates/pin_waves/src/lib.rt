@@ -16,6 +16,3 @@ mod pin;
 
 pub use interface::{constant_wave, interface_wave, wide_wave};
 pub use pin::pin_wave;
-
-#[cfg(test)]
-mod tests;

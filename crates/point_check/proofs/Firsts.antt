@@ -32,20 +32,6 @@ first_some-is f (suc n) i x e = found-either f n i x (f i) refl e (λ later. fir
 
 -- ---- the last
 
-pub last_to-at : (test : ℕ → Bool) (n j : ℕ) → 1 ≤ j → j ≤ n → ((k : ℕ) → j < k → k ≤ n → test k ≡ false) → test j ≡ true → last_to test n ≡ Some j
-last_to-at test zero j one most above here = absurd (omega arith)
-last_to-at test (suc n) j one most above here = elim (cases_eq j (suc n)) [
-  | inl e ↦ ap (λ b. cond b (Some (suc n)) (last_to test n)) (ap test (sym e) ∙ here) ∙ ap (λ (k : ℕ). Some k) (sym e)
-  | inr ne ↦ ap (λ b. cond b (Some (suc n)) (last_to test n)) (above (suc n) (omega arith) (omega arith))
-      ∙ last_to-at test n j one (omega arith) (λ k over below. above k over (omega arith)) here
-]
-
-pub last_to-nowhere : (test : ℕ → Bool) (n : ℕ) → ((k : ℕ) → 1 ≤ k → k ≤ n → test k ≡ false) → last_to test n ≡ None
-last_to-nowhere test zero nowhere = refl
-last_to-nowhere test (suc n) nowhere =
-    ap (λ b. cond b (Some (suc n)) (last_to test n)) (nowhere (suc n) (omega arith) (omega arith))
-    ∙ last_to-nowhere test n (λ k one below. nowhere k one (omega arith))
-
 -- where one passes, the last that does is no earlier
 pub record IsNoEarlier (j : ℕ) (o : Option ℕ) : Type 0 where
   pub last : ℕ

@@ -1,20 +1,17 @@
 -- What the search for a checker's fault has found, step by step.
-use Rattle.std.proofs.Common.{◌≡◌, ℕ, ◌+◌, ◌<◌, ◌≤◌, Bool, true, false, cond, sym, ap, ◌∙◌, arith, Option, Some, None}
+use Rattle.std.proofs.Common.{◌≡◌, ℕ, ◌+◌, ◌<◌, ◌≤◌, true, false, cond, sym, ap, ◌∙◌, arith, Option, Some, None}
 use Rattle.std.specs.Prelude.{is_some}
 use Rattle.std.specs.Option.{option_map}
-use Rattle.std.proofs.lemmas.Bool.Decides.{nat_tests}
 use Rattle.step_values.specs.declared.value.Value.{Value}
 use Rattle.step_values.specs.Steps.{has, is_quiet, letter_of}
 use Rattle.flat_circuit.specs.declared.kind.Kind.{Kind}
 use Rattle.flat_circuit.specs.declared.fault.PointKind.{PointKind}
-use Rattle.flat_circuit.specs.declared.fault.PointKind.TheVariants.{Setup, High, Hold}
 use Rattle.flat_circuit.specs.declared.fault.Fault.{Fault}
 use Rattle.flat_circuit.specs.declared.fault.Fault.TheVariants.{Point}
 use Rattle.gate_eval.proofs.Found.{first_some-at, first_some-from, first_some-beyond, first_some-nowhere}
 use Rattle.point_check.specs.declared.window.Window.{Window}
 use Rattle.point_check.specs.Window.{Folds, places, slot_at, kind_at, mover_at, first_mover, fault_at, window_fault}
-use Rattle.point_check.specs.Point.{first_low, last_fall, falls_somewhere, to_last_fall, all_round, high_window_to, high_window, window_of, edge_fault, first_fault}
-use Rattle.point_check.proofs.Firsts.{last_to-at, last_to-nowhere}
+use Rattle.point_check.specs.Point.{first_low, falls_somewhere, window_of, edge_fault, first_fault}
 
 -- ---- one place of a window
 
@@ -33,15 +30,6 @@ pub first_mover-nowhere : (p : ℕ) (input : Folds) (w : Window) (t : ℕ) → (
 first_mover-nowhere p input w t nowhere = sym (first_some-nowhere (mover_at p input w t) (places w) 0 (λ k below. nowhere k (omega arith)))
 
 -- ---- the fault of an edge
-
-pub kind-setup : (w : Window) (place : ℕ) → place < w.setup → Setup ≡ kind_at w place
-kind-setup w place l = grind (arith, nat_tests)
-
-pub kind-high : (w : Window) (place : ℕ) → w.setup ≤ place → place < w.setup + w.high → High ≡ kind_at w place
-kind-high w place l m = grind (arith, nat_tests)
-
-pub kind-hold : (w : Window) (place : ℕ) → w.setup ≤ place → w.setup + w.high ≤ place → Hold ≡ kind_at w place
-kind-hold w place l m = grind (arith, nat_tests)
 
 pub same_fault : (p k : ℕ) (input : Folds) (w : Window) (t place : ℕ) (kind : PointKind) (slot : ℕ) (v : Value) (letter : ℕ) → kind ≡ kind_at w place → slot ≡ slot_at p w t place →
     input slot ≡ v → letter ≡ letter_of v → Point kind k t slot letter ≡ fault_at p k input w t place
@@ -73,13 +61,6 @@ pub first_low-nowhere : (p : ℕ) (clock : Folds) (t : ℕ) → ((k : ℕ) → 1
 first_low-nowhere p clock t nowhere =
     sym (first_some-beyond (λ k. cond (has (clock (t + k)) true true) None (Some k)) p 1 (λ k one below. nowhere k one (omega arith)))
 
-pub last_fall-here : (clock : Folds) (t m j : ℕ) → 1 ≤ j → j ≤ m → ((k : ℕ) → j < k → k ≤ m → has (clock (t + k)) true false ≡ false) → has (clock (t + j)) true false ≡ true →
-    Some j ≡ last_fall clock t m
-last_fall-here clock t m j one most above here = sym (last_to-at (λ k. has (clock (t + k)) true false) m j one most above here)
-
-pub last_fall-nowhere : (clock : Folds) (t m : ℕ) → ((k : ℕ) → 1 ≤ k → k ≤ m → has (clock (t + k)) true false ≡ false) → None ≡ last_fall clock t m
-last_fall-nowhere clock t m nowhere = sym (last_to-nowhere (λ k. has (clock (t + k)) true false) m nowhere)
-
 pub falls-here : (p : ℕ) (clock : Folds) (s : ℕ) → ((k : ℕ) → k < s → has (clock k) true false ≡ false) → s < p → has (clock s) true false ≡ true → true ≡ falls_somewhere p clock
 falls-here p clock s before below here =
     sym (ap is_some (first_some-at (λ k. cond (has (clock k) true false) (Some k) None) p 0 s s
@@ -89,16 +70,6 @@ pub falls-nowhere : (p : ℕ) (clock : Folds) → ((k : ℕ) → k < p → has (
 falls-nowhere p clock nowhere =
     sym (ap is_some (first_some-nowhere (λ k. cond (has (clock k) true false) (Some k) None) p 0
     (λ k below. ap (λ b. cond b (Some k) None) (nowhere k (omega arith)))))
-
--- ---- its window
-
-pub window-to_last : (p : ℕ) (clock : Folds) (limits : ℕ × ℕ) (t m : ℕ) (o : Option ℕ) → Some m ≡ first_low p clock t → o ≡ last_fall clock t m →
-    to_last_fall limits o ≡ high_window p clock limits t
-window-to_last p clock limits t m o low last = ap (to_last_fall limits) last ∙ ap (high_window_to p clock limits t) low
-
-pub window-all_round : (p : ℕ) (clock : Folds) (limits : ℕ × ℕ) (t : ℕ) (falls : Bool) → None ≡ first_low p clock t → falls ≡ falls_somewhere p clock →
-    all_round p limits falls ≡ high_window p clock limits t
-window-all_round p clock limits t falls low is = ap (all_round p limits) is ∙ ap (high_window_to p clock limits t) low
 
 -- ---- all edges
 

@@ -1,34 +1,30 @@
 -- Faults gathered one number after the other.
-use Rattle.std.proofs.Common.{◌≡◌, ℕ, Bool, true, ◌+◌, ◌<◌, ◌≤◌, List, map, [], ◌∷◌, ◌++◌, length, get_or, take, refl, sym, ap, subst, ◌∙◌, arith, append_assoc, zero-add, slice_get, Option, Some, None}
+use Rattle.std.proofs.Common.{◌≡◌, ℕ, Bool, ◌+◌, ◌<◌, List, map, [], ◌∷◌, ◌++◌, length, get_or, take, refl, sym, ap, subst, ◌∙◌, arith, append_assoc, zero-add, slice_get, Option, Some, None}
 use Rattle.std.specs.Prelude.{filter_map}
 use Rattle.std.specs.List.{cons_option, range_with_len}
 use Rattle.std.specs.Option.{option_map, option_to_list}
 use Rattle.std.proofs.lemmas.List.{take_more, get_or-map, length-map}
 use Rattle.std.proofs.lemmas.Option.{slice_get_within, get_or_from_slice_get}
 use Rattle.std.proofs.lemmas.List.Elements.{filter_map-append, All-get_or}
-use Rattle.scald_base.specs.Time.{Header, period}
+use Rattle.scald_base.specs.Time.{period}
 use Rattle.scald_base.specs.Fitting.{Fits}
 use Rattle.vector_names.proofs.Ranges.{range-more}
 use Rattle.step_values.specs.declared.value.Value.{Value}
 use Rattle.step_values.specs.Cell.{values}
 use Rattle.skew_algebra.specs.Wave.{Wave, skewed, folded}
 use Rattle.flat_circuit.specs.declared.kind.Kind.{Kind}
-use Rattle.flat_circuit.specs.declared.kind.Kind.TheVariants.{SetupHold, RiseFall}
-use Rattle.flat_circuit.specs.declared.instance.Pin.{Pin}
 use Rattle.flat_circuit.specs.declared.instance.Instance.{Instance}
 use Rattle.flat_circuit.specs.declared.net.Net.{Net}
 use Rattle.flat_circuit.specs.declared.fault.Fault.{Fault}
-use Rattle.flat_circuit.specs.Kind.{PinsFit, LimitsFit}
 use Rattle.flat_circuit.specs.Circuit.{Circuit, IsCircuit}
 use Rattle.gate_eval.specs.Hold.{hazard}
-use Rattle.gate_eval.specs.Instance.{wave_of_pin}
-use Rattle.fixpoint_engine.specs.Value.{Waves, pin_wave, pin_waves, marked_pin}
+use Rattle.fixpoint_engine.specs.Value.{Waves, pin_waves, marked_pin}
 use Rattle.fixpoint_engine.specs.Settled.{FitWaves, waves_of}
 use Rattle.fixpoint_engine.specs.Pins.{read}
 use Rattle.fixpoint_engine.proofs.ReadSlots.{read-folded, length-folded}
 use Rattle.point_check.specs.Point.{first_fault, checker_fault}
 use Rattle.point_check.specs.Assertion.{is_held}
-use Rattle.point_check.specs.Faults.{checks_points, hazard_at, mark_fault, fault_by_kind, fault_of, instance_fault, fault_if_held, fault_of_net, net_fault}
+use Rattle.point_check.specs.Faults.{hazard_at, mark_fault, fault_by_kind, fault_of, instance_fault, fault_if_held, fault_of_net, net_fault}
 
 one-found : (o : Option Fault) → cons_option o [] ≡ option_to_list o
 one-found None = refl
@@ -84,25 +80,6 @@ checker-is kind k clock input cs xs limits found some some' c_is x_is e =
 pub same-checker : (kind : Kind) (p p' k : ℕ) (clock clock' input input' : Wave Value) (limits : ℕ × ℕ) (found : Option Fault) → p ≡ p' → clock ≡ clock' → input ≡ input' →
     found ≡ checker_fault kind p k clock input limits → found ≡ checker_fault kind p' k clock' input' limits
 same-checker kind p p' k clock clock' input input' limits found pe ce xe e = e ∙ (λ i. checker_fault kind (pe i) k (ce i) (xe i) limits)
-
--- the waves of the first two pins
-pub first-pins : (c : Circuit) (ws : Waves) (ps : List Pin) (clock input : Pin) → 2 ≤ length ps → clock ≡ get_or ps 0 clock → input ≡ get_or ps 1 input →
-    (pin_wave c ws clock ≡ wave_of_pin (map (pin_wave c ws) ps) 0) × (pin_wave c ws input ≡ wave_of_pin (map (pin_wave c ws) ps) 1)
-first-pins c ws [] clock input two c_is x_is = absurd (omega arith)
-first-pins c ws (p ∷ []) clock input two c_is x_is = absurd (omega arith)
-first-pins c ws (p ∷ q ∷ ps) clock input two c_is x_is = (ap (pin_wave c ws) c_is, ap (pin_wave c ws) x_is)
-
--- a checker has them
-pub two-pins : (kind : Kind) (ps : List Pin) → checks_points kind ≡ true → PinsFit kind ps → 2 ≤ length ps
-two-pins SetupHold ps is fits = fits.least
-two-pins RiseFall ps is fits = fits.least
-two-pins kind ps is fits = cc
-
--- and its limits are within a period
-pub own-limits : (h : Header) (kind : Kind) (limits : ℕ × ℕ) → checks_points kind ≡ true → LimitsFit h kind limits → limits.0 + limits.1 ≤ period h
-own-limits h SetupHold limits is fits = fits
-own-limits h RiseFall limits is fits = fits
-own-limits h kind limits is fits = cc
 
 -- ---- one net, by the waves that code has
 

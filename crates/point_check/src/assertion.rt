@@ -1,6 +1,6 @@
 //! Driven nets against what their names assert.
 
-ghost use Rattle.std.specs.Prelude.{◌≡◌, ◌<◌, ◌&&◌, not, IfOk, IfSome, length, map};
+ghost use Rattle.std.specs.Prelude.{◌≡◌, ◌<◌, ◌&&◌, not, IfOk, IfSome, length};
 ghost use Rattle.step_values.specs.Steps.{has};
 ghost use Rattle.skew_algebra.specs.Wave.{skewed};
 ghost use Rattle.scald_base.specs.Time.{period};

@@ -1,6 +1,6 @@
 //! The faults of a whole circuit.
 
-ghost use Rattle.std.specs.Prelude.{◌≡◌, ◌++◌, ◌<◌, IfOk, OnOk, length, map, slice_get, Some, filter_map};
+ghost use Rattle.std.specs.Prelude.{◌≡◌, ◌++◌, ◌<◌, IfOk, OnOk, length, map, Some, filter_map};
 ghost use Rattle.std.specs.List.{range_with_len};
 ghost use Rattle.std.specs.Option.{option_to_list};
 ghost use Rattle.skew_algebra.specs.Wave.{skewed};

@@ -15,8 +15,10 @@ const READ_FAULT: &str = "scald: standard input could not be read";
 
 const WRITE_FAULT: &str = "scald: standard output could not be written";
 
+/// What is said where memory ran out.
 pub const NO_MEMORY: &str = "scald: there is not enough memory";
 
+/// What is said where the system gives no arguments, or not as text.
 pub const NO_ARGUMENTS: &str = "scald: the system gives no arguments, or not as text";
 
 /// Why an outcome is no answer to the drawing, or None where it is one.

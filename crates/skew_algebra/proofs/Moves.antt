@@ -5,25 +5,20 @@ use Rattle.std.proofs.lemmas.Option.{get_or_from_slice_get}
 use Rattle.std.proofs.lemmas.List.{get_or-map, length-map}
 use Rattle.std.proofs.lemmas.Bool.{cond_both}
 use Rattle.std.proofs.Math.Nat.{mod-lt, mod-le, mod-eq_of_lt}
+use Rattle.scald_base.specs.Signal.{Signal}
 use Rattle.scald_base.specs.Time.{Bounds}
 use Rattle.scald_base.specs.Clock.{back}
 use Rattle.wave_core.specs.Cell.{Cells, IsLawful}
 use Rattle.wave_core.specs.Slots.{slots, earlier, later, fold_at}
 use Rattle.scald_base.proofs.Back.{back-lt, back-zero, back-later, back-back, back-mod, back-period}
 use Rattle.wave_core.proofs.Fold.{join_to-same}
-use Rattle.wave_core.proofs.Slots.{get_or-slots, length-slots}
+use Rattle.wave_core.proofs.Slots.{length-slots, earlier-slots}
 use Rattle.skew_algebra.specs.Wave.{Wave, skewed, fold, folded, all_equal, is_steady, joined, normal, moved, flipped}
-use Rattle.skew_algebra.specs.Permits.{Signal, Permits, Keeps, KeepsFlipped, KeepsMoved}
+use Rattle.skew_algebra.specs.Permits.{Permits, Keeps, KeepsFlipped, KeepsMoved}
 use Rattle.skew_algebra.proofs.Cells.{equal-at, join_to-has, joined-has}
 
 module _ {T : Type 0} (k : Cells T) where
   -- ---- the laws of `back`, at a list of cells
-
-  pub earlier-slots : (n : ℕ) (f : ℕ → T) (t o : ℕ) → 0 < n → earlier k (slots n f) t o ≡ f (back n t o)
-  unfolding earlier
-  earlier-slots n f t o some =
-      ap (λ (l : ℕ). get_or (slots n f) (back l t o) k.any) (length-slots n f)
-      ∙ get_or-slots n (back n t o) f k.any (back-lt n t o some)
 
   earlier-later : (cells : List T) (t m o : ℕ) → 0 < length cells → earlier k cells (t + m) (m + o) ≡ earlier k cells t o
   unfolding earlier
@@ -50,7 +45,7 @@ module _ {T : Type 0} (k : Cells T) where
 
   pub earlier-turned : (cells : List T) (m t o : ℕ) → 0 < length cells → earlier k (later k cells m) t o ≡ earlier k cells t (o + m)
   earlier-turned cells m t o some =
-      earlier-slots (length cells) (λ p. earlier k cells p m) t o some ∙ earlier-earlier cells t o m
+      earlier-slots k (length cells) (λ p. earlier k cells p m) t o some ∙ earlier-earlier cells t o m
 
   pub length-later : (cells : List T) (m : ℕ) → length (later k cells m) ≡ length cells
   length-later cells m = length-slots (length cells) (λ p. earlier k cells p m)
@@ -61,7 +56,7 @@ module _ {T : Type 0} (k : Cells T) where
 
   pub earlier-folded : (w : Wave T) (t : ℕ) → 0 < length w.cells → earlier k (folded k w) t 0 ≡ fold k w t
   earlier-folded w t some =
-      earlier-slots (length w.cells) (fold k w) t 0 some ∙ ap (fold k w) (back-zero (length w.cells) t) ∙ fold_at-mod w.cells w.skew t
+      earlier-slots k (length w.cells) (fold k w) t 0 some ∙ ap (fold k w) (back-zero (length w.cells) t) ∙ fold_at-mod w.cells w.skew t
 
   -- ---- waves that permit a signal
 
@@ -132,7 +127,7 @@ module _ {T : Type 0} (k : Cells T) where
           offset = 0;
           within = omega arith;
           steps = λ t t1 tv tn.
-              ap (λ c. k.has c (x (t - 1)) (x t)) (earlier-slots (length w.cells) (λ p. joined k w.cells) t 0 some)
+              ap (λ c. k.has c (x (t - 1)) (x t)) (earlier-slots k (length w.cells) (λ p. joined k w.cells) t 0 some)
               ∙ earlier-joined w.cells t p.offset (x (t - 1)) (x t) some (p.steps t t1 tv tn);
         }
 

@@ -1,10 +1,10 @@
 -- What a search or a join says that goes round the period, of the slots of one period.
-use Rattle.std.proofs.Common.{inl, inr, ◌≡◌, ◌≢◌, ℕ, zero, suc, ◌+◌, ◌-◌, ◌%◌, ◌<◌, ◌⊎◌, Bool, true, false, not, eqb, List, [], ◌∷◌, length, get_or, Some, refl, sym, ap, ◌∙◌, arith}
+use Rattle.std.proofs.Common.{inl, inr, ◌≡◌, ◌≢◌, ℕ, zero, suc, ◌+◌, ◌-◌, ◌%◌, ◌<◌, ◌⊎◌, true, false, not, eqb, List, [], ◌∷◌, length, get_or, Some, refl, sym, ap, ◌∙◌, arith}
 use Rattle.std.specs.Prelude.{slice_get}
 use Rattle.std.specs.List.{list_all}
 use Rattle.std.proofs.lemmas.Option.{get_or_from_slice_get}
 use Rattle.std.proofs.lemmas.List.Folds.{list_all_at}
-use Rattle.std.proofs.lemmas.Bool.{cases_eq, eq-eqb, ne_eqb}
+use Rattle.std.proofs.lemmas.Bool.{cases_eq, eq-eqb, ne_eqb, false_from_ne_true, not-false, not-true}
 use Rattle.std.proofs.Math.Nat.{mod-eq_of_lt}
 use Rattle.scald_base.specs.Clock.{back}
 use Rattle.scald_base.proofs.Back.{back-zero, back-sub, back-sooner, back-later}
@@ -13,18 +13,6 @@ use Rattle.wave_core.specs.Slots.{SameUntil, cell_round, earlier, fold_at, join_
 use Rattle.wave_core.proofs.Fold.{join_to-same, join_to-turned}
 use Rattle.skew_algebra.specs.Wave.{cell_at, all_equal, is_steady, joined}
 use Rattle.skew_algebra.proofs.Cells.{all-from}
-
-if-not-false : (b : Bool) → false ≡ not b → b ≡ true
-if-not-false true e = refl
-if-not-false false e = e
-
-if-not-true : (b : Bool) → true ≡ not b → b ≡ false
-if-not-true true e = e
-if-not-true false e = refl
-
-if-not : (b : Bool) → (b ≡ true → ⊥) → b ≡ false
-if-not true h = absurd (h refl)
-if-not false h = refl
 
 item : {T : Type 0} (xs : List T) (i : ℕ) → i < length xs → (x : T) × (slice_get xs i ≡ Some x)
 item [] i below = absurd (omega arith)
@@ -44,14 +32,14 @@ module _ {T : Type 0} (k : Cells T) where
       ((place : ℕ) → place < count → false ≡ not (k.quiet (cell_round k cells (0 + place)))) → true ≡ is_steady k cells
   steady-none cells count long still =
       sym (all-from k.quiet cells k.any
-      (λ i below. ap k.quiet (sym (round-at cells i below)) ∙ if-not-false (k.quiet (cell_round k cells (0 + i))) (still i (omega (arith, long, below)))))
+      (λ i below. ap k.quiet (sym (round-at cells i below)) ∙ not-false (k.quiet (cell_round k cells (0 + i))) (sym (still i (omega (arith, long, below))))))
 
   pub steady-not : (cells : List T) (count place : ℕ) → count ≡ length cells → place < count →
       true ≡ not (k.quiet (cell_round k cells (0 + place))) → false ≡ is_steady k cells
   steady-not cells count place long within moves =
       let below : place < length cells = omega (arith, long, within) in
       sym (list_all_at k.quiet cells place k.any below
-      (ap k.quiet (sym (round-at cells place below)) ∙ if-not-true (k.quiet (cell_round k cells (0 + place))) moves))
+      (ap k.quiet (sym (round-at cells place below)) ∙ not-true (k.quiet (cell_round k cells (0 + place))) (sym moves)))
 
   pub joined-by : (cells : List T) (count : ℕ) → count ≡ length cells → 0 < length cells → join_round k cells 0 (count - 1) ≡ joined k cells
   joined-by cells count long some =
@@ -80,7 +68,7 @@ module _ {T : Type 0} (k : Cells T) where
             let next = item cells end below in
             let is : get_or cells end k.any ≡ next.0 = get_or_from_slice_get cells end next.0 k.any next.1 in
             list_all_at (k.same (cell_at k cells 0)) cells end k.any below
-            (if-not (k.same (cell_at k cells 0) (get_or cells end k.any))
+            (false_from_ne_true (k.same (cell_at k cells 0) (get_or cells end k.any))
             (λ h. let one : first.0 ≡ next.0 = sym begins ∙ laws.same_is (cell_at k cells 0) (get_or cells end k.any) h ∙ is in
             same.other below (next.1 ∙ ap Some (sym one) ∙ sym first.1)))
 

@@ -1,13 +1,10 @@
 -- What a wave with a skew permits a net to do, and calls that keep it.
-use Rattle.std.specs.Prelude.{◌≡◌, ℕ, ◌+◌, ◌-◌, ◌<◌, ◌≤◌, Bool, true, not}
+use Rattle.std.specs.Prelude.{◌≡◌, ℕ, ◌+◌, ◌-◌, ◌<◌, ◌≤◌, true, not}
+use Rattle.scald_base.specs.Signal.{Signal}
 use Rattle.scald_base.specs.Time.{Bounds}
 use Rattle.wave_core.specs.Cell.{Cells}
 use Rattle.wave_core.specs.Slots.{earlier}
 use Rattle.skew_algebra.specs.Wave.{Wave}
-
--- a bit for each tick
-abbrev pub Signal : Type 0
-Signal = ℕ → Bool
 
 -- The wave permits the first n bits of a signal from tick v on: one offset serves all its steps.
 pub record Permits {T : Type 0} (k : Cells T) (w : Wave T) (n : ℕ) (x : Signal) (v : ℕ) : Type 0 where

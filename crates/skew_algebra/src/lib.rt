@@ -11,6 +11,3 @@ mod scan;
 mod skewed;
 
 pub use skewed::Skewed;
-
-#[cfg(test)]
-mod tests;

@@ -43,8 +43,3 @@ union-has m n before after m_below n_below =
     at_each 16 (λ j. all_below 16 (λ k. union_at before after j k)) m (union_all before after) m_below in
     same-is (in_set (bit_or m n) before after) (in_set m before after || in_set n before after)
     (at_each 16 (λ k. union_at before after m k) n row n_below)
-
--- a set that has a step is not empty
-pub has-above : (bits : ℕ) (before after : Bool) → in_set bits before after ≡ true → 0 < bits
-has-above zero before after h = cc
-has-above (suc n) before after h = omega arith

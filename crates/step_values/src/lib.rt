@@ -37,6 +37,3 @@ pub use storage_image::{latch_rs_value, reg, reg_rs_value};
 pub use table::{Table, look2, look3, look4};
 pub use tables::{and2, latch, latch_rs, mux2, or2, reg_rs, xor2};
 pub use value::Value;
-
-#[cfg(test)]
-mod tests;

@@ -1,5 +1,6 @@
 //! Counts the tokens of the text on standard input, so that the cost of a token can be measured on a
 //! built program: `bench/run tokens`.
+//! Nothing stands on it.
 #![tactic(auto)]
 
 use scald_base::{Bytes, ReadEnd, StdSource, Stop, read_all};

@@ -16,6 +16,11 @@ module _ {T : Type 0} (k : Cells T) where
       λ i. k.join (before i) (last i)
 
   module _ (laws : IsLawful k) where
+    -- a join with its own last cell
+    pub with-last : (f : ℕ → T) (n : ℕ) → k.join (join_to k f n) (f n) ≡ join_to k f n
+    with-last f zero = laws.join_absorbs (f 0)
+    with-last f (suc n) = laws.join_above_right (join_to k f n) (f (suc n))
+
     -- a range in two parts
     pub join_to-split : (f : ℕ → T) (m n t : ℕ) → t ≡ m + n + 1 → k.join (join_to k f m) (join_to k (λ i. f (m + 1 + i)) n) ≡ join_to k f t
     join_to-split f m zero t e =

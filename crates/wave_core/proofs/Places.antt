@@ -1,11 +1,12 @@
 -- Places from a slot on, round the period, whose cells stay the same up to a change.
-use Rattle.std.proofs.Common.{◌≡◌, ℕ, zero, suc, ◌+◌, ◌-◌, ◌%◌, ◌<◌, ◌≤◌, ◌⊎◌, inl, inr, Bool, true, false, List, length, slice_get, slice_index_or, Option, Some, None, min, sym, ap, ◌∙◌, subst, arith}
+use Rattle.std.proofs.Common.{◌≡◌, ℕ, zero, suc, ◌+◌, ◌-◌, ◌%◌, ◌<◌, ◌≤◌, ◌⊎◌, inl, inr, Bool, List, length, slice_get, slice_index_or, Some, min, sym, ap, ◌∙◌, subst, arith}
 use Rattle.std.proofs.lemmas.Bool.{cases_lt}
 use Rattle.std.proofs.lemmas.Option.{get_or_from_slice_get}
 use Rattle.std.proofs.Math.Nat.{mod-add-mod}
 use Rattle.scald_base.proofs.Back.{back-zero, mod-small}
 use Rattle.wave_core.specs.Cell.{Cells, IsLawful}
-use Rattle.wave_core.specs.Slots.{SameUntil, cell_round, earlier, join_to, join_round, Gives, IsLastWhere, LastWhere}
+use Rattle.wave_core.specs.Slots.{SameUntil, cell_round, earlier, join_to, join_round, Gives}
+use Rattle.wave_core.proofs.Fold.{with-last}
 
 module _ {T : Type 0} (k : Cells T) (cells : List T) where
   -- a slot of the period, counted on over its end
@@ -41,50 +42,9 @@ module _ {T : Type 0} (k : Cells T) (cells : List T) where
         go (inr later) =
             subst (λ (v : T). test v answer) (sym (same-cell period from place slot end p c long is there same later before)) given
 
-    fewer : (answer : Bool) (from first m n : ℕ) → m ≤ n → Gives k cells test from first n answer → Gives k cells test from first m answer
-    fewer answer from first m n within all p after before = all p after (omega (arith, within, before))
-
-    -- the last place that passes, of the places up to the change, where the test passes there
-    pub last-passes : (period from place slot end count : ℕ) (c : T) → period ≡ length cells → slot ≡ (from + place) % period → slice_get cells slot ≡ Some c →
-        SameUntil cells slot end → test c true → place < count → IsLastWhere k cells test from (min (place + (end - slot)) count) (min (place + (end - slot)) count - 1)
-    last-passes period from place slot end count c long is there same given more =
-        let behind : slot < end = same.behind in
-        let some : place < min (place + (end - slot)) count = omega (arith, behind, more) in
-        record {
-          within = omega (arith, some);
-          passes = subst (λ (v : T). test v true)
-              (sym (same-cell period from place slot end (min (place + (end - slot)) count - 1) c long is there same (omega (arith, some)) (omega (arith, some)))) given;
-          behind = λ p after before. absurd (omega (arith, after, before));
-        }
-
-    -- and where it fails there
-    pub last-fails : (last : Option ℕ) (period from place slot end count : ℕ) (c : T) → period ≡ length cells → slot ≡ (from + place) % period → slice_get cells slot ≡ Some c →
-        SameUntil cells slot end → test c false → place < count → LastWhere k cells test from (min place count) last →
-        LastWhere k cells test from (min (place + (end - slot)) count) last
-    last-fails None period from place slot end count c long is there same given more so_far =
-        let all : min place count ≡ place = omega (arith, more) in
-        fewer false from 0 (min (place + (end - slot)) count) (place + (end - slot)) (omega arith)
-        (gives-more false period from 0 place slot end c long is there same given (fewer false from 0 place (min place count) (omega (arith, all)) so_far))
-    last-fails (Some last) period from place slot end count c long is there same given more so_far =
-        let all : min place count ≡ place = omega (arith, more) in
-        let behind : slot < end = same.behind in
-        let within : last < min place count = so_far.within in
-        record {
-          within = omega (arith, within, behind, more);
-          passes = so_far.passes;
-          behind = fewer false from (last + 1) (min (place + (end - slot)) count) (place + (end - slot)) (omega arith)
-              (gives-more false period from (last + 1) place slot end c long is there same given
-              (fewer false from (last + 1) place (min place count) (omega (arith, all)) so_far.behind));
-        }
-
 -- ---- joins
 
 module _ {T : Type 0} (k : Cells T) (laws : IsLawful k) where
-  -- a join with its own last cell
-  with-last : (f : ℕ → T) (n : ℕ) → k.join (join_to k f n) (f n) ≡ join_to k f n
-  with-last f zero = laws.join_absorbs (f 0)
-  with-last f (suc n) = laws.join_above_right (join_to k f n) (f (suc n))
-
   -- with more of the same cells
   join-same : (f : ℕ → T) (n d : ℕ) → ((i : ℕ) → i ≤ d → f (n + i) ≡ f n) → join_to k f (n + d) ≡ join_to k f n
   join-same f n zero same = let e : n + 0 ≡ n = omega arith in ap (join_to k f) e
@@ -92,7 +52,7 @@ module _ {T : Type 0} (k : Cells T) (laws : IsLawful k) where
       let e : n + suc d ≡ suc (n + d) = omega arith in
       let last : f (suc (n + d)) ≡ f n = ap f (sym e) ∙ same (suc d) (omega arith) in
       let before : join_to k f (n + d) ≡ join_to k f n = join-same f n d (λ i l. same i (omega (arith, l))) in
-      ap (join_to k f) e ∙ (λ i. k.join (before i) (last i)) ∙ with-last f n
+      ap (join_to k f) e ∙ (λ i. k.join (before i) (last i)) ∙ with-last k laws f n
 
   -- the first cells up to the change
   pub join-begun : (cells : List T) (period from end count : ℕ) (c : T) → period ≡ length cells → from < length cells → slice_get cells from ≡ Some c →

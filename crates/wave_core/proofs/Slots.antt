@@ -1,12 +1,11 @@
 -- Lists with a cell for each slot.
-use Rattle.std.proofs.Common.{◌≡◌, ℕ, zero, suc, ◌+◌, ◌-◌, ◌%◌, ◌<◌, List, [], ◌∷◌, ◌++◌, length, get_or, take, map, refl, sym, ap, ◌∙◌, arith, add-one}
+use Rattle.std.proofs.Common.{◌≡◌, ℕ, zero, suc, ◌+◌, ◌-◌, ◌<◌, List, [], ◌∷◌, ◌++◌, length, get_or, take, map, refl, sym, ap, ◌∙◌, arith, add-one}
 use Rattle.std.specs.List.{AllZip, zip}
 use Rattle.std.proofs.lemmas.List.{take_more}
-use Rattle.std.proofs.Math.Nat.{mod-eq_of_lt}
 use Rattle.scald_base.specs.Clock.{back}
 use Rattle.wave_core.specs.Cell.{Cells}
 use Rattle.wave_core.specs.Slots.{IsPeriod, slots_from, slots, earlier}
-use Rattle.scald_base.proofs.Back.{back-lt, back-sub}
+use Rattle.scald_base.proofs.Back.{back-lt}
 
 length-slots_from : {T : Type 0} (n i : ℕ) (f : ℕ → T) → length (slots_from n i f) ≡ n
 length-slots_from zero i f = refl
@@ -22,6 +21,13 @@ length-slots n f = length-slots_from n 0 f
 
 pub get_or-slots : {T : Type 0} (n k : ℕ) (f : ℕ → T) (d : T) → k < n → get_or (slots n f) k d ≡ f k
 get_or-slots n k f d below = get_or-slots_from n 0 k f d below ∙ ap f (omega arith)
+
+-- a slot of a list by slots, some slots before
+pub earlier-slots : {T : Type 0} (k : Cells T) (n : ℕ) (f : ℕ → T) (t o : ℕ) → 0 < n → earlier k (slots n f) t o ≡ f (back n t o)
+unfolding earlier
+earlier-slots k n f t o some =
+    ap (λ (l : ℕ). get_or (slots n f) (back l t o) k.any) (length-slots n f)
+    ∙ get_or-slots n (back n t o) f k.any (back-lt n t o some)
 
 slots_from-next : {T : Type 0} (n i : ℕ) (f : ℕ → T) → slots_from n i f ++ f (i + n) ∷ [] ≡ slots_from (suc n) i f
 slots_from-next zero i f = ap (λ (j : ℕ). f j ∷ []) (omega arith)
@@ -70,29 +76,8 @@ zip-at (a ∷ xs) [] i x y below below' is is' = absurd (omega arith)
 zip-at (a ∷ xs) (b ∷ ys) zero x y below below' is is' = λ i. (is i, is' i)
 zip-at (a ∷ xs) (b ∷ ys) (suc i) x y below below' is is' = zip-at xs ys i x y (omega arith) (omega arith) is is'
 
--- a place within a list has a cell, whatever stands for none
-pub get_or-within : {T : Type 0} (xs : List T) (i : ℕ) (d e : T) → i < length xs → get_or xs i d ≡ get_or xs i e
-get_or-within [] i d e below = absurd (omega arith)
-get_or-within (x ∷ xs) zero d e below = refl
-get_or-within (x ∷ xs) (suc i) d e below = get_or-within xs i d e (omega arith)
-
--- a slot of a turned wave, by the place where code finds it
-pub turned-cell : {T : Type 0} (k : Cells T) (cells : List T) (period slot by : ℕ) (c : T) → period ≡ length cells → 0 < length cells →
-    c ≡ get_or cells ((slot + (period - by % period)) % period) c → c ≡ earlier k cells slot by
-unfolding earlier
-turned-cell k cells period slot by c e pos is =
-    (rw (e, back-sub (length cells) slot by pos) at is) ∙ get_or-within cells (back (length cells) slot by) c k.any (back-lt (length cells) slot by pos)
-
 pub period-length : {T : Type 0} (xs : List T) (n : ℕ) → length xs ≡ n → IsPeriod n → IsPeriod (length xs)
 period-length xs n e p = rw e p
-
--- the same, for fewer slots than the period has
-pub near-cell : {T : Type 0} (k : Cells T) (cells : List T) (period slot by : ℕ) (c : T) → period ≡ length cells → by < length cells →
-    c ≡ get_or cells ((slot + (period - by)) % period) c → c ≡ earlier k cells slot by
-near-cell k cells period slot by c e below is =
-    let pos : 0 < period = omega arith in
-    let small : by % period ≡ by = mod-eq_of_lt (omega (arith, e)) in
-    turned-cell k cells period slot by c e (omega arith) (rw small is)
 
 -- what a call gives of each item, as a list
 pub mapped : {A B : Type 0} (R : A → B → Type 0) (f : A → B) (xs : List A) (ys : List B) → ((x : A) (y : B) → R x y → y ≡ f x) →

@@ -46,17 +46,6 @@ abbrev pub FirstWhere : {T : Type 0} → Cells T → List T → (T → Bool → 
 FirstWhere k cells test from count None = Gives k cells test from 0 count false
 FirstWhere k cells test from count (Some place) = IsFirstWhere k cells test from count place
 
--- The cell at this place, of `count` places, passes the test, and none at a place behind it does.
-pub record IsLastWhere {T : Type 0} (k : Cells T) (cells : List T) (test : T → Bool → Type 0) (from count place : ℕ) : Type 0 where
-  pub within : place < count
-  pub passes : test (cell_round k cells (from + place)) true
-  pub behind : Gives k cells test from (place + 1) count false
-
--- that place, or none passes
-abbrev pub LastWhere : {T : Type 0} → Cells T → List T → (T → Bool → Type 0) → ℕ → ℕ → Option ℕ → Type 0
-LastWhere k cells test from count None = Gives k cells test from 0 count false
-LastWhere k cells test from count (Some place) = IsLastWhere k cells test from count place
-
 -- by so many slots later
 abbrev pub later : {T : Type 0} → Cells T → List T → ℕ → List T
 later k cells by = slots (length cells) (λ p. earlier k cells p by)

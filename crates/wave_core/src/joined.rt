@@ -1,6 +1,6 @@
 //! Joins of a wave's cells that go from change to change.
 
-ghost use Rattle.std.specs.Prelude.{◌≡◌, ◌-◌, ◌*◌, ◌<◌, ◌≤◌, length};
+ghost use Rattle.std.specs.Prelude.{◌≡◌, ◌-◌, ◌<◌, ◌≤◌, length};
 ghost use Rattle.wave_core.specs.Slots.{join_round};
 
 use crate::cell::Cell;

@@ -15,8 +15,5 @@ mod slot_wave;
 pub use cell::Cell;
 pub use cyclic_wave::CyclicWave;
 pub use joined::joined_from;
-pub use search::{first_where, last_where};
+pub use search::first_where;
 pub use slot_wave::SlotWave;
-
-#[cfg(test)]
-mod tests;

@@ -1,10 +1,9 @@
-//! Searches of a wave that go from change to change.
+//! A search of a wave that goes from change to change.
 
 ghost use Rattle.std.specs.Prelude.{◌*◌, ◌<◌, ◌≤◌, length};
-ghost use Rattle.wave_core.specs.Slots.{FirstWhere, LastWhere};
+ghost use Rattle.wave_core.specs.Slots.{FirstWhere};
 
 use crate::cyclic_wave::CyclicWave;
-use std::cmp::min;
 
 /// The first of `count` places whose cell passes a test, or `None` where none of them does: the cell
 /// at a place is that of slot `from + place`, counted round the period. The test is asked once for
@@ -30,32 +29,4 @@ pub fn first_where<W: CyclicWave, F: Fn(W::Item) -> bool>(
         place += wave.same_until(slot) - slot;
     }
     None
-}
-
-/// The last of `count` places whose cell passes a test, or `None` where none of them does: the cell
-/// at a place is that of slot `from + place`, counted round the period. The test is asked once for
-/// slots in a row that have one cell.
-pub fn last_where<W: CyclicWave, F: Fn(W::Item) -> bool>(
-    wave: &W,
-    from: u16,
-    count: u16,
-    test: F,
-) -> Option<u16>
-    requires callable { F.IsAlwaysCallable test }
-    requires from { from < length (W.cells wave.now) }
-    requires count { count ≤ 2 * length (W.cells wave.now) }
-    ensures { LastWhere W.Item.kind (W.cells wave.now) (λ c passes. F.post test c passes) from count result }
-{
-    let period = wave.period();
-    let mut last = None;
-    let mut place = 0;
-    while place < count {
-        let slot = (from + place) % period;
-        let next = place + (wave.same_until(slot) - slot);
-        if test(wave.at(slot)) {
-            last = Some(min(next, count) - 1);
-        }
-        place = next;
-    }
-    last
 }
