@@ -1,3 +1,4 @@
+mod Examples
 pub mod Device
 pub mod Back
 pub mod Below

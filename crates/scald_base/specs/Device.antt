@@ -1,10 +1,18 @@
 -- What a source of bytes and a sink for bytes promise.
-use Rattle.std.specs.Prelude.{◌≡◌, ℕ, ◌+◌, ◌-◌, ◌^◌, ◌<◌, ◌≤◌, List, length, take, drop, Option, Result, OnOk, OnErr, IfSome, ◌⊎◌}
+use Rattle.std.specs.Prelude.{◌≡◌, ℕ, ◌+◌, ◌-◌, ◌^◌, ◌<◌, ◌≤◌, min, List, length, take, drop, Option, Result, OnOk, OnErr, IfSome, ◌⊎◌}
 use Rattle.std.specs.Io.KnownBytes.{Appends, Consumes, IsAtEnd}
 
 -- A count of faults rose: it is greater, or it stands at the greatest number that 64 bits hold.
 abbrev pub Rose : ℕ → ℕ → Type 0
 Rose before now = (before < now) ⊎ (now ≡ 2 ^ 64 - 1)
+
+-- one more, as far as 64 bits count
+abbrev pub next_count : ℕ → ℕ
+next_count n = min (n + 1) (2 ^ 64 - 1)
+
+-- It rose by one, or stands at the greatest number: what a device promises that counts each fault once.
+abbrev pub RoseByOne : ℕ → ℕ → Type 0
+RoseByOne before now = now ≡ next_count before
 
 -- A failure comes only where the count of faults rose, success leaves the count as it was, and it never falls.
 pub record CountsFaults {A E : Type 0} (before now : ℕ) (outcome : Result A E) : Type 0 where
@@ -13,7 +21,7 @@ pub record CountsFaults {A E : Type 0} (before now : ℕ) (outcome : Result A E)
   pub later : before ≤ now
 
 -- The source gave n bytes into the room's front. Where it tells what it has left, they were the first of that: none
--- only where there was no room, or nothing left; and behind them the room is as it was.
+-- only where there was no room, or nothing left; and after them the room is as it was.
 pub record Gives (left left' : Option (List ℕ)) (room room' : List ℕ) (n : ℕ) : Type 0 where
   pub fits : n ≤ length room'
   pub bytes : Consumes left left' (take n room')
@@ -44,8 +52,8 @@ pub record ReadsPast (left left' : Option (List ℕ)) (limit : ℕ) : Type 0 whe
   pub bytes : Consumes left left' front
   pub past : length front ≡ limit + 1
 
--- A front of the bytes was taken, and no more.
+-- A front of the bytes was taken, and no more: one byte at least was not.
 pub record TakesFront (taken taken' : Option (List ℕ)) (all : List ℕ) : Type 0 where
   pub count : ℕ
-  pub within : count ≤ length all
+  pub within : count < length all
   pub bytes : Appends taken taken' (take count all)

@@ -1,5 +1,6 @@
 -- A source and a sink in memory, each as the whole of its state.
-use Rattle.std.specs.Prelude.{ℕ, ◌+◌, ◌-◌, ◌^◌, ◌<◌, ◌≤◌, min, List, ◌++◌, Contains, length, take, drop, ◌⊎◌}
+use Rattle.std.specs.Prelude.{ℕ, ◌+◌, ◌-◌, ◌<◌, ◌≤◌, min, List, ◌++◌, Contains, length, take, drop, ◌⊎◌}
+use Rattle.scald_base.specs.Device.{next_count}
 
 -- What is left to read, how many bytes a call gives at most, which calls fail, and how many calls and failures there were.
 pub record SourceState : Type 0 where
@@ -18,10 +19,6 @@ pub record SinkState : Type 0 where
   pub failing : List ℕ
   pub calls : ℕ
   pub faults : ℕ
-
--- one more, as far as 64 bits count
-abbrev pub next_count : ℕ → ℕ
-next_count n = min (n + 1) (2 ^ 64 - 1)
 
 -- how many bytes a call into this room gives
 abbrev pub given_to : SourceState → List ℕ → ℕ

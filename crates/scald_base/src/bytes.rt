@@ -1,6 +1,6 @@
 //! The bytes of a text or of a name in it.
 
-ghost use Rattle.std.specs.Prelude.{◌≡◌, ◌+◌, ◌<◌, ◌≤◌, ◌==◌, [], ◌∷◌, ◌++◌, length, nat_eq, slice_get, IsOk, OnOk, OnErr, IfOk};
+ghost use Rattle.std.specs.Prelude.{◌≡◌, ◌==◌, [], ◌∷◌, ◌++◌, length, nat_eq, slice_get, OnOk, OnErr, IfOk};
 ghost use Rattle.std.specs.Cmp.Lexicographic.{pointwise, nat_list_eq_equiv};
 ghost use Rattle.std.specs.Cmp.{partial_equiv_from_equiv};
 ghost use Rattle.std.specs.Option.{option_copied};
@@ -49,7 +49,7 @@ impl Eq for Bytes {
 }
 
 impl Bytes {
-    /// No bytes, which takes no memory yet.
+    /// No bytes. It needs no allocation yet.
     pub fn new(alloc: Global) -> Bytes
         ensures { result ≡ [] }
     {
@@ -58,10 +58,9 @@ impl Bytes {
         }
     }
 
-    /// These bytes once more. Up to 16 want no memory.
+    /// These bytes once more.
     pub fn of(alloc: Global, bytes: &[u8]) -> Result<Bytes, NoMemory>
         ensures copied { IfOk result (λ copied. copied ≡ bytes.now) }
-        ensures inline { length bytes.now ≤ 16 → IsOk result }
     {
         let items = SmallVec::from_slice(alloc, bytes)?;
         Ok(Bytes { items })
@@ -95,26 +94,20 @@ impl Bytes {
         self.items.as_slice()
     }
 
-    /// Puts a byte at the end. Up to 16 bytes want no memory; where it runs out the bytes are as before.
+    /// Puts a byte at the end. Where memory runs out the bytes are as before.
     pub fn push(&mut self, byte: u8) -> Result<(), NoMemory>
-        ensures inline { length self.old < 16 → IsOk result }
         ensures ok { OnOk result (self.new ≡ self.old ++ byte ∷ []) }
         ensures err { OnErr result (self.new ≡ self.old) }
     {
-        // For the proof: `capacity` says that there is room for 16, so that fewer ask nothing of memory.
-        let _room = self.items.capacity();
         self.items.push(byte)?;
         Ok(())
     }
 
-    /// Puts bytes at the end. Up to 16 bytes in all want no memory; where it runs out the bytes are as before.
+    /// Puts bytes at the end. Where memory runs out they are as before.
     pub fn extend(&mut self, bytes: &[u8]) -> Result<(), NoMemory>
-        ensures inline { length self.old + length bytes.now ≤ 16 → IsOk result }
         ensures ok { OnOk result (self.new ≡ self.old ++ bytes.now) }
         ensures err { OnErr result (self.new ≡ self.old) }
     {
-        // For the proof, as in `push`.
-        let _room = self.items.capacity();
         self.items.extend_from_slice(bytes)?;
         Ok(())
     }

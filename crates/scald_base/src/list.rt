@@ -58,7 +58,7 @@ impl<T: Eq> Eq for List<T> {
 }
 
 impl<T> List<T> {
-    /// The empty list, which takes no memory yet.
+    /// The empty list. It needs no allocation yet.
     pub fn new(alloc: Global) -> List<T>
         ensures { result ≡ [] }
     {
@@ -97,7 +97,7 @@ impl<T> List<T> {
 }
 
 impl<T: Drop> List<T> {
-    /// Puts an item at the end. Where memory runs out the list is as before, and the item is let go.
+    /// Appends an item. Where memory runs out the list is as before, and the item is dropped.
     pub fn push(&mut self, item: T) -> Result<(), NoMemory>
         ensures ok { OnOk result (self.new ≡ self.old ++ item ∷ []) }
         ensures err { OnErr result (self.new ≡ self.old) }

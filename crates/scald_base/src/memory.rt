@@ -1,8 +1,8 @@
-//! A source and a sink in memory, with calls that fail where a test wants it.
+//! A source and a sink in memory, with calls that fail where a test needs it.
 
 ghost use Rattle.std.specs.Prelude.{◌≡◌, ◌↔◌, ◌≤◌, ◌+◌, [], Some, IsTrue, IsErr, Contains, IfOk, OnErr, ◌++◌, length, take, drop};
 ghost use Rattle.std.specs.Io.KnownBytes.{Keeps};
-ghost use Rattle.scald_base.specs.Device.{CountsFaults, Gives, Takes};
+ghost use Rattle.scald_base.specs.Device.{CountsFaults, Gives, RoseByOne, Takes};
 ghost use Rattle.scald_base.specs.Memory.{given_to, after_giving, after_failing_read, WriteFails, taken_of, after_taking, after_failing_write};
 
 use crate::bytes::Bytes;
@@ -41,7 +41,7 @@ impl Model for MemorySource {
 }
 
 impl MemorySource {
-    /// A source of these bytes. A call whose number, from 0, is in `failing` fails. It takes no memory.
+    /// A source of these bytes. Call n, from 0, fails where n is in `failing`. It needs no allocation.
     pub fn new(bytes: Bytes, piece: u32, failing: Calls) -> MemorySource
         requires { 1 ≤ piece }
         ensures { result ≡ record { left = bytes; piece = piece; failing = failing; calls = 0; faults = 0 } }
@@ -76,10 +76,13 @@ impl Source for MemorySource {
 
     ghost faults = { λ s. s.faults };
 
+    ghost rises = { RoseByOne };
+
     fn read(&mut self, room: &mut [u8]) -> Result<usize, Failed>
         ensures gives { IfOk result (λ n. Gives (Some self.old.left) (Some self.new.left) room.old room.new n) }
         ensures kept { OnErr result (Keeps (Some self.old.left) (Some self.new.left)) }
         ensures faults { CountsFaults self.old.faults self.new.faults result }
+        ensures rises { OnErr result (RoseByOne self.old.faults self.new.faults) }
         ensures fails { IsErr result ↔ Contains self.old.failing self.old.calls }
         ensures count { IfOk result (λ n. n ≡ given_to self.old room.old) }
         ensures copied { IfOk result (λ n. room.new ≡ take n self.old.left ++ drop n room.old) }
@@ -161,10 +164,13 @@ impl Sink for MemorySink {
 
     ghost faults = { λ s. s.faults };
 
+    ghost rises = { RoseByOne };
+
     fn write(&mut self, piece: &[u8]) -> Result<usize, Failed>
         ensures takes { IfOk result (λ n. Takes (Some self.old.taken) (Some self.new.taken) piece.now n) }
         ensures kept { OnErr result (Keeps (Some self.old.taken) (Some self.new.taken)) }
         ensures faults { CountsFaults self.old.faults self.new.faults result }
+        ensures rises { OnErr result (RoseByOne self.old.faults self.new.faults) }
         ensures fails { IsErr result ↔ WriteFails self.old piece.now }
         ensures count { IfOk result (λ n. n ≡ taken_of self.old piece.now) }
         ensures after { IfOk result (λ n. self.new ≡ after_taking self.old piece.now n) }

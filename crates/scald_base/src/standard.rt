@@ -1,6 +1,7 @@
 //! Sources and sinks over the standard library's readers and writers.
 
 ghost use Rattle.std.specs.Prelude.{◌≡◌};
+ghost use Rattle.scald_base.specs.Device.{RoseByOne};
 
 use crate::sink::Sink;
 use crate::source::{Failed, Source};
@@ -9,7 +10,8 @@ use std::io::{Read, Write};
 /// How many bytes one read of a standard reader asks for at most.
 const ROOM: usize = 4096;
 
-/// A source over a standard reader. Each error of the reader is a failure, an interruption too.
+/// A source over a standard reader. Each call asks the reader once, for 4,096 bytes at most. Each
+/// error of the reader is a failure, an interruption too, and the next call asks it again.
 #[derive(Drop)]
 pub struct StdSource<R: Read> {
     reader: R,
@@ -31,7 +33,9 @@ impl<R: Read> Source for StdSource<R> {
 
     ghost faults = { λ s. s.faults };
 
-    // A standard reader may change its room behind what it reads, so it gets another.
+    ghost rises = { RoseByOne };
+
+    // A standard reader may change the rest of its room, after what it reads, so it gets another.
     fn read(&mut self, room: &mut [u8]) -> Result<usize, Failed> {
         let mut own = [0; ROOM];
         let asked = room.len().min(ROOM);
@@ -48,8 +52,9 @@ impl<R: Read> Source for StdSource<R> {
     }
 }
 
-/// A sink over a standard writer. Each error of the writer is a failure, and so is a write that takes
-/// none of some bytes.
+/// A sink over a standard writer. Each call asks the writer once, for the whole piece. Each error of
+/// the writer is a failure, and so is a write that takes none of some bytes; the next call asks it
+/// again.
 #[derive(Drop)]
 pub struct StdSink<W: Write> {
     writer: W,
@@ -70,6 +75,8 @@ impl<W: Write> Sink for StdSink<W> {
     ghost taken = { λ s. W.contents s.writer };
 
     ghost faults = { λ s. s.faults };
+
+    ghost rises = { RoseByOne };
 
     fn write(&mut self, piece: &[u8]) -> Result<usize, Failed> {
         match self.writer.write(piece) {

@@ -27,7 +27,7 @@ impl Model for SureSource {
 }
 
 impl SureSource {
-    /// A source of these bytes. It takes no memory.
+    /// A source of these bytes. It needs no allocation.
     pub fn new(bytes: Bytes) -> SureSource
         ensures { result ≡ bytes }
     {
@@ -77,7 +77,7 @@ impl Model for CountSink {
 }
 
 impl CountSink {
-    /// A sink that took nothing yet. It takes no memory.
+    /// A sink that took nothing yet. It needs no allocation.
     pub fn new() -> CountSink
         ensures { result ≡ 0 }
     {
