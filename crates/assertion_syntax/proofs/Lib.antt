@@ -3,5 +3,6 @@ pub mod Parts
 pub mod SpansSoFar
 pub mod Names
 pub mod Intervals
+pub mod Covered
 pub mod Near
 pub mod Edges

@@ -1,4 +1,5 @@
 pub mod Name
 pub mod Reading
+pub mod Units
 pub mod Slots
 pub mod Faults

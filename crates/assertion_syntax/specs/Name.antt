@@ -15,7 +15,7 @@ use Rattle.assertion_syntax.specs.declared.name.SignalName.{SignalName}
 abbrev pub is_base_byte : ℕ → Bool
 is_base_byte b = is_ascii_alphanumeric b || (b == 32 || (b == 95 || (b == 35 || b == 36)))
 
--- Each space stands between two other bytes. Before the first byte, and behind a space, none may stand and the text may not end.
+-- Each space is between two other bytes. At the start, and after a space, there is no space and the text does not end.
 abbrev pub well_spaced : Bool → List ℕ → Bool
 well_spaced behind_byte [] = behind_byte
 well_spaced behind_byte (b ∷ bs) = if b == 32 then behind_byte && well_spaced false bs else well_spaced true bs

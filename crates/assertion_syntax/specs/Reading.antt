@@ -1,4 +1,4 @@
--- Reading from the front: each function answers what it read and the bytes behind it, or nothing.
+-- Reading from the front: each function answers what it read and the bytes after it, or nothing.
 use Rattle.std.specs.Prelude.{◌≡◌, ℕ, zero, suc, ◌+◌, ◌-◌, ◌*◌, Bool, true, false, ◌&&◌, nat_lt, nat_le, ◌==◌, List, [], ◌∷◌, length, take, drop, codes, Option, Some, None, if◌then◌else◌}
 use Rattle.std.specs.List.{prefix_len}
 use Rattle.std.specs.Char.{is_ascii_digit}
@@ -30,7 +30,7 @@ Gives view (Some x) read = read ≡ Some (view x)
 unfoldable pub literal_at : List ℕ → List ℕ → Option (List ℕ)
 literal_at word rest = if bytes_eq (take (length word) rest) word then Some (drop (length word) rest) else None
 
--- The digits that go on behind a number. Behind 0 there is none, and behind four digits there is none.
+-- The digits that continue a number. None follows 0, and none follows four digits.
 unfoldable pub digits_at : ℕ → List ℕ → Option (ℕ × List ℕ)
 digits_at value [] = Some (value, [])
 digits_at value (b ∷ rest) =
@@ -38,7 +38,7 @@ digits_at value (b ∷ rest) =
     then (if nat_lt 0 value && nat_lt value 1000 then digits_at (value * 10 + (b - 48)) rest else None)
     else Some (value, b ∷ rest)
 
--- a number of one to four digits, with no digit behind it
+-- a number of one to four digits, with no digit after it
 unfoldable pub number_at : List ℕ → Option (ℕ × List ℕ)
 number_at [] = None
 number_at (b ∷ rest) = if is_ascii_digit b then digits_at (b - 48) rest else None
@@ -84,7 +84,7 @@ skew_at rest = either (literal_at (codes "(") rest) (Some (None, rest)) (λ insi
 unfoldable pub low_at : List ℕ → Option Bool
 low_at rest = either (literal_at (codes "L") rest) (if length rest == 0 then Some false else None) (λ left. if length left == 0 then Some true else None)
 
--- what stands behind a clock's intervals
+-- what follows a clock's intervals
 unfoldable pub edges_at : List ℕ → Option (Option (ℕ × ℕ) × Bool)
 edges_at rest = do
   skew ← skew_at rest
@@ -102,7 +102,7 @@ stable_at rest =
     if length rest == 0 then Some []
     else spans_at (length rest) rest >>= λ spans. if length spans.1 == 0 then Some spans.0 else None
 
--- what stands behind a base
+-- what follows a base
 unfoldable pub assertion_at : List ℕ → Option AssertSpec
 assertion_at rest =
     if length rest == 0 then Some Unasserted

@@ -1,18 +1,20 @@
 //! Whether an assertion fits a header.
 
-ghost use Rattle.std.specs.Prelude.{◌≡◌, ◌+◌, ◌*◌, ◌<◌, MatchBool, MatchResult};
+ghost use Rattle.std.specs.Prelude.{◌≡◌, ◌+◌, ◌*◌, ◌<◌, length, MatchBool, MatchResult};
 ghost use Rattle.std.specs.List.{list_all};
 ghost use Rattle.scald_base.specs.Time.{period};
+ghost use Rattle.scald_base.specs.Clock.{ideal};
 ghost use Rattle.scald_base.specs.Span.{span_fits};
 ghost use Rattle.scald_base.specs.Fitting.{IntervalsFit, EdgesOverlap, Fits, skew_of};
 ghost use Rattle.assertion_syntax.specs.Slots.{steps, is_near, AreNear};
+ghost use Rattle.assertion_syntax.specs.Units.{AreHeld};
 ghost use Rattle.assertion_syntax.specs.Faults.{IsFaultOf};
 
-use crate::meaning::ideal;
+use crate::units::{UNITS, held};
 use scald_base::{AssertSpec, ClockSpec, Header, Spans};
 use thiserror::Error;
 
-/// Why an assertion is none for a header.
+/// Why an assertion does not fit a header.
 #[derive(Clone, Copy, PartialEq, Eq, Debug, Error)]
 pub enum NameFault {
     /// An interval is not one of the header's units.
@@ -60,13 +62,15 @@ fn intervals_fit(spec: &AssertSpec, h: &Header) -> bool
 
 /// Whether the regions of a clock's edges overlap, where each edge moves by itself.
 fn edges_overlap(spec: &AssertSpec, h: &Header) -> bool
+    requires { IntervalsFit h.now spec.now }
     ensures { MatchBool result (EdgesOverlap h.now spec.now) (¬ EdgesOverlap h.now spec.now) }
 {
     match spec {
         AssertSpec::Clock(clock) => {
             h.known();
             let (early, late) = skew(clock, h);
-            are_near(clock, h, u32::from(early) + u32::from(late))
+            let held = held(clock.spans.as_slice(), h.units);
+            are_near(clock, &held, h, u32::from(early) + u32::from(late))
         }
         _ => false,
     }
@@ -80,13 +84,16 @@ fn skew(clock: &ClockSpec, h: &Header) -> (u16, u16)
 }
 
 /// Whether two edges are at most so many ticks apart. An edge and the same edge a period on count as
-/// two, so that one whose region is longer than the period is found as well.
-fn are_near(clock: &ClockSpec, h: &Header, reach: u32) -> bool
+/// two, so that one whose region is longer than the period is found as well. The units of the
+/// clock's intervals are given.
+fn are_near(clock: &ClockSpec, held: &[bool; UNITS], h: &Header, reach: u32) -> bool
+    requires size { length held.now ≡ 4096 }
+    requires are { AreHeld h.now.units held.now clock.now.spans }
     ensures { let near = AreNear (steps clock.now h.now) reach (2 * period h.now) in MatchBool result near (¬ near) }
 {
     let mut last = None;
     'ticks: for tick in 0..2 * h.period() {
-        if steps(clock, h, tick) {
+        if steps(clock, held, h, tick) {
             if is_near(last, tick, reach) {
                 return true;
             }
@@ -97,14 +104,28 @@ fn are_near(clock: &ClockSpec, h: &Header, reach: u32) -> bool
 }
 
 /// Whether the clock steps at this tick of this period or the next.
-fn steps(clock: &ClockSpec, h: &Header, tick: u16) -> bool
-    requires { tick < 2 * period h.now }
+fn steps(clock: &ClockSpec, held: &[bool; UNITS], h: &Header, tick: u16) -> bool
+    requires size { length held.now ≡ 4096 }
+    requires are { AreHeld h.now.units held.now clock.now.spans }
+    requires within { tick < 2 * period h.now }
     ensures { result ≡ steps clock.now h.now tick }
 {
     let period = h.period();
-    let before = ideal(clock, h, (tick + (period - 1)) % period);
-    let after = ideal(clock, h, tick % period);
+    let before = shows(clock, held, h, (tick + (period - 1)) % period);
+    let after = shows(clock, held, h, tick % period);
     if before { !after } else { after }
+}
+
+/// What the ideal clock shows at a tick of the period.
+fn shows(clock: &ClockSpec, held: &[bool; UNITS], h: &Header, tick: u16) -> bool
+    requires size { length held.now ≡ 4096 }
+    requires are { AreHeld h.now.units held.now clock.now.spans }
+    requires within { tick < period h.now }
+    ensures { result ≡ ideal clock.now h.now tick }
+{
+    h.known();
+    let inside = held[(tick / h.ticks) as usize];
+    if clock.low { !inside } else { inside }
 }
 
 /// Whether the last edge is at most so many ticks before this tick.

@@ -9,6 +9,7 @@ mod fitting;
 mod meaning;
 mod name;
 mod reader;
+mod units;
 mod writer;
 
 pub use fitting::{NameFault, fits};

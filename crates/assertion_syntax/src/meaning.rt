@@ -71,7 +71,7 @@ fn quiet_inside(h: &Header, slot: u16, span: Span) -> bool
     is_between(begin, slot, end) || is_between(begin, slot + period, end)
 }
 
-/// Whether a tick is behind the first of two and before the second.
+/// Whether a tick is after the first of two and before the second.
 fn is_between(begin: u64, tick: u64, end: u64) -> bool
     ensures { result ≡ is_between begin tick end }
 {

@@ -1,7 +1,7 @@
 //! Reads a name.
 //!
 //! Each function takes a part of the text from its front, and answers what it read and the bytes
-//! behind it. `specs/Name` says how a name is spelled, and `specs/Reading` what each function reads.
+//! after it. `specs/Name` says how a name is spelled, and `specs/Reading` what each function reads.
 
 ghost use Rattle.std.specs.Prelude.{◌≡◌, ◌<◌, List, ℕ, IfOk, IfErr, false, length};
 ghost use Rattle.std.specs.List.{prefix_len};
@@ -36,7 +36,7 @@ pub fn one_text()
     ensures { (n : SignalName) (text other : List ℕ) → IsTextOf n text → IsTextOf n other → text ≡ other }
 {}
 
-/// The bytes behind a word.
+/// The bytes after a word.
 #[tactic(auto, unfolding(crate::specs::Reading::literal_at))]
 fn literal<'a>(rest: &'a [u8], word: &[u8]) -> Option<&'a [u8]>
     ensures { Gives (λ x. x.now) result (literal_at word.now rest.now) }
@@ -44,7 +44,7 @@ fn literal<'a>(rest: &'a [u8], word: &[u8]) -> Option<&'a [u8]>
     rest.strip_prefix(word)
 }
 
-/// The digits that go on behind a number. Behind 0 and behind four digits none may come.
+/// The digits that continue a number. None may follow 0, or four digits.
 #[tactic(auto, unfolding(crate::specs::Reading::digits_at))]
 fn digits(value: u16, rest: &[u8]) -> Option<(u16, &[u8])>
     requires { value < 10000 }
@@ -119,7 +119,7 @@ fn spans(alloc: Global, text: &[u8]) -> Result<Option<(Spans, &[u8])>, NoMemory>
     Ok(None)
 }
 
-/// A skew, behind the parenthesis that opens it.
+/// A skew, after the parenthesis that opens it.
 #[tactic(auto, unfolding(crate::specs::Reading::parted_at))]
 fn parted(rest: &[u8]) -> Option<((u16, u16), &[u8])>
     ensures { Gives (λ x. ((x.0.0, x.0.1), x.1.now)) result (parted_at rest.now) }
@@ -153,7 +153,7 @@ fn low(rest: &[u8]) -> Option<bool>
     }
 }
 
-/// What stands behind a clock's intervals.
+/// What follows a clock's intervals.
 #[tactic(auto, unfolding(crate::specs::Reading::edges_at))]
 fn edges(rest: &[u8]) -> Option<(Option<(u16, u16)>, bool)>
     ensures { Gives (λ x. (x.0, x.1)) result (edges_at rest.now) }
@@ -162,7 +162,7 @@ fn edges(rest: &[u8]) -> Option<(Option<(u16, u16)>, bool)>
     Some((skew, low(rest)?))
 }
 
-/// A clock, behind its letter.
+/// A clock, after its letter.
 #[tactic(auto, unfolding(crate::specs::Reading::clock_at))]
 fn clock(alloc: Global, rest: &[u8]) -> Result<Option<ClockSpec>, NoMemory>
     ensures { IfOk result (λ read. Gives (λ x. x) read (clock_at rest.now)) }
@@ -176,7 +176,7 @@ fn clock(alloc: Global, rest: &[u8]) -> Result<Option<ClockSpec>, NoMemory>
     Ok(Some(ClockSpec { spans, skew, low }))
 }
 
-/// The intervals of a stable signal, behind its letter.
+/// The intervals of a stable signal, after its letter.
 #[tactic(auto, unfolding(crate::specs::Reading::stable_at))]
 fn stable(alloc: Global, rest: &[u8]) -> Result<Option<Spans>, NoMemory>
     ensures { IfOk result (λ read. Gives (λ x. x) read (stable_at rest.now)) }
@@ -194,7 +194,7 @@ fn stable(alloc: Global, rest: &[u8]) -> Result<Option<Spans>, NoMemory>
     }
 }
 
-/// What stands behind a base.
+/// What follows a base.
 #[tactic(auto, unfolding(crate::specs::Reading::assertion_at))]
 fn assertion(alloc: Global, rest: &[u8]) -> Result<Option<AssertSpec>, NoMemory>
     ensures { IfOk result (λ read. Gives (λ x. x) read (assertion_at rest.now)) }

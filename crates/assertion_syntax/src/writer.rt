@@ -11,7 +11,7 @@ use itoa::Buffer;
 use scald_base::{AssertSpec, Bytes, ClockSpec, NoMemory, Span};
 use std::alloc::Global;
 
-/// Some bytes, and a number behind them.
+/// Some bytes, and a number after them.
 fn add_number(out: &mut Bytes, before: &[u8], number: u16) -> Result<(), NoMemory>
     ensures { OnOk result (out.new ≡ out.old ++ before.now ++ decimal number) }
 {
@@ -54,7 +54,7 @@ fn add_skew(out: &mut Bytes, skew: Option<(u16, u16)>) -> Result<(), NoMemory>
     out.extend(b")")
 }
 
-/// What a clock's assertion says behind its letter.
+/// What a clock's assertion says after its letter.
 fn add_clock(out: &mut Bytes, clock: &ClockSpec) -> Result<(), NoMemory>
     ensures { OnOk result (out.new ≡ out.old ++ clock_text clock.now) }
 {
@@ -98,7 +98,7 @@ fn add_name(out: &mut Bytes, n: &SignalName) -> Result<(), NoMemory>
     add_assertion(out, &n.spec)
 }
 
-/// Puts a name's text at the end: its slash where it is global, its base, and behind one space its
+/// Puts a name's text at the end: its slash where it is global, its base, and after one space its
 /// assertion where it has one. Where memory runs out the bytes are as before.
 pub fn write_name(alloc: Global, n: &SignalName, out: &mut Bytes) -> Result<(), NoMemory>
     ensures ok { OnOk result (out.new ≡ out.old ++ name_text n.now) }

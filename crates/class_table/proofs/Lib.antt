@@ -1,3 +1,5 @@
 mod Lists
 mod Alike
 mod Pairs
+mod Values
+mod Examples

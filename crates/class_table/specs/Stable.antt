@@ -4,7 +4,7 @@ use Rattle.std.specs.List.{All}
 use Rattle.flat_circuit.specs.declared.case.CaseValue.{CaseValue}
 use Rattle.flat_circuit.specs.declared.net.Net.{Net}
 use Rattle.flat_circuit.specs.Circuit.{Circuit}
-use Rattle.class_table.specs.Alike.{class_of, NetsAlike}
+use Rattle.class_table.specs.Alike.{class_of, value_in, NetsAlike}
 
 -- the nets of two numbers are alike, where there are such nets
 abbrev pub AreAlikeAt : Circuit → List (List CaseValue) → List ℕ → ℕ → ℕ → Type 0
@@ -22,3 +22,7 @@ AreAlikeBefore c cases classes i = (j : ℕ) → j < i → class_of classes i �
 -- each class has the number of one of its nets
 abbrev pub AreNumbersOfNets : List ℕ → Type 0
 AreNumbersOfNets classes = All (λ (number : ℕ). slice_get classes number ≡ Some number) classes
+
+-- a case gives each net the value that it gives the net of its class's number
+abbrev pub IsAsNumbersIn : ℕ → List ℕ → List CaseValue → Type 0
+IsAsNumbersIn nets classes values = (i : ℕ) → i < nets → value_in values i ≡ value_in values (class_of classes i)

@@ -11,7 +11,7 @@ use std::alloc::Global;
 pub struct Feeds {
     /// The nets that are fed: those that the first net feeds before those of the second, and so on.
     fed: Vec<u32>,
-    /// Where those begin that a net feeds, and behind the last net the end of all.
+    /// Where those begin that a net feeds, and after the last net the end of all.
     begins: Vec<usize>,
     /// Which nets stand in the list that is made.
     is_listed: Vec<bool>,

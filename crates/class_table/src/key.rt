@@ -1,15 +1,15 @@
-//! Numbers of what nets have in common: nets of different keys are told apart, and different nets hardly
+//! Numbers of what nets have in common: nets of different keys are different, and different nets hardly
 //! ever have one key.
 
 use flat_circuit::{Circuit, Instance, Net, Pin, Target};
 use scald_base::{AssertSpec, ClockSpec, Delay, Span};
 
-/// By how many places a key is turned before the next part, and by what it is multiplied behind it.
+/// By how many places a key is rotated before the next part, and by what it is multiplied after it.
 const TURN: u32 = 23;
 
 const FACTOR: u64 = 0x9E37_79B9_7F4A_7C15;
 
-/// A number that comes of parts, one behind another.
+/// A number that is made from parts, one after another.
 #[derive(Clone, Copy, PartialEq, Eq, PartialOrd, Ord, Debug)]
 pub struct Key {
     number: u64,

@@ -1,4 +1,4 @@
-//! Classes of nets that nothing tells apart: the bits of a bus mostly have one wave in every round, so
+//! Classes of indistinguishable nets: the bits of a bus mostly have one wave in every round, so
 //! one of them stands for all.
 //!
 //! `classes` numbers the nets, and whoever uses its numbers asks `stable` first, which is exact:
@@ -6,6 +6,7 @@
 //! taken one for another.
 #![tactic(auto)]
 
+mod case_values;
 mod class_map;
 mod feeds;
 mod key;

@@ -5,9 +5,7 @@ ghost use Rattle.std.specs.Option.{option_copied};
 ghost use Rattle.std.specs.List.{AllZip};
 ghost use Rattle.class_table.specs.Alike.{CasesAlike, DriversAlike, InstancesAlike, NetsAlike, PinsAlike, TargetsAlike, class_of, instance_of, value_in};
 
-use flat_circuit::{
-    Case, CaseList, CaseValue, Circuit, Instance, Net, Pin, Target, is_same_assertion,
-};
+use flat_circuit::{Case, CaseValue, Circuit, Instance, Net, Pin, Target, is_same_assertion};
 
 /// The class of the net of a number; past the last it is 0.
 pub fn class_of(classes: &[u32], net: u32) -> u32
@@ -110,7 +108,7 @@ fn are_cases_alike(cases: &[Case], net: u32, other: u32) -> bool
 /// Whether two nets of a circuit, which have these numbers, are alike.
 pub fn are_nets_alike(
     c: &Circuit,
-    cases: &CaseList,
+    cases: &[Case],
     classes: &[u32],
     number: u32,
     other: u32,
@@ -122,5 +120,5 @@ pub fn are_nets_alike(
     net.wire == other_net.wire
         && is_same_assertion(&net.spec, &other_net.spec)
         && are_drivers_alike(classes, driver(c, net.driver), driver(c, other_net.driver))
-        && are_cases_alike(cases.as_slice(), number, other)
+        && are_cases_alike(cases, number, other)
 }

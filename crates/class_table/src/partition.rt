@@ -3,7 +3,7 @@
 //! What tells nets apart by themselves, and the values of cases, split the classes once. Then the nets
 //! whose drivers have a pin on a net of a new class are looked at again, until no class splits. Of the
 //! parts of a class the largest keeps its number where all of its nets were looked at, so a net gets a new
-//! number a few times at most in most circuits. Nets are told apart by keys, and not by each other, so a
+//! number a few times at most in most circuits. Nets are compared by keys, and not with each other, so a
 //! look at some nets costs their pins and the sorting of their keys.
 
 ghost use Rattle.std.specs.Prelude.{◌≡◌, IfOk, length};
@@ -171,7 +171,7 @@ impl Partition {
         Ok(())
     }
 
-    /// Tells apart the nets that differ by themselves, or by the kinds of their drivers.
+    /// Separates the nets that differ by themselves, or by the kinds of their drivers.
     fn split_by_kind(&mut self, alloc: Global, c: &Circuit) -> Result<(), NoMemory> {
         let mut nets = Vec::with_capacity(alloc, c.net_count() as usize)?;
         for net in 0..c.net_count() {
@@ -182,7 +182,7 @@ impl Partition {
         Ok(())
     }
 
-    /// Tells apart the nets to which a case gives a value from those to which it does not.
+    /// Separates the nets to which a case gives a value from those to which it does not.
     fn split_by_case(&mut self, alloc: Global, case: &Case, one: bool) -> Result<(), NoMemory> {
         let mut nets = Vec::new(alloc);
         for value in case.as_slice() {
@@ -196,7 +196,7 @@ impl Partition {
         Ok(())
     }
 
-    /// Tells apart those of the nets whose drivers have pins on nets of different classes, and gives the
+    /// Separates those of the nets whose drivers have pins on nets of different classes, and gives the
     /// nets that have got a new class.
     fn split_by_pins(
         &mut self,
@@ -212,7 +212,7 @@ impl Partition {
         self.split(alloc, keyed)
     }
 
-    /// Tells apart the nets to which some case gives a value of its own.
+    /// Separates the nets to which some case gives a value of its own.
     fn split_by_cases(&mut self, alloc: Global, cases: &CaseList) -> Result<(), NoMemory> {
         for case in cases.as_slice() {
             self.split_by_case(alloc, case, false)?;
@@ -221,7 +221,7 @@ impl Partition {
         Ok(())
     }
 
-    /// Tells apart the nets whose drivers have pins on nets of different classes, until no class splits.
+    /// Separates the nets whose drivers have pins on nets of different classes, until no class splits.
     fn split_to_the_end(&mut self, alloc: Global, c: &Circuit) -> Result<(), NoMemory> {
         let mut feeds = Feeds::of(alloc, c)?;
         let mut nets = all_nets(alloc, c)?;
@@ -271,7 +271,7 @@ fn all_nets(alloc: Global, c: &Circuit) -> Result<Vec<u32>, NoMemory> {
 }
 
 /// Gives each net the number of its class, which is that of one of its nets. They are the fewest classes
-/// for which `stable` is true, unless different nets have one key; but nothing rests on either.
+/// for which `stable` is true, unless different nets have one key; but nothing depends on either.
 pub fn classes(alloc: Global, c: &Circuit, cases: &CaseList) -> Result<ClassMap, NoMemory>
     ensures { IfOk result (λ k. length k ≡ length c.now.nets) }
 {

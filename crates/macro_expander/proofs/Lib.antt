@@ -3,6 +3,7 @@ pub mod Lists
 pub mod Alike
 pub mod Nets
 pub mod Gathered
+pub mod Fronts
 pub mod Formals
 pub mod Binding
 pub mod Ranges

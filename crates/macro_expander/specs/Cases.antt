@@ -50,7 +50,7 @@ may_set s before e =
 abbrev pub entry_bit : CaseEntry → CaseBit
 entry_bit e = record { name = entry_name e; one = e.value == 1 }
 
--- the nets that a case sets, behind those of its entries so far, or the refusal of its first bad entry
+-- the nets that a case sets, after those of its entries so far, or the refusal of its first bad entry
 abbrev pub case_bits : State → List CaseBit → List CaseEntry → Result (List CaseBit) Refusal
 case_bits s before [] = Ok before
 case_bits s before (e ∷ es) =

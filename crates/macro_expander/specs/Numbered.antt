@@ -1,5 +1,5 @@
 -- What the numbers of nets stand for while a circuit is expanded, and what it is to take a step by them.
-use Rattle.std.specs.Prelude.{◌≡◌, ℕ, ◌≤◌, Bool, false, not, if◌then◌else◌, List, [], ◌∷◌, ◌++◌, length, map, Option, Some, None, Result, Ok, Err}
+use Rattle.std.specs.Prelude.{◌≡◌, ℕ, ◌<◌, ◌≤◌, Bool, false, not, if◌then◌else◌, List, [], ◌∷◌, ◌++◌, length, map, nat_le, Option, Some, None, Result, Ok, Err}
 use Rattle.std.specs.List.{All, flat_map, zip}
 use Rattle.scald_base.specs.declared.refusal.Refusal.{Refusal}
 use Rattle.scald_base.specs.declared.refusal.Stop.{Stop}
@@ -198,6 +198,27 @@ abbrev pub BitAt : Expansion → Expansion → Result BitRef Stop → Outcome (L
 BitAt old new (Ok bit) o = GivesBits old new (bit ∷ []) o
 BitAt old new (Err stop) o = Failed stop o
 
+-- the bits of a further term after those that are kept, unless these are more than a connection may
+-- have
+abbrev pub kept_with : {B : Type 0} → List B → List B → List B
+kept_with kept more = if nat_le (length kept) widest then kept ++ more else kept
+
+-- What is kept of all bits: all, where they are no more than a connection may have, and else more than
+-- that.
+pub record Keeps {B : Type 0} (kept all : List B) : Type 0 where
+  pub narrow : length kept ≤ widest → kept ≡ all
+  pub wide : widest < length kept → widest < length all
+
+-- all bits, of which these are kept
+pub record GivesFront (old new : Expansion) (kept : List BitRef) (o : Outcome (List Bit)) : Type 0 where
+  pub all : List BitRef
+  pub keeps : Keeps kept all
+  pub gives : GivesBits old new all o
+
+abbrev pub FrontAt : Expansion → Expansion → Result (List BitRef) Stop → Outcome (List Bit) → Type 0
+FrontAt old new (Ok kept) o = GivesFront old new kept o
+FrontAt old new (Err stop) o = Failed stop o
+
 pub record GivesJoined (old new : Expansion) (c : numbered_joined.Joined) (o : Outcome (List Joined)) : Type 0 where
   pub is : o ≡ Gives (joined_of (names_in new) c ∷ []) (state_of new)
   pub grows : Grows old new
@@ -260,11 +281,17 @@ pub record Wired (old new : Expansion) (s : State) : Type 0 where
 
 -- ---- loops
 
--- What is left gives, behind the bits so far, what the whole gives.
+-- What is left gives, after the bits so far, what the whole gives.
 pub record Gathered {X : Type 0} (step : X → State → Outcome (List Bit)) (start : Expansion) (want : Outcome (List Bit)) (rest : List X) (bits : List BitRef) (e : Expansion) : Type 0 where
   pub told : gathered step (map (bit_of (names_in e)) bits) rest (state_of e) ≡ want
   pub grows : Grows start e
   pub exist : All (BitExists (nets_in e)) bits
+
+-- The same, where of the bits so far only more than a connection may have are kept.
+pub record GatheredFront {X : Type 0} (step : X → State → Outcome (List Bit)) (start : Expansion) (want : Outcome (List Bit)) (rest : List X) (kept : List BitRef) (e : Expansion) : Type 0 where
+  pub all : List BitRef
+  pub keeps : Keeps kept all
+  pub gathered : Gathered step start want rest all e
 
 -- the same, of connections
 pub record GatheredJoined {X : Type 0} (step : X → State → Outcome (List Joined)) (start : Expansion) (want : Outcome (List Joined)) (rest : List X) (cs : List numbered_joined.Joined) (e : Expansion) : Type 0 where

@@ -1,4 +1,4 @@
--- What a step of expansion comes to, and steps one behind another: the first refusal is the refusal of all.
+-- What a step of expansion gives, and steps one after another: the first refusal is the refusal of all.
 use Rattle.std.specs.Prelude.{List, [], ◌∷◌, ◌++◌, Option, Some, None, Result, Ok, Err}
 use Rattle.scald_base.specs.declared.refusal.Place.{Place}
 use Rattle.scald_base.specs.declared.refusal.RefusalKind.{RefusalKind}
@@ -30,12 +30,12 @@ abbrev pub or_refuse : {A : Type 0} → Option A → RefusalKind → Judged A
 or_refuse (Some a) kind = Ok a
 or_refuse None kind = Err kind
 
--- one value for each, in order, behind those so far
+-- one value for each, in order, after those so far
 abbrev pub collected : {X Y : Type 0} → (X → Judged Y) → List Y → List X → Judged (List Y)
 collected step ys [] = Ok ys
 collected step ys (x ∷ xs) = judging (step x) (λ y. collected step (ys ++ y ∷ []) xs)
 
--- what each gives, in order, behind what there is so far
+-- what each gives, in order, after what there is so far
 abbrev pub gathered : {X Y : Type 0} → (X → State → Outcome (List Y)) → List Y → List X → State → Outcome (List Y)
 gathered step ys [] s = Gives ys s
 gathered step ys (x ∷ xs) s = after (step x s) (λ more s'. gathered step (ys ++ more) xs s')

@@ -269,7 +269,7 @@ all_added path u kind plan n ins outs s = each (λ k. adding (instance_at path u
 abbrev pub width_in : Kind → Wires → ℕ
 width_in kind w = width_of kind (map width w.ins) (map width w.outs)
 
--- the use of a primitive, behind its count
+-- the use of a primitive, once it is counted
 unfoldable pub primitive_use : ℕ → Kind → Scope → UseStatement → State → Outcome (Unit {0})
 primitive_use period kind scope u s =
     judged (plan_of period kind scope.env u) u.place (λ plan.

@@ -27,7 +27,7 @@ place_of (Use u) = u.place
 place_of (Wire w) = w.place
 place_of (If test taken other place) = place
 
--- what a statement does behind its count
+-- what a statement does once it is counted
 abbrev pub uncounted_act : ℕ → List Macro → Option (Macro → Act) → Statement → Act
 uncounted_act ticks macros body (Use u) scope s = use_act ticks macros body u scope s
 uncounted_act ticks macros body (Wire w) scope s = wire_act w scope s
@@ -59,7 +59,7 @@ pub record IsOneTooMany (old : Expansion) (place : Place) (stop : Stop) : Type 0
   pub full : nat_lt old.statements most_statements ≡ false
   pub is : stop ≡ Refused (record { kind = TooMany; place = place })
 
--- the statements behind ELSE, where ELSE is written
+-- the statements after ELSE, where ELSE is written
 abbrev pub behind_else : Otherwise → Statements
 behind_else no_else = nil
 behind_else (else_ ss) = ss

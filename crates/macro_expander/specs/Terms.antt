@@ -31,7 +31,7 @@ pub record Bound : Type 0 where
   pub numbers : List ℕ
   pub bits : List Bit
 
--- the labels of the uses from the drawing down, each with a slash behind it, the parameters with their values, and the
+-- the labels of the uses from the drawing down, each with a slash after it, the parameters with their values, and the
 -- formals
 pub record Scope : Type 0 where
   pub path : List ℕ
@@ -143,7 +143,7 @@ net_bits text spec place numbers s = gathered (net_bit text spec place) [] numbe
 
 -- ---- terms
 
--- the bits that a name means, a range with these ends standing behind it, or none
+-- the bits that a name means, followed by a range with these ends, or by none
 abbrev pub meant : Option Bound → List ℕ → AssertSpec → Option (ℤ × ℤ) → Place → State → Outcome (List Bit)
 meant (Some f) text spec ends place s = judged (formal_term f.numbers f.bits spec ends) place (λ bits. Gives bits s)
 meant None text spec ends place s = judged (numbers_of ends) place (λ numbers. net_bits text spec place numbers s)

@@ -6,7 +6,7 @@ ghost use Rattle.drawing_tree.specs.Tree.{item_of, term_of, connection_of, use_o
 ghost use Rattle.macro_expander.specs.Fitting.{ItemFits, TermFits, ConnectionFits, UseFits};
 ghost use Rattle.std.specs.List.{All};
 ghost use Rattle.macro_expander.specs.Terms.{item_bits as spec_item_bits, term_bits as spec_term_bits, terms_bits as spec_terms_bits, joined as spec_joined, all_joined as spec_all_joined, wires_of};
-ghost use Rattle.macro_expander.specs.Numbered.{BitsAt, JoinedAt, AllJoinedAt, WiresAt, turned_ref, state_of, scope_of, ScopeExists, nets_in, names_in};
+ghost use Rattle.macro_expander.specs.Numbered.{BitsAt, FrontAt, kept_with, JoinedAt, AllJoinedAt, WiresAt, turned_ref, state_of, scope_of, ScopeExists, nets_in, names_in};
 
 use crate::expansion::Expansion;
 use crate::list::Row;
@@ -93,9 +93,14 @@ fn term_bits(
     Ok(turned(bits, term.minus))
 }
 
-fn append(bits: &mut Bits, more: &[BitRef]) -> Result<(), NoMemory>
-    ensures { OnOk result (bits.new ≡ bits.old ++ more.now) }
+/// Puts bits after those of the terms before, unless these are already more than a connection may
+/// have.
+fn keep(bits: &mut Bits, more: &[BitRef]) -> Result<(), NoMemory>
+    ensures { OnOk result (bits.new ≡ kept_with bits.old more.now) }
 {
+    if bits.len() > WIDEST {
+        return Ok(());
+    }
     for bit in more {
         bits.push(*bit)?;
     }
@@ -103,6 +108,8 @@ fn append(bits: &mut Bits, more: &[BitRef]) -> Result<(), NoMemory>
 }
 
 /// The bits of terms, from left to right. One term, as most connections have, needs no list of its own.
+/// Where they are too many for a connection no more are kept than show it, and the terms that are left
+/// are asked for their refusals alone.
 fn terms_bits(
     expansion: &mut Expansion,
     alloc: Global,
@@ -112,15 +119,16 @@ fn terms_bits(
 ) -> Result<Bits, Stop>
     requires fits { All (TermFits expansion.old.builder.header) (map term_of terms.now) }
     requires exists { ScopeExists (nets_in expansion.old) scope.now }
-    ensures { BitsAt expansion.old expansion.new result (spec_terms_bits (scope_of (names_in expansion.old) scope.now) place (map term_of terms.now) (state_of expansion.old)) }
+    ensures { FrontAt expansion.old expansion.new result (spec_terms_bits (scope_of (names_in expansion.old) scope.now) place (map term_of terms.now) (state_of expansion.old)) }
 {
     if let [only] = terms {
-        return term_bits(expansion, alloc, scope, only, place);
+        let bits = term_bits(expansion, alloc, scope, only, place)?;
+        return Ok(bits);
     }
     let mut bits = List::new(alloc);
     for term in terms {
         let more = term_bits(expansion, alloc, scope, term, place)?;
-        append(&mut bits, more.as_slice())?;
+        keep(&mut bits, more.as_slice())?;
     }
     Ok(bits)
 }

@@ -158,7 +158,7 @@ fn is_known(known: &IndexMap<Vec<u8>, usize>, definition: &MacroDef, name: &[u8]
     named(known, definition.params.as_slice(), name).is_some()
 }
 
-/// The same of many: each is looked up among the macro's and among those behind it.
+/// The same of many: each is looked up among the macro's and among those after it.
 fn are_many_parameters(
     alloc: Global,
     definition: &MacroDef,

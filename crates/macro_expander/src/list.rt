@@ -1,4 +1,4 @@
-//! Lists once more.
+//! Rows: lists with room for all of their items from the start.
 
 ghost use Rattle.std.specs.Prelude.{◌≡◌, ◌∷◌, ◌++◌, [], IfOk, OnOk, OnErr};
 
@@ -21,7 +21,7 @@ impl<T> Model for Row<T> {
 }
 
 impl<T> Row<T> {
-    /// The empty row, which takes no memory.
+    /// The empty row. It needs no allocation.
     pub(crate) fn new(alloc: Global) -> Row<T>
         ensures { result ≡ [] }
     {
@@ -48,7 +48,7 @@ impl<T> Row<T> {
 }
 
 impl<T: Drop> Row<T> {
-    /// Puts an item at the end. Where memory runs out the row is as before, and the item is let go.
+    /// Appends an item. Where memory runs out the row is as before, and the item is dropped.
     pub(crate) fn push(&mut self, item: T) -> Result<(), NoMemory>
         ensures ok { OnOk result (self.new ≡ self.old ++ item ∷ []) }
         ensures err { OnErr result (self.new ≡ self.old) }
@@ -58,7 +58,7 @@ impl<T: Drop> Row<T> {
     }
 }
 
-/// The same items once more.
+/// A copy of the items.
 pub(crate) fn copied<T: Copy>(alloc: Global, items: &[T]) -> Result<List<T>, NoMemory>
     ensures { IfOk result (λ copies. copies ≡ items.now) }
 {

@@ -55,7 +55,7 @@ fn bound_output(alloc: Global, shape: &Shape, joined: &Joined, place: Place) -> 
     Ok(bound(alloc, shape, bits)?)
 }
 
-/// The formals so far, and behind them the inputs.
+/// The formals so far, and after them the inputs.
 fn bound_inputs(
     alloc: Global,
     formals: Row<Bound>,
@@ -73,7 +73,7 @@ fn bound_inputs(
     Ok(formals)
 }
 
-/// The formals so far, and behind them the outputs.
+/// The formals so far, and after them the outputs.
 fn bound_outputs(
     alloc: Global,
     formals: Row<Bound>,

@@ -1,4 +1,4 @@
-//! Items by their names: few are gone through, and many are looked up.
+//! Items by their names: few are compared one by one, and many are looked up.
 
 ghost use Rattle.std.specs.Prelude.{◌≡◌, ℕ, List, IfOk};
 ghost use Rattle.std.specs.Option.{option_copied};
@@ -12,7 +12,7 @@ use indexmap::IndexMap;
 use scald_base::NoMemory;
 use std::alloc::Global;
 
-/// The most items that are gone through one by one, which costs less than to look a name up.
+/// The most items that are compared one by one, which costs less than to look a name up.
 pub(crate) const FEW: usize = 8;
 
 /// What is found by its name.

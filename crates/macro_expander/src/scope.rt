@@ -85,7 +85,7 @@ impl Formals {
     }
 }
 
-/// The labels of the uses from the drawing down, each with a slash behind it, the parameters with their
+/// The labels of the uses from the drawing down, each with a slash after it, the parameters with their
 /// values, and the formals.
 #[derive(Drop)]
 pub struct Scope {
@@ -169,7 +169,7 @@ fn formal_bits(
     outer_bits(alloc, bound, chosen.as_slice(), place)
 }
 
-/// The outer bits that a formal's name means, a range with these ends standing behind it.
+/// The outer bits that a formal's name means, followed by a range with these ends.
 #[tactic(auto, unfolding(crate::specs::Terms::formal_term))]
 pub(crate) fn formal_term(
     alloc: Global,

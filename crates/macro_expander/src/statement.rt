@@ -105,7 +105,7 @@ fn one(
     }
 }
 
-/// An IF behind its count.
+/// An IF, once it is counted.
 #[cycle(statement)]
 fn expand_if(
     expansion: &mut Expansion,
@@ -124,7 +124,7 @@ fn expand_if(
     body(expansion, alloc, library, statements, scope, levels)
 }
 
-/// The use of a primitive or of a macro, behind its count.
+/// The use of a primitive or of a macro, once it is counted.
 #[cycle(statement)]
 fn expand_use(
     expansion: &mut Expansion,

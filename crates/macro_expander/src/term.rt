@@ -95,7 +95,7 @@ fn numbered_bits(
     )
 }
 
-/// The bits of a net's name, a range with these ends standing behind it.
+/// The bits of a net's name, followed by a range with these ends.
 fn fresh_bits(
     expansion: &mut Expansion,
     alloc: Global,
@@ -124,7 +124,7 @@ fn local_formal<'a>(scope: &'a Scope, name: &SignalName) -> Option<&'a Bound>
     scope.formals.find(name.base.as_slice())
 }
 
-/// The bits that a name means, a range with these ends standing behind it.
+/// The bits that a name means, followed by a range with these ends.
 pub(crate) fn named_bits(
     expansion: &mut Expansion,
     alloc: Global,
