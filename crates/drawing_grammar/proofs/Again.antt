@@ -34,12 +34,12 @@ use Rattle.drawing_grammar.proofs.SameNamesText.{text_names}
 
 -- ---- tokens with and without their places
 
-are_bare : (text : List ℕ) (tokens : List lex.Token) → map bare (lexemes text tokens) ≡ map (bare_at text) tokens
+pub are_bare : (text : List ℕ) (tokens : List lex.Token) → map bare (lexemes text tokens) ≡ map (bare_at text) tokens
 are_bare text [] = refl
 are_bare text (t ∷ ts) = ap (λ (bs : List Bare). bare_at text t ∷ bs) (are_bare text ts)
 
 -- the names of a text are those of its tokens
-names_spelled : (w : Written whole) (ts : List Lexeme) → spelling w ≡ ts → names w ≡ names_from false ts
+pub names_spelled : (w : Written whole) (ts : List Lexeme) → spelling w ≡ ts → names w ≡ names_from false ts
 names_spelled w ts e = names_of_text w ∙ ap (λ (xs : List Lexeme). names_from false xs) e
 
 drawing_same : (d e : tree.Drawing) → e.version ≡ d.version → e.header ≡ d.header → map unplaced_macro e.macros ≡ map unplaced_macro d.macros → e.name ≡ d.name → unplaced_statements e.body ≡ unplaced_statements d.body → map unplaced_case e.cases ≡ map unplaced_case d.cases → SameButPlaces d e

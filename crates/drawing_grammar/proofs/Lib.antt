@@ -28,6 +28,8 @@ pub mod DrawingParts
 pub mod PhraseSteps
 pub mod PhraseExpression
 pub mod PhraseComparison
+pub mod Levels
+pub mod Forms
 pub mod PhraseForms
 pub mod PhraseConnection
 pub mod PhraseConnections
@@ -63,3 +65,14 @@ pub mod SpelledNames
 pub mod SameKeys
 pub mod PlacedValues
 pub mod PlacedDrawings
+pub mod TextLaws
+mod Examples
+pub mod LeftOver
+pub mod NestExpression
+pub mod NestForms
+pub mod NestRange
+pub mod NestConnection
+pub mod NestParameters
+pub mod NestStatement
+pub mod NestDrawing
+pub mod Shallow

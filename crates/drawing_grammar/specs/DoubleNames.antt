@@ -12,7 +12,7 @@ use Rattle.drawing_grammar.specs.declared.head.Head.{Head}
 use Rattle.drawing_grammar.specs.declared.declared.Kind.{Kind}
 use Rattle.drawing_grammar.specs.declared.declared.Kind.TheVariants.{Macro, Parameter, Formal, Label}
 
--- A name as a kind of thing in a scope. Each macro is a scope, and behind all macros the drawing itself; macros are
+-- A name as a kind of thing in a scope. Each macro is a scope, and after all macros the drawing itself; macros are
 -- all of scope 0.
 pub record Key : Type 0 where
   pub scope : ℕ
@@ -107,7 +107,7 @@ abbrev pub IsDoubleStop : List Declaration → Stop → Type 0
 IsDoubleStop ds (Refused r) = IsDoubleName ds r
 IsDoubleStop ds NoMemory = ⊤
 
--- ---- some declarations behind others
+-- ---- some declarations after others
 
 -- Nothing of these is declared again.
 pub record Declares (taken now : List Key) (ds : List Declaration) : Type 0 where

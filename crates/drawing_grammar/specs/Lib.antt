@@ -10,5 +10,7 @@ pub mod Header
 pub mod DoubleNames
 pub mod Laws
 pub mod CanonicalDraws
+pub mod Refused
+pub mod TextLaws
 pub mod Nesting
 pub mod Front

@@ -180,7 +180,7 @@ unfoldable pub verdict : List Lexeme → (needs : List Need) → ℕ → Verdict
 verdict [] needs a = finish needs
 verdict (t ∷ ts) needs a = go_on (step needs a t) (verdict ts) t.place
 
--- The tokens before a step give what those behind it give, and this of them.
+-- The tokens before a step give what those after it give, and this of them.
 pub record Moves {needs later : List Need} (before : Verdict needs) (after : Verdict later) (f : Values later → Values needs) : Type 0 where
   pub is : before ≡ given f after
 

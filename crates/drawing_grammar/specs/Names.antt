@@ -15,7 +15,8 @@ use Rattle.assertion_syntax.specs.Name.{IsTextOf}
 use Rattle.drawing_grammar.specs.declared.terminal.Terminal.{Terminal}
 use Rattle.drawing_grammar.specs.declared.terminal.Terminal.TheVariants.{Name, Macro, Semicolon}
 use Rattle.drawing_grammar.specs.Lexeme.{Lexeme, terminal}
-use Rattle.drawing_grammar.specs.Grammar.{Need, Choice, formal, named_term, named_atom, entry}
+use Rattle.drawing_grammar.specs.Grammar.{Need, Choice}
+use Rattle.drawing_grammar.specs.Grammar as g
 use Rattle.drawing_grammar.specs.Sketch.{unquoted}
 use Rattle.drawing_grammar.specs.Written.{Written, nothing, marked, token, lettered, begun, chosen, left_out, grouped, lacking}
 
@@ -39,13 +40,54 @@ is_inner b = is_ascii_alphanumeric b || (b == 95 || (b == 35 || b == 36))
 
 -- the name that a choice begins with
 abbrev pub choice_names : {p : _} → Choice p → Lexeme → List Naming
-choice_names formal t = naming true t ∷ []
-choice_names named_term t = naming false t ∷ []
-choice_names named_atom t = naming false t ∷ []
-choice_names entry t = naming false t ∷ []
-choice_names _ t = []
+choice_names g.number t = []
+choice_names g.parameter t = []
+choice_names g.negated t = []
+choice_names g.bracketed t = []
+choice_names g.times t = []
+choice_names g.divided t = []
+choice_names g.plus t = []
+choice_names g.less t = []
+choice_names g.equal t = []
+choice_names g.unequal t = []
+choice_names g.below t = []
+choice_names g.above t = []
+choice_names g.or_equal t = []
+choice_names g.range t = []
+choice_names g.last t = []
+choice_names g.parameters t = []
+choice_names g.assign t = []
+choice_names g.next_assign t = []
+choice_names g.formal t = naming true t ∷ []
+choice_names g.next_formal t = []
+choice_names g.formal_outputs t = []
+choice_names g.delay t = []
+choice_names g.complement t = []
+choice_names g.zero_term t = []
+choice_names g.one_term t = []
+choice_names g.named_term t = naming false t ∷ []
+choice_names g.zero_atom t = []
+choice_names g.one_atom t = []
+choice_names g.named_atom t = naming false t ∷ []
+choice_names g.next_term t = []
+choice_names g.hold t = []
+choice_names g.next_conn t = []
+choice_names g.outputs t = []
+choice_names g.use_ t = []
+choice_names g.wire t = []
+choice_names g.if_ t = []
+choice_names g.else_ t = []
+choice_names g.macro t = []
+choice_names g.index t = []
+choice_names g.entry t = naming false t ∷ []
+choice_names g.next_entry t = []
+choice_names g.case_ t = []
+choice_names g.wire_bounds t = []
+choice_names g.precision_skew t = []
+choice_names g.clock_skew t = []
+choice_names g.text t = []
 
--- the name that stands by itself, as behind WIRE
+-- the name that stands by itself, as after WIRE
 abbrev pub item_names : Terminal → Lexeme → List Naming
 item_names Name t = naming false t ∷ []
 item_names _ t = []

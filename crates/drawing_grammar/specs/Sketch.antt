@@ -133,7 +133,7 @@ Values (fresh ∷ rest) = Values rest
 Values (part p n ∷ rest) = Meaning p × Values rest
 Values (group g n ∷ rest) = GroupMeaning g × Values rest
 
--- the values of the first needs, and of those behind them
+-- the values of the first needs, and of those after them
 abbrev pub front : (needs rest : List Need) → Values (needs ++ rest) → Values needs
 front [] rest v = tt
 front (mark l ∷ needs) rest v = front needs rest v
@@ -248,6 +248,7 @@ choice_value g.text n t v = record {
 
 -- What a part stands for where it is left out; a part without such a value is never left out.
 abbrev pub absent_value : (p : Part) → Option (Meaning p)
+absent_value g.Unary = None
 absent_value g.Factors = Some (λ left. left)
 absent_value g.Terms = Some (λ left. left)
 absent_value g.Comparison = Some (λ left. left)
@@ -255,21 +256,29 @@ absent_value g.OrEqual = Some false
 absent_value g.Range = Some None
 absent_value g.RangeEnd = Some None
 absent_value g.Parameters = Some no_items
+absent_value g.Assign = None
 absent_value g.MoreAssigns = Some no_items
+absent_value g.Formal = None
 absent_value g.MoreFormals = Some no_items
 absent_value g.FormalOutputs = Some no_items
 absent_value g.Delay = Some None
+absent_value g.Term = None
+absent_value g.Atom = None
 absent_value g.MoreTerms = Some []
 absent_value g.Hold = Some false
 absent_value g.MoreConns = Some []
 absent_value g.Outputs = Some []
+absent_value g.Statement = None
 absent_value g.Otherwise = Some tree.no_else
+absent_value g.Macro = None
 absent_value g.Index = Some 0
+absent_value g.Entry = None
 absent_value g.MoreEntries = Some []
+absent_value g.CaseStatement = None
 absent_value g.WireBounds = Some None
 absent_value g.PrecisionSkew = Some None
 absent_value g.ClockSkew = Some None
-absent_value _ = None
+absent_value g.Text = None
 
 abbrev pub group_value : (g : Group) (n : ℕ) → Meaning (lead g) → Values (others g n) → GroupMeaning g
 group_value g.Product n first v = v.0 first
@@ -288,9 +297,16 @@ group_value g.Cases n first v = first ∷ v.0
 
 -- What a group stands for where it is left out; a group without such a value is never left out.
 abbrev pub absent_group : (g : Group) → Option (GroupMeaning g)
+absent_group g.Product = None
+absent_group g.Sum = None
+absent_group g.Expr = None
+absent_group g.Conn = None
+absent_group g.SomeConns = None
 absent_group g.Conns = Some []
+absent_group g.SomeFormals = None
 absent_group g.Formals = Some no_items
+absent_group g.Assigns = None
+absent_group g.Entries = None
 absent_group g.Statements = Some tree.nil
 absent_group g.Macros = Some (record { macros = []; heads = [] })
 absent_group g.Cases = Some []
-absent_group _ = None

@@ -80,7 +80,7 @@ Within [] weights = ⊤
 Within (t ∷ ts) [] = ⊥
 Within (t ∷ ts) (m ∷ weights) = (m ≤ limit) × Within ts weights
 
--- The token behind these is beyond them.
+-- The token after these is beyond them.
 abbrev pub Beyond : List Lexeme → List ℕ → Type 0
 Beyond ts [] = ⊥
 Beyond [] (m ∷ weights) = limit < m

@@ -5,7 +5,8 @@
 //! `specs/Drawing` which drawing comes of the tokens of a text, or why they are refused, and
 //! `specs/CanonicalDraws` that a canonical text draws its drawing. Beside this family stands a machine on a
 //! stack of what is still needed (`specs/Machine`), which reads token by token. The layer above, which reads
-//! a text, uses the few types that the table speaks of; [`laws`] has what holds of every text.
+//! a text, uses the few types that the table speaks of; [`laws`] has what holds of all tokens, [`text_laws`]
+//! what holds of the bytes of every text.
 #![tactic(auto)]
 
 mod declared;
@@ -13,6 +14,7 @@ mod head;
 mod header;
 pub mod laws;
 mod terminal;
+pub mod text_laws;
 
 pub use declared::Kind;
 pub use head::{Head, Places};

@@ -1,4 +1,4 @@
-//! What the grammar tells apart among tokens.
+//! What the grammar distinguishes among tokens.
 
 ghost use Rattle.std.specs.Prelude.{◌≡◌};
 ghost use Rattle.drawing_grammar.specs.Grammar.{letter_text};
@@ -48,7 +48,7 @@ pub enum Terminal {
     Slash,
     Ampersand,
     Exclamation,
-    /// Behind the last byte.
+    /// After the last byte.
     EndOfText,
 }
 
@@ -57,7 +57,7 @@ pub enum Terminal {
 pub enum Letter {
     /// `x`, between two numbers.
     By,
-    /// `H`, behind an exclamation mark.
+    /// `H`, after an exclamation mark.
     Hazard,
 }
 

@@ -7,5 +7,7 @@ pub mod Labels
 pub mod Naming
 pub mod Bare
 pub mod Answered
+pub mod Given
 pub mod Slices
 pub mod Climbing
+mod Examples

@@ -11,7 +11,7 @@ use Rattle.drawing_grammar.specs.DoubleNames.{Key, key, Declaration, keys_of, De
 abbrev pub label_cmp : List ℕ → List ℕ → Ordering
 label_cmp a b = ordering_then (nat_cmp (length a) (length b)) (slice_cmp nat_cmp a b)
 
--- No label of the scope is taken that comes behind this one.
+-- No label of the scope that comes after this one is taken.
 abbrev pub IsLast : ℕ → List Key → List ℕ → Type 0
 IsLast scope taken last = (name : List ℕ) → Contains taken (key scope Label name) → label_cmp last name ≢ Less
 

@@ -43,7 +43,7 @@ pub record Taken (old new : Cursor) : Type 0 where
   pub token : Lexeme
   pub tokens : tokens_at old ≡ token ∷ tokens_at new
 
--- Two numbers with a colon between them and a semicolon behind them, in a statement that begins at this place.
+-- Two numbers with a colon between them and a semicolon after them, in a statement that begins at this place.
 abbrev pub PairAt : Result NumberPair Stop → Place → Cursor → Cursor → Type 0
 PairAt (Ok x) place old new = (a : Lexeme) × (b : Lexeme) × (x ≡ record { first = number_of a; second = number_of b; place = place }) × ((rest : List Need) → Moves (ahead old (bounds rest)) (ahead new rest) (λ v. (a, (b, v))))
 PairAt (Err s) place old new = (rest : List Need) → Fails (ahead old (bounds rest)) s
@@ -69,7 +69,7 @@ abbrev pub DetailsAt : Result Details Stop → Cursor → Cursor → Type 0
 DetailsAt (Ok x) old new = (places : List Place) × ((rest : List Need) → Moves (ahead old (details rest)) (ahead new rest) (λ v. (option_map both_of x.delay, (record { items = map assignment_of x.params; places = places }, (map connection_of x.ins, (map connection_of x.outs, v))))))
 DetailsAt (Err s) old new = (rest : List Need) → Fails (ahead old (details rest)) s
 
--- The statements of a macro or of a drawing, from the semicolon in front of them to the END behind them.
+-- The statements of a macro or of a drawing, from the semicolon in front of them to the END after them.
 abbrev pub body : List Need → List Need
 body rest = mark Semicolon ∷ group Statements 0 ∷ mark End ∷ mark Semicolon ∷ rest
 
@@ -78,7 +78,7 @@ abbrev pub DrawingAt : Result (List ℕ × Vec Stmt) Stop → Cursor → Cursor 
 DrawingAt (Ok x) old new = (t : Lexeme) × (x.0 ≡ t.text) × ((rest : List Need) → Moves (ahead old (mark Drawing ∷ item Word ∷ body rest)) (ahead new rest) (λ v. (t, (statements_of x.1.items, v))))
 DrawingAt (Err s) old new = (rest : List Need) → Fails (ahead old (mark Drawing ∷ item Word ∷ body rest)) s
 
--- The end stands before the cursor and nothing behind it, or reading stops so.
+-- The cursor is at the end and nothing follows, or reading stops so.
 abbrev pub EndAt : {X : Type 0} → Result X Stop → Cursor → Type 0
 EndAt (Ok x) old = ahead old (mark EndOfText ∷ []) ≡ Complete tt
 EndAt (Err s) old = Fails (ahead old (mark EndOfText ∷ [])) s

@@ -1,9 +1,10 @@
 -- What reading a text answers, against the grammar.
-use Rattle.std.specs.Prelude.{◌≡◌, List, ◌∷◌, map, Result, Ok, Err, ◌⊎◌}
+use Rattle.std.specs.Prelude.{◌≡◌, List, ◌∷◌, map, Contains, Result, Ok, Err, ◌⊎◌, ⊤}
 use Rattle.scald_base.specs.declared.refusal.Refusal.{Refusal}
 use Rattle.scald_base.specs.declared.refusal.Stop.{Stop}
 use Rattle.scald_base.specs.declared.refusal.Stop.TheVariants as stop
-use Rattle.drawing_tree.specs.Tree.{macro_of, statements_of}
+use Rattle.drawing_tree.specs.declared.drawing.Drawing as tree
+use Rattle.drawing_tree.specs.Tree.{Drawing as Drawn, macro_of, statements_of, drawing_of}
 use Rattle.drawing_reader.specs.declared.reader.Sketch as written
 use Rattle.drawing_grammar.specs.Lexeme.{Lexeme}
 use Rattle.drawing_grammar.specs.declared.header.WrittenHeader.{WrittenHeader}
@@ -12,6 +13,7 @@ use Rattle.drawing_grammar.specs.Grammar.{Need, mark, item, part, group, Text, M
 use Rattle.drawing_grammar.specs.Sketch.{Sketch, Values}
 use Rattle.drawing_reader.specs.Reader.{body}
 use Rattle.drawing_grammar.specs.Draws.{whole}
+use Rattle.drawing_grammar.specs.Laws.{places_of}
 use Rattle.drawing_grammar.specs.Machine.{Complete, verdict, Says}
 
 abbrev pub sketch_of : written.Sketch → Sketch
@@ -23,7 +25,7 @@ sketch_of x = record {
   cases = x.cases;
 }
 
--- what a text needs behind its header, and what that stands for with the header
+-- what a text needs after its header, and what that stands for with the header
 abbrev pub behind_header : List Need → List Need
 behind_header rest = group Macros 0 ∷ mark Drawing ∷ item Word ∷ body (group Cases 0 ∷ mark EndOfText ∷ rest)
 
@@ -35,10 +37,20 @@ abbrev pub GivesSketch : Sketch → Result written.Sketch Stop → Type 0
 GivesSketch s (Ok found) = sketch_of found ≡ s
 GivesSketch s (Err e) = e ≡ stop.NoMemory
 
+-- The answer is the value of this drawing, unless memory ran out.
+abbrev pub GivesDrawing : Drawn → Result tree.Drawing Stop → Type 0
+GivesDrawing d (Ok found) = drawing_of found ≡ d
+GivesDrawing d (Err e) = e ≡ stop.NoMemory
+
 -- The answer is this refusal, unless memory ran out.
-abbrev pub GivesRefusal : Refusal → Result written.Sketch Stop → Type 0
+abbrev pub GivesRefusal : {A : Type 0} → Refusal → Result A Stop → Type 0
 GivesRefusal r (Ok found) = ⊥
 GivesRefusal r (Err e) = (e ≡ stop.Refused r) ⊎ (e ≡ stop.NoMemory)
+
+-- A refusal has the place of one of these tokens.
+abbrev pub IsStopAt : List Lexeme → Stop → Type 0
+IsStopAt ts (stop.Refused r) = Contains (places_of ts) r.place
+IsStopAt ts stop.NoMemory = ⊤
 
 -- The answer is what the tokens say.
 abbrev pub Answers : Result written.Sketch Stop → List Lexeme → Type 0

@@ -16,7 +16,7 @@ fn order_of_labels(a: &[u8], b: &[u8]) -> Ordering
     a.len().cmp(&b.len()).then(a.cmp(b))
 }
 
-/// Whether a label comes behind the last one.
+/// Whether a label comes after the last one.
 fn is_behind(last: &[u8], label: &[u8]) -> bool
     ensures { IsTrue result → label_cmp last.now label.now ≡ Less }
 {
@@ -26,7 +26,7 @@ fn is_behind(last: &[u8], label: &[u8]) -> bool
     }
 }
 
-/// The label of a statement, where it comes behind the last one; of a statement without labels the last one again.
+/// The label of a statement, where it comes after the last one; of a statement without labels the last one again.
 /// An IF has no answer.
 fn climbed<'a>(last: &'a [u8], statement: &'a Stmt) -> Option<&'a [u8]>
     ensures { IfSome result (λ next. (scope : ℕ) → Climbs scope last.now next.now (statement_labels scope (statement_of statement.now))) }
@@ -44,8 +44,8 @@ fn climbed<'a>(last: &'a [u8], statement: &'a Stmt) -> Option<&'a [u8]>
     }
 }
 
-/// Whether the labels of statements are seen to differ by their order alone: each comes behind the one before, as
-/// numbered labels do. It takes no memory.
+/// Whether the labels of statements are seen to differ by their order alone: each comes after the one before, as
+/// numbered labels do. It needs no allocation.
 pub fn are_ascending(statements: &[Stmt]) -> bool
     ensures { IsTrue result → (scope : ℕ) → AreFresh scope (labels scope (statements_of statements.now)) }
 {

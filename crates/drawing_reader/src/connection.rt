@@ -45,7 +45,7 @@ impl<'a> Cursor<'a> {
         Ok(Some(RangeExpr { first, last }))
     }
 
-    /// A net, with its range where one stands behind it.
+    /// A net, with its range where one follows.
     pub fn net(&mut self, alloc: Global) -> Result<(SignalName, Option<RangeExpr>), Stop>
         ensures reads { NetAt result self.old self.new }
         ensures no_longer { length self.new.rest.now ≤ length self.old.rest.now }
@@ -191,7 +191,7 @@ impl<'a> Cursor<'a> {
         Ok(all)
     }
 
-    /// The outputs behind an arrow, or none.
+    /// The outputs after an arrow, or none.
     pub fn outputs(&mut self, alloc: Global) -> Result<Conns, Stop>
         ensures reads { (rest : List Need) → Gives result (λ x v. (map connection_of x, v)) (ahead self.old (part Outputs 0 ∷ rest)) (ahead self.new rest) }
         ensures no_longer { length self.new.rest.now ≤ length self.old.rest.now }

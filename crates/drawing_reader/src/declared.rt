@@ -2,7 +2,7 @@
 
 use drawing_grammar::Kind;
 
-/// A name as a kind of thing in a scope. Each macro is a scope, and behind all macros the drawing itself;
+/// A name as a kind of thing in a scope. Each macro is a scope, and after all macros the drawing itself;
 /// macros are all of scope 0.
 #[derive(Clone, Copy, PartialEq, Eq, Hash)]
 pub struct Declared<'a> {

@@ -1,13 +1,16 @@
 //! The drawing of a text.
 
 ghost use Rattle.std.specs.Prelude.{IfOk, IfErr};
+ghost use Rattle.scald_base.specs.declared.refusal.Refusal.{Refusal};
+ghost use Rattle.scald_lex.specs.Place.{IsPlacedStop};
 ghost use Rattle.scald_lex.specs.Tokens.{AreTokens};
-ghost use Rattle.drawing_tree.specs.Tree.{drawing_of};
+ghost use Rattle.drawing_tree.specs.Tree.{drawing_of, Drawing as Drawn};
 ghost use Rattle.drawing_grammar.specs.Lexeme.{lexemes};
 ghost use Rattle.drawing_tree.specs.Canonical.{canonical};
 ghost use Rattle.drawing_tree.specs.WellFormed.{IsWellFormed};
 ghost use Rattle.drawing_grammar.specs.CanonicalDraws.{DrawsAgain, IsShallowDrawing};
-ghost use Rattle.drawing_grammar.specs.Drawing.{Draws, IsWrongStop};
+ghost use Rattle.drawing_grammar.specs.Drawing.{Draws, IsWrong, IsWrongStop};
+ghost use Rattle.drawing_reader.specs.Sketched.{GivesDrawing, GivesRefusal, IsStopAt};
 
 use crate::double_names::distinct_names;
 use crate::header::judged_header;
@@ -20,13 +23,26 @@ use std::alloc::Global;
 
 /// The drawing of a text, whose tokens these are, or its first refusal: `Syntax` or `TooDeep`,
 /// whichever token comes first; then `BadHeader`; then `BadName` and `EdgesOverlap`, name by name; then
-/// `DoubleName`. The drawing is well formed, and its canonical text draws it again, places aside, where that
-/// text does not nest too deep.
+/// `DoubleName`. A refusal has the place of one of the tokens. The drawing is well formed, and its canonical
+/// text draws it again, places aside, where that text does not nest too deep.
 pub fn read_drawing(alloc: Global, text: &[u8], tokens: &TokenList) -> Result<Drawing, Stop>
     requires { AreTokens text.now tokens.now }
     ensures drawn { IfOk result (λ d. Draws (lexemes text.now tokens.now) (drawing_of d)) }
     ensures formed { IfOk result (λ d. IsWellFormed (drawing_of d)) }
     ensures again { IfOk result (λ d. IsShallowDrawing (drawing_of d) → DrawsAgain (canonical (drawing_of d)) (drawing_of d)) }
+    ensures refused { IfErr result (λ stop. IsWrongStop (lexemes text.now tokens.now) stop) }
+    ensures at_token { IfErr result (λ stop. IsStopAt (lexemes text.now tokens.now) stop) }
+    ensures placed { IfErr result (λ stop. IsPlacedStop text.now stop) }
+    ensures only_drawing { (d : Drawn) → Draws (lexemes text.now tokens.now) d → GivesDrawing d result }
+    ensures only_refusal { (r : Refusal) → IsWrong (lexemes text.now tokens.now) r → GivesRefusal r result }
+{
+    judged_drawing(alloc, text, tokens)
+}
+
+/// The drawing, or the refusal. That there are no others is a law of the tokens.
+fn judged_drawing(alloc: Global, text: &[u8], tokens: &TokenList) -> Result<Drawing, Stop>
+    requires { AreTokens text.now tokens.now }
+    ensures drawn { IfOk result (λ d. Draws (lexemes text.now tokens.now) (drawing_of d)) }
     ensures refused { IfErr result (λ stop. IsWrongStop (lexemes text.now tokens.now) stop) }
 {
     let sketch = match read_sketch(alloc, text, tokens) {

@@ -2,7 +2,7 @@
 //!
 //! The layer above calls [`read_drawing`], which answers the one drawing that the tokens of a text draw,
 //! or its first refusal; what both are is said by the crate `drawing_grammar`. The reader is a descent
-//! over the tokens, a function for each part of the grammar; behind it the header, the names and what is
+//! over the tokens, a function for each part of the grammar; then the header, the names and what is
 //! declared twice are judged. `specs/Reader` says what a cursor has before it, `specs/Sketched` what
 //! reading a whole text answers.
 #![tactic(auto)]
@@ -19,7 +19,7 @@ mod reader;
 mod signal;
 mod statement;
 
-// what is judged behind the grammar
+// what is judged after the grammar
 mod ascending;
 mod declared;
 mod double_names;

@@ -25,7 +25,7 @@ fn put(all: &mut Stmts, next: Stmt) -> Result<(), NoMemory>
     Ok(())
 }
 
-/// What stands behind the kind of a use.
+/// What follows the kind of a use.
 #[derive(Drop)]
 struct Details {
     delay: Option<(Expr, Expr)>,
@@ -107,7 +107,7 @@ impl<'a> Cursor<'a> {
         Ok(Some(bounds))
     }
 
-    /// The pins of a use, inputs before outputs, and the semicolon behind them.
+    /// The pins of a use, inputs before outputs, and the semicolon after them.
     fn pins(&mut self, alloc: Global) -> Result<(Conns, Conns), Stop>
         ensures reads { (rest : List Need) → Gives result (λ x v. (map connection_of x.0, (map connection_of x.1, v))) (ahead self.old (mark Terminal.OpenParenthesis ∷ group ConnsGroup 0 ∷ mark Terminal.CloseParenthesis ∷ part Outputs 0 ∷ mark Terminal.Semicolon ∷ rest)) (ahead self.new rest) }
         ensures no_longer { length self.new.rest.now ≤ length self.old.rest.now }
@@ -176,7 +176,7 @@ impl<'a> Cursor<'a> {
         })
     }
 
-    /// The condition of an IF, and the word THEN behind it.
+    /// The condition of an IF, and the word THEN after it.
     fn condition(&mut self, alloc: Global) -> Result<Expr, Stop>
         ensures reads { (rest : List Need) → Gives result (λ x v. (expression_of x, v)) (ahead self.old (fresh ∷ group Whole 0 ∷ mark Terminal.Then ∷ rest)) (ahead self.new rest) }
         ensures no_longer { length self.new.rest.now ≤ length self.old.rest.now }
@@ -186,7 +186,7 @@ impl<'a> Cursor<'a> {
         Ok(test)
     }
 
-    /// The word END, and the semicolon behind it.
+    /// The word END, and the semicolon after it.
     fn end(&mut self) -> Result<(), Stop>
         ensures reads { (rest : List Need) → Gives result (λ _ v. v) (ahead self.old (mark Terminal.End ∷ mark Terminal.Semicolon ∷ rest)) (ahead self.new rest) }
         ensures no_longer { length self.new.rest.now ≤ length self.old.rest.now }
@@ -247,7 +247,7 @@ impl<'a> Cursor<'a> {
         matches!(self.look(), Terminal::Word | Terminal::Wire | Terminal::If)
     }
 
-    /// The statements of a macro or of a drawing, from the semicolon in front of them to the END behind them.
+    /// The statements of a macro or of a drawing, from the semicolon in front of them to the END after them.
     pub fn body(&mut self, alloc: Global) -> Result<Stmts, Stop>
         ensures reads { (rest : List Need) → Gives result (λ x v. (statements_of x.items, v)) (ahead self.old (body rest)) (ahead self.new rest) }
         ensures no_longer { length self.new.rest.now ≤ length self.old.rest.now }

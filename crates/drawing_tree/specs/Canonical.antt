@@ -66,7 +66,7 @@ bracketed_if_some before behind text (item ∷ items) = bracketed before behind 
 abbrev pub inputs_text : {A : Type 0} → (A → List ℕ) → List A → List ℕ
 inputs_text text ins = bracketed (codes " (") (codes ")") text ins
 
--- behind an arrow
+-- after an arrow
 abbrev pub outputs_text : {A : Type 0} → (A → List ℕ) → List A → List ℕ
 outputs_text text outs = bracketed_if_some (codes " -> (") (codes ")") text outs
 
@@ -93,7 +93,7 @@ use_text u = use_head u ++ inputs_text connection_text u.ins ++ outputs_text con
 unfoldable pub wire_text : WireStatement → List ℕ
 wire_text w = codes "WIRE " ++ signal_text w.name w.range ++ codes " " ++ bounds_text w.min w.max ++ codes ";"
 
--- a line behind its margin
+-- a line after its margin
 abbrev pub line : List ℕ → List ℕ → List ℕ
 line margin text = margin ++ text ++ 10 ∷ []
 
@@ -118,7 +118,7 @@ unfoldable mutual
   else_lines margin no_else = []
   else_lines margin (else_ ss) = line margin (codes "ELSE") ++ statements_lines (deeper margin) ss
 
--- the statements of a macro or of the drawing itself, and the END behind them
+-- the statements of a macro or of the drawing itself, and the END after them
 unfoldable pub body_lines : Statements → List ℕ
 body_lines body = statements_lines (codes "  ") body ++ line [] (codes "END;")
 

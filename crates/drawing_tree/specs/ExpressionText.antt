@@ -46,7 +46,7 @@ is_minus _ = false
 abbrev pub left_enclosed : Op → Expression → Bool
 left_enclosed op left = is_comparison left || (multiplies op && is_sum left)
 
--- As a right operand a sum stands in parentheses behind + and - too, and a product behind * and /.
+-- As a right operand a sum is in parentheses after + and - too, and a product after * and /.
 abbrev pub right_enclosed : Op → Expression → Bool
 right_enclosed op right = is_comparison right || ((adds op || multiplies op) && is_sum right) || (multiplies op && is_product right)
 

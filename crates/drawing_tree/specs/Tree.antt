@@ -40,7 +40,7 @@ pub record Term : Type 0 where
   pub minus : Bool
   pub item : Item
 
--- bits that follow one another; hold where the hazard mark stands behind them
+-- bits that follow one another; hold where the hazard mark follows them
 pub record Connection : Type 0 where
   pub terms : List Term
   pub hold : Bool
@@ -68,7 +68,7 @@ pub record WireStatement : Type 0 where
   pub max : Expression
   pub place : Place
 
--- An IF has its test, the statements behind THEN, those behind ELSE where ELSE is written, and its place.
+-- An IF has its test, the statements after THEN, those after ELSE where ELSE is written, and its place.
 mutual
   pub data Statement : Type 0 where
     Use : UseStatement → Statement
@@ -173,7 +173,7 @@ if_of = fold-IfStmt Statement Statement statement_layer if_layer
 abbrev pub statements_of : List Stmt → Statements
 statements_of ss = listed (map statement_of ss)
 
--- what stands behind ELSE, where ELSE is written
+-- what stands after ELSE, where ELSE is written
 abbrev pub else_of : Option (Vec Stmt) → Otherwise
 else_of None = no_else
 else_of (Some v) = else_ (statements_of v.items)

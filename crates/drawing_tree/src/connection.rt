@@ -36,7 +36,7 @@ pub type Terms = List<Term>;
 #[derive(Drop, PartialEq, Eq, Debug)]
 pub struct Conn {
     pub terms: Terms,
-    /// The hazard mark `!H` stands behind it.
+    /// The hazard mark `!H` follows it.
     pub hold: bool,
     pub place: Place,
 }

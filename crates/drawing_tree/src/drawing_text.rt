@@ -68,7 +68,7 @@ fn add_ins(alloc: Global, out: &mut Bytes, ins: &[Formal]) -> Result<(), NoMemor
     add_bracketed(alloc, out, b" (", b")", ins)
 }
 
-/// Puts the outputs of a macro behind an arrow at the end, where there are some.
+/// Appends an arrow and the outputs of a macro, where there are some.
 #[tactic(auto, using(crate::proofs::Joined::bracketed_if_some_map))]
 fn add_outs(alloc: Global, out: &mut Bytes, outs: &[Formal]) -> Result<(), NoMemory>
     ensures { OnOk result (out.new ≡ out.old ++ outputs_text formal_text (map formal_of outs.now)) }
@@ -89,7 +89,7 @@ fn add_head(alloc: Global, out: &mut Bytes, m: &MacroDef) -> Result<(), NoMemory
     out.extend(b";")
 }
 
-/// Puts the statements of a macro or of the drawing itself at the end, and the END behind them.
+/// Appends the statements of a macro or of the drawing itself, and the END after them.
 #[tactic(auto, unfolding(crate::specs::Canonical::body_lines))]
 fn add_body(alloc: Global, out: &mut Bytes, body: &[Stmt]) -> Result<(), NoMemory>
     ensures { OnOk result (out.new ≡ out.old ++ body_lines (statements_of body.now)) }

@@ -69,7 +69,7 @@ pub fn add_bracketed_if_some<T: Printed>(
     add_bracketed(alloc, out, before, behind, items)
 }
 
-/// Puts items at the end, one behind another.
+/// Appends items, one after another.
 pub fn add_each<T: Printed>(alloc: Global, out: &mut Bytes, items: &[T]) -> Result<(), NoMemory>
     ensures { OnOk result (out.new ≡ out.old ++ flat_map T.text items.now) }
 {

@@ -52,7 +52,7 @@ fn add_ins(alloc: Global, out: &mut Bytes, ins: &[Conn]) -> Result<(), NoMemory>
     add_bracketed(alloc, out, b" (", b")", ins)
 }
 
-/// Puts the outputs of a use behind an arrow at the end, where there are some.
+/// Appends an arrow and the outputs of a use, where there are some.
 #[tactic(auto, using(crate::proofs::Joined::bracketed_if_some_map))]
 fn add_outs(alloc: Global, out: &mut Bytes, outs: &[Conn]) -> Result<(), NoMemory>
     ensures { OnOk result (out.new ≡ out.old ++ outputs_text connection_text (map connection_of outs.now)) }
@@ -93,7 +93,7 @@ fn add_wire(alloc: Global, out: &mut Bytes, wire: &WireStmt) -> Result<(), NoMem
     out.extend(b";")
 }
 
-/// Puts a line at the end, behind its margin.
+/// Appends a line, after its margin.
 pub fn add_line(out: &mut Bytes, margin: &[u8], text: &[u8]) -> Result<(), NoMemory>
     ensures { OnOk result (out.new ≡ out.old ++ line margin.now text.now) }
 {
@@ -143,7 +143,7 @@ fn deeper(alloc: Global, margin: &[u8]) -> Result<Bytes, NoMemory>
     Ok(inside)
 }
 
-/// Puts the lines of a statement at the end, each behind the margin.
+/// Appends the lines of a statement, each after the margin.
 #[cycle(statement)]
 #[tactic(auto, using(crate::proofs::Views::view_use, crate::proofs::Views::view_wire, crate::proofs::Views::view_choice), unfolding(crate::specs::Canonical::statement_lines))]
 fn add_statement(
@@ -161,7 +161,7 @@ fn add_statement(
     }
 }
 
-/// Puts the lines of an IF at the end, each behind the margin, and what it holds two spaces further in.
+/// Appends the lines of an IF, each after the margin, and what it holds two spaces further in.
 #[cycle(statement)]
 #[tactic(auto, using(crate::proofs::Views::view_if), unfolding(crate::specs::Canonical::statement_lines))]
 fn add_if(alloc: Global, out: &mut Bytes, margin: &[u8], choice: &IfStmt) -> Result<(), NoMemory>
@@ -178,7 +178,7 @@ fn add_if(alloc: Global, out: &mut Bytes, margin: &[u8], choice: &IfStmt) -> Res
     add_line(out, margin, b"END;")
 }
 
-/// Puts the lines of statements at the end, each behind the margin.
+/// Appends the lines of statements, each after the margin.
 #[cycle(statement)]
 #[tactic(auto, unfolding(crate::specs::Canonical::statements_lines))]
 pub fn add_statements(

@@ -76,7 +76,7 @@ takes_on_line text s s' p read stands is at list place = read_more text s s' p r
   within = ends_within text s.at (size p) is;
 })
 
-begins_at : (b : ℕ) (xs : List ℕ) (i : ℕ) → begins_with b (drop i xs) ≡ true → get_or xs i 0 ≡ b
+pub begins_at : (b : ℕ) (xs : List ℕ) (i : ℕ) → begins_with b (drop i xs) ≡ true → get_or xs i 0 ≡ b
 begins_at b [] zero h = absurd cc
 begins_at b [] (suc i) h = absurd cc
 begins_at b (x ∷ xs) zero h = eqb-true x b h

@@ -9,3 +9,9 @@ pub mod Spelt
 pub mod Stands
 pub mod Longest
 pub mod Placed
+pub mod OneOf
+pub mod Caused
+pub mod OneKind
+pub mod Comments
+pub mod Apart
+mod Examples

@@ -15,7 +15,7 @@ use Rattle.scald_lex.proofs.Pieces.{chosen, dash_chosen, by_first_byte, IsOther,
 
 -- ---- how far a text of a kind may go
 
-both : (a b : Bool) → (a && b) ≡ true → (a ≡ true) × (b ≡ true)
+pub both : (a b : Bool) → (a && b) ≡ true → (a ≡ true) × (b ≡ true)
 both true true h = (refl, refl)
 both true false h = absurd cc
 both false b h = absurd cc
@@ -29,7 +29,7 @@ passes_all p (x ∷ xs) (suc n) h k =
     let rest : n ≤ prefix_len p xs = passes_all p xs n (omega arith) parts.1 in
     rw parts.0 (omega arith)
 
-word_bytes : (xs : List ℕ) → begins_word xs ≡ true → list_all is_word_byte xs ≡ true
+pub word_bytes : (xs : List ℕ) → begins_word xs ≡ true → list_all is_word_byte xs ≡ true
 word_bytes [] h = refl
 word_bytes (x ∷ xs) h = let parts = both (is_letter x) (list_all is_word_byte xs) h in rw (letter_in_word x parts.0, parts.1) refl
 
@@ -50,7 +50,7 @@ name_ends (x ∷ xs) (i ∷ is) (suc n) h e k =
 
 -- ---- what a text of two bytes and more begins with
 
-abbrev Begins : TokenKind → ℕ → Type 0
+abbrev pub Begins : TokenKind → ℕ → Type 0
 Begins Word b = is_letter b ≡ true
 Begins (Number n) b = is_digit b ≡ true
 Begins Name b = b ≡ quote
@@ -58,7 +58,7 @@ Begins Arrow b = b ≡ 45
 Begins (Symbol s) b = ⊥
 Begins End b = ⊥
 
-begins : (kind : TokenKind) (b c : ℕ) (xs : List ℕ) → Spells kind (b ∷ c ∷ xs) → Begins kind b
+pub begins : (kind : TokenKind) (b c : ℕ) (xs : List ℕ) → Spells kind (b ∷ c ∷ xs) → Begins kind b
 begins Word b c xs is = (both (is_letter b) (list_all is_word_byte (c ∷ xs)) is.form).0
 begins (Number n) b c xs is = (both (is_digit b) (list_all is_digit (c ∷ xs)) is.0.digits).0
 begins Name b c xs is = let e = is.marked in cc
@@ -130,7 +130,7 @@ dash_longest b c cs n d Arrow tip is = tip is
 dash_longest b c cs n d (Symbol s) tip is = begins (Symbol s) b c (take n cs) is
 dash_longest b c cs n d End tip is = begins End b c (take n cs) is
 
-not_byte : (b k : ℕ) → (b == k) ≡ false → b ≡ k → ⊥
+pub not_byte : (b k : ℕ) → (b == k) ≡ false → b ≡ k → ⊥
 not_byte b k f e = let t : (b == k) ≡ true = eq-eqb b k e in absurd cc
 
 other_longest : (b c : ℕ) (cs : List ℕ) (n : ℕ) → IsOther b → (other : TokenKind) → Spells other (b ∷ c ∷ take n cs) → ⊥
@@ -175,7 +175,7 @@ each_dash b c cs n d =
 each : (b c : ℕ) (cs : List ℕ) (n : ℕ) → EachAtMost b c cs n (piece_at (b ∷ c ∷ cs))
 each b c cs n = by_first_byte (EachAtMost b c cs n) b (c ∷ cs)
     (λ l. each_word b c cs n l) (λ _. tt) (λ _. tt) (λ d. each_number b c cs n d) (λ q. each_name b c cs n q) (λ d. each_dash b c cs n d)
-    (λ o _ other h k is. other_longest b c cs n o other is) tt
+    (λ o _ other h k is. other_longest b c cs n o other is) (λ _ _. tt)
 
 pub longest : TokensAreLongest
 longest [] kind count e other more h within is = absurd (omega arith)

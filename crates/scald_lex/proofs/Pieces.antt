@@ -28,6 +28,8 @@ chosen P false x y h k = k refl
 -- what is known of a first byte that is no letter, space, end of a line, digit, quote or dash
 pub record IsOther (b : ℕ) : Type 0 where
   pub letter : is_letter b ≡ false
+  pub space : is_space b ≡ false
+  pub ended : (b == line_end) ≡ false
   pub digit : is_digit b ≡ false
   pub quoted : (b == quote) ≡ false
   pub dash : (b == 45) ≡ false
@@ -35,7 +37,7 @@ pub record IsOther (b : ℕ) : Type 0 where
 pub by_first_byte : (P : Option Piece → Type 0) (b : ℕ) (bs : List ℕ) →
     (is_letter b ≡ true → P (word_at (b ∷ bs))) → (is_space b ≡ true → P (Some Space)) → ((b == line_end) ≡ true → P (Some LineEnd)) →
     (is_digit b ≡ true → P (number_at (b ∷ bs))) → ((b == quote) ≡ true → P (name_behind bs)) → ((b == 45) ≡ true → P (Some (dash_before bs))) →
-    (IsOther b → is_symbol b ≡ true → P (Some (Lexeme (Symbol b) 1))) → P None → P (piece_at (b ∷ bs))
+    (IsOther b → is_symbol b ≡ true → P (Some (Lexeme (Symbol b) 1))) → (IsOther b → is_symbol b ≡ false → P None) → P (piece_at (b ∷ bs))
 unfolding piece_at
 by_first_byte P b bs on_letter on_space on_end on_digit on_quote on_dash on_symbol on_none =
     let rest = b ∷ bs in
@@ -47,12 +49,13 @@ by_first_byte P b bs on_letter on_space on_end on_digit on_quote on_dash on_symb
     let line = cond (b == line_end) (Some LineEnd) number in
     let space = cond (is_space b) (Some Space) line in
     chosen P (is_letter b) (word_at rest) space on_letter (λ (l : is_letter b ≡ false).
-    chosen P (is_space b) (Some Space) line on_space (λ _.
-    chosen P (b == line_end) (Some LineEnd) number on_end (λ _.
+    chosen P (is_space b) (Some Space) line on_space (λ (s : is_space b ≡ false).
+    chosen P (b == line_end) (Some LineEnd) number on_end (λ (e : (b == line_end) ≡ false).
     chosen P (is_digit b) (number_at rest) name on_digit (λ (d : is_digit b ≡ false).
     chosen P (b == quote) (name_behind bs) dash on_quote (λ (q : (b == quote) ≡ false).
     chosen P (b == 45) (Some (dash_before bs)) symbol on_dash (λ (h : (b == 45) ≡ false).
-    chosen P (is_symbol b) (Some (Lexeme (Symbol b) 1)) other (on_symbol (record { letter = l; digit = d; quoted = q; dash = h })) (λ _. on_none)))))))
+    let is : IsOther b = record { letter = l; space = s; ended = e; digit = d; quoted = q; dash = h } in
+    chosen P (is_symbol b) (Some (Lexeme (Symbol b) 1)) other (on_symbol is) (on_none is)))))))
 
 pub dash_chosen : (P : Piece → Type 0) (b : Bool) (x y : Piece) → (b ≡ true → P x) → (b ≡ false → P y) → P (cond b x y)
 dash_chosen P true x y h k = h refl
@@ -117,7 +120,7 @@ does [] = tt
 does (b ∷ bs) = by_first_byte (Does (b ∷ bs)) b bs
     (λ h. word_does b bs h) (λ h. one_does b bs (unlike is_space line_end refl b h)) (λ h. h) (λ h. number_does b bs h)
     (λ h. name_does b bs (unlike (λ (a : ℕ). a == quote) line_end refl b h)) (λ h. dash_does b bs (unlike (λ (a : ℕ). a == 45) line_end refl b h))
-    (λ _ h. one_does b bs (unlike is_symbol line_end refl b h)) tt
+    (λ _ h. one_does b bs (unlike is_symbol line_end refl b h)) (λ _ _. tt)
 
 pub advances : (rest : List ℕ) (p : Piece) → piece_at rest ≡ Some p → Advances rest p
 advances rest p e = subst (λ (o : Option Piece). Does rest o) e (does rest)

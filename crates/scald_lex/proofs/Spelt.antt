@@ -39,7 +39,7 @@ all_pass p (x ∷ xs) = all_step p (p x) x xs (prefix_len p xs) refl (all_pass p
 front_is : (p : ℕ → Bool) (b : ℕ) (bs : List ℕ) → p b ≡ true → take (prefix_len p (b ∷ bs)) (b ∷ bs) ≡ b ∷ take (prefix_len p bs) bs
 front_is p b bs h = rw h (taken_on (prefix_len p bs) b bs)
 
-word_form : (b : ℕ) (bs : List ℕ) → is_letter b ≡ true → begins_word (take (prefix_len is_word_byte (b ∷ bs)) (b ∷ bs)) ≡ true
+pub word_form : (b : ℕ) (bs : List ℕ) → is_letter b ≡ true → begins_word (take (prefix_len is_word_byte (b ∷ bs)) (b ∷ bs)) ≡ true
 word_form b bs h = ap begins_word (front_is is_word_byte b bs (letter_in_word b h)) ∙ rw h (all_pass is_word_byte bs)
 
 word_spelt : (b : ℕ) (bs : List ℕ) → is_letter b ≡ true → IsSpelt (b ∷ bs) (word_at (b ∷ bs))
@@ -102,7 +102,7 @@ each_spelt : (rest : List ℕ) → IsSpelt rest (piece_at rest)
 unfolding piece_at
 each_spelt [] = tt
 each_spelt (b ∷ bs) = by_first_byte (IsSpelt (b ∷ bs)) b bs
-    (λ h. word_spelt b bs h) (λ _. tt) (λ _. tt) (λ h. number_spelt b bs h) (λ h. name_spelt b bs h) (λ h. dash_spelt b bs h) (λ _ h. (refl, h)) tt
+    (λ h. word_spelt b bs h) (λ _. tt) (λ _. tt) (λ h. number_spelt b bs h) (λ h. name_spelt b bs h) (λ h. dash_spelt b bs h) (λ _ h. (refl, h)) (λ _ _. tt)
 
 pub spelt : (rest : List ℕ) (p : Piece) → piece_at rest ≡ Some p → Spelt rest p
 spelt rest p e = subst (λ (o : Option Piece). IsSpelt rest o) e (each_spelt rest)

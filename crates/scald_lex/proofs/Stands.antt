@@ -26,7 +26,7 @@ lower : (text : List ℕ) (low from : ℕ) (ts : List Token) → low ≤ from �
 lower text low from [] h stand = omega arith
 lower text low from (t ∷ ts) h stand = let k = stand.0 in (omega arith, stand.1, stand.2)
 
-token_is : (text : List ℕ) (at : ℕ) (kind : TokenKind) (count : ℕ) → piece_at (drop at text) ≡ Some (Lexeme kind count) →
+pub token_is : (text : List ℕ) (at : ℕ) (kind : TokenKind) (count : ℕ) → piece_at (drop at text) ≡ Some (Lexeme kind count) →
     IsTokenOf text (record { kind = kind; place = place_at text at; start = at; end = at + count })
 token_is text at kind count h =
     let is = advance text at (Lexeme kind count) (before_end text at (Lexeme kind count) h) h in

@@ -17,7 +17,7 @@ is_space b = b == 9 || b == 13 || b == 32
 abbrev pub is_allowed : ℕ → Bool
 is_allowed b = is_printable b || b == 9 || b == 10 || b == 13
 
--- the mark before and behind a name
+-- the mark before and after a name
 abbrev pub quote : ℕ
 quote = 34
 
@@ -40,7 +40,7 @@ is_comment_byte b = not (b == line_end)
 abbrev pub is_symbol : ℕ → Bool
 is_symbol b = list_any (λ s. b == s) (codes ";:,()<>[]{}=+-*/&!")
 
--- The number that digits stand for, behind the digits of a number n.
+-- The number that digits stand for, after the digits of a number n.
 abbrev pub value_after : ℕ → List ℕ → ℕ
 value_after n [] = n
 value_after n (b ∷ bs) = value_after (n * 10 + (b - 48)) bs

@@ -4,3 +4,6 @@ pub mod Piece
 pub mod Tokens
 pub mod Scan
 pub mod Laws
+pub mod Between
+pub mod Causes
+pub mod Apart

@@ -33,7 +33,7 @@ abbrev pub tokens_of : List ℕ → ℕ → List Piece → List Token
 tokens_of text at [] = []
 tokens_of text at (p ∷ ps) = token_of text at p ++ tokens_of text (at + size p) ps
 
--- behind the last byte
+-- after the last byte
 abbrev pub end_token : List ℕ → Token
 end_token text = record { kind = End; place = place_at text (length text); start = length text; end = length text }
 

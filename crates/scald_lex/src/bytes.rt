@@ -18,7 +18,7 @@ pub fn is_digit(byte: u8) -> bool
     b'0' <= byte && byte <= b'9'
 }
 
-/// What may stand in a word behind its first letter: a letter, a digit or `_`.
+/// What may stand in a word after its first letter: a letter, a digit or `_`.
 pub fn is_word_byte(byte: u8) -> bool
     ensures { result ≡ is_word_byte byte }
 {

@@ -1,5 +1,6 @@
 //! Laws of the tokens of a text. The functions do nothing: what each states is its contract.
 
+ghost use Rattle.scald_lex.specs.Apart.{BadTokenAtFirstCause, TokensAreApart};
 ghost use Rattle.scald_lex.specs.Laws.{OneList, NotBoth, OneRefusal, RefusalsArePlaced, TokensAreLongest, TokensArePlaced, TokensOrRefusal, TokensStand};
 
 /// A text has one list of tokens.
@@ -40,4 +41,15 @@ pub fn refusals_are_placed()
 /// A token stands at the place of a byte of the text, or of its end.
 pub fn tokens_are_placed()
     ensures { TokensArePlaced }
+{}
+
+/// The tokens of a text are those that stand apart in it: blanks and comments lie between them, and nothing else.
+pub fn tokens_are_apart()
+    ensures { TokensAreApart }
+{}
+
+/// A text is refused as `BadToken` exactly at its first cause: a name that is not closed, a word or number
+/// that is too long, or a byte that begins no token.
+pub fn bad_token_at_first_cause()
+    ensures { BadTokenAtFirstCause }
 {}

@@ -1,4 +1,4 @@
-//! What stands in front of a rest of a text.
+//! The piece that the rest of a text begins with.
 
 ghost use Rattle.std.specs.Prelude.{◌≡◌, ◌≤◌, ◌<◌, ◌^◌, ◌-◌, min, length};
 ghost use Rattle.std.specs.List.{prefix_len};

@@ -5,7 +5,7 @@ ghost use Rattle.scald_base.specs.declared.refusal.Stop.TheVariants.{NoMemory as
 ghost use Rattle.scald_base.specs.declared.refusal.Refusal.{Refusal};
 ghost use Rattle.scald_lex.specs.declared.token.Token.{Token};
 ghost use Rattle.scald_lex.specs.declared.token.TokenKind.TheVariants.{End};
-ghost use Rattle.scald_lex.specs.Place.{first_place, next_place, place_behind};
+ghost use Rattle.scald_lex.specs.Place.{first_place, next_place, place_behind, IsPlacedStop};
 ghost use Rattle.scald_lex.specs.Tokens.{IsAllowed, IsBadByte, AreTokens, IsRefused};
 ghost use Rattle.scald_lex.specs.Scan.{IsRead, IsStop, GivesList, GivesRefusal};
 
@@ -17,11 +17,12 @@ use std::alloc::Global;
 
 /// The tokens of the text, the last of which is its end. Refused are, with their places, `BadByte` before
 /// any token is looked at, and `BadToken` where no token begins, or one that is too long, too large or not
-/// closed. It takes memory for the list alone.
+/// closed. A refusal has the place of a byte of the text. It takes memory for the list alone.
 pub fn tokens(alloc: Global, text: &[u8]) -> Result<TokenList, Stop>
     requires { length text.now < 2 ^ 32 - 1 }
     ensures found { IfOk result (λ list. AreTokens text.now list) }
     ensures refused { IfErr result (λ stop. IsStop text.now stop) }
+    ensures placed { IfErr result (λ stop. IsPlacedStop text.now stop) }
     ensures only_list { (list : List Token) → AreTokens text.now list → GivesList list result }
     ensures only_refusal { (r : Refusal) → IsRefused text.now r → GivesRefusal r result }
 {
@@ -73,7 +74,7 @@ fn bad_byte(text: &[u8]) -> Option<usize>
     None
 }
 
-/// The place behind the front of a text.
+/// The place after the first bytes of a text.
 fn place_of(front: &[u8]) -> Place
     requires { length front.now < 2 ^ 32 - 1 }
     ensures { result ≡ place_behind first_place front.now }
@@ -85,7 +86,7 @@ fn place_of(front: &[u8]) -> Place
     place
 }
 
-/// The place behind a byte.
+/// The place after a byte.
 fn behind_byte(place: Place, byte: u8) -> Place
     requires line { place.line + 1 < 2 ^ 32 }
     requires col { place.col + 1 < 2 ^ 32 }
@@ -167,7 +168,7 @@ impl Scan {
         self.place.col += count as u32;
     }
 
-    /// Goes behind the end of the line.
+    /// Goes past the end of the line.
     fn end_line(&mut self)
         requires at { self.old.at + 1 < 2 ^ 32 }
         requires line { self.old.place.line + 1 < 2 ^ 32 }

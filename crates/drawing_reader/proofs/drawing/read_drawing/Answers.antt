@@ -1,37 +1,20 @@
-use Rattle.std.proofs.Common.{sym, refl}
-use Rattle.drawing_reader.specs.Sketched.{sketch_of}
-use Rattle.drawing_grammar.proofs.Drawn.{stop_of_grammar, header_wrong, name_wrong, double_wrong, draws_it}
-use Rattle.drawing_reader.proofs.Slices.{names_of_slice, good_of_slice, double_of_slices, distinct_of_slices}
-use Rattle.drawing_grammar.proofs.Again.{law}
-use Rattle.drawing_grammar.proofs.Different.{well_formed}
+use Rattle.drawing_reader.proofs.Given.{formed, again, at_token, placed, only_drawing, only_refusal}
 use Rattle.drawing_reader.proofs.drawing.read_drawing.Goals as goal
 
-pub returns-in-Err-clause-refused : goal.returns-in-Err-clause-refused
-returns-in-Err-clause-refused c = stop_of_grammar _ _ c.in-Err.ensures.refused
-
-pub returns-in-Err-judged_header-clause-refused : goal.returns-in-Err-judged_header-clause-refused
-returns-in-Err-judged_header-clause-refused c = header_wrong _ (sketch_of c.in-Ok.sketch) _ c.in-Ok.ensures.found (sym c.in-Err-judged_header.ensures)
-
-pub returns-in-Err-judged_names-clause-refused : goal.returns-in-Err-judged_names-clause-refused
-returns-in-Err-judged_names-clause-refused c =
-    name_wrong _ (sketch_of c.in-Ok.sketch) _ _ c.in-Ok.ensures.found (sym c.in-Ok-judged_header.ensures)
-    (names_of_slice _ _ _ _ _ c.as_slice.ensures c.in-Err-judged_names.ensures)
-
-pub returns-in-Err-distinct_names-clause-refused : goal.returns-in-Err-distinct_names-clause-refused
-returns-in-Err-distinct_names-clause-refused c =
-    double_wrong _ (sketch_of c.in-Ok.sketch) _ _ c.in-Ok.ensures.found (sym c.in-Ok-judged_header.ensures)
-    (good_of_slice _ _ _ _ c.as_slice.ensures c.in_default.ensures)
-    (double_of_slices _ _ _ _ _ _ c.as_slice-2.ensures c.as_slice-3.ensures.value c.in-Err-distinct_names.ensures)
-
-pub returns-clause-drawn : goal.returns-clause-drawn
-returns-clause-drawn c =
-    draws_it _ (sketch_of c.in-Ok.sketch) _ _ c.in-Ok.ensures.found (sym c.in-Ok-judged_header.ensures)
-    (good_of_slice _ _ _ _ c.as_slice.ensures c.in_default.ensures)
-    (distinct_of_slices _ _ _ _ _ c.as_slice-2.ensures c.as_slice-3.ensures.value c.in_default-distinct_names.ensures) refl
-
 pub returns-clause-formed : goal.returns-clause-formed
-returns-clause-formed c = well_formed c.args.text.now c.args.tokens.now _ c.requires (returns-clause-drawn c)
+returns-clause-formed c = formed c.args.text.now c.args.tokens.now c.judged_drawing.result c.requires c.judged_drawing.ensures.drawn
 
 pub returns-clause-again : goal.returns-clause-again
-returns-clause-again c shallow =
-    law c.args.text.now _ (record { tokens = c.args.tokens.now; are = c.requires; draws = returns-clause-drawn c }) shallow
+returns-clause-again c = again c.args.text.now c.args.tokens.now c.judged_drawing.result c.requires c.judged_drawing.ensures.drawn
+
+pub returns-clause-at_token : goal.returns-clause-at_token
+returns-clause-at_token c = at_token c.args.text.now c.args.tokens.now c.judged_drawing.result c.judged_drawing.ensures.refused
+
+pub returns-clause-placed : goal.returns-clause-placed
+returns-clause-placed c = placed c.args.text.now c.args.tokens.now c.judged_drawing.result c.requires c.judged_drawing.ensures.refused
+
+pub returns-clause-only_drawing : goal.returns-clause-only_drawing
+returns-clause-only_drawing c = only_drawing c.args.text.now c.args.tokens.now c.judged_drawing.result c.judged_drawing.ensures.drawn c.judged_drawing.ensures.refused
+
+pub returns-clause-only_refusal : goal.returns-clause-only_refusal
+returns-clause-only_refusal c = only_refusal c.args.text.now c.args.tokens.now c.judged_drawing.result c.judged_drawing.ensures.drawn c.judged_drawing.ensures.refused

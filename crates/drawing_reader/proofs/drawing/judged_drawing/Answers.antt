@@ -1,0 +1,28 @@
+use Rattle.std.proofs.Common.{sym, refl}
+use Rattle.drawing_reader.specs.Sketched.{sketch_of}
+use Rattle.drawing_grammar.proofs.Drawn.{stop_of_grammar, header_wrong, name_wrong, double_wrong, draws_it}
+use Rattle.drawing_reader.proofs.Slices.{names_of_slice, good_of_slice, double_of_slices, distinct_of_slices}
+use Rattle.drawing_reader.proofs.drawing.judged_drawing.Goals as goal
+
+pub returns-in-Err-clause-refused : goal.returns-in-Err-clause-refused
+returns-in-Err-clause-refused c = stop_of_grammar _ _ c.in-Err.ensures.refused
+
+pub returns-in-Err-judged_header-clause-refused : goal.returns-in-Err-judged_header-clause-refused
+returns-in-Err-judged_header-clause-refused c = header_wrong _ (sketch_of c.in-Ok.sketch) _ c.in-Ok.ensures.found (sym c.in-Err-judged_header.ensures)
+
+pub returns-in-Err-judged_names-clause-refused : goal.returns-in-Err-judged_names-clause-refused
+returns-in-Err-judged_names-clause-refused c =
+    name_wrong _ (sketch_of c.in-Ok.sketch) _ _ c.in-Ok.ensures.found (sym c.in-Ok-judged_header.ensures)
+    (names_of_slice _ _ _ _ _ c.as_slice.ensures c.in-Err-judged_names.ensures)
+
+pub returns-in-Err-distinct_names-clause-refused : goal.returns-in-Err-distinct_names-clause-refused
+returns-in-Err-distinct_names-clause-refused c =
+    double_wrong _ (sketch_of c.in-Ok.sketch) _ _ c.in-Ok.ensures.found (sym c.in-Ok-judged_header.ensures)
+    (good_of_slice _ _ _ _ c.as_slice.ensures c.in_default.ensures)
+    (double_of_slices _ _ _ _ _ _ c.as_slice-2.ensures c.as_slice-3.ensures.value c.in-Err-distinct_names.ensures)
+
+pub returns-clause-drawn : goal.returns-clause-drawn
+returns-clause-drawn c =
+    draws_it _ (sketch_of c.in-Ok.sketch) _ _ c.in-Ok.ensures.found (sym c.in-Ok-judged_header.ensures)
+    (good_of_slice _ _ _ _ c.as_slice.ensures c.in_default.ensures)
+    (distinct_of_slices _ _ _ _ _ c.as_slice-2.ensures c.as_slice-3.ensures.value c.in_default-distinct_names.ensures) refl
