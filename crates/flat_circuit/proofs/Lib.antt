@@ -1,3 +1,14 @@
+pub mod Moved
+pub mod Parts
+pub mod Instancewise
+pub mod Deciding
+pub mod RunTest
+pub mod RunTables
+pub mod GateRuns
+pub mod StorageRuns
+pub mod ChangeRuns
+pub mod ChoiceRuns
+pub mod AnyLength
 pub mod Examples
 pub mod Walk
 pub mod Driven

@@ -21,7 +21,7 @@ abbrev pub number_of_bits : List Bool → ℕ
 number_of_bits [] = 0
 number_of_bits (b ∷ bs) = (if b then 2 ^ length bs else 0) + number_of_bits bs
 
--- behind so many selects, the input that they number
+-- after so many selects, the input that they number
 abbrev pub selected : ℕ → List Bool → Bool
 selected selects bits = nth_bit bits (selects + number_of_bits (take selects bits))
 
@@ -33,11 +33,22 @@ gate_bit Xor bits = parity bits
 gate_bit Mux2 bits = selected 1 bits
 gate_bit Mux4 bits = selected 2 bits
 gate_bit Mux8 bits = selected 3 bits
-gate_bit kind bits = false
+gate_bit Chg bits = false
+gate_bit Reg bits = false
+gate_bit RegRs bits = false
+gate_bit Latch bits = false
+gate_bit LatchRs bits = false
+gate_bit SetupHold bits = false
+gate_bit RiseFall bits = false
+gate_bit MinPulse bits = false
 
 -- what signals show at a tick
 abbrev pub bits_at : List Signal → ℕ → List Bool
 bits_at signals t = map (λ x. x t) signals
+
+-- the bit is that of the gate, of what all pins show at the tick
+abbrev pub Follows : Kind → List Signal → ℕ → Bool → Type 0
+Follows kind signals s output = output ≡ gate_bit kind (bits_at signals s)
 
 -- ---- storage: by the old output too
 
@@ -63,6 +74,11 @@ IsForced true false free output = output ≡ true
 IsForced false true free output = output ≡ false
 IsForced false false free output = output ≡ free
 
+-- the same of the set at pin 2 and the reset at pin 3
+abbrev pub IsSetReset : List Signal → ℕ → Bool → Bool → Type 0
+IsSetReset signals s free output =
+    IsForced (nth_signal signals 2 s) (nth_signal signals 3 s) free output
+
 -- ---- change functions
 
 -- no signal steps at the tick
@@ -78,15 +94,26 @@ IsInReach bounds t u = (u + bounds.min ≤ t) × (t ≤ u + bounds.max)
 -- The pins' signals stand in their order, and the delay is the one of the run, which a change function has not. A
 -- checker has no output.
 abbrev pub Equation : Kind → Bounds → ℕ → List Signal → Signal → ℕ → Type 0
-Equation Chg bounds delay signals output t = ((u : ℕ) → IsInReach bounds t u → AreStill signals u) → output (t - 1) ≡ output t
-Equation Reg bounds delay signals output t = output t ≡ registered signals (t - delay) (output (t - 1))
-Equation RegRs bounds delay signals output t = IsForced (nth_signal signals 2 (t - delay)) (nth_signal signals 3 (t - delay)) (registered signals (t - delay) (output (t - 1))) (output t)
-Equation Latch bounds delay signals output t = output t ≡ latched signals (t - delay) (output (t - 1))
-Equation LatchRs bounds delay signals output t = IsForced (nth_signal signals 2 (t - delay)) (nth_signal signals 3 (t - delay)) (latched signals (t - delay) (output (t - 1))) (output t)
+Equation Buf bounds delay signals output t = Follows Buf signals (t - delay) (output t)
+Equation And bounds delay signals output t = Follows And signals (t - delay) (output t)
+Equation Or bounds delay signals output t = Follows Or signals (t - delay) (output t)
+Equation Xor bounds delay signals output t = Follows Xor signals (t - delay) (output t)
+Equation Mux2 bounds delay signals output t = Follows Mux2 signals (t - delay) (output t)
+Equation Mux4 bounds delay signals output t = Follows Mux4 signals (t - delay) (output t)
+Equation Mux8 bounds delay signals output t = Follows Mux8 signals (t - delay) (output t)
+Equation Chg bounds delay signals output t =
+    ((u : ℕ) → IsInReach bounds t u → AreStill signals u) → output (t - 1) ≡ output t
+Equation Reg bounds delay signals output t =
+    output t ≡ registered signals (t - delay) (output (t - 1))
+Equation RegRs bounds delay signals output t =
+    IsSetReset signals (t - delay) (registered signals (t - delay) (output (t - 1))) (output t)
+Equation Latch bounds delay signals output t =
+    output t ≡ latched signals (t - delay) (output (t - 1))
+Equation LatchRs bounds delay signals output t =
+    IsSetReset signals (t - delay) (latched signals (t - delay) (output (t - 1))) (output t)
 Equation SetupHold bounds delay signals output t = ⊤
 Equation RiseFall bounds delay signals output t = ⊤
 Equation MinPulse bounds delay signals output t = ⊤
-Equation kind bounds delay signals output t = output t ≡ gate_bit kind (bits_at signals (t - delay))
 
 -- ---- the ticks that it names
 
@@ -94,16 +121,29 @@ Equation kind bounds delay signals output t = output t ≡ gate_bit kind (bits_a
 abbrev pub pins_before : ℕ → List ℕ → List ℕ
 pins_before delay wires = map (λ wire. delay + wire) wires
 
+-- how many ticks before t a register's clock is looked at for the bit before its step
+abbrev pub clock_before : ℕ → List ℕ → ℕ
+clock_before delay wires = delay + 1 + slice_index_or wires 0 0
+
 -- How many ticks before t lie the ticks that the equation names, whatever the bits are. The wires' delays stand in the
 -- order of the pins, 0 for a constant. A step at a tick names the tick before, too: a register's clock, and each pin
 -- of a change function, of whose steps the earliest counts.
 abbrev pub named_before : Kind → Bounds → ℕ → List ℕ → List ℕ
+named_before Buf bounds delay wires = pins_before delay wires
+named_before And bounds delay wires = pins_before delay wires
+named_before Or bounds delay wires = pins_before delay wires
+named_before Xor bounds delay wires = pins_before delay wires
+named_before Mux2 bounds delay wires = pins_before delay wires
+named_before Mux4 bounds delay wires = pins_before delay wires
+named_before Mux8 bounds delay wires = pins_before delay wires
 named_before Chg bounds delay wires = 1 ∷ pins_before (bounds.max + 1) wires
-named_before Reg bounds delay wires = 1 ∷ (delay + 1 + slice_index_or wires 0 0) ∷ pins_before delay wires
-named_before RegRs bounds delay wires = 1 ∷ (delay + 1 + slice_index_or wires 0 0) ∷ pins_before delay wires
+named_before Reg bounds delay wires = 1 ∷ clock_before delay wires ∷ pins_before delay wires
+named_before RegRs bounds delay wires = 1 ∷ clock_before delay wires ∷ pins_before delay wires
 named_before Latch bounds delay wires = 1 ∷ pins_before delay wires
 named_before LatchRs bounds delay wires = 1 ∷ pins_before delay wires
-named_before kind bounds delay wires = pins_before delay wires
+named_before SetupHold bounds delay wires = pins_before delay wires
+named_before RiseFall bounds delay wires = pins_before delay wires
+named_before MinPulse bounds delay wires = pins_before delay wires
 
 -- An equation is asked only where every tick that it names is 0 or later: nothing is said of the start.
 abbrev pub IsAsked : Kind → Bounds → ℕ → List ℕ → ℕ → Type 0

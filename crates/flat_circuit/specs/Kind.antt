@@ -7,16 +7,39 @@ use Rattle.flat_circuit.specs.declared.instance.Pin.{Pin}
 
 -- checkers have no output
 abbrev pub has_output : Kind → Bool
+has_output Buf = true
+has_output And = true
+has_output Or = true
+has_output Xor = true
+has_output Mux2 = true
+has_output Mux4 = true
+has_output Mux8 = true
+has_output Chg = true
+has_output Reg = true
+has_output RegRs = true
+has_output Latch = true
+has_output LatchRs = true
 has_output SetupHold = false
 has_output RiseFall = false
 has_output MinPulse = false
-has_output kind = true
 
 -- The pins, by their places, that an output changes with: all but a register's input, which counts at its clock's rise.
 abbrev pub listens : Kind → ℕ → Bool
+listens Buf place = true
+listens And place = true
+listens Or place = true
+listens Xor place = true
+listens Mux2 place = true
+listens Mux4 place = true
+listens Mux8 place = true
+listens Chg place = true
 listens Reg place = not (place == 1)
 listens RegRs place = not (place == 1)
-listens kind place = true
+listens Latch place = true
+listens LatchRs place = true
+listens SetupHold place = true
+listens RiseFall place = true
+listens MinPulse place = true
 
 -- the least and the greatest number of pins; a change function has up to 16 connections of up to 256 bits
 abbrev pub pin_counts : Kind → ℕ × ℕ
@@ -38,9 +61,21 @@ pin_counts MinPulse = (1, 1)
 
 -- how many pins may be marked `!H`
 abbrev pub greatest_marks : Kind → ℕ
+greatest_marks Buf = 0
 greatest_marks And = 1
 greatest_marks Or = 1
-greatest_marks kind = 0
+greatest_marks Xor = 0
+greatest_marks Mux2 = 0
+greatest_marks Mux4 = 0
+greatest_marks Mux8 = 0
+greatest_marks Chg = 0
+greatest_marks Reg = 0
+greatest_marks RegRs = 0
+greatest_marks Latch = 0
+greatest_marks LatchRs = 0
+greatest_marks SetupHold = 0
+greatest_marks RiseFall = 0
+greatest_marks MinPulse = 0
 
 -- pins that a kind may have
 pub record PinsFit (k : Kind) (ps : List Pin) : Type 0 where
@@ -50,7 +85,18 @@ pub record PinsFit (k : Kind) (ps : List Pin) : Type 0 where
 
 -- A checker's limits: setup and hold together, and a pulse's width, are at most a period.
 abbrev pub LimitsFit : Header → Kind → ℕ × ℕ → Type 0
+LimitsFit h Buf l = ⊤
+LimitsFit h And l = ⊤
+LimitsFit h Or l = ⊤
+LimitsFit h Xor l = ⊤
+LimitsFit h Mux2 l = ⊤
+LimitsFit h Mux4 l = ⊤
+LimitsFit h Mux8 l = ⊤
+LimitsFit h Chg l = ⊤
+LimitsFit h Reg l = ⊤
+LimitsFit h RegRs l = ⊤
+LimitsFit h Latch l = ⊤
+LimitsFit h LatchRs l = ⊤
 LimitsFit h SetupHold l = l.0 + l.1 ≤ period h
 LimitsFit h RiseFall l = l.0 + l.1 ≤ period h
 LimitsFit h MinPulse l = (l.0 ≤ period h) × (l.1 ≤ period h)
-LimitsFit h kind l = ⊤

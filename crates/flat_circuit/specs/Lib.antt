@@ -5,6 +5,7 @@ pub mod Instances
 pub mod Loop
 pub mod Circuit
 pub mod Run
+pub mod Laws
 pub mod Builder
 pub mod Search
 pub mod Steps

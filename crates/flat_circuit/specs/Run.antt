@@ -5,7 +5,7 @@ use Rattle.scald_base.specs.Signal.{Signal, turned}
 use Rattle.vector_names.specs.declared.bits.Target.{Target}
 use Rattle.vector_names.specs.declared.bits.Target.TheVariants.{Net as OnNet, Constant}
 use Rattle.flat_circuit.specs.declared.kind.Kind.{Kind}
-use Rattle.flat_circuit.specs.declared.kind.Kind.TheVariants.{Chg, SetupHold, RiseFall, MinPulse}
+use Rattle.flat_circuit.specs.declared.kind.Kind.TheVariants.{Buf, And, Or, Xor, Mux2, Mux4, Mux8, Chg, Reg, RegRs, Latch, LatchRs, SetupHold, RiseFall, MinPulse}
 use Rattle.flat_circuit.specs.declared.instance.Pin.{Pin}
 use Rattle.flat_circuit.specs.declared.instance.Instance.{Instance}
 use Rattle.flat_circuit.specs.declared.net.Net.{Net}
@@ -51,11 +51,21 @@ Within d n = (d.min ≤ n) × (n ≤ d.max)
 -- An instance has one delay for the whole of a run. A change function has none, since each of its changes may come
 -- after another delay, and a checker has none.
 abbrev pub DelayFits : Kind → Bounds → ℕ → Type 0
+DelayFits Buf d n = Within d n
+DelayFits And d n = Within d n
+DelayFits Or d n = Within d n
+DelayFits Xor d n = Within d n
+DelayFits Mux2 d n = Within d n
+DelayFits Mux4 d n = Within d n
+DelayFits Mux8 d n = Within d n
 DelayFits Chg d n = ⊤
+DelayFits Reg d n = Within d n
+DelayFits RegRs d n = Within d n
+DelayFits Latch d n = Within d n
+DelayFits LatchRs d n = Within d n
 DelayFits SetupHold d n = ⊤
 DelayFits RiseFall d n = ⊤
 DelayFits MinPulse d n = ⊤
-DelayFits kind d n = Within d n
 
 abbrev pub net_wire_fits : Option Net → ℕ → Type 0
 net_wire_fits None w = ⊥

@@ -84,7 +84,7 @@ abbrev pub Chain : List Node → List Mark → List Frame → ℕ → Type 0
 Chain nodes marks [] child = Unit {0}
 Chain nodes marks (f ∷ fs) child = Waits nodes marks f child × Chain nodes marks fs f.node
 
--- what the search knows at a node, `at` of whose feeders it has passed, with these frames behind it
+-- what the search knows at a node, `at` of whose feeders it has passed, with these frames below it
 pub record Searching (nodes : List Node) (start marks : List Mark) (fs : List Frame) (node at : ℕ) : Type 0 where
   pub marks_are : AreMarks nodes marks
   pub node_in : node < length nodes

@@ -46,7 +46,7 @@ StopsAtTaken js (Refused r) = (r.kind ≡ TwoDrivers) × IsFirst (IsTaken js) js
 
 -- ---- what passes on at once
 
--- the driver behind a pin, where it passes on at once
+-- the driver of what a pin is on, where it passes on without delay
 abbrev pub if_at_once : List Instance → Option ℕ → Option ℕ
 if_at_once js None = None
 if_at_once js (Some d) = if least_delay_at js d == 0 then Some d else None

@@ -45,7 +45,7 @@ impl Model for Builder {
 }
 
 impl Builder {
-    /// A builder of a circuit with this header, which takes no memory yet.
+    /// A builder of a circuit with this header. It needs no allocation yet.
     pub fn new(alloc: Global, header: Header) -> Builder
         ensures { result ≡ empty header }
     {
@@ -156,7 +156,7 @@ impl Builder {
     /// Adds an instance, and says its number. `TooMany` comes exactly where it would be the 65,537th
     /// with an output, or the 65,537th checker, or there would be more than 1,048,576 pins; its place is
     /// the instance's. After a refusal, or where memory runs out, the builder is as before, and the
-    /// instance is let go.
+    /// instance is dropped.
     pub fn instance(&mut self, instance: Instance) -> Result<u32, Stop>
         requires { InstanceFits self.old.header (length self.old.names) instance }
         ensures given { IfOk result (GivesInstance self.old self.new instance) }

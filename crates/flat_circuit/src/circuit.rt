@@ -94,7 +94,7 @@ impl Circuit {
         }
     }
 
-    /// The number of the net at a place from 0 in the order of names, or `None` exactly past the last.
+    /// The number of the net at a place from 0 in name order, or `None` exactly past the last.
     pub fn by_name(&self, k: u32) -> Option<u32>
         ensures { result ≡ slice_get self.now.order k }
     {

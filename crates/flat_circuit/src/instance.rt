@@ -18,7 +18,7 @@ pub type Pins = List<Pin>;
 /// One bit of an element or of a checker.
 #[derive(Drop, PartialEq, Eq, Debug)]
 pub struct Instance {
-    /// The labels of the scopes from the drawing down, each with a slash behind it, and its own label.
+    /// The labels of the scopes from the drawing down, each with a slash after it, and its own label.
     pub path: Bytes,
     /// Which bit of the width it is, from 0.
     pub bit: u16,

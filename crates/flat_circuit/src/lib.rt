@@ -15,6 +15,7 @@ mod fault;
 mod finish;
 mod instance;
 mod kind;
+mod laws;
 mod net;
 mod net_table;
 mod order;
@@ -29,5 +30,8 @@ pub use circuit::Circuit;
 pub use fault::{Fault, Faults, PointKind};
 pub use instance::{Instance, Pin, Pins};
 pub use kind::Kind;
+pub use laws::{
+    fronts_are_runs, later_parts_are_runs, runs_go_by_instances, unnamed_bits_are_free,
+};
 pub use net::Net;
 pub use vector_names::Target;

@@ -5,7 +5,7 @@ use scald_base::{AssertSpec, Bytes, Delay};
 /// One bit of a signal.
 #[derive(Drop, PartialEq, Eq, Debug)]
 pub struct Net {
-    /// The labels of the scopes from the drawing down, each with a slash behind it, and the base name.
+    /// The labels of the scopes from the drawing down, each with a slash after it, and the base name.
     /// A global's name is its base, which begins with a slash.
     pub name: Bytes,
     /// Its number in the vector.

@@ -106,7 +106,7 @@ fn push_some(list: &mut Vec<usize>, value: Option<usize>) -> Result<(), NoMemory
     Ok(())
 }
 
-// The driver behind a pin, where it passes on at once.
+// The driver of what a pin is on, where it passes on without delay.
 fn quick(
     nets: &NetTable,
     drivers: &[Option<u32>],

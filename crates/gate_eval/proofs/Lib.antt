@@ -14,3 +14,5 @@ pub mod Found
 pub mod Chosen
 pub mod Few
 pub mod Folding
+pub mod PermitExamples
+pub mod HoldExamples

@@ -1,5 +1,5 @@
 -- The waves of several pins meet in an element. Where at most one of them moves, its skew is kept beside the slots;
--- where more do, each is folded first, since they may come late apart from each other.
+-- where more do, each is folded first, since each may be late by its own amount.
 use Rattle.std.specs.Prelude.{◌≡◌, ℕ, not, All, List, [], ◌∷◌, length, map, filter, Option, Some, None}
 use Rattle.wave_core.specs.Cell.{Cells}
 use Rattle.wave_core.specs.Slots.{slots}

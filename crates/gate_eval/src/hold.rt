@@ -102,7 +102,7 @@ fn disturber_at<W: CyclicWave<Item = Value>>(
     None
 }
 
-/// A slot behind this one, before which each slot may hold what this one may, however late the wave
+/// A slot after this one, before which each slot may hold what this one may, however late the wave
 /// comes: up to it no change comes into what is folded, and none leaves it.
 fn same_fold_until<W: CyclicWave<Item = Value>>(wave: &Skewed<W>, slot: u16) -> u16
     requires { slot < length (W.cells wave.now.wave) }
@@ -116,7 +116,7 @@ fn same_fold_until<W: CyclicWave<Item = Value>>(wave: &Skewed<W>, slot: u16) -> 
     min(coming, slot + (leaving - first))
 }
 
-/// A slot behind this one, before which each pin may hold in each slot what it may in this one, or the
+/// A slot after this one, before which each pin may hold in each slot what it may in this one, or the
 /// period.
 fn next_fold_change<W: CyclicWave<Item = Value>>(pins: &[PinWave<W>], slot: u16, period: u16) -> u16
     requires slot { slot < period }

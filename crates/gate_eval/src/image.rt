@@ -39,7 +39,7 @@ impl Image for FromLeft {
     }
 }
 
-/// One of two inputs behind a select.
+/// One of two inputs, after a select.
 #[derive(Drop)]
 pub struct OfTwo;
 
@@ -54,7 +54,7 @@ impl Image for OfTwo {
     }
 }
 
-/// One of four inputs behind two selects, the most significant first.
+/// One of four inputs, after two selects, the most significant first.
 #[derive(Drop)]
 pub struct OfFour;
 
@@ -73,7 +73,7 @@ impl Image for OfFour {
     }
 }
 
-/// One of eight inputs behind three selects, the most significant first.
+/// One of eight inputs, after three selects, the most significant first.
 #[derive(Drop)]
 pub struct OfEight;
 

@@ -102,7 +102,7 @@ fn read_slot<W: CyclicWave<Item = Value>>(
     Ok(())
 }
 
-/// The first slot behind this one in which some wave has another value, or the period.
+/// The first slot after this one in which some wave has another value, or the period.
 pub fn next_change<W: CyclicWave<Item = Value>>(waves: &[W], slot: u16, period: u16) -> u16
     requires slot { slot < period }
     requires waves { All (λ w. length (W.cells w) ≡ period) waves.now }
@@ -118,7 +118,7 @@ pub fn next_change<W: CyclicWave<Item = Value>>(waves: &[W], slot: u16, period: 
     next
 }
 
-/// Puts so many slots of a value behind the others.
+/// Appends so many slots of a value.
 fn push_slots(cells: &mut Vec<Value>, value: Value, count: u16) -> Result<(), NoMemory>
     ensures { OnOk result (cells.new.items ≡ cells.old.items ++ replicate count value) }
 {
