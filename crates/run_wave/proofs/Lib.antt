@@ -5,3 +5,4 @@ mod Turned
 mod Marks
 mod Zipped
 mod Doubled
+mod Examples

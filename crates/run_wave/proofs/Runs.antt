@@ -1,6 +1,8 @@
 -- What becomes of the cells of a list of runs when runs are put behind it, widened, taken and left out.
 use Rattle.std.proofs.Common.{◌≡◌, ℕ, zero, suc, ◌+◌, ◌-◌, ◌<◌, ◌≤◌, List, [], ◌∷◌, ◌++◌, length, get_or, take, drop, set, refl, sym, ap, ◌∙◌, arith, min}
 use Rattle.std.specs.Prelude.{replicate}
+use Rattle.std.specs.List.{sum_by}
+use Rattle.std.proofs.lemmas.List.Sums.{sum_by-cons}
 use Rattle.std.proofs.lemmas.List.{append_assoc, replicate-append-replicate, length-replicate, length-append, take_more, drop_more, take-append-drop, length-take, length-drop, drop-replicate, append-nil}
 use Rattle.run_wave.specs.declared.run.Run.{Run}
 use Rattle.run_wave.specs.Run.{cells_of, BeginsWithout, IsRuns, EndsWith}
@@ -10,6 +12,12 @@ module _ {T : Type 0} where
   cells_of-append [] ss = refl
   cells_of-append (r ∷ rs) ss =
       ap (λ (l : List T). replicate r.width r.cell ++ l) (cells_of-append rs ss) ∙ sym (append_assoc (replicate r.width r.cell) (cells_of rs) (cells_of ss))
+
+  pub widths_sum : (rs : List (Run T)) → sum_by (λ (r : Run T). r.width) rs ≡ length (cells_of rs)
+  widths_sum [] = refl
+  widths_sum (r ∷ rs) =
+      sum_by-cons (λ (s : Run T). s.width) r rs ∙ (λ i. r.width + widths_sum rs i)
+      ∙ sym (length-append (replicate r.width r.cell) (cells_of rs) ∙ ap (λ (n : ℕ). n + length (cells_of rs)) (length-replicate r.width r.cell))
 
   pub cells_of-one : (r : Run T) → cells_of (r ∷ []) ≡ replicate r.width r.cell
   cells_of-one r = append-nil (replicate r.width r.cell)

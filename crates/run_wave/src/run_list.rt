@@ -85,7 +85,7 @@ impl<T: Cell + Drop> RunList<T> {
         self.runs[count - 1].cell == cell
     }
 
-    /// Puts `width` slots of a cell behind the others.
+    /// Appends `width` slots of a cell.
     pub fn push(&mut self, cell: T, width: u16) -> Result<(), NoMemory>
         requires { self.old.slots + width < 2 ^ 16 }
         ensures { OnOk result (cells_of self.new.runs.items ≡ cells_of self.old.runs.items ++ replicate width cell) }
@@ -102,7 +102,7 @@ impl<T: Cell + Drop> RunList<T> {
         self.push_run(Run { cell, width })
     }
 
-    /// Puts a run behind the others, and marks it where its turn has come.
+    /// Appends a run, and marks it where its turn has come.
     fn push_run(&mut self, run: Run<T>) -> Result<(), NoMemory>
         requires room { self.old.slots + run.width < 2 ^ 16 }
         requires some { 0 < run.width }
@@ -119,7 +119,7 @@ impl<T: Cell + Drop> RunList<T> {
         Ok(())
     }
 
-    /// Puts the slots of another list behind the others, from one of them on.
+    /// Appends the slots of another list, from one of them on.
     pub fn push_from(&mut self, other: &RunList<T>, start: u16) -> Result<(), NoMemory>
         requires { self.old.slots + (other.now.slots - start) < 2 ^ 16 }
         ensures { OnOk result (cells_of self.new.runs.items ≡ cells_of self.old.runs.items ++ drop start (cells_of other.now.runs.items)) }
@@ -133,7 +133,7 @@ impl<T: Cell + Drop> RunList<T> {
         Ok(())
     }
 
-    /// Puts the first slots of another list behind the others, up to one of them.
+    /// Appends the first slots of another list, up to one of them.
     pub fn push_until(&mut self, other: &RunList<T>, end: u16) -> Result<(), NoMemory>
         requires { self.old.slots + end < 2 ^ 16 }
         ensures { OnOk result (cells_of self.new.runs.items ≡ cells_of self.old.runs.items ++ take end (cells_of other.now.runs.items)) }
@@ -161,7 +161,7 @@ impl<T: Cell + Drop> RunList<T> {
         (STRIDE * marks, self.marks[marks - 1])
     }
 
-    /// The run that a slot is in, and the first slot behind that run.
+    /// The run that a slot is in, and the first slot after that run.
     fn run_with(&self, slot: u16) -> (usize, u16)
         requires { slot < length (cells_of self.now.runs.items) }
         ensures known { result.0 < length self.now.runs.items }
@@ -188,7 +188,7 @@ impl<T: Cell + Drop> RunList<T> {
         self.runs[place].cell
     }
 
-    /// The first slot behind this one that has another cell than it, or the number of slots where
+    /// The first slot after this one that has another cell than it, or the number of slots where
     /// there is none.
     pub fn same_until(&self, slot: u16) -> u16
         requires { slot < length (cells_of self.now.runs.items) }
@@ -198,7 +198,7 @@ impl<T: Cell + Drop> RunList<T> {
         end
     }
 
-    /// The same slots once more.
+    /// A copy of the slots.
     pub fn copy(&self, alloc: Global) -> Result<RunList<T>, NoMemory>
         ensures { IfOk result (λ l. l.runs.items ≡ self.now.runs.items) }
     {

@@ -1,6 +1,7 @@
 //! A wave that keeps its cells as runs.
 
 ghost use Rattle.std.specs.Prelude.{◌≡◌, length};
+ghost use Rattle.std.specs.List.{sum_by};
 ghost use Rattle.run_wave.specs.Run.{IsRuns, cells_of};
 ghost use Rattle.wave_core.specs.Slots.{IsPeriod};
 
@@ -19,11 +20,11 @@ pub struct RunWave<T> {
 }
 
 impl<T: Cell + Drop> RunWave<T> {
-    /// The runs: their widths sum to the period, none is empty, and each has another cell than the
-    /// one before. The last may have the cell of the first.
+    /// The runs: spelled out they are the cells of the wave, so their widths sum to the period. None is
+    /// empty, and each has another cell than the one before. The last may have the cell of the first.
     pub fn runs(&self) -> &[Run<T>]
-        ensures is { result.now ≡ self.now.list.runs.items }
-        ensures whole { length (cells_of result.now) ≡ self.now.list.slots }
+        ensures spelled { cells_of result.now ≡ ⟦<RunWave<T> as CyclicWave>⟧.cells self.now }
+        ensures whole { sum_by (λ r. r.width) result.now ≡ length (⟦<RunWave<T> as CyclicWave>⟧.cells self.now) }
         ensures few { IsRuns result.now }
     {
         &self.list.runs

@@ -5,7 +5,7 @@ use Rattle.scald_base.specs.Time.{Bounds}
 use Rattle.wave_core.specs.Cell.{Cells}
 use Rattle.wave_core.specs.Slots.{slots, later, join_to, fold_at, folded as folded_cells}
 
--- a cell for each slot of the period, and the most ticks by which the whole may come late
+-- a cell for each slot of the period, and the most ticks by which the whole may be late
 pub record Wave (T : Type 0) : Type 0 where
   pub cells : List T
   pub skew : ℕ

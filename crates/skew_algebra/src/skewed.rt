@@ -10,7 +10,7 @@ use std::alloc::Global;
 use std::cmp::min;
 use wave_core::{Cell, CyclicWave, joined_from};
 
-/// A wave, and the most ticks by which the whole of it may come late, in normal form: a steady wave
+/// A wave, and the most ticks by which the whole of it may be late, in normal form: a steady wave
 /// has one cell in all slots, a wave of one cell has no skew, and no skew reaches a period.
 #[derive(Drop)]
 pub struct Skewed<W: CyclicWave> {
@@ -32,7 +32,7 @@ fn capped<W: CyclicWave>(wave: &W, skew: u16) -> u16
 }
 
 impl<W: CyclicWave> Skewed<W> {
-    /// The normal form of a wave that may come late by up to `skew` ticks.
+    /// The normal form of a wave that may be late by up to `skew` ticks.
     pub fn normal(alloc: Global, wave: W, skew: u16) -> Result<Skewed<W>, NoMemory>
         ensures wave { IfOk result (λ s. skewed (W.cells s.wave) s.skew ≡ normal W.Item.kind (skewed (W.cells wave) skew)) }
         ensures permits { IfOk result (λ s. Keeps W.Item.kind (skewed (W.cells wave) skew) (skewed (W.cells s.wave) s.skew)) }
@@ -78,7 +78,7 @@ impl<W: CyclicWave> Skewed<W> {
         })
     }
 
-    /// The same wave once more.
+    /// A copy of the wave.
     pub fn copy(&self, alloc: Global) -> Result<Skewed<W>, NoMemory>
         ensures { IfOk result (λ s. skewed (W.cells s.wave) s.skew ≡ skewed (W.cells self.now.wave) self.now.skew) }
     {

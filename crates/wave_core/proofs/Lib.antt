@@ -3,3 +3,4 @@ pub mod Fold
 pub mod Turned
 pub mod Steady
 pub mod Places
+mod Examples

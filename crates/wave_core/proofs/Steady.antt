@@ -1,6 +1,5 @@
 -- How far the cell of a slot goes on.
-use Rattle.std.proofs.Common.{Bool, true, false, not, ◌≡◌, ℕ, ◌+◌, ◌<◌, ◌≤◌, ◌⊎◌, inl, inr, List, length, slice_get, slice_index_or, Some, refl, ap, ◌∙◌, arith}
-use Rattle.std.proofs.lemmas.Option.{slice_get_read}
+use Rattle.std.proofs.Common.{Bool, true, false, not, ◌≡◌, ℕ, ◌+◌, ◌<◌, ◌≤◌, ◌⊎◌, inl, inr, List, slice_get, Some, ap, ◌∙◌, arith}
 use Rattle.std.specs.Prelude.{unwrap_or}
 use Rattle.scald_base.proofs.Below.{below-or-last}
 
@@ -25,6 +24,3 @@ module _ {T : Type 0} (cells : List T) (slot : ℕ) where
       go : ((p < next) ⊎ (p ≡ next)) → slice_get cells p ≡ slice_get cells slot
       go (inl h) = same p from h
       go (inr h) = ap (slice_get cells) h ∙ is
-
-  pub reads : (i : ℕ) (x : T) → i < length cells → x ≡ slice_index_or cells i x → slice_get cells i ≡ Some x
-  reads i x below is = slice_get_read cells (length cells) i x refl below is

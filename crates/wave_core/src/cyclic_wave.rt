@@ -35,11 +35,20 @@ pub trait CyclicWave: Sized + Drop {
         requires { slot < length (cells self.now) }
         ensures { slice_get (cells self.now) slot ≡ Some result };
 
-    /// The first slot behind this one that has another cell than it, or the period where there is none:
+    /// The first slot after this one that has another cell than it, or the period where there is none:
     /// what is read off the cells from slot to slot may go on there.
     fn same_until(&self, slot: u16) -> u16
         requires { slot < length (cells self.now) }
-        ensures { SameUntil (cells self.now) slot result };
+        ensures { SameUntil (cells self.now) slot result }
+    {
+        let cell = self.at(slot);
+        for next in slot + 1..self.period() {
+            if self.at(next) != cell {
+                return next;
+            }
+        }
+        self.period()
+    }
 
     /// Whether the two have the same cells.
     fn equal(&self, other: &Self) -> bool

@@ -34,7 +34,7 @@ impl<T: Cell + Drop> SlotWave<T> {
         back == 0 || self.all_are(self.cells[0])
     }
 
-    /// Puts the cells of the wave that comes `by` slots later behind what is there.
+    /// Appends the cells of the wave that comes `by` slots later.
     fn push_later(&self, cells: &mut Vec<T>, by: usize) -> Result<(), NoMemory>
         ensures { OnOk result (cells.new.items ≡ cells.old.items ++ later T.kind self.now.cells.items by) }
     {
@@ -90,7 +90,7 @@ impl<T: Cell + Drop> SlotWave<T> {
         Ok(())
     }
 
-    /// Puts the folds of a block behind those of the slots before it, from the tails of the block
+    /// Appends the folds of a block to those of the slots before it, from the tails of the block
     /// and the first cells of the next.
     fn push_block(
         &self,
@@ -144,16 +144,6 @@ impl<T: Cell + Drop> CyclicWave for SlotWave<T> {
 
     fn at(&self, slot: u16) -> T {
         self.cells[slot as usize]
-    }
-
-    fn same_until(&self, slot: u16) -> u16 {
-        let cell = self.cells[slot as usize];
-        for next in slot + 1..self.period() {
-            if self.cells[next as usize] != cell {
-                return next;
-            }
-        }
-        self.period()
     }
 
     fn equal(&self, other: &SlotWave<T>) -> bool {
