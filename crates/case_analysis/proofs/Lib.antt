@@ -8,3 +8,5 @@ pub mod Entries
 pub mod Listing
 pub mod Together
 pub mod Answered
+pub mod Tables
+pub mod ExamplesCases

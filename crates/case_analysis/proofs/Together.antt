@@ -4,7 +4,7 @@ use Rattle.std.specs.Cmp.{both_ways}
 use Rattle.std.specs.List.{AllZip}
 use Rattle.std.proofs.lemmas.Bool.{and_parts, cases_lt, eq-eqb, eqb-true, or_cases, or_left, or_right}
 use Rattle.std.proofs.lemmas.List.Elements.{All-head, All-tail}
-use Rattle.std.proofs.lemmas.Option.{slice_get_cases, slice_get_past}
+use Rattle.std.proofs.lemmas.Option.{slice_get_past}
 use Rattle.scald_base.specs.Time.{Header}
 use Rattle.scald_base.specs.declared.assertion.AssertSpec.{AssertSpec}
 use Rattle.vector_names.specs.declared.bits.Target.{Target}
@@ -17,14 +17,14 @@ use Rattle.flat_circuit.specs.declared.net.Net.{Net}
 use Rattle.flat_circuit.specs.Kind.{listens}
 use Rattle.flat_circuit.specs.Instances.{PinExists, TargetExists, out_of}
 use Rattle.flat_circuit.specs.Circuit.{Circuit, IsCircuit, driver_at, driver_in}
-use Rattle.class_table.specs.Alike.{class_of, TargetsAlike, PinsAlike, DriversAlike, instance_of, value_after, value_in}
+use Rattle.class_table.specs.Alike.{class_of, TargetsAlike, PinsAlike, DriversAlike, value_after, value_in}
 use Rattle.class_table.specs.Stable.{IsStable}
 use Rattle.fixpoint_engine.specs.Value.{Waves}
 use Rattle.fixpoint_engine.specs.Rounds.{driver, instance_in, round}
 use Rattle.fixpoint_engine.specs.Start.{base_start, is_driven, start_in}
 use Rattle.fixpoint_engine.specs.Work.{hears_from, hears_in, is_on_any}
 use Rattle.fixpoint_engine.specs.Classes.{AreTogether, HaveOneWave}
-use Rattle.fixpoint_engine.proofs.Classes.{rounds-same}
+use Rattle.fixpoint_engine.proofs.Classes.{drivers-alike, net-of, rounds-same}
 use Rattle.fixpoint_engine.proofs.Drivers.{driver-fits}
 use Rattle.case_analysis.specs.Base.{IsBase}
 use Rattle.case_analysis.specs.Case.{Hears_one, InCone, IsCone, Is_set, NetsExist, case_active, case_at, case_start, case_wave, is_set}
@@ -70,10 +70,6 @@ started-same h a b None None spec driven = ap (λ s. started h s None) spec
 started-same h a b None (Some y) spec driven = cc
 started-same h a b (Some x) None spec driven = cc
 started-same h a b (Some x) (Some y) spec driven = refl
-
-instance-is : (c : Circuit) (found : Option ℕ) → instance_in c found ≡ instance_of c found
-instance-is c None = refl
-instance-is c (Some k) = refl
 
 -- a driven net's driver is there
 driver-there : (c : Circuit) (i : ℕ) → IsCircuit c → is_some (driver c i) ≡ is_driven c i
@@ -135,25 +131,10 @@ drivers-hear n k from (Some a) (Some b) alike exist hears =
 
 -- ---- all nets
 
-net-of : (c : Circuit) (i : ℕ) → i < length c.nets → (m : Net) × (slice_get c.nets i ≡ Some m)
-net-of c i below = elim (slice_get_cases c.nets i).1 [
-  | inl found ↦ (found.0, found.2)
-  | inr past ↦ absurd (let far = past.0 in omega (arith, far))
-]
-
 module _ (c : Circuit) (cases : List (List CaseValue)) (k : List ℕ) (known : IsCircuit c) (stable : IsStable c cases k) where
-  drivers-alike : (i j : ℕ) → i < length c.nets → j < length c.nets → class_of k i ≡ class_of k j → DriversAlike k (driver c i) (driver c j)
-  drivers-alike i j below below' same =
-      let m = net-of c i below in
-      let n = net-of c j below' in
-      let is_m : driver c i ≡ instance_of c m.0.driver = ap (λ (o : Option Net). instance_in c (driver_in o)) m.1 ∙ instance-is c m.0.driver in
-      let is_n : driver c j ≡ instance_of c n.0.driver = ap (λ (o : Option Net). instance_in c (driver_in o)) n.1 ∙ instance-is c n.0.driver in
-      subst (λ (a : Option Instance). DriversAlike k a (driver c j)) (sym is_m)
-      (subst (DriversAlike k (instance_of c m.0.driver)) (sym is_n) (stable i j same m.0 n.0 m.1 n.1).drivers)
-
   pub driven-together : AreTogether c k (is_driven c)
   driven-together i j below below' same =
-      sym (driver-there c i known) ∙ alike-some k (driver c i) (driver c j) (drivers-alike i j below below' same) ∙ driver-there c j known
+      sym (driver-there c i known) ∙ alike-some k (driver c i) (driver c j) (drivers-alike c cases k known stable i j below below' same) ∙ driver-there c j known
 
   -- ---- the base
 
@@ -184,7 +165,7 @@ module _ (c : Circuit) (cases : List (List CaseValue)) (k : List ℕ) (known : I
     cone-closed exist (Is_set {i = i} is) j below_j same =
         Is_set (sym (set-is (case_at cases number) j) ∙ ap is_some (sym (values-same i j (set-below (length c.nets) (case_at cases number) i exist is) below_j same)) ∙ set-is (case_at cases number) i ∙ is)
     cone-closed exist (Hears_one {from = from} {i = i} inner hears) j below_j same =
-        let one = drivers-hear (length c.nets) k from (driver c i) (driver c j) (drivers-alike i j heard below_j same) (λ d at. (driver-fits c j d known at).exists.reads) hears in
+        let one = drivers-hear (length c.nets) k from (driver c i) (driver c j) (drivers-alike c cases k known stable i j heard below_j same) (λ d at. (driver-fits c j d known at).exists.reads) hears in
         Hears_one (cone-closed exist inner one.net one.exists one.alike) one.is
       where
         heard : i < length c.nets

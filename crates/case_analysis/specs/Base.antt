@@ -1,4 +1,4 @@
--- The base: waves at rest of rounds that know the inputs alone at their start.
+-- The base: settled waves of rounds that know only the inputs at their start.
 use Rattle.std.specs.Prelude.{◌≡◌, ℕ, ◌+◌, ◌*◌, None}
 use Rattle.flat_circuit.specs.declared.net.Net.{Net}
 use Rattle.flat_circuit.specs.Circuit.{Circuit}
@@ -14,7 +14,7 @@ use Rattle.fixpoint_engine.specs.Interface.{MeetsInterface, PermitRun}
 abbrev pub base_round : Circuit → ℕ → Waves
 base_round c = round c (is_driven c) (base_start c)
 
--- The waves are those of the base, which comes to rest at this round, and within the limit.
+-- The waves are those of the base, which settles at this round, and within the limit.
 abbrev pub IsBase : Circuit → ℕ → ℕ → Waves → Type 0
 IsBase c limit r ws = AreAtRest c (is_driven c) (base_start c) limit r ws
 

@@ -75,7 +75,7 @@ case_active c cone i = cone i && is_driven c i
 abbrev pub case_round : Circuit → List CaseValue → (ℕ → Bool) → Waves → ℕ → Waves
 case_round c values cone base = round c (case_active c cone) (case_start c values cone base)
 
--- The waves are those of the case, whose rounds come to rest at this one, and within the limit.
+-- The waves are those of the case, whose rounds settle at this one, and within the limit.
 abbrev pub IsCase : Circuit → List CaseValue → (ℕ → Bool) → Waves → ℕ → ℕ → Waves → Type 0
 IsCase c values cone base limit r ws = AreAtRest c (case_active c cone) (case_start c values cone base) limit r ws
 

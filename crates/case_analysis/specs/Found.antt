@@ -3,7 +3,7 @@ use Rattle.std.specs.Prelude.{◌≡◌, ℕ, ◌<◌, ◌≤◌, Bool, length}
 use Rattle.fixpoint_engine.specs.Rounds.{net_at}
 use Rattle.fixpoint_engine.specs.Worklist.{Queue, Adds}
 
--- The nets of a set go behind those that were found before.
+-- The nets of a set follow those that were found before.
 pub record Extends (set : ℕ → Bool) (old new : Queue) : Type 0 where
   pub adds : Adds set old new
   pub longer : length old.nets ≤ length new.nets

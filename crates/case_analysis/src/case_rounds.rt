@@ -98,8 +98,8 @@ pub fn driven_in(alloc: Global, c: &Circuit, cone: &NetSet) -> Result<NetSet, No
     Ok(active)
 }
 
-/// The waves of a case at rest: its nets have their values, nothing is known of the other nets of its cone
-/// at the start, and the rest keep the waves of the base; rounds over the driven nets of the cone, until a
+/// The settled waves of a case: its nets have their values, the other nets of its cone are unknown
+/// at the start, and all others keep the base's waves; rounds over the driven nets of the cone, until a
 /// round is as the one before. The waves permit every run of the case whose inputs keep their assertions,
 /// `reach` ticks later for each round of the base and of the case. `Unsettled` comes exactly where no
 /// round up to `limit` is as the next one: never where no net is reached from itself through listening

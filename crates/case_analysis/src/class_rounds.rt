@@ -1,4 +1,4 @@
-//! Bases and cases where nets fall into classes that nothing tells apart.
+//! Bases and cases over classes of indistinguishable nets.
 
 ghost use Rattle.std.specs.Prelude.{◌≡◌, ◌<◌, ◌≤◌, ◌+◌, ℕ, Bool, IfErr, IfOk, MatchResult, length, map};
 ghost use Rattle.skew_algebra.specs.Wave.{skewed};
@@ -24,7 +24,7 @@ use std::alloc::Global;
 use step_values::Value;
 use wave_core::CyclicWave;
 
-/// The base, as `base` gives it, where nets fall into classes that nothing tells apart, not even the
+/// The base, as `base` gives it, over classes of nets that are indistinguishable, even by the
 /// cases: one number of a class for each net, of which `class_table::stable` is true. `evals` counts each
 /// class once in a round. `Unsettled` and `NoMemory` come as they do of `base`.
 pub fn base_classes<W: CyclicWave<Item = Value>>(
@@ -51,8 +51,8 @@ pub fn base_classes<W: CyclicWave<Item = Value>>(
     settle_classes(alloc, c, cases, classes, &start, &active, limit)
 }
 
-/// The waves at rest of the case with this number from 0, as `case_waves` gives them, where nets fall
-/// into classes that nothing tells apart, not even the cases: one number of a class for each net, of
+/// The settled waves of the case with this number from 0, as `case_waves` gives them, over classes
+/// of nets that are indistinguishable, even by the cases: one number of a class for each net, of
 /// which `class_table::stable` is true. `evals` counts each class once in a round. `Unsettled` and
 /// `NoMemory` come as they do of `case_waves`.
 pub fn case_classes<W: CyclicWave<Item = Value>>(

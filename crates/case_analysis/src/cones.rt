@@ -52,7 +52,7 @@ impl Found {
         self.nets.get(place).copied()
     }
 
-    /// Puts a net behind the others, if it is not there yet.
+    /// Appends a net, unless it is there already.
     fn add(&mut self, net: u32) -> Result<(), NoMemory>
         requires { net < length self.old.marks }
         ensures { OnOk result (Extends (λ i. net == i) self.old self.new) }
@@ -64,7 +64,7 @@ impl Found {
         Ok(())
     }
 
-    /// Puts the net that an instance drives behind the others.
+    /// Appends the net that an instance drives.
     fn add_output(&mut self, c: &Circuit, instance: u32) -> Result<(), NoMemory>
         requires { length self.old.marks ≡ length c.now.nets }
         ensures { OnOk result (Extends (drives_in (out_at c.now.instances instance)) self.old self.new) }
@@ -76,7 +76,7 @@ impl Found {
         }
     }
 
-    /// Puts the nets whose drivers listen to this one behind the others.
+    /// Appends the nets whose drivers listen to this one.
     fn add_hearers(&mut self, c: &Circuit, net: u32) -> Result<(), NoMemory>
         requires each_net { length self.old.marks ≡ length c.now.nets }
         requires exists { net < length c.now.nets }

@@ -40,7 +40,7 @@ use Rattle.fixpoint_engine.proofs.Reached.{Reached, reached-start, undue-stays, 
 use Rattle.fixpoint_engine.proofs.Sound.{round-sound}
 use Rattle.fixpoint_engine.proofs.Turns.{nets_of, Turn, turn-rests, turn-reaches, turn-fits, turn-ends}
 use Rattle.fixpoint_engine.proofs.Kept.{among-waiting, waiting-count, changes-is, first-due, later-due, nets-made}
-use Rattle.fixpoint_engine.proofs.Classes.{rounds-same}
+use Rattle.fixpoint_engine.proofs.Classes.{differ-together, rounds-same}
 use Rattle.fixpoint_engine.proofs.Members.{is_with, nets_in, nets-for-classes, exist-for-classes, waves-for-classes, IsTo}
 
 -- ---- the first net of a class
@@ -118,12 +118,8 @@ pub record AreClasses (c : Circuit) (active : ℕ → Bool) (ks : List ℕ) (sta
 
 module _ (c : Circuit) (active : ℕ → Bool) (ks : List ℕ) (start : Waves) (are : AreClasses c active ks start) where
   -- nets of one class differ in the same rounds
-  differ-same : (r i j : ℕ) → i < length c.nets → j < length c.nets → class_of ks i ≡ class_of ks j →
-      differs (round c active start r) (round c active start (suc r)) i ≡ differs (round c active start r) (round c active start (suc r)) j
-  differ-same r i j below below' same =
-      let old = are.one r i j below below' same in
-      let new = are.one (suc r) i j below below' same in
-      λ k. not (same_wave (old k) (new k))
+  differ-same : (r : ℕ) → AreTogether c ks (differs (round c active start r) (round c active start (suc r)))
+  differ-same r = differ-together c ks (round c active start r) (round c active start (suc r)) (are.one r) (are.one (suc r))
 
   -- none past the last net does
   none-differs : (r i : ℕ) → length c.nets ≤ i → differs (round c active start r) (round c active start (suc r)) i ≡ false

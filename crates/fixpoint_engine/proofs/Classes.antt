@@ -1,5 +1,5 @@
--- Nets of one class have one wave in every round.
-use Rattle.std.proofs.Common.{◌≡◌, ℕ, zero, suc, ◌+◌, ◌<◌, ◌≤◌, inl, inr, Bool, not, cond, List, [], ◌∷◌, length, map, All, Option, Some, None, slice_get, if◌then◌else◌, nat_lt, refl, sym, ap, ◌∙◌, arith}
+-- Nets of one class have one wave in every round, and are due in the same rounds.
+use Rattle.std.proofs.Common.{◌≡◌, ℕ, zero, suc, ◌+◌, ◌<◌, ◌≤◌, inl, inr, Bool, not, ◌&&◌, ◌||◌, cond, List, [], ◌∷◌, length, map, All, Option, Some, None, slice_get, if◌then◌else◌, nat_lt, refl, sym, ap, subst, ◌∙◌, arith}
 use Rattle.std.specs.List.{AllZip, prefix_len}
 use Rattle.std.proofs.lemmas.List.Elements.{All-head, All-tail}
 use Rattle.std.proofs.lemmas.Option.{slice_get_cases}
@@ -11,7 +11,9 @@ use Rattle.skew_algebra.specs.Wave.{Wave, normal}
 use Rattle.flat_circuit.specs.declared.case.CaseValue.{CaseValue}
 use Rattle.flat_circuit.specs.declared.instance.Pin.{Pin}
 use Rattle.flat_circuit.specs.declared.instance.Instance.{Instance}
+use Rattle.flat_circuit.specs.declared.kind.Kind.{Kind}
 use Rattle.flat_circuit.specs.declared.net.Net.{Net}
+use Rattle.flat_circuit.specs.Kind.{listens}
 use Rattle.flat_circuit.specs.Instances.{PinExists, TargetExists}
 use Rattle.flat_circuit.specs.Circuit.{Circuit, IsCircuit, wire_in, wire_at, driver_in, driver_at}
 use Rattle.pin_waves.specs.Interface.{constant_wave}
@@ -19,9 +21,10 @@ use Rattle.pin_waves.specs.Pin.{pin_wave as wave_behind}
 use Rattle.class_table.specs.Alike.{class_of, TargetsAlike, PinsAlike, InstancesAlike, DriversAlike, instance_of}
 use Rattle.class_table.specs.Stable.{IsStable}
 use Rattle.fixpoint_engine.specs.Value.{Waves, target_wave, target_wire, pin_wave, marked_pin, made_by, turned_wave, instance_wave}
-use Rattle.fixpoint_engine.specs.Rounds.{instance_in, wave_from, evaluated, next, round}
-use Rattle.fixpoint_engine.specs.Classes.{HaveOneWave, AreTogether}
-use Rattle.fixpoint_engine.proofs.Drivers.{fits-of}
+use Rattle.fixpoint_engine.specs.Rounds.{instance_in, driver, wave_from, evaluated, next, round}
+use Rattle.fixpoint_engine.specs.Work.{same_wave, differs, is_on_any, hears_from, hears_in, is_due}
+use Rattle.fixpoint_engine.specs.Classes.{HaveOneWave, AreTogether, GoTogether}
+use Rattle.fixpoint_engine.proofs.Drivers.{fits-of, driver-fits}
 
 -- marks at the same places
 marks-same : (k : List ℕ) (ps qs : List Pin) → AllZip (PinsAlike k) ps qs → prefix_len (λ (p : Pin). not p.hold) ps ≡ prefix_len (λ (p : Pin). not p.hold) qs
@@ -36,17 +39,66 @@ long-same k [] (q ∷ qs) h = absurd h
 long-same k (p ∷ ps) [] h = absurd h
 long-same k (p ∷ ps) (q ∷ qs) h = ap suc (long-same k ps qs h.1)
 
+pub net-of : (c : Circuit) (i : ℕ) → i < length c.nets → (m : Net) × (slice_get c.nets i ≡ Some m)
+net-of c i below = elim (slice_get_cases c.nets i).1 [
+  | inl found ↦ (found.0, found.2)
+  | inr past ↦ absurd (let far : length c.nets ≤ i = past.0 in omega (arith, far, below))
+]
+
+instance-is : (c : Circuit) (found : Option ℕ) → instance_in c found ≡ instance_of c found
+instance-is c None = refl
+instance-is c (Some k) = refl
+
+-- ---- which nets differ, and who listens to them
+
+pub differ-together : (c : Circuit) (k : List ℕ) (ws vs : Waves) → HaveOneWave c k ws → HaveOneWave c k vs → AreTogether c k (differs ws vs)
+differ-together c k ws vs one one' i j below below' same =
+    let old = one i j below below' same in
+    let new = one' i j below below' same in
+    λ t. not (same_wave (old t) (new t))
+
+module _ (n : ℕ) (k : List ℕ) (nets : ℕ → Bool) (together : (i j : ℕ) → i < n → j < n → class_of k i ≡ class_of k j → nets i ≡ nets j) where
+  targets-together : (a b : Target) → TargetExists n a → TargetExists n b → TargetsAlike k a b → is_on_any nets a ≡ is_on_any nets b
+  targets-together (OnNet i) (OnNet j) below below' h = together i j below below' h
+  targets-together (OnNet i) (Constant b) below below' h = absurd h
+  targets-together (Constant a) (OnNet j) below below' h = absurd h
+  targets-together (Constant a) (Constant b) below below' h = refl
+
+  pins-together : (kind : Kind) (place : ℕ) (ps qs : List Pin) → All (PinExists n) ps → All (PinExists n) qs → AllZip (PinsAlike k) ps qs →
+      hears_from nets kind place ps ≡ hears_from nets kind place qs
+  pins-together kind place [] [] exist exist' h = refl
+  pins-together kind place [] (q ∷ qs) exist exist' h = absurd h
+  pins-together kind place (p ∷ ps) [] exist exist' h = absurd h
+  pins-together kind place (p ∷ ps) (q ∷ qs) exist exist' h =
+      let first = targets-together p.target q.target (All-head (PinExists n) p ps exist) (All-head (PinExists n) q qs exist') h.0.target in
+      let rest = pins-together kind (place + 1) ps qs (All-tail (PinExists n) p ps exist) (All-tail (PinExists n) q qs exist') h.1 in
+      λ i. (listens kind place && first i) || rest i
+
+  drivers-together : (a b : Option Instance) → ((j : Instance) → a ≡ Some j → All (PinExists n) j.pins) → ((j : Instance) → b ≡ Some j → All (PinExists n) j.pins) →
+      DriversAlike k a b → hears_in nets a ≡ hears_in nets b
+  drivers-together None None exist exist' h = refl
+  drivers-together None (Some b) exist exist' h = absurd h
+  drivers-together (Some a) None exist exist' h = absurd h
+  drivers-together (Some a) (Some b) exist exist' h =
+      let kind = h.kind in
+      (λ i. hears_from nets (kind i) 0 a.pins) ∙ pins-together b.kind 0 a.pins b.pins (exist a refl) (exist' b refl) h.pins
+
+-- ---- stable classes
+
 module _ (c : Circuit) (cases : List (List CaseValue)) (k : List ℕ) (known : IsCircuit c) (stable : IsStable c cases k) where
-  net-of : (i : ℕ) → i < length c.nets → (m : Net) × (slice_get c.nets i ≡ Some m)
-  net-of i below = elim (slice_get_cases c.nets i).1 [
-    | inl found ↦ (found.0, found.2)
-    | inr past ↦ absurd (let far : length c.nets ≤ i = past.0 in omega (arith, far, below))
-  ]
+  pub drivers-alike : (i j : ℕ) → i < length c.nets → j < length c.nets → class_of k i ≡ class_of k j → DriversAlike k (driver c i) (driver c j)
+  drivers-alike i j below below' same =
+      let m = net-of c i below in
+      let n = net-of c j below' in
+      let is_m : driver c i ≡ instance_of c m.0.driver = ap (λ (o : Option Net). instance_in c (driver_in o)) m.1 ∙ instance-is c m.0.driver in
+      let is_n : driver c j ≡ instance_of c n.0.driver = ap (λ (o : Option Net). instance_in c (driver_in o)) n.1 ∙ instance-is c n.0.driver in
+      subst (λ (a : Option Instance). DriversAlike k a (driver c j)) (sym is_m)
+      (subst (DriversAlike k (instance_of c m.0.driver)) (sym is_n) (stable i j same m.0 n.0 m.1 n.1).drivers)
 
   wires-same : (i j : ℕ) → i < length c.nets → j < length c.nets → class_of k i ≡ class_of k j → wire_at c.nets i ≡ wire_at c.nets j
   wires-same i j below below' same =
-      let m = net-of i below in
-      let n = net-of j below' in
+      let m = net-of c i below in
+      let n = net-of c j below' in
       ap wire_in m.1 ∙ (stable i j same m.0 n.0 m.1 n.1).wire ∙ sym (ap wire_in n.1)
 
   module _ (ws : Waves) (one : HaveOneWave c k ws) where
@@ -119,8 +171,8 @@ module _ (c : Circuit) (cases : List (List CaseValue)) (k : List ℕ) (known : I
 
     evaluated-same : (i j : ℕ) → i < length c.nets → j < length c.nets → class_of k i ≡ class_of k j → evaluated c ws i ≡ evaluated c ws j
     evaluated-same i j below below' same =
-        let m = net-of i below in
-        let n = net-of j below' in
+        let m = net-of c i below in
+        let n = net-of c j below' in
         let driven : driver_at c.nets i ≡ m.0.driver = ap driver_in m.1 in
         let driven' : driver_at c.nets j ≡ n.0.driver = ap driver_in n.1 in
         ap (λ (o : Option ℕ). wave_from c ws (instance_in c o) (ws i)) driven
@@ -142,3 +194,24 @@ module _ (c : Circuit) (cases : List (List CaseValue)) (k : List ℕ) (known : I
   rounds-same active start together one zero i j below below' same = one i j below below' same
   rounds-same active start together one (suc r) i j below below' same =
       next-same active (round c active start r) together (rounds-same active start together one r) i j below below' same
+
+  -- who is due in them
+
+  hear-together : (nets : ℕ → Bool) → AreTogether c k nets → AreTogether c k (λ i. hears_in nets (driver c i))
+  hear-together nets together i j below below' same =
+      drivers-together (length c.nets) k nets together (driver c i) (driver c j) (λ d at. (driver-fits c i d known at).exists.reads) (λ d at. (driver-fits c j d known at).exists.reads)
+      (drivers-alike i j below below' same)
+
+  due-together : (active : ℕ → Bool) (start : Waves) → AreTogether c k active → HaveOneWave c k start → (r : ℕ) → AreTogether c k (is_due c active (round c active start) r)
+  unfolding is_due
+  due-together active start together one zero i j below below' same = refl
+  due-together active start together one (suc zero) i j below below' same = together i j below below' same
+  due-together active start together one (suc (suc r)) i j below below' same =
+      let is = together i j below below' same in
+      let changed =
+      differ-together c k (round c active start r) (round c active start (suc r)) (rounds-same active start together one r) (rounds-same active start together one (suc r)) in
+      let hear = hear-together (differs (round c active start r) (round c active start (suc r))) changed i j below below' same in
+      λ t. is t && hear t
+
+  pub go-together : (active : ℕ → Bool) (start : Waves) → AreTogether c k active → HaveOneWave c k start → GoTogether c k active (round c active start)
+  go-together active start together one = record { waves = rounds-same active start together one; due = due-together active start together one }

@@ -22,3 +22,9 @@ pub mod Examples
 pub mod Classes
 pub mod Members
 pub mod ClassKept
+pub mod ExamplesWork
+pub mod ExamplesClasses
+pub mod Tables
+pub mod ExamplesInterface
+pub mod ExamplesPins
+pub mod ExamplesReach

@@ -37,10 +37,10 @@ use Rattle.fixpoint_engine.proofs.Reached.{undue-stays, due-takes}
 
 -- ---- a net that is heard
 
-record IsHeard (set : ℕ → Bool) (heard : (ℕ → Bool) → Bool) : Type 0 where
-  net : ℕ
-  of : set net ≡ true
-  is : heard (λ i. i == net) ≡ true
+pub record IsHeard (set : ℕ → Bool) (heard : (ℕ → Bool) → Bool) : Type 0 where
+  pub net : ℕ
+  pub of : set net ≡ true
+  pub is : heard (λ i. i == net) ≡ true
 
 heard-target : (set : ℕ → Bool) (t : Target) → is_on_any set t ≡ true → IsHeard set (λ nets. is_on_any nets t)
 heard-target set (OnNet i) on = record { net = i; of = on; is = eq-eqb i i refl }
@@ -59,7 +59,7 @@ heard-from set kind place (p ∷ ps) heard =
           record { net = at.net; of = at.of; is = or_right _ _ at.is }
     ]
 
-heard-in : (set : ℕ → Bool) (d : Option Instance) → hears_in set d ≡ true → IsHeard set (λ nets. hears_in nets d)
+pub heard-in : (set : ℕ → Bool) (d : Option Instance) → hears_in set d ≡ true → IsHeard set (λ nets. hears_in nets d)
 heard-in set None heard = cc
 heard-in set (Some j) heard = heard-from set j.kind 0 j.pins heard
 

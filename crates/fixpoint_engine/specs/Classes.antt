@@ -16,6 +16,11 @@ abbrev pub AreTogether : Circuit → List ℕ → (ℕ → Bool) → Type 0
 AreTogether c classes set =
     (i j : ℕ) → i < length c.nets → j < length c.nets → class_of classes i ≡ class_of classes j → set i ≡ set j
 
+-- In each round the nets of a class have one wave, and are all due, or none is.
+pub record GoTogether (c : Circuit) (classes : List ℕ) (active : ℕ → Bool) (rounds : ℕ → Waves) : Type 0 where
+  pub waves : (r : ℕ) → HaveOneWave c classes (rounds r)
+  pub due : (r : ℕ) → AreTogether c classes (is_due c active rounds r)
+
 -- no net before it is of its class
 abbrev pub is_first : List ℕ → ℕ → Bool
 is_first classes i = not (list_any (λ j. class_of classes j == class_of classes i) (range_with_len 0 i))

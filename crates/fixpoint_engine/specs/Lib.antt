@@ -11,4 +11,5 @@ pub mod SameWaves
 pub mod End
 pub mod Worklist
 pub mod Classes
+pub mod Laws
 pub mod Members

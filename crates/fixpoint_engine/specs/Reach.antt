@@ -1,4 +1,4 @@
--- How many ticks one round lies behind the round before: as far as one evaluation looks back, and one tick more, since
+-- How many ticks later a round holds than the round before: as far as one evaluation looks back, and one tick more, since
 -- storage looks at its own output a tick before.
 use Rattle.std.specs.Prelude.{ℕ, ◌+◌, max, if◌then◌else◌, List, [], ◌∷◌}
 use Rattle.flat_circuit.specs.declared.instance.Pin.{Pin}

@@ -36,7 +36,7 @@ round c active start (suc r) i = next c active (round c active start r) i
 abbrev pub AreSame : Waves → Waves → Type 0
 AreSame ws vs = (i : ℕ) → ws i ≡ vs i
 
--- The rounds come to rest: r is the first that the next one equals, and within the limit.
+-- The rounds settle: r is the first that the next one equals, and within the limit.
 pub record RestsAt (rounds : ℕ → Waves) (limit r : ℕ) : Type 0 where
   pub still : AreSame (rounds (suc r)) (rounds r)
   pub first : (s : ℕ) → s < r → ¬ AreSame (rounds (suc s)) (rounds s)

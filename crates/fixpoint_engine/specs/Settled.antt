@@ -1,4 +1,4 @@
--- What it means that rounds have settled: the waves are at rest, and permit every run that the waves at the start permit.
+-- What it means that rounds have settled: the next round is the same, and the waves permit every run that those at the start do.
 use Rattle.std.specs.Prelude.{◌≡◌, ℕ, ◌+◌, ◌*◌, ◌<◌, ◌≤◌, Bool, true, false, List, [], length, slice_index_or, is_some}
 use Rattle.step_values.specs.declared.value.Value.{Value}
 use Rattle.skew_algebra.specs.Wave.{Wave, skewed}

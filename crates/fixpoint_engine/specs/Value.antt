@@ -8,7 +8,7 @@ use Rattle.step_values.specs.declared.value.Value.{Value}
 use Rattle.step_values.specs.Cell.{values}
 use Rattle.skew_algebra.specs.Wave.{Wave, flipped, normal}
 use Rattle.flat_circuit.specs.declared.kind.Kind.{Kind}
-use Rattle.flat_circuit.specs.declared.kind.Kind.TheVariants.{Reg, RegRs, Latch, LatchRs}
+use Rattle.flat_circuit.specs.declared.kind.Kind.TheVariants.{Buf, And, Or, Xor, Mux2, Mux4, Mux8, Chg, Reg, RegRs, Latch, LatchRs, SetupHold, RiseFall, MinPulse}
 use Rattle.flat_circuit.specs.declared.instance.Pin.{Pin}
 use Rattle.flat_circuit.specs.declared.instance.Instance.{Instance}
 use Rattle.flat_circuit.specs.declared.net.Net.{Net}
@@ -42,13 +42,24 @@ pin_waves c ws j = map (pin_wave c ws) j.pins
 abbrev pub marked_pin : Instance → Option ℕ
 marked_pin j = position (λ (p : Pin). p.hold) j.pins
 
--- what a kind makes of the waves at its pins, its delay counted in
+-- What a kind makes of the waves at its pins, its delay counted in. A checker has no output, so that nothing asks what
+-- it makes.
 abbrev pub made_by : Kind → List (Wave Value) → Option ℕ → Bounds → Wave Value
+made_by Buf waves marked d = gate_wave Buf waves marked d
+made_by And waves marked d = gate_wave And waves marked d
+made_by Or waves marked d = gate_wave Or waves marked d
+made_by Xor waves marked d = gate_wave Xor waves marked d
+made_by Mux2 waves marked d = gate_wave Mux2 waves marked d
+made_by Mux4 waves marked d = gate_wave Mux4 waves marked d
+made_by Mux8 waves marked d = gate_wave Mux8 waves marked d
+made_by Chg waves marked d = gate_wave Chg waves marked d
 made_by Reg waves marked d = storage_wave Reg waves d
 made_by RegRs waves marked d = storage_wave RegRs waves d
 made_by Latch waves marked d = storage_wave Latch waves d
 made_by LatchRs waves marked d = storage_wave LatchRs waves d
-made_by kind waves marked d = gate_wave kind waves marked d
+made_by SetupHold waves marked d = gate_wave SetupHold waves marked d
+made_by RiseFall waves marked d = gate_wave RiseFall waves marked d
+made_by MinPulse waves marked d = gate_wave MinPulse waves marked d
 
 -- the complement, where an output is marked so
 abbrev pub turned_wave : Bool → Wave Value → Wave Value

@@ -1,11 +1,11 @@
-//! Rounds to rest over classes of nets.
+//! Rounds over classes of nets, until they settle.
 
 ghost use Rattle.std.specs.Prelude.{◌≡◌, ◌+◌, IfErr, IfOk, length, map};
 ghost use Rattle.skew_algebra.specs.Wave.{skewed};
 ghost use Rattle.class_table.specs.Stable.{IsStable};
 ghost use Rattle.fixpoint_engine.specs.Rounds.{round};
 ghost use Rattle.fixpoint_engine.specs.Settled.{AreAtRest, FitActive, FitWaves, KeepRuns, marked_in, waves_of};
-ghost use Rattle.fixpoint_engine.specs.Classes.{AreTogether, HaveOneWave, class_work_to};
+ghost use Rattle.fixpoint_engine.specs.Classes.{AreTogether, GoTogether, HaveOneWave, class_work_to};
 ghost use Rattle.fixpoint_engine.specs.End.{EndsFor};
 
 use crate::changes::apply;
@@ -23,8 +23,8 @@ use wave_core::CyclicWave;
 
 /// The answer of `settle`, where nothing tells the nets of one class apart, in the circuit and in each of
 /// these cases, and they have one wave at the start and are all active or all not: they have one wave
-/// in every round, so that one net of each class is evaluated and its wave given to all. `evals` counts the
-/// classes that have nets which are due in a round.
+/// in every round and are due in the same rounds, so that one net of each class is evaluated and its
+/// wave given to all. `evals` counts the classes that have nets which are due in a round.
 pub fn settle_classes<W: CyclicWave<Item = Value>>(
     alloc: Global,
     c: &Circuit,
@@ -45,6 +45,8 @@ pub fn settle_classes<W: CyclicWave<Item = Value>>(
     ensures fit { IfOk result (λ s. FitWaves c.now (map (λ w. skewed (W.cells w.wave) w.skew) s.waves)) }
     ensures work { let first = waves_of (map (λ s. skewed (W.cells s.wave) s.skew) start.now) in
         IfOk result (λ s. s.evals ≡ class_work_to c.now numbers.now (marked_in active.now) (round c.now (marked_in active.now) first) (s.rounds + 1)) }
+    ensures go_together { let first = waves_of (map (λ s. skewed (W.cells s.wave) s.skew) start.now) in
+        IfOk result (λ s. GoTogether c.now numbers.now (marked_in active.now) (round c.now (marked_in active.now) first)) }
     ensures sound { let first = waves_of (map (λ s. skewed (W.cells s.wave) s.skew) start.now) in
         IfOk result (λ s. KeepRuns c.now first s.rounds (waves_of (map (λ w. skewed (W.cells w.wave) w.skew) s.waves))) }
     ensures unsettled { let first = waves_of (map (λ s. skewed (W.cells s.wave) s.skew) start.now) in

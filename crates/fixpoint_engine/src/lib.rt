@@ -1,10 +1,10 @@
 //! Rounds of evaluation: from the waves at the start, each round gives the active nets what their
 //! drivers make of the waves of the round before, until nothing changes.
 //!
-//! The layer above calls [`settle`], which answers the waves at rest, or the net that still changes at
+//! The layer above calls [`settle`], which answers the settled waves, or the net that still changes at
 //! the limit, or [`settle_classes`], which answers the same where one net of each class may stand for
 //! all. [`has_one_wave`] tells the layers above where two answers do not differ. `specs/Value` says what
-//! an instance makes of all waves, `specs/Rounds` what a round is and when rounds rest, `specs/Work` and
+//! an instance makes of all waves, `specs/Rounds` what a round is, when rounds settle, `specs/Work` and
 //! `specs/Classes` what is evaluated, and `specs/Settled` which runs the waves permit.
 #![tactic(auto)]
 
@@ -26,12 +26,14 @@ mod readers;
 mod class_changes;
 mod class_nets;
 
-// rounds to rest
+// rounds to rest, and what holds of them
 mod class_rounds;
+mod laws;
 mod rounds;
 
 pub use class_rounds::settle_classes;
 pub use class_table::ClassMap;
+pub use laws::stable_classes_go_together;
 pub use net_set::NetSet;
 pub use pins::{pin_wave, waves_at_pins};
 pub use readers::{output_of, readers_of};

@@ -1,4 +1,4 @@
-//! Rounds to rest.
+//! Rounds until they settle.
 
 ghost use Rattle.std.specs.Prelude.{◌≡◌, ◌+◌, ◌<◌, ℕ, IfErr, IfOk, MatchOption, false, length, map};
 ghost use Rattle.std.specs.List.{All};
@@ -20,7 +20,7 @@ use std::alloc::Global;
 use step_values::Value;
 use wave_core::CyclicWave;
 
-/// Rounds at rest.
+/// Settled rounds.
 #[derive(Drop)]
 pub struct Settled<W: CyclicWave> {
     /// The waves of the first round that the next one equals.
@@ -35,7 +35,7 @@ pub struct Settled<W: CyclicWave> {
 #[derive(Clone, Copy, PartialEq, Eq, Debug)]
 pub enum EngineEnd {
     /// The round at the limit, `round`, and the next one differ. The first net that differs stands at
-    /// this place, from 0, in the order of names.
+    /// this place, from 0, in name order.
     Unsettled { net: u32, round: u32 },
     /// Memory ran out.
     NoMemory,
@@ -52,7 +52,7 @@ impl From<NoMemory> for EngineEnd {
     }
 }
 
-/// The same waves once more.
+/// Copies of the waves.
 pub fn copies<W: CyclicWave<Item = Value>>(
     alloc: Global,
     waves: &[Skewed<W>],
@@ -82,7 +82,7 @@ fn changed_nets<W: CyclicWave>(
     Ok(changed)
 }
 
-/// The number of the net at a place in the order of names; past the last, 0.
+/// The number of the net at a place in name order; past the last, 0.
 #[tactic(auto, using(crate::proofs::Places::past_last, crate::proofs::Places::at_place))]
 fn net_named(c: &Circuit, place: u32) -> u32
     ensures { result ≡ net_at c.now.order place }
@@ -93,7 +93,7 @@ fn net_named(c: &Circuit, place: u32) -> u32
     }
 }
 
-/// The place in the order of names of the first net of a set.
+/// The place in name order of the first net of a set.
 fn first_named(c: &Circuit, set: &NetSet) -> Option<u32>
     ensures { MatchOption result ((k : ℕ) → k < length c.now.order → marked_in set.now (net_at c.now.order k) ≡ false) (λ place. IsFirstIn c.now.order (marked_in set.now) place) }
 {
@@ -127,7 +127,7 @@ pub fn unsettled<W: CyclicWave>(
 
 /// Rounds over the active nets, from the waves at the start, until a round is as the one before: the
 /// waves of the first round that the next one equals. The start waves permit a run from some tick on;
-/// the waves at rest permit it `reach` ticks a round later. `Unsettled` comes exactly where no round up
+/// the settled waves permit it `reach` ticks a round later. `Unsettled` comes exactly where no round up
 /// to `limit` is as the next one. In the first round each active net is evaluated, and later those alone
 /// whose driver listens to a net that changed in the round before; `evals` counts them.
 pub fn settle<W: CyclicWave<Item = Value>>(

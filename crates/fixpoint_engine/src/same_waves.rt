@@ -28,7 +28,7 @@ pub fn has_one_wave<W: CyclicWave<Item = Value>>(
     old.same(wave)
 }
 
-/// Whether what a pin is on has one wave in both. The pin shows the same wave then, behind the wire and the
+/// Whether what a pin is on has one wave in both. The pin shows the same wave then, after the wire and the
 /// complement that are its own.
 pub fn has_one_wave_at<W: CyclicWave<Item = Value>>(
     c: &Circuit,

@@ -1,3 +1,4 @@
 pub mod Meets
 pub mod Interface
 pub mod Pin
+pub mod Laws

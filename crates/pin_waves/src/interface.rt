@@ -17,7 +17,7 @@ use std::cmp::min;
 use step_values::Value;
 use wave_core::CyclicWave;
 
-/// By how many ticks a clock may come later than at its earliest. One tick less than a period is
+/// By how many ticks a clock may be later than at its earliest. One tick less than a period is
 /// enough: then it may stand at any place.
 fn lateness(h: &Header, skew: (u16, u16)) -> u16
     ensures is { result ≡ least (skew.0 + skew.1) (period h.now - 1) }

@@ -8,6 +8,7 @@ use Rattle.fixpoint_engine.specs.Settled.{waves_of, marked_in}
 use Rattle.fixpoint_engine.specs.Work.{hears_in}
 use Rattle.fixpoint_engine.specs.Worklist.{among}
 use Rattle.fixpoint_engine.specs.Classes.{is_first}
+use Rattle.fixpoint_engine.proofs.Classes.{go-together}
 use Rattle.fixpoint_engine.proofs.Drivers.{active_below}
 use Rattle.fixpoint_engine.proofs.Made.{nets-fit}
 use Rattle.fixpoint_engine.proofs.Kept.{all-read, nets-below, nets-made, none-made, some-made}
@@ -50,6 +51,11 @@ returns-then-is_empty-clause-rest g c =
 pub returns-then-is_empty-clause-work : goal.returns-then-is_empty-clause-work
 returns-then-is_empty-clause-work g c =
     works c.args.c.now (marked_in c.args.active.now) c.args.numbers.now (waves_of (map (λ s. skewed (g.W.CyclicWave.cells s.wave) s.skew) c.args.start.now)) (classes-are c.args.c.now c.args.cases.now c.args.active.now c.args.numbers.now (waves_of (map (λ s. skewed (g.W.CyclicWave.cells s.wave) s.skew) c.args.start.now)) c.known.ensures c.requires.active c.requires.one_each c.requires.stable c.requires.alike c.requires.together) (map (λ s. skewed (g.W.CyclicWave.cells s.wave) s.skew) c.rounds.waves) c.rounds.queue c.rounds.rounds c.rounds.evals c.rounds.invariant.kept (map (λ ch. (ch.net, skewed (g.W.CyclicWave.cells ch.wave.wave) ch.wave.skew)) c.in_ok-made.made.items) (class-made c.args.c.now c.args.numbers.now c.in_ok-classes.classes (map (λ s. skewed (g.W.CyclicWave.cells s.wave) s.skew) c.rounds.waves) c.rounds.queue c.nets.result.now (map (λ ch. (ch.net, skewed (g.W.CyclicWave.cells ch.wave.wave) ch.wave.skew)) c.in_ok-made.made.items) c.nets.ensures.once c.nets.ensures.nets c.in_ok-classes.ensures c.in_ok-made.ensures) c.nets-in-rounds.result.now c.nets-in-rounds.ensures.nets
+
+pub returns-then-is_empty-clause-go_together : goal.returns-then-is_empty-clause-go_together
+returns-then-is_empty-clause-go_together g c =
+    go-together c.args.c.now c.args.cases.now c.args.numbers.now c.known.ensures c.requires.stable (marked_in c.args.active.now)
+    (waves_of (map (λ s. skewed (g.W.CyclicWave.cells s.wave) s.skew) c.args.start.now)) c.requires.together c.requires.alike
 
 pub returns-then-is_empty-clause-sound : goal.returns-then-is_empty-clause-sound
 returns-then-is_empty-clause-sound g c =
