@@ -1,5 +1,5 @@
 -- Faults over a period of eight slots, worked out on paper.
-use Rattle.std.specs.Prelude.{◌≡◌, ℕ, false, [], ◌∷◌, Option, Some, None}
+use Rattle.std.specs.Prelude.{◌≡◌, ℕ, true, false, List, [], ◌∷◌, map, Option, Some, None}
 use Rattle.std.proofs.Common.{refl}
 use Rattle.scald_base.specs.Time.{Header}
 use Rattle.scald_base.specs.Clock.{back}
@@ -13,10 +13,11 @@ use Rattle.flat_circuit.specs.declared.kind.Kind.{Kind}
 use Rattle.flat_circuit.specs.declared.kind.Kind.TheVariants.{SetupHold, RiseFall}
 use Rattle.flat_circuit.specs.declared.fault.PointKind.TheVariants.{Setup, High, Hold}
 use Rattle.flat_circuit.specs.declared.fault.Fault.{Fault}
-use Rattle.flat_circuit.specs.declared.fault.Fault.TheVariants.{Point, Assertion}
+use Rattle.flat_circuit.specs.declared.fault.Fault.TheVariants.{Point, Width, Hazard, Assertion}
 use Rattle.fixpoint_engine.specs.Pins.{read}
 use Rattle.point_check.specs.Point.{high_window, checker_fault}
 use Rattle.point_check.specs.Assertion.{assertion_fault}
+use Rattle.point_check.specs.Faults.{is_of_instance, is_of_net}
 
 -- a wave of eight slots without a skew
 abbrev eight : Value → Value → Value → Value → Value → Value → Value → Value → Wave Value
@@ -137,3 +138,20 @@ one_slot_late = refl
 one_slot_early : assertion_fault header (Clock from_2_to_4) 3 (eight Zero R One F Zero Zero Zero Zero) ≡ None
 unfolding assertion_fault back earlier normal
 one_slot_early = refl
+
+-- ---- whose a fault is
+
+abbrev each_kind : List Fault
+each_kind = Point Setup 3 0 1 67 ∷ Point High 3 0 1 67 ∷ Point Hold 3 0 1 67 ∷ Hazard 3 0 1 ∷ Width 3 true 0 1 ∷ Assertion 3 0 67 ∷ []
+
+of_instance_3 : map (is_of_instance 3) each_kind ≡ true ∷ true ∷ true ∷ true ∷ true ∷ false ∷ []
+of_instance_3 = refl
+
+of_instance_2 : map (is_of_instance 2) each_kind ≡ false ∷ false ∷ false ∷ false ∷ false ∷ false ∷ []
+of_instance_2 = refl
+
+of_net_3 : map (is_of_net 3) each_kind ≡ false ∷ false ∷ false ∷ false ∷ false ∷ true ∷ []
+of_net_3 = refl
+
+of_net_2 : map (is_of_net 2) each_kind ≡ false ∷ false ∷ false ∷ false ∷ false ∷ false ∷ []
+of_net_2 = refl

@@ -1,10 +1,9 @@
 -- What the waves permit breaks nothing of an instance or a net that has no fault.
-use Rattle.std.proofs.Common.{◌≡◌, ℕ, ◌+◌, ◌-◌, ◌%◌, ◌<◌, ◌≤◌, max, Bool, true, false, List, [], ◌∷◌, length, map, refl, sym, ap, ◌∙◌, arith, All, slice_get, Some, None}
-use Rattle.std.specs.List.{list_any, position}
+use Rattle.std.proofs.Common.{◌≡◌, ℕ, ◌+◌, ◌-◌, ◌%◌, ◌<◌, ◌≤◌, max, Bool, true, false, List, [], ◌∷◌, length, map, refl, sym, ap, subst, ◌∙◌, arith, All, slice_get, Some, None}
+use Rattle.std.specs.List.{list_any}
 use Rattle.std.proofs.lemmas.Bool.{both_ways}
 use Rattle.std.proofs.lemmas.List.{length-map}
 use Rattle.std.proofs.lemmas.List.Elements.{All-head}
-use Rattle.std.proofs.lemmas.List.Quantifiers.{position-Some}
 use Rattle.std.proofs.lemmas.Option.{slice_get_within}
 use Rattle.std.proofs.Math.Nat.{mod-lt}
 use Rattle.scald_base.specs.Time.{period}
@@ -27,7 +26,7 @@ use Rattle.flat_circuit.specs.Circuit.{Circuit, IsCircuit}
 use Rattle.flat_circuit.specs.Run.{Run, Choice, net_signal}
 use Rattle.gate_eval.specs.Meeting.{period_of}
 use Rattle.gate_eval.specs.Instance.{wave_of_pin}
-use Rattle.gate_eval.specs.Hold.{hazard}
+use Rattle.gate_eval.specs.Hold.{closed_bit, hazard}
 use Rattle.gate_eval.proofs.Fitting.{fold-mod}
 use Rattle.gate_eval.proofs.Held.{map-none}
 use Rattle.fixpoint_engine.specs.Value.{Waves, pin_wave, pin_waves, marked_pin}
@@ -37,8 +36,9 @@ use Rattle.fixpoint_engine.proofs.Fits.{AreLong, long-pin, long-pin-at}
 use Rattle.point_check.specs.Point.{checker_fault}
 use Rattle.point_check.specs.Assertion.{is_held}
 use Rattle.point_check.specs.Faults.{hazard_at, mark_fault, fault_by_kind, fault_of, instance_fault, fault_if_held, fault_of_net, net_fault, point_faults, is_of_instance, is_of_net}
-use Rattle.point_check.specs.Break.{BreaksSetupHold, BreaksRiseFall, BreaksMark, BreaksKind, BreaksInstance, BreaksNet}
+use Rattle.point_check.specs.Break.{BreaksSetupHold, BreaksRiseFall, Leaves, BreaksMark, BreaksKind, BreaksInstance, BreaksNet}
 use Rattle.point_check.specs.Sound.{KeepsConstraints}
+use Rattle.point_check.proofs.Words.{few_marks, marked_is, held_is}
 use Rattle.point_check.proofs.Near.{setup_hold-kept, rise_fall-kept}
 use Rattle.point_check.proofs.Marks.{mark-kept}
 use Rattle.point_check.proofs.Held.{assertion-kept}
@@ -49,11 +49,6 @@ use Rattle.point_check.proofs.Whose.{no_instance_fault, no_net_fault}
 period-at : (c : Circuit) (ws : Waves) (ps : List Pin) → AreLong c ws → All (PinExists (length c.nets)) ps → 0 < length ps → period_of (map (pin_wave c ws) ps) ≡ period c.header
 period-at c ws [] long exist some = absurd (omega arith)
 period-at c ws (p ∷ ps) long exist some = long-pin c ws p long (All-head (PinExists (length c.nets)) p ps exist)
-
--- a place where something is found is one of the list's
-position-within : {A : Type 0} (test : A → Bool) (xs : List A) (i : ℕ) → position test xs ≡ Some i → i < length xs
-position-within test [] i is = cc
-position-within test (x ∷ xs) i is = (position-Some test (x ∷ xs) i x is).0
 
 -- ---- one instance
 
@@ -70,26 +65,26 @@ module _ (c : Circuit) (ws : Waves) (run : Run) (k : ℕ) (j : Instance) (choice
       ¬ BreaksSetupHold run j choice start
   keeps-setup_hold is none b =
       let two = two-pins SetupHold is refl in
-      let begins = b.edge_in.begins in
-      let begins' = b.change_in.begins in
-      b.changes (setup_hold-kept (period c.header) k (wave_of_pin (pin_waves c ws j) 0) (wave_of_pin (pin_waves c ws j) 1) j.limits run.ticks b.edge b.change
+      let begins = b.at.edge_in.begins in
+      let begins' = b.at.change_in.begins in
+      b.at.changes (setup_hold-kept (period c.header) k (wave_of_pin (pin_waves c ws j) 0) (wave_of_pin (pin_waves c ws j) 1) j.limits run.ticks b.edge b.change
       (max start (wire_to choice 0 + 1)) (max start (wire_to choice 1 + 1)) (pin_at run j choice 0) (pin_at run j choice 1) pos
       (long-pin-at c ws j.pins 0 long fits.exists.reads (omega (arith, two))) (long-pin-at c ws j.pins 1 long fits.exists.reads (omega (arith, two)))
       (permit 0 (omega (arith, two))) (permit 1 (omega (arith, two)))
       (ap (λ (q : Kind). checker_fault q (period c.header) k (wave_of_pin (pin_waves c ws j) 0) (wave_of_pin (pin_waves c ws j) 1) j.limits) (sym is) ∙ none)
-      b.rises (omega (arith, begins)) (starts 0 b.edge b.edge_in) b.edge_in.ends (omega (arith, begins')) (starts 1 b.change b.change_in) b.change_in.ends b.not_before b.not_after)
+      b.at.rises (omega (arith, begins)) (starts 0 b.edge b.at.edge_in) b.at.edge_in.ends (omega (arith, begins')) (starts 1 b.change b.at.change_in) b.at.change_in.ends b.at.not_before b.at.not_after)
 
   keeps-rise_fall : j.kind ≡ RiseFall → checker_fault j.kind (period c.header) k (wave_of_pin (pin_waves c ws j) 0) (wave_of_pin (pin_waves c ws j) 1) j.limits ≡ None →
       ¬ BreaksRiseFall run j choice start
   keeps-rise_fall is none b =
       let two = two-pins RiseFall is refl in
-      let begins = b.edge_in.begins in
-      let begins' = b.change_in.begins in
-      b.changes (rise_fall-kept (period c.header) k (wave_of_pin (pin_waves c ws j) 0) (wave_of_pin (pin_waves c ws j) 1) j.limits run.ticks b.edge b.fall b.change
+      let begins = b.at.edge_in.begins in
+      let begins' = b.at.change_in.begins in
+      b.at.changes (rise_fall-kept (period c.header) k (wave_of_pin (pin_waves c ws j) 0) (wave_of_pin (pin_waves c ws j) 1) j.limits run.ticks b.edge b.fall b.change
       (max start (wire_to choice 0 + 1)) (max start (wire_to choice 1 + 1)) (pin_at run j choice 0) (pin_at run j choice 1) pos
       (long-pin-at c ws j.pins 0 long fits.exists.reads (omega (arith, two))) (long-pin-at c ws j.pins 1 long fits.exists.reads (omega (arith, two)))
       (permit 0 (omega (arith, two))) (permit 1 (omega (arith, two)))
-      b.is_high (omega (arith, begins)) (starts 0 b.edge b.edge_in) b.fall_in.ends (omega (arith, begins')) (starts 1 b.change b.change_in) b.change_in.ends b.not_before b.not_after
+      b.at.is_high (omega (arith, begins)) (starts 0 b.edge b.at.edge_in) b.at.fall_in.ends (omega (arith, begins')) (starts 1 b.change b.at.change_in) b.at.change_in.ends b.at.not_before b.at.not_after
       (ap (λ (q : Kind). checker_fault q (period c.header) k (wave_of_pin (pin_waves c ws j) 0) (wave_of_pin (pin_waves c ws j) 1) j.limits) (sym is) ∙ none))
 
   -- the fold of a pin's wave in the slot of a tick has the pin's step there
@@ -102,21 +97,26 @@ module _ (c : Circuit) (ws : Waves) (run : Run) (k : ℕ) (j : Instance) (choice
       ∙ fold-has values values_lawful (wave_of_pin (pin_waves c ws j) i) run.ticks (max start (wire_to choice i + 1)) t (pin_at run j choice i) (permit i below)
       (omega (arith, begins)) (starts i t steps) steps.ends
 
-  keeps-mark : mark_fault c ws k j ≡ None → ¬ BreaksMark run j choice start
-  keeps-mark none b =
-      b.changes (mark-kept j.kind (pin_waves c ws j) b.marked (b.tick % period c.header) b.pin
+  -- the bit at which the others do not matter is that of the kind
+  keeps-mark : (closed : Bool) → closed_bit j.kind ≡ closed → mark_fault c ws k j ≡ None → ¬ BreaksMark run j choice closed start
+  keeps-mark closed is none b =
+      b.at.changes (mark-kept j.kind (pin_waves c ws j) b.marked (b.tick % period c.header) b.pin
       (pin_at run j choice b.marked (b.tick - 1)) (pin_at run j choice b.marked b.tick) (pin_at run j choice b.pin (b.tick - 1)) (pin_at run j choice b.pin b.tick)
-      (ap (hazard j.kind (pin_waves c ws j)) (sym b.is_marked) ∙ map-none (hazard_at k) (hazard j.kind (pin_waves c ws j) (marked_pin j)) none)
+      (ap (hazard j.kind (pin_waves c ws j)) (sym marked) ∙ map-none (hazard_at k) (hazard j.kind (pin_waves c ws j) (marked_pin j)) none)
       (let slot : b.tick % period c.header < period c.header = mod-lt b.tick pos in
       let one = period-at c ws j.pins long fits.exists.reads (omega (arith, pin_below)) in omega (arith, slot, one))
-      (omega (arith, marked_below, waves_long)) (omega (arith, pin_below, waves_long)) b.apart
-      (fold-steps b.marked b.tick marked_below b.marked_in) (fold-steps b.pin b.tick b.below b.pin_in) b.leaves)
+      (omega (arith, marked_below, waves_long)) (omega (arith, pin_below, waves_long)) b.at.apart
+      (fold-steps b.marked b.tick marked_below b.at.marked_in) (fold-steps b.pin b.tick b.at.below b.at.pin_in)
+      (subst (λ (bit : Bool). Leaves (pin_at run j choice b.marked) bit b.tick) (sym is) b.at.leaves))
     where
+      marked : marked_pin j ≡ Some b.marked
+      marked = marked_is j b.marked (few_marks j fits.pins) b.at.is_marked
+
       pin_below : b.pin < length j.pins
-      pin_below = b.below
+      pin_below = b.at.below
 
       marked_below : b.marked < length j.pins
-      marked_below = position-within (λ (p : Pin). p.hold) j.pins b.marked b.is_marked
+      marked_below = slice_get_within j.pins b.marked b.at.is_marked.pin b.at.is_marked.pin_is
 
       waves_long : length (pin_waves c ws j) ≡ length j.pins
       waves_long = length-map j.pins (pin_wave c ws)
@@ -124,8 +124,8 @@ module _ (c : Circuit) (ws : Waves) (run : Run) (k : ℕ) (j : Instance) (choice
   keeps-kind : (kind : Kind) → j.kind ≡ kind → fault_by_kind kind c ws k j ≡ None → BreaksKind kind run j choice start → ⊥
   keeps-kind SetupHold is none b = keeps-setup_hold is none b
   keeps-kind RiseFall is none b = keeps-rise_fall is none b
-  keeps-kind And is none b = keeps-mark none b
-  keeps-kind Or is none b = keeps-mark none b
+  keeps-kind And is none b = keeps-mark false (ap closed_bit is) none b
+  keeps-kind Or is none b = keeps-mark true (ap closed_bit is) none b
   keeps-kind kind is none b = absurd b
 
 -- ---- all
@@ -148,9 +148,9 @@ keeps-instance c ws run k start pos known long none permit b =
 keeps-net : (c : Circuit) (ws : Waves) (run : Run) (i start : ℕ) → 0 < period c.header → IsCircuit c → AreLong c ws → list_any (is_of_net i) (point_faults c ws) ≡ false →
     Permits values (ws i) run.ticks (net_signal run i) start → ¬ BreaksNet c run i start
 keeps-net c ws run i start pos known long none permits b =
-    let below = slice_get_within c.nets i b.net b.net_is in
-    both_ways _ b.lacks (assertion-kept c.header b.net.spec i (ws i) run.ticks b.tick start (net_signal run i) pos (long i below) permits
-    (net-none c ws i b.net b.net_is b.is_held (no_net_fault c ws i known below none)) b.begins b.after b.ends)
+    let below = slice_get_within c.nets i b.net b.at.net_is in
+    both_ways _ b.at.lacks (assertion-kept c.header b.net.spec i (ws i) run.ticks b.tick start (net_signal run i) pos (long i below) permits
+    (net-none c ws i b.net b.at.net_is (held_is b.net b.driver b.at.is_driven b.at.asserts) (no_net_fault c ws i known below none)) b.at.begins b.at.after b.at.ends)
 
 pub keeps-constraints : (c : Circuit) (ws : Waves) (faults : List Fault) → 0 < period c.header → IsCircuit c → AreLong c ws → faults ≡ point_faults c ws → KeepsConstraints c ws faults
 keeps-constraints c ws faults pos known long is = record {

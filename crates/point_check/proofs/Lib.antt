@@ -7,9 +7,16 @@ pub mod Steady
 pub mod Near
 pub mod Marks
 pub mod Held
+pub mod Words
 pub mod Whose
 pub mod Gathered
 pub mod Kept
 pub mod AsBefore
 pub mod Reached
+pub mod Literal
+pub mod Broken
 mod Examples
+mod ExamplesSetupHold
+mod ExamplesRiseFall
+mod ExamplesMark
+mod ExamplesNet

@@ -66,4 +66,4 @@ module _ (c : Circuit) (run : Run) (ws : Waves) (faults : List Fault) (v start :
   pub no-net-breaks : (i : ℕ) → list_any (is_of_net i) faults ≡ false → ¬ BreaksNet c run i start
   no-net-breaks i none b =
       keeps.nets run i start none
-      (Permits-after values (ws i) run.ticks v start (net_signal run i) (omega (arith, far)) (permits i (slice_get_within c.nets i b.net b.net_is))) b
+      (Permits-after values (ws i) run.ticks v start (net_signal run i) (omega (arith, far)) (permits i (slice_get_within c.nets i b.net b.at.net_is))) b

@@ -1,21 +1,23 @@
--- Constraints of a run that are broken: at ticks of the run, with no period and no wave.
-use Rattle.std.specs.Prelude.{◌≡◌, ◌≢◌, ℕ, ◌+◌, ◌-◌, ◌%◌, ◌<◌, ◌≤◌, Bool, true, false, length, slice_get, Some}
-use Rattle.scald_base.specs.Time.{period}
+-- Constraints of a run that are broken, at ticks of the run. The one wave that is spoken of is the
+-- wide wave of an assertion, and no word here is one of those that say which faults checks find.
+use Rattle.std.specs.Prelude.{◌≡◌, ◌≢◌, ℕ, ◌+◌, ◌-◌, ◌%◌, ◌<◌, ◌≤◌, Bool, true, false, length, slice_get, Some, ⊤}
+use Rattle.scald_base.specs.Time.{Header, period}
 use Rattle.scald_base.specs.Signal.{Signal}
+use Rattle.scald_base.specs.declared.assertion.AssertSpec.{AssertSpec}
+use Rattle.scald_base.specs.declared.assertion.AssertSpec.TheVariants.{None as Unasserted, Precision, Clock, Stable}
+use Rattle.step_values.specs.declared.value.Value.{Value}
 use Rattle.step_values.specs.Steps.{has}
 use Rattle.step_values.specs.Cell.{values}
 use Rattle.skew_algebra.specs.Wave.{cell_at}
 use Rattle.flat_circuit.specs.declared.kind.Kind.{Kind}
-use Rattle.flat_circuit.specs.declared.kind.Kind.TheVariants.{And, Or, SetupHold, RiseFall}
+use Rattle.flat_circuit.specs.declared.kind.Kind.TheVariants.{Buf, And, Or, Xor, Mux2, Mux4, Mux8, Chg, Reg, RegRs, Latch, LatchRs, SetupHold, RiseFall, MinPulse}
+use Rattle.flat_circuit.specs.declared.instance.Pin.{Pin}
 use Rattle.flat_circuit.specs.declared.instance.Instance.{Instance}
 use Rattle.flat_circuit.specs.declared.net.Net.{Net}
 use Rattle.flat_circuit.specs.Circuit.{Circuit}
 use Rattle.flat_circuit.specs.Run.{Run, Choice, net_signal}
 use Rattle.pin_waves.specs.Interface.{wide_wave}
-use Rattle.gate_eval.specs.Hold.{closed_bit}
-use Rattle.fixpoint_engine.specs.Value.{marked_pin}
 use Rattle.fixpoint_engine.specs.Pins.{pin_at, StepsFrom}
-use Rattle.point_check.specs.Assertion.{is_held}
 
 -- ---- steps of a signal
 
@@ -34,10 +36,10 @@ pub record IsHighTo (x : Signal) (rise fall : ℕ) : Type 0 where
 
 -- ---- breaks of instances, each with the ticks that it names
 
--- The clock rises, and the input changes after `edge - setup` and up to `edge + hold`.
-pub record BreaksSetupHold (run : Run) (j : Instance) (choice : Choice) (start : ℕ) : Type 0 where
-  pub edge : ℕ
-  pub change : ℕ
+-- The clock rises at one tick, and the input changes at another, after `edge - setup` and up to
+-- `edge + hold`.
+pub record IsSetupHoldBreak (run : Run) (j : Instance) (choice : Choice) (start edge change : ℕ) :
+    Type 0 where
   pub edge_in : StepsFrom run choice 0 start edge
   pub change_in : StepsFrom run choice 1 start change
   pub rises : Rises (pin_at run j choice 0) edge
@@ -45,11 +47,15 @@ pub record BreaksSetupHold (run : Run) (j : Instance) (choice : Choice) (start :
   pub not_before : edge + 1 ≤ change + j.limits.0
   pub not_after : change ≤ edge + j.limits.1
 
--- The clock rises and next falls, and the input changes after `edge - setup` and up to `fall + hold`.
-pub record BreaksRiseFall (run : Run) (j : Instance) (choice : Choice) (start : ℕ) : Type 0 where
+pub record BreaksSetupHold (run : Run) (j : Instance) (choice : Choice) (start : ℕ) : Type 0 where
   pub edge : ℕ
-  pub fall : ℕ
   pub change : ℕ
+  pub at : IsSetupHoldBreak run j choice start edge change
+
+-- The clock rises at one tick and next falls at another, and the input changes at a third, after
+-- `edge - setup` and up to `fall + hold`.
+pub record IsRiseFallBreak (run : Run) (j : Instance) (choice : Choice)
+    (start edge fall change : ℕ) : Type 0 where
   pub edge_in : StepsFrom run choice 0 start edge
   pub fall_in : StepsFrom run choice 0 start fall
   pub change_in : StepsFrom run choice 1 start change
@@ -58,30 +64,59 @@ pub record BreaksRiseFall (run : Run) (j : Instance) (choice : Choice) (start : 
   pub not_before : edge + 1 ≤ change + j.limits.0
   pub not_after : change ≤ fall + j.limits.1
 
+pub record BreaksRiseFall (run : Run) (j : Instance) (choice : Choice) (start : ℕ) : Type 0 where
+  pub edge : ℕ
+  pub fall : ℕ
+  pub change : ℕ
+  pub at : IsRiseFallBreak run j choice start edge fall change
+
 -- the pin does not stay at this bit
 abbrev pub Leaves : Signal → Bool → ℕ → Type 0
 Leaves x bit t = ¬ ((x (t - 1) ≡ bit) × (x t ≡ bit))
 
--- The marked pin lets the others through, and another pin changes.
-pub record BreaksMark (run : Run) (j : Instance) (choice : Choice) (start : ℕ) : Type 0 where
-  pub marked : ℕ
-  pub pin : ℕ
-  pub tick : ℕ
-  pub is_marked : marked_pin j ≡ Some marked
+-- the pin of this number has the mark `!H`
+pub record HasMark (j : Instance) (i : ℕ) : Type 0 where
+  pub pin : Pin
+  pub pin_is : slice_get j.pins i ≡ Some pin
+  pub holds : pin.hold ≡ true
+
+-- At a tick the marked pin's step is other than to stay at the bit beside which the others do not
+-- matter, and another pin changes.
+pub record IsMarkBreak (run : Run) (j : Instance) (choice : Choice) (closed : Bool)
+    (start marked pin tick : ℕ) : Type 0 where
+  pub is_marked : HasMark j marked
   pub below : pin < length j.pins
   pub apart : pin ≢ marked
   pub marked_in : StepsFrom run choice marked start tick
   pub pin_in : StepsFrom run choice pin start tick
-  pub leaves : Leaves (pin_at run j choice marked) (closed_bit j.kind) tick
+  pub leaves : Leaves (pin_at run j choice marked) closed tick
   pub changes : Changes (pin_at run j choice pin) tick
 
--- those of this crate, by kind; a pulse's width is none of them
+pub record BreaksMark (run : Run) (j : Instance) (choice : Choice) (closed : Bool) (start : ℕ) :
+    Type 0 where
+  pub marked : ℕ
+  pub pin : ℕ
+  pub tick : ℕ
+  pub at : IsMarkBreak run j choice closed start marked pin tick
+
+-- Those of this crate, by kind; a pulse's width is none of them. Beside a 0 the other pins of an
+-- AND do not matter, and beside a 1 those of an OR.
 abbrev pub BreaksKind : Kind → Run → Instance → Choice → ℕ → Type 0
+BreaksKind Buf run j choice start = ⊥
+BreaksKind And run j choice start = BreaksMark run j choice false start
+BreaksKind Or run j choice start = BreaksMark run j choice true start
+BreaksKind Xor run j choice start = ⊥
+BreaksKind Mux2 run j choice start = ⊥
+BreaksKind Mux4 run j choice start = ⊥
+BreaksKind Mux8 run j choice start = ⊥
+BreaksKind Chg run j choice start = ⊥
+BreaksKind Reg run j choice start = ⊥
+BreaksKind RegRs run j choice start = ⊥
+BreaksKind Latch run j choice start = ⊥
+BreaksKind LatchRs run j choice start = ⊥
 BreaksKind SetupHold run j choice start = BreaksSetupHold run j choice start
 BreaksKind RiseFall run j choice start = BreaksRiseFall run j choice start
-BreaksKind And run j choice start = BreaksMark run j choice start
-BreaksKind Or run j choice start = BreaksMark run j choice start
-BreaksKind kind run j choice start = ⊥
+BreaksKind MinPulse run j choice start = ⊥
 
 -- the constraint of instance k is broken, at ticks from a given one on
 pub record BreaksInstance (c : Circuit) (run : Run) (k start : ℕ) : Type 0 where
@@ -93,14 +128,32 @@ pub record BreaksInstance (c : Circuit) (run : Run) (k start : ℕ) : Type 0 whe
 
 -- ---- assertions
 
--- Net i, which something drives and whose name asserts something, makes a step that the assertion's wide wave has not in
--- the step's slot, at a tick from a given one on.
-pub record BreaksNet (c : Circuit) (run : Run) (i start : ℕ) : Type 0 where
-  pub net : Net
+-- a name of this assertion asserts something
+abbrev pub Asserts : AssertSpec → Type 0
+Asserts Unasserted = ⊥
+Asserts (Precision clock) = ⊤
+Asserts (Clock clock) = ⊤
+Asserts (Stable spans) = ⊤
+
+-- what the assertion's wide wave has in the slot of a tick
+abbrev pub wide_at : Header → AssertSpec → ℕ → Value
+wide_at h spec t = cell_at values (wide_wave h spec) (t % period h)
+
+-- At a tick net i, which something drives and whose name asserts something, makes a step that the
+-- assertion's wide wave has not in the tick's slot.
+pub record IsNetBreak (c : Circuit) (run : Run) (i start : ℕ) (net : Net) (driver tick : ℕ) :
+    Type 0 where
   pub net_is : slice_get c.nets i ≡ Some net
-  pub is_held : is_held net ≡ true
-  pub tick : ℕ
+  pub is_driven : net.driver ≡ Some driver
+  pub asserts : Asserts net.spec
   pub after : start ≤ tick
   pub begins : 1 ≤ tick
   pub ends : tick < run.ticks
-  pub lacks : has (cell_at values (wide_wave c.header net.spec) (tick % period c.header)) (net_signal run i (tick - 1)) (net_signal run i tick) ≡ false
+  pub lacks : has (wide_at c.header net.spec tick) (net_signal run i (tick - 1))
+      (net_signal run i tick) ≡ false
+
+pub record BreaksNet (c : Circuit) (run : Run) (i start : ℕ) : Type 0 where
+  pub net : Net
+  pub driver : ℕ
+  pub tick : ℕ
+  pub at : IsNetBreak c run i start net driver tick

@@ -4,7 +4,7 @@ use Rattle.std.specs.List.{range_with_len}
 use Rattle.std.specs.Option.{option_map}
 use Rattle.scald_base.specs.Time.{period}
 use Rattle.flat_circuit.specs.declared.kind.Kind.{Kind}
-use Rattle.flat_circuit.specs.declared.kind.Kind.TheVariants.{And, Or, SetupHold, RiseFall}
+use Rattle.flat_circuit.specs.declared.kind.Kind.TheVariants.{Buf, And, Or, Xor, Mux2, Mux4, Mux8, Chg, Reg, RegRs, Latch, LatchRs, SetupHold, RiseFall, MinPulse}
 use Rattle.flat_circuit.specs.declared.instance.Instance.{Instance}
 use Rattle.flat_circuit.specs.declared.net.Net.{Net}
 use Rattle.flat_circuit.specs.declared.fault.Fault.{Fault}
@@ -20,9 +20,21 @@ use Rattle.point_check.specs.Assertion.{is_held, assertion_fault}
 
 -- the kinds of checkers that hold an input against the edges of a clock
 abbrev pub checks_points : Kind → Bool
+checks_points Buf = false
+checks_points And = false
+checks_points Or = false
+checks_points Xor = false
+checks_points Mux2 = false
+checks_points Mux4 = false
+checks_points Mux8 = false
+checks_points Chg = false
+checks_points Reg = false
+checks_points RegRs = false
+checks_points Latch = false
+checks_points LatchRs = false
 checks_points SetupHold = true
 checks_points RiseFall = true
-checks_points kind = false
+checks_points MinPulse = false
 
 -- there is an instance of one of these kinds
 abbrev pub IsPointChecker : Option Instance → Type 0
@@ -49,11 +61,21 @@ abbrev pub mark_fault : Circuit → Waves → ℕ → Instance → Option Fault
 mark_fault c ws k j = option_map (hazard_at k) (hazard j.kind (pin_waves c ws j) (marked_pin j))
 
 abbrev pub fault_by_kind : Kind → Circuit → Waves → ℕ → Instance → Option Fault
-fault_by_kind SetupHold c ws k j = limited_fault c ws k j j.limits
-fault_by_kind RiseFall c ws k j = limited_fault c ws k j j.limits
+fault_by_kind Buf c ws k j = None
 fault_by_kind And c ws k j = mark_fault c ws k j
 fault_by_kind Or c ws k j = mark_fault c ws k j
-fault_by_kind kind c ws k j = None
+fault_by_kind Xor c ws k j = None
+fault_by_kind Mux2 c ws k j = None
+fault_by_kind Mux4 c ws k j = None
+fault_by_kind Mux8 c ws k j = None
+fault_by_kind Chg c ws k j = None
+fault_by_kind Reg c ws k j = None
+fault_by_kind RegRs c ws k j = None
+fault_by_kind Latch c ws k j = None
+fault_by_kind LatchRs c ws k j = None
+fault_by_kind SetupHold c ws k j = limited_fault c ws k j j.limits
+fault_by_kind RiseFall c ws k j = limited_fault c ws k j j.limits
+fault_by_kind MinPulse c ws k j = None
 
 abbrev pub fault_of : Circuit → Waves → ℕ → Option Instance → Option Fault
 fault_of c ws k None = None

@@ -5,7 +5,7 @@ use Rattle.step_values.specs.Steps.{has}
 use Rattle.step_values.specs.Cell.{values}
 use Rattle.skew_algebra.specs.Wave.{Wave, fold}
 use Rattle.flat_circuit.specs.declared.kind.Kind.{Kind}
-use Rattle.flat_circuit.specs.declared.kind.Kind.TheVariants.{SetupHold, RiseFall}
+use Rattle.flat_circuit.specs.declared.kind.Kind.TheVariants.{Buf, And, Or, Xor, Mux2, Mux4, Mux8, Chg, Reg, RegRs, Latch, LatchRs, SetupHold, RiseFall, MinPulse}
 use Rattle.flat_circuit.specs.declared.fault.Fault.{Fault}
 use Rattle.gate_eval.specs.Hold.{first_some}
 use Rattle.point_check.specs.declared.window.Window.{Window}
@@ -54,9 +54,21 @@ high_window p clock limits t = high_window_to p clock limits t (first_low p cloc
 
 -- the window of a rise at slot t, for a checker of each kind with these limits
 abbrev pub window_of : Kind → ℕ → Folds → ℕ × ℕ → ℕ → Option Window
+window_of Buf p clock limits t = None
+window_of And p clock limits t = None
+window_of Or p clock limits t = None
+window_of Xor p clock limits t = None
+window_of Mux2 p clock limits t = None
+window_of Mux4 p clock limits t = None
+window_of Mux8 p clock limits t = None
+window_of Chg p clock limits t = None
+window_of Reg p clock limits t = None
+window_of RegRs p clock limits t = None
+window_of Latch p clock limits t = None
+window_of LatchRs p clock limits t = None
 window_of SetupHold p clock limits t = Some (about limits)
 window_of RiseFall p clock limits t = high_window p clock limits t
-window_of kind p clock limits t = None
+window_of MinPulse p clock limits t = None
 
 -- ---- the fault
 

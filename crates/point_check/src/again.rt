@@ -1,4 +1,4 @@
-//! The faults of a whole circuit once more, where most waves are as before.
+//! The faults of a whole circuit again, where most waves are as before.
 
 ghost use Rattle.std.specs.Prelude.{◌≡◌, ◌++◌, ◌<◌, ◌||◌, ◌↔◌, IsTrue, IfOk, OnOk, is_some, length, map, filter_map};
 ghost use Rattle.std.specs.List.{All, range_with_len};
@@ -156,7 +156,7 @@ fn instance_faults_again<W: CyclicWave<Item = Value>>(
     Ok(faults)
 }
 
-/// Puts the faults of nets behind these, in the order of names.
+/// Appends the faults of nets, in name order.
 fn add_net_faults_again<W: CyclicWave<Item = Value>>(
     faults: &mut Faults,
     alloc: Global,

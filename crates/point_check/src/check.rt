@@ -90,7 +90,7 @@ pub fn net_fault<W: CyclicWave<Item = Value>>(
     }
 }
 
-/// Puts a fault, if there is one, behind the others.
+/// Appends a fault, if there is one.
 pub fn add(faults: &mut Faults, found: Option<Fault>) -> Result<(), NoMemory>
     ensures { OnOk result (faults.new ≡ faults.old ++ option_to_list found) }
 {
@@ -100,7 +100,7 @@ pub fn add(faults: &mut Faults, found: Option<Fault>) -> Result<(), NoMemory>
     }
 }
 
-/// The number of the net at a place in the order of names; past the last, 0.
+/// The number of the net at a place in name order; past the last, 0.
 #[tactic(auto, using(fixpoint_engine::proofs::Places::past_last, fixpoint_engine::proofs::Places::at_place))]
 pub fn net_named(c: &Circuit, place: u32) -> u32
     ensures { result ≡ net_at c.now.order place }
@@ -129,7 +129,7 @@ fn instance_faults<W: CyclicWave<Item = Value>>(
     Ok(faults)
 }
 
-/// Puts the faults of nets behind these, in the order of names.
+/// Appends the faults of nets, in name order.
 fn add_net_faults<W: CyclicWave<Item = Value>>(
     faults: &mut Faults,
     alloc: Global,
@@ -147,7 +147,7 @@ fn add_net_faults<W: CyclicWave<Item = Value>>(
     Ok(())
 }
 
-/// The faults that these waves of all nets show, at rest: of setup and hold, of rise and fall and of
+/// The faults that these settled waves of all nets show: of setup and hold, of rise and fall and of
 /// marked pins by the order of expansion, and then of assertions by the order of names. What the waves
 /// permit from a tick on breaks no constraint of an instance, and no assertion of a driven net, from
 /// there on, where the answer has no fault of it.

@@ -12,7 +12,7 @@ use flat_circuit::{Fault, Kind, PointKind};
 use step_values::{Step, Value};
 use wave_core::{Cell, CyclicWave, first_where};
 
-/// The slot at a place of the window of an edge: place 0 is `setup` slots before the slot behind the
+/// The slot at a place of the window of an edge: place 0 is `setup` slots before the slot after the
 /// edge, and the slots go round the period.
 fn slot_at(period: u16, window: Window, edge: u16, place: u16) -> u16
     requires small { period ≤ 4096 }
@@ -121,7 +121,7 @@ fn all_round<W: CyclicWave<Item = Value>>(clock: &W, limits: (u16, u16)) -> Opti
     }
 }
 
-/// From before a rise to after the last fall behind it; the whole period where the clock may stay at 1
+/// From before a rise to after the last fall after it; the whole period where the clock may stay at 1
 /// for ever, and no window where it can not fall.
 fn high_window<W: CyclicWave<Item = Value>>(
     clock: &W,

@@ -58,7 +58,7 @@ fn known_nets<W: CyclicWave<Item = Value>>(
     Ok(known)
 }
 
-/// The fault of each instance and of each net that these waves of all nets show, at rest.
+/// The fault of each instance and of each net that these settled waves of all nets show.
 pub fn known_points<W: CyclicWave<Item = Value>>(
     alloc: Global,
     c: &Circuit,

@@ -1,14 +1,21 @@
 -- Pulses over a period of eight slots, worked out on paper.
-use Rattle.std.specs.Prelude.{◌≡◌, ℕ, Bool, true, false, [], ◌∷◌, Option, Some, None}
+use Rattle.std.specs.Prelude.{◌≡◌, ℕ, Bool, true, false, List, [], ◌∷◌, map, Option, Some, None}
 use Rattle.std.proofs.Common.{refl}
 use Rattle.scald_base.specs.Clock.{back}
+use Rattle.scald_base.specs.declared.assertion.AssertSpec.TheVariants.{None as Unasserted}
 use Rattle.step_values.specs.declared.value.Value.{Value}
 use Rattle.step_values.specs.declared.value.Value.TheVariants.{Zero, One, C, R, F, U}
 use Rattle.wave_core.specs.Slots.{earlier}
-use Rattle.skew_algebra.specs.Wave.{Wave, skewed}
+use Rattle.skew_algebra.specs.Wave.{Wave, skewed, moved, normal}
 use Rattle.flat_circuit.specs.declared.fault.Fault.{Fault}
-use Rattle.flat_circuit.specs.declared.fault.Fault.TheVariants.{Width}
-use Rattle.pulse_check.specs.Faults.{width_fault}
+use Rattle.flat_circuit.specs.declared.fault.Fault.TheVariants.{Point, Width, Hazard, Assertion}
+use Rattle.flat_circuit.specs.declared.fault.PointKind.TheVariants.{Setup}
+use Rattle.flat_circuit.specs.declared.kind.Kind.TheVariants.{MinPulse}
+use Rattle.flat_circuit.specs.declared.net.Net.{Net}
+use Rattle.flat_circuit.specs.Circuit.{Circuit}
+use Rattle.pulse_check.specs.Faults.{width_fault, instance_faults}
+use Rattle.pulse_check.specs.Sound.{is_of_pulse}
+use Rattle.pulse_check.proofs.Literal.{alone, pin, element}
 
 -- a wave of eight slots, late by up to so many
 abbrev eight : ℕ → Value → Value → Value → Value → Value → Value → Value → Value → Wave Value
@@ -75,3 +82,37 @@ may_change_anywhere = refl
 no_width_asked : fault (eight 0 U U U U U U U U) true 1 ≡ None
 unfolding width_fault back earlier
 no_width_asked = refl
+
+-- ---- of one checker, high pulses come first, each by its own limit
+
+abbrev net : Net
+net = record { name = []; bit = 0; spec = Unasserted; wire = record { min = 0; max = 0 }; driver = None }
+
+abbrev measured : ℕ × ℕ → Circuit
+measured limits = record (alone (element MinPulse limits (pin false))) { nets = net ∷ [] }
+
+both_levels : instance_faults (measured (3, 7)) (λ i. pulse) 0 ≡ Width 0 true 2 2 ∷ Width 0 false 4 6 ∷ []
+unfolding instance_faults width_fault moved normal back earlier
+both_levels = refl
+
+high_alone : instance_faults (measured (3, 6)) (λ i. pulse) 0 ≡ Width 0 true 2 2 ∷ []
+unfolding instance_faults width_fault moved normal back earlier
+high_alone = refl
+
+low_alone : instance_faults (measured (2, 7)) (λ i. pulse) 0 ≡ Width 0 false 4 6 ∷ []
+unfolding instance_faults width_fault moved normal back earlier
+low_alone = refl
+
+-- ---- whose a fault is
+
+abbrev each_kind : List Fault
+each_kind = Width 3 true 0 1 ∷ Width 3 false 0 1 ∷ Point Setup 3 0 1 67 ∷ Hazard 3 0 1 ∷ Assertion 3 0 67 ∷ []
+
+of_high_pulses : map (is_of_pulse 3 true) each_kind ≡ true ∷ false ∷ false ∷ false ∷ false ∷ []
+of_high_pulses = refl
+
+of_low_pulses : map (is_of_pulse 3 false) each_kind ≡ false ∷ true ∷ false ∷ false ∷ false ∷ []
+of_low_pulses = refl
+
+of_another : map (is_of_pulse 2 true) each_kind ≡ false ∷ false ∷ false ∷ false ∷ false ∷ []
+of_another = refl

@@ -102,10 +102,10 @@ module _ (c : Circuit) (ws : Waves) (run : Run) (k : ℕ) (j : Instance) (choice
   keeps-width is none b =
       let some : 0 < length j.pins = a-pin is fits.pins in
       let size = long-pin-at c ws j.pins 0 long fits.exists.reads some in
-      let after = b.start_in.after in
-      let begins = b.start_in.begins in
+      let after = b.at.start_in.after in
+      let begins = b.at.start_in.begins in
       narrow-kept level (wave_of_pin (pin_waves c ws j) 0) run.ticks (max start (wire_to choice 0 + 1)) b.start b.end (limit_of j level) (pin_at run j choice 0)
-      (omega (arith, size, pos)) (permit 0 some) b.is_pulse (omega (arith, begins)) (omega (arith, after, begins)) b.end_in.ends b.narrow
+      (omega (arith, size, pos)) (permit 0 some) b.at.is_pulse (omega (arith, begins)) (omega (arith, after, begins)) b.at.end_in.ends b.at.narrow
       (ap (λ (p : ℕ). first_narrow p level (read (wave_of_pin (pin_waves c ws j) 0).cells) (limit_of j level)) size
       ∙ none-limited c ws k j level (limit_of j level) (wave_of_pin (pin_waves c ws j) 0) (none-of-checker c ws k j level none))
     where

@@ -2,5 +2,8 @@ pub mod Narrow
 pub mod Listed
 pub mod Gathered
 pub mod Kept
+pub mod Literal
+pub mod Broken
 mod Examples
+mod ExamplesBreak
 pub mod AsBefore

@@ -1,8 +1,9 @@
--- Pulses of a run that are narrower than a checker asks for: at ticks of the run, with no period and no wave.
+-- Pulses of a run that are narrower than a checker asks for: at ticks of the run, with no period and
+-- no wave.
 use Rattle.std.specs.Prelude.{◌≡◌, ℕ, ◌+◌, ◌-◌, ◌<◌, ◌≤◌, Bool, true, false, not, slice_get, Some}
 use Rattle.scald_base.specs.Signal.{Signal}
 use Rattle.flat_circuit.specs.declared.kind.Kind.{Kind}
-use Rattle.flat_circuit.specs.declared.kind.Kind.TheVariants.{MinPulse}
+use Rattle.flat_circuit.specs.declared.kind.Kind.TheVariants.{Buf, And, Or, Xor, Mux2, Mux4, Mux8, Chg, Reg, RegRs, Latch, LatchRs, SetupHold, RiseFall, MinPulse}
 use Rattle.flat_circuit.specs.declared.instance.Instance.{Instance}
 use Rattle.flat_circuit.specs.Circuit.{Circuit}
 use Rattle.flat_circuit.specs.Run.{Run, Choice}
@@ -20,18 +21,37 @@ abbrev pub limit_of : Instance → Bool → ℕ
 limit_of j true = j.limits.0
 limit_of j false = j.limits.1
 
--- A pulse at the level is narrower than the checker asks for. It names the two ticks of its steps.
-pub record BreaksWidth (run : Run) (j : Instance) (choice : Choice) (level : Bool) (from : ℕ) : Type 0 where
-  pub start : ℕ
-  pub end : ℕ
+-- A pulse at the level, from one tick to another, is narrower than the checker asks for.
+pub record IsWidthBreak (run : Run) (j : Instance) (choice : Choice) (level : Bool)
+    (from start end : ℕ) : Type 0 where
   pub start_in : StepsFrom run choice 0 from start
   pub end_in : StepsFrom run choice 0 from end
   pub is_pulse : IsPulse (pin_at run j choice 0) level start end
   pub narrow : end < start + limit_of j level
 
+-- There is one. It names the two ticks of its steps.
+pub record BreaksWidth (run : Run) (j : Instance) (choice : Choice) (level : Bool) (from : ℕ) :
+    Type 0 where
+  pub start : ℕ
+  pub end : ℕ
+  pub at : IsWidthBreak run j choice level from start end
+
 abbrev pub BreaksKind : Kind → Run → Instance → Choice → Bool → ℕ → Type 0
+BreaksKind Buf run j choice level from = ⊥
+BreaksKind And run j choice level from = ⊥
+BreaksKind Or run j choice level from = ⊥
+BreaksKind Xor run j choice level from = ⊥
+BreaksKind Mux2 run j choice level from = ⊥
+BreaksKind Mux4 run j choice level from = ⊥
+BreaksKind Mux8 run j choice level from = ⊥
+BreaksKind Chg run j choice level from = ⊥
+BreaksKind Reg run j choice level from = ⊥
+BreaksKind RegRs run j choice level from = ⊥
+BreaksKind Latch run j choice level from = ⊥
+BreaksKind LatchRs run j choice level from = ⊥
+BreaksKind SetupHold run j choice level from = ⊥
+BreaksKind RiseFall run j choice level from = ⊥
 BreaksKind MinPulse run j choice level from = BreaksWidth run j choice level from
-BreaksKind kind run j choice level from = ⊥
 
 -- instance k has a pulse at the level that is too narrow, at ticks from a given one on
 pub record BreaksPulse (c : Circuit) (run : Run) (k : ℕ) (level : Bool) (from : ℕ) : Type 0 where

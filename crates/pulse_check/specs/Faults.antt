@@ -6,7 +6,7 @@ use Rattle.scald_base.specs.Time.{period}
 use Rattle.skew_algebra.specs.Wave.{Wave}
 use Rattle.step_values.specs.declared.value.Value.{Value}
 use Rattle.flat_circuit.specs.declared.kind.Kind.{Kind}
-use Rattle.flat_circuit.specs.declared.kind.Kind.TheVariants.{MinPulse}
+use Rattle.flat_circuit.specs.declared.kind.Kind.TheVariants.{Buf, And, Or, Xor, Mux2, Mux4, Mux8, Chg, Reg, RegRs, Latch, LatchRs, SetupHold, RiseFall, MinPulse}
 use Rattle.flat_circuit.specs.declared.instance.Instance.{Instance}
 use Rattle.flat_circuit.specs.declared.fault.Fault.{Fault}
 use Rattle.flat_circuit.specs.declared.fault.Fault.TheVariants.{Width}
@@ -28,8 +28,21 @@ pin_of c ws j = wave_of_pin (pin_waves c ws j) 0
 
 -- the kind of checkers that measure pulses
 abbrev pub checks_pulses : Kind → Bool
+checks_pulses Buf = false
+checks_pulses And = false
+checks_pulses Or = false
+checks_pulses Xor = false
+checks_pulses Mux2 = false
+checks_pulses Mux4 = false
+checks_pulses Mux8 = false
+checks_pulses Chg = false
+checks_pulses Reg = false
+checks_pulses RegRs = false
+checks_pulses Latch = false
+checks_pulses LatchRs = false
+checks_pulses SetupHold = false
+checks_pulses RiseFall = false
 checks_pulses MinPulse = true
-checks_pulses kind = false
 
 -- there is an instance of this kind
 abbrev pub IsPulseChecker : Option Instance → Type 0
@@ -53,8 +66,21 @@ listed (Some fault) = fault ∷ []
 
 -- the limit of high pulses is the first of a checker's two
 abbrev pub faults_by_kind : Kind → Circuit → Waves → ℕ → Instance → List Fault
+faults_by_kind Buf c ws k j = []
+faults_by_kind And c ws k j = []
+faults_by_kind Or c ws k j = []
+faults_by_kind Xor c ws k j = []
+faults_by_kind Mux2 c ws k j = []
+faults_by_kind Mux4 c ws k j = []
+faults_by_kind Mux8 c ws k j = []
+faults_by_kind Chg c ws k j = []
+faults_by_kind Reg c ws k j = []
+faults_by_kind RegRs c ws k j = []
+faults_by_kind Latch c ws k j = []
+faults_by_kind LatchRs c ws k j = []
+faults_by_kind SetupHold c ws k j = []
+faults_by_kind RiseFall c ws k j = []
 faults_by_kind MinPulse c ws k j = listed (limited_fault c ws k j true j.limits.0) ++ listed (limited_fault c ws k j false j.limits.1)
-faults_by_kind kind c ws k j = []
 
 abbrev pub faults_of : Circuit → Waves → ℕ → Option Instance → List Fault
 faults_of c ws k None = []

@@ -1,4 +1,4 @@
--- Pulses that may be narrow, read off a wave as it is. All slots of a wave come late together, so a pulse keeps its width
+-- Pulses that may be narrow, read off a wave as it is. All slots of a wave are late together, so a pulse keeps its width
 -- however late it comes, and no fold is taken.
 use Rattle.std.specs.Prelude.{ℕ, zero, suc, ◌+◌, ◌-◌, Bool, true, not, ◌&&◌, Option, Some, None, if◌then◌else◌}
 use Rattle.std.specs.Option.{option_map}

@@ -1,4 +1,4 @@
-//! The faults of a whole circuit once more, where most waves are as before.
+//! The faults of a whole circuit again, where most waves are as before.
 
 ghost use Rattle.std.specs.Prelude.{◌≡◌, ◌++◌, ◌<◌, IsTrue, IfOk, OnOk, length, map, true};
 ghost use Rattle.std.specs.List.{range_with_len};
@@ -56,7 +56,7 @@ fn is_as_before<W: CyclicWave<Item = Value>>(
     }
 }
 
-/// Puts more faults behind these.
+/// Appends more faults.
 fn add_all(faults: &mut Faults, more: &Faults) -> Result<(), NoMemory>
     ensures { OnOk result (faults.new ≡ faults.old ++ more.now) }
 {
@@ -66,7 +66,7 @@ fn add_all(faults: &mut Faults, more: &Faults) -> Result<(), NoMemory>
     Ok(())
 }
 
-/// Puts the faults of the instance of a number behind these, where what each had before is known.
+/// Appends the faults of the instance of a number, where what each had before is known.
 fn add_faults_again<W: CyclicWave<Item = Value>>(
     faults: &mut Faults,
     alloc: Global,

@@ -14,7 +14,7 @@ use std::alloc::Global;
 use step_values::Value;
 use wave_core::CyclicWave;
 
-/// Puts the faults of the instance of a number behind these.
+/// Appends the faults of the instance of a number.
 #[inline(always)]
 pub fn add_faults<W: CyclicWave<Item = Value>>(
     faults: &mut Faults,
@@ -36,7 +36,7 @@ pub fn add_faults<W: CyclicWave<Item = Value>>(
     }
 }
 
-/// The faults that these waves of all nets show, at rest: pulses that may be narrower than a checker
+/// The faults that these settled waves of all nets show: pulses that may be narrower than a checker
 /// asks for, by the order of expansion, of each checker that of its high pulses and then that of its low
 /// ones. What the waves permit from a tick on has no narrow pulse from there on, where the answer has no
 /// fault of it.

@@ -80,7 +80,7 @@ pub fn width_fault<W: CyclicWave<Item = Value>>(
     }
 }
 
-/// Puts the faults of a checker behind these: that of its high pulses, and then that of its low ones.
+/// Appends the faults of a checker: that of its high pulses, and then that of its low ones.
 pub fn add_checker_faults<W: CyclicWave<Item = Value>>(
     faults: &mut Faults,
     alloc: Global,

@@ -17,7 +17,7 @@ use wave_core::CyclicWave;
 /// The faults of each instance in some waves, by its number. Those without a fault take no memory of their own.
 pub type PulseFaults = List<Faults>;
 
-/// The faults of each instance that these waves of all nets show, at rest.
+/// The faults of each instance that these settled waves of all nets show.
 pub fn known_pulses<W: CyclicWave<Item = Value>>(
     alloc: Global,
     c: &Circuit,

@@ -1,6 +1,6 @@
 //! Pulses that may be narrower than a checker asks for.
 //!
-//! The layer above calls [`check_pulses`] for the faults of all checkers in the waves at rest,
+//! The layer above calls [`check_pulses`] for the faults of all checkers in the settled waves,
 //! [`check_pulses_again`] for those in further waves, where [`known_pulses`] were worked out once, and
 //! [`width_fault`] for what a checker finds with another width. `specs/Pulse` says which pulses a wave
 //! may have, `specs/Faults` which faults come, in which order, `specs/Break` what a narrow pulse of a run
@@ -11,7 +11,7 @@
 mod checker;
 mod pulse;
 
-// all of them, and once more where most waves are as before
+// all of them, and again where most waves are as before
 mod again;
 mod check;
 mod known;
