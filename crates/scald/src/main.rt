@@ -5,79 +5,51 @@
 //! The work is that of `scald_tool::tool_main`, whose contract says what the answer means.
 #![tactic(auto)]
 
-mod said;
+ghost use Rattle.std.specs.Prelude.{◌≡◌};
+ghost use Rattle.std.specs.Process.{exit_status};
+ghost use Rattle.scald_tool.specs.Status.{status_of};
+ghost use Rattle.scald.specs.Said.{unstarted_status};
 
-use said::{NO_ARGUMENTS, NO_MEMORY, say, say_outcome};
-use scald_base::{Bytes, NoMemory, StdSink, StdSource};
-use scald_tool::{Words, status, tool_main};
+mod said;
+mod unstarted;
+
+use said::{say, say_outcome};
+use scald_base::{StdSink, StdSource};
+use scald_tool::{Outcome, Words, status, tool_main, words_of};
+use std::io::Eprint;
 use std::process::ExitCode;
 use std::rt::Env;
 use std::{env, io};
+use unstarted::Unstarted;
 
-/// Why the program cannot begin.
-#[derive(Clone, Copy, Debug)]
-enum Unstarted {
-    /// The system does not give the arguments, or not as text.
-    NoArguments,
-    /// There is no memory for them.
-    NoMemory,
-}
-
-impl Unstarted {
-    /// The status that the program then ends with. No outcome has the status 20.
-    fn status(self) -> u8 {
-        match self {
-            Unstarted::NoArguments => 20,
-            Unstarted::NoMemory => 8,
-        }
-    }
-
-    /// The line that says so on standard error.
-    fn why(self) -> &'static str {
-        match self {
-            Unstarted::NoArguments => NO_ARGUMENTS,
-            Unstarted::NoMemory => NO_MEMORY,
-        }
-    }
-}
-
-impl From<NoMemory> for Unstarted {
-    fn from(_e: NoMemory) -> Unstarted {
-        Unstarted::NoMemory
-    }
-}
-
-impl From<io::Error> for Unstarted {
-    fn from(e: io::Error) -> Unstarted {
-        match e.kind() {
-            io::ErrorKind::OutOfMemory => Unstarted::NoMemory,
-            _ => Unstarted::NoArguments,
-        }
-    }
-}
-
-/// The arguments behind the program's name.
+/// The words of the program's arguments, as the system gives them.
 fn words(rt: &(impl Env + AllocGlobal)) -> Result<Words, Unstarted> {
-    let mut words = Words::new(rt.alloc());
-    for argument in env::args(rt)?.skip(1) {
-        let mut word = Bytes::new(rt.alloc());
-        word.extend(argument.as_bytes())?;
-        words.push(word)?;
-    }
-    Ok(words)
+    Ok(words_of(rt.alloc(), env::args(rt)?)?)
+}
+
+/// Says why there are no words, and gives the status of that.
+fn end_unstarted(rt: &impl Eprint, cause: Unstarted) -> ExitCode
+    ensures { exit_status result ≡ unstarted_status cause }
+{
+    say(rt, cause.why());
+    ExitCode::from(cause.status())
+}
+
+/// Says why there is no answer, where there is none, and gives the outcome's status.
+fn end(rt: &impl Eprint, outcome: &Outcome) -> ExitCode
+    ensures { exit_status result ≡ status_of outcome.now }
+{
+    say_outcome(rt, outcome);
+    ExitCode::from(status(outcome))
 }
 
 fn main(rt: HostRuntime) -> ExitCode {
     let words = match words(&rt) {
         Ok(words) => words,
-        Err(e) => {
-            say(&rt, e.why());
-            return ExitCode::from(e.status());
-        }
+        Err(cause) => return end_unstarted(&rt, cause),
     };
     let mut source = StdSource::new(rt.reader());
     let mut sink = StdSink::new(io::writer(&rt));
     let outcome = tool_main(rt.alloc(), &words, &mut source, &mut sink);
-    say_outcome(&rt, &outcome);
-    ExitCode::from(status(&outcome))
+    end(&rt, &outcome)
 }

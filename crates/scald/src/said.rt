@@ -1,34 +1,39 @@
 //! What the program says on standard error where it ends without an answer.
 
+ghost use Rattle.std.specs.Prelude.{◌≡◌};
+ghost use Rattle.std.specs.Option.{option_copied};
+ghost use Rattle.scald.specs.Said.{forms, no_memory, why_of};
+
 use scald_tool::Outcome;
 use std::io::Eprint;
 
 /// The forms of words that the program knows.
-const FORMS: &str = "scald: these words are none of its forms, which are
+fn forms() -> &'static str
+    ensures { result.now ≡ forms }
+{
+    "scald: these words are none of its forms, which are
     scald verify [waves|faults] [rounds=N] <DRAWING    whether the drawing keeps its constraints, with its waves and faults
     scald format <DRAWING                              the drawing in its canonical form
-    scald bench N                                      what is found in a made drawing of N sections, 1 to 200";
-
-const TOO_LONG: &str = "scald: the drawing has more than 4194304 bytes";
-
-const READ_FAULT: &str = "scald: standard input could not be read";
-
-const WRITE_FAULT: &str = "scald: standard output could not be written";
+    scald bench N                                      what is found in a made drawing of N sections, 1 to 200"
+}
 
 /// What is said where memory ran out.
-pub const NO_MEMORY: &str = "scald: there is not enough memory";
-
-/// What is said where the system gives no arguments, or not as text.
-pub const NO_ARGUMENTS: &str = "scald: the system gives no arguments, or not as text";
+pub fn no_memory() -> &'static str
+    ensures { result.now ≡ no_memory }
+{
+    "scald: there is not enough memory"
+}
 
 /// Why an outcome is no answer to the drawing, or None where it is one.
-fn why(outcome: &Outcome) -> Option<&'static str> {
+fn why(outcome: &Outcome) -> Option<&'static str>
+    ensures { option_copied result ≡ why_of outcome.now }
+{
     match outcome {
-        Outcome::BadWords(_) => Some(FORMS),
-        Outcome::TooLong => Some(TOO_LONG),
-        Outcome::ReadFault => Some(READ_FAULT),
-        Outcome::WriteFault => Some(WRITE_FAULT),
-        Outcome::NoMemory => Some(NO_MEMORY),
+        Outcome::BadWords(_) => Some(forms()),
+        Outcome::TooLong => Some("scald: the drawing has more than 4194304 bytes"),
+        Outcome::ReadFault => Some("scald: standard input could not be read"),
+        Outcome::WriteFault => Some("scald: standard output could not be written"),
+        Outcome::NoMemory => Some(no_memory()),
         Outcome::Clean
         | Outcome::Faulty(_)
         | Outcome::Done

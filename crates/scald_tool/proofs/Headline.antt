@@ -102,7 +102,7 @@ pub clean_is_safe : (mode : Mode) (c : Circuit) (values : List (List CaseValue))
 clean_is_safe mode c values limit _ _ (rested base cases rests at_rest) keeps e =
     let safe : IsSafe c values limit (IsKept c) = keeps (ap has_report e) in
     let same : base ≡ safe.base = one_rest (base_round c) limit limit base safe.base rests safe.rests in
-    let alike : cases ≡ safe.cases = one_cases c limit safe.base (listed_cases values) cases safe.cases (subst (λ (b : ℕ). AreAtRest c limit b (listed_cases values) cases) same at_rest) safe.at_rest in
+    let alike : cases ≡ safe.cases = one_cases c limit safe.base limit (listed_cases values) cases safe.cases (subst (λ (b : ℕ). AreAtRest c limit b (listed_cases values) cases) same at_rest) safe.at_rest in
     let none : fault_count c cases ≡ 0 = verdict-clean (fault_count c cases) (fault_count c cases == 0) refl e in
     record {
       base = safe.base;

@@ -137,7 +137,7 @@ one-judgement : (tell : Telling) (c : Circuit) (values : List (List CaseValue)) 
     Concluded tell c values limit o bytes → Concluded tell c values limit o' bytes' → (o ≡ o') × (bytes ≡ bytes')
 one-judgement tell c values limit _ _ _ _ (rested base cases rests at) (rested base' cases' rests' at') =
     let same : base' ≡ base = one_rest (base_round c) limit limit base' base rests' rests in
-    let alike : cases ≡ cases' = one_cases c limit base (listed_cases values) cases cases' at (subst (λ (b : ℕ). AreAtRest c limit b (listed_cases values) cases') same at') in
+    let alike : cases ≡ cases' = one_cases c limit base limit (listed_cases values) cases cases' at (subst (λ (b : ℕ). AreAtRest c limit b (listed_cases values) cases') same at') in
     let told : tell c base cases ≡ tell c base' cases' = ap (tell c base) alike ∙ ap (λ (b : ℕ). tell c b cases') (sym same) in
     (ap (λ (t : Outcome × List ℕ). t.0) told, ap (λ (t : Outcome × List ℕ). t.1) told)
 one-judgement tell c values limit _ _ _ _ (rested base cases rests at) (unsettled place is) = absurd (is.never base rests.within rests.still)

@@ -3,6 +3,7 @@ pub mod OneOrder
 pub mod OneCircuit
 pub mod OneRest
 pub mod Judgement
+pub mod Promised
 pub mod Counts
 pub mod Added
 pub mod Headline
@@ -17,3 +18,5 @@ pub mod Finishing
 pub mod Ending
 pub mod Forming
 pub mod Placed
+mod Examples
+mod Unbroken

@@ -39,36 +39,40 @@ module _ (c : Circuit) (limit base : ℕ) where
   case-by : (l : Listed) (r r' : ℕ) (ws ws' : Waves) → r ≡ r' → ws ≡ ws' → let x : Case = record { listed = l; rounds = r; waves = ws } in let y : Case = record { listed = l; rounds = r'; waves = ws' } in x ≡ y
   case-by l r r' ws ws' a b = rw (a, b) refl
 
-  same-case : (l : Listed) (r r' : ℕ) (ws ws' : Waves) → IsAtRest c limit base (record { listed = l; rounds = r; waves = ws }) → IsAtRest c limit base (record { listed = l; rounds = r'; waves = ws' }) →
+  same-case : (limit' : ℕ) (l : Listed) (r r' : ℕ) (ws ws' : Waves) → IsAtRest c limit base (record { listed = l; rounds = r; waves = ws }) →
+      IsAtRest c limit' base (record { listed = l; rounds = r'; waves = ws' }) →
       let x : Case = record { listed = l; rounds = r; waves = ws } in let y : Case = record { listed = l; rounds = r'; waves = ws' } in x ≡ y
-  same-case l r r' ws ws' a b =
+  same-case limit' l r r' ws ws' a b =
       let cones : b.cone ≡ a.cone = same-cone l b.cone a.cone b.is_cone a.is_cone in
-      let rests : RestsAt (rounds_in l a.cone) limit r' = subst (λ (cone : ℕ → Bool). RestsAt (rounds_in l cone) limit r') cones b.is.rests in
-      let same : r ≡ r' = one_rest (rounds_in l a.cone) limit limit r r' a.is.rests rests in
+      let rests : RestsAt (rounds_in l a.cone) limit' r' = subst (λ (cone : ℕ → Bool). RestsAt (rounds_in l cone) limit' r') cones b.is.rests in
+      let same : r ≡ r' = one_rest (rounds_in l a.cone) limit limit' r r' a.is.rests rests in
       let mine : ws ≡ rounds_in l a.cone r = same_waves ws (rounds_in l a.cone r) a.is.waves in
       let other : ws' ≡ rounds_in l b.cone r' = same_waves ws' (rounds_in l b.cone r') b.is.waves in
       case-by l r r' ws ws' same (mine ∙ ap (rounds_in l a.cone) same ∙ sym (ap (λ (cone : ℕ → Bool). rounds_in l cone r') cones) ∙ sym other)
 
-  one-case : (x y : Case) → x.listed ≡ y.listed → IsAtRest c limit base x → IsAtRest c limit base y → x ≡ y
-  one-case x y same a b =
+  one-case : (limit' : ℕ) (x y : Case) → x.listed ≡ y.listed → IsAtRest c limit base x → IsAtRest c limit' base y → x ≡ y
+  one-case limit' x y same a b =
       let moved : IsAtRest c limit base (record { listed = y.listed; rounds = x.rounds; waves = x.waves }) = subst (λ (l : Listed). IsAtRest c limit base (record { listed = l; rounds = x.rounds; waves = x.waves })) same a in
       let first : x ≡ record { listed = y.listed; rounds = x.rounds; waves = x.waves } = ap (λ (l : Listed). let z : Case = record { listed = l; rounds = x.rounds; waves = x.waves } in z) same in
-      first ∙ same-case y.listed x.rounds y.rounds x.waves y.waves moved b
+      first ∙ same-case limit' y.listed x.rounds y.rounds x.waves y.waves moved b
 
-  alike : (xs ys : List Case) → map (λ (k : Case). k.listed) xs ≡ map (λ (k : Case). k.listed) ys → All (IsAtRest c limit base) xs → All (IsAtRest c limit base) ys → xs ≡ ys
-  alike [] [] e a b = refl
-  alike [] (y ∷ ys) e a b = absurd (cc)
-  alike (x ∷ xs) [] e a b = absurd (cc)
-  alike (x ∷ xs) (y ∷ ys) e a b =
+  alike : (limit' : ℕ) (xs ys : List Case) → map (λ (k : Case). k.listed) xs ≡ map (λ (k : Case). k.listed) ys →
+      All (IsAtRest c limit base) xs → All (IsAtRest c limit' base) ys → xs ≡ ys
+  alike limit' [] [] e a b = refl
+  alike limit' [] (y ∷ ys) e a b = absurd (cc)
+  alike limit' (x ∷ xs) [] e a b = absurd (cc)
+  alike limit' (x ∷ xs) (y ∷ ys) e a b =
       let first : x.listed ≡ y.listed = cc in
       let others : map (λ (k : Case). k.listed) xs ≡ map (λ (k : Case). k.listed) ys = cc in
-      let head : x ≡ y = one-case x y first (All-head (IsAtRest c limit base) x xs a) (All-head (IsAtRest c limit base) y ys b) in
-      let tail : xs ≡ ys = alike xs ys others (All-tail (IsAtRest c limit base) x xs a) (All-tail (IsAtRest c limit base) y ys b) in
+      let head : x ≡ y =
+      one-case limit' x y first (All-head (IsAtRest c limit base) x xs a) (All-head (IsAtRest c limit' base) y ys b) in
+      let tail : xs ≡ ys =
+      alike limit' xs ys others (All-tail (IsAtRest c limit base) x xs a) (All-tail (IsAtRest c limit' base) y ys b) in
       cc
 
-  -- the cases of a list rest in one way
-  pub one_cases : (ls : List Listed) (xs ys : List Case) → AreAtRest c limit base ls xs → AreAtRest c limit base ls ys → xs ≡ ys
-  one_cases ls xs ys a b = alike xs ys (a.each ∙ sym b.each) a.rest b.rest
+  -- the cases of a list rest in one way, whatever the limits are
+  pub one_cases : (limit' : ℕ) (ls : List Listed) (xs ys : List Case) → AreAtRest c limit base ls xs → AreAtRest c limit' base ls ys → xs ≡ ys
+  one_cases limit' ls xs ys a b = alike limit' xs ys (a.each ∙ sym b.each) a.rest b.rest
 
   -- a case that never rests is none that does
   restless : (l : Listed) (x : Case) (place : ℕ) → l ≡ x.listed → NeverRests c limit base l place → IsAtRest c limit base x → ⊥

@@ -32,7 +32,7 @@ abbrev pub limit_for : Circuit → Option ℕ → ℕ
 limit_for c (Some limit) = limit
 limit_for c None = default_limit c
 
--- What is told of a circuit at rest, by the round in which its base came to rest and by its cases: an outcome and bytes.
+-- What is told of a settled circuit, by the round in which its base settled and by its cases: an outcome and bytes.
 abbrev pub Telling : Type 0
 Telling = Circuit → ℕ → List Case → Outcome × List ℕ
 
@@ -45,8 +45,8 @@ reported mode c base cases = (verdict_of (fault_count c cases), report mode c ba
 abbrev pub measured : ℕ → Telling
 measured sections c base cases = (Done, summary_line c sections base (tick (reach c) base 0) (fault_count c cases))
 
--- What is answered on a circuit and its cases, with which bytes: what is told of the base and each case at rest; or, where
--- the base or else a case is not at rest by the limit, and every case before it is, the first net in the order of names
+-- What is answered on a circuit and its cases, with which bytes: what is told of the settled base and cases; or, where
+-- the base or else a case has not settled by the limit, and every case before it has, the first net in name order
 -- that still changes there.
 pub data Concluded (tell : Telling) (c : Circuit) (values : List (List CaseValue)) (limit : ℕ) : Outcome → List ℕ → Type 0 where
   rested : (base : ℕ) (cases : List Case) → RestsAt (base_round c) limit base → AreAtRest c limit base (listed_cases values) cases →

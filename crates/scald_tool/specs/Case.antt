@@ -1,4 +1,4 @@
--- The cases of a circuit at rest, and their faults.
+-- The settled cases of a circuit, and their faults.
 use Rattle.std.specs.Prelude.{◌≡◌, ℕ, ◌+◌, Bool, List, [], ◌∷◌, ◌++◌, length, map}
 use Rattle.std.specs.List.{All, sum_by}
 use Rattle.flat_circuit.specs.declared.case.CaseValue.{CaseValue}
@@ -29,27 +29,27 @@ abbrev pub listed_cases : List (List CaseValue) → List Listed
 listed_cases [] = record { number = 0; values = [] } ∷ []
 listed_cases (vs ∷ cases) = numbered 1 (vs ∷ cases)
 
--- ---- cases at rest
+-- ---- settled cases
 
--- a case, the rounds that it takes from the base on, and the waves of the nets when it is at rest
+-- a case, the rounds that it takes from the base on, and the waves of the nets when it has settled
 pub record Case : Type 0 where
   pub listed : Listed
   pub rounds : ℕ
   pub waves : Waves
 
--- The case's rounds go on from a base that came to rest in this round; they come to rest in the round that is given, and
+-- The case's rounds start from a base that settled in this round; they settle in the round that is given, and
 -- within the limit, with the waves that are given.
 pub record IsAtRest (c : Circuit) (limit base : ℕ) (case : Case) : Type 0 where
   pub cone : ℕ → Bool
   pub is_cone : IsCone c case.listed.values cone
   pub is : IsCase c case.listed.values cone (base_round c base) limit case.rounds case.waves
 
--- these cases, one after the other, at rest
+-- these cases, one after the other, settled
 pub record AreAtRest (c : Circuit) (limit base : ℕ) (listed : List Listed) (cases : List Case) : Type 0 where
   pub each : map (λ (case : Case). case.listed) cases ≡ listed
   pub rest : All (IsAtRest c limit base) cases
 
--- The case does not come to rest within the limit, and at the limit the net at this place in the order of names is the
+-- The case does not settle within the limit, and at the limit the net at this place in name order is the
 -- first that still changes.
 pub record NeverRests (c : Circuit) (limit base : ℕ) (listed : Listed) (place : ℕ) : Type 0 where
   pub cone : ℕ → Bool

@@ -9,7 +9,7 @@ use Rattle.case_analysis.specs.Base.{base_round}
 use Rattle.design_gen.specs.Datapath.{datapath}
 use Rattle.listing.specs.declared.case.Mode.{Mode}
 use Rattle.scald_tool.specs.declared.outcome.Outcome.{Outcome}
-use Rattle.scald_tool.specs.declared.outcome.Outcome.TheVariants.{Clean, Faulty, Done}
+use Rattle.scald_tool.specs.declared.outcome.Outcome.TheVariants.{Clean, Faulty, Done, Refused, Unsettled, BadWords, TooLong, ReadFault, WriteFault, NoMemory}
 use Rattle.scald_tool.specs.declared.words.Command.{Command}
 use Rattle.scald_tool.specs.declared.words.Command.TheVariants.{Verify, Format, Bench}
 use Rattle.scald_tool.specs.Words.{command_of, reads}
@@ -18,7 +18,7 @@ use Rattle.scald_tool.specs.Case.{Case, AreAtRest, listed_cases}
 use Rattle.scald_tool.specs.Answer.{limit_for, most_bytes}
 use Rattle.scald_tool.specs.Promise.{IsAnswered}
 
--- The text draws a circuit, and nothing of it is refused; its base and each of its cases come to rest, within this limit where
+-- The text draws a circuit, and nothing of it is refused; its base and each of its cases settle, within this limit where
 -- one is given, and else within the circuit's own.
 pub record ComesToRest (rounds : Option ℕ) (text : List ℕ) : Type 0 where
   pub circuit : Circuit
@@ -29,7 +29,7 @@ pub record ComesToRest (rounds : Option ℕ) (text : List ℕ) : Type 0 where
   pub cases : List Case
   pub at_rest : AreAtRest circuit (limit_for circuit rounds) base (listed_cases values) cases
 
--- The text passes every stage of a form: for `format` it draws a drawing, for `verify` it comes to rest, and for `bench` the
+-- The text passes every stage of a form: for `format` it draws a drawing, for `verify` it settles, and for `bench` the
 -- generated drawing does, whatever the text is.
 pub data Passes (text : List ℕ) : Command → Type 0 where
   formatted : (d : Drawing) → TextDraws text d → Passes text Format
@@ -41,7 +41,13 @@ abbrev pub is_finished : Outcome → Bool
 is_finished Clean = true
 is_finished (Faulty n) = true
 is_finished Done = true
-is_finished o = false
+is_finished (Refused r) = false
+is_finished (Unsettled k limit) = false
+is_finished (BadWords i) = false
+is_finished TooLong = false
+is_finished ReadFault = false
+is_finished WriteFault = false
+is_finished NoMemory = false
 
 -- To words of a form, and a text that is not too long where the form reads and that passes every stage, the answer is the one
 -- that they have, with exactly its bytes, and it is finished.

@@ -1,12 +1,15 @@
 -- Laws of texts and answers on which the promise of the whole call rests.
-use Rattle.std.specs.Prelude.{◌≡◌, ℕ, List}
+use Rattle.std.specs.Prelude.{◌≡◌, ℕ, true, List, Option}
 use Rattle.scald_base.specs.declared.refusal.Refusal.{Refusal}
 use Rattle.scald_lex.specs.Place.{IsPlaceOf}
 use Rattle.flat_circuit.specs.declared.case.CaseValue.{CaseValue}
 use Rattle.flat_circuit.specs.Circuit.{Circuit}
 use Rattle.scald_tool.specs.declared.outcome.Outcome.{Outcome}
 use Rattle.scald_tool.specs.Drawn.{DrawsCircuit, IsTextRefused}
-use Rattle.scald_tool.specs.Answer.{Answer}
+use Rattle.listing.specs.declared.case.Mode.{Mode}
+use Rattle.scald_tool.specs.Answer.{Answer, Verified}
+use Rattle.scald_tool.specs.Report.{report}
+use Rattle.scald_tool.specs.Promise.{FaultlessNeverBreaks, NeverBreaks, has_report}
 
 -- a text draws one circuit at most, with the same cases
 abbrev pub OneCircuit : Type 0
@@ -23,3 +26,12 @@ OneAnswer =
 -- a text is refused at the place of one of its bytes, or of its end
 abbrev pub RefusalsArePlaced : Type 0
 RefusalsArePlaced = (text : List ℕ) (r : Refusal) → IsTextRefused text r → IsPlaceOf text r.place
+
+-- The report that is printed is that of the circuit, the base and the cases at rest that a promise speaks of. So the numbers
+-- of each case in it, its base, rounds and tick, are those of the promise.
+abbrev pub ReportsArePromised : Type 0
+ReportsArePromised =
+    (mode : Mode) (rounds : Option ℕ) (text : List ℕ) (o : Outcome) (bytes : List ℕ) →
+    Verified mode rounds text o bytes → has_report o ≡ true →
+    ((p : NeverBreaks text) → bytes ≡ report mode p.circuit p.never.base p.never.cases)
+    × ((p : FaultlessNeverBreaks text) → bytes ≡ report mode p.circuit p.never.base p.never.cases)

@@ -18,7 +18,7 @@ use Rattle.pulse_check.specs.Sound.{is_of_pulse}
 use Rattle.listing.specs.declared.case.Mode.{Mode}
 use Rattle.design_gen.specs.Datapath.{datapath}
 use Rattle.scald_tool.specs.declared.outcome.Outcome.{Outcome}
-use Rattle.scald_tool.specs.declared.outcome.Outcome.TheVariants.{Clean, Faulty, Done, Refused, Unsettled, BadWords, TooLong, ReadFault, NoMemory}
+use Rattle.scald_tool.specs.declared.outcome.Outcome.TheVariants.{Clean, Faulty, Done, Refused, Unsettled, BadWords, TooLong, ReadFault, WriteFault, NoMemory}
 use Rattle.scald_tool.specs.declared.words.Command.{Command}
 use Rattle.scald_tool.specs.declared.words.Command.TheVariants.{Verify, Format, Bench}
 use Rattle.scald_tool.specs.Words.{command_of, are_reading}
@@ -48,7 +48,7 @@ pub record IsCutShort (words : List (List ℕ)) (text : List ℕ) (taken taken' 
   pub is : Answer words text outcome bytes
   pub written : TakesFront taken taken' bytes
 
--- The outcome is the one that `verify` has for the text, in this mode and with this limit, and behind what was there stand
+-- The outcome is the one that `verify` has for the text, in this mode and with this limit, and what was there is followed by
 -- exactly its bytes.
 pub record IsVerified (mode : Mode) (rounds : Option ℕ) (text : List ℕ) (o : Outcome) (before after : List ℕ) : Type 0 where
   pub bytes : List ℕ
@@ -63,7 +63,11 @@ speaks (Faulty n) = true
 speaks Done = true
 speaks (Refused r) = true
 speaks (Unsettled k limit) = true
-speaks _ = false
+speaks (BadWords i) = false
+speaks TooLong = false
+speaks ReadFault = false
+speaks WriteFault = false
+speaks NoMemory = false
 
 -- an outcome with which nothing is written
 abbrev pub is_silent : Outcome → Bool
@@ -71,29 +75,50 @@ is_silent (BadWords i) = true
 is_silent TooLong = true
 is_silent ReadFault = true
 is_silent NoMemory = true
-is_silent _ = false
+is_silent Clean = false
+is_silent (Faulty n) = false
+is_silent Done = false
+is_silent (Refused r) = false
+is_silent (Unsettled k limit) = false
+is_silent WriteFault = false
 
 -- an outcome that comes with a whole report
 abbrev pub has_report : Outcome → Bool
 has_report Clean = true
 has_report (Faulty n) = true
-has_report _ = false
+has_report Done = false
+has_report (Refused r) = false
+has_report (Unsettled k limit) = false
+has_report (BadWords i) = false
+has_report TooLong = false
+has_report ReadFault = false
+has_report WriteFault = false
+has_report NoMemory = false
 
--- an outcome that comes only after the source was read
+-- an outcome that only reading the source can have
 abbrev pub has_read : Outcome → Bool
 has_read TooLong = true
 has_read ReadFault = true
-has_read _ = false
+has_read Clean = false
+has_read (Faulty n) = false
+has_read Done = false
+has_read (Refused r) = false
+has_read (Unsettled k limit) = false
+has_read (BadWords i) = false
+has_read WriteFault = false
+has_read NoMemory = false
 
 -- `verify` is asked for, in some mode and with some limit
 abbrev pub asks_verify : Command → Bool
 asks_verify (Verify mode rounds) = true
-asks_verify command = false
+asks_verify Format = false
+asks_verify (Bench sections) = false
 
 -- a circuit is evaluated: by `verify`, or by `bench`
 abbrev pub evaluates : Command → Bool
+evaluates (Verify mode rounds) = true
 evaluates Format = false
-evaluates command = true
+evaluates (Bench sections) = true
 
 -- Which outcomes a form has whose answer is written. Only `verify` judges a drawing by its faults, and only the others are
 -- done with it. Each form may refuse its text, and what is evaluated may not rest.
@@ -103,7 +128,11 @@ may_give command (Faulty n) = asks_verify command
 may_give command Done = not (asks_verify command)
 may_give command (Refused r) = true
 may_give command (Unsettled place round) = evaluates command
-may_give command _ = false
+may_give command (BadWords i) = false
+may_give command TooLong = false
+may_give command ReadFault = false
+may_give command WriteFault = false
+may_give command NoMemory = false
 
 abbrev pub may_answer : Result Command ℕ → Outcome → Bool
 may_answer (Ok command) o = may_give command o
@@ -112,11 +141,12 @@ may_answer (Err i) o = false
 -- the text whose circuit is evaluated, where no limit of rounds is asked for
 abbrev pub unlimited : Command → List ℕ → Option (List ℕ)
 unlimited (Verify mode None) text = Some text
+unlimited (Verify mode (Some limit)) text = None
+unlimited Format text = None
 unlimited (Bench sections) text = Some (datapath sections)
-unlimited command text = None
 
 -- Where the words set no limit, and the circuit of the text that is evaluated has no loop through listening pins, its waves
--- come to rest.
+-- settle.
 abbrev pub RestsWithoutLoops : List (List ℕ) → List ℕ → Outcome → Type 0
 RestsWithoutLoops words text o =
     (command : Command) (evaluated : List ℕ) (place round : ℕ) → command_of words ≡ Ok command → unlimited command text ≡ Some evaluated → IsLoopless evaluated → o ≢ Unsettled place round
@@ -146,7 +176,7 @@ pub record KeepsFaultless (c : Circuit) (values : List CaseValue) (fs : List Fau
 abbrev pub IsKept : Circuit → ℕ → Case → Type 0
 IsKept c base case = KeepsFaultless c case.listed.values (faults c case) (printed_tick c base case)
 
--- The base and all cases come to rest within the limit, and so it is in each case then.
+-- The base and all cases settle within the limit, and so it is in each case then.
 pub record IsSafe (c : Circuit) (values : List (List CaseValue)) (limit : ℕ) (holds : ℕ → Case → Type 0) : Type 0 where
   pub base : ℕ
   pub rests : RestsAt (base_round c) limit base

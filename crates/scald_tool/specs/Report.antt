@@ -7,7 +7,7 @@ use Rattle.listing.specs.Head.{head}
 use Rattle.listing.specs.Case.{case_lines}
 use Rattle.listing.specs.End.{last_line}
 use Rattle.scald_tool.specs.declared.outcome.Outcome.{Outcome}
-use Rattle.scald_tool.specs.declared.outcome.Outcome.TheVariants.{Clean, Faulty}
+use Rattle.scald_tool.specs.declared.outcome.Outcome.TheVariants.{Clean, Faulty, Done, Refused, Unsettled, BadWords, TooLong, ReadFault, WriteFault, NoMemory}
 use Rattle.scald_tool.specs.Case.{Case, printed_tick, faults, fault_count}
 
 abbrev pub case_text : Mode → Circuit → ℕ → Case → List ℕ
@@ -24,4 +24,12 @@ verdict_of count = if count == 0 then Clean else Faulty count
 -- how many faults an outcome counts
 abbrev pub faults_in : Outcome → ℕ
 faults_in (Faulty count) = count
-faults_in o = 0
+faults_in Clean = 0
+faults_in Done = 0
+faults_in (Refused r) = 0
+faults_in (Unsettled k limit) = 0
+faults_in (BadWords i) = 0
+faults_in TooLong = 0
+faults_in ReadFault = 0
+faults_in WriteFault = 0
+faults_in NoMemory = 0

@@ -10,7 +10,7 @@ use Rattle.scald_tool.specs.Case.{Listed, Case, IsAtRest, AreAtRest, NeverRests,
 use Rattle.scald_tool.specs.Report.{case_text, report, verdict_of}
 use Rattle.scald_tool.specs.Promise.{IsKept}
 
--- The cases are at rest, what has no fault in one is not broken there, and the outcome and the bytes are those of their
+-- The cases have settled, what has no fault in one is not broken there, and the outcome and the bytes are those of their
 -- report.
 pub record IsReported (mode : Mode) (c : Circuit) (limit base : ℕ) (listed : List Listed) (o : Outcome) (bytes : List ℕ) : Type 0 where
   pub cases : List Case
@@ -19,7 +19,7 @@ pub record IsReported (mode : Mode) (c : Circuit) (limit base : ℕ) (listed : L
   pub outcome : o ≡ verdict_of (fault_count c cases)
   pub text : bytes ≡ report mode c base cases
 
--- A case is told: it is at rest, what has no fault in it is not broken there, its lines stand behind those before, and its
+-- A case is told: it has settled, what has no fault in it is not broken there, its lines follow those before, and its
 -- faults are counted with those before.
 pub record Tells (mode : Mode) (c : Circuit) (limit base : ℕ) (listed : Listed) (before after : List ℕ) (total now : ℕ) : Type 0 where
   pub case : Case

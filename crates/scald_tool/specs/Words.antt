@@ -16,7 +16,7 @@ most_rounds = 10000000
 abbrev pub most_sections : ℕ
 most_sections = 200
 
--- what stands behind a front
+-- what follows a front
 abbrev pub behind : List ℕ → List ℕ → Option (List ℕ)
 behind front word = if bytes_eq (take (length front) word) front then Some (drop (length front) word) else None
 
@@ -37,7 +37,7 @@ limit_of word = limit_behind (behind (codes "rounds=") word)
 abbrev pub mode_of : List ℕ → Option Mode
 mode_of word = if bytes_eq word (codes "waves") then Some Waves else (if bytes_eq word (codes "faults") then Some Faults else None)
 
--- no word stands behind those of the form, the first of which would be that of this number
+-- no word follows those of the form; the first that did would have this number
 abbrev pub alone : Command → ℕ → List (List ℕ) → Result Command ℕ
 alone command place [] = Ok command
 alone command place (w ∷ ws) = Err place
@@ -87,8 +87,9 @@ IsWithin (Bench n) = (1 ≤ n) × (n ≤ most_sections)
 
 -- the form reads the source
 abbrev pub reads : Command → Bool
+reads (Verify mode rounds) = true
+reads Format = true
 reads (Bench n) = false
-reads command = true
 
 -- the words are of a form that reads
 abbrev pub are_reading : Result Command ℕ → Bool

@@ -32,7 +32,7 @@ use step_values::Value;
 use wave_core::CyclicWave;
 
 /// The numbers of the report on the generated drawing of so many sections, at its own limit of rounds;
-/// or, as `verify` has it, why that is refused or which net does not rest.
+/// or, as `verify` has it, why that is refused or which net does not settle.
 pub fn bench(alloc: Global, sections: u16) -> Result<Reply, NoMemory>
     ensures is { IfOk result (λ reply. Benched sections reply.outcome reply.bytes) }
     ensures given { IfOk result (λ reply. may_give (Command.Bench sections) reply.outcome ≡ true) }
@@ -49,7 +49,7 @@ pub fn bench(alloc: Global, sections: u16) -> Result<Reply, NoMemory>
     }
 }
 
-/// The numbers of the report on a circuit of so many sections, or the net that does not rest within the
+/// The numbers of the report on a circuit of so many sections, or the net that does not settle in the
 /// circuit's own limit.
 fn measured<W: CyclicWave<Item = Value>>(
     alloc: Global,

@@ -27,7 +27,7 @@ pub struct KnownFaults {
     pub pulses: PulseFaults,
 }
 
-/// Puts more faults behind these.
+/// Appends more faults.
 fn add_all(faults: &mut Faults, more: &Faults) -> Result<(), NoMemory>
     ensures { OnOk result (faults.new ≡ faults.old ++ more.now) }
 {
@@ -37,7 +37,7 @@ fn add_all(faults: &mut Faults, more: &Faults) -> Result<(), NoMemory>
     Ok(())
 }
 
-/// The faults that the waves of all nets show, at rest: about the edges of clocks, at marked pins and of
+/// The faults that the settled waves of all nets show: about the edges of clocks, at marked pins and of
 /// assertions, and then of the widths of pulses. Where the waves permit the runs of a case after so many
 /// rounds of the base and of the case, what has no fault is never broken in them from the tick on that is
 /// printed for these.
@@ -60,7 +60,7 @@ pub fn faults<W: CyclicWave<Item = Value>>(
     Ok(faults)
 }
 
-/// The faults of each instance and of each net that the waves of all nets show, at rest.
+/// The faults of each instance and of each net that the settled waves of all nets show.
 pub fn known_faults<W: CyclicWave<Item = Value>>(
     alloc: Global,
     circuit: &Circuit,

@@ -3,7 +3,7 @@
 ghost use Rattle.std.specs.Prelude.{◌≡◌, ◌⊎◌, None};
 ghost use Rattle.scald_tool.specs.Finished.{AsksWell, IsFinished};
 ghost use Rattle.scald_tool.specs.Forms.{WordsAreKnown, WordsAreRead};
-ghost use Rattle.scald_tool.specs.Laws.{OneAnswer, OneCircuit, RefusalsArePlaced};
+ghost use Rattle.scald_tool.specs.Laws.{OneAnswer, OneCircuit, RefusalsArePlaced, ReportsArePromised};
 ghost use Rattle.scald_tool.specs.Promise.{IsAnswered};
 
 use crate::outcome::Outcome;
@@ -12,8 +12,8 @@ use crate::words::Words;
 use scald_base::{CountSink, SureSource};
 use std::alloc::Global;
 
-/// Words are read as the form that has them, or as going wrong at the first word with which no form goes
-/// on; and the words of each form are read as it.
+/// Words are read as the form that has them, or as unrecognised from the first word with which no form
+/// continues; and the words of each form are read as it.
 pub fn words_are_read_by_their_form()
     ensures read { WordsAreRead }
     ensures known { WordsAreKnown }
@@ -32,6 +32,12 @@ pub fn words_have_one_answer()
 /// A text is refused at the place of one of its bytes, or of its end.
 pub fn refusals_are_placed()
     ensures { RefusalsArePlaced }
+{}
+
+/// A report is that of the circuit, the base and the cases at rest which the promises of its text speak of:
+/// rounds rest once, and a case has one end.
+pub fn reports_are_promised()
+    ensures { ReportsArePromised }
 {}
 
 /// The whole call over devices that never fail, of which nothing is asked: the answer is the one that the

@@ -2,7 +2,7 @@
 //! report and an outcome.
 //!
 //! The program calls `tool_main`. What it promises stands in `specs/Promise`, over the answer that words
-//! and a text have (`Answer`): by the circuit that the text draws (`Drawn`), its cases at rest (`Case`)
+//! and a text have (`Answer`): by the circuit that the text draws (`Drawn`), its settled cases (`Case`)
 //! and the lines on them (`Report`).
 #![tactic(auto)]
 
@@ -31,4 +31,4 @@ pub mod laws;
 pub use outcome::{Outcome, status};
 pub use tool::tool_main;
 pub use verified::verify_text;
-pub use words::{Command, Words, read_words};
+pub use words::{Command, Words, read_words, words_of};

@@ -17,17 +17,17 @@ pub enum Outcome {
     Done,
     /// The text is refused: the line that says why is written.
     Refused(Refusal),
-    /// The rounds do not rest within the limit, which is `round`. The net, by its position in name
+    /// The rounds do not settle in the limit, which is `round`. The net, by its position in name
     /// order from 0, is the first that still changes: the line that names it is written.
     Unsettled { net: u32, round: u32 },
-    /// No form has these words. The number is that of the first word with which no form goes on, from
+    /// The words are unrecognised. The number is that of the first with which no form continues, from
     /// 0, or the count of words where one is missing. Nothing is read or written.
     BadWords(u32),
     /// More than 4,194,304 bytes came. Nothing is written.
     TooLong,
     /// The source failed. Nothing is written.
     ReadFault,
-    /// The sink failed. A front of the answer's bytes was taken.
+    /// The sink failed. A front of the answer's bytes was taken, as far as the sink tells.
     WriteFault,
     /// Memory ran out. Nothing is written.
     NoMemory,

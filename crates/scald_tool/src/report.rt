@@ -40,7 +40,7 @@ impl Report {
         Ok(Report { bytes, total: 0 })
     }
 
-    /// The lines of one case, which has this number, is at rest and has these faults, behind those of the others.
+    /// The lines of one case, which has this number, has settled and has these faults, after those of the others.
     pub fn add_case<W: CyclicWave<Item = Value>>(
         &mut self,
         circuit: &Circuit,

@@ -61,7 +61,7 @@ impl Subject {
         })
     }
 
-    /// The base of the circuit at rest, or its end where it does not rest within so many rounds.
+    /// The settled base of the circuit, or its end where it does not settle within so many rounds.
     pub fn base<W: CyclicWave<Item = Value>>(
         &self,
         alloc: Global,
@@ -81,8 +81,8 @@ impl Subject {
         }
     }
 
-    /// The case with this number from 0 at rest, from the base of the circuit on, or its end where it does not
-    /// rest within so many rounds.
+    /// The settled case with this number from 0, from the base of the circuit on, or its end where it does not
+    /// settle within so many rounds.
     pub fn case<W: CyclicWave<Item = Value>>(
         &self,
         alloc: Global,

@@ -22,13 +22,16 @@ const MOST_BYTES: u32 = 4_194_304;
 ///
 /// Where the words are of a form that reads, the source is read to its end, or to the first byte past
 /// 4,194,304, or to its first fault. All of the answer is made before the first byte of it is written.
+///
+/// What the clauses say of bytes holds as far as the devices tell: of those that are left to read where the
+/// source tells them, of those that were taken where the sink does.
 pub fn tool_main<S: Source, K: Sink>(
     alloc: Global,
     words: &Words,
     source: &mut S,
     sink: &mut K,
 ) -> Outcome
-    // Words of no form: the answer is their own. Nothing is read for them, nor for a form that does not
+    // Unrecognised words have their own answer. Nothing is read for them, nor for a form that does not
     // read, and nothing is written where the outcome is silent.
     ensures bad_words { (i : ℕ) → command_of words.now ≡ Err i → result ≡ Outcome.BadWords i }
     ensures bad_words_only { (i : ℕ) → result ≡ Outcome.BadWords i → command_of words.now ≡ Err i }
@@ -48,8 +51,8 @@ pub fn tool_main<S: Source, K: Sink>(
         AsksWell words.now text → (result ≡ Outcome.NoMemory) ⊎ IsFinished words.now text result (K.taken sink.old) (K.taken sink.new) }
 
     // Whatever the devices did, an outcome that speaks of the text comes only where it is the text's
-    // own, all of the text was read, and all of the answer was written. No more than one byte past the
-    // limit is read.
+    // own, all of the text was read, and all of the answer was written, where the sink tells what it
+    // took. Of what a source tells no more than one byte past the limit is read.
     ensures truthful { (text : List ℕ) → AreTold words.now (S.left source.old) text → speaks result ≡ true →
         IsAnswered words.now text result (K.taken sink.old) (K.taken sink.new) }
     ensures front { ReadsFront (S.left source.old) (S.left source.new) most_bytes }
@@ -60,7 +63,8 @@ pub fn tool_main<S: Source, K: Sink>(
     ensures sink_steady { result ≢ Outcome.WriteFault → K.faults sink.new ≡ K.faults sink.old }
 
     // Why the others come, and of which forms. No other form judges a drawing than `verify`, and it alone
-    // is never done with one.
+    // is never done with one. A sink that tells what it took has a front of the answer's bytes after a
+    // failed write, and a source that tells its bytes had one past the limit where the text is too long.
     ensures given { speaks result ≡ true → may_answer (command_of words.now) result ≡ true }
     ensures read_first { has_read result ≡ true → are_reading (command_of words.now) ≡ true }
     ensures read_fault { result ≡ Outcome.ReadFault → Rose (S.faults source.old) (S.faults source.new) }
@@ -72,7 +76,7 @@ pub fn tool_main<S: Source, K: Sink>(
         ¬ Rose (S.faults source.old) (S.faults source.new) →
         (result ≡ Outcome.NoMemory) ⊎ (result ≡ Outcome.TooLong)) }
 
-    // Waves without loops rest, where no other limit is asked for.
+    // Waves without loops settle, where the words set no limit.
     ensures loopless { (text : List ℕ) → AreTold words.now (S.left source.old) text → RestsWithoutLoops words.now text result }
 
     // No fault, no break: in every run of the circuit that the text draws, from the printed tick on.

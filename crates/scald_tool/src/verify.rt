@@ -62,7 +62,7 @@ pub fn verify<W: CyclicWave<Item = Value>>(
     }
 }
 
-/// How many rounds there may be: as many as are asked for, or else the circuit's own limit.
+/// How many rounds there may be: as many as the words allow, or else the circuit's own limit.
 fn limit_for(circuit: &Circuit, rounds: Option<u32>) -> u32
     requires { IfSome rounds (λ limit. limit ≤ 10000000) }
     ensures is { result ≡ limit_for circuit.now rounds }
@@ -74,7 +74,7 @@ fn limit_for(circuit: &Circuit, rounds: Option<u32>) -> u32
     }
 }
 
-/// The report on a circuit and its cases, or the net that does not rest within so many rounds.
+/// The report on a circuit and its cases, or the net that does not settle within so many rounds.
 fn judged<W: CyclicWave<Item = Value>>(
     alloc: Global,
     subject: &Subject,
@@ -97,14 +97,14 @@ fn judged<W: CyclicWave<Item = Value>>(
     }
 }
 
-/// A report, and the round in which the base of its circuit came to rest.
+/// A report, and the round in which the base of its circuit settled.
 #[derive(Drop)]
 pub struct AtRest {
     pub reply: Reply,
     pub base: u32,
 }
 
-/// The report on a circuit and its cases, or the end of the base or of the first case that does not rest
+/// The report on a circuit and its cases, or the end of the base or of the first case that never settles
 /// within so many rounds.
 pub fn rested<W: CyclicWave<Item = Value>>(
     alloc: Global,
@@ -130,7 +130,7 @@ pub fn rested<W: CyclicWave<Item = Value>>(
     })
 }
 
-/// The report on a circuit whose base is at rest, or the end of the first case that never rests.
+/// The report on a circuit whose base has settled, or the end of the first case that never settles.
 fn reported<W: CyclicWave<Item = Value>>(
     alloc: Global,
     subject: &Subject,
@@ -178,8 +178,8 @@ fn base_alone<W: CyclicWave<Item = Value>>(
     report.end()
 }
 
-/// The report on a circuit with cases, or the end of the first that never rests. Nothing of a case is kept
-/// but its lines and how many faults it has, and what it leaves as it is in the base is not checked again.
+/// The report on a circuit with cases, or the end of the first that never settles. Of a case only its
+/// lines and the number of its faults are kept; what it leaves as in the base is not checked again.
 fn each_case<W: CyclicWave<Item = Value>>(
     alloc: Global,
     subject: &Subject,
@@ -214,8 +214,8 @@ fn each_case<W: CyclicWave<Item = Value>>(
     Ok(report.end()?)
 }
 
-/// Puts the lines of a case, which stands at this place from 0, behind those of the others, or says where it
-/// never rests.
+/// Appends the lines of a case, which is at this place from 0, to those of the others, or says where it
+/// never settles.
 fn tell_case<W: CyclicWave<Item = Value>>(
     alloc: Global,
     subject: &Subject,
@@ -271,7 +271,7 @@ fn only_case<W: CyclicWave<Item = Value>>(base: Settled<W>) -> Settled<W>
     }
 }
 
-/// What is answered where a circuit or a case of it does not rest: the line of the first net that still
+/// The answer where a circuit or a case of it does not settle: the line of the first net that still
 /// changes in the round at the limit.
 pub fn ended(alloc: Global, circuit: &Circuit, end: EngineEnd) -> Result<Reply, NoMemory>
     requires { (place round : ℕ) → end ≡ EngineEnd.Unsettled place round → place < length circuit.now.order }

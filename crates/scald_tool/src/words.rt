@@ -1,15 +1,32 @@
 //! The words that the program is called with.
 
-ghost use Rattle.std.specs.Prelude.{◌≡◌, ◌<◌, ◌≤◌, ◌^◌, ◌-◌, IfOk, IfSome, min};
+ghost use Rattle.std.specs.Prelude.{◌≡◌, ◌<◌, ◌≤◌, ◌^◌, ◌-◌, IfOk, IfSome, drop, map, min, string_bytes};
+ghost use Rattle.std.specs.Vec.Iter.{into_iter_items};
 ghost use Rattle.scald_lex.specs.Bytes.{value_of};
 ghost use Rattle.scald_tool.specs.Words.{IsWithin, alone, behind_bench, behind_mode, behind_verify, command_of, limit_of, mode_of, number_in, reads};
 
 use itoa::Buffer;
 use listing::Mode;
-use scald_base::{Bytes, List};
+use scald_base::{Bytes, List, NoMemory};
+use std::alloc::Global;
+use std::env::Args;
 
-/// The words behind the program's name.
+/// The words after the program's name.
 pub type Words = List<Bytes>;
+
+/// The words of a program that is called with these arguments, of which the first is its name: all others,
+/// byte for byte, empty ones too.
+pub fn words_of(alloc: Global, arguments: Args) -> Result<Words, NoMemory>
+    ensures { IfOk result (λ words. words ≡ map string_bytes (drop 1 (into_iter_items arguments))) }
+{
+    let mut words = Words::new(alloc);
+    let mut arguments = arguments;
+    let _name = arguments.next();
+    for argument in arguments {
+        words.push(Bytes::of(alloc, argument.as_bytes())?)?;
+    }
+    Ok(words)
+}
 
 /// The most rounds that may be asked for.
 const MOST_ROUNDS: u32 = 10_000_000;
@@ -39,8 +56,8 @@ impl Command {
     }
 }
 
-/// What the words ask for. Where they are of no form, `Err` is the number of the first word with which
-/// no form goes on, from 0, or the count of words where one is missing.
+/// What the words ask for. Where they are unrecognised, `Err` is the number of the first with which
+/// no form continues, from 0, or the count of words where one is missing.
 pub fn read_words(words: &Words) -> Result<Command, u32>
     ensures is { result ≡ command_of words.now }
     ensures within { IfOk result IsWithin }
@@ -59,7 +76,7 @@ pub fn read_words(words: &Words) -> Result<Command, u32>
     }
 }
 
-/// The command, where no word stands behind those that ask for it. Such a word would have this number.
+/// The command, where no word follows those that ask for it. Such a word would have this number.
 fn alone(command: Command, place: u32, others: &[Bytes]) -> Result<Command, u32>
     requires { IsWithin command }
     ensures is { result ≡ alone command place others.now }
@@ -72,7 +89,7 @@ fn alone(command: Command, place: u32, others: &[Bytes]) -> Result<Command, u32>
     }
 }
 
-/// What the words behind `verify` ask for.
+/// What the words after `verify` ask for.
 fn behind_verify(words: &[Bytes]) -> Result<Command, u32>
     ensures is { result ≡ behind_verify words.now }
     ensures within { IfOk result IsWithin }
@@ -104,7 +121,7 @@ fn behind_mode(mode: Mode, place: u32, words: &[Bytes]) -> Result<Command, u32>
     }
 }
 
-/// What the words behind `bench` ask for.
+/// What the words after `bench` ask for.
 fn behind_bench(words: &[Bytes]) -> Result<Command, u32>
     ensures is { result ≡ behind_bench words.now }
     ensures within { IfOk result IsWithin }

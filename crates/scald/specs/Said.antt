@@ -1,0 +1,43 @@
+-- What the program says on standard error where it ends without an answer, and with which status it then ends.
+use Rattle.std.specs.Prelude.{ℕ, List, ◌++◌, codes, Option, Some, None}
+use Rattle.scald_tool.specs.declared.outcome.Outcome.{Outcome}
+use Rattle.scald_tool.specs.declared.outcome.Outcome.TheVariants.{Clean, Faulty, Done, Refused, Unsettled, BadWords, TooLong, ReadFault, WriteFault, NoMemory}
+use Rattle.scald.specs.declared.unstarted.Unstarted.{Unstarted}
+use Rattle.scald.specs.declared.unstarted.Unstarted.TheVariants.{NoArguments, NoMemory as NoRoom}
+
+-- ---- the texts
+
+-- the forms of words
+abbrev pub forms : List ℕ
+forms =
+    codes "scald: these words are none of its forms, which are\n" ++
+    (codes "    scald verify [waves|faults] [rounds=N] <DRAWING    whether the drawing keeps its constraints, with its waves and faults\n" ++
+    (codes "    scald format <DRAWING                              the drawing in its canonical form\n" ++
+    codes "    scald bench N                                      what is found in a made drawing of N sections, 1 to 200"))
+
+abbrev pub no_memory : List ℕ
+no_memory = codes "scald: there is not enough memory"
+
+-- why an outcome is no answer, where it is none
+abbrev pub why_of : Outcome → Option (List ℕ)
+why_of Clean = None
+why_of (Faulty n) = None
+why_of Done = None
+why_of (Refused r) = None
+why_of (Unsettled k limit) = None
+why_of (BadWords i) = Some forms
+why_of TooLong = Some (codes "scald: the drawing has more than 4194304 bytes")
+why_of ReadFault = Some (codes "scald: standard input could not be read")
+why_of WriteFault = Some (codes "scald: standard output could not be written")
+why_of NoMemory = Some no_memory
+
+-- ---- where there are no words
+
+abbrev pub unstarted_why : Unstarted → List ℕ
+unstarted_why NoArguments = codes "scald: the system gives no arguments, or not as text"
+unstarted_why NoRoom = no_memory
+
+-- no outcome has the status 20
+abbrev pub unstarted_status : Unstarted → ℕ
+unstarted_status NoArguments = 20
+unstarted_status NoRoom = 8

@@ -1,0 +1,66 @@
+//! Why the program cannot begin: it has no words.
+
+ghost use Rattle.std.specs.Prelude.{◌≡◌, ◌≢◌};
+ghost use Rattle.std.specs.IoError.{error_kind};
+ghost use Rattle.std.specs.declared.io.ErrorKind.TheVariants.{OutOfMemory};
+ghost use Rattle.scald.specs.Said.{unstarted_status, unstarted_why};
+
+use crate::said::no_memory;
+use scald_base::NoMemory;
+use std::io;
+
+/// Why the program cannot begin.
+#[derive(Clone, Copy, Debug)]
+pub enum Unstarted {
+    /// The system does not give the arguments, or not as text.
+    NoArguments,
+    /// There is no memory for them.
+    NoMemory,
+}
+
+impl Unstarted {
+    /// The status that the program then ends with. No outcome has the status 20.
+    pub fn status(self) -> u8
+        ensures { result ≡ unstarted_status self }
+    {
+        match self {
+            Unstarted::NoArguments => 20,
+            Unstarted::NoMemory => 8,
+        }
+    }
+
+    /// The line that says so on standard error.
+    pub fn why(self) -> &'static str
+        ensures { result.now ≡ unstarted_why self }
+    {
+        match self {
+            Unstarted::NoArguments => "scald: the system gives no arguments, or not as text",
+            Unstarted::NoMemory => no_memory(),
+        }
+    }
+}
+
+impl From<NoMemory> for Unstarted {
+    ghost use Rattle.scald.specs.declared.unstarted.Unstarted.{Unstarted};
+
+    ghost from_gives = { λ _ e. e ≡ Unstarted.NoMemory };
+
+    fn from(_e: NoMemory) -> Unstarted {
+        Unstarted::NoMemory
+    }
+}
+
+impl From<io::Error> for Unstarted {
+    ghost use Rattle.scald.specs.declared.unstarted.Unstarted.{Unstarted};
+
+    ghost from_gives = { λ error e.
+        (error_kind error ≡ OutOfMemory → e ≡ Unstarted.NoMemory) ×
+        (error_kind error ≢ OutOfMemory → e ≡ Unstarted.NoArguments) };
+
+    fn from(e: io::Error) -> Unstarted {
+        match e.kind() {
+            io::ErrorKind::OutOfMemory => Unstarted::NoMemory,
+            _ => Unstarted::NoArguments,
+        }
+    }
+}
