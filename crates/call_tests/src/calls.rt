@@ -1,10 +1,13 @@
-//! Whole answers over devices in memory. What the built program reports on drawings of each kind is tried by
-//! the scripts of checks/.
+//! Devices that fail, fill up or never fail, words of no form, and texts at the limit and past it.
 
 ghost use Rattle.std.specs.Prelude.{◌≤◌};
 
-use scald_base::{Bytes, Calls, CountSink, MemorySink, MemorySource, NoMemory, SureSource};
-use scald_tool::{Outcome, Words, tool_main};
+use crate::texts::words_of;
+use scald_base::{
+    Bytes, Calls, CountSink, MemorySink, MemorySource, NoMemory, Place, Refusal, RefusalKind,
+    SureSource,
+};
+use scald_tool::{Outcome, tool_main};
 use std::alloc::Global;
 use std::process::Abort;
 use std::test::Fail;
@@ -35,14 +38,6 @@ struct End {
     outcome: Outcome,
     left: usize,
     taken: usize,
-}
-
-fn words_of(alloc: Global, texts: &[&[u8]]) -> Result<Words, NoMemory> {
-    let mut words = Words::new(alloc);
-    for text in texts {
-        words.push(Bytes::of(alloc, text)?)?;
-    }
-    Ok(words)
 }
 
 fn calls_of(alloc: Global, failing: Option<u32>) -> Result<Calls, NoMemory> {
@@ -127,7 +122,7 @@ fn a_sink_with_room(rt: HostRuntime) -> Result<(), Fail> {
     Ok(())
 }
 
-/// Words of no form, each with the number of the first word with which no form goes on: nothing is read for
+/// Unrecognised words, each with the number of the first with which no form continues: nothing is read for
 /// them, and nothing is written.
 #[test]
 fn words_of_no_form(rt: HostRuntime) -> Result<(), Fail> {
@@ -157,22 +152,6 @@ fn words_of_no_form(rt: HostRuntime) -> Result<(), Fail> {
     Ok(())
 }
 
-/// A text on one line, in its canonical form.
-#[test]
-fn a_text_is_formatted(rt: HostRuntime) -> Result<(), Fail> {
-    let alloc = rt.alloc();
-    let words = words_of(alloc, &[b"format"])?;
-    let text = b"SCALD 1; CLOCK 8 x 50; DRAWING T; b1:BUF[0:0](-\"A\")->(\"B\"); END;";
-    let mut source = MemorySource::new(Bytes::of(alloc, text)?, 4096, Calls::new(alloc));
-    let mut sink = MemorySink::new(alloc, 4096, 4096, Calls::new(alloc))?;
-    let outcome = tool_main(alloc, &words, &mut source, &mut sink);
-    assert_eq!(rt; outcome, Outcome::Done);
-    let canonical =
-        b"SCALD 1;\nCLOCK 8 x 50;\nWIRE 0:0;\nPSKEW 0:0;\nCSKEW 0:0;\nDRAWING T;\n  b1 : BUF [0:0] (-\"A\") -> (\"B\");\nEND;\n";
-    assert_eq!(rt; sink.taken(), canonical.as_slice());
-    Ok(())
-}
-
 #[test]
 fn devices_that_never_fail(rt: HostRuntime) -> Result<(), Fail> {
     let words = words_of(rt.alloc(), &[b"verify"])?;
@@ -182,5 +161,43 @@ fn devices_that_never_fail(rt: HostRuntime) -> Result<(), Fail> {
     assert_eq!(rt; outcome, Outcome::Clean);
     assert_eq!(rt; sink.length(), 157);
     assert_eq!(rt; source.left().len(), 0);
+    Ok(())
+}
+
+/// So many spaces: these pieces, and more one by one.
+fn spaces(alloc: Global, pieces: usize, more: usize) -> Result<Bytes, NoMemory> {
+    let mut text = Bytes::new(alloc);
+    for _ in 0..pieces {
+        text.extend(&[b' '; 4096])?;
+    }
+    for _ in 0..more {
+        text.push(b' ')?;
+    }
+    Ok(text)
+}
+
+/// A text of the most bytes, and texts of one more, which is read and not looked at.
+#[test]
+fn bytes_at_the_limit(rt: HostRuntime) -> Result<(), Fail> {
+    let place = Place {
+        line: 1,
+        col: 4_194_305,
+    };
+    let kind = RefusalKind::Syntax;
+    let refused = Outcome::Refused(Refusal { kind, place });
+    let table: [(&[u8], usize, Outcome, &[u8]); 3] = [
+        (b"verify", 0, refused, b"REFUSED 3 Syntax 1:4194305\n"),
+        (b"verify", 1, Outcome::TooLong, b""),
+        (b"format", 1, Outcome::TooLong, b""),
+    ];
+    for (word, more, wanted, bytes) in table {
+        let words = words_of(rt.alloc(), &[word])?;
+        let mut source = SureSource::new(spaces(rt.alloc(), 1024, more)?);
+        let mut sink = MemorySink::new(rt.alloc(), 4096, 4096, Calls::new(rt.alloc()))?;
+        let outcome = tool_main(rt.alloc(), &words, &mut source, &mut sink);
+        assert_eq!(rt; outcome, wanted);
+        assert_eq!(rt; sink.taken(), bytes);
+        assert_eq!(rt; source.left().len(), 0);
+    }
     Ok(())
 }

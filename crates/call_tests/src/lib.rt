@@ -5,7 +5,16 @@
 //! The crate has tests alone, and nothing stands on it.
 #![tactic(auto)]
 
+// how a row is run
+#[cfg(test)]
+mod texts;
+
+// the rows
+#[cfg(test)]
+mod answers;
 #[cfg(test)]
 mod calls;
+#[cfg(test)]
+mod refusals;
 #[cfg(test)]
 mod reports;

@@ -62,7 +62,7 @@ fn waves_of_slots_and_of_runs(rt: HostRuntime) -> Result<(), Fail> {
     Ok(())
 }
 
-/// A text that ends too early has a token that is none, or no text goes on with its end.
+/// A text that ends too early is refused for its last token or for its end.
 fn is_cut(outcome: &Outcome) -> bool {
     match outcome {
         Outcome::Refused(refusal) => {

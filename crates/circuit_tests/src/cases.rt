@@ -11,7 +11,7 @@ use std::test::Fail;
 use step_values::Value;
 use wave_core::{CyclicWave, SlotWave};
 
-/// Of the first case, if there is one: the number of its round at rest, the printed tick, and the value of
+/// Of the first case, if there is one: the round at which it settles, the printed tick, and the value of
 /// the third net.
 fn first_case(alloc: Global, drawn: &Drawn) -> Result<Option<(u32, u64, Option<Value>)>, EngineEnd>
     requires { All (IsListed drawn.now.circuit) drawn.now.cases }

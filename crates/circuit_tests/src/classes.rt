@@ -1,4 +1,5 @@
-//! Two gates side by side that differ in one thing, and what the classes of their nets are then.
+//! Two gates side by side that differ in one thing, and what the classes of their nets are then; and the
+//! classes of whole drawings.
 
 use crate::drawings::{Drawn, HEAD, read_circuit};
 use class_table::{ClassMap, classes, stable};
@@ -112,6 +113,57 @@ const FEWEST: [FewestRow; 5] = [
     ),
 ];
 
+/// The name of a row, what follows the head of its drawing, a number for each net, and whether these are
+/// stable classes.
+type DrawingRow = (&'static str, &'static [u8], &'static [u32], bool);
+
+/// Two buffers from a clock, whose nets are numbered CK, X, Y.
+const BUFFERS: [DrawingRow; 2] = [
+    (
+        "one delay",
+        br#"DRAWING BUFFERS;
+b1 : BUF [1:2] ("CK .P2-3") -> ("X");
+b2 : BUF [1:2] ("CK") -> ("Y");
+END;
+"#,
+        &[0, 1, 1],
+        true,
+    ),
+    (
+        "two delays",
+        br#"DRAWING BUFFERS;
+b1 : BUF [1:2] ("CK .P2-3") -> ("X");
+b2 : BUF [1:3] ("CK") -> ("Y");
+END;
+"#,
+        &[0, 1, 1],
+        false,
+    ),
+];
+
+/// Three sections of eight bits in a chain, as `bench 3` has them. The 57 nets are numbered as the text names
+/// them: Q0, D1, the clock CK, Q1, D2, Q2, D3 and Q3.
+const SECTIONS: &[u8] = br#"WIRE 0:2;
+DRAWING BENCH;
+g1 : CHG [20:60] ("Q0 .S4-3"<0:7>) -> ("D1"<0:7>);
+c1 : SETUP_HOLD_CHK {SETUP=20, HOLD=5} ("CK .P2-3", "D1"<0:7>);
+r1 : REG [5:10] ("CK .P2-3", "D1"<0:7>) -> ("Q1"<0:7>);
+g2 : CHG [20:60] ("Q1"<0:7>) -> ("D2"<0:7>);
+c2 : SETUP_HOLD_CHK {SETUP=20, HOLD=5} ("CK .P2-3", "D2"<0:7>);
+r2 : REG [5:10] ("CK .P2-3", "D2"<0:7>) -> ("Q2"<0:7>);
+g3 : CHG [20:60] ("Q2"<0:7>) -> ("D3"<0:7>);
+c3 : SETUP_HOLD_CHK {SETUP=20, HOLD=5} ("CK .P2-3", "D3"<0:7>);
+r3 : REG [5:10] ("CK .P2-3", "D3"<0:7>) -> ("Q3"<0:7>);
+END;
+"#;
+
+/// The eight groups of these nets, each by the number of its first net.
+const GROUPS: [u32; 57] = [
+    0, 0, 0, 0, 0, 0, 0, 0, 8, 8, 8, 8, 8, 8, 8, 8, 16, 17, 17, 17, 17, 17, 17, 17, 17, 25, 25, 25,
+    25, 25, 25, 25, 25, 33, 33, 33, 33, 33, 33, 33, 33, 41, 41, 41, 41, 41, 41, 41, 41, 49, 49, 49,
+    49, 49, 49, 49, 49,
+];
+
 fn map(alloc: Global, numbers: &[u32]) -> Result<ClassMap, NoMemory> {
     let mut list = ClassMap::new(alloc);
     for number in numbers {
@@ -127,15 +179,15 @@ fn are_stable(drawn: &Drawn, classes: &ClassMap) -> bool {
 }
 
 /// Whether the classes of these numbers are stable.
-fn are_stable_by(alloc: Global, second: &[u8], case: &[u8], numbers: &[u32]) -> Result<bool, Stop> {
-    let drawn = read_circuit(alloc, &[HEAD, FIRST, second, END, case])?;
+fn are_stable_by(alloc: Global, pieces: &[&[u8]], numbers: &[u32]) -> Result<bool, Stop> {
+    let drawn = read_circuit(alloc, pieces)?;
     let classes = map(alloc, numbers)?;
     Ok(are_stable(&drawn, &classes))
 }
 
 /// Whether the classes that are made have these numbers, and are stable.
-fn are_made(alloc: Global, second: &[u8], case: &[u8], numbers: &[u32]) -> Result<bool, Stop> {
-    let drawn = read_circuit(alloc, &[HEAD, FIRST, second, END, case])?;
+fn are_made(alloc: Global, pieces: &[&[u8]], numbers: &[u32]) -> Result<bool, Stop> {
+    let drawn = read_circuit(alloc, pieces)?;
     let made = classes(alloc, &drawn.circuit, &drawn.cases)?;
     Ok(made.as_slice() == numbers && are_stable(&drawn, &made))
 }
@@ -144,16 +196,24 @@ fn are_made(alloc: Global, second: &[u8], case: &[u8], numbers: &[u32]) -> Resul
 fn stable_classes(rt: HostRuntime) {
     for rows in [GATES.as_slice(), NUMBERS.as_slice()] {
         for (name, second, case, numbers, want) in rows {
-            let outcome = are_stable_by(rt.alloc(), second, case, numbers);
+            let pieces = [HEAD, FIRST, second, END, case];
+            let outcome = are_stable_by(rt.alloc(), &pieces, numbers);
             assert_eq!(rt; outcome, Ok(*want), "{name}");
         }
+    }
+    for (name, drawing, numbers, want) in BUFFERS {
+        let outcome = are_stable_by(rt.alloc(), &[HEAD, drawing], numbers);
+        assert_eq!(rt; outcome, Ok(want), "{name}");
     }
 }
 
 #[test]
 fn the_fewest_classes(rt: HostRuntime) {
     for (name, second, case, numbers) in FEWEST {
-        let outcome = are_made(rt.alloc(), second, case, &numbers);
+        let pieces = [HEAD, FIRST, second, END, case];
+        let outcome = are_made(rt.alloc(), &pieces, &numbers);
         assert_eq!(rt; outcome, Ok(true), "{name}");
     }
+    let outcome = are_made(rt.alloc(), &[HEAD, SECTIONS], &GROUPS);
+    assert_eq!(rt; outcome, Ok(true), "three sections");
 }

@@ -28,7 +28,7 @@ pub struct Drawn {
     pub cases: CaseList,
 }
 
-/// The pieces of a text, one behind the other.
+/// The pieces of a text, one after the other.
 fn text_of(alloc: Global, pieces: &[&[u8]]) -> Result<Bytes, NoMemory> {
     let mut text = Bytes::new(alloc);
     for piece in pieces {

@@ -1,4 +1,4 @@
-//! Rounds of the base: how they rest, with how many evaluations and from which tick on, and how they do not.
+//! Rounds of the base: how they settle, after how many evaluations, from which tick on, and how they do not.
 
 ghost use Rattle.std.specs.Prelude.{◌≤◌};
 
@@ -13,7 +13,7 @@ use std::test::Fail;
 use step_values::Value;
 use wave_core::SlotWave;
 
-/// A clock and 500 buffers behind it. They are all evaluated in round 1, and one more in each round up to
+/// A clock and 500 buffers after it. They are all evaluated in round 1, and one more in each round up to
 /// 500.
 const CHAIN: &[u8] = br#"DRAWING CHAIN;
 b1 : BUF [1:1] ("CK .P2-3") -> ("X"<1>);
@@ -22,7 +22,7 @@ b3 : BUF [1:1] ("X"<251:499>) -> ("X"<252:500>);
 END;
 "#;
 
-/// An AND of a clock and the last of 40 buffers, and these behind it. A slot where the clock is low clears
+/// An AND of a clock and the last of 40 buffers, and these after it. A slot where the clock is low clears
 /// the slot after it, 41 rounds later: once round the loop. The clock's pulse is cleared in 52 times 41
 /// rounds.
 const LOOP: &[u8] = br#"DRAWING LOOP;
@@ -31,7 +31,7 @@ b1 : BUF [0:0] ("X"<0:39>) -> ("X"<1:40>);
 END;
 "#;
 
-/// The number of the round at rest and of the evaluations up to there, and the printed tick.
+/// The number of the round that settles and of the evaluations up to there, and the printed tick.
 #[derive(Clone, Copy, PartialEq, Eq, Debug)]
 struct Rest {
     rounds: u32,
@@ -39,7 +39,7 @@ struct Rest {
     tick: u64,
 }
 
-/// The name of a row, its drawing, the limit, how the base ends, and the limit where no other is asked.
+/// The name of a row, its drawing, the limit, how the base ends, and the limit where none is given.
 type BaseRow = (
     &'static str,
     &'static [u8],
@@ -113,7 +113,7 @@ const BASES: [BaseRow; 6] = [
     ),
 ];
 
-/// The numbers of a base at rest.
+/// The numbers of a settled base.
 fn numbers_of(c: &Circuit, settled: &Settled<SlotWave<Value>>) -> Rest
     requires { settled.now.rounds ≤ 65535 }
 {
@@ -166,7 +166,7 @@ fn bases(rt: HostRuntime) -> Result<(), Fail> {
     Ok(())
 }
 
-/// A limit of rounds, and the number of the round at rest, or the net that still changes.
+/// A limit of rounds, and the number of the round that settles, or the net that still changes.
 type LimitRow = (u16, Result<u32, EngineEnd>);
 
 const LIMITS: [LimitRow; 3] = [

@@ -50,7 +50,7 @@ fn cells_of(alloc: Global, stretches: Stretches) -> Result<Vec<Value>, NoMemory>
     Ok(cells)
 }
 
-/// The wave of these stretches, which come late by up to `skew` ticks.
+/// The wave of these runs, which may be late by up to `skew` ticks.
 fn wave_of(
     rt: &impl Abort,
     alloc: Global,

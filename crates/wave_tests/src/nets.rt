@@ -232,7 +232,7 @@ fn wide_waves(rt: HostRuntime) -> Result<(), Fail> {
     Ok(())
 }
 
-/// A wire turns a wave by its least delay, and the rest is skew.
+/// A wire rotates a wave by its least delay, and the remainder is skew.
 #[test]
 fn pins(rt: HostRuntime) -> Result<(), Fail> {
     let high = [(Zero, 110), (R, 1), (One, 49), (F, 1), (Zero, 239)];

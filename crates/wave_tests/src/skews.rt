@@ -11,7 +11,7 @@ use wave_core::{CyclicWave, SlotWave};
 /// One change in a period of six ticks.
 const ONE: [Slot; 6] = [S, S, M, S, S, S];
 
-/// The wave of these slots, which may come late by up to `skew` ticks.
+/// The wave of these slots, which may be late by up to `skew` ticks.
 fn wave_of(
     alloc: Global,
     slots: &[Slot; 6],

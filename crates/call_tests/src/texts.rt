@@ -1,0 +1,51 @@
+//! How the rows are run: words and texts in pieces, over devices in memory.
+
+use scald_base::{Bytes, Calls, MemorySink, MemorySource, NoMemory};
+use scald_tool::{Outcome, Words, tool_main};
+use std::alloc::Global;
+use std::process::Abort;
+use std::test::Fail;
+
+/// The first three lines of a drawing in a period of 8 units of 50 ticks.
+pub const FRAME: &[u8] = b"SCALD 1;\nCLOCK 8 x 50;\nDRAWING ROW;\n";
+
+/// The first two of them, where macros stand before the drawing.
+pub const HEAD: &[u8] = b"SCALD 1;\nCLOCK 8 x 50;\n";
+
+/// The end of a drawing's last line, and its END.
+pub const END: &[u8] = b"\nEND;\n";
+
+pub fn words_of(alloc: Global, texts: &[&[u8]]) -> Result<Words, NoMemory> {
+    let mut words = Words::new(alloc);
+    for text in texts {
+        words.push(Bytes::of(alloc, text)?)?;
+    }
+    Ok(words)
+}
+
+fn text_of(alloc: Global, pieces: &[&[u8]]) -> Result<Bytes, NoMemory> {
+    let mut text = Bytes::new(alloc);
+    for piece in pieces {
+        text.extend(piece)?;
+    }
+    Ok(text)
+}
+
+/// The call to these words and to the text in these pieces has this outcome, and writes exactly these bytes.
+pub fn answers(
+    rt: &(impl Abort + AllocGlobal),
+    name: &str,
+    words: &[&[u8]],
+    text: &[&[u8]],
+    outcome: Outcome,
+    bytes: &[u8],
+) -> Result<(), Fail> {
+    let alloc = rt.alloc();
+    let words = words_of(alloc, words)?;
+    let mut source = MemorySource::new(text_of(alloc, text)?, 4096, Calls::new(alloc));
+    let mut sink = MemorySink::new(alloc, 4096, 4096, Calls::new(alloc))?;
+    let answer = tool_main(alloc, &words, &mut source, &mut sink);
+    assert_eq!(rt; answer, outcome, "{name}");
+    assert_eq!(rt; sink.taken(), bytes, "{name}");
+    Ok(())
+}
