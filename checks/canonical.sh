@@ -1,7 +1,7 @@
 #!/bin/sh
 # Small texts, each with the canonical text of what it draws, one for each way to write a part of a drawing: what
 # `format` answers, and that it answers the canonical text with that text itself.
-# Usage: checks/canonical.sh [PROGRAM]. Without a built program it says so and ends with 0.
+# Usage: checks/canonical.sh [PROGRAM]. Where none is named and none is built it says so and ends with 0.
 . "$(dirname -- "$0")/common.sh"
 begin "${1-}"
 
@@ -18,7 +18,7 @@ formats() {
     fi
 }
 
-# drawn NAME TEXT LINE ..: the lines of a text behind a header of two statements
+# drawn NAME TEXT LINE ..: the lines of a text after a header of two statements
 drawn() {
     name=$1
     text=$2
@@ -74,9 +74,9 @@ statement 'a complement' 'a:B(-"X"<1>);' 'a : B (-"X"<1>);'
 statement 'constants' 'a:B(ZERO,ONE);' 'a : B (ZERO, ONE);'
 statement 'complements of constants' 'a:B(-ZERO,-ONE);' 'a : B (-ZERO, -ONE);'
 statement 'a global name with an assertion' 'a:B("/X .S1-4");' 'a : B ("/X .S1-4");'
-statement 'bits one behind the other' 'a:B("X"&ONE);' 'a : B ("X" & ONE);'
+statement 'bits one after the other' 'a:B("X"&ONE);' 'a : B ("X" & ONE);'
 statement 'a mark' 'a:B("X"!H,"Y");' 'a : B ("X" !H, "Y");'
-statement 'a mark behind joined bits' 'a:B("X"&-"Y"<2:0>!H);' 'a : B ("X" & -"Y"<2:0> !H);'
+statement 'a mark after joined bits' 'a:B("X"&-"Y"<2:0>!H);' 'a : B ("X" & -"Y"<2:0> !H);'
 statement 'outputs' 'a:B()->("Y","Z");' 'a : B () -> ("Y", "Z");'
 statement 'an IF within an IF' 'IF A THEN IF B THEN a:B();END;END;' 'IF A THEN' '  IF B THEN' '    a : B ();' '  END;' 'END;'
 statement 'an IF of nothing' 'IF A THEN ELSE END;' 'IF A THEN' 'ELSE' 'END;'
@@ -85,7 +85,7 @@ statement 'an ELSE' 'IF A THEN a:B();ELSE b:B();END;' 'IF A THEN' '  a : B ();' 
 statement 'parameters without a delay' 't:T{N=(1+2)*3-(-(4))}("A")->("Z");' 't : T {N=(1 + 2) * 3 - -4} ("A") -> ("Z");'
 statement 'all parts of a use' 't:T[0:1]{N=(1+2)*3-(-(4))}(-"A")->("Z");' 't : T [0:1] {N=(1 + 2) * 3 - -4} (-"A") -> ("Z");'
 
-# --- what stands around statements
+# --- what surrounds statements
 drawn 'the shortest drawing' 'DRAWING D;END;' 'DRAWING D;' 'END;'
 drawn 'a macro' 'MACRO M();END;DRAWING D;END;' 'MACRO M ();' 'END;' 'DRAWING D;' 'END;'
 drawn 'parameters' 'MACRO M{A=1,B=A}();END;DRAWING D;END;' 'MACRO M {A=1, B=A} ();' 'END;' 'DRAWING D;' 'END;'

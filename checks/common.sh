@@ -6,12 +6,14 @@ check=checks/$(basename -- "$0")
 top=$(CDPATH='' cd -- "$(dirname -- "$0")/.." && pwd) || exit 2
 
 # begin [PROGRAM]: sets $program, the one to be tried, and $work, an empty folder that is gone when the check ends.
-# Without a built program it says so and ends the check with 0.
+# Where a program is named and is not there, the check fails. Where none is named and none is built, it says so and
+# ends with 0.
 begin() {
     program=${1:-$top/crates/scald/out/scald}
     if [ ! -x "$program" ]; then
         echo "$check: no program at $program (./scald builds it): nothing is tried"
-        exit 0
+        [ -z "${1-}" ]
+        exit
     fi
     work=$(mktemp -d) || exit 2
     trap 'rm -rf "$work"' EXIT
@@ -37,7 +39,7 @@ lines() {
     echo $(($(wc -l <"$1")))
 }
 
-# ended [MORE]: says how many were tried and how many failed, and MORE behind it; ends the check with 0 where some were
+# ended [MORE]: says how many were tried and how many failed, and then MORE; ends the check with 0 where some were
 # tried and none failed
 ended() {
     echo "$check: $(lines "$work/tried") tried, $(lines "$work/failed") failed${1-}"

@@ -1,6 +1,6 @@
 #!/bin/sh
 # Compares the report of each drawing of examples/ with the one that stands beside it, and the status with its
-# last line. Usage: checks/examples.sh [PROGRAM]. Without a built program it says so and ends with 0.
+# last line. Usage: checks/examples.sh [PROGRAM]. Where none is named and none is built it says so and ends with 0.
 . "$(dirname -- "$0")/common.sh"
 begin "${1-}"
 

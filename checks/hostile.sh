@@ -1,6 +1,6 @@
 #!/bin/sh
-# Tries the built program over hostile texts and with too little memory. All of it is for the hand, since it takes
-# long, most of it for the random texts; --short is the part that .ci/run has behind the gate. It ends with the
+# Tries the built program over hostile texts and with too little memory. All of it is to be run by hand, since it
+# takes long, mostly for the random texts; --short is the part that .ci/run tries after the gate. It ends with the
 # time that it took.
 # Usage: checks/hostile.sh [--short] [PROGRAM [COUNT]], COUNT random texts in place of 20000, or of 400.
 # Needs python3; cc where allocations are to be refused one by one; and GNU time where it is not short.
@@ -169,7 +169,7 @@ echo "cuts of alu.scald: $bytes tried, $wrong failed"
 
 # --- each limit, met and passed by one; and the texts that cost most
 # tries NAME STATUS LINE [WORD ..]: the text on standard input, verified with these words behind; the last line of the
-# answer must be LINE, or none be there where LINE is empty
+# answer must be LINE, or none be there where LINE is empty. A row may set how many seconds and KB it takes at most.
 tries() {
     name=$1
     wanted=$2
@@ -178,7 +178,8 @@ tries() {
     trying "$name"
     cat >"$work/text"
     (
-        ulimit -t 120
+        ulimit -t "${seconds_at_most:-120}"
+        ulimit -v "${kb_at_most:-unlimited}"
         exec /usr/bin/time -q -f '%U %M' -o "$work/time" "$program" verify "$@" <"$work/text" >"$work/out"
     ) 2>/dev/null
     status=$?
@@ -264,10 +265,18 @@ cases() {
 }
 cases 256 | tries 'the most cases' 0 CLEAN faults
 cases 257 | tries 'one case more' 2 'REFUSED 16 TooMany 262:1'
+# each case names the same 781 of 65,536 inputs
+{
+    ranges 256 'MIN_PULSE_CHK ("A"' ');' | frame
+    awk 'BEGIN { for (i = 0; i < 781; i++) list = list sprintf("%s\"A\"<%d>=%d", i ? "," : "CASE ", i, i % 2)
+        for (i = 0; i < 256; i++) print list ";" }'
+} | tries '256 cases with 199936 entries' 0 CLEAN faults
 echo 'WIRE "A" 4095:4095;' | frame | tries 'the longest wire' 0 CLEAN faults
 echo 'WIRE "A" 0:4096;' | frame | tries 'a longer wire' 2 'REFUSED 14 Bounds 4:1'
 echo 'c : MIN_PULSE_CHK ("A"<0:255>);' | frame | tries 'the widest connection' 0 CLEAN faults
 echo 'c : MIN_PULSE_CHK ("A"<0:255> & "B");' | frame | tries 'one bit more' 2 'REFUSED 12 Width 4:1'
+awk 'BEGIN { printf "c : MIN_PULSE_CHK (\"A\"<0:255>"; for (i = 1; i < 300000; i++) printf "&\"A\"<0:255>"; print ");" }' | frame |
+    kb_at_most=1000000 tries '300000 terms of 256 bits' 2 'REFUSED 12 Width 4:1' faults
 echo 'WIRE "A"<65535> 0:0;' | frame | tries 'the greatest bit number' 0 CLEAN faults
 echo 'WIRE "A"<65536> 0:0;' | frame | tries 'a greater bit number' 2 'REFUSED 11 BadRange 4:1'
 echo "WIRE \"$(many 64 A)\" 0:0;" | frame | tries 'the longest base name' 0 CLEAN faults
@@ -286,6 +295,8 @@ ring | tries 'a greater limit' 4 '' faults rounds=10000001
 # the costliest waves and rounds
 awk 'BEGIN { printf "WIRE \"A .S0-1"; for (i = 1; i < 1000000; i++) printf ",0-1"; print "\" 0:0;" }' | frame |
     tries 'a name of 1000000 intervals' 0 CLEAN faults
+awk 'BEGIN { printf "WIRE \"CK .C0-1"; for (i = 1; i < 1000000; i++) printf ",0-1"; print ",0-4095(1,0)\" 0:0;" }' | frame '4096 x 1' |
+    seconds_at_most=5 tries 'a clock of 1000001 intervals' 2 'REFUSED 20 EdgesOverlap 4:6'
 awk 'BEGIN { printf "WIRE \"A .S0-1"; for (i = 2; i < 4096; i += 2) printf ",%d-%d", i, i + 1; print "\"<0:63> 0:0;" }' | frame '4096 x 1' |
     tries '64 nets of 2048 intervals' 0 CLEAN faults
 printf '%s\n' 'p : BUF [0:0] ("X"<0:254>) -> ("X"<1:255>);' 'q : BUF [0:0] ("X"<255:509>) -> ("X"<256:510>);' | frame |

@@ -1,8 +1,8 @@
 #!/bin/sh
 # Compares the built program with checks/model, a model of `verify` that is written from the documents, over random
-# drawings: bytes and status must be the same. 20000 drawings are for the hand, in a minute or two; --short tries the
-# first 2000 of them, in about ten seconds, which .ci/run does behind the gate. It ends with the answers that came, and
-# the time that it took.
+# drawings: bytes and status must be the same. 20000 drawings are to be tried by hand, in a minute or two; --short tries
+# the first 2000 of them, in about ten seconds, which .ci/run does after the gate. It ends with the answers that came,
+# and the time that it took.
 # Usage: checks/model.sh [--short] [PROGRAM [COUNT [FIRST]]], COUNT drawings from number FIRST on; each number has
 # always the same drawing. Needs python3.
 # Where an answer is wrong the text and both answers are kept in the folder KEPT, or else in the temporary one.
@@ -19,7 +19,7 @@ begun=$(date +%s)
 PYTHONPATH=$top/checks python3 -B -m model "$program" "$count" "${3:-1}" >"$work/answers" ||
     failure "the model came to no end"
 
-# Each line of the answers has a drawing's number and, behind it, what came of the drawing.
+# Each line of the answers has a drawing's number and then what came of the drawing.
 cut -d ' ' -f 1 "$work/answers" >"$work/tried"
 grep ' FAILED ' "$work/answers" >"$work/wrong"
 while read -r number _ why; do

@@ -1,6 +1,6 @@
 #!/bin/sh
 # Tries the built program over real streams: what each of them must answer, and with which status.
-# Usage: checks/program.sh [PROGRAM]. Without a built program it says so and ends with 0.
+# Usage: checks/program.sh [PROGRAM]. Where none is named and none is built it says so and ends with 0.
 . "$(dirname -- "$0")/common.sh"
 begin "${1-}"
 first=$top/examples/first.scald
@@ -77,10 +77,10 @@ loop | "$program" verify rounds=2131 >"$work/out"
 expect "a loop one round short" 3 $?
 printf 'SCALD 1 PERIOD 400\nNETS 42 INSTANCES 41 CHECKS 0\nCASE 0 BASE 2132 ROUNDS 0 T 4266\nCLEAN\n' >"$work/want"
 loop | "$program" verify faults rounds=2132 >"$work/out"
-expect "a loop at rest" 0 $?
+expect "a loop that settles" 0 $?
 echo 41 >"$work/want"
 loop | "$program" verify waves rounds=2132 | grep -c '^WAVE X<[0-9]*> SKEW 0 0:400$' >"$work/out"
-expect "its waves at rest" 0 $?
+expect "its settled waves" 0 $?
 
 nested() {
     clocked 'MACRO D {N=1} ("A") -> ("Z");' 'IF N > 1 THEN x : D {N=N-1} ("A") -> ("Z");' \
@@ -114,6 +114,18 @@ expect "spaces alone" 2 $?
 head -c 4194304 /dev/zero | tr '\0' ' ' | "$program" verify >"$work/out"
 expect "spaces alone, to be verified" 2 $?
 
+# cases count from 1 to the most
+{
+    printf 'SCALD 1 PERIOD 400\nNETS 1 INSTANCES 0 CHECKS 0\nSTABLE SEL<0>\n'
+    seq 1 256 | sed 's/.*/CASE & BASE 0 ROUNDS 0 T 1/'
+    echo CLEAN
+} >"$work/want"
+{
+    drawing_of 'WIRE "SEL" 0:0;'
+    many 256 'CASE "SEL"=0; '
+} | "$program" verify faults >"$work/out"
+expect "the most cases" 0 $?
+
 # nothing nests so deep that the stack would feel it
 echo "REFUSED 15 TooDeep 4:74" >"$work/want"
 deep='SCALD 1;\nCLOCK 8 x 50;\nDRAWING T;\nWIRE "X" '
@@ -135,39 +147,91 @@ echo "REFUSED 15 TooDeep 4:641" >"$work/want"
 } | "$program" format >"$work/out"
 expect "nested IFs alone" 2 $?
 
-: >"$work/want"
-# With no form of words nothing is read: the next command still finds the first line.
-{
-    "$program" >"$work/out" 2>"$work/said"
-    echo $? >"$work/status"
-    IFS= read -r line
-    [ "$line" = "$(head -n 1 "$first")" ] || echo 99 >"$work/status"
-} <"$first"
-expect "no words" 4 "$(cat "$work/status")"
-
 # --- what is said on standard error, beside an empty standard output
 
-# says NAME STATUS LINE GOT: the last command's status GOT, its output in $work/out and its first line in $work/said
+# says NAME STATUS LINES GOT: the last command's status GOT, its output in $work/out, and in $work/said exactly these
+# lines, or nothing where they are empty
 says() {
     trying "$1"
+    : >"$work/lines"
+    [ -z "$3" ] || printf '%s\n' "$3" >"$work/lines"
     if [ "$4" -ne "$2" ]; then
         failure "$1: status $4 in place of $2"
     elif [ -s "$work/out" ]; then
         failure "$1: something is written"
-    elif [ "$(head -n 1 "$work/said")" != "$3" ]; then
-        failure "$1: '$(head -n 1 "$work/said")' is said in place of '$3'"
+    elif ! cmp -s "$work/said" "$work/lines"; then
+        failure "$1: this is said in place of '$3':"
+        head -c 1000 "$work/said"
     fi
 }
 
-forms='scald: these words are none of its forms, which are'
-for words in '' 'verify twice' 'verify rounds=5 faults' check bench 'bench 0' 'bench 01' 'bench 201' 'verify rounds=' \
-    'verify rounds=0' 'verify rounds=05' 'verify rounds=+5' 'verify rounds=10000001' 'verify waves waves' 'format waves' 'format format'; do
-    # shellcheck disable=SC2086
-    "$program" $words <"$first" >"$work/out" 2>"$work/said"
-    says "the words '$words'" 4 "$forms" $?
-done
-trying "the forms"
-[ "$(sed -n 's/^    scald \([a-z]*\) .*/\1/p' "$work/said" | tr '\n' ' ')" = 'verify format bench ' ] || failure "the forms are not all said"
+forms='scald: these words are none of its forms, which are
+    scald verify [waves|faults] [rounds=N] <DRAWING    whether the drawing keeps its constraints, with its waves and faults
+    scald format <DRAWING                              the drawing in its canonical form
+    scald bench N                                      what is found in a made drawing of N sections, 1 to 200'
+
+# none WORD ..: no form has these words, and nothing is read for them: the next command still finds the first line
+none() {
+    {
+        "$program" "$@" >"$work/out" 2>"$work/said"
+        echo $? >"$work/status"
+        IFS= read -r line
+        [ "$line" = "$(head -n 1 "$first")" ] || echo 99 >"$work/status"
+    } <"$first"
+    says "$# words:$(printf " '%s'" "$@")" 4 "$forms" "$(cat "$work/status")"
+}
+
+none
+none check
+none verify twice
+none verify rounds=5 faults
+none verify waves waves
+none format waves
+none format format
+# no word is trimmed, dropped or joined to another
+none ''
+none verify ''
+none '' verify
+none format ''
+none bench ''
+none bench '' 3
+none ' verify'
+none 'verify '
+none 'verify waves'
+none verify ' waves'
+none verify 'rounds=5 '
+none bench ' 3'
+none bench '3 '
+none VERIFY
+# three words at most, and two for bench
+none verify waves rounds=5 faults
+none verify waves rounds=5 rounds=5
+none verify waves rounds=5 ''
+none bench 3 3
+# numbers without a sign or zeros in front, within their bounds and not cut
+none verify rounds=
+none verify rounds=0
+none verify rounds=05
+none verify rounds=+5
+none verify rounds=5x
+none verify rounds=10000001
+none verify rounds=100000009
+none verify rounds=4294967297
+none verify rounds=18446744073709551617
+none verify rounds=1000000000000000000000
+none bench
+none bench 0
+none bench 01
+none bench +3
+none bench 201
+none bench 65539
+none bench 4294967299
+none bench 18446744073709551619
+
+# the greatest numbers
+cp "$report" "$work/want"
+"$program" verify rounds=10000000 <"$first" >"$work/out" 2>"$work/said"
+expect "ten million rounds" 0 $?
 
 : >"$work/said"
 "$program" check <"$first" >"$work/out" 2>/dev/full
@@ -209,8 +273,6 @@ bench() {
         [ "$line" = "$(head -n 1 "$first")" ] || echo 99 >"$work/status"
     } <"$first"
 }
-bench 201
-expect "too many sections" 4 "$(cat "$work/status")"
 echo "BENCH 1 NETS 25 INSTANCES 16 CHECKS 8 ROUNDS 1 T 126 FAULTS 0" >"$work/want"
 bench 1
 expect "one section" 0 "$(cat "$work/status")"

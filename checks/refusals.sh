@@ -1,7 +1,7 @@
 #!/bin/sh
 # Every refusal of docs/LANGUAGE.md with a small text that gets it: what `verify` answers, and that `format`
 # answers the same where the refusal comes before the expansion, and else formats the text.
-# Usage: checks/refusals.sh [PROGRAM]. Without a built program it says so and ends with 0.
+# Usage: checks/refusals.sh [PROGRAM]. Where none is named and none is built it says so and ends with 0.
 . "$(dirname -- "$0")/common.sh"
 begin "${1-}"
 
@@ -223,7 +223,7 @@ drawing '18 ZeroLoop 4:1' 'r1 : REG [0:0] ("CK .P2-3", "Q") -> ("Q");'
 drawing '18 ZeroLoop 4:1' 'b1 : BUF [0:9] ("X") -> ("Y");' 'x1 : XOR [0:0] ("CK .P2-3", "X") -> ("X");'
 
 # --- the cases, which begin on line 6
-# cases WANT LINE ..: these lines behind a drawing of one multiplexer
+# cases WANT LINE ..: these lines after a drawing of one multiplexer
 cases() {
     want=$1
     shift
@@ -250,7 +250,7 @@ cases '16 TooMany 262:1' 'CASE"NONE"=0;' $(many 256 'CASE"SEL"=0; ')
     echo 'CASE "X"=0;'
 } | unexpanded '19 CaseNet 6:6'
 
-# choices WANT LINE: this line, which is line 10, behind a drawing of two choices by one net
+# choices WANT LINE: this line, which is line 10, after a drawing of two choices by one net
 choices() {
     want=$1
     shift

@@ -1,7 +1,7 @@
 #!/bin/sh
 # What the built program reports on small drawings of each kind, worked out by hand: gates, storage, loops, clocks,
 # checkers, macros and cases, with the status of each.
-# Usage: checks/reports.sh [PROGRAM]. Without a built program it says so and ends with 0.
+# Usage: checks/reports.sh [PROGRAM]. Where none is named and none is built it says so and ends with 0.
 . "$(dirname -- "$0")/common.sh"
 begin "${1-}"
 
@@ -45,7 +45,7 @@ whole() {
     cmp -s "$work/out" "$work/want" || failure "$1: another report"
 }
 
-# row NAME WORDS STATUS LINE .. -- WANT ..: these lines stand in the answer, in this order
+# row NAME WORDS STATUS LINE .. -- WANT ..: the answer has these lines, in this order
 row() {
     answered "$@"
     awk 'BEGIN { at = 0 } NR == FNR { want[count++] = $0; next } at < count && $0 == want[at] { at++ } END { exit (at < count) }' \
@@ -207,10 +207,10 @@ row 'a checker of two bits that both have a fault' verify 1 \
 row 'late wires' verify 0 \
     'WIRE 0:20;' 'DRAWING ROW;' 'c1 : SETUP_HOLD_CHK {SETUP=20, HOLD=10} ("CK .P2-3", "D .S1-4");' 'END;' \
     -- 'CASE 0 BASE 0 ROUNDS 0 T 21'
-row 'the longest setup behind late wires' verify 0 \
+row 'the longest setup after late wires' verify 0 \
     'WIRE 0:20;' 'DRAWING ROW;' 'c1 : SETUP_HOLD_CHK {SETUP=30, HOLD=10} ("CK .P2-3", "D .S1-4");' 'END;' \
     -- 'CLEAN'
-row 'one tick more behind late wires' verify 1 \
+row 'one tick more after late wires' verify 1 \
     'WIRE 0:20;' 'DRAWING ROW;' 'c1 : SETUP_HOLD_CHK {SETUP=31, HOLD=10} ("CK .P2-3", "D .S1-4");' 'END;' \
     -- 'FAULT SETUP c1<0> EDGE 100 SLOT 70 VALUE C'
 row 'waves alone' 'verify waves' 1 \

@@ -1,8 +1,8 @@
-"""A model of `scald verify`: the meaning of a drawing once more.
+"""A model of `scald verify`: a second account of what a drawing means.
 
 It is written from docs/LANGUAGE.md and docs/MEANING.md, in other words than the definitions in crates/*/specs and
-without any of the program's ways: it goes slot by slot and tick by tick, evaluates every net in every round, and keeps
-nothing from one case for the next. So a mistake in the definitions themselves, which no proof can show, shows as a
+with none of the program's methods: it goes slot by slot and tick by tick, evaluates every net in every round, and
+keeps nothing from one case for the next. So a mistake in the definitions themselves, which no proof can show, shows as a
 difference between the model and the program. checks/model.sh compares the two over random drawings.
 
 In the order in which a drawing flows through them:
@@ -10,14 +10,14 @@ In the order in which a drawing flows through them:
     drawing     the tree of a drawing          values    the seven values
     writing     its text, and its places       waves     waves with a skew
     assertions  what signal names assert       elements  what elements make of waves
-    names       refusals before the expansion  rounds    rounds to rest, cases and cones, the printed tick
+    names       refusals before the expansion  rounds    rounds, cases and cones, the printed tick
     expansion   its circuit, or a refusal      faults    what checkers, marks and assertions find in waves
     circuit     nets, pins and instances       report    the answer: its lines and its status
     rules       a circuit's own rules, cases
 
-What is tried are random_drawings, with patterns that chance would seldom draw; mending and spoiling make most of them
-good, and some bad in a chosen way. __main__ tries them.
+It is tried on random_drawings, with patterns that chance would seldom draw; mending and spoiling make most of them good,
+and some bad in a chosen way. __main__ tries them.
 
-The model begins with the tree and has no reader: what is no text by the grammar, and how much of all may be there
+The model begins with the tree and has no reader: texts that the grammar refuses, and limits on how much there may be
 (TooMany and most of TooDeep), are not in it.
 """

@@ -10,7 +10,7 @@ LETTER = {STAYS_LOW: "0", STAYS_HIGH: "1", RISES: "R", FALLS: "F"}
 
 
 def spelling(assertion):
-    """What stands behind the base name."""
+    """What follows the base name."""
     if assertion is None:
         return ""
     intervals = ",".join("%d-%d" % interval for interval in assertion.intervals)

@@ -125,7 +125,7 @@ class Expansion:
         return list(formal.values()) if numbers is None else [formal[number] for number in numbers]
 
     def named_bits(self, scope, name, numbers, place):
-        """The bits that a name with these numbers stands for in a scope, or without any."""
+        """The bits that a name means in a scope, those with these numbers or, without numbers, all."""
         if name.base in scope.formals:
             return self.formal_bits(scope.formals[name.base], name, numbers, place)
         return [Bit(self.net(scope, name, number, place), False) for number in (numbers or [0])]

@@ -1,4 +1,4 @@
-"""The faults that are read off the waves at rest (docs/MEANING.md, "A fault"), as lines of the report."""
+"""The faults that are read off the settled waves (docs/MEANING.md, "A fault"), as lines of the report."""
 from .assertions import wide_wave
 from .elements import first_hazard
 from .rounds import pin_wave
@@ -7,13 +7,13 @@ from .waves import fold
 
 
 def first_change(data, slots):
-    """The first of these slots, which may lie in a period before or behind, in which the input may change."""
+    """The first of these slots, which may be in the period before or after, in which the input may change."""
     return next((slot for slot in slots if not is_quiet(data[slot % len(data)])), None)
 
 
 def window_fault(checker, data, edge, high_end, end):
     """The fault at one edge: the input may change in the window from SETUP slots before to its end. Up to the edge it
-    is SETUP, and then HIGH up to a second slot, and HOLD behind."""
+    is SETUP, and then HIGH up to a second slot, and HOLD after that."""
     slot = first_change(data, range(edge - checker.limits["SETUP"] + 1, end + 1))
     if slot is None:
         return None
@@ -36,8 +36,8 @@ def last_fall(clock, edge):
     """The last slot in which the clock may fall while it may have been 1 since the edge, or None where none is; and
     whether it may stay at 1 in every slot."""
     period = len(clock)
-    behind = range(edge + 1, edge + period + 1)
-    low = next((slot for slot in behind if not permits(clock[slot % period], STAYS_HIGH)), None)
+    after = range(edge + 1, edge + period + 1)
+    low = next((slot for slot in after if not permits(clock[slot % period], STAYS_HIGH)), None)
     until = edge + period if low is None else low
     falls = [slot for slot in range(edge + 1, until + 1) if permits(clock[slot % period], FALLS)]
     return (max(falls) if falls else None), low is None
@@ -82,7 +82,7 @@ def assertion_fault(circuit, waves, net):
 
 def shortest_pulse(wave, begin, step_out, stays, least):
     """How long a pulse that begins in a slot may be, where that is less than the least; else None. The pulse is
-    measured on the wave itself, since all of it comes late together."""
+    measured on the wave itself, since all of it is late together."""
     for width in range(1, least):
         value = wave.slots[(begin + width) % len(wave.slots)]
         if permits(value, step_out):

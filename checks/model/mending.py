@@ -47,7 +47,7 @@ def mend_one(drawing, refused, random):
 
 
 def mend(drawing, random):
-    """Changes a drawing until nothing is refused, or until chance lets a refusal stand."""
+    """Changes a drawing until nothing is refused, or until chance keeps a refusal."""
     for _ in range(MOST_TRIES):
         write_drawing(drawing)
         try:

@@ -1,4 +1,4 @@
-"""Parts of drawings that chance alone would seldom draw: macros that use themselves, and a loop that rests slowly."""
+"""Parts of drawings that chance alone would seldom draw: macros that use themselves, and a loop that settles slowly."""
 from .drawing import (
     Assign, Binary, Clock, Connection, Delay, Formal, If, Interval, Macro, Name, Number, Parameter, Range, Term, Use,
 )
@@ -41,7 +41,7 @@ def chain_macro():
 
 def ring(count, kind, header):
     """Buffers without delay in a loop with an AND or OR whose clock lets the loop's own wave through in all units but
-    one: the waves rest slowly, or not within the limit of rounds."""
+    one: the waves settle slowly, or not within the limit of rounds."""
     front, back = Range(Number(0), Number(count - 1)), Range(Number(1), Number(count))
     clock = signal("TURN", None, Clock("P", (Interval(0, header.units - 1),), None, kind == "OR"))
     fed_back = signal("RING", Range(Number(count)))

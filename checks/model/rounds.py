@@ -1,4 +1,4 @@
-"""Rounds to rest, cases, and the printed tick (docs/MEANING.md, "Rounds", "Cases" and "The printed tick")."""
+"""Rounds until the waves settle, cases, and the printed tick (docs/MEANING.md, "Rounds", "Cases" and "The printed tick")."""
 from typing import NamedTuple
 
 from .assertions import wave_of
@@ -8,7 +8,7 @@ from .waves import constant, delayed, flipped, normal
 
 
 class Unsettled(Exception):
-    """Waves that do not rest: the first net in the order of names that still changes, and the limit of rounds."""
+    """Waves that do not settle: the first net in name order that still changes, and the limit of rounds."""
 
     def __init__(self, net, limit):
         super().__init__(net)
@@ -17,14 +17,14 @@ class Unsettled(Exception):
 
 
 class Rest(NamedTuple):
-    """The waves at rest, by net, and the number of the round."""
+    """The settled waves, by net, and the number of the round."""
 
     waves: dict
     rounds: int
 
 
 class CaseRest(NamedTuple):
-    """A case by its number, its waves at rest, and its own rounds."""
+    """A case by its number, its settled waves, and its own rounds."""
 
     number: int
     waves: dict
@@ -32,7 +32,7 @@ class CaseRest(NamedTuple):
 
 
 class Settled(NamedTuple):
-    """A circuit at rest: the rounds before any case, and its cases."""
+    """A settled circuit: the rounds before any case, and its cases."""
 
     base_rounds: int
     cases: list
@@ -55,7 +55,7 @@ def driven_wave(circuit, waves, element):
 
 
 def next_round(circuit, waves, active):
-    """All waves of the round behind, in which the active nets are evaluated."""
+    """All waves of the next round, in which the active nets are evaluated."""
     made = {net: driven_wave(circuit, waves, circuit.drivers[net]) for net in active}
     return {**waves, **made}
 
@@ -75,7 +75,7 @@ def settle(circuit, start, active, limit):
 
 
 def base(circuit, limit):
-    """The rest of a circuit before any case: it begins with the assertions, and with nothing known of driven nets."""
+    """A circuit settled before any case: it begins with the assertions, and with nothing known of driven nets."""
     start = {}
     for net in circuit.nets:
         if net in circuit.drivers:
@@ -100,7 +100,7 @@ def cone(circuit, levels):
 
 
 def case_rest(circuit, base_waves, levels, limit):
-    """The rest of a case: its nets hold their levels, the rest of its cone begins as unknown, all else is at rest."""
+    """A case settled: its nets hold their levels, the others of its cone begin as unknown, all else is settled."""
     reached = cone(circuit, levels)
     start = {}
     for net in circuit.nets:
@@ -119,7 +119,7 @@ def default_limit(circuit):
 
 
 def settle_all(circuit, limit):
-    """The base and each case at rest; the one case 0 where none is listed."""
+    """The base and each case settled; the one case 0 where none is listed."""
     at_base = base(circuit, limit)
     if not circuit.cases:
         return Settled(at_base.rounds, [CaseRest(0, at_base.waves, 0)])

@@ -66,7 +66,7 @@ def double_label(drawing, random):
 
 
 def double_declaration(drawing, random):
-    """A macro, a parameter or a formal once more; or an input as an output too."""
+    """A macro, a parameter or a formal a second time; or an input as an output too."""
     if drawing.macros:
         macro = random.choice(drawing.macros)
         lists = [(drawing.macros, drawing.macros), (macro.parameters, macro.parameters)]
@@ -95,7 +95,7 @@ def macro_named_like_a_primitive(drawing, random):
 
 
 def bad_entry(drawing, random):
-    """An entry of a case that is not allowed: its name, its bit or its level, or that it stands twice."""
+    """An entry of a case that is not allowed: its name, its bit or its level, or that it is there twice."""
     if drawing.cases:
         case = random.choice(drawing.cases)
         entry = random.choice(case.entries)
@@ -205,7 +205,7 @@ def deep_use(drawing, random):
 
 
 def second_driver(drawing, random):
-    """A use once more, with a label of its own."""
+    """A use a second time, with a label of its own."""
     use = some_use(drawing, random)
     if use is not None:
         again = deepcopy(use)

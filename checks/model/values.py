@@ -40,7 +40,7 @@ def is_quiet(value):
 
 
 def complement(values):
-    """The values, one letter behind the other, of what shows the other bit at each tick."""
+    """The values, one letter after the other, of what shows the other bit at each tick."""
     return values.translate(str.maketrans("01RF", "10FR"))
 
 

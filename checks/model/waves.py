@@ -1,4 +1,4 @@
-"""Waves with a skew: what a net may do in each slot of a period, and by how many ticks all of it may come late
+"""Waves with a skew: what a net may do in each slot of a period, and by how many ticks all of it may be late
 (docs/MEANING.md, "Values and waves"). Slot p is the step from tick p - 1 to tick p; slots go round the period.
 """
 from functools import lru_cache
@@ -15,7 +15,7 @@ class Bounds(NamedTuple):
 
 
 class Wave(NamedTuple):
-    """A value for each slot, one letter behind the other, and the most ticks by which all of them may come late."""
+    """A value for each slot, one letter after the other, and the most ticks by which all of them may be late."""
 
     slots: str
     skew: int
