@@ -4,7 +4,7 @@ MOST_BYTES = 4194304
 
 
 def drawing(lines, clock="8 x 50", macros=(), after=(), header=()):
-    """A drawing of these lines, with macros before it and cases behind it."""
+    """A drawing of these lines, with macros before it and cases after it."""
     head = ["SCALD 1;", f"CLOCK {clock};", *header]
     return "\n".join([*head, *macros, "DRAWING MEASURED;", *lines, "END;", *after]) + "\n"
 
@@ -32,7 +32,7 @@ END;""".split("\n")
 
 
 def wide(uses, clock="8 x 50"):
-    """Uses of a slice of 256 bits with a gated clock, XOR, MUX2, REG, LATCH and checkers, one behind another."""
+    """Uses of a slice of 256 bits with a gated clock, XOR, MUX2, REG, LATCH and checkers, one after another."""
     lines = []
     for i in range(uses):
         before = "A .S7-5" if i == 0 else f"L{i - 1}"
@@ -60,7 +60,7 @@ def tree(leaves, after=()):
     return drawing([f't : TREE {{SIZE={leaves}}} ("CK .P2-3") -> ("OUT");'], macros=TREE, after=after)
 
 
-# a case of a net that is not there: the drawing is refused as soon as its circuit stands
+# a case of a net that does not exist: the drawing is refused as soon as its circuit is built
 REFUSED = ['CASE "NO SUCH NET"=0;']
 
 
@@ -70,7 +70,7 @@ def expanded_tree(leaves):
 
 
 def expanded_uses(count):
-    """Registers one behind another, refused as soon as they are expanded."""
+    """Registers one after another, refused as soon as they are expanded."""
     return drawing(
         (f'register_{i} : REG [5:10] ("MAIN CLK .P2-3", "QUEUE {i - 1}") -> ("QUEUE {i}");' for i in range(1, count + 1)),
         after=REFUSED,
@@ -78,7 +78,7 @@ def expanded_uses(count):
 
 
 def chain(buffers):
-    """Buffers one behind another."""
+    """Buffers one after another."""
     lines = []
     for i in range(1, buffers + 1):
         before = "CK .P2-3" if i == 1 else f"X{i - 1}"
@@ -87,7 +87,7 @@ def chain(buffers):
 
 
 def loops(count):
-    """Loops of forty buffers without delay and an AND with a clock, side by side, at rest after 2132 rounds."""
+    """Loops of forty buffers without delay and an AND with a clock, side by side, which settle after 2132 rounds."""
     lines = []
     for i in range(1, count + 1):
         lines.append(f'b{i} : BUF [0:0] ("X{i}"<0:39>) -> ("X{i}"<1:40>);')

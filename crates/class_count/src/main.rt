@@ -1,5 +1,5 @@
 //! Counts the nets of the drawing on standard input and their classes, and says whether the classes are
-//! stable, and how many evaluations bring the base to rest, net by net and class by class. It leaves the
+//! stable, and after how many evaluations the base settles, net by net and class by class. It leaves the
 //! drawing's cases out.
 #![tactic(auto)]
 
@@ -23,7 +23,7 @@ use wave_core::SlotWave;
 /// The most bytes of a text.
 const MOST_BYTES: u32 = 4_194_304;
 
-/// How many evaluations bring a base to rest.
+/// After how many evaluations a base settles.
 #[derive(Clone, Copy)]
 struct Work {
     by_nets: u64,
@@ -46,7 +46,7 @@ struct Count {
     found: Found,
 }
 
-/// The text that the source has, or the status for want of it.
+/// The text that the source has, or the status where it has none.
 fn text(rt: &(impl Input + AllocGlobal)) -> Result<Bytes, u8> {
     let mut source = StdSource::new(rt.reader());
     read_all(rt.alloc(), &mut source, MOST_BYTES).map_err(|end| match end {
@@ -64,7 +64,7 @@ fn different(alloc: Global, numbers: &ClassMap) -> Result<usize, NoMemory> {
     Ok(sorted.len())
 }
 
-/// How many evaluations bring the base to rest, net by net and class by class.
+/// After how many evaluations the base settles, net by net and class by class.
 fn evaluations(
     alloc: Global,
     c: &Circuit,
@@ -83,7 +83,7 @@ fn evaluations(
     })
 }
 
-/// Whether the classes are stable and the base comes to rest, and then its evaluations.
+/// Whether the classes are stable and the base settles, and then its evaluations.
 fn looked_at(
     alloc: Global,
     c: &Circuit,

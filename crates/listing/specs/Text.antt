@@ -3,7 +3,7 @@ use Rattle.std.specs.Prelude.{◌≡◌, ℕ, List, [], ◌∷◌, ◌++◌, cod
 use Rattle.std.specs.List.{concat}
 use Rattle.flat_circuit.specs.Name.{Name}
 
--- texts behind one another, and byte 10 at the end
+-- texts one after another, and byte 10 at the end
 abbrev pub line : List (List ℕ) → List ℕ
 line texts = concat texts ++ 10 ∷ []
 
@@ -11,7 +11,7 @@ line texts = concat texts ++ 10 ∷ []
 abbrev pub bit_text : Name → List ℕ
 bit_text name = concat (name.text ∷ codes "<" ∷ decimal name.bit ∷ codes ">" ∷ [])
 
--- What was there stays, and behind it stands a part of the text, from the text's start on.
+-- What was there stays, followed by a part of the text, from the text's start on.
 pub record HasPart (old new text : List ℕ) : Type 0 where
   pub part : List ℕ
   pub rest : List ℕ

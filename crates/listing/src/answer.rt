@@ -32,8 +32,8 @@ pub fn write_refusal(refusal: &Refusal, out: &mut Bytes) -> Result<(), NoMemory>
     )
 }
 
-/// Puts the line of rounds that do not come to rest at the end of `out`: the net at the place `net`, from
-/// 0, in the order of names, and the round at the limit. Where memory runs out, a part of the line may
+/// Appends to `out` the line of rounds that do not settle: the net at the place `net`, from
+/// 0, in name order, and the round at the limit. Where memory runs out, a part of the line may
 /// stand there.
 #[tactic(auto, unfolding(crate::specs::Answer::unsettled_line))]
 pub fn write_unsettled(c: &Circuit, net: u32, round: u32, out: &mut Bytes) -> Result<(), NoMemory>

@@ -100,7 +100,7 @@ fn add_shown_faults(
 
 /// Puts the lines of one case at the end of `out`: its own line, with its number, the rounds of the
 /// base, its own rounds and the tick from which on its waves hold; then, as the mode says, a line for
-/// the wave of each net, in the order of names, and a line for each fault, in the order of `faults`. Where
+/// the wave of each net, in name order, and a line for each fault, in the order of `faults`. Where
 /// memory runs out, a part of these lines may stand there.
 pub fn write_case<W: CyclicWave<Item = Value>>(
     c: &Circuit,

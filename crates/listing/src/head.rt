@@ -69,7 +69,7 @@ fn add_stable(out: &mut Bytes, c: &Circuit, net: u32) -> Result<(), NoMemory>
     }
 }
 
-/// The lines of the nets that are taken for constant, in the order of names.
+/// The lines of the nets that are taken for constant, in name order.
 fn add_stables(out: &mut Bytes, c: &Circuit) -> Result<(), NoMemory>
     ensures ok { OnOk result (out.new ≡ out.old ++ stable_lines c.now) }
     ensures err { OnErr result (HasPart out.old out.new (stable_lines c.now)) }
@@ -83,7 +83,7 @@ fn add_stables(out: &mut Bytes, c: &Circuit) -> Result<(), NoMemory>
 
 /// Puts the head of the report at the end of `out`: the line with the period in ticks, the line that
 /// counts the bits of nets, of instances with an output and of checkers, and a line for each net that
-/// nothing drives and of which nothing is asserted, in the order of names. Where memory runs out, a part
+/// nothing drives and of which nothing is asserted, in name order. Where memory runs out, a part
 /// of these lines may stand there.
 pub fn begin_report(c: &Circuit, out: &mut Bytes) -> Result<(), NoMemory>
     ensures ok { OnOk result (out.new ≡ out.old ++ head c.now) }

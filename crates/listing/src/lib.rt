@@ -1,9 +1,9 @@
 //! The report on a circuit, line by line: its head, the lines of each case with waves and faults as
 //! the mode asks, and the last line; and the one line that stands in place of a report where a text is
-//! refused, rounds do not come to rest, or the numbers of a report are asked for alone.
+//! refused, rounds do not settle, or the numbers of a report are asked for alone.
 //!
 //! The layer above composes a report of [`begin_report`], [`write_case`] for each case, and
-//! [`end_report`]. Each call puts exactly its lines behind the bytes that it is given. `specs/Head`,
+//! [`end_report`]. Each call appends exactly its lines to the bytes that it is given. `specs/Head`,
 //! `specs/Case`, `specs/End` and `specs/Answer` say which lines these are, over `specs/Wave`,
 //! `specs/Run` and `specs/Fault`.
 #![tactic(auto)]

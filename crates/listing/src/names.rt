@@ -8,7 +8,7 @@ ghost use Rattle.listing.specs.Piece.{piece_text};
 use crate::piece::Piece;
 use flat_circuit::Circuit;
 
-/// The number of the net at a place, from 0, in the order of names.
+/// The number of the net at a place, from 0, in name order.
 pub fn net_at(c: &Circuit, place: u32) -> u32
     requires { place < length c.now.order }
     ensures { result ≡ net_at c.now.order place }

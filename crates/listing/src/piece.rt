@@ -56,7 +56,7 @@ fn add_piece(out: &mut Bytes, piece: &Piece) -> Result<(), NoMemory>
     }
 }
 
-/// Pieces behind one another.
+/// Pieces, one after another.
 pub fn add_pieces(out: &mut Bytes, pieces: &[Piece]) -> Result<(), NoMemory>
     ensures ok { OnOk result (out.new ≡ out.old ++ flat_map piece_text pieces.now) }
     ensures err { OnErr result (HasPart out.old out.new (flat_map piece_text pieces.now)) }

@@ -38,7 +38,7 @@ fn add_wave<W: CyclicWave<Item = Value>>(
     add_line(out, &[])
 }
 
-/// The lines of all nets' waves, in the order of names.
+/// The lines of all nets' waves, in name order.
 pub fn add_waves<W: CyclicWave<Item = Value>>(
     out: &mut Bytes,
     c: &Circuit,

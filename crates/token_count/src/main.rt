@@ -11,7 +11,7 @@ use std::process::ExitCode;
 /// The most bytes of a text.
 const MOST_BYTES: u32 = 4_194_304;
 
-/// The text that the source has, or the status for want of it.
+/// The text that the source has, or the status where it has none.
 fn text(rt: &(impl Input + AllocGlobal)) -> Result<Bytes, u8> {
     let mut source = StdSource::new(rt.reader());
     read_all(rt.alloc(), &mut source, MOST_BYTES).map_err(|end| match end {

@@ -1,4 +1,4 @@
-//! Why bits are none.
+//! Why there is no list of bits.
 
 use scald_base::NoMemory;
 use thiserror::Error;
@@ -9,7 +9,7 @@ pub enum VectorFault {
     /// A bit's number is outside 0 to 65,535, or a range has more than 256 bits.
     #[error("a bit number is out of range, or too many come")]
     BadRange,
-    /// A connection has more than 256 bits, or not as many as its place wants.
+    /// A connection has more than 256 bits, or not as many as are needed.
     #[error("a connection has the wrong width")]
     Width,
     /// Memory ran out.
