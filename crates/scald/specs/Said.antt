@@ -1,7 +1,7 @@
 -- What the program says on standard error where it ends without an answer, and with which status it then ends.
 use Rattle.std.specs.Prelude.{ℕ, List, ◌++◌, codes, Option, Some, None}
-use Rattle.scald_tool.specs.declared.outcome.Outcome.{Outcome}
-use Rattle.scald_tool.specs.declared.outcome.Outcome.TheVariants.{Clean, Faulty, Done, Refused, Unsettled, BadWords, TooLong, ReadFault, WriteFault, NoMemory}
+use Rattle.scald_base.specs.declared.outcome.Outcome.{Outcome}
+use Rattle.scald_base.specs.declared.outcome.Outcome.TheVariants.{Clean, Faulty, Done, Refused, Unsettled, BadWords, TooLong, ReadFault, WriteFault, NoMemory}
 use Rattle.scald.specs.declared.unstarted.Unstarted.{Unstarted}
 use Rattle.scald.specs.declared.unstarted.Unstarted.TheVariants.{NoArguments, NoMemory as NoRoom}
 

@@ -7,7 +7,7 @@
 
 ghost use Rattle.std.specs.Prelude.{◌≡◌};
 ghost use Rattle.std.specs.Process.{exit_status};
-ghost use Rattle.scald_tool.specs.Status.{status_of};
+ghost use Rattle.scald_base.specs.Outcome.{status_of};
 ghost use Rattle.scald.specs.Said.{unstarted_status};
 
 mod said;

@@ -2,3 +2,4 @@ mod Examples
 pub mod Device
 pub mod Back
 pub mod Below
+pub mod Answering

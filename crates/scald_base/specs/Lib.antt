@@ -8,3 +8,5 @@ pub mod Device
 pub mod Memory
 pub mod Word
 pub mod Signal
+pub mod Outcome
+pub mod Program

@@ -1,0 +1,39 @@
+-- The outcomes of the verifier: their statuses, and the ends of a call that are among them.
+use Rattle.std.specs.Prelude.{ℕ, Option, Some, None}
+use Rattle.scald_base.specs.declared.call_end.CallEnd.{CallEnd}
+use Rattle.scald_base.specs.declared.call_end.CallEnd.TheVariants.{BadWords as WrongWords, TooLong as PastLimit, ReadFault as FailedRead, WriteFault as FailedWrite, NoMemory as OutOfMemory}
+use Rattle.scald_base.specs.declared.outcome.Outcome.{Outcome}
+use Rattle.scald_base.specs.declared.outcome.Outcome.TheVariants.{Clean, Faulty, Done, Refused, Unsettled, BadWords, TooLong, ReadFault, WriteFault, NoMemory}
+
+abbrev pub status_of : Outcome → ℕ
+status_of Clean = 0
+status_of Done = 0
+status_of (Faulty n) = 1
+status_of (Refused r) = 2
+status_of (Unsettled k limit) = 3
+status_of (BadWords i) = 4
+status_of TooLong = 5
+status_of ReadFault = 6
+status_of WriteFault = 7
+status_of NoMemory = 8
+
+-- the outcome of a call that has this end
+abbrev pub ended : CallEnd → Outcome
+ended (WrongWords i) = BadWords i
+ended PastLimit = TooLong
+ended FailedRead = ReadFault
+ended FailedWrite = WriteFault
+ended OutOfMemory = NoMemory
+
+-- the end that an outcome is of, where it says nothing of the text
+abbrev pub end_of : Outcome → Option CallEnd
+end_of Clean = None
+end_of (Faulty n) = None
+end_of Done = None
+end_of (Refused r) = None
+end_of (Unsettled k limit) = None
+end_of (BadWords i) = Some (WrongWords i)
+end_of TooLong = Some PastLimit
+end_of ReadFault = Some FailedRead
+end_of WriteFault = Some FailedWrite
+end_of NoMemory = Some OutOfMemory

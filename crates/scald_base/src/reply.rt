@@ -1,0 +1,10 @@
+//! An answer before it is written.
+
+use crate::bytes::Bytes;
+
+/// An outcome, with the bytes that are written.
+#[derive(Drop, Debug)]
+pub struct Reply<O> {
+    pub outcome: O,
+    pub bytes: Bytes,
+}
