@@ -10,35 +10,62 @@ use Rattle.scald_expr.specs.Expression.{Expression, Number, Param, Negate, Binar
 abbrev pub adds : Op → Bool
 adds Add = true
 adds Sub = true
-adds _ = false
+adds Mul = false
+adds Div = false
+adds Eq = false
+adds Ne = false
+adds Lt = false
+adds Le = false
+adds Gt = false
+adds Ge = false
 
 abbrev pub multiplies : Op → Bool
+multiplies Add = false
+multiplies Sub = false
 multiplies Mul = true
 multiplies Div = true
-multiplies _ = false
+multiplies Eq = false
+multiplies Ne = false
+multiplies Lt = false
+multiplies Le = false
+multiplies Gt = false
+multiplies Ge = false
 
 abbrev pub compares : Op → Bool
 compares Add = false
 compares Sub = false
 compares Mul = false
 compares Div = false
-compares _ = true
+compares Eq = true
+compares Ne = true
+compares Lt = true
+compares Le = true
+compares Gt = true
+compares Ge = true
 
 abbrev pub is_sum : Expression → Bool
+is_sum (Number value) = false
+is_sum (Param name) = false
+is_sum (Negate operand) = false
 is_sum (Binary op left right) = adds op
-is_sum _ = false
 
 abbrev pub is_product : Expression → Bool
+is_product (Number value) = false
+is_product (Param name) = false
+is_product (Negate operand) = false
 is_product (Binary op left right) = multiplies op
-is_product _ = false
 
 abbrev pub is_comparison : Expression → Bool
+is_comparison (Number value) = false
+is_comparison (Param name) = false
+is_comparison (Negate operand) = false
 is_comparison (Binary op left right) = compares op
-is_comparison _ = false
 
 abbrev pub is_minus : Expression → Bool
+is_minus (Number value) = false
+is_minus (Param name) = false
 is_minus (Negate operand) = true
-is_minus _ = false
+is_minus (Binary op left right) = false
 
 -- ---- where parentheses stand
 

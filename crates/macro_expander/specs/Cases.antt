@@ -2,7 +2,7 @@
 use Rattle.std.specs.Prelude.{ℕ, Bool, true, false, not, ◌&&◌, ◌==◌, List, [], ◌∷◌, ◌++◌, nat_le, if◌then◌else◌, slice_get, Option, Some, None, Result, Ok, Err}
 use Rattle.std.specs.List.{list_any}
 use Rattle.scald_base.specs.declared.assertion.AssertSpec.{AssertSpec}
-use Rattle.scald_base.specs.declared.assertion.AssertSpec.TheVariants.{Precision, Clock}
+use Rattle.scald_base.specs.declared.assertion.AssertSpec.TheVariants.{None as Unasserted, Precision, Clock, Stable}
 use Rattle.scald_base.specs.declared.refusal.Refusal.{Refusal}
 use Rattle.scald_base.specs.declared.refusal.RefusalKind.TheVariants.{CaseNet, TooMany}
 use Rattle.flat_circuit.specs.Name.{Name}
@@ -32,9 +32,10 @@ is_driven s name = list_any (λ j. is_on name j.out) s.instances
 
 -- an asserted clock is no net of a case
 abbrev pub is_clock : AssertSpec → Bool
+is_clock Unasserted = false
 is_clock (Precision c) = true
 is_clock (Clock c) = true
-is_clock _ = false
+is_clock (Stable spans) = false
 
 abbrev pub is_set : List CaseBit → Name → Bool
 is_set bits name = list_any (λ b. same_name name b.name) bits

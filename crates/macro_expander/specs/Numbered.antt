@@ -9,7 +9,7 @@ use Rattle.vector_names.specs.declared.bits.Target.TheVariants.{Net as OnNet, Co
 use Rattle.vector_names.specs.declared.bits.BitRef.{BitRef}
 use Rattle.vector_names.specs.Bits.{widest}
 use Rattle.flat_circuit.specs.declared.kind.Kind.{Kind}
-use Rattle.flat_circuit.specs.declared.kind.Kind.TheVariants.{Chg}
+use Rattle.flat_circuit.specs.declared.kind.Kind.TheVariants.{Buf, And, Or, Xor, Mux2, Mux4, Mux8, Chg, Reg, RegRs, Latch, LatchRs, SetupHold, RiseFall, MinPulse}
 use Rattle.drawing_tree.specs.declared.statement.UseStmt.{UseStmt}
 use Rattle.macro_expander.specs.declared.primitive.Plan.{Plan}
 use Rattle.macro_expander.specs.Primitives.{bit_at}
@@ -78,8 +78,21 @@ abbrev pub column_ref : ℕ → numbered_joined.Joined → Pin
 column_ref k c = pin_ref c.hold (bit_at no_ref c.bits k)
 
 abbrev pub pin_refs : Kind → List numbered_joined.Joined → ℕ → List Pin
+pin_refs Buf ins k = map (column_ref k) ins
+pin_refs And ins k = map (column_ref k) ins
+pin_refs Or ins k = map (column_ref k) ins
+pin_refs Xor ins k = map (column_ref k) ins
+pin_refs Mux2 ins k = map (column_ref k) ins
+pin_refs Mux4 ins k = map (column_ref k) ins
+pin_refs Mux8 ins k = map (column_ref k) ins
 pin_refs Chg ins k = flat_map all_refs ins
-pin_refs kind ins k = map (column_ref k) ins
+pin_refs Reg ins k = map (column_ref k) ins
+pin_refs RegRs ins k = map (column_ref k) ins
+pin_refs Latch ins k = map (column_ref k) ins
+pin_refs LatchRs ins k = map (column_ref k) ins
+pin_refs SetupHold ins k = map (column_ref k) ins
+pin_refs RiseFall ins k = map (column_ref k) ins
+pin_refs MinPulse ins k = map (column_ref k) ins
 
 abbrev pub output_ref : List numbered_joined.Joined → ℕ → Option BitRef
 output_ref [] k = None

@@ -1,5 +1,5 @@
 -- The uses of primitives: what each kind takes, and the instance and checker bits that a use makes.
-use Rattle.std.specs.Prelude.{ℕ, ◌+◌, Bool, true, false, not, ◌&&◌, ◌||◌, List, [], ◌∷◌, ◌++◌, length, map, count_by, sum_by, nat_le, ◌==◌, if◌then◌else◌, slice_index_or, Option, Some, None, is_some, Ok, Err, ℤ, pos, codes, max}
+use Rattle.std.specs.Prelude.{ℕ, ◌+◌, Bool, true, false, not, ◌&&◌, ◌||◌, List, [], ◌∷◌, ◌++◌, length, map, count_by, sum_by, nat_le, ◌==◌, if◌then◌else◌, slice_index_or, Option, Some, None, is_some, Ok, Err, ℤ, pos, negsuc, codes, max}
 use Rattle.std.specs.List.{find, list_any, list_all, flat_map, range_with_len}
 use Rattle.std.specs.Option.{option_map_or}
 use Rattle.std.specs.Str.{bytes_eq}
@@ -65,26 +65,59 @@ fewest_inputs RiseFall = 2
 fewest_inputs MinPulse = 1
 
 abbrev pub most_inputs : Kind → ℕ
+most_inputs Buf = 1
 most_inputs And = 16
 most_inputs Or = 16
 most_inputs Xor = 16
+most_inputs Mux2 = 3
+most_inputs Mux4 = 6
+most_inputs Mux8 = 11
 most_inputs Chg = 16
-most_inputs kind = fewest_inputs kind
+most_inputs Reg = 2
+most_inputs RegRs = 4
+most_inputs Latch = 2
+most_inputs LatchRs = 4
+most_inputs SetupHold = 2
+most_inputs RiseFall = 2
+most_inputs MinPulse = 1
 
 abbrev pub outputs : Kind → ℕ
 outputs kind = if has_output kind then 1 else 0
 
 -- how many of its input connections may be marked
 abbrev pub most_marks : Kind → ℕ
+most_marks Buf = 0
 most_marks And = 1
 most_marks Or = 1
-most_marks kind = 0
+most_marks Xor = 0
+most_marks Mux2 = 0
+most_marks Mux4 = 0
+most_marks Mux8 = 0
+most_marks Chg = 0
+most_marks Reg = 0
+most_marks RegRs = 0
+most_marks Latch = 0
+most_marks LatchRs = 0
+most_marks SetupHold = 0
+most_marks RiseFall = 0
+most_marks MinPulse = 0
 
 abbrev pub parameters : Kind → List (List ℕ)
+parameters Buf = []
+parameters And = []
+parameters Or = []
+parameters Xor = []
+parameters Mux2 = []
+parameters Mux4 = []
+parameters Mux8 = []
+parameters Chg = []
+parameters Reg = []
+parameters RegRs = []
+parameters Latch = []
+parameters LatchRs = []
 parameters SetupHold = codes "SETUP" ∷ codes "HOLD" ∷ []
 parameters RiseFall = codes "SETUP" ∷ codes "HOLD" ∷ []
 parameters MinPulse = codes "HIGH" ∷ codes "LOW" ∷ []
-parameters kind = []
 
 -- ---- parameters and connections that a use gives
 
@@ -124,7 +157,8 @@ longest_delay = 4095
 -- 0 at most the least, the least at most the greatest, and that at most the longest delay
 abbrev pub delay_between : ℤ → ℤ → Judged DelayBounds
 delay_between (pos min) (pos max) = if nat_le min max && nat_le max longest_delay then Ok (record { min = min; max = max }) else Err Bounds
-delay_between _ _ = Err Bounds
+delay_between (pos min) (negsuc max) = Err Bounds
+delay_between (negsuc min) max = Err Bounds
 
 -- the two expressions of a delay
 abbrev pub written_delay : List Binding → Option (Expression × Expression) → Judged (Option (ℤ × ℤ))
@@ -143,18 +177,31 @@ given_or_zero given name = option_map_or (λ b. b.value) (find (is_named name) g
 -- setup and hold: together at most the period
 abbrev pub setup_and_hold : ℕ → ℤ → ℤ → Judged (ℕ × ℕ)
 setup_and_hold period (pos setup) (pos hold) = if nat_le (setup + hold) period then Ok (setup, hold) else Err Bounds
-setup_and_hold period _ _ = Err Bounds
+setup_and_hold period (pos setup) (negsuc hold) = Err Bounds
+setup_and_hold period (negsuc setup) hold = Err Bounds
 
 -- least widths: each at most the period
 abbrev pub high_and_low : ℕ → ℤ → ℤ → Judged (ℕ × ℕ)
 high_and_low period (pos high) (pos low) = if nat_le high period && nat_le low period then Ok (high, low) else Err Bounds
-high_and_low period _ _ = Err Bounds
+high_and_low period (pos high) (negsuc low) = Err Bounds
+high_and_low period (negsuc high) low = Err Bounds
 
 abbrev pub limits_of : ℕ → Kind → List Binding → Judged (ℕ × ℕ)
+limits_of period Buf given = Ok (0, 0)
+limits_of period And given = Ok (0, 0)
+limits_of period Or given = Ok (0, 0)
+limits_of period Xor given = Ok (0, 0)
+limits_of period Mux2 given = Ok (0, 0)
+limits_of period Mux4 given = Ok (0, 0)
+limits_of period Mux8 given = Ok (0, 0)
+limits_of period Chg given = Ok (0, 0)
+limits_of period Reg given = Ok (0, 0)
+limits_of period RegRs given = Ok (0, 0)
+limits_of period Latch given = Ok (0, 0)
+limits_of period LatchRs given = Ok (0, 0)
 limits_of period SetupHold given = setup_and_hold period (given_or_zero given (codes "SETUP")) (given_or_zero given (codes "HOLD"))
 limits_of period RiseFall given = setup_and_hold period (given_or_zero given (codes "SETUP")) (given_or_zero given (codes "HOLD"))
 limits_of period MinPulse given = high_and_low period (given_or_zero given (codes "HIGH")) (given_or_zero given (codes "LOW"))
-limits_of period kind given = Ok (0, 0)
 
 -- ---- what a use of a primitive says before its connections are looked at: its delay and limits
 
@@ -197,8 +244,21 @@ can_have n width = width == n || width == 1
 
 -- the inputs of a change function may have any width
 abbrev pub inputs_fit : Kind → ℕ → List ℕ → Bool
+inputs_fit Buf n widths = list_all (can_have n) widths
+inputs_fit And n widths = list_all (can_have n) widths
+inputs_fit Or n widths = list_all (can_have n) widths
+inputs_fit Xor n widths = list_all (can_have n) widths
+inputs_fit Mux2 n widths = list_all (can_have n) widths
+inputs_fit Mux4 n widths = list_all (can_have n) widths
+inputs_fit Mux8 n widths = list_all (can_have n) widths
 inputs_fit Chg n widths = true
-inputs_fit kind n widths = list_all (can_have n) widths
+inputs_fit Reg n widths = list_all (can_have n) widths
+inputs_fit RegRs n widths = list_all (can_have n) widths
+inputs_fit Latch n widths = list_all (can_have n) widths
+inputs_fit LatchRs n widths = list_all (can_have n) widths
+inputs_fit SetupHold n widths = list_all (can_have n) widths
+inputs_fit RiseFall n widths = list_all (can_have n) widths
+inputs_fit MinPulse n widths = list_all (can_have n) widths
 
 -- ---- instance bits
 
@@ -213,10 +273,31 @@ no_bit = plain (Fixed false)
 abbrev pub pin_of : Bool → Bit → NamedPin
 pin_of hold b = record { target = b.target; inverted = b.inverted; hold = hold }
 
--- A pin for each connection, or, of a change function, for each bit of each connection.
+-- a pin for each connection
+abbrev pub bits_at : ℕ → List Joined → List NamedPin
+bits_at k ins = map (λ c. pin_of c.hold (bit_at no_bit c.bits k)) ins
+
+-- a pin for each bit of each connection
+abbrev pub each_bit : List Joined → List NamedPin
+each_bit ins = flat_map (λ c. map (pin_of c.hold) c.bits) ins
+
+-- Pin by pin: every bit of a change function's inputs, and of another kind's bit k of each connection.
 abbrev pub pins_of : Kind → List Joined → ℕ → List NamedPin
-pins_of Chg ins k = flat_map (λ c. map (pin_of c.hold) c.bits) ins
-pins_of kind ins k = map (λ c. pin_of c.hold (bit_at no_bit c.bits k)) ins
+pins_of Buf ins k = bits_at k ins
+pins_of And ins k = bits_at k ins
+pins_of Or ins k = bits_at k ins
+pins_of Xor ins k = bits_at k ins
+pins_of Mux2 ins k = bits_at k ins
+pins_of Mux4 ins k = bits_at k ins
+pins_of Mux8 ins k = bits_at k ins
+pins_of Chg ins k = each_bit ins
+pins_of Reg ins k = bits_at k ins
+pins_of RegRs ins k = bits_at k ins
+pins_of Latch ins k = bits_at k ins
+pins_of LatchRs ins k = bits_at k ins
+pins_of SetupHold ins k = bits_at k ins
+pins_of RiseFall ins k = bits_at k ins
+pins_of MinPulse ins k = bits_at k ins
 
 abbrev pub output_at : List Joined → ℕ → Option Bit
 output_at [] k = None
