@@ -43,7 +43,8 @@ base-keeps (Err e) c first rounds waves some start keeps = tt
 
 -- ---- a case
 
-pub case-keeps : {A : Type 0} (result : Result A EngineEnd) (c : Circuit) (vs : List CaseValue) (cone : ℕ → Bool) (base first : Waves) (before : ℕ) (rounds : A → ℕ) (waves : A → Waves) → 0 < period c.header → PermitInputs c before base →
+pub case-keeps : {A : Type 0} (result : Result A EngineEnd) (c : Circuit) (vs : List CaseValue) (cone : ℕ → Bool) (base first : Waves)
+    (before : ℕ) (rounds : A → ℕ) (waves : A → Waves) → 0 < period c.header → PermitInputs c before base →
     ((i : ℕ) → first i ≡ case_start c vs cone base i) →
     IfOk result (λ s. KeepRuns c first (rounds s) (waves s)) → IfOk result (λ s. PermitCase c vs (before + rounds s) (waves s))
 case-keeps (Ok s) c vs cone base first before rounds waves some inputs start keeps = case-permitted c vs cone base first (waves s) before (rounds s) some inputs start keeps
@@ -51,7 +52,8 @@ case-keeps (Err e) c vs cone base first before rounds waves some inputs start ke
 
 -- What holds of the active nets and of the waves that code begins with holds of those of the case, whatever its cone is
 -- written as.
-module _ (c : Circuit) (vs : List CaseValue) (marks active : ℕ → Bool) (base first : Waves) (marked : IsCone c vs marks) (of : (i : ℕ) → active i ≡ case_active c marks i) (from : (i : ℕ) → first i ≡ case_start c vs marks base i) where
+module _ (c : Circuit) (vs : List CaseValue) (marks active : ℕ → Bool) (base first : Waves) (marked : IsCone c vs marks)
+    (of : (i : ℕ) → active i ≡ case_active c marks i) (from : (i : ℕ) → first i ≡ case_start c vs marks base i) where
   pub case-rests : {A : Type 0} (result : Result A EngineEnd) (P : (ℕ → Bool) → Waves → A → Type 0) → IfOk result (P active first) →
       IfOk result (λ s. (cone : ℕ → Bool) → IsCone c vs cone → P (case_active c cone) (case_start c vs cone base) s)
   case-rests (Ok s) P holds = as-case c vs marks active base first (λ a f. P a f s) marked of from holds

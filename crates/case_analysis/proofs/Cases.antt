@@ -1,9 +1,9 @@
 -- The waves that a case begins with, and the runs that they permit.
-use Rattle.std.proofs.Common.{◌≡◌, ℕ, ◌+◌, ◌-◌, ◌*◌, ◌<◌, ◌≤◌, ◌==◌, ◌&&◌, Bool, true, false, cond, List, [], ◌∷◌, ◌++◌, length, map, take, set, get_or, refl, sym, ap, subst, ◌∙◌, arith, Option, Some, None}
+use Rattle.std.proofs.Common.{◌≡◌, ℕ, ◌+◌, ◌-◌, ◌*◌, ◌<◌, ◌≤◌, ◌==◌, ◌&&◌, Bool, true, false, cond, List, [], ◌∷◌, ◌++◌, length, take, set, get_or, refl, sym, ap, subst, ◌∙◌, arith, Option, Some, None}
 use Rattle.std.specs.Prelude.{Result, Ok, Err, MatchResult}
 use Rattle.std.specs.Cmp.{both_ways}
 use Rattle.std.proofs.lemmas.Bool.{eqb-true}
-use Rattle.std.proofs.lemmas.List.{get_or_past, length-set, length-map, map-set, take_more}
+use Rattle.std.proofs.lemmas.List.{get_or_past, length-set, take_more}
 use Rattle.std.proofs.lemmas.List.Elements.{All-head, All-tail}
 use Rattle.scald_base.specs.Time.{Header, period}
 use Rattle.step_values.specs.declared.value.Value.{Value}
@@ -72,19 +72,18 @@ start-more c vs v cone base i = ap (λ (o : Option Bool). case_wave c.header o (
 pub long-more : {A : Type 0} (n k : ℕ) (items : List CaseValue) (d : CaseValue) (waves after : List A) (w : A) → after ≡ set waves (get_or items k d).net w → length waves ≡ n → length after ≡ n
 long-more n k items d waves after w sets long = ap length sets ∙ length-set waves (get_or items k d).net w ∙ long
 
-pub case-more : {A : Type 0} (wave : A → Wave Value) (c : Circuit) (h : Header) (vs items : List CaseValue) (k : ℕ) (d : CaseValue) (cone : ℕ → Bool) (base : Waves) (waves after : List A) (w : A) → items ≡ vs → k < length items → NetsExist c vs →
-    length waves ≡ length c.nets → after ≡ set waves (get_or items k d).net w → h ≡ c.header → wave w ≡ constant_wave h (get_or items k d).one →
-    ((i : ℕ) → waves_of (map wave waves) i ≡ case_start c (take k vs) cone base i) → (i : ℕ) → waves_of (map wave after) i ≡ case_start c (take (k + 1) vs) cone base i
-case-more {A = A} wave c h vs items k d cone base waves after w same inside exist each sets head is so i =
+pub case-more : (c : Circuit) (h : Header) (vs items : List CaseValue) (k : ℕ) (d : CaseValue) (cone : ℕ → Bool) (base : Waves)
+    (waves after : List (Wave Value)) (w : Wave Value) → items ≡ vs → k < length items → NetsExist c vs →
+    length waves ≡ length c.nets → after ≡ set waves (get_or items k d).net w → h ≡ c.header → w ≡ constant_wave h (get_or items k d).one →
+    ((i : ℕ) → waves_of waves i ≡ case_start c (take k vs) cone base i) → (i : ℕ) → waves_of after i ≡ case_start c (take (k + 1) vs) cone base i
+case-more c h vs items k d cone base waves after w same inside exist each sets head is so i =
     let read : get_or vs k d ≡ get_or items k d = ap (λ (xs : List CaseValue). get_or xs k d) (sym same) in
     let below : k < length vs = subst (λ (xs : List CaseValue). k < length xs) same inside in
     let more : take (k + 1) vs ≡ take k vs ++ get_or items k d ∷ [] = take_more vs k d below ∙ ap (λ x. take k vs ++ x ∷ []) read in
     let real : (get_or vs k d).net < length c.nets = exist k d below in
     let here : (get_or items k d).net < length c.nets = subst (λ (v : CaseValue). v.net < length c.nets) read real in
-    let long : length (map wave waves) ≡ length waves = length-map waves wave in
-    ap (λ (xs : List A). waves_of (map wave xs) i) sets
-    ∙ ap (λ (ws : List (Wave Value)). waves_of ws i) (map-set wave waves (get_or items k d).net w)
-    ∙ set-at (map wave waves) (get_or items k d).net i (wave w) (omega (arith, here, each, long))
+    ap (λ (ws : List (Wave Value)). waves_of ws i) sets
+    ∙ set-at waves (get_or items k d).net i w (omega (arith, here, each))
     ∙ (λ n. cond ((get_or items k d).net == i) (is n) (so i n))
     ∙ (λ n. cond ((get_or items k d).net == i) (constant_wave (head n) (get_or items k d).one) (case_start c (take k vs) cone base i))
     ∙ sym (ap (λ (xs : List CaseValue). case_start c xs cone base i) more ∙ start-more c (take k vs) (get_or items k d) cone base i)
@@ -100,7 +99,8 @@ case-long h (Some one) reached before long = length-slots (period h) (λ p. cond
 case-long h None true before long = length-unknown h
 case-long h None false before long = long
 
-pub case-fits : (c : Circuit) (vs : List CaseValue) (cone : ℕ → Bool) (base waves : List (Wave Value)) → FitWaves c base → length waves ≡ length c.nets → ((i : ℕ) → waves_of waves i ≡ case_start c vs cone (waves_of base) i) → FitWaves c waves
+pub case-fits : (c : Circuit) (vs : List CaseValue) (cone : ℕ → Bool) (base waves : List (Wave Value)) →
+    FitWaves c base → length waves ≡ length c.nets → ((i : ℕ) → waves_of waves i ≡ case_start c vs cone (waves_of base) i) → FitWaves c waves
 case-fits c vs cone base waves fit each is = record {
   each_net = each;
   each_slot = λ i below. ap (λ (w : Wave Value). length w.cells) (is i) ∙ case-long c.header (value_in vs i) (cone i) (waves_of base i) (fit.each_slot i below);

@@ -84,7 +84,8 @@ any-seen : (names : List Name) (name : Name) (js : List Instance) →
 any-seen names name [] = refl
 any-seen names name (j ∷ js) = ap (λ b. is_on name (out_of names j.out) || b) (any-seen names name js)
 
-any-at : (names : List Name) (name : Name) (js : List Instance) (k i : ℕ) → out_at js k ≡ Some (OnNet i) → same_name name (name_at names i) ≡ true → list_any (λ (j : Instance). is_on name (out_of names j.out)) js ≡ true
+any-at : (names : List Name) (name : Name) (js : List Instance) (k i : ℕ) → out_at js k ≡ Some (OnNet i) →
+    same_name name (name_at names i) ≡ true → list_any (λ (j : Instance). is_on name (out_of names j.out)) js ≡ true
 any-at names name [] k i is same = cc
 any-at names name (j ∷ js) zero i is same = rw (is, same) refl
 any-at names name (j ∷ js) (suc k) i is same = by (is_on name (out_of names j.out)) (any-at names name js k i is same)
@@ -94,7 +95,8 @@ any-at names name (j ∷ js) (suc k) i is same = by (is_on name (out_of names j.
     by false later = later
 
 -- no instance drives it
-none-at : (names : List Name) (name : Name) (js : List Instance) → ((k i : ℕ) → out_at js k ≡ Some (OnNet i) → same_name name (name_at names i) ≡ false) → list_any (λ (j : Instance). is_on name (out_of names j.out)) js ≡ false
+none-at : (names : List Name) (name : Name) (js : List Instance) → ((k i : ℕ) → out_at js k ≡ Some (OnNet i) →
+    same_name name (name_at names i) ≡ false) → list_any (λ (j : Instance). is_on name (out_of names j.out)) js ≡ false
 none-at names name [] none = refl
 none-at names name (j ∷ js) none = rw (here j.out refl, none-at names name js (λ k i is. none (suc k) i is)) refl
   where
@@ -153,7 +155,8 @@ module _ (c : Circuit) (known : IsCircuit c) (name : Name) (i : ℕ) (is : IsNum
   is-clock s stands n at =
       let long = length-map c.nets net_name in
       let within = is.below in
-      let given : n.spec ≡ spec_of s.asserted (name_at s.names i).text = spec-seen c.nets s.names (λ (x : Name). spec_of s.asserted x.text) i stands.assertions stands.names (omega (arith, long, within)) n at in
+      let given : n.spec ≡ spec_of s.asserted (name_at s.names i).text =
+      spec-seen c.nets s.names (λ (x : Name). spec_of s.asserted x.text) i stands.assertions stands.names (omega (arith, long, within)) n at in
       let here : name_at s.names i ≡ name = ap (λ (ns : List Name). name_at ns i) (sym stands.names) ∙ is.is in
       ap is_clock (ap (λ (x : Name). spec_of s.asserted x.text) (sym here) ∙ sym given)
 
@@ -187,7 +190,8 @@ module _ (c : Circuit) (known : IsCircuit c) (name : Name) (i : ℕ) (is : IsNum
 pub unnamed : (c : Circuit) (marks : List Bool) (e : CaseEntry) → ((i : ℕ) → IsNumber (net_names c.nets) (entry_name e) i → ⊥) → IsJudged c marks e false
 unnamed c marks e none s before stands are =
     let has : has_name s.names (entry_name e) ≡ false = ap (λ (ns : List Name). has_name ns (entry_name e)) (sym stands.names) ∙ no-number (net_names c.nets) (entry_name e) none in
-    rw has (turned (is_asserted e.name.spec) ((not (is_driven s (entry_name e)) && not (is_clock (spec_of s.asserted (entry_name e).text))) && (not (is_named before (entry_name e)) && nat_le e.value 1)))
+    rw has (turned (is_asserted e.name.spec) ((not (is_driven s (entry_name e)) && not (is_clock (spec_of s.asserted (entry_name e).text)))
+    && (not (is_named before (entry_name e)) && nat_le e.value 1)))
   where
     turned : (a b : Bool) → ((not a && false) && b) ≡ false
     turned true b = refl

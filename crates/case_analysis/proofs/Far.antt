@@ -24,13 +24,15 @@ outputs-at : (js : List Instance) (k : ℕ) (j : Instance) → slice_get js k �
 outputs-at js k j is =
     ap outputs (from-place js k j is) ∙ sum_by-cons (λ (i : Instance). cond (has_output i.kind) 1 0) j (drop (k + 1) js)
 
-pub outputs-more : (js : List Instance) (k n : ℕ) (j : Instance) → slice_get js k ≡ Some j → has_output j.kind ≡ true → n + outputs (drop k js) ≡ outputs js → n + 1 + outputs (drop (k + 1) js) ≡ outputs js
+pub outputs-more : (js : List Instance) (k n : ℕ) (j : Instance) → slice_get js k ≡ Some j →
+    has_output j.kind ≡ true → n + outputs (drop k js) ≡ outputs js → n + 1 + outputs (drop (k + 1) js) ≡ outputs js
 outputs-more js k n j is makes so =
     let one : cond (has_output j.kind) 1 0 ≡ 1 = ap (λ b. cond {A = ℕ} b 1 0) makes in
     let count = outputs-at js k j is in
     omega (arith, count, one, so)
 
-pub outputs-same : (js : List Instance) (k n : ℕ) (j : Instance) → slice_get js k ≡ Some j → has_output j.kind ≡ false → n + outputs (drop k js) ≡ outputs js → n + outputs (drop (k + 1) js) ≡ outputs js
+pub outputs-same : (js : List Instance) (k n : ℕ) (j : Instance) → slice_get js k ≡ Some j →
+    has_output j.kind ≡ false → n + outputs (drop k js) ≡ outputs js → n + outputs (drop (k + 1) js) ≡ outputs js
 outputs-same js k n j is makes so =
     let none : cond (has_output j.kind) 1 0 ≡ 0 = ap (λ b. cond {A = ℕ} b 1 0) makes in
     let count = outputs-at js k j is in

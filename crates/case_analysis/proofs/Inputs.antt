@@ -14,7 +14,7 @@ use Rattle.fixpoint_engine.specs.Settled.{KeepRuns}
 use Rattle.fixpoint_engine.specs.Interface.{PermitRun}
 use Rattle.fixpoint_engine.proofs.Sound.{round-sound}
 use Rattle.case_analysis.specs.Base.{IsBase, PermitInputs}
-use Rattle.case_analysis.proofs.Start.{start-permits, start-nets-fit}
+use Rattle.case_analysis.proofs.Start.{start-permits, start-long}
 
 -- What holds of the active nets and of the waves that code begins with holds of those that are the same.
 pub as-same : (active other : ℕ → Bool) (first start : Waves) (P : (ℕ → Bool) → Waves → Type 0) → ((i : ℕ) → active i ≡ other i) → ((i : ℕ) → first i ≡ start i) → P active first → P other start
@@ -39,7 +39,7 @@ base-permits c limit r ws some known base =
     inputs-permitted c (base_start c) ws r some refl
     (λ run v isrun v1 permits i below.
     subst (λ (w : Wave Value). Permits values w run.ticks (net_signal run i) (v + r * reach c)) (sym (base.waves i))
-    (round-sound c (is_driven c) (base_start c) r some known (start-nets-fit c some) run v isrun v1 permits i below))
+    (round-sound c (is_driven c) (base_start c) r some known (start-long c) run v isrun v1 permits i below))
 
 -- the base rests at its round, whatever more it might have had
 pub settled_base : (c : Circuit) (limit r : ℕ) (ws : Waves) → IsBase c limit r ws → IsBase c r r ws

@@ -62,7 +62,8 @@ module _ (c : Circuit) (known : IsCircuit c) where
           by true e true f = refl
           by false e false f = refl
           by true e false f =
-              let is : same_name (name_at names b) (name_at names a) ≡ true = subst (λ (k : ℕ). same_name (name_at names b) (name_at names k) ≡ true) (sym (eqb-true a b e)) (same_name-refl (name_at names b)) in
+              let is : same_name (name_at names b) (name_at names a) ≡ true =
+              subst (λ (k : ℕ). same_name (name_at names b) (name_at names k) ≡ true) (sym (eqb-true a b e)) (same_name-refl (name_at names b)) in
               let clash : false ≡ true = sym f ∙ is in cc
           by false e true f =
               let long = length-map c.nets net_name in
@@ -76,7 +77,8 @@ pub record Going (c : Circuit) (entries rest : List CaseEntry) (marks : List Boo
   pub marks_are : (i : ℕ) → marked_in marks i ≡ is_set case i
   pub left : (s : State) → Stands s c → case_bits s [] entries ≡ case_bits s (bits_of c.nets case) rest
 
-pub going-start : (c : Circuit) (entries rest : List CaseEntry) (marks : List Bool) (n : ℕ) → n ≡ length c.nets → marks ≡ replicate n false → length marks ≡ n → rest ≡ entries → Going c entries rest marks []
+pub going-start : (c : Circuit) (entries rest : List CaseEntry) (marks : List Bool) (n : ℕ) →
+    n ≡ length c.nets → marks ≡ replicate n false → length marks ≡ n → rest ≡ entries → Going c entries rest marks []
 going-start c entries rest marks n count is long whole = record {
   each_net = long ∙ count;
   listed = record { exist = All-nil (λ (v : CaseValue). v.net < length c.nets); free = All-nil (λ (v : CaseValue). is_free (slice_get c.nets v.net) ≡ true); once = none };
@@ -90,7 +92,8 @@ named-so c entries rest marks case known going = record {
   are = λ i below. going.marks_are i ∙ sym (seen-set c known case i going.listed.exist below);
 }
 
-module _ (c : Circuit) (known : IsCircuit c) (entries rest later : List CaseEntry) (marks : List Bool) (case : List CaseValue) (e : CaseEntry) (next : rest ≡ e ∷ later) (going : Going c entries rest marks case) where
+module _ (c : Circuit) (known : IsCircuit c) (entries rest later : List CaseEntry) (marks : List Bool)
+    (case : List CaseValue) (e : CaseEntry) (next : rest ≡ e ∷ later) (going : Going c entries rest marks case) where
   value-below : (v : CaseValue) → MaySet c marks e v → v.net < length c.nets
   value-below v may = let long = length-map c.nets net_name in let below = may.number.below in omega (arith, long, below)
 
@@ -104,7 +107,8 @@ module _ (c : Circuit) (known : IsCircuit c) (entries rest later : List CaseEntr
     };
     marks_are = λ i.
         let long = going.each_net in let below = value-below v may in
-        ap (λ (ms : List Bool). marked_in ms i) is ∙ marked-set marks v.net i true (omega (arith, long, below)) ∙ ap (λ b. cond (v.net == i) true b) (going.marks_are i) ∙ turned (v.net == i) (is_set case i) ∙ sym (set-push case v i);
+        ap (λ (ms : List Bool). marked_in ms i) is ∙ marked-set marks v.net i true (omega (arith, long, below))
+        ∙ ap (λ b. cond (v.net == i) true b) (going.marks_are i) ∙ turned (v.net == i) (is_set case i) ∙ sym (set-push case v i);
     left = λ s stands.
         let may_be : may_set s (bits_of c.nets case) e ≡ true = judged s (bits_of c.nets case) stands (named-so c entries rest marks case known going) in
         going.left s stands ∙ ap (case_bits s (bits_of c.nets case)) next ∙ taken s may_be ∙ ap (λ (bs : List CaseBit). case_bits s bs later) (bits s);
@@ -146,10 +150,12 @@ module _ (c : Circuit) (written rest later : List CaseStmt) (cases : List (List 
   passing-more case is listed = record {
     each = let before = passing.each in omega (arith, length-append cases (case ∷ []), ap length next, before);
     listed = All-push (IsListed c) cases case passing.listed listed;
-    left = λ s stands. passing.left s stands ∙ ap (cases_behind s (map (bits_of c.nets) cases)) next ∙ taken s (is s stands) ∙ ap (λ (bs : List (List CaseBit)). cases_behind s bs later) (sym (map_push (bits_of c.nets) cases case));
+    left = λ s stands. passing.left s stands ∙ ap (cases_behind s (map (bits_of c.nets) cases)) next
+        ∙ taken s (is s stands) ∙ ap (λ (bs : List (List CaseBit)). cases_behind s bs later) (sym (map_push (bits_of c.nets) cases case));
   }
     where
-      taken : (s : State) → case_bits s [] w.entries ≡ Ok (bits_of c.nets case) → cases_behind s (map (bits_of c.nets) cases) (w ∷ later) ≡ cases_behind s (map (bits_of c.nets) cases ++ bits_of c.nets case ∷ []) later
+      taken : (s : State) → case_bits s [] w.entries ≡ Ok (bits_of c.nets case) →
+          cases_behind s (map (bits_of c.nets) cases) (w ∷ later) ≡ cases_behind s (map (bits_of c.nets) cases ++ bits_of c.nets case ∷ []) later
       taken s h = rw h refl
 
   pub passing-wrong : (stop : Stop) → IsCaseStop c w.entries stop → AreNoCases c written stop
@@ -173,11 +179,13 @@ module _ (c : Circuit) (d : Drawing) where
   unfolding cases_of
   all-listed cases few are s stands = ap (λ (o : Option CaseStmt). unless_many o (cases_behind s [] d.cases)) few ∙ are s stands
 
-  pub whole-answer : (answer : Result (List (List CaseValue)) Stop) → slice_get d.cases most_cases ≡ None → MatchResult answer (AreCases c d.cases) (AreNoCases c d.cases) → MatchResult answer (AreCasesOf c d) (AreCasesStop c d)
+  pub whole-answer : (answer : Result (List (List CaseValue)) Stop) → slice_get d.cases most_cases ≡ None →
+      MatchResult answer (AreCases c d.cases) (AreNoCases c d.cases) → MatchResult answer (AreCasesOf c d) (AreCasesStop c d)
   whole-answer (Ok cases) few is = all-listed cases few is
   whole-answer (Err stop) few is = first-wrong stop few is
 
 -- no more than the most cases
-pub few-listed : (written : List CaseStmt) (answer : Result (List (List CaseValue)) Stop) → slice_get written most_cases ≡ None → IfOk answer (λ cases. length cases ≡ length written) → IfOk answer (λ cases. length cases ≤ 256)
+pub few-listed : (written : List CaseStmt) (answer : Result (List (List CaseValue)) Stop) → slice_get written most_cases ≡ None →
+    IfOk answer (λ cases. length cases ≡ length written) → IfOk answer (λ cases. length cases ≤ 256)
 few-listed written (Ok cases) few each = let most = none-past written most_cases few in omega (arith, each, most)
 few-listed written (Err stop) few each = tt

@@ -3,7 +3,7 @@
 use Rattle.std.proofs.Common.{◌≡◌, ℕ, ◌-◌, ◌<◌, ◌≤◌, Bool, true, List, [], length, map, get_or, slice_get, refl, sym, ap, subst, ◌∙◌, arith, inl, inr, Option, Some, None}
 use Rattle.std.specs.List.{range_with_len}
 use Rattle.std.proofs.lemmas.Option.{slice_get_cases}
-use Rattle.std.proofs.lemmas.List.{get_or_past, length-map}
+use Rattle.std.proofs.lemmas.List.{get_or_past}
 use Rattle.std.proofs.lemmas.List.FromFn.{get_or-map-range_with_len, length-map-range_with_len}
 use Rattle.std.proofs.lemmas.Bool.{cases_lt}
 use Rattle.scald_base.specs.Time.{Header, period}
@@ -13,24 +13,20 @@ use Rattle.step_values.specs.declared.value.Value.{Value}
 use Rattle.step_values.specs.declared.value.Value.TheVariants.{U}
 use Rattle.step_values.specs.Steps.{has}
 use Rattle.step_values.specs.Cell.{values}
-use Rattle.step_values.specs.Lawful.{values_lawful}
 use Rattle.wave_core.proofs.Slots.{length-slots, earlier-slots}
 use Rattle.skew_algebra.specs.Wave.{Wave, skewed}
 use Rattle.skew_algebra.specs.Permits.{Permits}
-use Rattle.skew_algebra.proofs.Normal.{uniform-normal}
 use Rattle.flat_circuit.specs.declared.net.Net.{Net}
 use Rattle.flat_circuit.specs.Circuit.{Circuit}
 use Rattle.flat_circuit.specs.Run.{Run, net_signal}
 use Rattle.pin_waves.specs.Meets.{Meets}
-use Rattle.pin_waves.specs.Interface.{interface_wave, asserted_wave}
-use Rattle.pin_waves.proofs.Asserted.{length-asserted, length-interface, Permits-interface}
+use Rattle.pin_waves.specs.Interface.{interface_wave}
+use Rattle.pin_waves.proofs.Asserted.{length-interface, Permits-interface}
 use Rattle.fixpoint_engine.specs.Value.{Waves}
 use Rattle.fixpoint_engine.specs.Start.{unknown_wave, start_in, base_start}
 use Rattle.fixpoint_engine.specs.Interface.{MeetsInterface, PermitRun}
 use Rattle.fixpoint_engine.specs.Settled.{waves_of, FitWaves}
 use Rattle.fixpoint_engine.proofs.Changing.{wave-found}
-use Rattle.fixpoint_engine.proofs.Fits.{NetsFit, normal-fits}
-use Rattle.gate_eval.proofs.Fitting.{Fits}
 use Rattle.case_analysis.specs.Base.{AreAssertedAlike}
 
 -- ---- one net
@@ -67,17 +63,16 @@ asserted-alike c m n i j is_m is_n alike =
     ap (start_in c.header) is_m ∙ (λ t. started c.header (alike.spec t) (none t)) ∙ sym (ap (start_in c.header) is_n)
 
 -- as many as there are nets before
-pub all-begun : {A : Type 0} (wave : A → Wave Value) (c : Circuit) (before xs : List A) (net : ℕ) → map wave before ≡ map (base_start c) (range_with_len 0 net) → xs ≡ before → length xs ≡ net
-all-begun wave c before xs net begun same = ap length same ∙ sym (length-map before wave) ∙ ap length begun ∙ length-map-range_with_len (base_start c) 0 net
+pub all-begun : (c : Circuit) (before xs : List (Wave Value)) (net : ℕ) → before ≡ map (base_start c) (range_with_len 0 net) → xs ≡ before → length xs ≡ net
+all-begun c before xs net begun same = ap length (same ∙ begun) ∙ length-map-range_with_len (base_start c) 0 net
 
 -- the wave of the net before, among those of all nets before
-pub last-begun : {A : Type 0} (wave : A → Wave Value) (c : Circuit) (before xs : List A) (net : ℕ) (x : A) → map wave before ≡ map (base_start c) (range_with_len 0 net) → xs ≡ before → 0 < net →
-    x ≡ get_or xs (net - 1) x → wave x ≡ base_start c (net - 1)
-last-begun wave c before xs net x begun same some is =
+pub last-begun : (c : Circuit) (before xs : List (Wave Value)) (net : ℕ) (x : Wave Value) → before ≡ map (base_start c) (range_with_len 0 net) → xs ≡ before → 0 < net →
+    x ≡ get_or xs (net - 1) x → x ≡ base_start c (net - 1)
+last-begun c before xs net x begun same some is =
     let below : net - 1 < net = omega arith in
-    wave-found wave xs (net - 1) net x below (length-map xs wave ∙ all-begun wave c before xs net begun same) is
-    ∙ ap (λ ys. waves_of (map wave ys) (net - 1)) same
-    ∙ ap (λ ws. waves_of ws (net - 1)) begun
+    wave-found xs (net - 1) net x below (all-begun c before xs net begun same) is
+    ∙ ap (λ (ws : List (Wave Value)). waves_of ws (net - 1)) (same ∙ begun)
     ∙ get_or-map-range_with_len (base_start c) 0 net (net - 1) (net - 1) (skewed [] 0) below (omega arith)
 
 -- ---- all nets
@@ -125,14 +120,3 @@ start-fits c waves is = record {
   each_net = ap length is ∙ length-map-range_with_len (base_start c) 0 (length c.nets);
   each_slot = λ i below. ap (λ (ws : Waves). length (ws i).cells) (start-is c waves is) ∙ start-long c i below;
 }
-
--- in normal form, too
-pub start-nets-fit : (c : Circuit) → 0 < period c.header → NetsFit c (base_start c)
-start-nets-fit c some i below = elim (slice_get_cases c.nets i).1 [
-  | inl found ↦ subst (λ (o : Option Net). Fits values (period c.header) (start_in c.header o)) (sym found.2) (started-fits c.header found.0.spec found.0.driver some)
-  | inr past ↦ absurd (let far = past.0 in omega (arith, far))
-]
-  where
-    started-fits : (h : Header) (a : AssertSpec) (driver : Option ℕ) → 0 < period h → Fits values (period h) (started h a driver)
-    started-fits h a None some = normal-fits (period h) (asserted_wave h a) some (length-asserted h a)
-    started-fits h a (Some k) some = record { long = length-unknown h; normal = uniform-normal values values_lawful (period h) U some }

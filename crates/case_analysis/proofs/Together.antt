@@ -161,17 +161,21 @@ module _ (c : Circuit) (cases : List (List CaseValue)) (k : List ℕ) (known : I
         let n = net-of c j below_j in
         (stable i j same m.0 n.0 m.1 n.1).values number [] below
 
-    cone-closed : (exist : NetsExist c (case_at cases number)) {i : ℕ} → InCone c (case_at cases number) i → (j : ℕ) → j < length c.nets → class_of k i ≡ class_of k j → InCone c (case_at cases number) j
+    cone-closed : (exist : NetsExist c (case_at cases number)) {i : ℕ} → InCone c (case_at cases number) i →
+        (j : ℕ) → j < length c.nets → class_of k i ≡ class_of k j → InCone c (case_at cases number) j
     cone-closed exist (Is_set {i = i} is) j below_j same =
-        Is_set (sym (set-is (case_at cases number) j) ∙ ap is_some (sym (values-same i j (set-below (length c.nets) (case_at cases number) i exist is) below_j same)) ∙ set-is (case_at cases number) i ∙ is)
+        Is_set (sym (set-is (case_at cases number) j) ∙ ap is_some
+        (sym (values-same i j (set-below (length c.nets) (case_at cases number) i exist is) below_j same)) ∙ set-is (case_at cases number) i ∙ is)
     cone-closed exist (Hears_one {from = from} {i = i} inner hears) j below_j same =
-        let one = drivers-hear (length c.nets) k from (driver c i) (driver c j) (drivers-alike c cases k known stable i j heard below_j same) (λ d at. (driver-fits c j d known at).exists.reads) hears in
+        let one = drivers-hear (length c.nets) k from (driver c i)
+        (driver c j) (drivers-alike c cases k known stable i j heard below_j same) (λ d at. (driver-fits c j d known at).exists.reads) hears in
         Hears_one (cone-closed exist inner one.net one.exists one.alike) one.is
       where
         heard : i < length c.nets
         heard = elim (cases_lt i (length c.nets)) [
           | inl less ↦ less
-          | inr past ↦ absurd (let none : hears_in (λ n. n == from) (driver c i) ≡ false = ap (λ (o : Option Net). hears_in (λ n. n == from) (instance_in c (driver_in o))) (slice_get_past c.nets i past) in
+          | inr past ↦ absurd (let none : hears_in (λ n. n == from) (driver c i) ≡ false =
+              ap (λ (o : Option Net). hears_in (λ n. n == from) (instance_in c (driver_in o))) (slice_get_past c.nets i past) in
               let clash : false ≡ true = sym none ∙ hears in cc)
         ]
 

@@ -2,7 +2,6 @@
 
 ghost use Rattle.std.specs.Prelude.{◌≡◌, ◌≤◌, ◌+◌, ℕ, ◌<◌, IfErr, IfOk, MatchBool, MatchResult, length, map};
 ghost use Rattle.std.specs.List.{range_with_len};
-ghost use Rattle.skew_algebra.specs.Wave.{skewed};
 ghost use Rattle.flat_circuit.specs.Instances.{outputs};
 ghost use Rattle.fixpoint_engine.specs.End.{EndsFor};
 ghost use Rattle.fixpoint_engine.specs.Loops.{HasNoLoop};
@@ -26,10 +25,10 @@ pub fn unknown_wave<W: CyclicWave<Item = Value>>(
     alloc: Global,
     h: &Header,
 ) -> Result<Skewed<W>, NoMemory>
-    ensures { IfOk result (λ s. skewed (W.cells s.wave) s.skew ≡ unknown_wave h.now) }
+    ensures { IfOk result (λ s. s ≡ unknown_wave h.now) }
 {
     let wave = W::uniform(alloc, h.period(), Value::U)?;
-    Ok(Skewed { wave, skew: 0 })
+    Ok(Skewed::new(wave, 0))
 }
 
 /// The wave that a net begins with: that of its assertion, or nothing known where it is driven.
@@ -38,7 +37,7 @@ fn start_wave<W: CyclicWave<Item = Value>>(
     h: &Header,
     net: &Net,
 ) -> Result<Skewed<W>, NoMemory>
-    ensures { IfOk result (λ s. skewed (W.cells s.wave) s.skew ≡ start_in h.now (Some net.now)) }
+    ensures { IfOk result (λ s. s ≡ start_in h.now (Some net.now)) }
 {
     match net.driver {
         None => interface_wave(alloc, &net.spec, h),
@@ -62,8 +61,8 @@ fn wave_after<W: CyclicWave<Item = Value>>(
     net: u32,
 ) -> Result<Skewed<W>, NoMemory>
     requires exists { net < length c.now.nets }
-    requires before { map (λ s. skewed (W.cells s.wave) s.skew) before.now ≡ map (base_start c.now) (range_with_len 0 net) }
-    ensures { IfOk result (λ s. skewed (W.cells s.wave) s.skew ≡ base_start c.now net) }
+    requires before { before.now ≡ map (base_start c.now) (range_with_len 0 net) }
+    ensures { IfOk result (λ s. s ≡ base_start c.now net) }
 {
     let this = net_of(c, net);
     if net > 0 && are_asserted_alike(net_of(c, net - 1), this) {
@@ -78,8 +77,8 @@ pub fn start_waves<W: CyclicWave<Item = Value>>(
     alloc: Global,
     c: &Circuit,
 ) -> Result<Waves<W>, NoMemory>
-    ensures is { IfOk result (λ waves. (i : ℕ) → waves_of (map (λ s. skewed (W.cells s.wave) s.skew) waves) i ≡ base_start c.now i) }
-    ensures fit { IfOk result (λ waves. FitWaves c.now (map (λ s. skewed (W.cells s.wave) s.skew) waves)) }
+    ensures is { IfOk result (λ waves. (i : ℕ) → waves_of waves i ≡ base_start c.now i) }
+    ensures fit { IfOk result (λ waves. FitWaves c.now waves) }
 {
     let mut waves = List::new(alloc);
     for i in 0..c.net_count() {
@@ -129,13 +128,14 @@ pub fn base<W: CyclicWave<Item = Value>>(
     c: &Circuit,
     limit: u32,
 ) -> Result<Settled<W>, EngineEnd>
-    ensures rest { IfOk result (λ s. IsBase c.now limit s.rounds (waves_of (map (λ w. skewed (W.cells w.wave) w.skew) s.waves))) }
+    ensures rest { IfOk result (λ s. IsBase c.now limit s.rounds (waves_of s.waves)) }
     ensures within { IfOk result (λ s. s.rounds ≤ limit) }
-    ensures fit { IfOk result (λ s. FitWaves c.now (map (λ w. skewed (W.cells w.wave) w.skew) s.waves)) }
+    ensures fit { IfOk result (λ s. FitWaves c.now s.waves) }
     ensures work { IfOk result (λ s. s.evals ≡ work_to c.now (is_driven c.now) (base_round c.now) (s.rounds + 1)) }
-    ensures sound { IfOk result (λ s. PermitInputs c.now s.rounds (waves_of (map (λ w. skewed (W.cells w.wave) w.skew) s.waves))) }
+    ensures sound { IfOk result (λ s. PermitInputs c.now s.rounds (waves_of s.waves)) }
     ensures unsettled { IfErr result (EndsFor c.now.order (base_round c.now) limit) }
-    ensures loopless { HasNoLoop c.now → outputs c.now.instances ≤ limit → MatchResult result (λ s. s.rounds ≤ outputs c.now.instances) (λ e. e ≡ EngineEnd.NoMemory) }
+    ensures loopless { HasNoLoop c.now → outputs c.now.instances ≤ limit →
+        MatchResult result (λ s. s.rounds ≤ outputs c.now.instances) (λ e. e ≡ EngineEnd.NoMemory) }
 {
     c.known();
     c.header().known();

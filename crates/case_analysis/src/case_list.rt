@@ -52,7 +52,9 @@ fn bits_known(c: &Circuit)
 
 /// The number of the net that an entry names, whatever is asserted there.
 fn net_named(alloc: Global, c: &Circuit, entry: &CaseEntry) -> Result<Option<u32>, NoMemory>
-    ensures { IfOk result (λ net. MatchOption net ((i : ℕ) → ¬ (IsNumber (net_names c.now.nets) (entry_name entry.now) i)) (IsNumber (net_names c.now.nets) (entry_name entry.now))) }
+    ensures { IfOk result (λ net.
+        MatchOption net ((i : ℕ) → ¬ (IsNumber (net_names c.now.nets) (entry_name entry.now) i))
+        (IsNumber (net_names c.now.nets) (entry_name entry.now))) }
 {
     match u16::try_from(entry.bit) {
         Ok(bit) => {
@@ -160,7 +162,8 @@ fn cases_of(alloc: Global, c: &Circuit, written: &[CaseStmt]) -> Result<CaseList
 /// clock or was named before in the same case, or whose value is not 0 or 1; `NoMemory` comes where
 /// memory runs out.
 pub fn check_cases(alloc: Global, c: &Circuit, drawing: &Drawing) -> Result<CaseList, Stop>
-    ensures is { MatchResult result (AreCasesOf c.now (drawing_of drawing.now)) (AreCasesStop c.now (drawing_of drawing.now)) }
+    ensures is { MatchResult result (AreCasesOf c.now (drawing_of drawing.now))
+        (AreCasesStop c.now (drawing_of drawing.now)) }
     ensures listed { IfOk result (All (IsListed c.now)) }
     ensures few { IfOk result (λ cases. length cases ≤ 256) }
 {

@@ -1,7 +1,6 @@
 //! The rounds of a case.
 
-ghost use Rattle.std.specs.Prelude.{◌≡◌, ◌≤◌, ◌+◌, ℕ, Bool, IfErr, IfOk, MatchResult, [], length, map};
-ghost use Rattle.skew_algebra.specs.Wave.{skewed};
+ghost use Rattle.std.specs.Prelude.{◌≡◌, ◌≤◌, ◌+◌, ℕ, Bool, IfErr, IfOk, MatchResult, [], length};
 ghost use Rattle.flat_circuit.specs.Instances.{outputs};
 ghost use Rattle.fixpoint_engine.specs.End.{EndsFor};
 ghost use Rattle.fixpoint_engine.specs.Loops.{HasNoLoop};
@@ -30,7 +29,7 @@ fn unset_wave<W: CyclicWave<Item = Value>>(
     reached: bool,
     before: &Skewed<W>,
 ) -> Result<Skewed<W>, NoMemory>
-    ensures { IfOk result (λ s. skewed (W.cells s.wave) s.skew ≡ case_wave h.now None reached (skewed (W.cells before.now.wave) before.now.skew)) }
+    ensures { IfOk result (λ s. s ≡ case_wave h.now None reached before.now) }
 {
     if reached {
         unknown_wave(alloc, h)
@@ -47,9 +46,9 @@ fn unset_waves<W: CyclicWave<Item = Value>>(
     before: &Waves<W>,
 ) -> Result<Waves<W>, NoMemory>
     requires cone { length cone.now ≡ length c.now.nets }
-    requires fit { FitWaves c.now (map (λ s. skewed (W.cells s.wave) s.skew) before.now) }
-    ensures is { let old = waves_of (map (λ s. skewed (W.cells s.wave) s.skew) before.now) in
-        IfOk result (λ waves. (i : ℕ) → waves_of (map (λ s. skewed (W.cells s.wave) s.skew) waves) i ≡ case_start c.now [] (marked_in cone.now) old i) }
+    requires fit { FitWaves c.now before.now }
+    ensures is { let old = waves_of before.now in
+        IfOk result (λ waves. (i : ℕ) → waves_of waves i ≡ case_start c.now [] (marked_in cone.now) old i) }
     ensures each_net { IfOk result (λ waves. length waves ≡ length c.now.nets) }
 {
     let mut waves = List::new(alloc);
@@ -71,10 +70,10 @@ pub fn start_waves<W: CyclicWave<Item = Value>>(
 ) -> Result<Waves<W>, NoMemory>
     requires exist { NetsExist c.now case.now }
     requires cone { length cone.now ≡ length c.now.nets }
-    requires fit { FitWaves c.now (map (λ s. skewed (W.cells s.wave) s.skew) before.now) }
-    ensures is { let old = waves_of (map (λ s. skewed (W.cells s.wave) s.skew) before.now) in
-        IfOk result (λ waves. (i : ℕ) → waves_of (map (λ s. skewed (W.cells s.wave) s.skew) waves) i ≡ case_start c.now case.now (marked_in cone.now) old i) }
-    ensures fit { IfOk result (λ waves. FitWaves c.now (map (λ s. skewed (W.cells s.wave) s.skew) waves)) }
+    requires fit { FitWaves c.now before.now }
+    ensures is { let old = waves_of before.now in
+        IfOk result (λ waves. (i : ℕ) → waves_of waves i ≡ case_start c.now case.now (marked_in cone.now) old i) }
+    ensures fit { IfOk result (λ waves. FitWaves c.now waves) }
 {
     let mut waves = unset_waves(alloc, c, cone, before)?;
     for value in case.as_slice() {
@@ -112,19 +111,23 @@ pub fn case_waves<W: CyclicWave<Item = Value>>(
     limit: u32,
 ) -> Result<Settled<W>, EngineEnd>
     requires exist { NetsExist c.now case.now }
-    requires base { IsBase c.now base.now.rounds base.now.rounds (waves_of (map (λ s. skewed (W.cells s.wave) s.skew) base.now.waves)) }
-    requires fit { FitWaves c.now (map (λ s. skewed (W.cells s.wave) s.skew) base.now.waves) }
-    ensures rest { let before = waves_of (map (λ s. skewed (W.cells s.wave) s.skew) base.now.waves) in
-        IfOk result (λ s. (cone : ℕ → Bool) → IsCone c.now case.now cone → IsCase c.now case.now cone before limit s.rounds (waves_of (map (λ w. skewed (W.cells w.wave) w.skew) s.waves))) }
+    requires base { IsBase c.now base.now.rounds base.now.rounds (waves_of base.now.waves) }
+    requires fit { FitWaves c.now base.now.waves }
+    ensures rest { let before = waves_of base.now.waves in
+        IfOk result (λ s. (cone : ℕ → Bool) → IsCone c.now case.now cone →
+        IsCase c.now case.now cone before limit s.rounds (waves_of s.waves)) }
     ensures within { IfOk result (λ s. s.rounds ≤ limit) }
-    ensures fit { IfOk result (λ s. FitWaves c.now (map (λ w. skewed (W.cells w.wave) w.skew) s.waves)) }
-    ensures work { let before = waves_of (map (λ s. skewed (W.cells s.wave) s.skew) base.now.waves) in
-        IfOk result (λ s. (cone : ℕ → Bool) → IsCone c.now case.now cone → s.evals ≡ work_to c.now (case_active c.now cone) (case_round c.now case.now cone before) (s.rounds + 1)) }
-    ensures sound { IfOk result (λ s. PermitCase c.now case.now (base.now.rounds + s.rounds) (waves_of (map (λ w. skewed (W.cells w.wave) w.skew) s.waves))) }
-    ensures unsettled { let before = waves_of (map (λ s. skewed (W.cells s.wave) s.skew) base.now.waves) in
-        IfErr result (λ e. (cone : ℕ → Bool) → IsCone c.now case.now cone → EndsFor c.now.order (case_round c.now case.now cone before) limit e) }
+    ensures fit { IfOk result (λ s. FitWaves c.now s.waves) }
+    ensures work { let before = waves_of base.now.waves in
+        IfOk result (λ s. (cone : ℕ → Bool) → IsCone c.now case.now cone →
+        s.evals ≡ work_to c.now (case_active c.now cone) (case_round c.now case.now cone before) (s.rounds + 1)) }
+    ensures sound { IfOk result (λ s. PermitCase c.now case.now (base.now.rounds + s.rounds) (waves_of s.waves)) }
+    ensures unsettled { let before = waves_of base.now.waves in
+        IfErr result (λ e. (cone : ℕ → Bool) → IsCone c.now case.now cone →
+        EndsFor c.now.order (case_round c.now case.now cone before) limit e) }
     ensures cone { MatchResult result (λ _. HasCone c.now case.now) (EndsInCone c.now case.now) }
-    ensures loopless { HasNoLoop c.now → outputs c.now.instances ≤ limit → MatchResult result (λ s. s.rounds ≤ outputs c.now.instances) (λ e. e ≡ EngineEnd.NoMemory) }
+    ensures loopless { HasNoLoop c.now → outputs c.now.instances ≤ limit →
+        MatchResult result (λ s. s.rounds ≤ outputs c.now.instances) (λ e. e ≡ EngineEnd.NoMemory) }
 {
     c.known();
     c.header().known();

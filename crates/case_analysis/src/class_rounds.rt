@@ -1,7 +1,6 @@
 //! Bases and cases over classes of indistinguishable nets.
 
-ghost use Rattle.std.specs.Prelude.{◌≡◌, ◌<◌, ◌≤◌, ◌+◌, ℕ, Bool, IfErr, IfOk, MatchResult, length, map};
-ghost use Rattle.skew_algebra.specs.Wave.{skewed};
+ghost use Rattle.std.specs.Prelude.{◌≡◌, ◌<◌, ◌≤◌, ◌+◌, ℕ, Bool, IfErr, IfOk, MatchResult, length};
 ghost use Rattle.flat_circuit.specs.Instances.{outputs};
 ghost use Rattle.class_table.specs.Stable.{IsStable};
 ghost use Rattle.fixpoint_engine.specs.Classes.{class_work_to};
@@ -36,13 +35,15 @@ pub fn base_classes<W: CyclicWave<Item = Value>>(
 ) -> Result<Settled<W>, EngineEnd>
     requires one_each { length classes.now ≡ length c.now.nets }
     requires stable { IsStable c.now cases.now classes.now }
-    ensures rest { IfOk result (λ s. IsBase c.now limit s.rounds (waves_of (map (λ w. skewed (W.cells w.wave) w.skew) s.waves))) }
+    ensures rest { IfOk result (λ s. IsBase c.now limit s.rounds (waves_of s.waves)) }
     ensures within { IfOk result (λ s. s.rounds ≤ limit) }
-    ensures fit { IfOk result (λ s. FitWaves c.now (map (λ w. skewed (W.cells w.wave) w.skew) s.waves)) }
-    ensures work { IfOk result (λ s. s.evals ≡ class_work_to c.now classes.now (is_driven c.now) (base_round c.now) (s.rounds + 1)) }
-    ensures sound { IfOk result (λ s. PermitInputs c.now s.rounds (waves_of (map (λ w. skewed (W.cells w.wave) w.skew) s.waves))) }
+    ensures fit { IfOk result (λ s. FitWaves c.now s.waves) }
+    ensures work { IfOk result (λ s.
+        s.evals ≡ class_work_to c.now classes.now (is_driven c.now) (base_round c.now) (s.rounds + 1)) }
+    ensures sound { IfOk result (λ s. PermitInputs c.now s.rounds (waves_of s.waves)) }
     ensures unsettled { IfErr result (EndsFor c.now.order (base_round c.now) limit) }
-    ensures loopless { HasNoLoop c.now → outputs c.now.instances ≤ limit → MatchResult result (λ s. s.rounds ≤ outputs c.now.instances) (λ e. e ≡ EngineEnd.NoMemory) }
+    ensures loopless { HasNoLoop c.now → outputs c.now.instances ≤ limit →
+        MatchResult result (λ s. s.rounds ≤ outputs c.now.instances) (λ e. e ≡ EngineEnd.NoMemory) }
 {
     c.known();
     c.header().known();
@@ -68,22 +69,28 @@ pub fn case_classes<W: CyclicWave<Item = Value>>(
     requires stable { IsStable c.now cases.now classes.now }
     requires number { number < length cases.now }
     requires exist { NetsExist c.now (case_at cases.now number) }
-    requires base { IsBase c.now base.now.rounds base.now.rounds (waves_of (map (λ s. skewed (W.cells s.wave) s.skew) base.now.waves)) }
-    requires fit { FitWaves c.now (map (λ s. skewed (W.cells s.wave) s.skew) base.now.waves) }
+    requires base { IsBase c.now base.now.rounds base.now.rounds (waves_of base.now.waves) }
+    requires fit { FitWaves c.now base.now.waves }
     ensures rest { let case = case_at cases.now number in
-        let before = waves_of (map (λ s. skewed (W.cells s.wave) s.skew) base.now.waves) in
-        IfOk result (λ s. (cone : ℕ → Bool) → IsCone c.now case cone → IsCase c.now case cone before limit s.rounds (waves_of (map (λ w. skewed (W.cells w.wave) w.skew) s.waves))) }
+        let before = waves_of base.now.waves in
+        IfOk result (λ s. (cone : ℕ → Bool) → IsCone c.now case cone →
+        IsCase c.now case cone before limit s.rounds (waves_of s.waves)) }
     ensures within { IfOk result (λ s. s.rounds ≤ limit) }
-    ensures fit { IfOk result (λ s. FitWaves c.now (map (λ w. skewed (W.cells w.wave) w.skew) s.waves)) }
+    ensures fit { IfOk result (λ s. FitWaves c.now s.waves) }
     ensures work { let case = case_at cases.now number in
-        let before = waves_of (map (λ s. skewed (W.cells s.wave) s.skew) base.now.waves) in
-        IfOk result (λ s. (cone : ℕ → Bool) → IsCone c.now case cone → s.evals ≡ class_work_to c.now classes.now (case_active c.now cone) (case_round c.now case cone before) (s.rounds + 1)) }
-    ensures sound { IfOk result (λ s. PermitCase c.now (case_at cases.now number) (base.now.rounds + s.rounds) (waves_of (map (λ w. skewed (W.cells w.wave) w.skew) s.waves))) }
+        let before = waves_of base.now.waves in
+        IfOk result (λ s. (cone : ℕ → Bool) → IsCone c.now case cone → s.evals ≡ class_work_to c.now
+        classes.now (case_active c.now cone) (case_round c.now case cone before) (s.rounds + 1)) }
+    ensures sound { IfOk result (λ s.
+        PermitCase c.now (case_at cases.now number) (base.now.rounds + s.rounds) (waves_of s.waves)) }
     ensures unsettled { let case = case_at cases.now number in
-        let before = waves_of (map (λ s. skewed (W.cells s.wave) s.skew) base.now.waves) in
-        IfErr result (λ e. (cone : ℕ → Bool) → IsCone c.now case cone → EndsFor c.now.order (case_round c.now case cone before) limit e) }
-    ensures cone { MatchResult result (λ _. HasCone c.now (case_at cases.now number)) (EndsInCone c.now (case_at cases.now number)) }
-    ensures loopless { HasNoLoop c.now → outputs c.now.instances ≤ limit → MatchResult result (λ s. s.rounds ≤ outputs c.now.instances) (λ e. e ≡ EngineEnd.NoMemory) }
+        let before = waves_of base.now.waves in
+        IfErr result (λ e. (cone : ℕ → Bool) → IsCone c.now case cone →
+        EndsFor c.now.order (case_round c.now case cone before) limit e) }
+    ensures cone { MatchResult result (λ _.
+        HasCone c.now (case_at cases.now number)) (EndsInCone c.now (case_at cases.now number)) }
+    ensures loopless { HasNoLoop c.now → outputs c.now.instances ≤ limit →
+        MatchResult result (λ s. s.rounds ≤ outputs c.now.instances) (λ e. e ≡ EngineEnd.NoMemory) }
 {
     c.known();
     c.header().known();

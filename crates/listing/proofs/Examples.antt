@@ -136,7 +136,8 @@ broken_assertion = refl
 
 abbrev unasserted : Circuit
 unasserted =
-    circuit (net (codes "u1/Z") 10 Unasserted None ∷ net (codes "u1/Z") 9 Unasserted None ∷ net (codes "/A") 0 Unasserted None ∷ net (codes "X") 0 Unasserted (Some 0) ∷ net (codes "K") 0 clocked None ∷ [])
+    circuit (net (codes "u1/Z") 10 Unasserted None ∷ net (codes "u1/Z") 9 Unasserted None ∷
+    net (codes "/A") 0 Unasserted None ∷ net (codes "X") 0 Unasserted (Some 0) ∷ net (codes "K") 0 clocked None ∷ [])
     (element (codes "u1/a") And 3 ∷ []) (2 ∷ 4 ∷ 3 ∷ 1 ∷ 0 ∷ [])
 
 pub stable_by_name : head unasserted ≡ codes "SCALD 1 PERIOD 400\nNETS 5 INSTANCES 1 CHECKS 0\nSTABLE /A<0>\nSTABLE u1/Z<9>\nSTABLE u1/Z<10>\n"

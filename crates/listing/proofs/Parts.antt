@@ -51,7 +51,8 @@ pub three-ok : {T E : Type 0} (r : Result T E) (old one two new a b c text : Lis
 three-ok r old one two new a b c text is first second h =
     subst (λ (t : List ℕ). OnOk r (new ≡ old ++ t)) is (ok-second r old two new (a ++ b) c (both old one two a b first second) h)
 
-pub three-err : {T E : Type 0} (r : Result T E) (old one two new a b c text : List ℕ) → (a ++ b) ++ c ≡ text → one ≡ old ++ a → two ≡ one ++ b → OnErr r (HasPart two new c) → OnErr r (HasPart old new text)
+pub three-err : {T E : Type 0} (r : Result T E) (old one two new a b c text : List ℕ) →
+    (a ++ b) ++ c ≡ text → one ≡ old ++ a → two ≡ one ++ b → OnErr r (HasPart two new c) → OnErr r (HasPart old new text)
 three-err r old one two new a b c text is first second h =
     subst (λ (t : List ℕ). OnErr r (HasPart old new t)) is (err-second r old two new (a ++ b) c (both old one two a b first second) h)
 

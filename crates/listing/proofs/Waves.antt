@@ -1,5 +1,5 @@
 -- The line of a net's wave, as it is put together.
-use Rattle.std.proofs.Common.{◌≡◌, ℕ, zero, suc, ◌<◌, List, [], ◌∷◌, ◌++◌, length, map, get_or, codes, decimal, append_assoc, append-nil, arith, sym, ap, ◌∙◌}
+use Rattle.std.proofs.Common.{◌≡◌, ℕ, ◌<◌, List, [], ◌∷◌, ◌++◌, length, get_or, refl, codes, decimal, append_assoc, append-nil, arith, sym, ap, ◌∙◌}
 use Rattle.std.proofs.lemmas.List.{length-map}
 use Rattle.step_values.specs.declared.value.Value.{Value}
 use Rattle.skew_algebra.specs.Wave.{Wave, skewed}
@@ -8,6 +8,7 @@ use Rattle.flat_circuit.specs.Name.{IsNameOrder}
 use Rattle.flat_circuit.proofs.Names.{order_in}
 use Rattle.fixpoint_engine.specs.Settled.{waves_of}
 use Rattle.fixpoint_engine.specs.Rounds.{net_at}
+use Rattle.fixpoint_engine.proofs.Changing.{wave-found}
 use Rattle.listing.specs.Text.{line}
 use Rattle.listing.specs.Names.{net_text}
 use Rattle.listing.specs.Run.{runs_text}
@@ -28,22 +29,17 @@ wave-line-is c waves i name skew cells named is =
     ∙ ap (λ (text : List ℕ). line (codes "WAVE " ∷ text ∷ codes " SKEW " ∷ decimal skew ∷ runs_text cells ∷ [])) named
     ∙ ap (λ (w : Wave Value). line (codes "WAVE " ∷ net_text c i ∷ codes " SKEW " ∷ decimal w.skew ∷ runs_text w.cells ∷ [])) (sym is)
 
--- the wave of a net, by its number
-pub wave-at : {X : Type 0} (f : X → Wave Value) (xs : List X) (i : ℕ) (x : X) → i < length xs → x ≡ get_or xs i x → waves_of (map f xs) i ≡ f x
-wave-at f [] i x within is = absurd (omega arith)
-wave-at f (y ∷ ys) zero x within is = ap f (sym is)
-wave-at f (y ∷ ys) (suc i) x within is = wave-at f ys i x (omega arith) is
-
 -- the line of the wave that a net has in a list
-pub line-of : {X : Type 0} (f : X → Wave Value) (c : Circuit) (xs : List X) (i : ℕ) (x : X) (name : List ℕ) (skew : ℕ) →
-    i < length xs → x ≡ get_or xs i x → name ≡ net_text c i → skew ≡ (f x).skew →
-    (before_runs name skew ++ runs_text (f x).cells) ++ 10 ∷ [] ≡ wave_line c (waves_of (map f xs)) i
-line-of f c xs i x name skew within is named late =
-    wave-line-is c (waves_of (map f xs)) i name skew (f x).cells named (wave-at f xs i x within is ∙ ap (skewed (f x).cells) (sym late))
+pub line-of : (c : Circuit) (xs : List (Wave Value)) (i : ℕ) (x : Wave Value) (name : List ℕ) (skew : ℕ) (cells : List Value) →
+    i < length xs → x ≡ get_or xs i x → name ≡ net_text c i → skew ≡ x.skew → cells ≡ x.cells →
+    (before_runs name skew ++ runs_text cells) ++ 10 ∷ [] ≡ wave_line c (waves_of xs) i
+line-of c xs i x name skew cells within is named late same =
+    wave-line-is c (waves_of xs) i name skew cells named
+    (sym (wave-found xs i (length xs) x within refl is) ∙ (λ k. skewed (sym same k) (sym late k)))
 
 -- each net of the order has a wave
-pub has-wave : {X : Type 0} (f : X → Wave Value) (c : Circuit) (waves : List X) (place : ℕ) → IsNameOrder (net_names c.nets) c.order → length (map f waves) ≡ length c.nets →
+pub has-wave : (c : Circuit) (waves : List (Wave Value)) (place : ℕ) → IsNameOrder (net_names c.nets) c.order → length waves ≡ length c.nets →
     place < length c.order → net_at c.order place < length waves
-has-wave f c waves place ordered each within =
+has-wave c waves place ordered each within =
     let below = order_in (net_names c.nets) c.order place 0 ordered within in
-    omega (arith, below, each, length-map c.nets net_name, length-map waves f)
+    omega (arith, below, each, length-map c.nets net_name)

@@ -1,7 +1,6 @@
 //! The lines of one case.
 
-ghost use Rattle.std.specs.Prelude.{◌≡◌, ◌++◌, map, OnErr, OnOk};
-ghost use Rattle.skew_algebra.specs.Wave.{skewed};
+ghost use Rattle.std.specs.Prelude.{◌≡◌, ◌++◌, OnErr, OnOk};
 ghost use Rattle.fixpoint_engine.specs.Settled.{FitWaves, waves_of};
 ghost use Rattle.listing.specs.Case.{case_line, case_lines, shown_faults, shown_waves, shows_faults, shows_waves};
 ghost use Rattle.listing.specs.Text.{HasPart};
@@ -70,9 +69,9 @@ fn add_shown_waves<W: CyclicWave<Item = Value>>(
     waves: &Waves<W>,
     mode: Mode,
 ) -> Result<(), NoMemory>
-    requires { FitWaves c.now (map (λ s. skewed (W.cells s.wave) s.skew) waves.now) }
-    ensures ok { let all = waves_of (map (λ s. skewed (W.cells s.wave) s.skew) waves.now) in OnOk result (out.new ≡ out.old ++ shown_waves c.now mode all) }
-    ensures err { let all = waves_of (map (λ s. skewed (W.cells s.wave) s.skew) waves.now) in OnErr result (HasPart out.old out.new (shown_waves c.now mode all)) }
+    requires { FitWaves c.now waves.now }
+    ensures ok { let all = waves_of waves.now in OnOk result (out.new ≡ out.old ++ shown_waves c.now mode all) }
+    ensures err { let all = waves_of waves.now in OnErr result (HasPart out.old out.new (shown_waves c.now mode all)) }
 {
     if mode.shows_waves() {
         add_waves(out, c, waves)
@@ -112,11 +111,12 @@ pub fn write_case<W: CyclicWave<Item = Value>>(
     mode: Mode,
     out: &mut Bytes,
 ) -> Result<(), NoMemory>
-    requires { FitWaves c.now (map (λ s. skewed (W.cells s.wave) s.skew) settled.now.waves) }
-    ensures ok { let waves = waves_of (map (λ s. skewed (W.cells s.wave) s.skew) settled.now.waves) in
+    requires { FitWaves c.now settled.now.waves }
+    ensures ok { let waves = waves_of settled.now.waves in
         OnOk result (out.new ≡ out.old ++ case_lines c.now mode number base settled.now.rounds tick waves faults.now) }
-    ensures err { let waves = waves_of (map (λ s. skewed (W.cells s.wave) s.skew) settled.now.waves) in
-        OnErr result (HasPart out.old out.new (case_lines c.now mode number base settled.now.rounds tick waves faults.now)) }
+    ensures err { let waves = waves_of settled.now.waves in
+        OnErr result (HasPart out.old
+        out.new (case_lines c.now mode number base settled.now.rounds tick waves faults.now)) }
 {
     add_case(out, number, base, settled.rounds, tick)?;
     add_shown_waves(out, c, &settled.waves, mode)?;

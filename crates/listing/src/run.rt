@@ -11,8 +11,10 @@ use wave_core::CyclicWave;
 
 /// A value, and in how many slots it stands side by side.
 fn add_run(out: &mut Bytes, value: Value, width: u16) -> Result<(), NoMemory>
-    ensures ok { let run : Run = record { value = value; width = width } in OnOk result (out.new ≡ out.old ++ run_text run) }
-    ensures err { let run : Run = record { value = value; width = width } in OnErr result (HasPart out.old out.new (run_text run)) }
+    ensures ok { let run : Run = record { value = value; width = width } in
+        OnOk result (out.new ≡ out.old ++ run_text run) }
+    ensures err { let run : Run = record { value = value; width = width } in
+        OnErr result (HasPart out.old out.new (run_text run)) }
 {
     add_pieces(
         out,

@@ -1,7 +1,6 @@
 //! The lines of waves.
 
-ghost use Rattle.std.specs.Prelude.{◌≡◌, ◌++◌, ◌<◌, length, map, OnErr, OnOk};
-ghost use Rattle.skew_algebra.specs.Wave.{skewed};
+ghost use Rattle.std.specs.Prelude.{◌≡◌, ◌++◌, ◌<◌, length, OnErr, OnOk};
 ghost use Rattle.fixpoint_engine.specs.Settled.{FitWaves, waves_of};
 ghost use Rattle.listing.specs.Wave.{wave_line, wave_lines};
 ghost use Rattle.listing.specs.Text.{HasPart};
@@ -23,18 +22,18 @@ fn add_wave<W: CyclicWave<Item = Value>>(
     net: u32,
 ) -> Result<(), NoMemory>
     requires { net < length waves.now }
-    ensures ok { let all = waves_of (map (λ s. skewed (W.cells s.wave) s.skew) waves.now) in OnOk result (out.new ≡ out.old ++ wave_line c.now all net) }
-    ensures err { let all = waves_of (map (λ s. skewed (W.cells s.wave) s.skew) waves.now) in OnErr result (HasPart out.old out.new (wave_line c.now all net)) }
+    ensures ok { let all = waves_of waves.now in OnOk result (out.new ≡ out.old ++ wave_line c.now all net) }
+    ensures err { let all = waves_of waves.now in OnErr result (HasPart out.old out.new (wave_line c.now all net)) }
 {
     let found = &waves.as_slice()[net as usize];
     let before = [
         Piece::Text(b"WAVE "),
         net_piece(c, net),
         Piece::Text(b" SKEW "),
-        Piece::Number(u64::from(found.skew)),
+        Piece::Number(u64::from(found.skew())),
     ];
     add_pieces(out, &before)?;
-    add_runs(out, &found.wave)?;
+    add_runs(out, found.wave())?;
     add_line(out, &[])
 }
 
@@ -44,9 +43,9 @@ pub fn add_waves<W: CyclicWave<Item = Value>>(
     c: &Circuit,
     waves: &Waves<W>,
 ) -> Result<(), NoMemory>
-    requires { FitWaves c.now (map (λ s. skewed (W.cells s.wave) s.skew) waves.now) }
-    ensures ok { let all = waves_of (map (λ s. skewed (W.cells s.wave) s.skew) waves.now) in OnOk result (out.new ≡ out.old ++ wave_lines c.now all) }
-    ensures err { let all = waves_of (map (λ s. skewed (W.cells s.wave) s.skew) waves.now) in OnErr result (HasPart out.old out.new (wave_lines c.now all)) }
+    requires { FitWaves c.now waves.now }
+    ensures ok { let all = waves_of waves.now in OnOk result (out.new ≡ out.old ++ wave_lines c.now all) }
+    ensures err { let all = waves_of waves.now in OnErr result (HasPart out.old out.new (wave_lines c.now all)) }
 {
     c.known();
     for place in 0..c.net_count() {

@@ -5,7 +5,7 @@ ghost use Rattle.scald_base.specs.Time.{period};
 ghost use Rattle.step_values.specs.Cell.{values};
 ghost use Rattle.step_values.specs.declared.value.Value.TheVariants.{One, Zero};
 ghost use Rattle.skew_algebra.specs.Permits.{Permits};
-ghost use Rattle.skew_algebra.specs.Wave.{folded, normal, skewed};
+ghost use Rattle.skew_algebra.specs.Wave.{folded, normal};
 ghost use Rattle.pin_waves.specs.Interface.{clock_wave, constant_wave, interface_wave, precision_wave, skewed_clock, stable_wave, wide_wave, PermitsAsserted};
 
 use crate::ideal_clock::clock_slots;
@@ -51,7 +51,7 @@ fn precision_wave<W: CyclicWave<Item = Value>>(
     clock: &ClockSpec,
     h: &Header,
 ) -> Result<Skewed<W>, NoMemory>
-    ensures { IfOk result (λ s. skewed (W.cells s.wave) s.skew ≡ normal values (precision_wave h.now clock.now)) }
+    ensures { IfOk result (λ s. s ≡ normal values (precision_wave h.now clock.now)) }
 {
     let skew = clock.skew.unwrap_or(h.pskew);
     let wave = early_clock(alloc, clock, h, skew)?;
@@ -64,7 +64,7 @@ fn clock_wave<W: CyclicWave<Item = Value>>(
     clock: &ClockSpec,
     h: &Header,
 ) -> Result<Skewed<W>, NoMemory>
-    ensures { IfOk result (λ s. skewed (W.cells s.wave) s.skew ≡ normal values (clock_wave h.now clock.now)) }
+    ensures { IfOk result (λ s. s ≡ normal values (clock_wave h.now clock.now)) }
 {
     let skew = clock.skew.unwrap_or(h.cskew);
     let wave: W = early_clock(alloc, clock, h, skew)?;
@@ -78,7 +78,7 @@ fn stable_wave<W: CyclicWave<Item = Value>>(
     spans: &Spans,
     h: &Header,
 ) -> Result<Skewed<W>, NoMemory>
-    ensures { IfOk result (λ s. skewed (W.cells s.wave) s.skew ≡ normal values (stable_wave h.now spans.now)) }
+    ensures { IfOk result (λ s. s ≡ normal values (stable_wave h.now spans.now)) }
 {
     h.known();
     let cells = stable_slots(alloc, spans, h)?;
@@ -92,7 +92,7 @@ fn asserted_wave<W: CyclicWave<Item = Value>>(
     spec: &AssertSpec,
     h: &Header,
 ) -> Result<Skewed<W>, NoMemory>
-    ensures { IfOk result (λ s. skewed (W.cells s.wave) s.skew ≡ interface_wave h.now spec.now) }
+    ensures { IfOk result (λ s. s ≡ interface_wave h.now spec.now) }
 {
     match spec {
         AssertSpec::None => stable_wave(alloc, &Spans::new(alloc), h),
@@ -110,10 +110,10 @@ pub fn interface_wave<W: CyclicWave<Item = Value>>(
     spec: &AssertSpec,
     h: &Header,
 ) -> Result<Skewed<W>, NoMemory>
-    ensures wave { IfOk result (λ s. skewed (W.cells s.wave) s.skew ≡ interface_wave h.now spec.now) }
-    ensures permits { IfOk result (λ s. PermitsAsserted h.now spec.now (skewed (W.cells s.wave) s.skew)) }
-    ensures wide { IfOk result (λ s. folded values (skewed (W.cells s.wave) s.skew) ≡ wide_wave h.now spec.now) }
-    ensures sized { IfOk result (λ s. length (W.cells s.wave) ≡ period h.now) }
+    ensures wave { IfOk result (λ s. s ≡ interface_wave h.now spec.now) }
+    ensures permits { IfOk result (λ s. PermitsAsserted h.now spec.now s) }
+    ensures wide { IfOk result (λ s. folded values s ≡ wide_wave h.now spec.now) }
+    ensures sized { IfOk result (λ s. length s.cells ≡ period h.now) }
 {
     h.known();
     asserted_wave(alloc, spec, h)
@@ -146,10 +146,10 @@ pub fn constant_wave<W: CyclicWave<Item = Value>>(
     h: &Header,
     one: bool,
 ) -> Result<Skewed<W>, NoMemory>
-    ensures wave { IfOk result (λ s. skewed (W.cells s.wave) s.skew ≡ constant_wave h.now one) }
-    ensures permits { IfOk result (λ s. (n v : ℕ) → Permits values (skewed (W.cells s.wave) s.skew) n (λ t. one) v) }
-    ensures sized { IfOk result (λ s. length (W.cells s.wave) ≡ period h.now) }
+    ensures wave { IfOk result (λ s. s ≡ constant_wave h.now one) }
+    ensures permits { IfOk result (λ s. (n v : ℕ) → Permits values s n (λ t. one) v) }
+    ensures sized { IfOk result (λ s. length s.cells ≡ period h.now) }
 {
     let wave = W::uniform(alloc, h.period(), level(one))?;
-    Ok(Skewed { wave, skew: 0 })
+    Ok(Skewed::new(wave, 0))
 }

@@ -1,7 +1,6 @@
 //! The waves of receiving pins.
 
 ghost use Rattle.std.specs.Prelude.{◌≡◌, IfOk, length};
-ghost use Rattle.skew_algebra.specs.Wave.{skewed};
 ghost use Rattle.pin_waves.specs.Pin.{pin_wave, KeepsPin};
 
 use scald_base::{Delay, NoMemory};
@@ -18,10 +17,11 @@ pub fn pin_wave<W: CyclicWave<Item = Value>>(
     wire: Delay,
     inverted: bool,
 ) -> Result<Skewed<W>, NoMemory>
-    ensures wave { IfOk result (λ s. skewed (W.cells s.wave) s.skew ≡ pin_wave (skewed (W.cells net.now.wave) net.now.skew) wire inverted) }
-    ensures permits { IfOk result (λ s. KeepsPin (skewed (W.cells net.now.wave) net.now.skew) (skewed (W.cells s.wave) s.skew) wire inverted) }
-    ensures sized { IfOk result (λ s. length (W.cells s.wave) ≡ length (W.cells net.now.wave)) }
+    ensures wave { IfOk result (λ s. s ≡ pin_wave net.now wire inverted) }
+    ensures permits { IfOk result (λ s. KeepsPin net.now s wire inverted) }
+    ensures sized { IfOk result (λ s. length s.cells ≡ length net.now.cells) }
 {
+    net.known();
     let late = net.moved(alloc, wire)?;
     if inverted {
         late.flipped(alloc)

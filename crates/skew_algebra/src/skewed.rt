@@ -1,28 +1,39 @@
 //! A wave with a skew.
 
 ghost use Rattle.std.specs.Prelude.{◌≡◌, ◌-◌, ◌<◌, ◌↔◌, IsTrue, IfOk, if◌then◌else◌, length, min as least};
+ghost use Rattle.wave_core.specs.Slots.{IsPeriod};
 ghost use Rattle.skew_algebra.specs.Permits.{Keeps, KeepsFlipped, KeepsMoved};
-ghost use Rattle.skew_algebra.specs.Wave.{IsNormal, all_equal as equal, flipped, fold, folded, is_steady as steady, moved, normal, skewed};
+ghost use Rattle.skew_algebra.specs.Wave.{IsNormal, Wave, all_equal as equal, flipped, fold, folded, is_steady as steady, moved, normal, skewed};
 
 use crate::scan::{all_equal, is_steady, joined};
 use scald_base::{Delay, NoMemory};
 use std::alloc::Global;
 use std::cmp::min;
+use std::marker::Model;
 use wave_core::{Cell, CyclicWave, joined_from};
 
 /// A wave, and the most ticks by which the whole of it may be late, in normal form: a steady wave
-/// has one cell in all slots, a wave of one cell has no skew, and no skew reaches a period.
+/// has one cell in all slots, a wave of one cell has no skew, and no skew reaches a period. Contracts
+/// see its cells and its skew.
 #[derive(Drop)]
 pub struct Skewed<W: CyclicWave> {
-    pub wave: W,
-    pub skew: u16,
-    ghost is_normal: { IsNormal W.Item.kind (skewed (W.cells wave) skew) },
+    wave: W,
+    skew: u16,
+}
+
+impl<W: CyclicWave> Model for Skewed<W> {
+    ghost Value = { Wave W.Item };
+
+    ghost view = { λ s. skewed (W.cells s.wave) s.skew };
+
+    ghost invariant = { λ s. IsNormal W.Item.kind (skewed (W.cells s.wave) s.skew) };
 }
 
 /// The skew that a wave of some change needs: none where all its cells are the same, since it is the
 /// same however late it comes, and less than a period.
 fn capped<W: CyclicWave>(wave: &W, skew: u16) -> u16
-    ensures { result ≡ (if equal W.Item.kind (W.cells wave.now) then 0 else least skew (length (W.cells wave.now) - 1)) }
+    ensures { result ≡ (if equal W.Item.kind
+        (W.cells wave.now) then 0 else least skew (length (W.cells wave.now) - 1)) }
 {
     if all_equal(wave) {
         0
@@ -32,10 +43,47 @@ fn capped<W: CyclicWave>(wave: &W, skew: u16) -> u16
 }
 
 impl<W: CyclicWave> Skewed<W> {
+    /// The wave with this skew, in ticks, which are in normal form.
+    pub fn new(wave: W, skew: u16) -> Skewed<W>
+        requires { IsNormal W.Item.kind (skewed (W.cells wave) skew) }
+        ensures { result ≡ skewed (W.cells wave) skew }
+    {
+        Skewed { wave, skew }
+    }
+
+    /// What holds of each such wave.
+    pub fn known(&self)
+        ensures normal { IsNormal W.Item.kind self.now }
+        ensures sized { IsPeriod (length self.now.cells) }
+    {
+        let _ = &self.wave;
+    }
+
+    /// The wave without its skew.
+    pub fn wave(&self) -> &W
+        ensures { W.cells result.now ≡ self.now.cells }
+    {
+        &self.wave
+    }
+
+    /// The most ticks by which the whole may be late.
+    pub fn skew(&self) -> u16
+        ensures { result ≡ self.now.skew }
+    {
+        self.skew
+    }
+
+    /// How many slots there are.
+    pub fn period(&self) -> u16
+        ensures { result ≡ length self.now.cells }
+    {
+        self.wave.period()
+    }
+
     /// The normal form of a wave that may be late by up to `skew` ticks.
     pub fn normal(alloc: Global, wave: W, skew: u16) -> Result<Skewed<W>, NoMemory>
-        ensures wave { IfOk result (λ s. skewed (W.cells s.wave) s.skew ≡ normal W.Item.kind (skewed (W.cells wave) skew)) }
-        ensures permits { IfOk result (λ s. Keeps W.Item.kind (skewed (W.cells wave) skew) (skewed (W.cells s.wave) s.skew)) }
+        ensures wave { IfOk result (λ s. s ≡ normal W.Item.kind (skewed (W.cells wave) skew)) }
+        ensures permits { IfOk result (λ s. Keeps W.Item.kind (skewed (W.cells wave) skew) s) }
     {
         let period = wave.period();
         if is_steady(&wave) {
@@ -51,8 +99,8 @@ impl<W: CyclicWave> Skewed<W> {
 
     /// The wave of a net that shows this one's, late by a delay within the bounds.
     pub fn moved(&self, alloc: Global, d: Delay) -> Result<Skewed<W>, NoMemory>
-        ensures wave { IfOk result (λ s. skewed (W.cells s.wave) s.skew ≡ moved W.Item.kind (skewed (W.cells self.now.wave) self.now.skew) d) }
-        ensures permits { IfOk result (λ s. KeepsMoved W.Item.kind (skewed (W.cells self.now.wave) self.now.skew) (skewed (W.cells s.wave) s.skew) d) }
+        ensures wave { IfOk result (λ s. s ≡ moved W.Item.kind self.now d) }
+        ensures permits { IfOk result (λ s. KeepsMoved W.Item.kind self.now s d) }
     {
         let wave = self.wave.rotate(alloc, d.min)?;
         Skewed::normal(alloc, wave, self.skew + (d.max - d.min))
@@ -60,16 +108,16 @@ impl<W: CyclicWave> Skewed<W> {
 
     /// The wave without a skew: what each slot may hold, however late the whole comes.
     pub fn folded(&self, alloc: Global) -> Result<W, NoMemory>
-        ensures wave { IfOk result (λ w. W.cells w ≡ folded W.Item.kind (skewed (W.cells self.now.wave) self.now.skew)) }
-        ensures permits { IfOk result (λ w. Keeps W.Item.kind (skewed (W.cells self.now.wave) self.now.skew) (skewed (W.cells w) 0)) }
+        ensures wave { IfOk result (λ w. W.cells w ≡ folded W.Item.kind self.now) }
+        ensures permits { IfOk result (λ w. Keeps W.Item.kind self.now (skewed (W.cells w) 0)) }
     {
         self.wave.fold(alloc, self.skew)
     }
 
     /// The wave of the complement.
     pub fn flipped(&self, alloc: Global) -> Result<Skewed<W>, NoMemory>
-        ensures wave { IfOk result (λ s. skewed (W.cells s.wave) s.skew ≡ flipped W.Item.kind (skewed (W.cells self.now.wave) self.now.skew)) }
-        ensures permits { IfOk result (λ s. KeepsFlipped W.Item.kind (skewed (W.cells self.now.wave) self.now.skew) (skewed (W.cells s.wave) s.skew)) }
+        ensures wave { IfOk result (λ s. s ≡ flipped W.Item.kind self.now) }
+        ensures permits { IfOk result (λ s. KeepsFlipped W.Item.kind self.now s) }
     {
         let wave = self.wave.map(alloc, |cell| cell.flip())?;
         Ok(Skewed {
@@ -80,7 +128,7 @@ impl<W: CyclicWave> Skewed<W> {
 
     /// A copy of the wave.
     pub fn copy(&self, alloc: Global) -> Result<Skewed<W>, NoMemory>
-        ensures { IfOk result (λ s. skewed (W.cells s.wave) s.skew ≡ skewed (W.cells self.now.wave) self.now.skew) }
+        ensures { IfOk result (λ s. s ≡ self.now) }
     {
         let wave = self.wave.copy(alloc)?;
         Ok(Skewed {
@@ -91,15 +139,15 @@ impl<W: CyclicWave> Skewed<W> {
 
     /// Whether every slot is quiet.
     pub fn is_steady(&self) -> bool
-        ensures { result ≡ steady W.Item.kind (W.cells self.now.wave) }
+        ensures { result ≡ steady W.Item.kind self.now.cells }
     {
         is_steady(&self.wave)
     }
 
     /// What a slot may hold, however late the whole comes.
     pub fn fold_at(&self, slot: u16) -> W::Item
-        requires { slot < length (W.cells self.now.wave) }
-        ensures { result ≡ fold W.Item.kind (skewed (W.cells self.now.wave) self.now.skew) slot }
+        requires { slot < length self.now.cells }
+        ensures { result ≡ fold W.Item.kind self.now slot }
     {
         let period = self.wave.period();
         let first = (slot + (period - self.skew)) % period;
@@ -108,7 +156,7 @@ impl<W: CyclicWave> Skewed<W> {
 
     /// Whether the two have the same cells and the same skew.
     pub fn same(&self, other: &Skewed<W>) -> bool
-        ensures { IsTrue result ↔ (skewed (W.cells self.now.wave) self.now.skew ≡ skewed (W.cells other.now.wave) other.now.skew) }
+        ensures { IsTrue result ↔ (self.now ≡ other.now) }
     {
         self.skew == other.skew && self.wave.equal(&other.wave)
     }

@@ -1,7 +1,6 @@
 //! The pins that an element listens to.
 
 ghost use Rattle.std.specs.Prelude.{◌≡◌, map, IfOk};
-ghost use Rattle.skew_algebra.specs.Wave.{skewed};
 ghost use Rattle.storage_eval.specs.Storage.{listening};
 
 use flat_circuit::Kind;
@@ -17,13 +16,13 @@ pub fn listening<W: CyclicWave<Item = Value>>(
     kind: Kind,
     pins: &[PinWave<W>],
 ) -> Result<Vec<PinWave<W>>, NoMemory>
-    ensures { IfOk result (λ heard. map (λ p. skewed (W.cells p.wave.wave) p.wave.skew) heard.items ≡ listening kind (map (λ p. skewed (W.cells p.wave.wave) p.wave.skew) pins.now)) }
+    ensures { IfOk result (λ heard. map (λ p. p.wave) heard.items ≡ listening kind (map (λ p. p.wave) pins.now)) }
 {
     let mut heard = Vec::with_capacity(alloc, pins.len())?;
     for (place, pin) in pins.iter().enumerate() {
         if kind.listens(place) {
             let wave = pin.wave.copy(alloc)?;
-            heard.push(PinWave { wave, hold: false })?;
+            heard.push(PinWave::new(wave, false))?;
         }
     }
     Ok(heard)

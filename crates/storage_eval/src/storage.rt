@@ -2,7 +2,6 @@
 
 ghost use Rattle.std.specs.Prelude.{◌≡◌, List, true, length, map, count_by, IfOk};
 ghost use Rattle.step_values.specs.declared.value.Value.{Value};
-ghost use Rattle.skew_algebra.specs.Wave.{skewed};
 ghost use Rattle.flat_circuit.specs.Kind.{pin_counts};
 ghost use Rattle.gate_eval.specs.Meeting.{HaveOnePeriod};
 ghost use Rattle.storage_eval.specs.Storage.{is_storage, storage_value};
@@ -30,10 +29,10 @@ fn element_wave<W: CyclicWave<Item = Value>, I: Image>(
 ) -> Result<Skewed<W>, NoMemory>
     requires stores { is_storage kind ≡ true }
     requires pins { length pins.now ≡ (pin_counts kind).0 }
-    requires periods { HaveOnePeriod (map (λ p. skewed (W.cells p.wave.wave) p.wave.skew) pins.now) }
+    requires periods { HaveOnePeriod (map (λ p. p.wave) pins.now) }
     requires value { (found : List Value) → I.value_of image.now found ≡ storage_value kind found }
-    ensures wave { IfOk result (λ s. skewed (W.cells s.wave) s.skew ≡ storage_wave kind (map (λ p. skewed (W.cells p.wave.wave) p.wave.skew) pins.now) d) }
-    ensures sound { IfOk result (λ s. IsSound kind d (map (λ p. skewed (W.cells p.wave.wave) p.wave.skew) pins.now) (skewed (W.cells s.wave) s.skew)) }
+    ensures wave { IfOk result (λ s. s ≡ storage_wave kind (map (λ p. p.wave) pins.now) d) }
+    ensures sound { IfOk result (λ s. IsSound kind d (map (λ p. p.wave) pins.now) s) }
 {
     let heard = listening(alloc, kind, pins)?;
     met(alloc, image, &heard, d)
@@ -49,9 +48,9 @@ pub fn eval_storage<W: CyclicWave<Item = Value>>(
 ) -> Result<Skewed<W>, NoMemory>
     requires stores { is_storage kind ≡ true }
     requires pins { CountsFit kind (length pins.now) (count_by (λ p. p.hold) pins.now) }
-    requires periods { HaveOnePeriod (map (λ p. skewed (W.cells p.wave.wave) p.wave.skew) pins.now) }
-    ensures wave { IfOk result (λ s. skewed (W.cells s.wave) s.skew ≡ storage_wave kind (map (λ p. skewed (W.cells p.wave.wave) p.wave.skew) pins.now) d) }
-    ensures sound { IfOk result (λ s. IsSound kind d (map (λ p. skewed (W.cells p.wave.wave) p.wave.skew) pins.now) (skewed (W.cells s.wave) s.skew)) }
+    requires periods { HaveOnePeriod (map (λ p. p.wave) pins.now) }
+    ensures wave { IfOk result (λ s. s ≡ storage_wave kind (map (λ p. p.wave) pins.now) d) }
+    ensures sound { IfOk result (λ s. IsSound kind d (map (λ p. p.wave) pins.now) s) }
 {
     let pins = pins.as_slice();
     match kind {

@@ -1,6 +1,5 @@
-use Rattle.std.proofs.Common.{◌≡◌, ◌<◌, ◌+◌, IfErr, IfOk, map, subst, arith}
+use Rattle.std.proofs.Common.{◌≡◌, ◌<◌, ◌+◌, IfErr, IfOk, subst, arith}
 use Rattle.scald_base.specs.Time.{period}
-use Rattle.skew_algebra.specs.Wave.{skewed}
 use Rattle.fixpoint_engine.specs.End.{EndsFor}
 use Rattle.fixpoint_engine.specs.Rounds.{round}
 use Rattle.fixpoint_engine.specs.Settled.{AreAtRest, marked_in, waves_of}
@@ -11,17 +10,18 @@ use Rattle.case_analysis.proofs.base_rounds.base.Goals as goal
 
 pub returns-clause-rest : goal.returns-clause-rest
 returns-clause-rest g c =
-    as-base c.args.c.now (marked_in c.in_ok-active.active) (waves_of (map (λ s. skewed (g.W.CyclicWave.cells s.wave) s.skew) c.in_ok-start.start))
-    (λ active first. IfOk c.settle.result (λ s. AreAtRest c.args.c.now active first c.args.limit s.rounds (waves_of (map (λ w. skewed (g.W.CyclicWave.cells w.wave) w.skew) s.waves))))
+    as-base c.args.c.now (marked_in c.in_ok-active.active) (waves_of c.in_ok-start.start)
+    (λ active first. IfOk c.settle.result (λ s. AreAtRest c.args.c.now active first c.args.limit s.rounds (waves_of s.waves)))
     c.in_ok-active.ensures.driven (λ k i. c.in_ok-start.ensures.is i k)
     c.settle.ensures.rest
 
 pub returns-clause-within : goal.returns-clause-within
-returns-clause-within g c = in-time c.settle.result c.args.c.now (marked_in c.in_ok-active.active) (waves_of (map (λ s. skewed (g.W.CyclicWave.cells s.wave) s.skew) c.in_ok-start.start)) c.args.limit (λ s. s.rounds) (λ s. waves_of (map (λ w. skewed (g.W.CyclicWave.cells w.wave) w.skew) s.waves)) c.settle.ensures.rest
+returns-clause-within g c = in-time c.settle.result c.args.c.now (marked_in c.in_ok-active.active)
+    (waves_of c.in_ok-start.start) c.args.limit (λ s. s.rounds) (λ s. waves_of s.waves) c.settle.ensures.rest
 
 pub returns-clause-work : goal.returns-clause-work
 returns-clause-work g c =
-    as-base c.args.c.now (marked_in c.in_ok-active.active) (waves_of (map (λ s. skewed (g.W.CyclicWave.cells s.wave) s.skew) c.in_ok-start.start))
+    as-base c.args.c.now (marked_in c.in_ok-active.active) (waves_of c.in_ok-start.start)
     (λ active first. IfOk c.settle.result (λ s. s.evals ≡ work_to c.args.c.now active (round c.args.c.now active first) (s.rounds + 1)))
     c.in_ok-active.ensures.driven (λ k i. c.in_ok-start.ensures.is i k)
     c.settle.ensures.work
@@ -29,17 +29,17 @@ returns-clause-work g c =
 pub returns-clause-sound : goal.returns-clause-sound
 returns-clause-sound g c =
     let some : 0 < period c.args.c.now.header = subst (λ h. 0 < period h) c.header.ensures (let two = c.known-2.ensures.shortest in omega (arith, two)) in
-    base-keeps c.settle.result c.args.c.now (waves_of (map (λ s. skewed (g.W.CyclicWave.cells s.wave) s.skew) c.in_ok-start.start)) (λ s. s.rounds) (λ s. waves_of (map (λ w. skewed (g.W.CyclicWave.cells w.wave) w.skew) s.waves))
+    base-keeps c.settle.result c.args.c.now (waves_of c.in_ok-start.start) (λ s. s.rounds) (λ s. waves_of s.waves)
     some c.in_ok-start.ensures.is c.settle.ensures.sound
 
 pub returns-clause-unsettled : goal.returns-clause-unsettled
 returns-clause-unsettled g c =
-    as-base c.args.c.now (marked_in c.in_ok-active.active) (waves_of (map (λ s. skewed (g.W.CyclicWave.cells s.wave) s.skew) c.in_ok-start.start))
+    as-base c.args.c.now (marked_in c.in_ok-active.active) (waves_of c.in_ok-start.start)
     (λ active first. IfErr c.settle.result (EndsFor c.args.c.now.order (round c.args.c.now active first) c.args.limit))
     c.in_ok-active.ensures.driven (λ k i. c.in_ok-start.ensures.is i k)
     c.settle.ensures.unsettled
 
 pub returns-clause-loopless : goal.returns-clause-loopless
 returns-clause-loopless g c none within =
-    soon c.settle.result c.args.c.now (marked_in c.in_ok-active.active) (waves_of (map (λ s. skewed (g.W.CyclicWave.cells s.wave) s.skew) c.in_ok-start.start)) c.args.limit (λ s. s.rounds) (λ s. waves_of (map (λ w. skewed (g.W.CyclicWave.cells w.wave) w.skew) s.waves))
+    soon c.settle.result c.args.c.now (marked_in c.in_ok-active.active) (waves_of c.in_ok-start.start) c.args.limit (λ s. s.rounds) (λ s. waves_of s.waves)
     c.known.ensures none within c.settle.ensures.rest c.settle.ensures.unsettled

@@ -1,27 +1,24 @@
 use Rattle.std.proofs.Common.{◌≡◌, ◌++◌, [], ◌∷◌, length, map, ◌∙◌, sym, ap, arith}
 use Rattle.std.specs.List.{range_with_len}
-use Rattle.std.proofs.lemmas.List.{map-append}
 use Rattle.std.proofs.lemmas.List.FromFn.{map-range_with_len_more}
-use Rattle.skew_algebra.specs.Wave.{skewed}
 use Rattle.fixpoint_engine.specs.Start.{base_start}
 use Rattle.case_analysis.proofs.Start.{start-fits, start-is}
 use Rattle.case_analysis.proofs.base_rounds.start_waves.Goals as goal
 
 pub loop-i-preserved : goal.loop-i-preserved
 loop-i-preserved g c =
-    let one : skewed (g.W.CyclicWave.cells c.in_ok-wave.wave.wave) c.in_ok-wave.wave.skew ≡ base_start c.args.c.now c.loop-i.i =
+    let one : c.in_ok-wave.wave ≡ base_start c.args.c.now c.loop-i.i =
     c.in_ok-wave.ensures in
-    ap (map (λ s. skewed (g.W.CyclicWave.cells s.wave) s.skew)) c.in_ok-push.ensures.ok
-    ∙ map-append (λ s. skewed (g.W.CyclicWave.cells s.wave) s.skew) c.loop-i.waves (c.in_ok-wave.wave ∷ [])
+    c.in_ok-push.ensures.ok
     ∙ (λ k. c.loop-i.invariant k ++ one k ∷ [])
     ∙ sym (map-range_with_len_more (base_start c.args.c.now) 0 c.loop-i.i c.loop-i.i (omega arith))
 
 pub returns-clause-is : goal.returns-clause-is
 returns-clause-is g c i =
     let whole : c.loop-i.i ≡ length c.args.c.now.nets = omega (arith, c.loop-i-test.false, c.loop-i.auto.i-end, c.net_count-i-end.ensures) in
-    λ k. start-is c.args.c.now (map (λ s. skewed (g.W.CyclicWave.cells s.wave) s.skew) c.loop-i.waves) (c.loop-i.invariant ∙ ap (λ n. map (base_start c.args.c.now) (range_with_len 0 n)) whole) k i
+    λ k. start-is c.args.c.now c.loop-i.waves (c.loop-i.invariant ∙ ap (λ n. map (base_start c.args.c.now) (range_with_len 0 n)) whole) k i
 
 pub returns-clause-fit : goal.returns-clause-fit
 returns-clause-fit g c =
     let whole : c.loop-i.i ≡ length c.args.c.now.nets = omega (arith, c.loop-i-test.false, c.loop-i.auto.i-end, c.net_count-i-end.ensures) in
-    start-fits c.args.c.now (map (λ s. skewed (g.W.CyclicWave.cells s.wave) s.skew) c.loop-i.waves) (c.loop-i.invariant ∙ ap (λ n. map (base_start c.args.c.now) (range_with_len 0 n)) whole)
+    start-fits c.args.c.now c.loop-i.waves (c.loop-i.invariant ∙ ap (λ n. map (base_start c.args.c.now) (range_with_len 0 n)) whole)

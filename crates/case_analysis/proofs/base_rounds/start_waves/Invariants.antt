@@ -1,8 +1,7 @@
 use Rattle.std.proofs.Common.{◌≡◌, map}
 use Rattle.std.specs.List.{range_with_len}
-use Rattle.skew_algebra.specs.Wave.{skewed}
 use Rattle.fixpoint_engine.specs.Start.{base_start}
 use Rattle.case_analysis.proofs.base_rounds.start_waves.Given as goal
 
 abbrev pub invariant-loop-i : goal.invariant-loop-i
-invariant-loop-i g l = map (λ s. skewed (g.W.CyclicWave.cells s.wave) s.skew) l.waves ≡ map (base_start l.c) (range_with_len 0 l.i)
+invariant-loop-i g l = l.waves ≡ map (base_start l.c) (range_with_len 0 l.i)

@@ -9,5 +9,6 @@ loop-i-preserved c =
 
 pub returns : goal.returns
 returns c =
-    let whole : take c.loop-i.i c.args.c.now.nets ≡ c.args.c.now.nets = take_all c.loop-i.i c.args.c.now.nets (let past = c.loop-i-test.false in let n = c.net_count-i-end.ensures in omega (arith, past, n)) in
+    let whole : take c.loop-i.i c.args.c.now.nets ≡ c.args.c.now.nets =
+    take_all c.loop-i.i c.args.c.now.nets (let past = c.loop-i-test.false in let n = c.net_count-i-end.ensures in omega (arith, past, n)) in
     subst AreNarrow whole c.loop-i.invariant

@@ -13,7 +13,8 @@ pub returns-in_err-listed-clause-is : goal.returns-in_err-listed-clause-is
 returns-in_err-listed-clause-is c =
     let i = c.loop-case.case-index in
     let w = c.case-item.result in
-    let next : drop i c.args.written.now ≡ w ∷ drop (i + 1) c.args.written.now = drop_more c.args.written.now i w c.loop-case-test.true ∙ ap (λ (x : CaseStmt). x ∷ drop (i + 1) c.args.written.now) (sym c.case-item.is) in
+    let next : drop i c.args.written.now ≡ w ∷ drop (i + 1) c.args.written.now =
+    drop_more c.args.written.now i w c.loop-case-test.true ∙ ap (λ (x : CaseStmt). x ∷ drop (i + 1) c.args.written.now) (sym c.case-item.is) in
     let p = err_from_is_err_and c.from_residual.result c.from_residual.ensures.1 in
     rw (p.1, p.2) (passing-wrong c.args.c.now c.args.written.now (drop i c.args.written.now) (drop (i + 1) c.args.written.now) c.loop-case.cases w next c.loop-case.invariant c.in_err-listed.field-0.0
     (subst (λ (es : List CaseEntry). IsCaseStop c.args.c.now es c.in_err-listed.field-0.0) c.as_slice.ensures c.in_err-listed.ensures.is))
@@ -22,10 +23,12 @@ pub loop-case-preserved : goal.loop-case-preserved
 loop-case-preserved c =
     let i = c.loop-case.case-index in
     let w = c.case-item.result in
-    let next : drop i c.args.written.now ≡ w ∷ drop (i + 1) c.args.written.now = drop_more c.args.written.now i w c.loop-case-test.true ∙ ap (λ (x : CaseStmt). x ∷ drop (i + 1) c.args.written.now) (sym c.case-item.is) in
+    let next : drop i c.args.written.now ≡ w ∷ drop (i + 1) c.args.written.now =
+    drop_more c.args.written.now i w c.loop-case-test.true ∙ ap (λ (x : CaseStmt). x ∷ drop (i + 1) c.args.written.now) (sym c.case-item.is) in
     let is : IsCaseOf c.args.c.now w.entries c.in_ok-listed.listed = subst (λ (es : List CaseEntry). IsCaseOf c.args.c.now es c.in_ok-listed.listed) c.as_slice.ensures c.in_ok-listed.ensures.is in
     subst (λ (cases : List (List CaseValue)). Passing c.args.c.now c.args.written.now (drop (i + 1) c.args.written.now) cases) (sym c.in_ok-push.ensures.ok)
-    (passing-more c.args.c.now c.args.written.now (drop i c.args.written.now) (drop (i + 1) c.args.written.now) c.loop-case.cases w next c.loop-case.invariant c.in_ok-listed.listed is c.in_ok-listed.ensures.listed)
+    (passing-more c.args.c.now c.args.written.now (drop i c.args.written.now) (drop (i + 1) c.args.written.now)
+    c.loop-case.cases w next c.loop-case.invariant c.in_ok-listed.listed is c.in_ok-listed.ensures.listed)
 
 pub returns-clause-each : goal.returns-clause-each
 returns-clause-each c =

@@ -1,18 +1,18 @@
-use Rattle.std.proofs.Common.{◌∙◌, length, map, take}
-use Rattle.std.proofs.lemmas.List.{length-map}
-use Rattle.skew_algebra.specs.Wave.{skewed}
+use Rattle.std.proofs.Common.{length, take}
 use Rattle.fixpoint_engine.specs.Settled.{marked_in, waves_of}
 use Rattle.case_analysis.proofs.Cases.{case-fits, case-more, long-more}
 use Rattle.case_analysis.proofs.case_rounds.start_waves.Goals as goal
 
 pub loop-value-preserved : goal.loop-value-preserved
 loop-value-preserved g c = record {
-  each_net = long-more (length c.args.c.now.nets) c.loop-value.value-index c.as_slice-value-items.result.now _ c.loop-value.waves c.set.new.self c.in_ok-constant.constant c.set.ensures c.loop-value.invariant.each_net;
-  is = case-more (λ s. skewed (g.W.CyclicWave.cells s.wave) s.skew) c.args.c.now c.header.result.now c.args.case.now c.as_slice-value-items.result.now c.loop-value.value-index _ (marked_in c.args.cone.now) (waves_of (map (λ s. skewed (g.W.CyclicWave.cells s.wave) s.skew) c.args.before.now))
-      c.loop-value.waves c.set.new.self c.in_ok-constant.constant c.as_slice-value-items.ensures c.loop-value-test.true c.requires.exist c.loop-value.invariant.each_net c.set.ensures c.header.ensures c.in_ok-constant.ensures.wave c.loop-value.invariant.is;
+  each_net = long-more (length c.args.c.now.nets) c.loop-value.value-index c.as_slice-value-items.result.now
+      _ c.loop-value.waves c.set.new.self c.in_ok-constant.constant c.set.ensures c.loop-value.invariant.each_net;
+  is = case-more c.args.c.now c.header.result.now c.args.case.now c.as_slice-value-items.result.now c.loop-value.value-index _ (marked_in c.args.cone.now) (waves_of c.args.before.now)
+      c.loop-value.waves c.set.new.self c.in_ok-constant.constant c.as_slice-value-items.ensures c.loop-value-test.true
+      c.requires.exist c.loop-value.invariant.each_net c.set.ensures c.header.ensures c.in_ok-constant.ensures.wave c.loop-value.invariant.is;
 }
 
 pub returns-clause-fit : goal.returns-clause-fit
 returns-clause-fit g c =
-    case-fits c.args.c.now (take c.loop-value.value-index c.args.case.now) (marked_in c.args.cone.now) (map (λ s. skewed (g.W.CyclicWave.cells s.wave) s.skew) c.args.before.now) (map (λ s. skewed (g.W.CyclicWave.cells s.wave) s.skew) c.loop-value.waves)
-    c.requires.fit (length-map c.loop-value.waves (λ s. skewed (g.W.CyclicWave.cells s.wave) s.skew) ∙ c.loop-value.invariant.each_net) c.loop-value.invariant.is
+    case-fits c.args.c.now (take c.loop-value.value-index c.args.case.now) (marked_in c.args.cone.now) c.args.before.now c.loop-value.waves
+    c.requires.fit c.loop-value.invariant.each_net c.loop-value.invariant.is

@@ -1,5 +1,4 @@
-use Rattle.std.proofs.Common.{◌≡◌, ℕ, length, map, take}
-use Rattle.skew_algebra.specs.Wave.{skewed}
+use Rattle.std.proofs.Common.{◌≡◌, ℕ, length, take}
 use Rattle.fixpoint_engine.specs.Settled.{marked_in, waves_of}
 use Rattle.case_analysis.specs.Case.{case_start}
 use Rattle.case_analysis.proofs.case_rounds.start_waves.Given as goal
@@ -7,6 +6,6 @@ use Rattle.case_analysis.proofs.case_rounds.start_waves.Given as goal
 abbrev pub invariant-loop-value : goal.invariant-loop-value
 invariant-loop-value g l = record {
   each_net : length l.waves ≡ length l.c.nets;
-  is : (i : ℕ) → waves_of (map (λ s. skewed (g.W.CyclicWave.cells s.wave) s.skew) l.waves) i
-      ≡ case_start l.c (take l.value-index l.case) (marked_in l.cone) (waves_of (map (λ s. skewed (g.W.CyclicWave.cells s.wave) s.skew) l.before)) i;
+  is : (i : ℕ) → waves_of l.waves i
+      ≡ case_start l.c (take l.value-index l.case) (marked_in l.cone) (waves_of l.before) i;
 }

@@ -17,7 +17,8 @@ loop-value-init c = record {
 pub loop-value-preserved : goal.loop-value-preserved
 loop-value-preserved c = record {
   each_net = c.in_ok-add.ensures.adds.each_net ∙ c.loop-value.invariant.each_net;
-  marks = set-more c.args.case.now c.as_slice-value-items.result.now c.loop-value.value-index _ c.loop-value.found c.add.new.self c.as_slice-value-items.ensures c.loop-value-test.true c.in_ok-add.ensures c.loop-value.invariant.marks;
+  marks = set-more c.args.case.now c.as_slice-value-items.result.now c.loop-value.value-index _ c.loop-value.found
+      c.add.new.self c.as_slice-value-items.ensures c.loop-value-test.true c.in_ok-add.ensures c.loop-value.invariant.marks;
 }
 
 pub nets-init : goal.nets-init
@@ -40,7 +41,8 @@ nets-smaller c =
 
 pub nets-preserved : goal.nets-preserved
 nets-preserved c =
-    closing-more c.args.c.now c.args.case.now c.nets.found c.add_hearers.new.self c.nets.next c.in-Some.net c.in-Some.ensures.once (sym c.in-Some.ensures.is) c.nets.invariant c.in_ok-add_hearers.ensures
+    closing-more c.args.c.now c.args.case.now c.nets.found c.add_hearers.new.self c.nets.next
+    c.in-Some.net c.in-Some.ensures.once (sym c.in-Some.ensures.is) c.nets.invariant c.in_ok-add_hearers.ensures
 
 pub returns-clause-is : goal.returns-clause-is
 returns-clause-is c =

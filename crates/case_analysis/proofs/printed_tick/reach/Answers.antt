@@ -11,6 +11,7 @@ loop-k-preserved c =
     let one = c.looks_back.ensures.bounded in
     record {
       is = subst (λ n. max n (farthest c.args.c.now.nets (drop (c.loop-k.k + 1) c.args.c.now.instances)) ≡ farthest c.args.c.now.nets c.args.c.now.instances) (sym greater)
-          (far-more c.args.c.now.nets c.args.c.now.instances c.loop-k.k c.instance_of.result.now c.loop-k.farthest c.looks_back.result c.instance_of.ensures c.looks_back.ensures.is c.loop-k.invariant.is);
+          (far-more c.args.c.now.nets c.args.c.now.instances c.loop-k.k c.instance_of.result.now
+          c.loop-k.farthest c.looks_back.result c.instance_of.ensures c.looks_back.ensures.is c.loop-k.invariant.is);
       bounded = omega (arith, greater, before, one);
     }

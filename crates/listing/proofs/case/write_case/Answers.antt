@@ -1,6 +1,5 @@
-use Rattle.std.proofs.Common.{◌++◌, map, refl, ap}
+use Rattle.std.proofs.Common.{◌++◌, refl, ap}
 use Rattle.scald_base.proofs.Device.{at_err}
-use Rattle.skew_algebra.specs.Wave.{skewed}
 use Rattle.fixpoint_engine.specs.Settled.{waves_of}
 use Rattle.listing.specs.Case.{case_line, case_lines, shown_faults, shown_waves}
 use Rattle.listing.proofs.Parts.{three-first, three-second, three-err}
@@ -10,7 +9,7 @@ pub returns-in_err-add_case-clause-err : goal.returns-in_err-add_case-clause-err
 returns-in_err-add_case-clause-err g c =
     let a = c.args in
     let s = c.args.settled.now in
-    let all = waves_of (map (λ s. skewed (g.W.CyclicWave.cells s.wave) s.skew) s.waves) in
+    let all = waves_of s.waves in
     at_err c.from_residual.result
     (three-first a.out.now c.add_case.new.out (case_line a.number a.base s.rounds a.tick) (shown_waves a.c.now a.mode all) (shown_faults a.c.now a.mode a.faults.now)
     (case_lines a.c.now a.mode a.number a.base s.rounds a.tick all a.faults.now) refl c.in_err-add_case.ensures.err)
@@ -19,7 +18,7 @@ pub returns-in_err-add_shown_waves-clause-err : goal.returns-in_err-add_shown_wa
 returns-in_err-add_shown_waves-clause-err g c =
     let a = c.args in
     let s = c.args.settled.now in
-    let all = waves_of (map (λ s. skewed (g.W.CyclicWave.cells s.wave) s.skew) s.waves) in
+    let all = waves_of s.waves in
     at_err c.from_residual-in_err-add_shown_waves.result
     (three-second a.out.now c.add_case.new.out c.add_shown_waves.new.out (case_line a.number a.base s.rounds a.tick) (shown_waves a.c.now a.mode all) (shown_faults a.c.now a.mode a.faults.now)
     (case_lines a.c.now a.mode a.number a.base s.rounds a.tick all a.faults.now) refl c.in_ok-add_case.ensures.ok c.in_err-add_shown_waves.ensures.err)
@@ -28,7 +27,7 @@ pub returns-clause-err : goal.returns-clause-err
 returns-clause-err g c =
     let a = c.args in
     let s = c.args.settled.now in
-    let all = waves_of (map (λ s. skewed (g.W.CyclicWave.cells s.wave) s.skew) s.waves) in
+    let all = waves_of s.waves in
     three-err c.add_shown_faults.result a.out.now c.add_case.new.out c.add_shown_waves.new.out c.add_shown_faults.new.out
     (case_line a.number a.base s.rounds a.tick) (shown_waves a.c.now a.mode all) (shown_faults a.c.now a.mode c.as_slice.result.now)
     (case_lines a.c.now a.mode a.number a.base s.rounds a.tick all a.faults.now)

@@ -11,6 +11,7 @@ loop-k-preserved c =
     let one = c.from-count.ensures ∙ byte-is c.has_output.result in
     let few : c.from-count.result ≤ 1 = subst (λ (n : ℕ). n ≤ 1) (sym one) (one-at-most c.has_output.result) in
     record {
-      counted = ap (λ (n : ℕ). n + c.from-count.result) c.loop-k.invariant.counted ∙ ap (λ (n : ℕ). outputs (take k js) + n) one ∙ sym (outputs-more js k c.has_output.result within c.has_output.ensures);
+      counted = ap (λ (n : ℕ). n + c.from-count.result) c.loop-k.invariant.counted
+          ∙ ap (λ (n : ℕ). outputs (take k js) + n) one ∙ sym (outputs-more js k c.has_output.result within c.has_output.ensures);
       few = omega (arith, c.loop-k.invariant.few, few);
     }

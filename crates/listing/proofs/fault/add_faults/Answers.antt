@@ -6,4 +6,5 @@ use Rattle.listing.proofs.fault.add_faults.Goals as goal
 pub returns-in_err-add_fault-clause-err : goal.returns-in_err-add_fault-clause-err
 returns-in_err-add_fault-clause-err c =
     at_err c.from_residual.result
-    (part-of-item (fault_line c.args.c.now) c.args.faults.now c.loop-fault.fault-index _ c.args.out.now c.loop-fault.out c.add_fault.new.out c.loop-fault-test.true c.loop-fault.invariant c.in_err-add_fault.ensures.err)
+    (part-of-item (fault_line c.args.c.now) c.args.faults.now c.loop-fault.fault-index _ c.args.out.now
+    c.loop-fault.out c.add_fault.new.out c.loop-fault-test.true c.loop-fault.invariant c.in_err-add_fault.ensures.err)

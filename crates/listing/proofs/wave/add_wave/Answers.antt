@@ -1,8 +1,6 @@
-use Rattle.std.proofs.Common.{◌∙◌, ◌∷◌, [], get_or, ap}
+use Rattle.std.proofs.Common.{◌∙◌, ◌∷◌, [], get_or, refl, ap}
 use Rattle.scald_base.proofs.Device.{at_err}
-use Rattle.skew_algebra.specs.Wave.{skewed}
 use Rattle.fixpoint_engine.specs.Settled.{waves_of}
-use Rattle.std.specs.Prelude.{map}
 use Rattle.listing.specs.Piece.{piece_text}
 use Rattle.listing.specs.Run.{runs_text}
 use Rattle.listing.specs.Wave.{wave_line}
@@ -14,36 +12,39 @@ pub returns-in_err-add_pieces-clause-err : goal.returns-in_err-add_pieces-clause
 returns-in_err-add_pieces-clause-err g c =
     let found = c.index-as_slice-net.result in
     at_err c.from_residual.result
-    (three-first c.args.out.now c.add_pieces.new.out (before_runs (piece_text c.net_piece.result) c.from.result) (runs_text (g.W.CyclicWave.cells found.wave)) (10 ∷ [])
-    (wave_line c.args.c.now (waves_of (map (λ s. skewed (g.W.CyclicWave.cells s.wave) s.skew) c.args.waves.now)) c.args.net)
-    (line-of (λ s. skewed (g.W.CyclicWave.cells s.wave) s.skew) c.args.c.now c.args.waves.now c.args.net found (piece_text c.net_piece.result) c.from.result
-    c.requires (c.index-as_slice-net.is ∙ ap (λ xs. get_or xs c.args.net found) c.as_slice.ensures) c.net_piece.ensures c.from.ensures)
+    (three-first c.args.out.now c.add_pieces.new.out (before_runs (piece_text c.net_piece.result) c.from.result) (runs_text found.cells) (10 ∷ [])
+    (wave_line c.args.c.now (waves_of c.args.waves.now) c.args.net)
+    (line-of c.args.c.now c.args.waves.now c.args.net found (piece_text c.net_piece.result) c.from.result found.cells
+    c.requires (c.index-as_slice-net.is ∙ ap (λ xs. get_or xs c.args.net found) c.as_slice.ensures) c.net_piece.ensures (c.from.ensures ∙ c.skew.ensures) refl)
     c.in_err-add_pieces.ensures.err)
 
 pub returns-in_err-add_runs-clause-err : goal.returns-in_err-add_runs-clause-err
 returns-in_err-add_runs-clause-err g c =
     let found = c.index-as_slice-net.result in
+    let cells = g.W.CyclicWave.cells c.wave.result.now in
     at_err c.from_residual-in_err-add_runs.result
-    (three-second c.args.out.now c.add_pieces.new.out c.add_runs.new.out (before_runs (piece_text c.net_piece.result) c.from.result) (runs_text (g.W.CyclicWave.cells found.wave)) (10 ∷ [])
-    (wave_line c.args.c.now (waves_of (map (λ s. skewed (g.W.CyclicWave.cells s.wave) s.skew) c.args.waves.now)) c.args.net)
-    (line-of (λ s. skewed (g.W.CyclicWave.cells s.wave) s.skew) c.args.c.now c.args.waves.now c.args.net found (piece_text c.net_piece.result) c.from.result
-    c.requires (c.index-as_slice-net.is ∙ ap (λ xs. get_or xs c.args.net found) c.as_slice.ensures) c.net_piece.ensures c.from.ensures)
+    (three-second c.args.out.now c.add_pieces.new.out c.add_runs.new.out (before_runs (piece_text c.net_piece.result) c.from.result) (runs_text cells) (10 ∷ [])
+    (wave_line c.args.c.now (waves_of c.args.waves.now) c.args.net)
+    (line-of c.args.c.now c.args.waves.now c.args.net found (piece_text c.net_piece.result) c.from.result cells
+    c.requires (c.index-as_slice-net.is ∙ ap (λ xs. get_or xs c.args.net found) c.as_slice.ensures) c.net_piece.ensures (c.from.ensures ∙ c.skew.ensures) c.wave.ensures)
     c.in_ok-add_pieces.ensures.ok c.in_err-add_runs.ensures.err)
 
 pub returns-clause-ok : goal.returns-clause-ok
 returns-clause-ok g c =
     let found = c.index-as_slice-net.result in
-    three-ok c.add_line.result c.args.out.now c.add_pieces.new.out c.add_runs.new.out c.add_line.new.out (before_runs (piece_text c.net_piece.result) c.from.result) (runs_text (g.W.CyclicWave.cells found.wave)) (10 ∷ [])
-    (wave_line c.args.c.now (waves_of (map (λ s. skewed (g.W.CyclicWave.cells s.wave) s.skew) c.args.waves.now)) c.args.net)
-    (line-of (λ s. skewed (g.W.CyclicWave.cells s.wave) s.skew) c.args.c.now c.args.waves.now c.args.net found (piece_text c.net_piece.result) c.from.result
-    c.requires (c.index-as_slice-net.is ∙ ap (λ xs. get_or xs c.args.net found) c.as_slice.ensures) c.net_piece.ensures c.from.ensures)
+    let cells = g.W.CyclicWave.cells c.wave.result.now in
+    three-ok c.add_line.result c.args.out.now c.add_pieces.new.out c.add_runs.new.out c.add_line.new.out (before_runs (piece_text c.net_piece.result) c.from.result) (runs_text cells) (10 ∷ [])
+    (wave_line c.args.c.now (waves_of c.args.waves.now) c.args.net)
+    (line-of c.args.c.now c.args.waves.now c.args.net found (piece_text c.net_piece.result) c.from.result cells
+    c.requires (c.index-as_slice-net.is ∙ ap (λ xs. get_or xs c.args.net found) c.as_slice.ensures) c.net_piece.ensures (c.from.ensures ∙ c.skew.ensures) c.wave.ensures)
     c.in_ok-add_pieces.ensures.ok c.in_ok-add_runs.ensures.ok c.add_line.ensures.ok
 
 pub returns-clause-err : goal.returns-clause-err
 returns-clause-err g c =
     let found = c.index-as_slice-net.result in
-    three-err c.add_line.result c.args.out.now c.add_pieces.new.out c.add_runs.new.out c.add_line.new.out (before_runs (piece_text c.net_piece.result) c.from.result) (runs_text (g.W.CyclicWave.cells found.wave)) (10 ∷ [])
-    (wave_line c.args.c.now (waves_of (map (λ s. skewed (g.W.CyclicWave.cells s.wave) s.skew) c.args.waves.now)) c.args.net)
-    (line-of (λ s. skewed (g.W.CyclicWave.cells s.wave) s.skew) c.args.c.now c.args.waves.now c.args.net found (piece_text c.net_piece.result) c.from.result
-    c.requires (c.index-as_slice-net.is ∙ ap (λ xs. get_or xs c.args.net found) c.as_slice.ensures) c.net_piece.ensures c.from.ensures)
+    let cells = g.W.CyclicWave.cells c.wave.result.now in
+    three-err c.add_line.result c.args.out.now c.add_pieces.new.out c.add_runs.new.out c.add_line.new.out (before_runs (piece_text c.net_piece.result) c.from.result) (runs_text cells) (10 ∷ [])
+    (wave_line c.args.c.now (waves_of c.args.waves.now) c.args.net)
+    (line-of c.args.c.now c.args.waves.now c.args.net found (piece_text c.net_piece.result) c.from.result cells
+    c.requires (c.index-as_slice-net.is ∙ ap (λ xs. get_or xs c.args.net found) c.as_slice.ensures) c.net_piece.ensures (c.from.ensures ∙ c.skew.ensures) c.wave.ensures)
     c.in_ok-add_pieces.ensures.ok c.in_ok-add_runs.ensures.ok c.add_line.ensures.err

@@ -1,8 +1,7 @@
-use Rattle.std.proofs.Common.{ℕ, List, ◌∙◌, ◌<◌, ◌++◌, length, map, arith, ap, subst, sym}
+use Rattle.std.proofs.Common.{ℕ, List, ◌∙◌, ◌<◌, ◌++◌, length, arith, ap, subst, sym}
 use Rattle.std.specs.List.{flat_map}
 use Rattle.std.proofs.lemmas.List.{take_all}
 use Rattle.scald_base.proofs.Device.{at_err}
-use Rattle.skew_algebra.specs.Wave.{skewed}
 use Rattle.fixpoint_engine.specs.Settled.{waves_of}
 use Rattle.fixpoint_engine.proofs.Places.{order_long}
 use Rattle.listing.specs.Wave.{wave_line}
@@ -21,13 +20,13 @@ add_wave-requires g c =
     let long = order_long c.args.c.now.nets c.args.c.now.order c.known.ensures.by_name in
     let within : c.loop-place.place < length c.args.c.now.order = omega (arith, long, c.net_count-place-end.ensures, c.loop-place-test.true) in
     subst (λ (i : ℕ). i < length c.args.waves.now) (sym c.net_at.ensures)
-    (has-wave (λ s. skewed (g.W.CyclicWave.cells s.wave) s.skew) c.args.c.now c.args.waves.now c.loop-place.place c.known.ensures.by_name c.requires.each_net within)
+    (has-wave c.args.c.now c.args.waves.now c.loop-place.place c.known.ensures.by_name c.requires.each_net within)
 
 pub returns-in_err-add_wave-clause-err : goal.returns-in_err-add_wave-clause-err
 returns-in_err-add_wave-clause-err g c =
     let long = order_long c.args.c.now.nets c.args.c.now.order c.known.ensures.by_name in
     let within : c.loop-place.place < length c.args.c.now.order = omega (arith, long, c.net_count-place-end.ensures, c.loop-place-test.true) in
-    let all = waves_of (map (λ s. skewed (g.W.CyclicWave.cells s.wave) s.skew) c.args.waves.now) in
+    let all = waves_of c.args.waves.now in
     at_err c.from_residual.result
     (part-of-item (wave_line c.args.c.now all) c.args.c.now.order c.loop-place.place 0 c.args.out.now c.loop-place.out c.add_wave.new.out within c.loop-place.invariant
     (subst (λ (i : ℕ). HasPart c.loop-place.out c.add_wave.new.out (wave_line c.args.c.now all i)) c.net_at.ensures c.in_err-add_wave.ensures.err))
@@ -36,14 +35,14 @@ pub loop-place-preserved : goal.loop-place-preserved
 loop-place-preserved g c =
     let long = order_long c.args.c.now.nets c.args.c.now.order c.known.ensures.by_name in
     let within : c.loop-place.place < length c.args.c.now.order = omega (arith, long, c.net_count-place-end.ensures, c.loop-place-test.true) in
-    let all = waves_of (map (λ s. skewed (g.W.CyclicWave.cells s.wave) s.skew) c.args.waves.now) in
+    let all = waves_of c.args.waves.now in
     item-added (wave_line c.args.c.now all) c.args.c.now.order c.loop-place.place 0 c.args.out.now c.loop-place.out c.add_wave.new.out within c.loop-place.invariant
     (c.in_ok-add_wave.ensures.ok ∙ ap (λ (i : ℕ). c.loop-place.out ++ wave_line c.args.c.now all i) c.net_at.ensures)
 
 pub returns-clause-ok : goal.returns-clause-ok
 returns-clause-ok g c =
     let long = order_long c.args.c.now.nets c.args.c.now.order c.known.ensures.by_name in
-    let all = waves_of (map (λ s. skewed (g.W.CyclicWave.cells s.wave) s.skew) c.args.waves.now) in
+    let all = waves_of c.args.waves.now in
     c.loop-place.invariant
     ∙ ap (λ (l : List ℕ). c.args.out.now ++ flat_map (wave_line c.args.c.now all) l)
     (take_all c.loop-place.place c.args.c.now.order (omega (arith, long, c.net_count-place-end.ensures, c.loop-place-test.false)))

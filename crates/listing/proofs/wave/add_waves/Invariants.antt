@@ -1,10 +1,9 @@
-use Rattle.std.proofs.Common.{◌≡◌, ◌++◌, map, take}
+use Rattle.std.proofs.Common.{◌≡◌, ◌++◌, take}
 use Rattle.std.specs.List.{flat_map}
-use Rattle.skew_algebra.specs.Wave.{skewed}
 use Rattle.fixpoint_engine.specs.Settled.{waves_of}
 use Rattle.listing.specs.Wave.{wave_line}
 use Rattle.listing.proofs.wave.add_waves.Given as goal
 
 abbrev pub invariant-loop-place : goal.invariant-loop-place
 invariant-loop-place g l =
-    l.out ≡ l.fn.out ++ flat_map (wave_line l.c (waves_of (map (λ s. skewed (g.W.CyclicWave.cells s.wave) s.skew) l.waves))) (take l.place l.c.order)
+    l.out ≡ l.fn.out ++ flat_map (wave_line l.c (waves_of l.waves)) (take l.place l.c.order)

@@ -11,19 +11,19 @@ use Rattle.pin_waves.specs.Interface.{constant_wave}
 use Rattle.pin_waves.proofs.CodeSlots.{Permits-constant}
 use Rattle.pin_waves.proofs.interface.constant_wave.Goals as goal
 
-pub invariant_of-result : goal.invariant_of-result
-invariant_of-result g c = record {
-  is_normal = subst (λ l. IsNormal values (skewed l 0)) (sym c.in_ok-wave.ensures)
-      (uniform-normal values values_lawful c.period.result c.level.result (omega (arith, c.period.ensures.shortest)));
-}
+pub new-requires : goal.new-requires
+new-requires g c =
+    subst (λ l. IsNormal values (skewed l 0)) (sym c.in_ok-wave.ensures)
+    (uniform-normal values values_lawful c.period.result c.level.result (omega (arith, c.period.ensures.shortest)))
 
 pub returns-clause-permits : goal.returns-clause-permits
 returns-clause-permits g c n v =
     let same : skewed (g.W.CyclicWave.cells c.in_ok-wave.wave) 0 ≡ constant_wave c.args.h.now c.args.one =
     ap (λ l. skewed l 0) (c.in_ok-wave.ensures ∙ (λ i. slots (c.period.ensures.is i) (λ p. c.level.ensures i))) in
     let some : 0 < period c.args.h.now = omega (arith, c.period.ensures.shortest, c.period.ensures.is) in
-    subst (λ w. Permits values w n (λ t. c.args.one) v) (sym same) (Permits-constant c.args.h.now c.args.one n v some)
+    subst (λ w. Permits values w n (λ t. c.args.one) v) (sym (c.new.ensures ∙ same)) (Permits-constant c.args.h.now c.args.one n v some)
 
 pub returns-clause-sized : goal.returns-clause-sized
 returns-clause-sized g c =
-    ap length c.in_ok-wave.ensures ∙ length-slots c.period.result (λ p. c.level.result) ∙ c.period.ensures.is
+    ap (λ w. length w.cells) c.new.ensures
+    ∙ ap length c.in_ok-wave.ensures ∙ length-slots c.period.result (λ p. c.level.result) ∙ c.period.ensures.is

@@ -3,12 +3,12 @@ use Rattle.std.proofs.lemmas.Result.{IfOk-weaker}
 use Rattle.scald_base.specs.Time.{period}
 use Rattle.step_values.specs.Cell.{values}
 use Rattle.wave_core.proofs.Slots.{length-slots}
-use Rattle.skew_algebra.specs.Wave.{skewed, folded}
+use Rattle.skew_algebra.specs.Wave.{folded}
 use Rattle.pin_waves.proofs.interface.wide_wave.Goals as goal
 
 pub returns-clause-sized : goal.returns-clause-sized
 returns-clause-sized g c =
-    let wave = skewed (g.W.CyclicWave.cells c.in_ok-wave.wave.wave) c.in_ok-wave.wave.skew in
+    let wave = c.in_ok-wave.wave in
     IfOk-weaker c.folded.result
     (λ w. g.W.CyclicWave.cells w ≡ folded values wave)
     (λ w. length (g.W.CyclicWave.cells w) ≡ period c.args.h.now)

@@ -12,7 +12,7 @@ invariant_of-result g c =
     let some : 0 < length cells = let p = (g.met.W.CyclicWave.sized c.args.wave).shortest in omega (arith, p) in
     let same : g.W.CyclicWave.cells c.in_ok-steady.steady ≡ slots (length cells) (λ p. joined k cells) =
     c.in_ok-steady.ensures ∙ (λ i. slots (c.period-period.ensures i) (λ p. c.joined.ensures i)) in
-    record { is_normal = subst (λ l. IsNormal k (skewed l 0)) (sym same) (uniform-normal k g.met.W.Item.Cell.laws (length cells) (joined k cells) some) }
+    subst (λ l. IsNormal k (skewed l 0)) (sym same) (uniform-normal k g.met.W.Item.Cell.laws (length cells) (joined k cells) some)
 
 pub returns-then-is_steady-clause-wave : goal.returns-then-is_steady-clause-wave
 returns-then-is_steady-clause-wave g c =
@@ -42,7 +42,7 @@ invariant_of-result-2 g c =
     let cells = g.W.CyclicWave.cells c.args.wave in
     let some : 0 < length cells = let p = (g.met.W.CyclicWave.sized c.args.wave).shortest in omega (arith, p) in
     let moving : is_steady k cells ≡ false = search rules in
-    record { is_normal = subst (λ s. IsNormal k (skewed cells s)) (sym c.capped-skew.ensures) (moving-normal k g.met.W.Item.Cell.laws (skewed cells c.args.skew) some moving) }
+    subst (λ s. IsNormal k (skewed cells s)) (sym c.capped-skew.ensures) (moving-normal k g.met.W.Item.Cell.laws (skewed cells c.args.skew) some moving)
 
 pub returns-clause-wave : goal.returns-clause-wave
 returns-clause-wave g c =
