@@ -18,3 +18,5 @@ pub mod Rows
 pub mod Tables
 pub mod Counts
 pub mod Ends
+pub mod Splits
+pub mod SplitExamples

@@ -3,7 +3,8 @@
 //! The layer above makes one by a `Builder`, which numbers the nets and takes instances, and whose
 //! `finish` refuses two drivers of a net and loops without delay. The layers that evaluate read a
 //! `Circuit` by its methods. `specs/Circuit` says what holds of each circuit, `specs/Builder` what a
-//! builder makes of each call, and `specs/Run` and `specs/Equation` what a run of a circuit is.
+//! builder makes of each call, `specs/Run` and `specs/Equation` what a run of a circuit is, and
+//! `specs/Split` what a gate with two delays does in it.
 #![tactic(auto)]
 
 mod assertions;
@@ -22,6 +23,7 @@ mod order;
 mod passages;
 mod readers;
 mod search;
+mod split;
 
 pub use assertions::is_same_assertion;
 pub use builder::Builder;
@@ -34,4 +36,5 @@ pub use laws::{
     fronts_are_runs, later_parts_are_runs, runs_go_by_instances, unnamed_bits_are_free,
 };
 pub use net::Net;
+pub use split::{Split, equal_delays_are_one, every_tick_counts, rise_mirrors_fall};
 pub use vector_names::Target;

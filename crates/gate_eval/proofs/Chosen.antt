@@ -17,7 +17,8 @@ use Rattle.gate_eval.specs.Meeting.{folds_in, period_of, HaveOnePeriod, meeting}
 use Rattle.gate_eval.specs.Gates.{gate_value}
 use Rattle.gate_eval.specs.Hold.{first_some, disturber, hazard, hazard_beside}
 use Rattle.gate_eval.specs.Change.{change_wave}
-use Rattle.gate_eval.specs.Instance.{MarkFits, image_by, gate_wave}
+use Rattle.flat_circuit.specs.Split.{may_split}
+use Rattle.gate_eval.specs.Instance.{MarkFits, image_by, gate_image, gate_wave}
 use Rattle.gate_eval.proofs.Fitting.{AllFit}
 use Rattle.gate_eval.proofs.Gathered.{folded-cells}
 use Rattle.gate_eval.proofs.Held.{first_some-none, map-none}
@@ -111,7 +112,8 @@ module _ {A P : Type 0} (folds : List A) (pins : List P) (cells : A → List Val
           let near : slot < period_of (map wave pins) = omega (arith, is) in
           same-disturber slot near
           ∙ map-none (λ pin. (slot, pin)) (disturber kind marked (folds_in values (map wave pins) slot))
-          (first_some-none (λ slot. option_map (λ pin. (slot, pin)) (disturber kind marked (folds_in values (map wave pins) slot))) (period_of (map wave pins)) 0 slot e (omega arith) (omega arith))) in
+          (first_some-none (λ slot. option_map (λ pin. (slot, pin)) (disturber kind marked (folds_in values (map wave pins) slot)))
+          (period_of (map wave pins)) 0 slot e (omega arith) (omega arith))) in
           let never : true ≡ false = sym (ap is_none nowhere) ∙ disturbed in
           cc
 
@@ -126,20 +128,19 @@ is_plain Mux4 = true
 is_plain Mux8 = true
 is_plain kind = false
 
-pub plain-is : (kind : Kind) (image : List Value → Value) (waves : List (Wave Value)) (marked : Option ℕ) (d : Bounds) (pins : ℕ) → image ≡ gate_value kind → is_plain kind ≡ true →
-    MarkFits kind marked pins → moved values (meeting values image waves) d ≡ gate_wave kind waves marked d
-unfolding gate_wave
-plain-is Buf image waves None d pins e plain mark = ap (λ (f : List Value → Value). moved values (meeting values f waves) d) e
-plain-is Xor image waves None d pins e plain mark = ap (λ (f : List Value → Value). moved values (meeting values f waves) d) e
-plain-is Mux2 image waves None d pins e plain mark = ap (λ (f : List Value → Value). moved values (meeting values f waves) d) e
-plain-is Mux4 image waves None d pins e plain mark = ap (λ (f : List Value → Value). moved values (meeting values f waves) d) e
-plain-is Mux8 image waves None d pins e plain mark = ap (λ (f : List Value → Value). moved values (meeting values f waves) d) e
-plain-is Buf image waves (Some i) d pins e plain mark = absurd mark
-plain-is Xor image waves (Some i) d pins e plain mark = absurd mark
-plain-is Mux2 image waves (Some i) d pins e plain mark = absurd mark
-plain-is Mux4 image waves (Some i) d pins e plain mark = absurd mark
-plain-is Mux8 image waves (Some i) d pins e plain mark = absurd mark
-plain-is kind image waves marked d pins e plain mark = cc
+pub plain-is : (kind : Kind) (image : List Value → Value) (waves : List (Wave Value)) (marked : Option ℕ) (pins : ℕ) → image ≡ gate_value kind → is_plain kind ≡ true →
+    MarkFits kind marked pins → meeting values image waves ≡ gate_image kind waves marked
+plain-is Buf image waves None pins e plain mark = ap (λ (f : List Value → Value). meeting values f waves) e
+plain-is Xor image waves None pins e plain mark = ap (λ (f : List Value → Value). meeting values f waves) e
+plain-is Mux2 image waves None pins e plain mark = ap (λ (f : List Value → Value). meeting values f waves) e
+plain-is Mux4 image waves None pins e plain mark = ap (λ (f : List Value → Value). meeting values f waves) e
+plain-is Mux8 image waves None pins e plain mark = ap (λ (f : List Value → Value). meeting values f waves) e
+plain-is Buf image waves (Some i) pins e plain mark = absurd mark
+plain-is Xor image waves (Some i) pins e plain mark = absurd mark
+plain-is Mux2 image waves (Some i) pins e plain mark = absurd mark
+plain-is Mux4 image waves (Some i) pins e plain mark = absurd mark
+plain-is Mux8 image waves (Some i) pins e plain mark = absurd mark
+plain-is kind image waves marked pins e plain mark = cc
 
 -- the kinds that a mark may stand at
 abbrev pub is_markable : Kind → Bool
@@ -147,12 +148,25 @@ is_markable And = true
 is_markable Or = true
 is_markable kind = false
 
-pub markable-is : (kind : Kind) (image : List Value → Value) (waves : List (Wave Value)) (marked : Option ℕ) (d : Bounds) → image ≡ gate_value kind → is_markable kind ≡ true →
-    moved values (image_by image waves marked (hazard kind waves marked)) d ≡ gate_wave kind waves marked d
+pub markable-is : (kind : Kind) (image : List Value → Value) (waves : List (Wave Value)) (marked : Option ℕ) → image ≡ gate_value kind → is_markable kind ≡ true →
+    image_by image waves marked (hazard kind waves marked) ≡ gate_image kind waves marked
+markable-is And image waves marked e m = ap (λ (f : List Value → Value). image_by f waves marked (hazard And waves marked)) e
+markable-is Or image waves marked e m = ap (λ (f : List Value → Value). image_by f waves marked (hazard Or waves marked)) e
+markable-is kind image waves marked e m = cc
+
+-- ---- with their delay
+
+pub delayed-is : (kind : Kind) (waves : List (Wave Value)) (marked : Option ℕ) (d : Bounds) → may_split kind ≡ true →
+    moved values (gate_image kind waves marked) d ≡ gate_wave kind waves marked d
 unfolding gate_wave
-markable-is And image waves marked d e m = ap (λ (f : List Value → Value). moved values (image_by f waves marked (hazard And waves marked)) d) e
-markable-is Or image waves marked d e m = ap (λ (f : List Value → Value). moved values (image_by f waves marked (hazard Or waves marked)) d) e
-markable-is kind image waves marked d e m = cc
+delayed-is Buf waves marked d h = refl
+delayed-is And waves marked d h = refl
+delayed-is Or waves marked d h = refl
+delayed-is Xor waves marked d h = refl
+delayed-is Mux2 waves marked d h = refl
+delayed-is Mux4 waves marked d h = refl
+delayed-is Mux8 waves marked d h = refl
+delayed-is kind waves marked d h = cc
 
 pub change-is : (kind : Kind) (waves : List (Wave Value)) (marked : Option ℕ) (d : Bounds) → kind ≡ Chg → normal values (change_wave waves d) ≡ gate_wave kind waves marked d
 unfolding gate_wave

@@ -16,3 +16,7 @@ pub mod Few
 pub mod Folding
 pub mod PermitExamples
 pub mod HoldExamples
+pub mod SplitWindows
+pub mod SplitSound
+pub mod SplitCovers
+pub mod SplitExamples

@@ -107,14 +107,14 @@ module _ (kind : Kind) (waves : List (Wave Value)) (n : ℕ) (xs : List Signal) 
       (λ t t1 tv tn c h. held-has kind marked (length waves) c xs t mark (omega (arith, long)) h
       (held-at kind waves marked n xs v t none some fits ps below t1 tv tn))
 
-  image-sound : (marked : Option ℕ) (h : Option (ℕ × ℕ)) → hazard kind waves marked ≡ h → MarkFits kind marked (length waves) →
+  pub image-sound : (marked : Option ℕ) (h : Option (ℕ × ℕ)) → hazard kind waves marked ≡ h → MarkFits kind marked (length waves) →
       Permits values (image_by (gate_value kind) waves marked h) n (λ t. gate_bit kind (bits_at xs t)) v
   unfolding hazard
   image-sound None h e mark = meeting-sound
   image-sound (Some marked) (Some h) e mark = meeting-sound
   image-sound (Some marked) None e mark = held-sound marked e mark
 
-  length-image : (marked : Option ℕ) (h : Option (ℕ × ℕ)) → MarkFits kind marked (length waves) → length (image_by (gate_value kind) waves marked h).cells ≡ period_of waves
+  pub length-image : (marked : Option ℕ) (h : Option (ℕ × ℕ)) → MarkFits kind marked (length waves) → length (image_by (gate_value kind) waves marked h).cells ≡ period_of waves
   length-image None h mark = length-meeting values (gate_value kind) waves
   length-image (Some marked) (Some h) mark = length-meeting values (gate_value kind) waves
   length-image (Some marked) None mark =

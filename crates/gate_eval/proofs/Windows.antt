@@ -56,7 +56,7 @@ ranges q p skew width some again =
     (all_to-at (λ i. all_to (λ o. q (i + o)) skew) width (min j width) h (omega arith)) (omega arith)))
 
 module _ {T : Type 0} (k : Cells T) where
-  earlier-back : (cells : List T) (p m o j : ℕ) → j ≡ m + o → earlier k cells p j ≡ earlier k cells (back (length cells) p m) o
+  pub earlier-back : (cells : List T) (p m o j : ℕ) → j ≡ m + o → earlier k cells p j ≡ earlier k cells (back (length cells) p m) o
   unfolding earlier
   earlier-back cells p m o j e =
       ap (λ (z : ℕ). get_or cells (back (length cells) p z) k.any) e

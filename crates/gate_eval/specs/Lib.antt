@@ -5,3 +5,5 @@ pub mod Hold
 pub mod Change
 pub mod Window
 pub mod Instance
+pub mod Split
+pub mod SplitWindow

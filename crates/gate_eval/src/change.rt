@@ -19,14 +19,15 @@ use step_values::Value;
 use wave_core::{Cell, CyclicWave};
 
 /// What a wave of this skew may hold in the slots `d.max` to `d.min` before each slot.
-fn window<W: CyclicWave<Item = Value>>(
+pub fn window<W: CyclicWave<Item = Value>>(
     alloc: Global,
     wave: &W,
     skew: u16,
     d: Delay,
 ) -> Result<W, NoMemory>
     requires { skew < 4096 }
-    ensures { IfOk result (λ w. W.cells w ≡ slots (length (W.cells wave.now)) (window_at (skewed (W.cells wave.now) skew) d)) }
+    ensures { IfOk result (λ w.
+        W.cells w ≡ slots (length (W.cells wave.now)) (window_at (skewed (W.cells wave.now) skew) d)) }
 {
     let turned = wave.rotate(alloc, d.min)?;
     let back = min(skew + (d.max - d.min), wave.period() - 1);
@@ -55,16 +56,17 @@ struct Gathered<W: CyclicWave> {
 impl<W: CyclicWave<Item = Value>> Gathered<W> {
     /// What is seen of one pin.
     fn first(alloc: Global, pin: &Skewed<W>) -> Result<Gathered<W>, NoMemory>
-        ensures seen { IfOk result (λ g. W.cells g.seen ≡ slots (length (W.cells pin.now.wave)) (λ p. S)) }
-        ensures last { IfOk result (λ g. skewed (W.cells g.last) g.skew ≡ skewed (W.cells pin.now.wave) pin.now.skew) }
+        ensures seen { IfOk result (λ g. W.cells g.seen ≡ slots (length pin.now.cells) (λ p. S)) }
+        ensures last { IfOk result (λ g. skewed (W.cells g.last) g.skew ≡ pin.now) }
         ensures short { IfOk result (λ g. g.skew < 4096) }
     {
-        let seen = W::uniform(alloc, pin.wave.period(), Value::S)?;
-        let last = pin.wave.copy(alloc)?;
+        pin.known();
+        let seen = W::uniform(alloc, pin.period(), Value::S)?;
+        let last = pin.wave().copy(alloc)?;
         Ok(Gathered {
             seen,
             last,
-            skew: pin.skew,
+            skew: pin.skew(),
         })
     }
 
@@ -72,7 +74,8 @@ impl<W: CyclicWave<Item = Value>> Gathered<W> {
     fn all(&self, alloc: Global, d: Delay) -> Result<W, NoMemory>
         requires one { length (W.cells self.now.seen) ≡ length (W.cells self.now.last) }
         requires short { self.now.skew < 4096 }
-        ensures { IfOk result (λ w. W.cells w ≡ slots (length (W.cells self.now.seen)) (found_at (W.cells self.now.seen) (skewed (W.cells self.now.last) self.now.skew) d)) }
+        ensures { IfOk result (λ w. W.cells w ≡ slots (length (W.cells self.now.seen))
+            (found_at (W.cells self.now.seen) (skewed (W.cells self.now.last) self.now.skew) d)) }
     {
         let window = window(alloc, &self.last, self.skew, d)?;
         joined(alloc, &self.seen, &window)
@@ -81,20 +84,23 @@ impl<W: CyclicWave<Item = Value>> Gathered<W> {
     /// Counts one pin more in.
     fn counted(self, alloc: Global, pin: &Skewed<W>, d: Delay) -> Result<Gathered<W>, NoMemory>
         requires one { length (W.cells self.seen) ≡ length (W.cells self.last) }
-        requires pin { length (W.cells self.last) ≡ length (W.cells pin.now.wave) }
+        requires pin { length (W.cells self.last) ≡ length pin.now.cells }
         requires short { self.skew < 4096 }
-        ensures { IfOk result (λ g. Counts (skewed (W.cells pin.now.wave) pin.now.skew) d (W.cells self.seen) (skewed (W.cells self.last) self.skew) (W.cells g.seen) (skewed (W.cells g.last) g.skew)) }
+        ensures { IfOk result (λ g. Counts pin.now d (W.cells self.seen)
+            (skewed (W.cells self.last) self.skew) (W.cells g.seen) (skewed (W.cells g.last) g.skew)) }
     {
-        let skew = pin.skew;
+        pin.known();
+        let cells = pin.wave();
+        let skew = pin.skew();
         if skew != self.skew {
             let seen = self.all(alloc, d)?;
-            let last = pin.wave.copy(alloc)?;
+            let last = cells.copy(alloc)?;
             return Ok(Gathered { seen, last, skew });
         }
-        if self.last.equal(&pin.wave) {
+        if self.last.equal(cells) {
             return Ok(self);
         }
-        let last = joined(alloc, &self.last, &pin.wave)?;
+        let last = joined(alloc, &self.last, cells)?;
         Ok(Gathered {
             seen: self.seen,
             last,
@@ -110,8 +116,8 @@ fn seen<W: CyclicWave<Item = Value>>(
     d: Delay,
 ) -> Result<W, NoMemory>
     requires some { 0 < length pins.now }
-    requires periods { HaveOnePeriod (map (λ p. skewed (W.cells p.wave.wave) p.wave.skew) pins.now) }
-    ensures { let waves = map (λ p. skewed (W.cells p.wave.wave) p.wave.skew) pins.now in
+    requires periods { HaveOnePeriod (map (λ p. p.wave) pins.now) }
+    ensures { let waves = map (λ p. p.wave) pins.now in
         IfOk result (λ w. W.cells w ≡ slots (period_of waves) (seen_at waves d)) }
 {
     let mut gathered = Gathered::first(alloc, &pins[0].wave)?;
@@ -148,8 +154,8 @@ pub fn change_wave<W: CyclicWave<Item = Value>>(
     d: Delay,
 ) -> Result<Skewed<W>, NoMemory>
     requires some { 0 < length pins.now }
-    requires periods { HaveOnePeriod (map (λ p. skewed (W.cells p.wave.wave) p.wave.skew) pins.now) }
-    ensures { IfOk result (λ s. skewed (W.cells s.wave) s.skew ≡ normal values (change (map (λ p. skewed (W.cells p.wave.wave) p.wave.skew) pins.now) d)) }
+    requires periods { HaveOnePeriod (map (λ p. p.wave) pins.now) }
+    ensures { IfOk result (λ s. s ≡ normal values (change (map (λ p. p.wave) pins.now) d)) }
 {
     let seen = seen(alloc, pins, d)?;
     let changes = changes(alloc, &seen)?;

@@ -7,12 +7,15 @@ ghost use Rattle.skew_algebra.specs.Wave.{moved, skewed};
 ghost use Rattle.gate_eval.specs.Meeting.{HaveOnePeriod, meeting};
 ghost use Rattle.gate_eval.specs.Gates.{passed_on};
 ghost use Rattle.gate_eval.specs.Hold.{hazard};
-ghost use Rattle.gate_eval.specs.Instance.{CountsFit, IsSound, MarkFits, gate_wave, held_wave, image_by, is_gate};
+ghost use Rattle.flat_circuit.specs.Split.{may_split};
+ghost use Rattle.gate_eval.specs.Instance.{CountsFit, IsSound, MarkFits, gate_image, gate_wave, held_wave, image_by, is_gate};
 
 use crate::change::change_wave;
 use crate::hold::{is_held, marked_pin};
 use crate::image::{FromLeft, OfEight, OfFour, OfTwo, PassedOn};
-use crate::meeting::{Image, by_folds, by_slots, folded_waves, kept_skew, late, met};
+use crate::meeting::{
+    Image, Made, by_folds, by_slots, folded_waves, kept_skew, late, met, met_at_once,
+};
 use crate::pin_wave::{PinWave, PinWaves};
 use flat_circuit::Kind;
 use scald_base::{Delay, NoMemory};
@@ -26,55 +29,105 @@ fn passing<W: CyclicWave<Item = Value>, I: Image>(
     alloc: Global,
     image: &I,
     pin: &Skewed<W>,
-    d: Delay,
-) -> Result<Skewed<W>, NoMemory>
-    ensures { IfOk result (λ s. skewed (W.cells s.wave) s.skew ≡ moved values (held_wave (I.value_of image.now) (skewed (W.cells pin.now.wave) pin.now.skew)) d) }
+) -> Result<Made<W>, NoMemory>
+    ensures made { IfOk result (λ m. skewed (W.cells m.wave) m.skew ≡ held_wave (I.value_of image.now) pin.now) }
+    ensures short { IfOk result (λ m. m.skew < 4096) }
 {
-    let made = pin.wave.map(alloc, |v| image.value(&[v, Value::S]))?;
-    late(alloc, &made, pin.skew, d)
+    pin.known();
+    let made = pin.wave().map(alloc, |v| image.value(&[v, Value::S]))?;
+    Ok(Made {
+        wave: made,
+        skew: pin.skew(),
+    })
 }
 
-/// What an AND or OR with a marked pin makes of its pins' waves. Each pin is folded once.
+/// What an AND or OR with a marked pin makes of its pins' waves, before its delay. Each pin is folded
+/// once.
 fn marked_gate<W: CyclicWave<Item = Value>, I: Image>(
     alloc: Global,
     kind: Kind,
     image: &I,
     pins: &[PinWave<W>],
     marked: usize,
-    d: Delay,
-) -> Result<Skewed<W>, NoMemory>
+) -> Result<Made<W>, NoMemory>
     requires marked { marked < length pins.now }
-    requires periods { HaveOnePeriod (map (λ p. skewed (W.cells p.wave.wave) p.wave.skew) pins.now) }
-    ensures { let waves = map (λ p. skewed (W.cells p.wave.wave) p.wave.skew) pins.now in
-        IfOk result (λ s. skewed (W.cells s.wave) s.skew ≡ moved values (image_by (I.value_of image.now) waves (Some marked) (hazard kind waves (Some marked))) d) }
+    requires periods { HaveOnePeriod (map (λ p. p.wave) pins.now) }
+    ensures made { let waves = map (λ p. p.wave) pins.now in
+        IfOk result (λ m. skewed (W.cells m.wave) m.skew
+        ≡ image_by (I.value_of image.now) waves (Some marked) (hazard kind waves (Some marked))) }
+    ensures short { IfOk result (λ m. m.skew < 4096) }
 {
     let folds = folded_waves(alloc, pins)?;
-    if is_held(kind, &folds, marked, pins[marked].wave.wave.period()) {
-        return passing(alloc, image, &pins[marked].wave, d);
+    if is_held(kind, &folds, marked, pins[marked].wave.period()) {
+        return passing(alloc, image, &pins[marked].wave);
     }
     match kept_skew(pins) {
-        Some(skew) => by_slots(alloc, image, pins, skew, d),
-        None => by_folds(alloc, image, pins, &folds, d),
+        Some(skew) => by_slots(alloc, image, pins, skew),
+        None => by_folds(alloc, image, pins, &folds),
     }
 }
 
-/// What an AND or OR makes of its pins' waves.
+/// What an AND or OR makes of its pins' waves, before its delay.
 fn markable_gate<W: CyclicWave<Item = Value>, I: Image>(
     alloc: Global,
     kind: Kind,
     image: &I,
     pins: &[PinWave<W>],
-    d: Delay,
-) -> Result<Skewed<W>, NoMemory>
+) -> Result<Made<W>, NoMemory>
     requires some { 0 < length pins.now }
-    requires periods { HaveOnePeriod (map (λ p. skewed (W.cells p.wave.wave) p.wave.skew) pins.now) }
-    ensures { let waves = map (λ p. skewed (W.cells p.wave.wave) p.wave.skew) pins.now in
-        IfOk result (λ s. skewed (W.cells s.wave) s.skew ≡ moved values (image_by (I.value_of image.now) waves (position (λ p. p.hold) pins.now) (hazard kind waves (position (λ p. p.hold) pins.now))) d) }
+    requires periods { HaveOnePeriod (map (λ p. p.wave) pins.now) }
+    ensures made { let waves = map (λ p. p.wave) pins.now in
+        IfOk result (λ m. skewed (W.cells m.wave) m.skew ≡ image_by (I.value_of image.now)
+        waves (position (λ p. p.hold) pins.now) (hazard kind waves (position (λ p. p.hold) pins.now))) }
+    ensures short { IfOk result (λ m. m.skew < 4096) }
 {
     match marked_pin(pins) {
-        Some(marked) => marked_gate(alloc, kind, image, pins, marked, d),
-        None => met(alloc, image, pins, d),
+        Some(marked) => marked_gate(alloc, kind, image, pins, marked),
+        None => met_at_once(alloc, image, pins),
     }
+}
+
+/// What a gate makes of these pins' waves, before its delay.
+pub fn at_once<W: CyclicWave<Item = Value>>(
+    alloc: Global,
+    kind: Kind,
+    pins: &[PinWave<W>],
+) -> Result<Made<W>, NoMemory>
+    requires gate { may_split kind ≡ true }
+    requires some { 0 < length pins.now }
+    requires mark { MarkFits kind (position (λ p. p.hold) pins.now) (length pins.now) }
+    requires periods { HaveOnePeriod (map (λ p. p.wave) pins.now) }
+    ensures made { IfOk result (λ m. skewed (W.cells m.wave) m.skew
+        ≡ gate_image kind (map (λ p. p.wave) pins.now) (position (λ p. p.hold) pins.now)) }
+    ensures short { IfOk result (λ m. m.skew < 4096) }
+{
+    match kind {
+        Kind::Buf => met_at_once(alloc, &PassedOn, pins),
+        Kind::And => markable_gate(alloc, kind, &FromLeft { table: and2() }, pins),
+        Kind::Or => markable_gate(alloc, kind, &FromLeft { table: or2() }, pins),
+        Kind::Xor => met_at_once(alloc, &FromLeft { table: xor2() }, pins),
+        Kind::Mux2 => met_at_once(alloc, &OfTwo, pins),
+        Kind::Mux4 => met_at_once(alloc, &OfFour, pins),
+        Kind::Mux8 => met_at_once(alloc, &OfEight, pins),
+        _ => unreachable!(),
+    }
+}
+
+/// What a gate makes of these pins' waves, late by its delay.
+fn delayed<W: CyclicWave<Item = Value>>(
+    alloc: Global,
+    kind: Kind,
+    pins: &[PinWave<W>],
+    d: Delay,
+) -> Result<Skewed<W>, NoMemory>
+    requires gate { may_split kind ≡ true }
+    requires some { 0 < length pins.now }
+    requires mark { MarkFits kind (position (λ p. p.hold) pins.now) (length pins.now) }
+    requires periods { HaveOnePeriod (map (λ p. p.wave) pins.now) }
+    ensures { IfOk result (λ s. s ≡ gate_wave kind (map (λ p. p.wave) pins.now) (position (λ p. p.hold) pins.now) d) }
+{
+    let made = at_once(alloc, kind, pins)?;
+    late(alloc, &made.wave, made.skew, d)
 }
 
 /// What a buffer makes of its only pin's wave: the same, late by its delay.
@@ -84,7 +137,7 @@ fn passed<W: CyclicWave<Item = Value>>(
     d: Delay,
 ) -> Result<Skewed<W>, NoMemory>
     requires { length pins.now ≡ 1 }
-    ensures { IfOk result (λ s. skewed (W.cells s.wave) s.skew ≡ moved values (meeting values passed_on (map (λ p. skewed (W.cells p.wave.wave) p.wave.skew) pins.now)) d) }
+    ensures { IfOk result (λ s. s ≡ moved values (meeting values passed_on (map (λ p. p.wave) pins.now)) d) }
 {
     pins[0].wave.moved(alloc, d)
 }
@@ -96,8 +149,8 @@ fn buffered<W: CyclicWave<Item = Value>>(
     d: Delay,
 ) -> Result<Skewed<W>, NoMemory>
     requires some { 0 < length pins.now }
-    requires periods { HaveOnePeriod (map (λ p. skewed (W.cells p.wave.wave) p.wave.skew) pins.now) }
-    ensures { IfOk result (λ s. skewed (W.cells s.wave) s.skew ≡ moved values (meeting values passed_on (map (λ p. skewed (W.cells p.wave.wave) p.wave.skew) pins.now)) d) }
+    requires periods { HaveOnePeriod (map (λ p. p.wave) pins.now) }
+    ensures { IfOk result (λ s. s ≡ moved values (meeting values passed_on (map (λ p. p.wave) pins.now)) d) }
 {
     if pins.len() == 1 {
         passed(alloc, pins, d)
@@ -116,19 +169,13 @@ fn evaluated<W: CyclicWave<Item = Value>>(
     requires gate { is_gate kind ≡ true }
     requires some { 0 < length pins.now }
     requires mark { MarkFits kind (position (λ p. p.hold) pins.now) (length pins.now) }
-    requires periods { HaveOnePeriod (map (λ p. skewed (W.cells p.wave.wave) p.wave.skew) pins.now) }
-    ensures { IfOk result (λ s. skewed (W.cells s.wave) s.skew ≡ gate_wave kind (map (λ p. skewed (W.cells p.wave.wave) p.wave.skew) pins.now) (position (λ p. p.hold) pins.now) d) }
+    requires periods { HaveOnePeriod (map (λ p. p.wave) pins.now) }
+    ensures { IfOk result (λ s. s ≡ gate_wave kind (map (λ p. p.wave) pins.now) (position (λ p. p.hold) pins.now) d) }
 {
     match kind {
         Kind::Buf => buffered(alloc, pins, d),
-        Kind::And => markable_gate(alloc, kind, &FromLeft { table: and2() }, pins, d),
-        Kind::Or => markable_gate(alloc, kind, &FromLeft { table: or2() }, pins, d),
-        Kind::Xor => met(alloc, &FromLeft { table: xor2() }, pins, d),
-        Kind::Mux2 => met(alloc, &OfTwo, pins, d),
-        Kind::Mux4 => met(alloc, &OfFour, pins, d),
-        Kind::Mux8 => met(alloc, &OfEight, pins, d),
         Kind::Chg => change_wave(alloc, pins, d),
-        _ => unreachable!(),
+        _ => delayed(alloc, kind, pins, d),
     }
 }
 
@@ -142,9 +189,10 @@ pub fn eval_gate<W: CyclicWave<Item = Value>>(
 ) -> Result<Skewed<W>, NoMemory>
     requires gate { is_gate kind ≡ true }
     requires pins { CountsFit kind (length pins.now) (count_by (λ p. p.hold) pins.now) }
-    requires periods { HaveOnePeriod (map (λ p. skewed (W.cells p.wave.wave) p.wave.skew) pins.now) }
-    ensures wave { IfOk result (λ s. skewed (W.cells s.wave) s.skew ≡ gate_wave kind (map (λ p. skewed (W.cells p.wave.wave) p.wave.skew) pins.now) (position (λ p. p.hold) pins.now) d) }
-    ensures sound { IfOk result (λ s. IsSound kind d (map (λ p. skewed (W.cells p.wave.wave) p.wave.skew) pins.now) (skewed (W.cells s.wave) s.skew)) }
+    requires periods { HaveOnePeriod (map (λ p. p.wave) pins.now) }
+    ensures wave { IfOk result (λ s.
+        s ≡ gate_wave kind (map (λ p. p.wave) pins.now) (position (λ p. p.hold) pins.now) d) }
+    ensures sound { IfOk result (λ s. IsSound kind d (map (λ p. p.wave) pins.now) s) }
 {
     evaluated(alloc, kind, pins.as_slice(), d)
 }

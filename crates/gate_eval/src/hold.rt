@@ -3,7 +3,7 @@
 
 ghost use Rattle.std.specs.Prelude.{◌≡◌, ◌<◌, ◌≤◌, ℕ, All, IfNone, IfSome, count_by, is_none, length, map, position};
 ghost use Rattle.step_values.specs.Cell.{values};
-ghost use Rattle.skew_algebra.specs.Wave.{cell_at, fold, skewed};
+ghost use Rattle.skew_algebra.specs.Wave.{cell_at, fold};
 ghost use Rattle.gate_eval.specs.Meeting.{HaveOnePeriod, folds_in};
 ghost use Rattle.gate_eval.specs.Hold.{KeepsMark, disturber, first_some, hazard, is_closed as closed};
 ghost use Rattle.gate_eval.specs.Instance.{CountsFit};
@@ -67,7 +67,8 @@ pub fn is_held<W: CyclicWave<Item = Value>>(
 ) -> bool
     requires marked { marked < length folds.now }
     requires period { All (λ w. length (W.cells w) ≡ period) folds.now }
-    ensures { result ≡ is_none (first_some (λ slot. disturber kind marked (map (λ w. cell_at values (W.cells w) slot) folds.now)) period 0) }
+    ensures { result ≡ is_none (first_some (λ slot.
+        disturber kind marked (map (λ w. cell_at values (W.cells w) slot) folds.now)) period 0) }
 {
     let mut slot = 0;
     'changes: while slot < period {
@@ -87,8 +88,8 @@ fn disturber_at<W: CyclicWave<Item = Value>>(
     slot: u16,
 ) -> Option<usize>
     requires marked { marked < length pins.now }
-    requires slot { All (λ p. slot < length (W.cells p.wave.wave)) pins.now }
-    ensures first { result ≡ disturber kind marked (folds_in values (map (λ p. skewed (W.cells p.wave.wave) p.wave.skew) pins.now) slot) }
+    requires slot { All (λ p. slot < length p.wave.cells) pins.now }
+    ensures first { result ≡ disturber kind marked (folds_in values (map (λ p. p.wave) pins.now) slot) }
     ensures within { IfSome result (λ i. i < length pins.now) }
 {
     if is_closed(kind, pins[marked].wave.fold_at(slot)) {
@@ -105,14 +106,16 @@ fn disturber_at<W: CyclicWave<Item = Value>>(
 /// A slot after this one, before which each slot may hold what this one may, however late the wave
 /// comes: up to it no change comes into what is folded, and none leaves it.
 fn same_fold_until<W: CyclicWave<Item = Value>>(wave: &Skewed<W>, slot: u16) -> u16
-    requires { slot < length (W.cells wave.now.wave) }
+    requires { slot < length wave.now.cells }
     ensures behind { slot < result }
-    ensures same { (p : ℕ) → slot ≤ p → p < result → fold values (skewed (W.cells wave.now.wave) wave.now.skew) p ≡ fold values (skewed (W.cells wave.now.wave) wave.now.skew) slot }
+    ensures same { (p : ℕ) → slot ≤ p → p < result → fold values wave.now p ≡ fold values wave.now slot }
 {
-    let period = wave.wave.period();
-    let first = (slot + (period - wave.skew)) % period;
-    let coming = wave.wave.same_until(slot);
-    let leaving = wave.wave.same_until(first);
+    wave.known();
+    let period = wave.period();
+    let cells = wave.wave();
+    let first = (slot + (period - wave.skew())) % period;
+    let coming = cells.same_until(slot);
+    let leaving = cells.same_until(first);
     min(coming, slot + (leaving - first))
 }
 
@@ -120,10 +123,10 @@ fn same_fold_until<W: CyclicWave<Item = Value>>(wave: &Skewed<W>, slot: u16) -> 
 /// period.
 fn next_fold_change<W: CyclicWave<Item = Value>>(pins: &[PinWave<W>], slot: u16, period: u16) -> u16
     requires slot { slot < period }
-    requires pins { All (λ p. length (W.cells p.wave.wave) ≡ period) pins.now }
+    requires pins { All (λ p. length p.wave.cells ≡ period) pins.now }
     ensures behind { slot < result }
     ensures within { result ≤ period }
-    ensures same { let waves = map (λ p. skewed (W.cells p.wave.wave) p.wave.skew) pins.now in
+    ensures same { let waves = map (λ p. p.wave) pins.now in
         (p : ℕ) → slot ≤ p → p < result → folds_in values waves p ≡ folds_in values waves slot }
 {
     let mut next = period;
@@ -137,11 +140,11 @@ fn next_fold_change<W: CyclicWave<Item = Value>>(pins: &[PinWave<W>], slot: u16,
 /// The hazard among these pins.
 fn hazard_among<W: CyclicWave<Item = Value>>(kind: Kind, pins: &[PinWave<W>]) -> Option<(u16, u16)>
     requires few { length pins.now ≤ 4096 }
-    requires periods { HaveOnePeriod (map (λ p. skewed (W.cells p.wave.wave) p.wave.skew) pins.now) }
-    ensures { result ≡ hazard kind (map (λ p. skewed (W.cells p.wave.wave) p.wave.skew) pins.now) (position (λ p. p.hold) pins.now) }
+    requires periods { HaveOnePeriod (map (λ p. p.wave) pins.now) }
+    ensures { result ≡ hazard kind (map (λ p. p.wave) pins.now) (position (λ p. p.hold) pins.now) }
 {
     let marked = marked_pin(pins)?;
-    let period = pins[marked].wave.wave.period();
+    let period = pins[marked].wave.period();
     let mut slot = 0;
     'changes: while slot < period {
         if let Some(pin) = disturber_at(kind, pins, marked, slot) {
@@ -157,9 +160,9 @@ fn hazard_among<W: CyclicWave<Item = Value>>(kind: Kind, pins: &[PinWave<W>]) ->
 /// such slot.
 pub fn hold_fault<W: CyclicWave<Item = Value>>(kind: Kind, pins: &PinWaves<W>) -> Option<(u16, u16)>
     requires pins { CountsFit kind (length pins.now) (count_by (λ p. p.hold) pins.now) }
-    requires periods { HaveOnePeriod (map (λ p. skewed (W.cells p.wave.wave) p.wave.skew) pins.now) }
-    ensures first { result ≡ hazard kind (map (λ p. skewed (W.cells p.wave.wave) p.wave.skew) pins.now) (position (λ p. p.hold) pins.now) }
-    ensures sound { IfNone result (KeepsMark kind (map (λ p. skewed (W.cells p.wave.wave) p.wave.skew) pins.now) (position (λ p. p.hold) pins.now)) }
+    requires periods { HaveOnePeriod (map (λ p. p.wave) pins.now) }
+    ensures first { result ≡ hazard kind (map (λ p. p.wave) pins.now) (position (λ p. p.hold) pins.now) }
+    ensures sound { IfNone result (KeepsMark kind (map (λ p. p.wave) pins.now) (position (λ p. p.hold) pins.now)) }
 {
     hazard_among(kind, pins.as_slice())
 }

@@ -25,6 +25,14 @@ pub trait Image {
         ensures { result ≡ value_of self.now found.now };
 }
 
+/// What an element makes of its pins' waves before its delay: a wave, and the most ticks by which the
+/// whole of it may be late. It need not be in normal form.
+#[derive(Drop)]
+pub struct Made<W: CyclicWave> {
+    pub wave: W,
+    pub skew: u16,
+}
+
 /// A wave that is not in normal form, late by a delay within the bounds.
 pub fn late<W: CyclicWave<Item = Value>>(
     alloc: Global,
@@ -33,7 +41,7 @@ pub fn late<W: CyclicWave<Item = Value>>(
     d: Delay,
 ) -> Result<Skewed<W>, NoMemory>
     requires { skew < 4096 }
-    ensures { IfOk result (λ s. skewed (W.cells s.wave) s.skew ≡ moved values (skewed (W.cells wave.now) skew) d) }
+    ensures { IfOk result (λ s. s ≡ moved values (skewed (W.cells wave.now) skew) d) }
 {
     let turned = wave.rotate(alloc, d.min)?;
     Skewed::normal(alloc, turned, skew + (d.max - d.min))
@@ -41,7 +49,7 @@ pub fn late<W: CyclicWave<Item = Value>>(
 
 /// The skew that is kept beside the slots: that of the one pin that moves. `None` where more move.
 pub fn kept_skew<W: CyclicWave<Item = Value>>(pins: &[PinWave<W>]) -> Option<u16>
-    ensures kept { result ≡ kept (movers values (map (λ p. skewed (W.cells p.wave.wave) p.wave.skew) pins.now)) }
+    ensures kept { result ≡ kept (movers values (map (λ p. p.wave) pins.now)) }
     ensures short { IfSome result (λ skew. skew < 4096) }
 {
     let mut moves = false;
@@ -52,7 +60,7 @@ pub fn kept_skew<W: CyclicWave<Item = Value>>(pins: &[PinWave<W>]) -> Option<u16
                 return None;
             }
             moves = true;
-            skew = pin.wave.skew;
+            skew = pin.wave.skew();
         }
     }
     Some(skew)
@@ -63,11 +71,11 @@ fn own_waves<W: CyclicWave<Item = Value>>(
     alloc: Global,
     pins: &[PinWave<W>],
 ) -> Result<Vec<W>, NoMemory>
-    ensures { IfOk result (λ ws. map (λ w. W.cells w) ws.items ≡ map (λ p. W.cells p.wave.wave) pins.now) }
+    ensures { IfOk result (λ ws. map (λ w. W.cells w) ws.items ≡ map (λ p. p.wave.cells) pins.now) }
 {
     let mut waves = Vec::with_capacity(alloc, pins.len())?;
     for pin in pins {
-        waves.push(pin.wave.wave.copy(alloc)?)?;
+        waves.push(pin.wave.wave().copy(alloc)?)?;
     }
     Ok(waves)
 }
@@ -77,7 +85,7 @@ pub fn folded_waves<W: CyclicWave<Item = Value>>(
     alloc: Global,
     pins: &[PinWave<W>],
 ) -> Result<Vec<W>, NoMemory>
-    ensures { IfOk result (λ ws. map (λ w. W.cells w) ws.items ≡ map (λ p. folded values (skewed (W.cells p.wave.wave) p.wave.skew)) pins.now) }
+    ensures { IfOk result (λ ws. map (λ w. W.cells w) ws.items ≡ map (λ p. folded values p.wave) pins.now) }
 {
     let mut waves = Vec::with_capacity(alloc, pins.len())?;
     for pin in pins {
@@ -108,7 +116,8 @@ pub fn next_change<W: CyclicWave<Item = Value>>(waves: &[W], slot: u16, period: 
     requires waves { All (λ w. length (W.cells w) ≡ period) waves.now }
     ensures behind { slot < result }
     ensures within { result ≤ period }
-    ensures same { (p : ℕ) → slot ≤ p → p < result → map (λ w. cell_at values (W.cells w) p) waves.now ≡ map (λ w. cell_at values (W.cells w) slot) waves.now }
+    ensures same { (p : ℕ) → slot ≤ p → p < result →
+        map (λ w. cell_at values (W.cells w) p) waves.now ≡ map (λ w. cell_at values (W.cells w) slot) waves.now }
 {
     let mut next = period;
     for wave in waves {
@@ -147,7 +156,8 @@ fn imaged_both<W: CyclicWave<Item = Value>, I: Image>(
     other: &W,
 ) -> Result<W, NoMemory>
     requires { length (W.cells one.now) ≡ length (W.cells other.now) }
-    ensures { IfOk result (λ w. W.cells w ≡ map (λ q. I.value_of image.now (q.0 ∷ q.1 ∷ [])) (zip (W.cells one.now) (W.cells other.now))) }
+    ensures { IfOk result (λ w.
+        W.cells w ≡ map (λ q. I.value_of image.now (q.0 ∷ q.1 ∷ [])) (zip (W.cells one.now) (W.cells other.now))) }
 {
     one.zip(alloc, other, |v, u| image.value(&[v, u]))
 }
@@ -161,7 +171,8 @@ fn imaged_slots<W: CyclicWave<Item = Value>, I: Image>(
 ) -> Result<W, NoMemory>
     requires period { IsPeriod period }
     requires waves { All (λ w. length (W.cells w) ≡ period) waves.now }
-    ensures { IfOk result (λ w. W.cells w ≡ slots period (λ p. I.value_of image.now (map (λ u. cell_at values (W.cells u) p) waves.now))) }
+    ensures { IfOk result (λ w.
+        W.cells w ≡ slots period (λ p. I.value_of image.now (map (λ u. cell_at values (W.cells u) p) waves.now))) }
 {
     let mut cells = Vec::with_capacity(alloc, period as usize)?;
     let mut found = Vec::with_capacity(alloc, waves.len())?;
@@ -177,7 +188,7 @@ fn imaged_slots<W: CyclicWave<Item = Value>, I: Image>(
 }
 
 /// What an element makes of the waves in each slot of the period.
-fn imaged<W: CyclicWave<Item = Value>, I: Image>(
+pub fn imaged<W: CyclicWave<Item = Value>, I: Image>(
     alloc: Global,
     image: &I,
     waves: &[W],
@@ -185,7 +196,8 @@ fn imaged<W: CyclicWave<Item = Value>, I: Image>(
 ) -> Result<W, NoMemory>
     requires period { IsPeriod period }
     requires waves { All (λ w. length (W.cells w) ≡ period) waves.now }
-    ensures { IfOk result (λ w. W.cells w ≡ slots period (λ p. I.value_of image.now (map (λ u. cell_at values (W.cells u) p) waves.now))) }
+    ensures { IfOk result (λ w.
+        W.cells w ≡ slots period (λ p. I.value_of image.now (map (λ u. cell_at values (W.cells u) p) waves.now))) }
 {
     match waves {
         [only] => imaged_alone(alloc, image, only),
@@ -200,17 +212,17 @@ pub fn by_slots<W: CyclicWave<Item = Value>, I: Image>(
     image: &I,
     pins: &[PinWave<W>],
     skew: u16,
-    d: Delay,
-) -> Result<Skewed<W>, NoMemory>
+) -> Result<Made<W>, NoMemory>
     requires some { 0 < length pins.now }
-    requires periods { HaveOnePeriod (map (λ p. skewed (W.cells p.wave.wave) p.wave.skew) pins.now) }
-    requires short { skew < 4096 }
-    ensures { let waves = map (λ p. skewed (W.cells p.wave.wave) p.wave.skew) pins.now in
-        IfOk result (λ s. skewed (W.cells s.wave) s.skew ≡ moved values (skewed (slots (period_of waves) (λ p. I.value_of image.now (cells_in values waves p))) skew) d) }
+    requires periods { HaveOnePeriod (map (λ p. p.wave) pins.now) }
+    ensures made { let waves = map (λ p. p.wave) pins.now in
+        IfOk result (λ m. skewed (W.cells m.wave) m.skew
+        ≡ skewed (slots (period_of waves) (λ p. I.value_of image.now (cells_in values waves p))) skew) }
+    ensures skew { IfOk result (λ m. m.skew ≡ skew) }
 {
     let waves = own_waves(alloc, pins)?;
-    let made = imaged(alloc, image, &waves, pins[0].wave.wave.period())?;
-    late(alloc, &made, skew, d)
+    let made = imaged(alloc, image, &waves, pins[0].wave.period())?;
+    Ok(Made { wave: made, skew })
 }
 
 /// What an element makes of its pins' folds.
@@ -219,20 +231,45 @@ pub fn by_folds<W: CyclicWave<Item = Value>, I: Image>(
     image: &I,
     pins: &[PinWave<W>],
     folds: &[W],
-    d: Delay,
-) -> Result<Skewed<W>, NoMemory>
+) -> Result<Made<W>, NoMemory>
     requires some { 0 < length pins.now }
-    requires periods { HaveOnePeriod (map (λ p. skewed (W.cells p.wave.wave) p.wave.skew) pins.now) }
-    requires folds { map (λ w. W.cells w) folds.now ≡ map (λ p. folded values (skewed (W.cells p.wave.wave) p.wave.skew)) pins.now }
-    ensures { let waves = map (λ p. skewed (W.cells p.wave.wave) p.wave.skew) pins.now in
-        IfOk result (λ s. skewed (W.cells s.wave) s.skew ≡ moved values (skewed (slots (period_of waves) (λ p. I.value_of image.now (folds_in values waves p))) 0) d) }
+    requires periods { HaveOnePeriod (map (λ p. p.wave) pins.now) }
+    requires folds { map (λ w. W.cells w) folds.now ≡ map (λ p. folded values p.wave) pins.now }
+    ensures made { let waves = map (λ p. p.wave) pins.now in
+        IfOk result (λ m. skewed (W.cells m.wave) m.skew
+        ≡ skewed (slots (period_of waves) (λ p. I.value_of image.now (folds_in values waves p))) 0) }
+    ensures skew { IfOk result (λ m. m.skew ≡ 0) }
 {
-    let made = imaged(alloc, image, folds, pins[0].wave.wave.period())?;
-    late(alloc, &made, 0, d)
+    let made = imaged(alloc, image, folds, pins[0].wave.period())?;
+    Ok(Made {
+        wave: made,
+        skew: 0,
+    })
 }
 
-/// What an element makes of its pins' waves, late by its delay: with the skew of the pin that moves,
+/// What an element makes of its pins' waves before its delay: with the skew of the pin that moves,
 /// where at most one does, and else of the folds.
+pub fn met_at_once<W: CyclicWave<Item = Value>, I: Image>(
+    alloc: Global,
+    image: &I,
+    pins: &[PinWave<W>],
+) -> Result<Made<W>, NoMemory>
+    requires some { 0 < length pins.now }
+    requires periods { HaveOnePeriod (map (λ p. p.wave) pins.now) }
+    ensures made { IfOk result (λ m.
+        skewed (W.cells m.wave) m.skew ≡ meeting values (I.value_of image.now) (map (λ p. p.wave) pins.now)) }
+    ensures short { IfOk result (λ m. m.skew < 4096) }
+{
+    match kept_skew(pins) {
+        Some(skew) => by_slots(alloc, image, pins, skew),
+        None => {
+            let folds = folded_waves(alloc, pins)?;
+            by_folds(alloc, image, pins, &folds)
+        }
+    }
+}
+
+/// The same, late by the element's delay.
 pub fn met<W: CyclicWave<Item = Value>, I: Image>(
     alloc: Global,
     image: &I,
@@ -240,14 +277,10 @@ pub fn met<W: CyclicWave<Item = Value>, I: Image>(
     d: Delay,
 ) -> Result<Skewed<W>, NoMemory>
     requires some { 0 < length pins.now }
-    requires periods { HaveOnePeriod (map (λ p. skewed (W.cells p.wave.wave) p.wave.skew) pins.now) }
-    ensures { IfOk result (λ s. skewed (W.cells s.wave) s.skew ≡ moved values (meeting values (I.value_of image.now) (map (λ p. skewed (W.cells p.wave.wave) p.wave.skew) pins.now)) d) }
+    requires periods { HaveOnePeriod (map (λ p. p.wave) pins.now) }
+    ensures { IfOk result (λ s.
+        s ≡ moved values (meeting values (I.value_of image.now) (map (λ p. p.wave) pins.now)) d) }
 {
-    match kept_skew(pins) {
-        Some(skew) => by_slots(alloc, image, pins, skew, d),
-        None => {
-            let folds = folded_waves(alloc, pins)?;
-            by_folds(alloc, image, pins, &folds, d)
-        }
-    }
+    let made = met_at_once(alloc, image, pins)?;
+    late(alloc, &made.wave, made.skew, d)
 }

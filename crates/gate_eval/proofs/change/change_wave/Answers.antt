@@ -10,12 +10,12 @@ use Rattle.gate_eval.proofs.change.change_wave.Goals as goal
 pub returns : goal.returns
 returns g c =
     IfOk-weaker c.normal.result
-    (λ s. skewed (g.W.CyclicWave.cells s.wave) s.skew ≡ normal values (skewed (g.W.CyclicWave.cells c.in_ok-changes.changes) 0))
-    (λ s. skewed (g.W.CyclicWave.cells s.wave) s.skew ≡ normal values (change_wave (map (λ p. skewed (g.W.CyclicWave.cells p.wave.wave) p.wave.skew) c.args.pins.now) c.args.d))
+    (λ s. s ≡ normal values (skewed (g.W.CyclicWave.cells c.in_ok-changes.changes) 0))
+    (λ s. s ≡ normal values (change_wave (map (λ p. p.wave) c.args.pins.now) c.args.d))
     (λ s e. e ∙ ap (normal values)
-    (changes-by (map (λ p. skewed (g.W.CyclicWave.cells p.wave.wave) p.wave.skew) c.args.pins.now) c.args.d
+    (changes-by (map (λ p. p.wave) c.args.pins.now) c.args.d
     (g.W.CyclicWave.cells c.in_ok-seen.seen) (g.W.CyclicWave.cells c.in_ok-changes.changes)
-    (some-period c.args.pins.now (λ p. skewed (g.W.CyclicWave.cells p.wave.wave) p.wave.skew) c.requires.some
-    (λ p. let s : 2 ≤ length (g.W.CyclicWave.cells p.wave.wave) = (g.met.W.CyclicWave.sized p.wave.wave).shortest in omega arith))
+    (some-period c.args.pins.now (λ p. p.wave) c.requires.some
+    (λ p. let s : 2 ≤ length p.wave.cells = p.sized.shortest in omega arith))
     c.requires.periods c.in_ok-seen.ensures c.in_ok-changes.ensures))
     c.normal.ensures.wave

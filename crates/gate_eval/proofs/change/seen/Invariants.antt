@@ -6,6 +6,6 @@ use Rattle.gate_eval.proofs.change.seen.Given as goal
 
 abbrev pub invariant-loop-place : goal.invariant-loop-place
 invariant-loop-place g l =
-    StandsFor (map (λ p. skewed (g.W.CyclicWave.cells p.wave.wave) p.wave.skew) (take l.place l.pins)) l.d
-    (period_of (map (λ p. skewed (g.W.CyclicWave.cells p.wave.wave) p.wave.skew) l.pins))
+    StandsFor (map (λ p. p.wave) (take l.place l.pins)) l.d
+    (period_of (map (λ p. p.wave) l.pins))
     (g.W.CyclicWave.cells l.gathered.seen) (skewed (g.W.CyclicWave.cells l.gathered.last) l.gathered.skew)

@@ -2,7 +2,7 @@ use Rattle.std.proofs.Common.{◌≡◌, ◌<◌, ◌≤◌, ℕ, List, length, 
 use Rattle.std.specs.List.{position}
 use Rattle.std.proofs.lemmas.Result.{IfOk-weaker}
 use Rattle.std.proofs.lemmas.List.{length-map}
-use Rattle.skew_algebra.specs.Wave.{Wave, skewed}
+use Rattle.skew_algebra.specs.Wave.{Wave}
 use Rattle.gate_eval.specs.Meeting.{period_of}
 use Rattle.gate_eval.specs.Instance.{gate_wave, IsSound, MarkFits}
 use Rattle.gate_eval.proofs.Gathered.{some-period}
@@ -24,13 +24,14 @@ evaluated-requires-clause-mark g c =
 pub returns-clause-sound : goal.returns-clause-sound
 returns-clause-sound g c =
     IfOk-weaker c.evaluated.result
-    (λ s. skewed (g.W.CyclicWave.cells s.wave) s.skew ≡ gate_wave c.args.kind (map (λ p. skewed (g.W.CyclicWave.cells p.wave.wave) p.wave.skew) c.as_slice.result.now) (position (λ p. p.hold) c.as_slice.result.now) c.args.d)
-    (λ s. IsSound c.args.kind c.args.d (map (λ p. skewed (g.W.CyclicWave.cells p.wave.wave) p.wave.skew) c.args.pins.now) (skewed (g.W.CyclicWave.cells s.wave) s.skew))
-    (λ s e. subst (λ (w : Wave _). IsSound c.args.kind c.args.d (map (λ p. skewed (g.W.CyclicWave.cells p.wave.wave) p.wave.skew) c.args.pins.now) w)
-    (sym (e ∙ ap (λ (ps : List _). gate_wave c.args.kind (map (λ p. skewed (g.W.CyclicWave.cells p.wave.wave) p.wave.skew) ps) (position (λ p. p.hold) ps) c.args.d) c.as_slice.ensures))
-    (gate-sound c.args.kind (map (λ p. skewed (g.W.CyclicWave.cells p.wave.wave) p.wave.skew) c.args.pins.now) (position (λ p. p.hold) c.args.pins.now) c.args.d c.requires.gate
-    (subst (λ (n : ℕ). MarkFits c.args.kind (position (λ p. p.hold) c.args.pins.now) n) (sym (length-map c.args.pins.now (λ p. skewed (g.W.CyclicWave.cells p.wave.wave) p.wave.skew))) (mark-fits c.args.kind (λ p. p.hold) c.args.pins.now c.requires.pins.marks))
-    (some-period c.args.pins.now (λ p. skewed (g.W.CyclicWave.cells p.wave.wave) p.wave.skew) (some-pins c.args.kind (length c.args.pins.now) c.requires.pins.least)
-    (λ p. let s : 2 ≤ length (g.W.CyclicWave.cells p.wave.wave) = (g.met.W.CyclicWave.sized p.wave.wave).shortest in omega arith))
-    (pins-fit c.args.pins.now (λ p. skewed (g.W.CyclicWave.cells p.wave.wave) p.wave.skew) (period_of (map (λ p. skewed (g.W.CyclicWave.cells p.wave.wave) p.wave.skew) c.args.pins.now)) c.requires.periods (λ p. p.wave.is_normal))))
+    (λ s. s ≡ gate_wave c.args.kind (map (λ p. p.wave) c.as_slice.result.now) (position (λ p. p.hold) c.as_slice.result.now) c.args.d)
+    (λ s. IsSound c.args.kind c.args.d (map (λ p. p.wave) c.args.pins.now) s)
+    (λ s e. subst (λ (w : Wave _). IsSound c.args.kind c.args.d (map (λ p. p.wave) c.args.pins.now) w)
+    (sym (e ∙ ap (λ (ps : List _). gate_wave c.args.kind (map (λ p. p.wave) ps) (position (λ p. p.hold) ps) c.args.d) c.as_slice.ensures))
+    (gate-sound c.args.kind (map (λ p. p.wave) c.args.pins.now) (position (λ p. p.hold) c.args.pins.now) c.args.d c.requires.gate
+    (subst (λ (n : ℕ). MarkFits c.args.kind (position (λ p. p.hold) c.args.pins.now) n)
+    (sym (length-map c.args.pins.now (λ p. p.wave))) (mark-fits c.args.kind (λ p. p.hold) c.args.pins.now c.requires.pins.marks))
+    (some-period c.args.pins.now (λ p. p.wave) (some-pins c.args.kind (length c.args.pins.now) c.requires.pins.least)
+    (λ p. let s : 2 ≤ length p.wave.cells = p.sized.shortest in omega arith))
+    (pins-fit c.args.pins.now (λ p. p.wave) (period_of (map (λ p. p.wave) c.args.pins.now)) c.requires.periods (λ p. p.normal))))
     c.evaluated.ensures

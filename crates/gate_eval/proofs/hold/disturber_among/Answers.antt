@@ -10,7 +10,9 @@ use Rattle.gate_eval.proofs.hold.disturber_among.Goals.{else-pin-marked-via-then
 pub returns-then-is_closed : goal.returns-then-is_closed
 returns-then-is_closed g c =
     disturbs-closed c.args.kind c.args.marked (map (λ w. cell_at values (g.W.CyclicWave.cells w) c.args.slot) c.args.folds.now)
-    (ap (is_closed c.args.kind) (sym (value-among c.args.folds.now c.args.marked c.index-folds-marked.result c.args.slot c.at.result g.W.CyclicWave.cells c.requires.marked c.index-folds-marked.is c.at.ensures))
+    (ap (is_closed c.args.kind)
+    (sym (value-among c.args.folds.now c.args.marked c.index-folds-marked.result
+    c.args.slot c.at.result g.W.CyclicWave.cells c.requires.marked c.index-folds-marked.is c.at.ensures))
     ∙ sym c.is_closed.ensures ∙ c.if-is_closed.true)
 
 pub returns-then-not-quiet : goal.returns-then-not-quiet
@@ -18,7 +20,9 @@ returns-then-not-quiet g c =
     let long : length (map (λ w. cell_at values (g.W.CyclicWave.cells w) c.args.slot) c.args.folds.now) ≡ length c.args.folds.now =
     length-map c.args.folds.now (λ w. cell_at values (g.W.CyclicWave.cells w) c.args.slot) in
     disturbs c.args.kind c.args.marked (map (λ w. cell_at values (g.W.CyclicWave.cells w) c.args.slot) c.args.folds.now) c.loop-pin.pin
-    (ap (is_closed c.args.kind) (sym (value-among c.args.folds.now c.args.marked c.index-folds-marked.result c.args.slot c.at.result g.W.CyclicWave.cells c.requires.marked c.index-folds-marked.is c.at.ensures))
+    (ap (is_closed c.args.kind)
+    (sym (value-among c.args.folds.now c.args.marked c.index-folds-marked.result
+    c.args.slot c.at.result g.W.CyclicWave.cells c.requires.marked c.index-folds-marked.is c.at.ensures))
     ∙ sym c.is_closed.ensures ∙ c.if-is_closed.false)
     c.loop-pin.invariant (omega (arith, long))
     (beside-moves c.args.marked (map (λ w. cell_at values (g.W.CyclicWave.cells w) c.args.slot) c.args.folds.now) c.loop-pin.pin c.at-then-pin-marked.result
@@ -31,7 +35,8 @@ loop-pin-preserved g c =
     (elim c.else-pin-marked.branch [
       | else-pin-marked-via-then-pin-marked+else-not-quiet w ↦
           beside-quiet c.args.marked (map (λ u. cell_at values (g.W.CyclicWave.cells u) c.args.slot) c.args.folds.now) c.loop-pin.pin w.at-then-pin-marked.result
-          (value-among c.args.folds.now c.loop-pin.pin c.index-folds-pin.result c.args.slot w.at-then-pin-marked.result g.W.CyclicWave.cells (omega arith) c.index-folds-pin.is w.at-then-pin-marked.ensures)
+          (value-among c.args.folds.now c.loop-pin.pin c.index-folds-pin.result c.args.slot
+          w.at-then-pin-marked.result g.W.CyclicWave.cells (omega arith) c.index-folds-pin.is w.at-then-pin-marked.ensures)
           (search rules)
       | else-pin-marked-via-else-pin-marked w ↦
           beside-itself c.args.marked (map (λ u. cell_at values (g.W.CyclicWave.cells u) c.args.slot) c.args.folds.now) c.loop-pin.pin w.if-pin-marked.false
@@ -42,6 +47,8 @@ returns g c =
     let long : length (map (λ w. cell_at values (g.W.CyclicWave.cells w) c.args.slot) c.args.folds.now) ≡ length c.args.folds.now =
     length-map c.args.folds.now (λ w. cell_at values (g.W.CyclicWave.cells w) c.args.slot) in
     disturbs-none c.args.kind c.args.marked (map (λ w. cell_at values (g.W.CyclicWave.cells w) c.args.slot) c.args.folds.now)
-    (ap (is_closed c.args.kind) (sym (value-among c.args.folds.now c.args.marked c.index-folds-marked.result c.args.slot c.at.result g.W.CyclicWave.cells c.requires.marked c.index-folds-marked.is c.at.ensures))
+    (ap (is_closed c.args.kind)
+    (sym (value-among c.args.folds.now c.args.marked c.index-folds-marked.result
+    c.args.slot c.at.result g.W.CyclicWave.cells c.requires.marked c.index-folds-marked.is c.at.ensures))
     ∙ sym c.is_closed.ensures ∙ c.if-is_closed.false)
     (λ k below. c.loop-pin.invariant k (omega (arith, long)))

@@ -1,6 +1,5 @@
 use Rattle.std.proofs.Common.{◌≡◌, length, map, rules, arith, sym, ap, ◌∙◌, below_more}
 use Rattle.step_values.specs.Cell.{values}
-use Rattle.skew_algebra.specs.Wave.{skewed}
 use Rattle.gate_eval.specs.Meeting.{folds_in}
 use Rattle.gate_eval.specs.Hold.{is_closed}
 use Rattle.gate_eval.proofs.Found.{value-at, value-of-item, folds-long, beside-moves, beside-quiet, beside-itself, disturbs, disturbs-none, disturbs-closed}
@@ -9,19 +8,20 @@ use Rattle.gate_eval.proofs.hold.disturber_at.Goals.{else-place-marked-via-then-
 
 pub returns-then-is_closed-clause-first : goal.returns-then-is_closed-clause-first
 returns-then-is_closed-clause-first g c =
-    disturbs-closed c.args.kind c.args.marked (folds_in values (map (λ p. skewed (g.W.CyclicWave.cells p.wave.wave) p.wave.skew) c.args.pins.now) c.args.slot)
-    (ap (is_closed c.args.kind) (sym (value-at c.args.pins.now c.args.marked c.index-pins-marked.result c.args.slot c.fold_at.result (λ p. skewed (g.W.CyclicWave.cells p.wave.wave) p.wave.skew) c.requires.marked c.fold_at.ensures))
+    disturbs-closed c.args.kind c.args.marked (folds_in values (map (λ p. p.wave) c.args.pins.now) c.args.slot)
+    (ap (is_closed c.args.kind) (sym (value-at c.args.pins.now c.args.marked c.index-pins-marked.result c.args.slot c.fold_at.result (λ p. p.wave) c.requires.marked c.fold_at.ensures))
     ∙ sym c.is_closed.ensures ∙ c.if-is_closed.true)
 
 pub returns-then-not-quiet-clause-first : goal.returns-then-not-quiet-clause-first
 returns-then-not-quiet-clause-first g c =
-    let long : length (folds_in values (map (λ p. skewed (g.W.CyclicWave.cells p.wave.wave) p.wave.skew) c.args.pins.now) c.args.slot) ≡ length c.args.pins.now = folds-long c.args.pins.now c.args.slot (λ p. skewed (g.W.CyclicWave.cells p.wave.wave) p.wave.skew) in
-    disturbs c.args.kind c.args.marked (folds_in values (map (λ p. skewed (g.W.CyclicWave.cells p.wave.wave) p.wave.skew) c.args.pins.now) c.args.slot) c.loop-place.place
-    (ap (is_closed c.args.kind) (sym (value-at c.args.pins.now c.args.marked c.index-pins-marked.result c.args.slot c.fold_at.result (λ p. skewed (g.W.CyclicWave.cells p.wave.wave) p.wave.skew) c.requires.marked c.fold_at.ensures))
+    let long : length (folds_in values (map (λ p. p.wave) c.args.pins.now) c.args.slot) ≡ length c.args.pins.now = folds-long c.args.pins.now c.args.slot (λ p. p.wave) in
+    disturbs c.args.kind c.args.marked (folds_in values (map (λ p. p.wave) c.args.pins.now) c.args.slot) c.loop-place.place
+    (ap (is_closed c.args.kind) (sym (value-at c.args.pins.now c.args.marked c.index-pins-marked.result c.args.slot c.fold_at.result (λ p. p.wave) c.requires.marked c.fold_at.ensures))
     ∙ sym c.is_closed.ensures ∙ c.if-is_closed.false)
     c.loop-place.invariant (omega (arith, long))
-    (beside-moves c.args.marked (folds_in values (map (λ p. skewed (g.W.CyclicWave.cells p.wave.wave) p.wave.skew) c.args.pins.now) c.args.slot) c.loop-place.place c.fold_at-then-place-marked.result
-    (value-of-item c.args.pins.now c.loop-place.place c.index-pins-place.result c.args.slot c.fold_at-then-place-marked.result (λ p. skewed (g.W.CyclicWave.cells p.wave.wave) p.wave.skew) (omega arith) c.index-pins-place.is c.fold_at-then-place-marked.ensures)
+    (beside-moves c.args.marked (folds_in values (map (λ p. p.wave) c.args.pins.now) c.args.slot) c.loop-place.place c.fold_at-then-place-marked.result
+    (value-of-item c.args.pins.now c.loop-place.place c.index-pins-place.result c.args.slot
+    c.fold_at-then-place-marked.result (λ p. p.wave) (omega arith) c.index-pins-place.is c.fold_at-then-place-marked.ensures)
     c.if-place-marked.true (search rules))
 
 pub loop-place-preserved : goal.loop-place-preserved
@@ -29,16 +29,17 @@ loop-place-preserved g c =
     below_more _ _ c.loop-place.invariant
     (elim c.else-place-marked.branch [
       | else-place-marked-via-then-place-marked+else-not-quiet w ↦
-          beside-quiet c.args.marked (folds_in values (map (λ p. skewed (g.W.CyclicWave.cells p.wave.wave) p.wave.skew) c.args.pins.now) c.args.slot) c.loop-place.place w.fold_at-then-place-marked.result
-          (value-of-item c.args.pins.now c.loop-place.place c.index-pins-place.result c.args.slot w.fold_at-then-place-marked.result (λ p. skewed (g.W.CyclicWave.cells p.wave.wave) p.wave.skew) (omega arith) c.index-pins-place.is w.fold_at-then-place-marked.ensures)
+          beside-quiet c.args.marked (folds_in values (map (λ p. p.wave) c.args.pins.now) c.args.slot) c.loop-place.place w.fold_at-then-place-marked.result
+          (value-of-item c.args.pins.now c.loop-place.place c.index-pins-place.result c.args.slot
+          w.fold_at-then-place-marked.result (λ p. p.wave) (omega arith) c.index-pins-place.is w.fold_at-then-place-marked.ensures)
           (search rules)
-      | else-place-marked-via-else-place-marked w ↦ beside-itself c.args.marked (folds_in values (map (λ p. skewed (g.W.CyclicWave.cells p.wave.wave) p.wave.skew) c.args.pins.now) c.args.slot) c.loop-place.place w.if-place-marked.false
+      | else-place-marked-via-else-place-marked w ↦ beside-itself c.args.marked (folds_in values (map (λ p. p.wave) c.args.pins.now) c.args.slot) c.loop-place.place w.if-place-marked.false
     ])
 
 pub returns-clause-first : goal.returns-clause-first
 returns-clause-first g c =
-    let long : length (folds_in values (map (λ p. skewed (g.W.CyclicWave.cells p.wave.wave) p.wave.skew) c.args.pins.now) c.args.slot) ≡ length c.args.pins.now = folds-long c.args.pins.now c.args.slot (λ p. skewed (g.W.CyclicWave.cells p.wave.wave) p.wave.skew) in
-    disturbs-none c.args.kind c.args.marked (folds_in values (map (λ p. skewed (g.W.CyclicWave.cells p.wave.wave) p.wave.skew) c.args.pins.now) c.args.slot)
-    (ap (is_closed c.args.kind) (sym (value-at c.args.pins.now c.args.marked c.index-pins-marked.result c.args.slot c.fold_at.result (λ p. skewed (g.W.CyclicWave.cells p.wave.wave) p.wave.skew) c.requires.marked c.fold_at.ensures))
+    let long : length (folds_in values (map (λ p. p.wave) c.args.pins.now) c.args.slot) ≡ length c.args.pins.now = folds-long c.args.pins.now c.args.slot (λ p. p.wave) in
+    disturbs-none c.args.kind c.args.marked (folds_in values (map (λ p. p.wave) c.args.pins.now) c.args.slot)
+    (ap (is_closed c.args.kind) (sym (value-at c.args.pins.now c.args.marked c.index-pins-marked.result c.args.slot c.fold_at.result (λ p. p.wave) c.requires.marked c.fold_at.ensures))
     ∙ sym c.is_closed.ensures ∙ c.if-is_closed.false)
     (λ k below. c.loop-place.invariant k (omega (arith, long)))

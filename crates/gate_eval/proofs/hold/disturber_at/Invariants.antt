@@ -1,10 +1,9 @@
 use Rattle.std.proofs.Common.{◌≡◌, ℕ, ◌<◌, false, map}
 use Rattle.step_values.specs.Cell.{values}
-use Rattle.skew_algebra.specs.Wave.{skewed}
 use Rattle.gate_eval.specs.Meeting.{folds_in}
 use Rattle.gate_eval.specs.Hold.{moves_beside}
 use Rattle.gate_eval.proofs.hold.disturber_at.Given as goal
 
 abbrev pub invariant-loop-place : goal.invariant-loop-place
 invariant-loop-place g l =
-    (k : ℕ) → k < l.place → moves_beside l.marked (folds_in values (map (λ p. skewed (g.W.CyclicWave.cells p.wave.wave) p.wave.skew) l.pins) l.slot) k ≡ false
+    (k : ℕ) → k < l.place → moves_beside l.marked (folds_in values (map (λ p. p.wave) l.pins) l.slot) k ≡ false

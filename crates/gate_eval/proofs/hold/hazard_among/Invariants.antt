@@ -1,13 +1,12 @@
 use Rattle.std.proofs.Common.{◌≡◌, ℕ, ◌-◌, ◌<◌, None, map}
 use Rattle.step_values.specs.Cell.{values}
-use Rattle.skew_algebra.specs.Wave.{skewed}
 use Rattle.gate_eval.specs.Meeting.{folds_in}
 use Rattle.gate_eval.specs.Hold.{disturber}
 use Rattle.gate_eval.proofs.hold.hazard_among.Given as goal
 
 abbrev pub invariant-changes : goal.invariant-changes
 invariant-changes g l =
-    (k : ℕ) → k < l.slot → disturber l.kind l.marked (folds_in values (map (λ p. skewed (g.W.CyclicWave.cells p.wave.wave) p.wave.skew) l.pins) k) ≡ None
+    (k : ℕ) → k < l.slot → disturber l.kind l.marked (folds_in values (map (λ p. p.wave) l.pins) k) ≡ None
 
 abbrev pub decreases-changes : goal.decreases-changes
 decreases-changes g l = l.period - l.slot

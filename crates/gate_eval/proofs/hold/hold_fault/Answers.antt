@@ -1,7 +1,6 @@
 use Rattle.std.proofs.Common.{◌≤◌, ℕ, List, length, map, arith, sym, ap, ◌∙◌, subst}
 use Rattle.std.specs.List.{position}
 use Rattle.std.proofs.lemmas.List.{length-map}
-use Rattle.skew_algebra.specs.Wave.{skewed}
 use Rattle.gate_eval.specs.Meeting.{period_of}
 use Rattle.gate_eval.specs.Hold.{hazard, KeepsMark}
 use Rattle.gate_eval.specs.Instance.{MarkFits}
@@ -12,10 +11,11 @@ use Rattle.gate_eval.proofs.hold.hold_fault.Goals as goal
 
 pub returns-clause-sound : goal.returns-clause-sound
 returns-clause-sound g c =
-    if-none c.hazard_among.result (KeepsMark c.args.kind (map (λ p. skewed (g.W.CyclicWave.cells p.wave.wave) p.wave.skew) c.args.pins.now) (position (λ p. p.hold) c.args.pins.now)) (λ e.
-    no-hazard c.args.kind (map (λ p. skewed (g.W.CyclicWave.cells p.wave.wave) p.wave.skew) c.args.pins.now) (position (λ p. p.hold) c.args.pins.now)
-    (e ∙ c.hazard_among.ensures ∙ ap (λ (ps : List _). hazard c.args.kind (map (λ p. skewed (g.W.CyclicWave.cells p.wave.wave) p.wave.skew) ps) (position (λ p. p.hold) ps)) c.as_slice.ensures)
-    (subst (λ (n : ℕ). MarkFits c.args.kind (position (λ p. p.hold) c.args.pins.now) n) (sym (length-map c.args.pins.now (λ p. skewed (g.W.CyclicWave.cells p.wave.wave) p.wave.skew))) (mark-fits c.args.kind (λ p. p.hold) c.args.pins.now c.requires.pins.marks))
-    (some-period c.args.pins.now (λ p. skewed (g.W.CyclicWave.cells p.wave.wave) p.wave.skew) (some-pins c.args.kind (length c.args.pins.now) c.requires.pins.least)
-    (λ p. let s : 2 ≤ length (g.W.CyclicWave.cells p.wave.wave) = (g.met.W.CyclicWave.sized p.wave.wave).shortest in omega arith))
-    (pins-fit c.args.pins.now (λ p. skewed (g.W.CyclicWave.cells p.wave.wave) p.wave.skew) (period_of (map (λ p. skewed (g.W.CyclicWave.cells p.wave.wave) p.wave.skew) c.args.pins.now)) c.requires.periods (λ p. p.wave.is_normal)))
+    if-none c.hazard_among.result (KeepsMark c.args.kind (map (λ p. p.wave) c.args.pins.now) (position (λ p. p.hold) c.args.pins.now)) (λ e.
+    no-hazard c.args.kind (map (λ p. p.wave) c.args.pins.now) (position (λ p. p.hold) c.args.pins.now)
+    (e ∙ c.hazard_among.ensures ∙ ap (λ (ps : List _). hazard c.args.kind (map (λ p. p.wave) ps) (position (λ p. p.hold) ps)) c.as_slice.ensures)
+    (subst (λ (n : ℕ). MarkFits c.args.kind (position (λ p. p.hold) c.args.pins.now) n)
+    (sym (length-map c.args.pins.now (λ p. p.wave))) (mark-fits c.args.kind (λ p. p.hold) c.args.pins.now c.requires.pins.marks))
+    (some-period c.args.pins.now (λ p. p.wave) (some-pins c.args.kind (length c.args.pins.now) c.requires.pins.least)
+    (λ p. let s : 2 ≤ length p.wave.cells = p.sized.shortest in omega arith))
+    (pins-fit c.args.pins.now (λ p. p.wave) (period_of (map (λ p. p.wave) c.args.pins.now)) c.requires.periods (λ p. p.normal)))

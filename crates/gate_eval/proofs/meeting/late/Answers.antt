@@ -12,7 +12,7 @@ returns g c =
     let low : c.d.inside.min ≡ c.args.d.min = search rules in
     let high : c.d.inside.max ≡ c.args.d.max = search rules in
     IfOk-weaker c.normal.result
-    (λ s. skewed (g.W.CyclicWave.cells s.wave) s.skew ≡ normal values (skewed (g.W.CyclicWave.cells c.in_ok-turned.turned) skew))
-    (λ s. skewed (g.W.CyclicWave.cells s.wave) s.skew ≡ moved values w c.args.d)
+    (λ s. s ≡ normal values (skewed (g.W.CyclicWave.cells c.in_ok-turned.turned) skew))
+    (λ s. s ≡ moved values w c.args.d)
     (λ s e. e ∙ moved-by values w (g.W.CyclicWave.cells c.in_ok-turned.turned) c.d.inside.min c.d.inside.max c.args.d low high c.in_ok-turned.ensures)
     c.normal.ensures.wave

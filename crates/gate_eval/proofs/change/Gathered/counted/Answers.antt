@@ -1,4 +1,7 @@
-use Rattle.std.proofs.Common.{◌≡◌, ◌<◌, length, rules, arith, ap}
+use Rattle.std.proofs.Common.{◌≡◌, ◌∙◌, ◌<◌, List, length, map, rules, arith, ap}
+use Rattle.std.specs.List.{zip}
+use Rattle.step_values.specs.declared.value.Value.{Value}
+use Rattle.step_values.specs.Steps.{join}
 use Rattle.skew_algebra.specs.Wave.{skewed}
 use Rattle.gate_eval.proofs.Gathering.{counts-apart, counts-equal, counts-joined}
 use Rattle.gate_eval.proofs.change.Gathered.counted.Goals as goal
@@ -6,25 +9,30 @@ use Rattle.gate_eval.proofs.change.Gathered.counted.Goals as goal
 pub returns-then-skew-self : goal.returns-then-skew-self
 returns-then-skew-self g c =
     let short : c.args.pin.now.skew < 4096 =
-    let less = c.args.pin.now.is_normal.short in
-    let most = (g.met.W.CyclicWave.sized c.args.pin.now.wave).longest in
+    let less = c.known.ensures.normal.short in
+    let most = c.known.ensures.sized.longest in
     omega (arith, less, most) in
-    counts-apart (skewed (g.W.CyclicWave.cells c.args.pin.now.wave) c.args.pin.now.skew) (skewed (g.W.CyclicWave.cells c.args.self.last) c.args.self.skew)
-    (skewed (g.W.CyclicWave.cells c.in_ok-last.last) c.args.pin.now.skew) c.args.d
+    let cells = c.in_ok-last.ensures ∙ c.wave-cells.ensures in
+    counts-apart c.args.pin.now (skewed (g.W.CyclicWave.cells c.args.self.last) c.args.self.skew)
+    (skewed (g.W.CyclicWave.cells c.in_ok-last.last) c.skew-skew.result) c.args.d
     (g.W.CyclicWave.cells c.args.self.seen) (g.W.CyclicWave.cells c.in_ok-seen.seen) c.requires.pin short c.in_ok-seen.ensures
-    (ap (λ l. skewed l c.args.pin.now.skew) c.in_ok-last.ensures)
+    (λ i. skewed (cells i) (c.skew-skew.ensures i))
 
 pub returns-then-equal : goal.returns-then-equal
 returns-then-equal g c =
-    let cells : g.W.CyclicWave.cells c.args.self.last ≡ g.W.CyclicWave.cells c.args.pin.now.wave = search rules in
-    let skew : c.args.self.skew ≡ c.args.pin.now.skew = omega arith in
-    counts-equal (skewed (g.W.CyclicWave.cells c.args.pin.now.wave) c.args.pin.now.skew) (skewed (g.W.CyclicWave.cells c.args.self.last) c.args.self.skew)
+    let own : g.W.CyclicWave.cells c.args.self.last ≡ g.W.CyclicWave.cells c.wave-cells.result.now = search rules in
+    let cells = own ∙ c.wave-cells.ensures in
+    let skew : c.args.self.skew ≡ c.args.pin.now.skew = omega (arith, c.skew-skew.ensures) in
+    counts-equal c.args.pin.now (skewed (g.W.CyclicWave.cells c.args.self.last) c.args.self.skew)
     c.args.d (g.W.CyclicWave.cells c.args.self.seen) c.requires.short (λ i. skewed (cells i) (skew i))
 
 pub returns : goal.returns
 returns g c =
-    let skew : c.args.pin.now.skew ≡ c.args.self.skew = omega arith in
+    let skew : c.args.pin.now.skew ≡ c.args.self.skew = omega (arith, c.skew-skew.ensures) in
+    let late : c.skew-skew.result ≡ c.args.self.skew = c.skew-skew.ensures ∙ skew in
+    let own = g.W.CyclicWave.cells c.args.self.last in
+    let cells = c.in_ok-last-2.ensures ∙ ap (λ (l : List Value). map (λ (q : Value × Value). join q.0 q.1) (zip own l)) c.wave-cells.ensures in
     let some : 0 < length (g.W.CyclicWave.cells c.args.self.last) = let s = (g.met.W.CyclicWave.sized c.args.self.last).shortest in omega (arith, s) in
-    counts-joined (skewed (g.W.CyclicWave.cells c.args.pin.now.wave) c.args.pin.now.skew) (skewed (g.W.CyclicWave.cells c.args.self.last) c.args.self.skew)
-    (skewed (g.W.CyclicWave.cells c.in_ok-last-2.last) c.args.pin.now.skew) c.args.d (g.W.CyclicWave.cells c.args.self.seen) some c.requires.pin c.requires.short skew
-    (λ i. skewed (c.in_ok-last-2.ensures i) (skew i))
+    counts-joined c.args.pin.now (skewed (g.W.CyclicWave.cells c.args.self.last) c.args.self.skew)
+    (skewed (g.W.CyclicWave.cells c.in_ok-last-2.last) c.skew-skew.result) c.args.d (g.W.CyclicWave.cells c.args.self.seen) some c.requires.pin c.requires.short skew
+    (λ i. skewed (cells i) (late i))
