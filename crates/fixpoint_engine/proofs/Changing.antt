@@ -1,8 +1,8 @@
 -- What evaluating one net after another changes.
 use Rattle.std.proofs.Common.{◌≡◌, ◌≢◌, ℕ, zero, suc, ◌<◌, ◌==◌, Bool, true, false, not, ◌&&◌, ◌||◌, cond, All, List, [], ◌∷◌, ◌++◌, length, append-nil, map, get_or, refl, sym, ap, subst, ◌∙◌, arith}
 use Rattle.std.proofs.lemmas.List.Sums.{fold_push}
-use Rattle.std.proofs.lemmas.List.{map-append, map-set, length-map, length-set, get_or-set_same, get_or-set_other}
-use Rattle.std.proofs.lemmas.List.Elements.{All-filter, All-map, All-head, All-tail}
+use Rattle.std.proofs.lemmas.List.{map-append, length-map, length-set, get_or-set_same, get_or-set_other}
+use Rattle.std.proofs.lemmas.List.Elements.{All-nil, All-cons, All-filter, All-map, All-head, All-tail}
 use Rattle.std.proofs.lemmas.Bool.{eqb-true, eqb-false}
 use Rattle.std.proofs.Math.Bool.{and-false}
 use Rattle.std.proofs.Math.ListN.{set}
@@ -29,10 +29,10 @@ one-change c ws i differs = ap (λ b. cond (not b) ((i, evaluated c ws i) ∷ []
     by false e = e
 
 -- the wave of a net, where code reads it
-pub wave-found : {A : Type 0} (wave : A → Wave Value) (xs : List A) (i n : ℕ) (x : A) → i < n → length (map wave xs) ≡ n → x ≡ get_or xs i x → wave x ≡ waves_of (map wave xs) i
-wave-found wave [] i n x below long is = absurd (omega arith)
-wave-found wave (y ∷ xs) zero n x below long is = ap wave is
-wave-found wave (y ∷ xs) (suc i) n x below long is = wave-found wave xs i (length (map wave xs)) x (omega arith) refl is
+pub wave-found : (xs : List (Wave Value)) (i n : ℕ) (x : Wave Value) → i < n → length xs ≡ n → x ≡ get_or xs i x → x ≡ waves_of xs i
+wave-found [] i n x below long is = absurd (omega arith)
+wave-found (y ∷ xs) zero n x below long is = is
+wave-found (y ∷ xs) (suc i) n x below long is = wave-found xs i (length xs) x (omega arith) refl is
 
 -- the list of changes with one more
 pub change-added : {A : Type 0} (pair : A → Change) (old new : List A) (one : A) (c : Circuit) (ws : Waves) (i : ℕ) (w : Wave Value) → new ≡ old ++ one ∷ [] → pair one ≡ (i, w) →
@@ -74,51 +74,10 @@ set-at waves net i w below = by (net == i) refl
     by true e = ap (waves_of (set waves net w)) (sym (eqb-true net i e)) ∙ get_or-set_same waves net w (skewed [] 0) below
     by false e = get_or-set_other waves net i w (skewed [] 0) (λ same. eqb-false net i e (sym same))
 
-taken : {A : Type 0} (here others moved : Bool) (new own old : A) → (here ≡ true → (moved ≡ true) × (own ≡ new)) →
-    cond (others && moved) new (cond here own old) ≡ cond ((here || others) && moved) new old
-taken true others moved new own old is = let at = is refl in (λ k. cond (others && at.0 k) new (at.1 k)) ∙ either others ∙ (λ k. cond (sym at.0 k) new old)
-  where
-    either : (b : Bool) → cond (b && true) new new ≡ new
-    either true = refl
-    either false = refl
-taken false others moved new own old is = refl
-
-left : {A : Type 0} (here others moved : Bool) (new old : A) → (here ≡ true → moved ≡ false) → cond (others && moved) new old ≡ cond ((here || others) && moved) new old
-left true others moved new old is = (λ k. cond (others && is refl k) new old) ∙ either others ∙ (λ k. cond (sym (is refl) k) new old)
-  where
-    either : (b : Bool) → cond (b && false) new old ≡ old
-    either true = refl
-    either false = refl
-left false others moved new old is = refl
-
--- the waves after the changes
-pub waves-changed : (c : Circuit) (ws : Waves) (nets : List ℕ) (waves : List (Wave Value)) (i : ℕ) → All (λ net. net < length waves) nets →
-    waves_of (changed waves (changes_of c ws nets)) i ≡ cond (among nets i && moves c ws i) (evaluated c ws i) (waves_of waves i)
-waves-changed c ws [] waves i exist = refl
-waves-changed c ws (net ∷ nets) waves i exist = by (moves c ws net) refl (waves-changed c ws nets (set waves net (evaluated c ws net)) i still) (waves-changed c ws nets waves i later)
-  where
-    below : net < length waves
-    below = All-head (λ n. n < length waves) net nets exist
-
-    later : All (λ n. n < length waves) nets
-    later = All-tail (λ n. n < length waves) net nets exist
-
-    still : All (λ n. n < length (set waves net (evaluated c ws net))) nets
-    still = subst (λ (long : ℕ). All (λ n. n < long) nets) (sym (length-set waves net (evaluated c ws net))) later
-
-    by : (moved : Bool) → moves c ws net ≡ moved →
-        waves_of (changed (set waves net (evaluated c ws net)) (changes_of c ws nets)) i ≡ cond (among nets i && moves c ws i) (evaluated c ws i) (waves_of (set waves net (evaluated c ws net)) i) →
-        waves_of (changed waves (changes_of c ws nets)) i ≡ cond (among nets i && moves c ws i) (evaluated c ws i) (waves_of waves i) →
-        waves_of (changed waves (cond moved ((net, evaluated c ws net) ∷ changes_of c ws nets) (changes_of c ws nets))) i ≡ cond (((net == i) || among nets i) && moves c ws i) (evaluated c ws i) (waves_of waves i)
-    by true is after before =
-        after ∙ (λ k. cond (among nets i && moves c ws i) (evaluated c ws i) (set-at waves net i (evaluated c ws net) below k))
-        ∙ taken (net == i) (among nets i) (moves c ws i) (evaluated c ws i) (evaluated c ws net) (waves_of waves i)
-        (λ here. let same = eqb-true net i here in (ap (moves c ws) (sym same) ∙ is, ap (evaluated c ws) same))
-    by false is after before = before ∙ left (net == i) (among nets i) (moves c ws i) (evaluated c ws i) (waves_of waves i) (λ here. ap (moves c ws) (sym (eqb-true net i here)) ∙ is)
-
 pub changes-exist : (c : Circuit) (ws : Waves) (nets : List ℕ) (n : ℕ) → All (λ net. net < n) nets → All (λ (ch : Change). ch.0 < n) (changes_of c ws nets)
 changes-exist c ws nets n exist =
-    All-filter (λ (ch : Change). not (same_wave ch.1 (ws ch.0))) (λ (ch : Change). ch.0 < n) (map (λ i. (i, evaluated c ws i)) nets) (All-map (λ (ch : Change). ch.0 < n) (λ i. (i, evaluated c ws i)) nets exist)
+    All-filter (λ (ch : Change). not (same_wave ch.1 (ws ch.0))) (λ (ch : Change). ch.0 < n)
+    (map (λ i. (i, evaluated c ws i)) nets) (All-map (λ (ch : Change). ch.0 < n) (λ i. (i, evaluated c ws i)) nets exist)
 
 pub length-changed : (changes : List Change) (waves : List (Wave Value)) → length (changed waves changes) ≡ length waves
 length-changed [] waves = refl
@@ -126,11 +85,34 @@ length-changed (ch ∷ changes) waves = length-changed changes (set waves ch.0 c
 
 -- ---- the changes as code makes them, one after another
 
-pub same-long : {A : Type 0} (wave : A → Wave Value) (waves first : List A) (changes : List Change) → map wave waves ≡ changed (map wave first) changes → length waves ≡ length first
-same-long wave waves first changes is = sym (length-map waves wave) ∙ ap length is ∙ length-changed changes (map wave first) ∙ length-map first wave
+pub same-long : (waves first : List (Wave Value)) (changes : List Change) → waves ≡ changed first changes → length waves ≡ length first
+same-long waves first changes is = ap length is ∙ length-changed changes first
 
-pub applied-more : {A B : Type 0} (wave : A → Wave Value) (pair : B → Change) (waves after : List A) (first : List (Wave Value)) (done : List B) (one : B) (w : A) → map wave waves ≡ changed first (map pair done) →
-    after ≡ set waves (pair one).0 w → wave w ≡ (pair one).1 → map wave after ≡ changed first (map pair (done ++ one ∷ []))
-applied-more wave pair waves after first done one w before sets is =
-    ap (map wave) sets ∙ map-set wave waves (pair one).0 w ∙ (λ k. set (before k) (pair one).0 (is k))
+pub applied-more : {B : Type 0} (pair : B → Change) (waves after first : List (Wave Value)) (done : List B) (one : B) (w : Wave Value) → waves ≡ changed first (map pair done) →
+    after ≡ set waves (pair one).0 w → w ≡ (pair one).1 → after ≡ changed first (map pair (done ++ one ∷ []))
+applied-more pair waves after first done one w before sets is =
+    sets ∙ (λ k. set (before k) (pair one).0 (is k))
     ∙ sym (ap (changed first) (map-append pair done (one ∷ [])) ∙ fold_push (λ (ws : List (Wave Value)) (ch : Change). set ws ch.0 ch.1) first (map pair done) (pair one))
+
+nets-read : {A : Type 0} (pair : A → Change) (net : A → ℕ) (xs : List A) → ((x : A) → net x ≡ (pair x).0) → map net xs ≡ map (λ (ch : Change). ch.0) (map pair xs)
+nets-read pair net [] is = refl
+nets-read pair net (x ∷ xs) is = λ k. is x k ∷ nets-read pair net xs is k
+
+pub nets-made : {A : Type 0} (pair : A → Change) (net : A → ℕ) (xs ys : List A) → ((x : A) → net x ≡ (pair x).0) → ys ≡ xs → map net ys ≡ map (λ (ch : Change). ch.0) (map pair xs)
+nets-made pair net xs ys is same = ap (map net) same ∙ nets-read pair net xs is
+
+pub all-read : {A : Type 0} (pair : A → Change) (P : Change → Type 0) (xs : List A) → All P (map pair xs) → All (λ x. P (pair x)) xs
+all-read pair P [] all = All-nil (λ x. P (pair x))
+all-read pair P (x ∷ xs) all = All-cons (λ x. P (pair x)) x xs (All-head P (pair x) (map pair xs) all) (all-read pair P xs (All-tail P (pair x) (map pair xs) all))
+
+pub nets-below : {A : Type 0} (net : A → ℕ) (xs : List A) (m n : ℕ) → m ≡ n → All (λ x. net x < n) xs → All (λ x. net x < m) xs
+nets-below net xs m n same all = subst (λ (long : ℕ). All (λ x. net x < long) xs) (sym same) all
+
+pub none-made : {A : Type 0} (pair : A → Change) (xs : List A) (n : ℕ) → n ≡ length xs → true ≡ (n == 0) → length (map pair xs) ≡ 0
+none-made pair xs n counts empty = length-map xs pair ∙ sym counts ∙ eqb-true n 0 (sym empty)
+
+pub some-made : {A : Type 0} (pair : A → Change) (xs : List A) (n : ℕ) → n ≡ length xs → false ≡ (n == 0) → 0 < length (map pair xs)
+some-made pair xs n counts empty =
+    let long = length-map xs pair in
+    let some : n ≡ 0 → ⊥ = eqb-false n 0 (sym empty) in
+    omega (arith, long, counts, some)

@@ -1,6 +1,6 @@
 -- The instances that drive nets.
 use Rattle.std.proofs.Common.{◌≡◌, ℕ, zero, suc, ◌<◌, ◌≤◌, Bool, true, false, List, [], ◌∷◌, length, refl, sym, ap, subst, ◌∙◌, arith, All, slice_get, Option, Some, None, is_some}
-use Rattle.std.proofs.lemmas.Bool.{false_from_ne_true}
+use Rattle.std.proofs.lemmas.Bool.{and_parts, false_from_ne_true}
 use Rattle.std.proofs.lemmas.List.Elements.{All-head, All-tail}
 use Rattle.vector_names.specs.declared.bits.Target.TheVariants.{Net as OnNet}
 use Rattle.flat_circuit.specs.declared.instance.Instance.{Instance}
@@ -10,6 +10,7 @@ use Rattle.flat_circuit.specs.Instances.{InstanceFits, out_of}
 use Rattle.flat_circuit.specs.Circuit.{Circuit, IsCircuit, driver_at}
 use Rattle.fixpoint_engine.specs.Rounds.{instance_in, driver}
 use Rattle.fixpoint_engine.specs.Settled.{marked_in, FitActive}
+use Rattle.fixpoint_engine.specs.Members.{leads_in, is_evaluated}
 
 pub fits-of : (c : Circuit) (k : ℕ) (j : Instance) → IsCircuit c → slice_get c.instances k ≡ Some j → InstanceFits c.header (length c.nets) j
 fits-of c k j known is = at-place c.instances k j known.each is
@@ -48,3 +49,6 @@ active_below c active i fit marked = driven-below c.nets i (fit i marked)
 
 pub active-past : (c : Circuit) (active : List Bool) (i : ℕ) → FitActive c active → length c.nets ≤ i → marked_in active i ≡ false
 active-past c active i fit past = false_from_ne_true (marked_in active i) (λ marked. let below = active_below c active i fit marked in omega (arith, below, past))
+
+pub evaluated_below : (c : Circuit) (active : List Bool) (classes : Option (List ℕ)) (i : ℕ) → FitActive c active → is_evaluated active classes i ≡ true → i < length c.nets
+evaluated_below c active classes i fit is = active_below c active i fit (and_parts (marked_in active i) (leads_in classes i) is).0

@@ -13,7 +13,7 @@ use Rattle.fixpoint_engine.specs.Settled.{marked_in}
 use Rattle.fixpoint_engine.specs.Work.{is_due, same_wave}
 use Rattle.fixpoint_engine.specs.Classes.{HaveOneWave, AreTogether, GoTogether, is_first, due_classes, class_work_to}
 use Rattle.fixpoint_engine.specs.Members.{last_below, members_below, for_class, for_classes}
-use Rattle.fixpoint_engine.specs.Worklist.{Queue, IsQueue, Adds}
+use Rattle.fixpoint_engine.specs.Worklist.{IsQueue, Adds}
 
 abbrev still : Wave Value
 still = skewed (S ∷ S ∷ []) 0

@@ -1,4 +1,4 @@
--- The waves at pins have the circuit's period and are in normal form, where those of the nets are.
+-- The waves at pins have the circuit's period where those of the nets do, and are in normal form.
 use Rattle.std.proofs.Common.{◌≡◌, ℕ, ◌+◌, ◌-◌, ◌<◌, Bool, true, false, cond, List, [], ◌∷◌, length, map, refl, sym, subst, ◌∙◌, arith, All, zero, suc}
 use Rattle.std.proofs.lemmas.List.{length-map}
 use Rattle.std.proofs.lemmas.List.Elements.{All-head, All-tail}
@@ -23,10 +23,6 @@ use Rattle.gate_eval.proofs.Fitting.{Fits, AllFit}
 use Rattle.pin_waves.specs.Pin.{pin_wave as wave_behind}
 use Rattle.pin_waves.proofs.Pins.{length-pin}
 use Rattle.fixpoint_engine.specs.Value.{Waves, target_wave, target_wire, pin_wave, turned_wave}
-
--- the nets' waves fit
-abbrev pub NetsFit : Circuit → Waves → Type 0
-NetsFit c ws = (i : ℕ) → i < length c.nets → Fits values (period c.header) (ws i)
 
 pub normal-is : (w : Wave Value) → 0 < length w.cells → IsNormal values (normal values w)
 normal-is w some = by (is_steady values w.cells) refl
@@ -72,14 +68,11 @@ long-pin-at c ws [] i long exist below = absurd (omega arith)
 long-pin-at c ws (p ∷ ps) zero long exist below = long-pin c ws p long (All-head (PinExists (length c.nets)) p ps exist)
 long-pin-at c ws (p ∷ ps) (suc i) long exist below = long-pin-at c ws ps i long (All-tail (PinExists (length c.nets)) p ps exist) (omega arith)
 
-length-target : (c : Circuit) (ws : Waves) (t : Target) → NetsFit c ws → TargetExists (length c.nets) t → length (target_wave c.header ws t).cells ≡ period c.header
-length-target c ws t fit exists = long-target c ws t (λ i below. (fit i below).long) exists
-
-pub pin-fits : (c : Circuit) (ws : Waves) (p : Pin) → 0 < period c.header → NetsFit c ws → PinExists (length c.nets) p → Fits values (period c.header) (pin_wave c ws p)
+pub pin-fits : (c : Circuit) (ws : Waves) (p : Pin) → 0 < period c.header → AreLong c ws → PinExists (length c.nets) p → Fits values (period c.header) (pin_wave c ws p)
 pin-fits c ws p some fit exists =
-    behind-fits (period c.header) (target_wave c.header ws p.target) (target_wire c.nets p.target) p.inverted some (length-target c ws p.target fit exists)
+    behind-fits (period c.header) (target_wave c.header ws p.target) (target_wire c.nets p.target) p.inverted some (long-target c ws p.target fit exists)
 
-pub pins-fit : (c : Circuit) (ws : Waves) (ps : List Pin) → 0 < period c.header → NetsFit c ws → All (PinExists (length c.nets)) ps →
+pub pins-fit : (c : Circuit) (ws : Waves) (ps : List Pin) → 0 < period c.header → AreLong c ws → All (PinExists (length c.nets)) ps →
     AllFit values (period c.header) (map (pin_wave c ws) ps)
 pins-fit c ws [] some fit exist = tt
 pins-fit c ws (p ∷ ps) some fit exist = (

@@ -1,246 +1,336 @@
 -- What the worklist has come to after some rounds, and how a round more, rest and the limit follow.
-use Rattle.std.proofs.Common.{◌≡◌, ℕ, suc, ◌+◌, ◌*◌, ◌<◌, ◌≤◌, ◌==◌, Bool, true, false, not, ◌&&◌, cond, List, [], ◌∷◌, length, map, refl, sym, ap, subst, ◌∙◌, arith, All, count_by}
+use Rattle.std.proofs.Common.{◌≡◌, ℕ, Option, zero, suc, ◌+◌, ◌*◌, ◌<◌, ◌≤◌, ◌==◌, inl, inr, Bool, true, false, not, ◌&&◌, ◌||◌, cond, All, List, [], ◌∷◌, length, map, refl, sym, ap, subst, ◌∙◌, arith}
 use Rattle.std.specs.Cmp.{both_ways}
-use Rattle.std.specs.List.{Contains, range_with_len}
-use Rattle.std.proofs.lemmas.Bool.{eqb-true, eqb-false, eq-eqb, not-false}
-use Rattle.std.proofs.lemmas.List.{map-id, length-map}
-use Rattle.std.proofs.lemmas.List.Elements.{All-filter, All-map, All-nil, All-cons, All-head, All-tail}
-use Rattle.std.proofs.lemmas.List.FromFn.{fill_by_all}
+use Rattle.std.specs.List.{list_any, range_with_len}
+use Rattle.std.proofs.Math.Bool.{and_assoc, and_comm}
+use Rattle.std.proofs.lemmas.Bool.{cases_lt, and_parts, and_from, eqb-true, eq-eqb, false_from_ne_true, not-false}
+use Rattle.std.proofs.lemmas.List.{length-set}
+use Rattle.std.proofs.lemmas.List.Elements.{All-filter, All-map, All-head, All-tail, Contains-get_or}
+use Rattle.std.proofs.lemmas.List.FromFn.{get_or-range_with_len, length-range_with_len}
 use Rattle.std.proofs.lemmas.List.Folds.{Any-from_list_any, list_any-from_Any}
+use Rattle.std.proofs.Math.ListN.{set}
 use Rattle.scald_base.specs.Time.{period}
 use Rattle.step_values.specs.declared.value.Value.{Value}
-use Rattle.skew_algebra.specs.Wave.{Wave}
-use Rattle.flat_circuit.specs.Circuit.{Circuit, IsCircuit}
-use Rattle.fixpoint_engine.specs.declared.rounds.EngineEnd.{EngineEnd}
 use Rattle.step_values.specs.Cell.{values}
+use Rattle.skew_algebra.specs.Wave.{Wave}
 use Rattle.skew_algebra.specs.Permits.{Permits}
+use Rattle.flat_circuit.specs.declared.case.CaseValue.{CaseValue}
+use Rattle.flat_circuit.specs.Circuit.{Circuit, IsCircuit}
 use Rattle.flat_circuit.specs.Run.{net_signal}
+use Rattle.class_table.specs.Alike.{class_of}
+use Rattle.class_table.specs.Stable.{IsStable}
+use Rattle.fixpoint_engine.specs.declared.rounds.EngineEnd.{EngineEnd}
 use Rattle.fixpoint_engine.specs.Value.{Waves}
 use Rattle.fixpoint_engine.specs.Reach.{reach}
 use Rattle.fixpoint_engine.specs.Rounds.{driver, evaluated, round, AreSame}
-use Rattle.fixpoint_engine.specs.Work.{same_wave, differs, hears_in, is_due, work_to}
-use Rattle.fixpoint_engine.specs.Settled.{waves_of, marked_in, FitWaves, AreAtRest, KeepRuns}
+use Rattle.fixpoint_engine.specs.Work.{same_wave, differs, hears_in, is_due}
+use Rattle.fixpoint_engine.specs.Settled.{waves_of, marked_in, FitWaves, FitActive, AreAtRest, KeepRuns}
 use Rattle.fixpoint_engine.specs.End.{EndsAt, EndsFor}
 use Rattle.fixpoint_engine.specs.Worklist.{Queue, IsQueue, Change, changes_of, changed, among}
+use Rattle.fixpoint_engine.specs.Classes.{HaveOneWave, AreTogether, OneStandsForAll, is_first, due_classes, class_work_to}
+use Rattle.fixpoint_engine.specs.Members.{for_classes, numbers_in, for_all}
 use Rattle.fixpoint_engine.proofs.Same.{same_wave-is, same_wave-self}
-use Rattle.fixpoint_engine.proofs.Fits.{NetsFit}
-use Rattle.fixpoint_engine.proofs.Marks.{count-marks}
+use Rattle.fixpoint_engine.proofs.Drivers.{active-past}
+use Rattle.fixpoint_engine.proofs.Fits.{AreLong}
 use Rattle.fixpoint_engine.proofs.Listening.{hears-same}
-use Rattle.fixpoint_engine.proofs.Changing.{moves, changed-nets, waves-changed}
+use Rattle.fixpoint_engine.proofs.Changing.{moves, changed-nets, changes-exist, set-at, nets-made}
 use Rattle.fixpoint_engine.proofs.Waiting.{waiting-below, waiting-few}
-use Rattle.fixpoint_engine.proofs.Reached.{Reached, reached-start, undue-stays, due-takes, work-more}
-use Rattle.fixpoint_engine.proofs.Turns.{nets_of, Turn, turn-rests, turn-reaches, turn-fits, turn-ends}
+use Rattle.fixpoint_engine.proofs.Reached.{Reached, reached-start, undue-stays, due-takes}
+use Rattle.fixpoint_engine.proofs.Due.{among-waiting, waiting-count, changes-is, first-due, later-due}
 use Rattle.fixpoint_engine.proofs.Sound.{round-sound}
+use Rattle.fixpoint_engine.proofs.Turns.{nets_of, Turn, turn-rests, turn-reaches, turn-fits, turn-ends}
+use Rattle.fixpoint_engine.proofs.Classes.{differ-together, rounds-same}
+use Rattle.fixpoint_engine.proofs.Members.{is_with, nets_in, nets-for-classes, exist-for-classes, waves-for-classes, IsTo}
+use Rattle.fixpoint_engine.proofs.Alone.{for-all-is}
 
--- After r rounds: the waves are those of round r, the queue has what is due in the next round, and so many evaluations
--- were made.
-pub record Kept (c : Circuit) (active : ℕ → Bool) (start : Waves) (waves : List (Wave Value)) (q : Queue) (r evals : ℕ) : Type 0 where
+-- ---- the first net of a class
+
+-- the first net of its class, of which there is one
+record Leads (ks : List ℕ) (f i : ℕ) : Type 0 where
+  before : f ≤ i
+  first : is_first ks f ≡ true
+  same : class_of ks f ≡ class_of ks i
+
+leader : (ks : List ℕ) (bound i : ℕ) → i < bound → (f : ℕ) × Leads ks f i
+leader ks zero i below = absurd (omega arith)
+leader ks (suc bound) i below = by (list_any (λ j. class_of ks j == class_of ks i) (range_with_len 0 i)) refl (λ j. leader ks bound j)
+  where
+    by : (earlier : Bool) → list_any (λ j. class_of ks j == class_of ks i) (range_with_len 0 i) ≡ earlier → ((j : ℕ) → j < bound → (f : ℕ) × Leads ks f j) → (f : ℕ) × Leads ks f i
+    by false none lead = (i, record { before = omega arith; first = ap not none; same = refl })
+    by true some lead =
+        let at = Any-from_list_any (λ j. class_of ks j == class_of ks i) (range_with_len 0 i) some in
+        let long = length-range_with_len 0 i in
+        let place : at.0 < i = let within = at.2 in omega (arith, within, long) in
+        let less : at.1 < i = let is : at.1 ≡ 0 + at.0 = sym at.3 ∙ get_or-range_with_len 0 i at.0 at.1 place in omega (arith, is, place) in
+        let found = lead at.1 (omega (arith, less, below)) in (
+          found.0,
+          record {
+            before = let before = found.1.before in omega (arith, before, less);
+            first = found.1.first;
+            same = found.1.same ∙ eqb-true (class_of ks at.1) (class_of ks i) at.4;
+          },
+        )
+
+-- ---- changes to given waves
+
+-- A net has the wave that it changes to, or the one that it had.
+changed-to : (ws : Waves) (changes : List Change) (waves : List (Wave Value)) (i : ℕ) → All (λ (ch : Change). ch.0 < length waves) changes → All (IsTo ws) changes →
+    waves_of (changed waves changes) i ≡ cond (nets_of changes i) (ws i) (waves_of waves i)
+changed-to ws [] waves i exist to = refl
+changed-to ws (ch ∷ changes) waves i exist to =
+    changed-to ws changes (set waves ch.0 ch.1) i
+    (subst (λ (long : ℕ). All (λ (one : Change). one.0 < long) changes) (sym (length-set waves ch.0 ch.1)) (All-tail (λ (one : Change). one.0 < length waves) ch changes exist))
+    (All-tail (IsTo ws) ch changes to)
+    ∙ (λ k. cond (nets_of changes i) (ws i) (set-at waves ch.0 i ch.1 (All-head (λ (one : Change). one.0 < length waves) ch changes exist) k))
+    ∙ by (ch.0 == i) refl (nets_of changes i)
+  where
+    by : (here : Bool) → (ch.0 == i) ≡ here → (later : Bool) → cond later (ws i) (cond here ch.1 (waves_of waves i)) ≡ cond (here || later) (ws i) (waves_of waves i)
+    by true e true = refl
+    by true e false = All-head (IsTo ws) ch changes to ∙ ap ws (eqb-true ch.0 i e)
+    by false e later = refl
+
+-- ---- what has been found
+
+work-more : (c : Circuit) (ks : List ℕ) (active : ℕ → Bool) (rounds : ℕ → Waves) (r : ℕ) →
+    class_work_to c ks active rounds (suc r) ≡ class_work_to c ks active rounds r + due_classes c ks active rounds (suc r)
+unfolding class_work_to
+work-more c ks active rounds r = refl
+
+-- After r rounds: the waves are those of round r, the queue has the first nets of the classes that are due in the next round,
+-- and so many evaluations were made.
+pub record Kept (c : Circuit) (active : ℕ → Bool) (ks : List ℕ) (start : Waves) (waves : List (Wave Value)) (q : Queue) (r evals : ℕ) : Type 0 where
   pub reached : Reached c active start r (waves_of waves)
   pub fit : FitWaves c waves
   pub each_net : length q.marks ≡ length c.nets
-  pub due : (i : ℕ) → marked_in q.marks i ≡ is_due c active (round c active start) (suc r) i
-  pub works : evals ≡ work_to c active (round c active start) r
+  pub due : (i : ℕ) → marked_in q.marks i ≡ (is_first ks i && is_due c active (round c active start) (suc r) i)
+  pub works : evals ≡ class_work_to c ks active (round c active start) r
   pub bound : evals ≤ 65536 * r
 
--- ---- the nets that wait
-
-pub among-waiting : (q : Queue) (i : ℕ) → IsQueue q → among q.nets i ≡ marked_in q.marks i
-among-waiting q i queue = both_ways (among q.nets i) (marked_in q.marks i) to from
-  where
-    to : among q.nets i ≡ true → marked_in q.marks i ≡ true
-    to any =
-        let at = Any-from_list_any (λ net. net == i) q.nets any in
-        (queue.are i).1 (subst (Contains q.nets) (eqb-true at.1 i at.4) (at.0, at.2, at.3))
-
-    from : marked_in q.marks i ≡ true → among q.nets i ≡ true
-    from marked = let at = (queue.are i).0 marked in list_any-from_Any (λ net. net == i) q.nets (at.0, i, at.1, at.2, eq-eqb i i refl)
-
--- as many wait as are due
-pub waiting-count : (c : Circuit) (due : ℕ → Bool) (q : Queue) → IsQueue q → length q.marks ≡ length c.nets → ((i : ℕ) → marked_in q.marks i ≡ due i) → length q.nets ≡ count_by due (range_with_len 0 (length c.nets))
-waiting-count c due q queue each is =
-    let marks : q.marks ≡ map due (range_with_len 0 (length c.nets)) = fill_by_all due q.marks (length c.nets) false each (λ k below. is k) in
-    queue.once ∙ count-marks (λ b. b) due q.marks (range_with_len 0 (length c.nets)) (map-id q.marks ∙ marks)
-
--- ---- one round more
-
--- what the evaluation of a net in round r changes
-pub changes-is : (c : Circuit) (active : ℕ → Bool) (start : Waves) (r i : ℕ) → (is_due c active (round c active start) (suc r) i && moves c (round c active start r) i) ≡ differs (round c active start r) (round c active start (suc r)) i
-changes-is c active start r i = by (is_due c active (round c active start) (suc r) i) refl
-  where
-    turned : (w v : Wave Value) → same_wave w v ≡ same_wave v w
-    turned w v = both_ways (same_wave w v) (same_wave v w) (λ same. flip w v (same_wave-is w v same)) (λ same. flip v w (same_wave-is v w same))
-      where
-        flip : (w v : Wave Value) → w ≡ v → same_wave v w ≡ true
-        flip w v same = ap (same_wave v) same ∙ same_wave-self v
-
-    by : (due : Bool) → is_due c active (round c active start) (suc r) i ≡ due → (due && moves c (round c active start r) i) ≡ differs (round c active start r) (round c active start (suc r)) i
-    by true due =
-        ap not (turned (evaluated c (round c active start r) i) (round c active start r i))
-        ∙ ap (λ (w : Wave Value). not (same_wave (round c active start r i) w)) (sym (due-takes c active start r i due))
-    by false undue =
-        sym (ap (λ (w : Wave Value). not (same_wave (round c active start r i) w)) (undue-stays c active start r i undue) ∙ ap not (same_wave-self (round c active start r i)))
-
--- what a net becomes in the next round
-becomes : (c : Circuit) (active : ℕ → Bool) (start : Waves) (r i : ℕ) →
-    cond (is_due c active (round c active start) (suc r) i && moves c (round c active start r) i) (evaluated c (round c active start r) i) (round c active start r i) ≡ round c active start (suc r) i
-becomes c active start r i = by (is_due c active (round c active start) (suc r) i) refl (moves c (round c active start r) i) refl
-  where
-    by : (due : Bool) → is_due c active (round c active start) (suc r) i ≡ due → (moved : Bool) → moves c (round c active start r) i ≡ moved →
-        cond (due && moved) (evaluated c (round c active start r) i) (round c active start r i) ≡ round c active start (suc r) i
-    by true due true m = sym (due-takes c active start r i due)
-    by true due false m =
-        sym (same_wave-is (evaluated c (round c active start r) i) (round c active start r i) (not-false _ m)) ∙ sym (due-takes c active start r i due)
-    by false undue moved m = sym (undue-stays c active start r i undue)
-
--- ---- what evaluating the nets that wait gives
-
--- these changes are what it gives
-pub record IsMade (c : Circuit) (waves : List (Wave Value)) (q : Queue) (made : List Change) : Type 0 where
+-- these changes are what evaluating the nets that wait gives, for all nets of their classes
+pub record IsMade (c : Circuit) (ks : List ℕ) (waves : List (Wave Value)) (q : Queue) (made : List Change) : Type 0 where
   pub queue : IsQueue q
-  pub is : made ≡ changes_of c (waves_of waves) q.nets
+  pub is : made ≡ for_classes ks (changes_of c (waves_of waves) q.nets)
 
-kept-waves : (c : Circuit) (active : ℕ → Bool) (start : Waves) (waves : List (Wave Value)) (q : Queue) (r evals : ℕ) → Kept c active start waves q r evals → waves_of waves ≡ round c active start r
-kept-waves c active start waves q r evals kept = λ k i. kept.reached.is i k
+module _ (c : Circuit) (active : ℕ → Bool) (ks : List ℕ) (start : Waves) (are : OneStandsForAll c active ks start) where
+  -- nets of one class differ in the same rounds
+  differ-same : (r : ℕ) → AreTogether c ks (differs (round c active start r) (round c active start (suc r)))
+  differ-same r = differ-together c ks (round c active start r) (round c active start (suc r)) (are.one r) (are.one (suc r))
 
-waiting-due : (c : Circuit) (active : ℕ → Bool) (start : Waves) (waves : List (Wave Value)) (q : Queue) (r evals : ℕ) → Kept c active start waves q r evals → IsQueue q → (i : ℕ) → among q.nets i ≡ is_due c active (round c active start) (suc r) i
-waiting-due c active start waves q r evals kept queue i = among-waiting q i queue ∙ kept.due i
+  -- none past the last net does
+  none-differs : (r i : ℕ) → length c.nets ≤ i → differs (round c active start r) (round c active start (suc r)) i ≡ false
+  none-differs r i past =
+      ap (λ (w : Wave Value). not (same_wave (round c active start r i) w)) (undue-stays c active start r i (undue r)) ∙ ap not (same_wave-self (round c active start r i))
+    where
+      undue : (r : ℕ) → is_due c active (round c active start) (suc r) i ≡ false
+      undue zero = first-due c active (round c active start) i ∙ are.none i past
+      undue (suc r) = later-due c active (round c active start) r i
+          ∙ ap (λ (b : Bool). b && hears_in (differs (round c active start r) (round c active start (suc r))) (driver c i)) (are.none i past)
 
-pub waiting-exist : (c : Circuit) (active : ℕ → Bool) (start : Waves) (waves : List (Wave Value)) (q : Queue) (r evals : ℕ) → Kept c active start waves q r evals → IsQueue q → All (λ net. net < length c.nets) q.nets
-waiting-exist c active start waves q r evals kept queue = subst (λ (long : ℕ). All (λ net. net < long) q.nets) kept.each_net (waiting-below q queue)
+  module _ (waves : List (Wave Value)) (q : Queue) (r evals : ℕ) (kept : Kept c active ks start waves q r evals) where
+    waves-are : waves_of waves ≡ round c active start r
+    waves-are = λ k i. kept.reached.is i k
 
-pub made-exist : (c : Circuit) (active : ℕ → Bool) (start : Waves) (waves : List (Wave Value)) (q : Queue) (r evals : ℕ) (made : List Change) → Kept c active start waves q r evals → IsMade c waves q made → All (λ (ch : Change). ch.0 < length c.nets) made
-made-exist c active start waves q r evals made kept is =
-    subst (λ (chs : List Change). All (λ (ch : Change). ch.0 < length c.nets) chs) (sym is.is)
-    (All-filter _ (λ (ch : Change). ch.0 < length c.nets) (map (λ i. (i, evaluated c (waves_of waves) i)) q.nets)
-    (All-map (λ (ch : Change). ch.0 < length c.nets) (λ i. (i, evaluated c (waves_of waves) i)) q.nets (waiting-exist c active start waves q r evals kept is.queue)))
+    waiting-is : IsQueue q → (i : ℕ) → among q.nets i ≡ (is_first ks i && is_due c active (round c active start) (suc r) i)
+    waiting-is queue i = among-waiting q i queue ∙ kept.due i
 
--- The nets of the changes are those whose waves differ in the next round.
-nets-are : (c : Circuit) (active : ℕ → Bool) (start : Waves) (waves : List (Wave Value)) (q : Queue) (r evals : ℕ) (made : List Change) → Kept c active start waves q r evals → IsMade c waves q made →
-    (i : ℕ) → nets_of made i ≡ differs (round c active start r) (round c active start (suc r)) i
-nets-are c active start waves q r evals made kept is i =
-    ap (λ (chs : List Change). nets_of chs i) is.is ∙ changed-nets c (waves_of waves) q.nets i
-    ∙ (λ k. waiting-due c active start waves q r evals kept is.queue i k && moves c (kept-waves c active start waves q r evals kept k) i)
-    ∙ changes-is c active start r i
+    pub waiting-exist : IsQueue q → All (λ net. net < length c.nets) q.nets
+    waiting-exist queue = subst (λ (long : ℕ). All (λ net. net < long) q.nets) kept.each_net (waiting-below q queue)
 
--- The changed waves are those of the next round.
-next-is : (c : Circuit) (active : ℕ → Bool) (start : Waves) (waves : List (Wave Value)) (q : Queue) (r evals : ℕ) (made : List Change) → Kept c active start waves q r evals → IsMade c waves q made →
-    AreSame (waves_of (changed waves made)) (round c active start (suc r))
-next-is c active start waves q r evals made kept is i =
-    ap (λ (chs : List Change). waves_of (changed waves chs) i) is.is
-    ∙ waves-changed c (waves_of waves) q.nets waves i (subst (λ (long : ℕ). All (λ net. net < long) q.nets) (sym kept.fit.each_net) (waiting-exist c active start waves q r evals kept is.queue))
-    ∙ (λ k. cond (waiting-due c active start waves q r evals kept is.queue i k && moves c (kept-waves c active start waves q r evals kept k) i) (evaluated c (kept-waves c active start waves q r evals kept k) i) (kept-waves c active start waves q r evals kept k i))
-    ∙ becomes c active start r i
+    -- the nets that change are the first ones of those that differ
+    firsts-change : IsQueue q → (i : ℕ) → nets_of (changes_of c (waves_of waves) q.nets) i ≡ (is_first ks i && differs (round c active start r) (round c active start (suc r)) i)
+    firsts-change queue i =
+        changed-nets c (waves_of waves) q.nets i
+        ∙ (λ k. waiting-is queue i k && moves c (waves-are k) i)
+        ∙ and_assoc (is_first ks i) (is_due c active (round c active start) (suc r) i) (moves c (round c active start r) i)
+        ∙ ap (λ (b : Bool). is_first ks i && b) (changes-is c active start r i)
 
--- ---- rest, and a round more
+    -- a class has a net that changes where its nets differ
+    class-changes : IsQueue q → (i : ℕ) → i < length c.nets → is_with ks (nets_in (changes_of c (waves_of waves) q.nets)) i ≡ differs (round c active start r) (round c active start (suc r)) i
+    class-changes queue i below = both_ways _ _ to from
+      where
+        exist : All (λ net. net < length c.nets) (nets_in (changes_of c (waves_of waves) q.nets))
+        exist = All-map (λ net. net < length c.nets) (λ (ch : Change). ch.0) (changes_of c (waves_of waves) q.nets) (changes-exist c (waves_of waves) q.nets (length c.nets) (waiting-exist queue))
 
-turn : (c : Circuit) (active : ℕ → Bool) (start : Waves) (waves : List (Wave Value)) (q : Queue) (r evals : ℕ) (made : List Change) → Kept c active start waves q r evals → IsMade c waves q made → Turn c active start waves r made
-turn c active start waves q r evals made kept is = record { nets = nets-are c active start waves q r evals made kept is; next = next-is c active start waves q r evals made kept is }
+        to : is_with ks (nets_in (changes_of c (waves_of waves) q.nets)) i ≡ true → differs (round c active start r) (round c active start (suc r)) i ≡ true
+        to any =
+            let at = Any-from_list_any (λ net. class_of ks net == class_of ks i) (nets_in (changes_of c (waves_of waves) q.nets)) any in
+            let listed : nets_of (changes_of c (waves_of waves) q.nets) at.1 ≡ true = list_any-from_Any (λ net. net == at.1)
+            (nets_in (changes_of c (waves_of waves) q.nets)) (at.0, at.1, at.2, at.3, eq-eqb at.1 at.1 refl) in
+            let there : at.1 < length c.nets = subst (λ (n : ℕ). n < length c.nets) at.3 (exist at.0 at.1 at.2) in
+            differ-same r i at.1 below there (sym (eqb-true (class_of ks at.1) (class_of ks i) at.4))
+            ∙ (and_parts (is_first ks at.1) (differs (round c active start r) (round c active start (suc r)) at.1) (sym (firsts-change queue at.1) ∙ listed)).1
 
-pub rests : (c : Circuit) (active : ℕ → Bool) (start : Waves) (waves : List (Wave Value)) (q : Queue) (limit r evals : ℕ) (made : List Change) → Kept c active start waves q r evals → IsMade c waves q made → length made ≡ 0 → r ≤ limit →
-    AreAtRest c active start limit r (waves_of waves)
-rests c active start waves q limit r evals made kept is none within = turn-rests c active start waves r kept.reached limit made (turn c active start waves q r evals made kept is) none within
+        from : differs (round c active start r) (round c active start (suc r)) i ≡ true → is_with ks (nets_in (changes_of c (waves_of waves) q.nets)) i ≡ true
+        from differ =
+            let lead = leader ks (suc i) i (omega arith) in
+            let there : lead.0 < length c.nets = let before = lead.1.before in omega (arith, before, below) in
+            let moved : differs (round c active start r) (round c active start (suc r)) lead.0 ≡ true = differ-same r lead.0 i there below lead.1.same ∙ differ in
+            let listed : nets_of (changes_of c (waves_of waves) q.nets) lead.0 ≡ true = firsts-change queue lead.0
+            ∙ and_from (is_first ks lead.0) (differs (round c active start r) (round c active start (suc r)) lead.0) lead.1.first moved in
+            let at = Any-from_list_any (λ net. net == lead.0) (nets_in (changes_of c (waves_of waves) q.nets)) listed in
+            list_any-from_Any (λ net. class_of ks net == class_of ks i) (nets_in (changes_of c (waves_of waves) q.nets))
+            (at.0, at.1, at.2, at.3, eq-eqb (class_of ks at.1) (class_of ks i) (ap (class_of ks) (eqb-true at.1 lead.0 at.4) ∙ lead.1.same))
 
--- ---- how many evaluations
+    module _ (made : List Change) (is : IsMade c ks waves q made) where
+      pub made-exist : All (λ (ch : Change). ch.0 < length c.nets) made
+      made-exist =
+          subst (λ (chs : List Change). All (λ (ch : Change). ch.0 < length c.nets) chs) (sym is.is)
+          (subst (λ (long : ℕ). All (λ (ch : Change). ch.0 < long) (for_classes ks (changes_of c (waves_of waves) q.nets))) are.each_net (exist-for-classes ks (changes_of c (waves_of waves) q.nets)))
 
-evals-fit : (c : Circuit) (active : ℕ → Bool) (start : Waves) (waves : List (Wave Value)) (q : Queue) (r evals : ℕ) → Kept c active start waves q r evals → IsCircuit c → IsQueue q → evals + length q.nets ≤ 65536 * (r + 1)
-evals-fit c active start waves q r evals kept known queue =
-    let few = waiting-few q queue in
-    let each = kept.each_net in
-    let bound = kept.bound in
-    let nets = known.few_nets in
-    omega (arith, few, each, bound, nets)
+      -- The nets of the changes are those whose waves differ in the next round.
+      nets-are : (i : ℕ) → nets_of made i ≡ differs (round c active start r) (round c active start (suc r)) i
+      nets-are i = elim (cases_lt i (length c.nets)) [
+        | inl below ↦
+            ap (λ (chs : List Change). nets_of chs i) is.is
+            ∙ nets-for-classes ks (changes_of c (waves_of waves) q.nets) i (let each = are.each_net in omega (arith, each, below))
+            ∙ class-changes is.queue i below
+        | inr past ↦ false_from_ne_true (nets_of made i) (λ any. no-net past any) ∙ sym (none-differs r i past)
+      ]
+        where
+          no-net : length c.nets ≤ i → nets_of made i ≡ true → ⊥
+          no-net past any =
+              let at = Any-from_list_any (λ net. net == i) (nets_in made) any in
+              let exist = All-map (λ net. net < length c.nets) (λ (ch : Change). ch.0) made made-exist in
+              let there : at.1 < length c.nets = subst (λ (n : ℕ). n < length c.nets) at.3 (exist at.0 at.1 at.2) in
+              let same : at.1 ≡ i = eqb-true at.1 i at.4 in
+              omega (arith, there, same, past)
 
-works-out : (c : Circuit) (active : ℕ → Bool) (start : Waves) (waves : List (Wave Value)) (q : Queue) (r evals : ℕ) → Kept c active start waves q r evals → IsQueue q →
-    evals + length q.nets ≡ work_to c active (round c active start) (suc r)
-works-out c active start waves q r evals kept queue =
-    (λ k. kept.works k + waiting-count c (is_due c active (round c active start) (suc r)) q queue kept.each_net kept.due k) ∙ sym (work-more c active (round c active start) r)
+      -- Each change is to the wave of the next round.
+      made-to : All (IsTo (round c active start (suc r))) made
+      made-to =
+          subst (λ (chs : List Change). All (IsTo (round c active start (suc r))) chs) (sym is.is)
+          (waves-for-classes ks (changes_of c (waves_of waves) q.nets) (round c active start (suc r)) one
+          (subst (λ (long : ℕ). All (λ (ch : Change). ch.0 < long) (changes_of c (waves_of waves) q.nets)) (sym are.each_net)
+          (changes-exist c (waves_of waves) q.nets (length c.nets) (waiting-exist is.queue)))
+          (All-filter _ (IsTo (round c active start (suc r))) (map (λ i. (i, evaluated c (waves_of waves) i)) q.nets)
+          (All-map (IsTo (round c active start (suc r))) (λ i. (i, evaluated c (waves_of waves) i)) q.nets taken)))
+        where
+          one : (i j : ℕ) → i < length ks → j < length ks → class_of ks i ≡ class_of ks j → round c active start (suc r) i ≡ round c active start (suc r) j
+          one i j below below' same = let each = are.each_net in are.one (suc r) i j (omega (arith, each, below)) (omega (arith, each, below')) same
 
-pub works : (c : Circuit) (active : ℕ → Bool) (start : Waves) (waves : List (Wave Value)) (q : Queue) (r evals : ℕ) (nets : List ℕ) → Kept c active start waves q r evals → IsQueue q → nets ≡ q.nets →
-    evals + length nets ≡ work_to c active (round c active start) (r + 1)
-works c active start waves q r evals nets kept queue same =
-    ap (λ (ns : List ℕ). evals + length ns) same ∙ works-out c active start waves q r evals kept queue ∙ ap (work_to c active (round c active start)) (let e : suc r ≡ r + 1 = omega arith in e)
+          takes : (i : ℕ) → marked_in q.marks i ≡ true → evaluated c (waves_of waves) i ≡ round c active start (suc r) i
+          takes i marked =
+              (λ k. evaluated c (waves-are k) i)
+              ∙ sym (due-takes c active start r i (and_parts (is_first ks i) (is_due c active (round c active start) (suc r) i) (sym (kept.due i) ∙ marked)).1)
 
--- ---- the loop
+          taken : All (λ i. evaluated c (waves_of waves) i ≡ round c active start (suc r) i) q.nets
+          taken k d below = takes _ ((is.queue.are _).1 (Contains-get_or q.nets k d below))
 
-pub first-due : (c : Circuit) (active : ℕ → Bool) (rounds : ℕ → Waves) (i : ℕ) → is_due c active rounds 1 i ≡ active i
-unfolding is_due
-first-due c active rounds i = refl
+      -- The changed waves are those of the next round.
+      next-is : AreSame (waves_of (changed waves made)) (round c active start (suc r))
+      next-is i =
+          changed-to (round c active start (suc r)) made waves i (subst (λ (long : ℕ). All (λ (ch : Change). ch.0 < long) made) (sym kept.fit.each_net) made-exist) made-to
+          ∙ by (nets_of made i) refl
+        where
+          by : (new : Bool) → nets_of made i ≡ new → cond new (round c active start (suc r) i) (waves_of waves i) ≡ round c active start (suc r) i
+          by true e = refl
+          by false e = kept.reached.is i ∙ same_wave-is (round c active start r i) (round c active start (suc r) i) (not-false _ (sym (nets-are i) ∙ e))
 
-pub later-due : (c : Circuit) (active : ℕ → Bool) (rounds : ℕ → Waves) (r i : ℕ) → is_due c active rounds (suc (suc r)) i ≡ (active i && hears_in (differs (rounds r) (rounds (suc r))) (driver c i))
-unfolding is_due
-later-due c active rounds r i = refl
+      pub turn : Turn c active start waves r made
+      turn = record { nets = nets-are; next = next-is }
 
-no-work : (c : Circuit) (active : ℕ → Bool) (rounds : ℕ → Waves) → work_to c active rounds 0 ≡ 0
-unfolding work_to
-no-work c active rounds = refl
+      pub rests : (limit : ℕ) → length made ≡ 0 → r ≤ limit → AreAtRest c active start limit r (waves_of waves)
+      rests limit none within = turn-rests c active start waves r kept.reached limit made turn none within
 
-pub kept-start : (c : Circuit) (active : List Bool) (first waves : List (Wave Value)) (q : Queue) → FitWaves c first → waves ≡ first → length q.marks ≡ length c.nets → ((i : ℕ) → marked_in q.marks i ≡ marked_in active i) →
-    Kept c (marked_in active) (waves_of first) waves q 0 0
-kept-start c active first waves q fit same each marks = record {
-  reached = reached-start c (marked_in active) (waves_of first) (waves_of waves) (λ i. ap (λ (ws : List (Wave Value)). waves_of ws i) same);
+      -- ---- how many evaluations
+
+      works-out : evals + length q.nets ≡ class_work_to c ks active (round c active start) (suc r)
+      works-out =
+          (λ k. kept.works k + waiting-count c (λ i. is_first ks i && is_due c active (round c active start) (suc r) i) q is.queue kept.each_net kept.due k)
+          ∙ sym (work-more c ks active (round c active start) r)
+
+      pub works : (nets : List ℕ) → nets ≡ q.nets → evals + length nets ≡ class_work_to c ks active (round c active start) (r + 1)
+      works nets same =
+          ap (λ (ns : List ℕ). evals + length ns) same ∙ works-out ∙ ap (class_work_to c ks active (round c active start)) (let e : suc r ≡ r + 1 = omega arith in e)
+
+      evals-fit : IsCircuit c → evals + length q.nets ≤ 65536 * (r + 1)
+      evals-fit known =
+          let few = waiting-few q is.queue in
+          let each = kept.each_net in
+          let bound = kept.bound in
+          let nets = known.few_nets in
+          omega (arith, few, each, bound, nets)
+
+      -- ---- the loop
+
+      pub kept-more : (after : List (Wave Value)) (more : Queue) (nets : List ℕ) (leading : ℕ → Bool) →
+          IsCircuit c → 0 < period c.header → AreLong c start → nets ≡ q.nets → 0 < length made → after ≡ changed waves made →
+          length more.marks ≡ length c.nets → ((i : ℕ) → leading i ≡ (active i && is_first ks i)) → ((i : ℕ) → marked_in more.marks i ≡ (leading i && hears_in (nets_of made) (driver c i))) →
+          Kept c active ks start after more (r + 1) (evals + length nets)
+      kept-more after more nets leading known some fit waiting moves same each lead refilled =
+          subst (λ (ns : List ℕ). Kept c active ks start after more (r + 1) (evals + length ns)) (sym waiting)
+          (subst (λ (n : ℕ). Kept c active ks start after more n (evals + length q.nets)) (let e : suc r ≡ r + 1 = omega arith in e) (record {
+            reached = turn-reaches c active start waves r kept.reached made turn after same moves;
+            fit = turn-fits c active start waves r kept.reached made turn after same known some fit kept.fit;
+            each_net = each;
+            due = λ i. refilled i ∙ (λ k. lead i k && hears-same (nets_of made) (differs (round c active start r) (round c active start (suc r))) (driver c i) nets-are k)
+                ∙ turned (active i) (is_first ks i) (hears_in (differs (round c active start r) (round c active start (suc r))) (driver c i))
+                ∙ ap (λ (b : Bool). is_first ks i && b) (sym (later-due c active (round c active start) r i));
+            works = works-out;
+            bound = let most = evals-fit known in omega (arith, most);
+          }))
+        where
+          turned : (x y z : Bool) → ((x && y) && z) ≡ (y && (x && z))
+          turned true true z = refl
+          turned true false z = refl
+          turned false true z = refl
+          turned false false z = refl
+
+    -- ---- runs
+
+    pub keeps : IsCircuit c → 0 < period c.header → AreLong c start → KeepRuns c start r (waves_of waves)
+    keeps known some fit run v isrun v1 permits i below =
+        subst (λ (w : Wave Value). Permits values w run.ticks (net_signal run i) (v + r * reach c))
+        (sym (kept.reached.is i)) (round-sound c active start r some known fit run v isrun v1 permits i below)
+
+-- ---- before the first round
+
+no-work : (c : Circuit) (ks : List ℕ) (active : ℕ → Bool) (rounds : ℕ → Waves) → class_work_to c ks active rounds 0 ≡ 0
+unfolding class_work_to
+no-work c ks active rounds = refl
+
+pub kept-start : (c : Circuit) (active : ℕ → Bool) (ks : List ℕ) (start waves : List (Wave Value)) (q : Queue) (leading : ℕ → Bool) → FitWaves c start →
+    ((i : ℕ) → leading i ≡ (active i && is_first ks i)) → waves ≡ start → length q.marks ≡ length c.nets → ((i : ℕ) → marked_in q.marks i ≡ leading i) → Kept c active ks (waves_of start) waves q 0 0
+kept-start c active ks start waves q leading fit lead same each marks = record {
+  reached = reached-start c active (waves_of start) (waves_of waves) (λ i. ap (λ (ws : List (Wave Value)). waves_of ws i) same);
   fit = subst (FitWaves c) (sym same) fit;
   each_net = each;
-  due = λ i. marks i ∙ sym (first-due c (marked_in active) (round c (marked_in active) (waves_of first)) i);
-  works = sym (no-work c (marked_in active) (round c (marked_in active) (waves_of first)));
+  due = λ i. marks i ∙ lead i ∙ and_comm (active i) (is_first ks i)
+      ∙ ap (λ (b : Bool). is_first ks i && b) (sym (first-due c active (round c active (waves_of start)) i));
+  works = sym (no-work c ks active (round c active (waves_of start)));
   bound = omega arith;
 }
 
-pub kept-more : (c : Circuit) (active : ℕ → Bool) (start : Waves) (waves after : List (Wave Value)) (q more : Queue) (r evals : ℕ) (nets : List ℕ) (made : List Change) → IsCircuit c → 0 < period c.header → NetsFit c start →
-    Kept c active start waves q r evals → IsMade c waves q made → nets ≡ q.nets → 0 < length made → after ≡ changed waves made → length more.marks ≡ length c.nets →
-    ((i : ℕ) → marked_in more.marks i ≡ (active i && hears_in (nets_of made) (driver c i))) → Kept c active start after more (r + 1) (evals + length nets)
-kept-more c active start waves after q more r evals nets made known some fit kept is waiting moves same each refilled =
-    subst (λ (ns : List ℕ). Kept c active start after more (r + 1) (evals + length ns)) (sym waiting)
-    (subst (λ (n : ℕ). Kept c active start after more n (evals + length q.nets)) (let e : suc r ≡ r + 1 = omega arith in e) (record {
-      reached = turn-reaches c active start waves r kept.reached made goes after same moves;
-      fit = turn-fits c active start waves r kept.reached made goes after same known some fit kept.fit;
-      each_net = each;
-      due = λ i. refilled i ∙ (λ k. active i && hears-same (nets_of made) (differs (round c active start r) (round c active start (suc r))) (driver c i) (nets-are c active start waves q r evals made kept is) k)
-          ∙ sym (later-due c active (round c active start) r i);
-      works = works-out c active start waves q r evals kept is.queue;
-      bound = let most = evals-fit c active start waves q r evals kept known is.queue in omega (arith, most);
-    }))
-  where
-    goes : Turn c active start waves r made
-    goes = turn c active start waves q r evals made kept is
+-- ---- what the caller knows
 
--- ---- runs
+pub classes-are : (c : Circuit) (cases : List (List CaseValue)) (active : List Bool) (ks : List ℕ) (start : Waves) →
+    IsCircuit c → FitActive c active → length ks ≡ length c.nets → IsStable c cases ks → HaveOneWave c ks start →
+    AreTogether c ks (marked_in active) → OneStandsForAll c (marked_in active) ks start
+classes-are c cases active ks start known fit each stable one together = record {
+  each_net = each;
+  one = rounds-same c cases ks known stable (marked_in active) start together one;
+  none = λ i past. active-past c active i fit past;
+}
 
-pub keeps : (c : Circuit) (active : ℕ → Bool) (start : Waves) (waves : List (Wave Value)) (q : Queue) (r evals : ℕ) → IsCircuit c → 0 < period c.header → NetsFit c start → Kept c active start waves q r evals →
-    KeepRuns c start r (waves_of waves)
-keeps c active start waves q r evals known some fit kept run v isrun v1 permits i below =
-    subst (λ (w : Wave Value). Permits values w run.ticks (net_signal run i) (v + r * reach c)) (sym (kept.reached.is i)) (round-sound c active start r some known fit run v isrun v1 permits i below)
+-- ---- the limit, as code has the changes
 
--- ---- changes as code has them
-
-pub made-of : (c : Circuit) (waves : List (Wave Value)) (q : Queue) (nets : List ℕ) (made : List Change) → IsQueue q → nets ≡ q.nets → made ≡ changes_of c (waves_of waves) nets → IsMade c waves q made
-made-of c waves q nets made queue same is = record { queue = queue; is = is ∙ ap (changes_of c (waves_of waves)) same }
-
-nets-read : {A : Type 0} (pair : A → Change) (net : A → ℕ) (xs : List A) → ((x : A) → net x ≡ (pair x).0) → map net xs ≡ map (λ (ch : Change). ch.0) (map pair xs)
-nets-read pair net [] is = refl
-nets-read pair net (x ∷ xs) is = λ k. is x k ∷ nets-read pair net xs is k
-
-pub nets-made : {A : Type 0} (pair : A → Change) (net : A → ℕ) (xs ys : List A) → ((x : A) → net x ≡ (pair x).0) → ys ≡ xs → map net ys ≡ map (λ (ch : Change). ch.0) (map pair xs)
-nets-made pair net xs ys is same = ap (map net) same ∙ nets-read pair net xs is
-
-pub all-read : {A : Type 0} (pair : A → Change) (P : Change → Type 0) (xs : List A) → All P (map pair xs) → All (λ x. P (pair x)) xs
-all-read pair P [] all = All-nil (λ x. P (pair x))
-all-read pair P (x ∷ xs) all = All-cons (λ x. P (pair x)) x xs (All-head P (pair x) (map pair xs) all) (all-read pair P xs (All-tail P (pair x) (map pair xs) all))
-
-pub nets-below : {A : Type 0} (net : A → ℕ) (xs : List A) (m n : ℕ) → m ≡ n → All (λ x. net x < n) xs → All (λ x. net x < m) xs
-nets-below net xs m n same all = subst (λ (long : ℕ). All (λ x. net x < long) xs) (sym same) all
-
-pub none-made : {A : Type 0} (pair : A → Change) (xs : List A) (n : ℕ) → n ≡ length xs → true ≡ (n == 0) → length (map pair xs) ≡ 0
-none-made pair xs n counts empty = length-map xs pair ∙ sym counts ∙ eqb-true n 0 (sym empty)
-
-pub some-made : {A : Type 0} (pair : A → Change) (xs : List A) (n : ℕ) → n ≡ length xs → false ≡ (n == 0) → 0 < length (map pair xs)
-some-made pair xs n counts empty =
-    let long = length-map xs pair in
-    let some : n ≡ 0 → ⊥ = eqb-false n 0 (sym empty) in
-    omega (arith, long, counts, some)
-
-pub ends-by : {A : Type 0} (pair : A → Change) (net : A → ℕ) (c : Circuit) (active : ℕ → Bool) (start : Waves) (waves : List (Wave Value)) (q : Queue) (limit r evals : ℕ) (xs ys : List A) (e : EngineEnd) → ((x : A) → net x ≡ (pair x).0) →
-    Kept c active start waves q r evals → IsMade c waves q (map pair xs) → r ≡ limit → ys ≡ xs → EndsAt c.order (among (map net ys)) limit e → EndsFor c.order (round c active start) limit e
-ends-by pair net c active start waves q limit r evals xs ys e is kept made last same at =
+pub ends-by : {A : Type 0} (pair : A → Change) (net : A → ℕ) (c : Circuit) (active : ℕ → Bool) (ks : List ℕ) (start : Waves)
+    (are : OneStandsForAll c active ks start) (waves : List (Wave Value)) (q : Queue) (limit r evals : ℕ) (xs ys : List A) (e : EngineEnd) →
+    ((x : A) → net x ≡ (pair x).0) → Kept c active ks start waves q r evals → IsMade c ks waves q (map pair xs) →
+    r ≡ limit → ys ≡ xs → EndsAt c.order (among (map net ys)) limit e → EndsFor c.order (round c active start) limit e
+ends-by pair net c active ks start are waves q limit r evals xs ys e is kept made last same at =
     subst (λ (n : ℕ). EndsFor c.order (round c active start) n e) last
-    (turn-ends c active start waves r kept.reached (map pair xs) (turn c active start waves q r evals (map pair xs) kept made) e
+    (turn-ends c active start waves r kept.reached (map pair xs) (turn c active ks start are waves q r evals kept (map pair xs) made) e
     (subst (λ (ns : List ℕ). EndsAt c.order (among ns) r e) (nets-made pair net xs ys is same) (subst (λ (n : ℕ). EndsAt c.order (among (map net ys)) n e) (sym last) at)))
+
+pub made-of : (c : Circuit) (active : ℕ → Bool) (classes : Option (List ℕ)) (start : Waves)
+    (are : OneStandsForAll c active (numbers_in (length c.nets) classes) start) (waves : List (Wave Value)) (q : Queue) (r evals : ℕ) →
+    Kept c active (numbers_in (length c.nets) classes) start waves q r evals → (nets : List ℕ) (made : List Change) →
+    IsQueue q → nets ≡ q.nets → made ≡ for_all classes (changes_of c (waves_of waves) nets) →
+    IsMade c (numbers_in (length c.nets) classes) waves q made
+made-of c active classes start are waves q r evals kept nets made queue same is = record {
+  queue = queue;
+  is = is ∙ ap (λ (ns : List ℕ). for_all classes (changes_of c (waves_of waves) ns)) same
+      ∙ for-all-is (length c.nets) classes are.each_net (changes_of c (waves_of waves) q.nets)
+      (changes-exist c (waves_of waves) q.nets (length c.nets) (waiting-exist c active (numbers_in (length c.nets) classes) start are waves q r evals kept queue));
+}

@@ -114,7 +114,8 @@ found test P (y ∷ ys) from any = by (found test P ys (from + 1)) (test y) refl
     here : test y ≡ true → P from ≡ true → IsListed test P (y ∷ ys) from
     here passes is = record { k = 0; x = y; at = refl; passes = passes; is = let same : from + 0 ≡ from = omega arith in ap P same ∙ is }
 
-    by : (list_any P (numbers_from test (from + 1) ys) ≡ true → IsListed test P ys (from + 1)) → (b : Bool) → test y ≡ b → list_any P (cond b (from ∷ numbers_from test (from + 1) ys) (numbers_from test (from + 1) ys)) ≡ true →
+    by : (list_any P (numbers_from test (from + 1) ys) ≡ true → IsListed test P ys (from + 1)) →
+        (b : Bool) → test y ≡ b → list_any P (cond b (from ∷ numbers_from test (from + 1) ys) (numbers_from test (from + 1) ys)) ≡ true →
         IsListed test P (y ∷ ys) from
     by rest false passes any = later (rest any)
     by rest true passes any = elim (or_cases (P from) (list_any P (numbers_from test (from + 1) ys)) any) [ inl is ↦ here passes is | inr more ↦ later (rest more) ]
@@ -164,7 +165,8 @@ heard-by-reader c net i known = both_ways _ _ to (λ heard. from (driver_at c.ne
         let instance : driver c i ≡ Some f.x = ap (instance_in c) by ∙ f.at in
         ap (hears_in (λ j. net == j)) instance ∙ hears-one net f.x.kind 0 f.x.pins ∙ (and_parts (is_some f.x.out) (any_listens f.x.kind net 0 f.x.pins) f.passes).1
 
-    from : (found : Option ℕ) → driver_at c.nets i ≡ found → hears_in (λ j. net == j) (instance_in c found) ≡ true → list_any (λ k. drives_in (out_at c.instances k) i) (readers_of c.instances net) ≡ true
+    from : (found : Option ℕ) → driver_at c.nets i ≡ found → hears_in (λ j. net == j) (instance_in c found) ≡ true →
+        list_any (λ k. drives_in (out_at c.instances k) i) (readers_of c.instances net) ≡ true
     from None at heard = cc
     from (Some k) at heard = driver-listed c net i k (slice_get c.instances k) refl heard (known.drivers.is i k at)
 

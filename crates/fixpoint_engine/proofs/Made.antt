@@ -1,12 +1,12 @@
 -- What each kind makes is sound, and has the period of its pins' waves.
-use Rattle.std.proofs.Common.{◌≡◌, ℕ, zero, suc, ◌<◌, ◌≤◌, true, List, [], ◌∷◌, length, map, refl, sym, subst, ◌∙◌, arith, All, Option, Some, None}
+use Rattle.std.proofs.Common.{◌≡◌, ℕ, ◌<◌, ◌≤◌, true, List, [], ◌∷◌, length, refl, sym, subst, ◌∙◌, arith, All, Option, Some, None}
 use Rattle.std.proofs.lemmas.List.{length-map}
 use Rattle.std.proofs.lemmas.List.Elements.{All-nil, All-cons}
 use Rattle.scald_base.specs.Time.{Bounds, period}
 use Rattle.step_values.specs.declared.value.Value.{Value}
 use Rattle.step_values.specs.declared.value.Value.TheVariants.{S}
 use Rattle.step_values.specs.Cell.{values}
-use Rattle.skew_algebra.specs.Wave.{Wave, skewed, IsNormal}
+use Rattle.skew_algebra.specs.Wave.{Wave, skewed}
 use Rattle.skew_algebra.proofs.Normal.{length-normal}
 use Rattle.flat_circuit.specs.declared.kind.Kind.{Kind}
 use Rattle.flat_circuit.specs.declared.kind.Kind.TheVariants.{Chg, Reg, RegRs, Latch, LatchRs, SetupHold, RiseFall, MinPulse}
@@ -28,8 +28,7 @@ use Rattle.gate_eval.specs.Change.{change_wave}
 use Rattle.storage_eval.proofs.Sounds.{storage-sound}
 use Rattle.storage_eval.proofs.Dependence.{length-storage_wave}
 use Rattle.fixpoint_engine.specs.Value.{Waves, pin_wave, pin_waves, marked_pin, made_by, turned_wave, instance_wave}
-use Rattle.fixpoint_engine.specs.Settled.{waves_of, FitWaves}
-use Rattle.fixpoint_engine.proofs.Fits.{NetsFit, length-turned, normal-fits, pins-fit}
+use Rattle.fixpoint_engine.proofs.Fits.{AreLong, length-turned, normal-fits, pins-fit}
 
 -- ---- the period
 
@@ -78,12 +77,12 @@ kind-sound kind waves marked d makes least most mark some fits = gate-sound kind
 length-pins : (c : Circuit) (ws : Waves) (j : Instance) → length (pin_waves c ws j) ≡ length j.pins
 length-pins c ws j = length-map j.pins (pin_wave c ws)
 
-made-period : (c : Circuit) (ws : Waves) (j : Instance) → 0 < period c.header → NetsFit c ws → InstanceFits c.header (length c.nets) j → period_of (pin_waves c ws j) ≡ period c.header
+made-period : (c : Circuit) (ws : Waves) (j : Instance) → 0 < period c.header → AreLong c ws → InstanceFits c.header (length c.nets) j → period_of (pin_waves c ws j) ≡ period c.header
 made-period c ws j some fit fits =
     let pins : 0 < length j.pins = some-pins j.kind (length j.pins) fits.pins.least in
     period-is (period c.header) (pin_waves c ws j) (pins-fit c ws j.pins some fit fits.exists.reads) (let long = length-pins c ws j in omega (arith, long))
 
-made-fit : (c : Circuit) (ws : Waves) (j : Instance) → 0 < period c.header → NetsFit c ws → InstanceFits c.header (length c.nets) j → AllFit values (period_of (pin_waves c ws j)) (pin_waves c ws j)
+made-fit : (c : Circuit) (ws : Waves) (j : Instance) → 0 < period c.header → AreLong c ws → InstanceFits c.header (length c.nets) j → AllFit values (period_of (pin_waves c ws j)) (pin_waves c ws j)
 made-fit c ws j some fit fits =
     subst (λ (p : ℕ). AllFit values p (pin_waves c ws j)) (sym (made-period c ws j some fit fits)) (pins-fit c ws j.pins some fit fits.exists.reads)
 
@@ -91,12 +90,12 @@ made-mark : (c : Circuit) (ws : Waves) (j : Instance) → InstanceFits c.header 
 made-mark c ws j fits =
     subst (λ (n : ℕ). MarkFits j.kind (marked_pin j) n) (sym (length-pins c ws j)) (mark-fits j.kind (λ (p : Pin). p.hold) j.pins fits.pins.marks)
 
-pub made-long : (c : Circuit) (ws : Waves) (j : Instance) → 0 < period c.header → NetsFit c ws → InstanceFits c.header (length c.nets) j →
+pub made-long : (c : Circuit) (ws : Waves) (j : Instance) → 0 < period c.header → AreLong c ws → InstanceFits c.header (length c.nets) j →
     length (made_by j.kind (pin_waves c ws j) (marked_pin j) j.delay).cells ≡ period c.header
 made-long c ws j some fit fits =
     length-made j.kind (pin_waves c ws j) (marked_pin j) j.delay (made-fit c ws j some fit fits) (made-mark c ws j fits) ∙ made-period c ws j some fit fits
 
-pub made-sound : (c : Circuit) (ws : Waves) (j : Instance) → 0 < period c.header → NetsFit c ws → InstanceFits c.header (length c.nets) j → has_output j.kind ≡ true →
+pub made-sound : (c : Circuit) (ws : Waves) (j : Instance) → 0 < period c.header → AreLong c ws → InstanceFits c.header (length c.nets) j → has_output j.kind ≡ true →
     IsSound j.kind j.delay (pin_waves c ws j) (made_by j.kind (pin_waves c ws j) (marked_pin j) j.delay)
 made-sound c ws j some fit fits makes =
     let long = length-pins c ws j in
@@ -106,7 +105,7 @@ made-sound c ws j some fit fits makes =
     kind-sound j.kind (pin_waves c ws j) (marked_pin j) j.delay makes (omega (arith, long, least)) (omega (arith, long, most)) (made-mark c ws j fits) (omega (arith, one, some))
     (made-fit c ws j some fit fits)
 
-pub instance-fits : (c : Circuit) (ws : Waves) (j : Instance) → 0 < period c.header → NetsFit c ws → InstanceFits c.header (length c.nets) j →
+pub instance-fits : (c : Circuit) (ws : Waves) (j : Instance) → 0 < period c.header → AreLong c ws → InstanceFits c.header (length c.nets) j →
     Fits values (period c.header) (instance_wave c ws j)
 unfolding instance_wave
 instance-fits c ws j some fit fits =
@@ -119,19 +118,5 @@ all-long : (p : ℕ) (waves : List (Wave Value)) → AllFit values p waves → A
 all-long p [] fits = All-nil (λ (w : Wave Value). length w.cells ≡ p)
 all-long p (w ∷ waves) fits = All-cons (λ (v : Wave Value). length v.cells ≡ p) w waves fits.0.long (all-long p waves fits.1)
 
-pub made-one-period : (c : Circuit) (ws : Waves) (j : Instance) → 0 < period c.header → NetsFit c ws → InstanceFits c.header (length c.nets) j → HaveOnePeriod (pin_waves c ws j)
+pub made-one-period : (c : Circuit) (ws : Waves) (j : Instance) → 0 < period c.header → AreLong c ws → InstanceFits c.header (length c.nets) j → HaveOnePeriod (pin_waves c ws j)
 made-one-period c ws j some fit fits = all-long (period_of (pin_waves c ws j)) (pin_waves c ws j) (made-fit c ws j some fit fits)
-
-normal-at : {A : Type 0} (wave : A → Wave Value) (xs : List A) (i : ℕ) → ((x : A) → IsNormal values (wave x)) → i < length (map wave xs) →
-    IsNormal values (waves_of (map wave xs) i)
-normal-at wave [] i normal below = absurd (omega arith)
-normal-at wave (x ∷ xs) zero normal below = normal x
-normal-at wave (x ∷ xs) (suc i) normal below = normal-at wave xs i normal (omega arith)
-
--- waves that are each in normal form
-pub nets-fit : {A : Type 0} (wave : A → Wave Value) (c : Circuit) (xs : List A) → ((x : A) → IsNormal values (wave x)) → FitWaves c (map wave xs) →
-    NetsFit c (waves_of (map wave xs))
-nets-fit wave c xs normal fit i below = record {
-  long = fit.each_slot i below;
-  normal = normal-at wave xs i normal (let long = fit.each_net in omega (arith, long, below));
-}

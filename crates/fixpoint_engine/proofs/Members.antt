@@ -1,11 +1,11 @@
 -- The nets of a class, found from the last to the first, and changes for all of them.
-use Rattle.std.proofs.Common.{◌≡◌, ℕ, zero, suc, ◌+◌, ◌<◌, ◌≤◌, ◌==◌, Bool, true, false, ◌&&◌, ◌||◌, cond, below_more, All, List, [], ◌∷◌, ◌++◌, append-nil, length, map, take, get_or, refl, sym, ap, subst, ◌∙◌, arith, inl, inr, Option, Some, None, is_some, not}
+use Rattle.std.proofs.Common.{◌≡◌, ℕ, zero, suc, ◌+◌, ◌<◌, ◌==◌, Bool, true, false, ◌&&◌, ◌||◌, cond, below_more, All, List, [], ◌∷◌, ◌++◌, append-nil, length, map, take, get_or, refl, sym, ap, subst, ◌∙◌, arith, nat_lt, Option, Some, None, is_some, not}
 use Rattle.std.specs.Cmp.{both_ways}
 use Rattle.std.specs.List.{list_any, range_with_len}
-use Rattle.std.proofs.lemmas.Bool.{cases_lt, eqb-true, eqb-false, eq-eqb, false_from_ne_true}
-use Rattle.std.proofs.lemmas.List.{append_assoc, map-append, length-set, take_more}
+use Rattle.std.proofs.lemmas.Bool.{eqb-true, eqb-false, eq-eqb, lt-ltb, ltb-true}
+use Rattle.std.proofs.lemmas.List.{append_assoc, map-append, take_more, get_or_default}
 use Rattle.std.proofs.lemmas.List.Elements.{All-nil, All-cons, All-append, All-map, All-head, All-tail}
-use Rattle.std.proofs.Math.ListN.{set, get_or-append}
+use Rattle.std.proofs.Math.ListN.{get_or-append}
 use Rattle.std.proofs.Math.Seq.{get_or-append_seam}
 use Rattle.std.proofs.lemmas.Grind.{get_or_default_zero}
 use Rattle.std.proofs.lemmas.List.Concat.{flat_map-append}
@@ -15,11 +15,9 @@ use Rattle.skew_algebra.specs.Wave.{Wave}
 use Rattle.vector_names.proofs.Ranges.{range-more}
 use Rattle.class_table.specs.Alike.{class_of}
 use Rattle.fixpoint_engine.specs.Value.{Waves}
-use Rattle.fixpoint_engine.specs.Settled.{marked_in}
 use Rattle.fixpoint_engine.specs.Worklist.{Change, among}
 use Rattle.fixpoint_engine.specs.Classes.{is_first}
-use Rattle.fixpoint_engine.specs.Members.{last_below, members_below, for_class, for_classes}
-use Rattle.fixpoint_engine.proofs.Waiting.{marked-set}
+use Rattle.fixpoint_engine.specs.Members.{AreLast, last_below, members_below, for_class, for_classes, leads_in}
 
 -- ---- from one net of a class to the one before
 
@@ -33,7 +31,8 @@ unfolding last_below
 last-some ks class zero t is = cc
 last-some ks class (suc m) t is = by (class_of ks m == class) refl (last-some ks class m t) is
   where
-    by : (here : Bool) → (class_of ks m == class) ≡ here → (last_below ks class m ≡ Some t → (class_of ks t ≡ class) × (t < m)) → cond here (Some m) (last_below ks class m) ≡ Some t → (class_of ks t ≡ class) × (t < suc m)
+    by : (here : Bool) → (class_of ks m == class) ≡ here → (last_below ks class m ≡ Some t → (class_of ks t ≡ class) × (t < m)) →
+        cond here (Some m) (last_below ks class m) ≡ Some t → (class_of ks t ≡ class) × (t < suc m)
     by true e earlier is = let same : m ≡ t = cc in (ap (class_of ks) (sym same) ∙ eqb-true (class_of ks m) class e, omega (arith, same))
     by false e earlier is = let found = earlier is in (found.0, let below : t < m = found.1 in omega (arith, below))
 
@@ -53,7 +52,8 @@ unfolding members_below
 one-more ks class t is = ap (λ (b : Bool). cond b (t ∷ members_below ks class t) (members_below ks class t)) (eq-eqb (class_of ks t) class is)
 
 -- a change is added for one net more, and the others of the class are left
-pub member-added : {A : Type 0} (pair : A → Change) (ks : List ℕ) (class t : ℕ) (w : Wave Value) (made more : List A) (one : A) (at next : Option ℕ) (all : List Change) → at ≡ Some t → class_of ks t ≡ class →
+pub member-added : {A : Type 0} (pair : A → Change) (ks : List ℕ) (class t : ℕ) (w : Wave Value)
+    (made more : List A) (one : A) (at next : Option ℕ) (all : List Change) → at ≡ Some t → class_of ks t ≡ class →
     next ≡ last_below ks (class_of ks t) t → more ≡ made ++ one ∷ [] → pair one ≡ (t, w) → map pair made ++ map (λ i. (i, w)) (members_below ks class (above at)) ≡ all →
     map pair more ++ map (λ i. (i, w)) (members_below ks class (above next)) ≡ all
 member-added pair ks class t w made more one at next all is of goes pushed pairs left =
@@ -61,7 +61,8 @@ member-added pair ks class t w made more one at next all is of goes pushed pairs
     ap (λ (n : Option ℕ). members_below ks class (above n)) (goes ∙ ap (λ (k : ℕ). last_below ks k t) of) ∙ sym (members-above ks class t) in
     let here : members_below ks class (above at) ≡ t ∷ members_below ks class t = ap (λ (n : Option ℕ). members_below ks class (above n)) is ∙ one-more ks class t of in
     let new : map pair more ≡ map pair made ++ (t, w) ∷ [] = ap (map pair) pushed ∙ map-append pair made (one ∷ []) ∙ (λ k. map pair made ++ pairs k ∷ []) in
-    (λ k. new k ++ map (λ i. (i, w)) (rest k)) ∙ append_assoc (map pair made) ((t, w) ∷ []) (map (λ i. (i, w)) (members_below ks class t)) ∙ ap (λ (ms : List ℕ). map pair made ++ map (λ i. (i, w)) ms) (sym here) ∙ left
+    (λ k. new k ++ map (λ i. (i, w)) (rest k)) ∙ append_assoc (map pair made) ((t, w) ∷ []) (map (λ i. (i, w)) (members_below ks class t))
+    ∙ ap (λ (ms : List ℕ). map pair made ++ map (λ i. (i, w)) ms) (sym here) ∙ left
 
 -- the one before is of the class too
 pub goes-down : (ks : List ℕ) (class t s n : ℕ) → (class_of ks t ≡ class) × (t < n) → last_below ks (class_of ks t) t ≡ Some s → (class_of ks s ≡ class) × (s < n)
@@ -77,7 +78,8 @@ falls ks t at next is goes = subst (λ (o : Option ℕ). above next < above o) (
     by (Some s) goes = let less : s < t = (last-some ks (class_of ks t) t s (sym goes)).1 in omega (arith, less)
 
 -- none is left below none
-pub none-left : {A : Type 0} (pair : A → Change) (ks : List ℕ) (class : ℕ) (w : Wave Value) (made : List A) (at : Option ℕ) (all : List Change) → map pair made ++ map (λ i. (i, w)) (members_below ks class (above at)) ≡ all →
+pub none-left : {A : Type 0} (pair : A → Change) (ks : List ℕ) (class : ℕ) (w : Wave Value) (made : List A) (at : Option ℕ) (all : List Change) →
+    map pair made ++ map (λ i. (i, w)) (members_below ks class (above at)) ≡ all →
     at ≡ None → map pair made ≡ all
 unfolding members_below
 none-left pair ks class w made at all left is =
@@ -180,7 +182,8 @@ exist-for-classes ks (ch ∷ changes) =
     (exist-for-classes ks changes)
 
 -- the changes for the classes of one more
-pub class-more : {A : Type 0} (pair : A → Change) (ks : List ℕ) (xs : List A) (i : ℕ) (x : A) (made more : List Change) → i < length xs → x ≡ get_or xs i x → made ≡ for_classes ks (map pair (take i xs)) →
+pub class-more : {A : Type 0} (pair : A → Change) (ks : List ℕ) (xs : List A) (i : ℕ) (x : A) (made more : List Change) →
+    i < length xs → x ≡ get_or xs i x → made ≡ for_classes ks (map pair (take i xs)) →
     more ≡ made ++ for_class ks (pair x) → more ≡ for_classes ks (map pair (take (i + 1) xs))
 class-more pair ks xs i x made more below is before grows =
     let taken : map pair (take (i + 1) xs) ≡ map pair (take i xs) ++ pair x ∷ [] =
@@ -195,7 +198,8 @@ abbrev pub IsTo : Waves → Change → Type 0
 IsTo ws ch = ch.1 ≡ ws ch.0
 
 -- Changes to waves that are one in each class are so for all nets of their classes.
-pub waves-for-classes : (ks : List ℕ) (changes : List Change) (ws : Waves) → AreOne ks ws → All (λ (ch : Change). ch.0 < length ks) changes → All (IsTo ws) changes → All (IsTo ws) (for_classes ks changes)
+pub waves-for-classes : (ks : List ℕ) (changes : List Change) (ws : Waves) → AreOne ks ws →
+    All (λ (ch : Change). ch.0 < length ks) changes → All (IsTo ws) changes → All (IsTo ws) (for_classes ks changes)
 waves-for-classes ks [] ws one exist to = All-nil (IsTo ws)
 waves-for-classes ks (ch ∷ changes) ws one exist to =
     All-append (IsTo ws) (for_class ks ch) (for_classes ks changes)
@@ -225,48 +229,16 @@ some-below ks class (suc m) =
 pub first-is : (ks : List ℕ) (i : ℕ) → is_first ks i ≡ not (is_some (last_below ks (class_of ks i) i))
 first-is ks i = ap not (some-below ks (class_of ks i) i)
 
-pub first-found : (ks : List ℕ) (i : ℕ) (found : Option ℕ) (none : Bool) → found ≡ last_below ks (class_of ks i) i → is_some found ≡ not none → none ≡ is_first ks i
-first-found ks i found none is tells = twice none ∙ ap not (sym tells ∙ ap is_some is) ∙ sym (first-is ks i)
+pub leads-found : (ks now : List ℕ) (before items : List (Option ℕ)) (last : ℕ → Option ℕ) (i : ℕ) (found : Option ℕ) (none : Bool) →
+    AreLast ks items last → ks ≡ now → before ≡ items → true ≡ nat_lt i (length before) →
+    found ≡ get_or before i found → is_some found ≡ not none → none ≡ leads_in (Some now) i
+leads-found ks now before items last i found none are view same within is tells =
+    let below : i < length items = subst (λ (xs : List (Option ℕ)). i < length xs) same (ltb-true i (length before) (sym within)) in
+    let there : i < length ks = let each = are.each_net in omega (arith, each, below) in
+    let one : found ≡ last_below ks (class_of ks i) i = is ∙ ap (λ (xs : List (Option ℕ)). get_or xs i found) same ∙ get_or_default items i found None below ∙ are.of_net i there in
+    twice none ∙ ap not (sym tells ∙ ap is_some one) ∙ sym (first-is ks i) ∙ ap (λ (b : Bool). b && is_first ks i) (sym (lt-ltb i (length ks) there))
+    ∙ ap (λ (xs : List ℕ). leads_in (Some xs) i) view
   where
     twice : (b : Bool) → b ≡ not (not b)
     twice true = refl
     twice false = refl
-
--- one net more is looked at
-pub first-more : (ks : List ℕ) (marks first new : List Bool) (m : ℕ) (added : Bool) → m < length first → added ≡ (marked_in marks m && is_first ks m) → new ≡ cond added (set first m true) first →
-    ((i : ℕ) → i < m → marked_in first i ≡ (marked_in marks i && is_first ks i)) → ((i : ℕ) → m ≤ i → marked_in first i ≡ false) →
-    (length new ≡ length first) × (((i : ℕ) → i < m + 1 → marked_in new i ≡ (marked_in marks i && is_first ks i)) × ((i : ℕ) → m + 1 ≤ i → marked_in new i ≡ false))
-first-more ks marks first new m true below adds is before after = (
-  ap length is ∙ length-set first m true,
-  (
-    below_more (λ i. marked_in new i ≡ (marked_in marks i && is_first ks i)) m
-        (λ i less. at i ∙ apart i (λ same. let e : m ≡ i = same in omega (arith, less, e)) ∙ before i less)
-        (at m ∙ ap (λ (b : Bool). cond b true (marked_in first m)) (eq-eqb m m refl) ∙ adds),
-    λ i more. at i ∙ apart i (λ same. let e : m ≡ i = same in omega (arith, more, e)) ∙ after i (omega (arith, more)),
-  ),
-)
-  where
-    at : (i : ℕ) → marked_in new i ≡ cond (m == i) true (marked_in first i)
-    at i = ap (λ (ms : List Bool). marked_in ms i) is ∙ marked-set first m i true below
-
-    apart : (i : ℕ) → (m ≡ i → ⊥) → cond (m == i) true (marked_in first i) ≡ marked_in first i
-    apart i differ = ap (λ (b : Bool). cond b true (marked_in first i)) (false_from_ne_true (m == i) (λ same. differ (eqb-true m i same)))
-first-more ks marks first new m false below adds is before after = (
-  ap length is,
-  (
-    below_more (λ i. marked_in new i ≡ (marked_in marks i && is_first ks i)) m (λ i less. at i ∙ before i less) (at m ∙ after m (omega arith) ∙ adds),
-    λ i more. at i ∙ after i (omega (arith, more)),
-  ),
-)
-  where
-    at : (i : ℕ) → marked_in new i ≡ marked_in first i
-    at i = ap (λ (ms : List Bool). marked_in ms i) is
-
--- the nets of a set that are first in their classes, once each net of the set was looked at
-pub first-all : (ks : List ℕ) (marks first : List Bool) (m : ℕ) → ((i : ℕ) → marked_in marks i ≡ true → i < m) →
-    ((i : ℕ) → i < m → marked_in first i ≡ (marked_in marks i && is_first ks i)) → ((i : ℕ) → m ≤ i → marked_in first i ≡ false) → (i : ℕ) → marked_in first i ≡ (marked_in marks i && is_first ks i)
-first-all ks marks first m within before after i =
-    elim (cases_lt i m) [
-      | inl less ↦ before i less
-      | inr more ↦ after i more ∙ sym (ap (λ (b : Bool). b && is_first ks i) (false_from_ne_true (marked_in marks i) (λ marked. let less = within i marked in omega (arith, less, more))))
-    ]

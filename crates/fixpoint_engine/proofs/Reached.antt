@@ -1,9 +1,9 @@
 -- Rounds one after the other: what is not due stays, and how rounds come to rest or do not.
-use Rattle.std.proofs.Common.{◌≡◌, ℕ, zero, suc, ◌+◌, ◌<◌, ◌≤◌, Bool, true, false, ◌&&◌, cond, refl, sym, ◌∙◌, arith, below_more}
+use Rattle.std.proofs.Common.{◌≡◌, ℕ, zero, suc, ◌<◌, ◌≤◌, Bool, true, false, ◌&&◌, cond, refl, sym, ◌∙◌, arith, below_more}
 use Rattle.flat_circuit.specs.Circuit.{Circuit}
 use Rattle.fixpoint_engine.specs.Value.{Waves}
 use Rattle.fixpoint_engine.specs.Rounds.{driver, evaluated, next, round, AreSame, DiffersFirst, IsUnsettled}
-use Rattle.fixpoint_engine.specs.Work.{differs, hears_in, is_due, due_count, work_to}
+use Rattle.fixpoint_engine.specs.Work.{differs, hears_in, is_due}
 use Rattle.fixpoint_engine.specs.Settled.{AreAtRest}
 use Rattle.fixpoint_engine.proofs.Hearing.{stays}
 
@@ -50,7 +50,11 @@ reached-start c active start ws same = record { is = same; moving = λ s below. 
 
 pub reached-more : (c : Circuit) (active : ℕ → Bool) (start ws after : Waves) (r : ℕ) → Reached c active start r ws → AreSame after (round c active start (suc r)) →
     ¬ AreSame (round c active start (suc r)) (round c active start r) → Reached c active start (suc r) after
-reached-more c active start ws after r reached same moves = record { is = same; moving = λ s below. below_more (λ k. ¬ AreSame (round c active start (suc k)) (round c active start k)) r reached.moving moves s (omega arith) }
+reached-more c active start ws after r reached same moves = record {
+  is = same;
+  moving =
+      λ s below. below_more (λ k. ¬ AreSame (round c active start (suc k)) (round c active start k)) r reached.moving moves s (omega arith);
+}
 
 pub at-rest : (c : Circuit) (active : ℕ → Bool) (start ws : Waves) (limit r : ℕ) → Reached c active start r ws → r ≤ limit → AreSame (round c active start (suc r)) (round c active start r) →
     AreAtRest c active start limit r ws
@@ -63,8 +67,3 @@ not-at-rest c active start ws limit place reached differs = record {
       (λ still. differs.differs (sym (still _))) r (omega arith);
   first = differs;
 }
-
--- the evaluations of one round more
-pub work-more : (c : Circuit) (active : ℕ → Bool) (rounds : ℕ → Waves) (r : ℕ) → work_to c active rounds (suc r) ≡ work_to c active rounds r + due_count c active rounds (suc r)
-unfolding work_to
-work-more c active rounds r = refl

@@ -98,7 +98,8 @@ output-among (j ∷ js) (suc k) i is =
 abbrev Changes : Circuit → (ℕ → Bool) → Waves → ℕ → ℕ → Type 0
 Changes c active start r i = differs (round c active start r) (round c active start (suc r)) i ≡ true
 
-unchanged : (c : Circuit) (active : ℕ → Bool) (start : Waves) (r i : ℕ) → round c active start (suc r) i ≡ round c active start r i → differs (round c active start r) (round c active start (suc r)) i ≡ false
+unchanged : (c : Circuit) (active : ℕ → Bool) (start : Waves) (r i : ℕ) →
+    round c active start (suc r) i ≡ round c active start r i → differs (round c active start r) (round c active start (suc r)) i ≡ false
 unchanged c active start r i same = ap (λ (w : Wave Value). not (same_wave (round c active start r i) w)) same ∙ ap not (same_wave-self (round c active start r i))
 
 change-due : (c : Circuit) (active : ℕ → Bool) (start : Waves) (r i : ℕ) → Changes c active start r i → is_due c active (round c active start) (suc r) i ≡ true
@@ -208,6 +209,7 @@ rests-soon c active start limit r known none rests = elim (cases_lt (outputs c.i
   | inr soon ↦ soon
 ]
 
-pub rests-within : (c : Circuit) (active : ℕ → Bool) (start : Waves) (limit : ℕ) (e : EngineEnd) → IsCircuit c → HasNoLoop c → outputs c.instances ≤ limit → EndsFor c.order (round c active start) limit e → e ≡ NoMemory
+pub rests-within : (c : Circuit) (active : ℕ → Bool) (start : Waves) (limit : ℕ) (e : EngineEnd) →
+    IsCircuit c → HasNoLoop c → outputs c.instances ≤ limit → EndsFor c.order (round c active start) limit e → e ≡ NoMemory
 rests-within c active start limit NoMemory known none within ends = refl
 rests-within c active start limit (Unsettled net at) known none within ends = absurd (ends.0.never (outputs c.instances) within (rests-by-outputs c active start known none))

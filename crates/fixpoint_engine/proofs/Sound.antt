@@ -20,14 +20,13 @@ use Rattle.flat_circuit.specs.Instances.{InstanceFits, PinExists, TargetExists, 
 use Rattle.flat_circuit.specs.Circuit.{Circuit, IsCircuit, driver_at}
 use Rattle.flat_circuit.specs.Run.{Choice, Run, IsRun, IsRunAt, net_signal, target_signal, pin_signal, pin_signals, out_signal, WireFits, WiresFit}
 use Rattle.gate_eval.specs.Permitted.{AllPermit}
-use Rattle.gate_eval.proofs.Fitting.{Fits}
 use Rattle.pin_waves.proofs.Pins.{Permits-pin}
 use Rattle.pin_waves.proofs.CodeSlots.{Permits-constant}
 use Rattle.fixpoint_engine.specs.Value.{Waves, target_wave, target_wire, pin_wave, pin_waves, marked_pin, made_by, turned_wave, instance_wave}
 use Rattle.fixpoint_engine.specs.Rounds.{instance_in, wave_from, evaluated, next, round}
 use Rattle.fixpoint_engine.specs.Reach.{greatest_wire, greatest_delay, farthest, reach}
 use Rattle.fixpoint_engine.specs.Interface.{PermitRun}
-use Rattle.fixpoint_engine.proofs.Fits.{NetsFit, AreLong, length-turned, long-target}
+use Rattle.fixpoint_engine.proofs.Fits.{AreLong, length-turned, long-target}
 use Rattle.fixpoint_engine.proofs.Asked.{wire-within, wires-within, asked}
 use Rattle.fixpoint_engine.proofs.Drivers.{fits-of, makes-of}
 use Rattle.fixpoint_engine.proofs.Made.{made-sound, made-long, instance-fits}
@@ -61,7 +60,8 @@ pin-permits c run ws p w v u some long exists permits v1 wire far =
     (target-permits c run ws p.target v some exists permits) low high v1 (omega (arith, high, far)) (omega arith)
     (λ t tu tm. ap (turned p.inverted) (shown run p.target w t))
 
-pins-permit : (c : Circuit) (run : Run) (ws : Waves) (ps : List Pin) (wires : List ℕ) (v u : ℕ) → 0 < period c.header → AreLong c ws → All (PinExists (length c.nets)) ps → PermitRun c run ws v → 1 ≤ v →
+pins-permit : (c : Circuit) (run : Run) (ws : Waves) (ps : List Pin) (wires : List ℕ) (v u : ℕ) →
+    0 < period c.header → AreLong c ws → All (PinExists (length c.nets)) ps → PermitRun c run ws v → 1 ≤ v →
     WiresFit c.nets ps wires → v + greatest_wire c.nets ps ≤ u →
     AllPermit values (map (pin_wave c ws) ps) run.ticks (pin_signals run ps wires) u
 pins-permit c run ws [] [] v u some long exist permits v1 fits far = tt
@@ -84,7 +84,8 @@ turned-permits : (inverted : Bool) (w : Wave Value) (n v : ℕ) (x : Signal) →
 turned-permits true w n v x some permits = Permits-flipped values values_lawful w some n v x permits
 turned-permits false w n v x some permits = permits
 
-instance-permits : (c : Circuit) (run : Run) (ws : Waves) (j : Instance) (i : ℕ) (choice : Choice) (v u : ℕ) → 0 < period c.header → NetsFit c ws → InstanceFits c.header (length c.nets) j → PermitRun c run ws v → 1 ≤ v →
+instance-permits : (c : Circuit) (run : Run) (ws : Waves) (j : Instance) (i : ℕ) (choice : Choice) (v u : ℕ) →
+    0 < period c.header → AreLong c ws → InstanceFits c.header (length c.nets) j → PermitRun c run ws v → 1 ≤ v →
     IsRunAt c run j choice → has_output j.kind ≡ true → j.out ≡ Some (OnNet i) → v + greatest_wire c.nets j.pins + j.delay.max + 1 ≤ u →
     Permits values (instance_wave c ws j) run.ticks (net_signal run i) u
 unfolding instance_wave
@@ -95,13 +96,14 @@ instance-permits c run ws j i choice v u some fit fits permits v1 at makes out f
     let wires = wires-within c.nets j.pins choice.wires at.wires in
     let made_permits : Permits values made run.ticks output (seen + j.delay.max + 1) =
     made-sound c ws j some fit fits makes run.ticks run.ticks seen choice.delay (pin_signals run j.pins choice.wires) output
-    (pins-permit c run ws j.pins choice.wires v seen some (λ k below. (fit k below).long) fits.exists.reads permits v1 at.wires (omega arith))
+    (pins-permit c run ws j.pins choice.wires v seen some fit fits.exists.reads permits v1 at.wires (omega arith))
     (omega arith) at.delay (omega arith)
     (λ t tv tm. at.obeys t tm (asked j.kind j.delay choice.delay choice.wires t makes at.delay (omega (arith, wires)))) in
     let long : length made.cells ≡ period c.header = made-long c ws j some fit fits in
     let turned_permits = turned-permits j.out_inverted made run.ticks (seen + j.delay.max + 1) output (omega arith) made_permits in
     let turned_long : length (turned_wave j.out_inverted made).cells ≡ period c.header = length-turned j.out_inverted made ∙ long in
-    let normal_permits = Permits-normal values values_lawful (turned_wave j.out_inverted made) (omega arith) run.ticks (seen + j.delay.max + 1) (λ t. turned j.out_inverted (output t)) turned_permits in
+    let normal_permits = Permits-normal values values_lawful (turned_wave j.out_inverted made)
+    (omega arith) run.ticks (seen + j.delay.max + 1) (λ t. turned j.out_inverted (output t)) turned_permits in
     Permits-after values (normal values (turned_wave j.out_inverted made)) run.ticks (seen + j.delay.max + 1) u (net_signal run i) far
     (subst (λ (x : Signal). Permits values (normal values (turned_wave j.out_inverted made)) run.ticks x (seen + j.delay.max + 1)) (is-net j.out out j.out_inverted) normal_permits)
   where
@@ -130,7 +132,8 @@ choice-of (a ∷ xs) [] k x long is = absurd (omega arith)
 choice-of (a ∷ xs) (b ∷ ys) zero x long is = (b, refl)
 choice-of (a ∷ xs) (b ∷ ys) (suc k) x long is = choice-of xs ys k x (omega arith) is
 
-driver-permits : (c : Circuit) (run : Run) (ws : Waves) (i : ℕ) (v : ℕ) (found : Option ℕ) → driver_at c.nets i ≡ found → 0 < period c.header → IsCircuit c → IsRun c run → NetsFit c ws → PermitRun c run ws v → 1 ≤ v → i < length c.nets →
+driver-permits : (c : Circuit) (run : Run) (ws : Waves) (i : ℕ) (v : ℕ) (found : Option ℕ) → driver_at c.nets i ≡ found →
+    0 < period c.header → IsCircuit c → IsRun c run → AreLong c ws → PermitRun c run ws v → 1 ≤ v → i < length c.nets →
     Permits values (wave_from c ws (instance_in c found) (ws i)) run.ticks (net_signal run i) (v + reach c)
 driver-permits c run ws i v None is some known isrun fit permits v1 below =
     Permits-after values (ws i) run.ticks v (v + reach c) (net_signal run i) (omega arith) (permits i below)
@@ -146,7 +149,7 @@ driver-permits c run ws i v (Some k) is some known isrun fit permits v1 below = 
         instance-permits c run ws j i choice.0 v (v + reach c) some fit (fits-of c k j known at) permits v1 (isrun.at k j choice.0 at choice.1) makes out
         (omega (arith, far, own))
 
-next-permits : (c : Circuit) (active : ℕ → Bool) (run : Run) (ws : Waves) (v : ℕ) → 0 < period c.header → IsCircuit c → IsRun c run → NetsFit c ws → PermitRun c run ws v → 1 ≤ v →
+next-permits : (c : Circuit) (active : ℕ → Bool) (run : Run) (ws : Waves) (v : ℕ) → 0 < period c.header → IsCircuit c → IsRun c run → AreLong c ws → PermitRun c run ws v → 1 ≤ v →
     PermitRun c run (next c active ws) (v + reach c)
 unfolding next
 next-permits c active run ws v some known isrun fit permits v1 i below =
@@ -154,26 +157,26 @@ next-permits c active run ws v some known isrun fit permits v1 i below =
     (λ a. driver-permits c run ws i v (driver_at c.nets i) refl some known isrun fit permits v1 below)
     (λ a. Permits-after values (ws i) run.ticks v (v + reach c) (net_signal run i) (omega arith) (permits i below))
 
-next-fits : (c : Circuit) (active : ℕ → Bool) (ws : Waves) → 0 < period c.header → IsCircuit c → NetsFit c ws → NetsFit c (next c active ws)
+next-long : (c : Circuit) (active : ℕ → Bool) (ws : Waves) → 0 < period c.header → IsCircuit c → AreLong c ws → AreLong c (next c active ws)
 unfolding next
-next-fits c active ws some known fit i below =
-    cond_both (active i) (evaluated c ws i) (ws i) (Fits values (period c.header)) (λ a. by-driver (driver_at c.nets i) refl) (λ a. fit i below)
+next-long c active ws some known fit i below =
+    cond_both (active i) (evaluated c ws i) (ws i) (λ (w : Wave Value). length w.cells ≡ period c.header) (λ a. by-driver (driver_at c.nets i) refl) (λ a. fit i below)
   where
-    by : (k : ℕ) (j : Option Instance) → slice_get c.instances k ≡ j → out_of j ≡ Some (OnNet i) → Fits values (period c.header) (wave_from c ws j (ws i))
+    by : (k : ℕ) (j : Option Instance) → slice_get c.instances k ≡ j → out_of j ≡ Some (OnNet i) → length (wave_from c ws j (ws i)).cells ≡ period c.header
     by k None at out = fit i below
-    by k (Some j) at out = instance-fits c ws j some fit (fits-of c k j known at)
+    by k (Some j) at out = (instance-fits c ws j some fit (fits-of c k j known at)).long
 
-    by-driver : (found : Option ℕ) → driver_at c.nets i ≡ found → Fits values (period c.header) (wave_from c ws (instance_in c found) (ws i))
+    by-driver : (found : Option ℕ) → driver_at c.nets i ≡ found → length (wave_from c ws (instance_in c found) (ws i)).cells ≡ period c.header
     by-driver None is = fit i below
     by-driver (Some k) is = by k (slice_get c.instances k) refl (known.drivers.is i k is)
 
-pub round-fits : (c : Circuit) (active : ℕ → Bool) (start : Waves) (r : ℕ) → 0 < period c.header → IsCircuit c → NetsFit c start → NetsFit c (round c active start r)
+pub round-long : (c : Circuit) (active : ℕ → Bool) (start : Waves) (r : ℕ) → 0 < period c.header → IsCircuit c → AreLong c start → AreLong c (round c active start r)
 unfolding round
-round-fits c active start zero some known fit i below = fit i below
-round-fits c active start (suc r) some known fit i below = next-fits c active (round c active start r) some known (round-fits c active start r some known fit) i below
+round-long c active start zero some known fit i below = fit i below
+round-long c active start (suc r) some known fit i below = next-long c active (round c active start r) some known (round-long c active start r some known fit) i below
 
 -- The waves of round r permit each run that those at the start permit, so many ticks later.
-pub round-sound : (c : Circuit) (active : ℕ → Bool) (start : Waves) (r : ℕ) → 0 < period c.header → IsCircuit c → NetsFit c start →
+pub round-sound : (c : Circuit) (active : ℕ → Bool) (start : Waves) (r : ℕ) → 0 < period c.header → IsCircuit c → AreLong c start →
     (run : Run) (v : ℕ) → IsRun c run → 1 ≤ v → PermitRun c run start v → PermitRun c run (round c active start r) (v + r * reach c)
 unfolding round
 round-sound c active start zero some known fit run v isrun v1 permits i below =
@@ -181,4 +184,4 @@ round-sound c active start zero some known fit run v isrun v1 permits i below =
 round-sound c active start (suc r) some known fit run v isrun v1 permits i below =
     let before : PermitRun c run (round c active start r) (v + r * reach c) = round-sound c active start r some known fit run v isrun v1 permits in
     Permits-after values (next c active (round c active start r) i) run.ticks (v + r * reach c + reach c) (v + suc r * reach c) (net_signal run i) (omega arith)
-    (next-permits c active run (round c active start r) (v + r * reach c) some known isrun (round-fits c active start r some known fit) before (omega arith) i below)
+    (next-permits c active run (round c active start r) (v + r * reach c) some known isrun (round-long c active start r some known fit) before (omega arith) i below)

@@ -14,10 +14,10 @@ use Rattle.fixpoint_engine.specs.Settled.{waves_of, FitWaves, AreAtRest}
 use Rattle.fixpoint_engine.specs.End.{EndsAt, EndsFor}
 use Rattle.fixpoint_engine.specs.Worklist.{Change, changed, among}
 use Rattle.fixpoint_engine.proofs.Same.{same_wave-is, same_wave-self}
-use Rattle.fixpoint_engine.proofs.Fits.{NetsFit}
+use Rattle.fixpoint_engine.proofs.Fits.{AreLong}
 use Rattle.fixpoint_engine.proofs.Changing.{length-changed}
 use Rattle.fixpoint_engine.proofs.Reached.{Reached, reached-more, at-rest, not-at-rest}
-use Rattle.fixpoint_engine.proofs.Sound.{round-fits}
+use Rattle.fixpoint_engine.proofs.Sound.{round-long}
 
 abbrev pub nets_of : List Change → ℕ → Bool
 nets_of made = among (map (λ (ch : Change). ch.0) made)
@@ -62,8 +62,8 @@ module _ (c : Circuit) (active : ℕ → Bool) (start : Waves) (waves : List (Wa
       pub turn-reaches : 0 < length made → Reached c active start (suc r) (waves_of after)
       turn-reaches some = reached-more c active start (waves_of waves) (waves_of after) r reached next-round (turn-moves made turn some)
 
-      pub turn-fits : IsCircuit c → 0 < period c.header → NetsFit c start → FitWaves c waves → FitWaves c after
+      pub turn-fits : IsCircuit c → 0 < period c.header → AreLong c start → FitWaves c waves → FitWaves c after
       turn-fits known some fit waves-fit = record {
         each_net = ap length same ∙ length-changed made waves ∙ waves-fit.each_net;
-        each_slot = λ i below. ap (λ (w : Wave Value). length w.cells) (next-round i) ∙ (round-fits c active start (suc r) some known fit i below).long;
+        each_slot = λ i below. ap (λ (w : Wave Value). length w.cells) (next-round i) ∙ round-long c active start (suc r) some known fit i below;
       }

@@ -133,14 +133,16 @@ pub same-queue : (nets new : List ℕ) (marks set : List Bool) → new ≡ nets 
 same-queue nets new marks set same-nets same-marks queue =
     subst (λ (ms : List Bool). IsQueue (record { nets = new; marks = ms })) (sym same-marks) (subst (λ (ns : List ℕ). IsQueue (record { nets = ns; marks = marks })) (sym same-nets) queue)
 
-pub take-last : (nets rest : List ℕ) (marks less : List Bool) (last : ℕ) → nets ≡ rest ++ last ∷ [] → less ≡ set marks last false → IsQueue (record { nets = nets; marks = marks }) → IsQueue (record { nets = rest; marks = less })
+pub take-last : (nets rest : List ℕ) (marks less : List Bool) (last : ℕ) → nets ≡ rest ++ last ∷ [] →
+    less ≡ set marks last false → IsQueue (record { nets = nets; marks = marks }) → IsQueue (record { nets = rest; marks = less })
 take-last nets rest marks less last ends unmarks queue =
     same-queue rest rest (set marks last false) less refl unmarks (taken-queue rest marks last (same-queue nets (rest ++ last ∷ []) marks marks (sym ends) refl queue))
 
 pub last-exists : (nets rest : List ℕ) (marks : List Bool) (last : ℕ) → nets ≡ rest ++ last ∷ [] → IsQueue (record { nets = nets; marks = marks }) → last < length marks
 last-exists nets rest marks last ends queue = last-below rest marks last (same-queue nets (rest ++ last ∷ []) marks marks (sym ends) refl queue)
 
-pub add-net : (nets more : List ℕ) (marks new : List Bool) (net : ℕ) → more ≡ nets ++ net ∷ [] → new ≡ set marks net true → net < length marks → marked_in marks net ≡ false → IsQueue (record { nets = nets; marks = marks }) →
+pub add-net : (nets more : List ℕ) (marks new : List Bool) (net : ℕ) → more ≡ nets ++ net ∷ [] →
+    new ≡ set marks net true → net < length marks → marked_in marks net ≡ false → IsQueue (record { nets = nets; marks = marks }) →
     IsQueue (record { nets = more; marks = new })
 add-net nets more marks new net ends sets below free queue = same-queue (nets ++ net ∷ []) more (set marks net true) new ends sets (added-queue nets marks net queue below free)
 

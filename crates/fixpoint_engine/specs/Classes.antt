@@ -1,9 +1,10 @@
 -- Classes of nets that have one wave in every round, and how many evaluations that leaves.
-use Rattle.std.specs.Prelude.{◌≡◌, ℕ, zero, suc, ◌+◌, ◌<◌, Bool, not, ◌&&◌, ◌==◌, List, length, count_by}
+use Rattle.std.specs.Prelude.{◌≡◌, ℕ, zero, suc, ◌+◌, ◌<◌, ◌≤◌, Bool, false, not, ◌&&◌, ◌==◌, List, length, count_by}
 use Rattle.std.specs.List.{list_any, range_with_len}
 use Rattle.flat_circuit.specs.Circuit.{Circuit}
 use Rattle.class_table.specs.Alike.{class_of}
 use Rattle.fixpoint_engine.specs.Value.{Waves}
+use Rattle.fixpoint_engine.specs.Rounds.{round}
 use Rattle.fixpoint_engine.specs.Work.{is_due}
 
 -- nets of one class have one wave
@@ -20,6 +21,12 @@ AreTogether c classes set =
 pub record GoTogether (c : Circuit) (classes : List ℕ) (active : ℕ → Bool) (rounds : ℕ → Waves) : Type 0 where
   pub waves : (r : ℕ) → HaveOneWave c classes (rounds r)
   pub due : (r : ℕ) → AreTogether c classes (is_due c active rounds r)
+
+-- One net of each class may stand for all, in every round from these waves.
+pub record OneStandsForAll (c : Circuit) (active : ℕ → Bool) (classes : List ℕ) (start : Waves) : Type 0 where
+  pub each_net : length classes ≡ length c.nets
+  pub one : (r : ℕ) → HaveOneWave c classes (round c active start r)
+  pub none : (i : ℕ) → length c.nets ≤ i → active i ≡ false
 
 -- no net before it is of its class
 abbrev pub is_first : List ℕ → ℕ → Bool

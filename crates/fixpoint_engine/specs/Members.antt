@@ -1,8 +1,10 @@
--- The nets of a class, and what one of them changes to, for all of them.
-use Rattle.std.specs.Prelude.{◌≡◌, ℕ, zero, suc, ◌<◌, ◌==◌, if◌then◌else◌, List, [], ◌∷◌, length, map, slice_index_or, Option, Some, None}
-use Rattle.std.specs.List.{flat_map}
+-- The nets of a class, the first of which stands for all of them: it alone is evaluated, and they all change to its wave.
+use Rattle.std.specs.Prelude.{◌≡◌, ℕ, zero, suc, ◌<◌, ◌==◌, Bool, true, ◌&&◌, nat_lt, if◌then◌else◌, List, [], ◌∷◌, length, map, slice_index_or, Option, Some, None}
+use Rattle.std.specs.List.{flat_map, range_with_len}
 use Rattle.class_table.specs.Alike.{class_of}
+use Rattle.fixpoint_engine.specs.Settled.{marked_in}
 use Rattle.fixpoint_engine.specs.Worklist.{Change}
+use Rattle.fixpoint_engine.specs.Classes.{is_first}
 
 -- the last net of a class below a number
 unfoldable pub last_below : List ℕ → ℕ → ℕ → Option ℕ
@@ -27,3 +29,24 @@ pub record AreLast (classes : List ℕ) (before : List (Option ℕ)) (last : ℕ
   pub each_net : length before ≡ length classes
   pub of_net : (i : ℕ) → i < length classes → slice_index_or before i None ≡ last_below classes (class_of classes i) i
   pub of_class : (class : ℕ) → last class ≡ last_below classes class (length classes)
+
+-- ---- where classes may be left out: each net is then a class of its own
+
+-- the class of each net
+abbrev pub numbers_in : ℕ → Option (List ℕ) → List ℕ
+numbers_in nets None = range_with_len 0 nets
+numbers_in nets (Some classes) = classes
+
+-- whether a net stands for its class
+abbrev pub leads_in : Option (List ℕ) → ℕ → Bool
+leads_in None i = true
+leads_in (Some classes) i = nat_lt i (length classes) && is_first classes i
+
+-- whether a net of a set is evaluated, when it is due
+abbrev pub is_evaluated : List Bool → Option (List ℕ) → ℕ → Bool
+is_evaluated active classes i = marked_in active i && leads_in classes i
+
+-- these changes, each for all nets for which its own stands
+abbrev pub for_all : Option (List ℕ) → List Change → List Change
+for_all None changes = changes
+for_all (Some classes) changes = for_classes classes changes

@@ -2,7 +2,6 @@
 
 ghost use Rattle.std.specs.Prelude.{◌≡◌, ◌<◌, ◌++◌, ◌∷◌, [], IfOk, OnOk, length, map};
 ghost use Rattle.std.specs.List.{All};
-ghost use Rattle.skew_algebra.specs.Wave.{skewed};
 ghost use Rattle.fixpoint_engine.specs.Settled.{FitWaves, waves_of};
 ghost use Rattle.fixpoint_engine.specs.Worklist.{changed, changes_of};
 
@@ -31,9 +30,10 @@ fn add_change<W: CyclicWave<Item = Value>>(
     net: u32,
 ) -> Result<(), NoMemory>
     requires exists { net < length c.now.nets }
-    requires fit { FitWaves c.now (map (λ s. skewed (W.cells s.wave) s.skew) waves.now) }
-    ensures { let before = waves_of (map (λ s. skewed (W.cells s.wave) s.skew) waves.now) in
-        OnOk result (map (λ ch. (ch.net, skewed (W.cells ch.wave.wave) ch.wave.skew)) made.new.items ≡ map (λ ch. (ch.net, skewed (W.cells ch.wave.wave) ch.wave.skew)) made.old.items ++ changes_of c.now before (net ∷ [])) }
+    requires fit { FitWaves c.now waves.now }
+    ensures { let before = waves_of waves.now in
+        OnOk result (map (λ ch. (ch.net, ch.wave)) made.new.items
+        ≡ map (λ ch. (ch.net, ch.wave)) made.old.items ++ changes_of c.now before (net ∷ [])) }
 {
     let wave = evaluated(alloc, c, waves, net)?;
     if !wave.same(&waves.as_slice()[net as usize]) {
@@ -50,8 +50,9 @@ pub fn changes<W: CyclicWave<Item = Value>>(
     nets: &[u32],
 ) -> Result<Vec<Change<W>>, NoMemory>
     requires exist { All (λ i. i < length c.now.nets) nets.now }
-    requires fit { FitWaves c.now (map (λ s. skewed (W.cells s.wave) s.skew) waves.now) }
-    ensures { IfOk result (λ made. map (λ ch. (ch.net, skewed (W.cells ch.wave.wave) ch.wave.skew)) made.items ≡ changes_of c.now (waves_of (map (λ s. skewed (W.cells s.wave) s.skew) waves.now)) nets.now) }
+    requires fit { FitWaves c.now waves.now }
+    ensures { IfOk result (λ made.
+        map (λ ch. (ch.net, ch.wave)) made.items ≡ changes_of c.now (waves_of waves.now) nets.now) }
 {
     let mut made = Vec::new(alloc);
     for net in nets {
@@ -63,7 +64,7 @@ pub fn changes<W: CyclicWave<Item = Value>>(
 /// Puts the new waves in the place of the old ones.
 pub fn apply<W: CyclicWave<Item = Value>>(waves: &mut Waves<W>, changes: Vec<Change<W>>)
     requires { All (λ ch. ch.net < length waves.old) changes.items }
-    ensures { map (λ s. skewed (W.cells s.wave) s.skew) waves.new ≡ changed (map (λ s. skewed (W.cells s.wave) s.skew) waves.old) (map (λ ch. (ch.net, skewed (W.cells ch.wave.wave) ch.wave.skew)) changes.items) }
+    ensures { waves.new ≡ changed waves.old (map (λ ch. (ch.net, ch.wave)) changes.items) }
 {
     for change in changes {
         waves.set(change.net as usize, change.wave);

@@ -1,10 +1,10 @@
 //! What one round changes, where one net of each class stands for all.
 
-ghost use Rattle.std.specs.Prelude.{◌≡◌, ◌<◌, ◌++◌, IfOk, OnOk, length, map};
+ghost use Rattle.std.specs.Prelude.{◌≡◌, ◌<◌, ◌++◌, IfOk, IfSome, OnOk, length, map};
 ghost use Rattle.std.specs.List.{All};
-ghost use Rattle.skew_algebra.specs.Wave.{skewed};
+ghost use Rattle.std.specs.Option.{option_copied};
 ghost use Rattle.fixpoint_engine.specs.Settled.{FitWaves, waves_of};
-ghost use Rattle.fixpoint_engine.specs.Members.{for_class, for_classes};
+ghost use Rattle.fixpoint_engine.specs.Members.{for_all, for_class, for_classes};
 ghost use Rattle.fixpoint_engine.specs.Worklist.{changes_of};
 
 use crate::changes::{Change, changes};
@@ -24,7 +24,8 @@ fn add_class<W: CyclicWave<Item = Value>>(
     change: &Change<W>,
 ) -> Result<(), NoMemory>
     requires { change.now.net < length classes.now }
-    ensures { OnOk result (map (λ ch. (ch.net, skewed (W.cells ch.wave.wave) ch.wave.skew)) made.new.items ≡ map (λ ch. (ch.net, skewed (W.cells ch.wave.wave) ch.wave.skew)) made.old.items ++ for_class classes.now (change.now.net, skewed (W.cells change.now.wave.wave) change.now.wave.skew)) }
+    ensures { OnOk result (map (λ ch. (ch.net, ch.wave)) made.new.items
+        ≡ map (λ ch. (ch.net, ch.wave)) made.old.items ++ for_class classes.now (change.now.net, change.now.wave)) }
 {
     let mut at = classes.last(change.net);
     while let Some(net) = at {
@@ -42,7 +43,8 @@ fn for_classes<W: CyclicWave<Item = Value>>(
     changes: &[Change<W>],
 ) -> Result<Vec<Change<W>>, NoMemory>
     requires { All (λ ch. ch.net < length classes.now) changes.now }
-    ensures { IfOk result (λ made. map (λ ch. (ch.net, skewed (W.cells ch.wave.wave) ch.wave.skew)) made.items ≡ for_classes classes.now (map (λ ch. (ch.net, skewed (W.cells ch.wave.wave) ch.wave.skew)) changes.now)) }
+    ensures { IfOk result (λ made. map (λ ch. (ch.net, ch.wave)) made.items
+        ≡ for_classes classes.now (map (λ ch. (ch.net, ch.wave)) changes.now)) }
 {
     let mut made = Vec::new(alloc);
     for change in changes {
@@ -56,15 +58,19 @@ fn for_classes<W: CyclicWave<Item = Value>>(
 pub fn class_changes<W: CyclicWave<Item = Value>>(
     alloc: Global,
     c: &Circuit,
-    classes: &ClassNets,
+    classes: Option<&ClassNets>,
     waves: &Waves<W>,
     nets: &[u32],
 ) -> Result<Vec<Change<W>>, NoMemory>
-    requires each_net { length classes.now ≡ length c.now.nets }
+    requires each_net { IfSome (option_copied classes) (λ numbers. length numbers ≡ length c.now.nets) }
     requires exist { All (λ i. i < length c.now.nets) nets.now }
-    requires fit { FitWaves c.now (map (λ s. skewed (W.cells s.wave) s.skew) waves.now) }
-    ensures { IfOk result (λ made. map (λ ch. (ch.net, skewed (W.cells ch.wave.wave) ch.wave.skew)) made.items ≡ for_classes classes.now (changes_of c.now (waves_of (map (λ s. skewed (W.cells s.wave) s.skew) waves.now)) nets.now)) }
+    requires fit { FitWaves c.now waves.now }
+    ensures { IfOk result (λ made. map (λ ch. (ch.net, ch.wave)) made.items
+        ≡ for_all (option_copied classes.entry) (changes_of c.now (waves_of waves.now) nets.now)) }
 {
     let made = changes(alloc, c, waves, nets)?;
-    for_classes(alloc, classes, &made)
+    match classes {
+        Some(classes) => for_classes(alloc, classes, &made),
+        None => Ok(made),
+    }
 }

@@ -1,10 +1,9 @@
 //! The nets of each class.
 
-ghost use Rattle.std.specs.Prelude.{◌≡◌, ◌<◌, ◌&&◌, ℕ, IfOk, length, true};
+ghost use Rattle.std.specs.Prelude.{◌≡◌, ◌<◌, IfOk, Some, length};
+ghost use Rattle.std.specs.Option.{option_copied};
 ghost use Rattle.class_table.specs.Alike.{class_of};
-ghost use Rattle.fixpoint_engine.specs.Settled.{marked_in};
-ghost use Rattle.fixpoint_engine.specs.Classes.{is_first};
-ghost use Rattle.fixpoint_engine.specs.Members.{last_below};
+ghost use Rattle.fixpoint_engine.specs.Members.{is_evaluated, last_below, leads_in};
 
 use crate::net_set::NetSet;
 use class_table::ClassMap;
@@ -70,27 +69,24 @@ impl ClassNets {
         self.before[net as usize]
     }
 
-    /// Whether no net before this one is of its class.
-    fn is_first(&self, net: u32) -> bool
-        requires { net < length self.now }
-        ensures { result ≡ is_first self.now net }
+    /// Whether there is such a net, and none before it is of its class.
+    fn leads(&self, net: u32) -> bool
+        ensures { result ≡ leads_in (Some self.now) net }
     {
-        self.previous(net).is_none()
-    }
-
-    /// The nets of a set that are the first ones of their classes.
-    pub fn firsts(&self, alloc: Global, set: &NetSet, nets: u32) -> Result<NetSet, NoMemory>
-        requires each_net { length self.now ≡ nets }
-        requires of_nets { (i : ℕ) → marked_in set.now i ≡ true → i < nets }
-        ensures each_net { IfOk result (λ first. length first ≡ nets) }
-        ensures are { IfOk result (λ first. (i : ℕ) → marked_in first i ≡ (marked_in set.now i && is_first self.now i)) }
-    {
-        let mut first = NetSet::new(alloc, nets)?;
-        for net in 0..nets {
-            if set.has(net) && self.is_first(net) {
-                first.add(net);
-            }
+        match self.before.get(net as usize) {
+            Some(before) => before.is_none(),
+            None => false,
         }
-        Ok(first)
+    }
+}
+
+/// Whether a net is evaluated in the rounds in which it is due: it is active and the first of its class.
+/// Where there are no classes, each net is one of its own.
+pub fn is_evaluated(active: &NetSet, classes: Option<&ClassNets>, net: u32) -> bool
+    ensures { result ≡ is_evaluated active.now (option_copied classes.entry) net }
+{
+    match classes {
+        Some(classes) => active.has(net) && classes.leads(net),
+        None => active.has(net),
     }
 }

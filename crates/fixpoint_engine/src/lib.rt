@@ -26,17 +26,15 @@ mod readers;
 mod class_changes;
 mod class_nets;
 
-// rounds to rest, and what holds of them
-mod class_rounds;
+// rounds until they settle, and what holds of them
 mod laws;
 mod rounds;
 
-pub use class_rounds::settle_classes;
 pub use class_table::ClassMap;
 pub use laws::stable_classes_go_together;
 pub use net_set::NetSet;
 pub use pins::{pin_wave, waves_at_pins};
 pub use readers::{output_of, readers_of};
-pub use rounds::{EngineEnd, Settled, settle};
+pub use rounds::{EngineEnd, Settled, settle, settle_classes};
 pub use same_waves::{has_one_wave, has_one_wave_at};
 pub use waves::Waves;

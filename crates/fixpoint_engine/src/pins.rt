@@ -2,7 +2,6 @@
 
 ghost use Rattle.std.specs.Prelude.{◌≡◌, ◌<◌, IfOk, length, map};
 ghost use Rattle.std.specs.List.{All};
-ghost use Rattle.skew_algebra.specs.Wave.{skewed};
 ghost use Rattle.flat_circuit.specs.Circuit.{wire_at};
 ghost use Rattle.flat_circuit.specs.Instances.{PinExists};
 ghost use Rattle.fixpoint_engine.specs.Value.{pin_wave as wave_shown};
@@ -36,8 +35,8 @@ pub fn pin_wave<W: CyclicWave<Item = Value>>(
     pin: Pin,
 ) -> Result<Skewed<W>, NoMemory>
     requires exists { PinExists (length c.now.nets) pin }
-    requires fit { FitWaves c.now (map (λ s. skewed (W.cells s.wave) s.skew) waves.now) }
-    ensures { IfOk result (λ s. skewed (W.cells s.wave) s.skew ≡ wave_shown c.now (waves_of (map (λ s. skewed (W.cells s.wave) s.skew) waves.now)) pin) }
+    requires fit { FitWaves c.now waves.now }
+    ensures { IfOk result (λ s. s ≡ wave_shown c.now (waves_of waves.now) pin) }
 {
     match pin.target {
         Target::Net(net) => wave_behind(
@@ -61,17 +60,15 @@ pub fn waves_at_pins<W: CyclicWave<Item = Value>>(
     pins: &[Pin],
 ) -> Result<PinWaves<W>, NoMemory>
     requires exist { All (PinExists (length c.now.nets)) pins.now }
-    requires fit { FitWaves c.now (map (λ s. skewed (W.cells s.wave) s.skew) waves.now) }
-    ensures waves { IfOk result (λ shown. map (λ p. skewed (W.cells p.wave.wave) p.wave.skew) shown ≡ map (wave_shown c.now (waves_of (map (λ s. skewed (W.cells s.wave) s.skew) waves.now))) pins.now) }
+    requires fit { FitWaves c.now waves.now }
+    ensures waves { IfOk result (λ shown.
+        map (λ p. p.wave) shown ≡ map (wave_shown c.now (waves_of waves.now)) pins.now) }
     ensures marks { IfOk result (λ shown. map (λ p. p.hold) shown ≡ map (λ p. p.hold) pins.now) }
 {
     let mut shown = List::new(alloc);
     for pin in pins {
         let wave = pin_wave(alloc, c, waves, *pin)?;
-        shown.push(PinWave {
-            wave,
-            hold: pin.hold,
-        })?;
+        shown.push(PinWave::new(wave, pin.hold))?;
     }
     Ok(shown)
 }

@@ -2,13 +2,16 @@
 
 ghost use Rattle.std.specs.Prelude.{◌≡◌, ◌<◌, ◌==◌, ◌&&◌, [], ℕ, IfOk, OnOk, false, length, map, replicate};
 ghost use Rattle.std.specs.List.{All};
+ghost use Rattle.std.specs.Option.{option_copied};
 ghost use Rattle.flat_circuit.specs.Instances.{out_at};
 ghost use Rattle.fixpoint_engine.specs.Rounds.{driver};
 ghost use Rattle.fixpoint_engine.specs.Settled.{FitActive, marked_in};
+ghost use Rattle.fixpoint_engine.specs.Members.{is_evaluated};
 ghost use Rattle.fixpoint_engine.specs.Work.{hears_in};
 ghost use Rattle.fixpoint_engine.specs.Worklist.{Adds, IsQueue, among, drives_in};
 
 use crate::changes::Change;
+use crate::class_nets::{ClassNets, is_evaluated};
 use crate::net_set::NetSet;
 use crate::readers::{output_of, readers_of};
 use flat_circuit::Circuit;
@@ -36,18 +39,24 @@ impl Model for Queue {
 }
 
 impl Queue {
-    /// All active nets.
-    pub fn all(alloc: Global, c: &Circuit, active: &NetSet) -> Result<Queue, NoMemory>
+    /// All active nets, of each class the first.
+    pub fn all(
+        alloc: Global,
+        c: &Circuit,
+        classes: Option<&ClassNets>,
+        active: &NetSet,
+    ) -> Result<Queue, NoMemory>
         requires { FitActive c.now active.now }
         ensures each_net { IfOk result (λ q. length q.marks ≡ length c.now.nets) }
-        ensures are { IfOk result (λ q. (i : ℕ) → marked_in q.marks i ≡ marked_in active.now i) }
+        ensures are { IfOk result (λ q.
+            (i : ℕ) → marked_in q.marks i ≡ is_evaluated active.now (option_copied classes.entry) i) }
     {
         let mut queue = Queue {
             nets: Vec::new(alloc),
             queued: NetSet::new(alloc, c.net_count())?,
         };
         for net in 0..c.net_count() {
-            if active.has(net) {
+            if is_evaluated(active, classes, net) {
                 queue.add(net)?;
             }
         }
@@ -84,37 +93,53 @@ impl Queue {
         }
     }
 
-    /// Lets the net wait that an instance drives, if it is active.
-    #[tactic(auto, using(crate::proofs::Drivers::active_below))]
-    fn add_output(&mut self, c: &Circuit, active: &NetSet, instance: u32) -> Result<(), NoMemory>
+    /// Lets the net wait that an instance drives, if it is active and the first of its class.
+    #[tactic(auto, using(crate::proofs::Drivers::evaluated_below))]
+    fn add_output(
+        &mut self,
+        c: &Circuit,
+        classes: Option<&ClassNets>,
+        active: &NetSet,
+        instance: u32,
+    ) -> Result<(), NoMemory>
         requires active { FitActive c.now active.now }
         requires each_net { length self.old.marks ≡ length c.now.nets }
-        ensures { OnOk result (Adds (λ i. marked_in active.now i && drives_in (out_at c.now.instances instance) i) self.old self.new) }
+        ensures { OnOk result (Adds (λ i. is_evaluated active.now (option_copied classes.entry) i
+            && drives_in (out_at c.now.instances instance) i) self.old self.new) }
     {
         match output_of(c, instance) {
-            Some(net) if active.has(net) => self.add(net),
+            Some(net) if is_evaluated(active, classes, net) => self.add(net),
             _ => Ok(()),
         }
     }
 
-    /// Lets the active nets wait whose drivers listen to this net.
-    fn add_hearers(&mut self, c: &Circuit, active: &NetSet, net: u32) -> Result<(), NoMemory>
+    /// Lets the active nets wait whose drivers listen to this net, of each class the first.
+    fn add_hearers(
+        &mut self,
+        c: &Circuit,
+        classes: Option<&ClassNets>,
+        active: &NetSet,
+        net: u32,
+    ) -> Result<(), NoMemory>
         requires active { FitActive c.now active.now }
         requires each_net { length self.old.marks ≡ length c.now.nets }
         requires exists { net < length c.now.nets }
-        ensures { OnOk result (Adds (λ i. marked_in active.now i && hears_in (λ j. net == j) (driver c.now i)) self.old self.new) }
+        ensures { OnOk result (Adds (λ i. is_evaluated active.now (option_copied classes.entry) i
+            && hears_in (λ j. net == j) (driver c.now i)) self.old self.new) }
     {
         c.known();
         for reader in readers_of(c, net) {
-            self.add_output(c, active, *reader)?;
+            self.add_output(c, classes, active, *reader)?;
         }
         Ok(())
     }
 
-    /// In place of those that wait: the active nets whose drivers listen to a net that changed.
+    /// In place of those that wait: the active nets whose drivers listen to a net that changed, of each
+    /// class the first.
     pub fn refill<W: CyclicWave>(
         &mut self,
         c: &Circuit,
+        classes: Option<&ClassNets>,
         active: &NetSet,
         changes: &[Change<W>],
     ) -> Result<(), NoMemory>
@@ -122,11 +147,13 @@ impl Queue {
         requires each_net { length self.old.marks ≡ length c.now.nets }
         requires exist { All (λ ch. ch.net < length c.now.nets) changes.now }
         ensures each_net { OnOk result (length self.new.marks ≡ length c.now.nets) }
-        ensures due { OnOk result ((i : ℕ) → marked_in self.new.marks i ≡ (marked_in active.now i && hears_in (among (map (λ ch. ch.net) changes.now)) (driver c.now i))) }
+        ensures due { OnOk result
+            ((i : ℕ) → marked_in self.new.marks i ≡ (is_evaluated active.now (option_copied classes.entry) i
+            && hears_in (among (map (λ ch. ch.net) changes.now)) (driver c.now i))) }
     {
         self.clear();
         for change in changes {
-            self.add_hearers(c, active, change.net)?;
+            self.add_hearers(c, classes, active, change.net)?;
         }
         Ok(())
     }

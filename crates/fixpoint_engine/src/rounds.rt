@@ -2,18 +2,24 @@
 
 ghost use Rattle.std.specs.Prelude.{◌≡◌, ◌+◌, ◌<◌, ℕ, IfErr, IfOk, MatchOption, false, length, map};
 ghost use Rattle.std.specs.List.{All};
-ghost use Rattle.skew_algebra.specs.Wave.{skewed};
+ghost use Rattle.std.specs.Option.{option_copied};
+ghost use Rattle.class_table.specs.Stable.{IsStable};
 ghost use Rattle.fixpoint_engine.specs.Rounds.{net_at, round};
 ghost use Rattle.fixpoint_engine.specs.Settled.{AreAtRest, FitActive, FitWaves, KeepRuns, marked_in, waves_of};
 ghost use Rattle.fixpoint_engine.specs.Work.{work_to};
+ghost use Rattle.fixpoint_engine.specs.Classes.{OneStandsForAll, AreTogether, GoTogether, HaveOneWave, class_work_to};
+ghost use Rattle.fixpoint_engine.specs.Members.{numbers_in};
 ghost use Rattle.fixpoint_engine.specs.End.{EndsAt, EndsFor, IsFirstIn};
 ghost use Rattle.fixpoint_engine.specs.Worklist.{among};
 
-use crate::changes::{Change, apply, changes};
+use crate::changes::{Change, apply};
+use crate::class_changes::class_changes;
+use crate::class_nets::ClassNets;
 use crate::net_set::NetSet;
 use crate::queue::Queue;
 use crate::waves::Waves;
-use flat_circuit::Circuit;
+use class_table::ClassMap;
+use flat_circuit::{CaseList, Circuit};
 use scald_base::{List, NoMemory};
 use skew_algebra::Skewed;
 use std::alloc::Global;
@@ -57,7 +63,7 @@ pub fn copies<W: CyclicWave<Item = Value>>(
     alloc: Global,
     waves: &[Skewed<W>],
 ) -> Result<Waves<W>, NoMemory>
-    ensures { IfOk result (λ copied. map (λ s. skewed (W.cells s.wave) s.skew) copied ≡ map (λ s. skewed (W.cells s.wave) s.skew) waves.now) }
+    ensures { IfOk result (λ copied. copied ≡ waves.now) }
 {
     let mut copied: Waves<W> = List::new(alloc);
     for wave in waves {
@@ -95,7 +101,8 @@ fn net_named(c: &Circuit, place: u32) -> u32
 
 /// The place in name order of the first net of a set.
 fn first_named(c: &Circuit, set: &NetSet) -> Option<u32>
-    ensures { MatchOption result ((k : ℕ) → k < length c.now.order → marked_in set.now (net_at c.now.order k) ≡ false) (λ place. IsFirstIn c.now.order (marked_in set.now) place) }
+    ensures { MatchOption result ((k : ℕ) → k < length c.now.order →
+        marked_in set.now (net_at c.now.order k) ≡ false) (λ place. IsFirstIn c.now.order (marked_in set.now) place) }
 {
     c.known();
     for place in 0..c.net_count() {
@@ -125,6 +132,56 @@ pub fn unsettled<W: CyclicWave>(
     }
 }
 
+/// Rounds in which the first net of each class is evaluated, and its wave given to all nets of the class,
+/// until they settle. Where there are no classes, each net is one of its own.
+fn settle_firsts<W: CyclicWave<Item = Value>>(
+    alloc: Global,
+    c: &Circuit,
+    classes: Option<&ClassNets>,
+    start: &Waves<W>,
+    active: &NetSet,
+    limit: u32,
+) -> Result<Settled<W>, EngineEnd>
+    requires waves { FitWaves c.now start.now }
+    requires active { FitActive c.now active.now }
+    requires classes { OneStandsForAll c.now (marked_in active.now)
+        (numbers_in (length c.now.nets) (option_copied classes)) (waves_of start.now) }
+    ensures rest { let first = waves_of start.now in
+        IfOk result (λ s. AreAtRest c.now (marked_in active.now) first limit s.rounds (waves_of s.waves)) }
+    ensures fit { IfOk result (λ s. FitWaves c.now s.waves) }
+    ensures work { let first = waves_of start.now in
+        IfOk result (λ s. s.evals ≡ class_work_to c.now (numbers_in (length c.now.nets) (option_copied classes.entry))
+        (marked_in active.now) (round c.now (marked_in active.now) first) (s.rounds + 1)) }
+    ensures sound { let first = waves_of start.now in
+        IfOk result (λ s. KeepRuns c.now first s.rounds (waves_of s.waves)) }
+    ensures unsettled { let first = waves_of start.now in
+        IfErr result (EndsFor c.now.order (round c.now (marked_in active.now) first) limit) }
+{
+    c.known();
+    c.header().known();
+    let mut waves = copies(alloc, start.as_slice())?;
+    let mut queue = Queue::all(alloc, c, classes, active)?;
+    let mut rounds = 0;
+    let mut evals = 0;
+    'rounds: loop {
+        let made = class_changes(alloc, c, classes, &waves, queue.nets())?;
+        evals += queue.nets().len() as u64;
+        if made.is_empty() {
+            return Ok(Settled {
+                waves,
+                rounds,
+                evals,
+            });
+        }
+        if rounds == limit {
+            return Err(unsettled(alloc, c, &made, limit)?);
+        }
+        queue.refill(c, classes, active, &made)?;
+        apply(&mut waves, made);
+        rounds += 1;
+    }
+}
+
 /// Rounds over the active nets, from the waves at the start, until a round is as the one before: the
 /// waves of the first round that the next one equals. The start waves permit a run from some tick on;
 /// the settled waves permit it `reach` ticks a round later. `Unsettled` comes exactly where no round up
@@ -137,39 +194,56 @@ pub fn settle<W: CyclicWave<Item = Value>>(
     active: &NetSet,
     limit: u32,
 ) -> Result<Settled<W>, EngineEnd>
-    requires waves { FitWaves c.now (map (λ s. skewed (W.cells s.wave) s.skew) start.now) }
+    requires waves { FitWaves c.now start.now }
     requires active { FitActive c.now active.now }
-    ensures rest { let first = waves_of (map (λ s. skewed (W.cells s.wave) s.skew) start.now) in
-        IfOk result (λ s. AreAtRest c.now (marked_in active.now) first limit s.rounds (waves_of (map (λ w. skewed (W.cells w.wave) w.skew) s.waves))) }
-    ensures fit { IfOk result (λ s. FitWaves c.now (map (λ w. skewed (W.cells w.wave) w.skew) s.waves)) }
-    ensures work { let first = waves_of (map (λ s. skewed (W.cells s.wave) s.skew) start.now) in
-        IfOk result (λ s. s.evals ≡ work_to c.now (marked_in active.now) (round c.now (marked_in active.now) first) (s.rounds + 1)) }
-    ensures sound { let first = waves_of (map (λ s. skewed (W.cells s.wave) s.skew) start.now) in
-        IfOk result (λ s. KeepRuns c.now first s.rounds (waves_of (map (λ w. skewed (W.cells w.wave) w.skew) s.waves))) }
-    ensures unsettled { let first = waves_of (map (λ s. skewed (W.cells s.wave) s.skew) start.now) in
+    ensures rest { let first = waves_of start.now in
+        IfOk result (λ s. AreAtRest c.now (marked_in active.now) first limit s.rounds (waves_of s.waves)) }
+    ensures fit { IfOk result (λ s. FitWaves c.now s.waves) }
+    ensures work { let first = waves_of start.now in
+        IfOk result (λ s. s.evals ≡ work_to c.now (marked_in active.now)
+        (round c.now (marked_in active.now) first) (s.rounds + 1)) }
+    ensures sound { let first = waves_of start.now in
+        IfOk result (λ s. KeepRuns c.now first s.rounds (waves_of s.waves)) }
+    ensures unsettled { let first = waves_of start.now in
+        IfErr result (EndsFor c.now.order (round c.now (marked_in active.now) first) limit) }
+{
+    settle_firsts(alloc, c, None, start, active, limit)
+}
+
+/// The answer of `settle`, where nothing tells the nets of one class apart, in the circuit and in each of
+/// these cases, and they have one wave at the start and are all active or all not: they have one wave
+/// in every round and are due in the same rounds, so that one net of each class is evaluated and its
+/// wave given to all. `evals` counts the classes that have nets which are due in a round.
+pub fn settle_classes<W: CyclicWave<Item = Value>>(
+    alloc: Global,
+    c: &Circuit,
+    cases: &CaseList,
+    numbers: &ClassMap,
+    start: &Waves<W>,
+    active: &NetSet,
+    limit: u32,
+) -> Result<Settled<W>, EngineEnd>
+    requires waves { FitWaves c.now start.now }
+    requires active { FitActive c.now active.now }
+    requires one_each { length numbers.now ≡ length c.now.nets }
+    requires stable { IsStable c.now cases.now numbers.now }
+    requires alike { HaveOneWave c.now numbers.now (waves_of start.now) }
+    requires together { AreTogether c.now numbers.now (marked_in active.now) }
+    ensures rest { let first = waves_of start.now in
+        IfOk result (λ s. AreAtRest c.now (marked_in active.now) first limit s.rounds (waves_of s.waves)) }
+    ensures fit { IfOk result (λ s. FitWaves c.now s.waves) }
+    ensures work { let first = waves_of start.now in
+        IfOk result (λ s. s.evals ≡ class_work_to c.now numbers.now
+        (marked_in active.now) (round c.now (marked_in active.now) first) (s.rounds + 1)) }
+    ensures go_together { let first = waves_of start.now in
+        IfOk result (λ s. GoTogether c.now numbers.now
+        (marked_in active.now) (round c.now (marked_in active.now) first)) }
+    ensures sound { let first = waves_of start.now in
+        IfOk result (λ s. KeepRuns c.now first s.rounds (waves_of s.waves)) }
+    ensures unsettled { let first = waves_of start.now in
         IfErr result (EndsFor c.now.order (round c.now (marked_in active.now) first) limit) }
 {
     c.known();
-    c.header().known();
-    let mut waves = copies(alloc, start.as_slice())?;
-    let mut queue = Queue::all(alloc, c, active)?;
-    let mut rounds = 0;
-    let mut evals = 0;
-    'rounds: loop {
-        let made = changes(alloc, c, &waves, queue.nets())?;
-        evals += queue.nets().len() as u64;
-        if made.is_empty() {
-            return Ok(Settled {
-                waves,
-                rounds,
-                evals,
-            });
-        }
-        if rounds == limit {
-            return Err(unsettled(alloc, c, &made, limit)?);
-        }
-        queue.refill(c, active, &made)?;
-        apply(&mut waves, made);
-        rounds += 1;
-    }
+    let classes = ClassNets::of(alloc, numbers, c.net_count())?;
+    settle_firsts(alloc, c, Some(&classes), start, active, limit)
 }

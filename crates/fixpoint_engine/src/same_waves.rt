@@ -1,7 +1,6 @@
 //! Where two lists of waves have one wave.
 
-ghost use Rattle.std.specs.Prelude.{◌≡◌, ◌<◌, ◌↔◌, IsTrue, length, map};
-ghost use Rattle.skew_algebra.specs.Wave.{skewed};
+ghost use Rattle.std.specs.Prelude.{◌≡◌, ◌<◌, ◌↔◌, IsTrue, length};
 ghost use Rattle.flat_circuit.specs.Instances.{PinExists};
 ghost use Rattle.fixpoint_engine.specs.SameWaves.{IsSameAt};
 ghost use Rattle.fixpoint_engine.specs.Settled.{FitWaves, waves_of};
@@ -19,9 +18,9 @@ pub fn has_one_wave<W: CyclicWave<Item = Value>>(
     net: u32,
 ) -> bool
     requires exists { net < length c.now.nets }
-    requires before { FitWaves c.now (map (λ s. skewed (W.cells s.wave) s.skew) before.now) }
-    requires fit { FitWaves c.now (map (λ s. skewed (W.cells s.wave) s.skew) waves.now) }
-    ensures { IsTrue result ↔ (waves_of (map (λ s. skewed (W.cells s.wave) s.skew) before.now) net ≡ waves_of (map (λ s. skewed (W.cells s.wave) s.skew) waves.now) net) }
+    requires before { FitWaves c.now before.now }
+    requires fit { FitWaves c.now waves.now }
+    ensures { IsTrue result ↔ (waves_of before.now net ≡ waves_of waves.now net) }
 {
     let old = &before.as_slice()[net as usize];
     let wave = &waves.as_slice()[net as usize];
@@ -37,9 +36,9 @@ pub fn has_one_wave_at<W: CyclicWave<Item = Value>>(
     pin: Pin,
 ) -> bool
     requires exists { PinExists (length c.now.nets) pin }
-    requires before { FitWaves c.now (map (λ s. skewed (W.cells s.wave) s.skew) before.now) }
-    requires fit { FitWaves c.now (map (λ s. skewed (W.cells s.wave) s.skew) waves.now) }
-    ensures { IsTrue result ↔ IsSameAt (waves_of (map (λ s. skewed (W.cells s.wave) s.skew) before.now)) (waves_of (map (λ s. skewed (W.cells s.wave) s.skew) waves.now)) pin }
+    requires before { FitWaves c.now before.now }
+    requires fit { FitWaves c.now waves.now }
+    ensures { IsTrue result ↔ IsSameAt (waves_of before.now) (waves_of waves.now) pin }
 {
     match pin.target {
         Target::Net(net) => has_one_wave(c, before, waves, net),

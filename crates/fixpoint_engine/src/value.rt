@@ -3,7 +3,6 @@
 ghost use Rattle.std.specs.Prelude.{◌≡◌, ◌<◌, IfOk, count_by, length, map, true};
 ghost use Rattle.std.specs.List.{position};
 ghost use Rattle.std.specs.Option.{option_copied};
-ghost use Rattle.skew_algebra.specs.Wave.{skewed};
 ghost use Rattle.flat_circuit.specs.Kind.{has_output};
 ghost use Rattle.flat_circuit.specs.Instances.{InstanceFits};
 ghost use Rattle.gate_eval.specs.Instance.{CountsFit, IsSound};
@@ -32,9 +31,10 @@ fn made_by<W: CyclicWave<Item = Value>>(
 ) -> Result<Skewed<W>, NoMemory>
     requires makes { has_output kind ≡ true }
     requires pins { CountsFit kind (length pins.now) (count_by (λ p. p.hold) pins.now) }
-    requires periods { HaveOnePeriod (map (λ p. skewed (W.cells p.wave.wave) p.wave.skew) pins.now) }
-    ensures wave { IfOk result (λ s. skewed (W.cells s.wave) s.skew ≡ made_by kind (map (λ p. skewed (W.cells p.wave.wave) p.wave.skew) pins.now) (position (λ p. p.hold) pins.now) d) }
-    ensures sound { IfOk result (λ s. IsSound kind d (map (λ p. skewed (W.cells p.wave.wave) p.wave.skew) pins.now) (skewed (W.cells s.wave) s.skew)) }
+    requires periods { HaveOnePeriod (map (λ p. p.wave) pins.now) }
+    ensures wave { IfOk result (λ s.
+        s ≡ made_by kind (map (λ p. p.wave) pins.now) (position (λ p. p.hold) pins.now) d) }
+    ensures sound { IfOk result (λ s. IsSound kind d (map (λ p. p.wave) pins.now) s) }
 {
     match kind {
         Kind::Reg | Kind::RegRs | Kind::Latch | Kind::LatchRs => {
@@ -53,15 +53,18 @@ fn instance_wave<W: CyclicWave<Item = Value>>(
 ) -> Result<Skewed<W>, NoMemory>
     requires makes { has_output instance.now.kind ≡ true }
     requires fits { InstanceFits c.now.header (length c.now.nets) instance.now }
-    requires fit { FitWaves c.now (map (λ s. skewed (W.cells s.wave) s.skew) waves.now) }
-    ensures { IfOk result (λ s. skewed (W.cells s.wave) s.skew ≡ instance_wave c.now (waves_of (map (λ s. skewed (W.cells s.wave) s.skew) waves.now)) instance.now) }
+    requires fit { FitWaves c.now waves.now }
+    ensures { IfOk result (λ s. s ≡ instance_wave c.now (waves_of waves.now) instance.now) }
 {
     c.header().known();
     let pins = waves_at_pins(alloc, c, waves, instance.pins.as_slice())?;
     let wave = made_by(alloc, instance.kind, &pins, instance.delay)?;
     if instance.out_inverted {
-        wave.flipped(alloc)
+        let turned = wave.flipped(alloc)?;
+        turned.known();
+        Ok(turned)
     } else {
+        wave.known();
         Ok(wave)
     }
 }
@@ -82,8 +85,8 @@ pub fn evaluated<W: CyclicWave<Item = Value>>(
     net: u32,
 ) -> Result<Skewed<W>, NoMemory>
     requires exists { net < length c.now.nets }
-    requires fit { FitWaves c.now (map (λ s. skewed (W.cells s.wave) s.skew) waves.now) }
-    ensures { IfOk result (λ s. skewed (W.cells s.wave) s.skew ≡ evaluated c.now (waves_of (map (λ s. skewed (W.cells s.wave) s.skew) waves.now)) net) }
+    requires fit { FitWaves c.now waves.now }
+    ensures { IfOk result (λ s. s ≡ evaluated c.now (waves_of waves.now) net) }
 {
     c.known();
     match driver_of(c, net) {

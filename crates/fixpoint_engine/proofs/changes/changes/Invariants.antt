@@ -1,10 +1,9 @@
 use Rattle.std.proofs.Common.{◌≡◌, map, take}
-use Rattle.skew_algebra.specs.Wave.{skewed}
 use Rattle.fixpoint_engine.specs.Settled.{waves_of}
 use Rattle.fixpoint_engine.specs.Worklist.{changes_of}
 use Rattle.fixpoint_engine.proofs.changes.changes.Given as goal
 
 abbrev pub invariant-loop-net : goal.invariant-loop-net
 invariant-loop-net g l =
-    map (λ ch. (ch.net, skewed (g.W.CyclicWave.cells ch.wave.wave) ch.wave.skew)) l.made.items
-    ≡ changes_of l.c (waves_of (map (λ s. skewed (g.W.CyclicWave.cells s.wave) s.skew) l.waves)) (take l.net-index l.nets)
+    map (λ ch. (ch.net, ch.wave)) l.made.items
+    ≡ changes_of l.c (waves_of l.waves) (take l.net-index l.nets)

@@ -1,5 +1,4 @@
 use Rattle.std.proofs.Common.{◌<◌, length}
-use Rattle.skew_algebra.specs.Wave.{skewed}
 use Rattle.fixpoint_engine.proofs.Places.{All-read}
 use Rattle.fixpoint_engine.proofs.Members.{class-more}
 use Rattle.fixpoint_engine.proofs.class_changes.for_classes.Goals as goal
@@ -9,4 +8,5 @@ add_class-requires g c = All-read (λ ch. ch.net < length c.args.classes.now) c.
 
 pub loop-change-preserved : goal.loop-change-preserved
 loop-change-preserved g c =
-    class-more (λ ch. (ch.net, skewed (g.W.CyclicWave.cells ch.wave.wave) ch.wave.skew)) c.args.classes.now c.args.changes.now c.loop-change.change-index c.change-item.result _ _ c.loop-change-test.true c.change-item.is c.loop-change.invariant c.in_ok-add_class.ensures
+    class-more (λ ch. (ch.net, ch.wave)) c.args.classes.now c.args.changes.now c.loop-change.change-index
+    c.change-item.result _ _ c.loop-change-test.true c.change-item.is c.loop-change.invariant c.in_ok-add_class.ensures

@@ -1,74 +1,22 @@
-use Rattle.std.proofs.Common.{◌∙◌, ◌<◌, ◌&&◌, List, ℕ, map, length, sym, ap, subst, refl, arith}
-use Rattle.std.proofs.lemmas.List.{length-map}
-use Rattle.std.proofs.lemmas.List.Elements.{All-same}
-use Rattle.scald_base.specs.Time.{period}
-use Rattle.skew_algebra.specs.Wave.{skewed}
-use Rattle.fixpoint_engine.specs.Rounds.{driver}
+use Rattle.std.proofs.Common.{◌≡◌, ◌∙◌, ◌+◌, length}
+use Rattle.std.specs.List.{range_with_len}
+use Rattle.std.proofs.lemmas.Result.{IfOk-weaker}
+use Rattle.fixpoint_engine.specs.Rounds.{round}
 use Rattle.fixpoint_engine.specs.Settled.{waves_of, marked_in}
-use Rattle.fixpoint_engine.specs.Work.{hears_in}
-use Rattle.fixpoint_engine.specs.Worklist.{among}
-use Rattle.fixpoint_engine.proofs.Made.{nets-fit}
-use Rattle.fixpoint_engine.proofs.Kept.{kept-start, kept-more, waiting-exist, made-of, made-exist, all-read, nets-below, nets-made, none-made, some-made, rests, works, keeps, ends-by}
+use Rattle.fixpoint_engine.specs.Work.{work_to}
+use Rattle.fixpoint_engine.specs.Classes.{class_work_to}
+use Rattle.fixpoint_engine.proofs.Alone.{own-classes, own-work}
 use Rattle.fixpoint_engine.proofs.rounds.settle.Goals as goal
 
-pub rounds-init : goal.rounds-init
-rounds-init g c = record {
-  kept = kept-start c.args.c.now c.args.active.now (map (λ s. skewed (g.W.CyclicWave.cells s.wave) s.skew) c.args.start.now) (map (λ s. skewed (g.W.CyclicWave.cells s.wave) s.skew) c.in_ok-waves.waves) c.in_ok-queue.queue c.requires.waves
-      (c.in_ok-waves.ensures ∙ ap (map (λ s. skewed (g.W.CyclicWave.cells s.wave) s.skew)) c.as_slice.ensures) c.in_ok-queue.ensures.each_net c.in_ok-queue.ensures.are;
-  within = omega arith;
-}
+pub settle_firsts-requires-clause-classes : goal.settle_firsts-requires-clause-classes
+settle_firsts-requires-clause-classes g c = own-classes c.args.c.now c.args.active.now (waves_of c.args.start.now) c.requires.active
 
-pub changes-requires-clause-exist : goal.changes-requires-clause-exist
-changes-requires-clause-exist g c =
-    All-same (λ net. net < length c.args.c.now.nets) c.nets.result.now c.rounds.queue.nets c.nets.ensures.nets
-    (waiting-exist c.args.c.now (marked_in c.args.active.now) (waves_of (map (λ s. skewed (g.W.CyclicWave.cells s.wave) s.skew) c.args.start.now)) (map (λ s. skewed (g.W.CyclicWave.cells s.wave) s.skew) c.rounds.waves) c.rounds.queue c.rounds.rounds c.rounds.evals c.rounds.invariant.kept c.nets.ensures.once)
-
-pub returns-then-is_empty-clause-rest : goal.returns-then-is_empty-clause-rest
-returns-then-is_empty-clause-rest g c =
-    rests c.args.c.now (marked_in c.args.active.now) (waves_of (map (λ s. skewed (g.W.CyclicWave.cells s.wave) s.skew) c.args.start.now)) (map (λ s. skewed (g.W.CyclicWave.cells s.wave) s.skew) c.rounds.waves) c.rounds.queue c.args.limit c.rounds.rounds c.rounds.evals (map (λ ch. (ch.net, skewed (g.W.CyclicWave.cells ch.wave.wave) ch.wave.skew)) c.in_ok-made.made.items) c.rounds.invariant.kept
-    (made-of c.args.c.now (map (λ s. skewed (g.W.CyclicWave.cells s.wave) s.skew) c.rounds.waves) c.rounds.queue c.nets.result.now (map (λ ch. (ch.net, skewed (g.W.CyclicWave.cells ch.wave.wave) ch.wave.skew)) c.in_ok-made.made.items) c.nets.ensures.once c.nets.ensures.nets c.in_ok-made.ensures)
-    (none-made (λ ch. (ch.net, skewed (g.W.CyclicWave.cells ch.wave.wave) ch.wave.skew)) c.in_ok-made.made.items _ c.in_ok-made.made.ok.0 c.if-is_empty.ensures) c.rounds.invariant.within
-
-pub returns-then-is_empty-clause-work : goal.returns-then-is_empty-clause-work
-returns-then-is_empty-clause-work g c =
-    works c.args.c.now (marked_in c.args.active.now) (waves_of (map (λ s. skewed (g.W.CyclicWave.cells s.wave) s.skew) c.args.start.now)) (map (λ s. skewed (g.W.CyclicWave.cells s.wave) s.skew) c.rounds.waves) c.rounds.queue c.rounds.rounds c.rounds.evals c.nets-in-rounds.result.now c.rounds.invariant.kept c.nets-in-rounds.ensures.once c.nets-in-rounds.ensures.nets
-
-pub returns-then-is_empty-clause-sound : goal.returns-then-is_empty-clause-sound
-returns-then-is_empty-clause-sound g c =
-    let some : 0 < period c.args.c.now.header = subst (λ h. 0 < period h) c.header.ensures (let two = c.known-2.ensures.shortest in omega (arith, two)) in
-    keeps c.args.c.now (marked_in c.args.active.now) (waves_of (map (λ s. skewed (g.W.CyclicWave.cells s.wave) s.skew) c.args.start.now)) (map (λ s. skewed (g.W.CyclicWave.cells s.wave) s.skew) c.rounds.waves) c.rounds.queue c.rounds.rounds c.rounds.evals c.known.ensures some (nets-fit (λ s. skewed (g.W.CyclicWave.cells s.wave) s.skew) c.args.c.now c.args.start.now (λ s. s.is_normal) c.requires.waves) c.rounds.invariant.kept
-
-pub unsettled-requires-clause-exist : goal.unsettled-requires-clause-exist
-unsettled-requires-clause-exist g c =
-    All-same (λ ch. ch.net < length c.args.c.now.nets) c.deref.result.now c.in_ok-made.made.items c.deref.ensures.value
-    (all-read (λ ch. (ch.net, skewed (g.W.CyclicWave.cells ch.wave.wave) ch.wave.skew)) (λ ch. ch.0 < length c.args.c.now.nets) c.in_ok-made.made.items (made-exist c.args.c.now (marked_in c.args.active.now) (waves_of (map (λ s. skewed (g.W.CyclicWave.cells s.wave) s.skew) c.args.start.now)) (map (λ s. skewed (g.W.CyclicWave.cells s.wave) s.skew) c.rounds.waves) c.rounds.queue c.rounds.rounds c.rounds.evals (map (λ ch. (ch.net, skewed (g.W.CyclicWave.cells ch.wave.wave) ch.wave.skew)) c.in_ok-made.made.items) c.rounds.invariant.kept (made-of c.args.c.now (map (λ s. skewed (g.W.CyclicWave.cells s.wave) s.skew) c.rounds.waves) c.rounds.queue c.nets.result.now (map (λ ch. (ch.net, skewed (g.W.CyclicWave.cells ch.wave.wave) ch.wave.skew)) c.in_ok-made.made.items) c.nets.ensures.once c.nets.ensures.nets c.in_ok-made.ensures)))
-
-pub returns-then-rounds-limit-clause-unsettled : goal.returns-then-rounds-limit-clause-unsettled
-returns-then-rounds-limit-clause-unsettled g c =
-    ends-by (λ ch. (ch.net, skewed (g.W.CyclicWave.cells ch.wave.wave) ch.wave.skew)) (λ ch. ch.net) c.args.c.now (marked_in c.args.active.now) (waves_of (map (λ s. skewed (g.W.CyclicWave.cells s.wave) s.skew) c.args.start.now)) (map (λ s. skewed (g.W.CyclicWave.cells s.wave) s.skew) c.rounds.waves) c.rounds.queue c.args.limit c.rounds.rounds c.rounds.evals c.in_ok-made.made.items c.deref.result.now c.in_ok-unsettled.field-0 (λ ch. refl) c.rounds.invariant.kept
-    (made-of c.args.c.now (map (λ s. skewed (g.W.CyclicWave.cells s.wave) s.skew) c.rounds.waves) c.rounds.queue c.nets.result.now (map (λ ch. (ch.net, skewed (g.W.CyclicWave.cells ch.wave.wave) ch.wave.skew)) c.in_ok-made.made.items) c.nets.ensures.once c.nets.ensures.nets c.in_ok-made.ensures)
-    c.if-rounds-limit.true c.deref.ensures.value c.in_ok-unsettled.ensures
-
-pub refill-requires-clause-exist : goal.refill-requires-clause-exist
-refill-requires-clause-exist g c =
-    All-same (λ ch. ch.net < length c.args.c.now.nets) c.deref-in-rounds.result.now c.in_ok-made.made.items c.deref-in-rounds.ensures.value
-    (all-read (λ ch. (ch.net, skewed (g.W.CyclicWave.cells ch.wave.wave) ch.wave.skew)) (λ ch. ch.0 < length c.args.c.now.nets) c.in_ok-made.made.items (made-exist c.args.c.now (marked_in c.args.active.now) (waves_of (map (λ s. skewed (g.W.CyclicWave.cells s.wave) s.skew) c.args.start.now)) (map (λ s. skewed (g.W.CyclicWave.cells s.wave) s.skew) c.rounds.waves) c.rounds.queue c.rounds.rounds c.rounds.evals (map (λ ch. (ch.net, skewed (g.W.CyclicWave.cells ch.wave.wave) ch.wave.skew)) c.in_ok-made.made.items) c.rounds.invariant.kept (made-of c.args.c.now (map (λ s. skewed (g.W.CyclicWave.cells s.wave) s.skew) c.rounds.waves) c.rounds.queue c.nets.result.now (map (λ ch. (ch.net, skewed (g.W.CyclicWave.cells ch.wave.wave) ch.wave.skew)) c.in_ok-made.made.items) c.nets.ensures.once c.nets.ensures.nets c.in_ok-made.ensures)))
-
-pub apply-requires : goal.apply-requires
-apply-requires g c =
-    nets-below (λ ch. ch.net) c.in_ok-made.made.items (length c.rounds.waves) (length c.args.c.now.nets) (sym (length-map c.rounds.waves (λ s. skewed (g.W.CyclicWave.cells s.wave) s.skew)) ∙ c.rounds.invariant.kept.fit.each_net)
-    (all-read (λ ch. (ch.net, skewed (g.W.CyclicWave.cells ch.wave.wave) ch.wave.skew)) (λ ch. ch.0 < length c.args.c.now.nets) c.in_ok-made.made.items (made-exist c.args.c.now (marked_in c.args.active.now) (waves_of (map (λ s. skewed (g.W.CyclicWave.cells s.wave) s.skew) c.args.start.now)) (map (λ s. skewed (g.W.CyclicWave.cells s.wave) s.skew) c.rounds.waves) c.rounds.queue c.rounds.rounds c.rounds.evals (map (λ ch. (ch.net, skewed (g.W.CyclicWave.cells ch.wave.wave) ch.wave.skew)) c.in_ok-made.made.items) c.rounds.invariant.kept (made-of c.args.c.now (map (λ s. skewed (g.W.CyclicWave.cells s.wave) s.skew) c.rounds.waves) c.rounds.queue c.nets.result.now (map (λ ch. (ch.net, skewed (g.W.CyclicWave.cells ch.wave.wave) ch.wave.skew)) c.in_ok-made.made.items) c.nets.ensures.once c.nets.ensures.nets c.in_ok-made.ensures)))
-
-pub rounds-preserved : goal.rounds-preserved
-rounds-preserved g c =
-    let some : 0 < period c.args.c.now.header = subst (λ h. 0 < period h) c.header.ensures (let two = c.known-2.ensures.shortest in omega (arith, two)) in
-    record {
-      kept = kept-more c.args.c.now (marked_in c.args.active.now) (waves_of (map (λ s. skewed (g.W.CyclicWave.cells s.wave) s.skew) c.args.start.now)) (map (λ s. skewed (g.W.CyclicWave.cells s.wave) s.skew) c.rounds.waves) (map (λ s. skewed (g.W.CyclicWave.cells s.wave) s.skew) c.apply.new.waves)
-          c.rounds.queue c.refill.new.self c.rounds.rounds c.rounds.evals c.nets-in-rounds.result.now (map (λ ch. (ch.net, skewed (g.W.CyclicWave.cells ch.wave.wave) ch.wave.skew)) c.in_ok-made.made.items) c.known.ensures some (nets-fit (λ s. skewed (g.W.CyclicWave.cells s.wave) s.skew) c.args.c.now c.args.start.now (λ s. s.is_normal) c.requires.waves) c.rounds.invariant.kept
-          (made-of c.args.c.now (map (λ s. skewed (g.W.CyclicWave.cells s.wave) s.skew) c.rounds.waves) c.rounds.queue c.nets.result.now (map (λ ch. (ch.net, skewed (g.W.CyclicWave.cells ch.wave.wave) ch.wave.skew)) c.in_ok-made.made.items) c.nets.ensures.once c.nets.ensures.nets c.in_ok-made.ensures)
-          c.nets-in-rounds.ensures.nets (some-made (λ ch. (ch.net, skewed (g.W.CyclicWave.cells ch.wave.wave) ch.wave.skew)) c.in_ok-made.made.items _ c.in_ok-made.made.ok.0 c.if-is_empty.ensures)
-          c.apply.ensures c.in_ok-refill.ensures.each_net
-          (λ i. c.in_ok-refill.ensures.due i ∙ ap (λ (nets : List ℕ). marked_in c.args.active.now i && hears_in (among nets) (driver c.args.c.now i))
-          (nets-made (λ ch. (ch.net, skewed (g.W.CyclicWave.cells ch.wave.wave) ch.wave.skew)) (λ ch. ch.net) c.in_ok-made.made.items c.deref-in-rounds.result.now (λ ch. refl) c.deref-in-rounds.ensures.value));
-      within = omega (arith, c.rounds.invariant.within, c.if-rounds-limit.false);
-    }
+pub returns-clause-work : goal.returns-clause-work
+returns-clause-work g c =
+    let active = marked_in c.args.active.now in
+    let rounds = round c.args.c.now active (waves_of c.args.start.now) in
+    IfOk-weaker c.settle_firsts.result
+    (λ s. s.evals ≡ class_work_to c.args.c.now (range_with_len 0 (length c.args.c.now.nets)) active rounds (s.rounds + 1))
+    (λ s. s.evals ≡ work_to c.args.c.now active rounds (s.rounds + 1))
+    (λ s is. is ∙ own-work c.args.c.now active rounds (s.rounds + 1))
+    c.settle_firsts.ensures.work

@@ -1,14 +1,12 @@
 use Rattle.std.proofs.Common.{◌≡◌, ◌∙◌, ◌<◌, List, length, map, sym, ap, subst, refl, true, false, arith, count_by}
 use Rattle.std.specs.List.{position}
-use Rattle.std.proofs.lemmas.Result.{IfOk-weaker}
 use Rattle.scald_base.specs.Time.{period}
 use Rattle.step_values.specs.declared.value.Value.{Value}
-use Rattle.step_values.specs.Cell.{values}
-use Rattle.skew_algebra.specs.Wave.{Wave, skewed, flipped}
+use Rattle.skew_algebra.specs.Wave.{Wave}
 use Rattle.gate_eval.specs.Meeting.{HaveOnePeriod}
-use Rattle.fixpoint_engine.specs.Value.{pin_wave, instance_wave}
+use Rattle.fixpoint_engine.specs.Value.{pin_wave}
 use Rattle.fixpoint_engine.specs.Settled.{waves_of}
-use Rattle.fixpoint_engine.proofs.Made.{nets-fit, made-one-period}
+use Rattle.fixpoint_engine.proofs.Made.{made-one-period}
 use Rattle.fixpoint_engine.proofs.Marks.{count-marks, position-marks, length-marks}
 use Rattle.fixpoint_engine.proofs.Normal.{instance-is}
 use Rattle.fixpoint_engine.proofs.value.instance_wave.Goals as goal
@@ -33,28 +31,24 @@ made_by-requires-clause-periods g c =
     let head = c.header.ensures in
     let some : 0 < period c.args.c.now.header = subst (λ h. 0 < period h) head (let two = h.shortest in omega (arith, two)) in
     subst (λ (ws : List (Wave Value)). HaveOnePeriod ws)
-    (sym (c.in_ok-pins.ensures.waves ∙ ap (map (pin_wave c.args.c.now (waves_of (map (λ s. skewed (g.W.CyclicWave.cells s.wave) s.skew) c.args.waves.now)))) c.as_slice.ensures))
-    (made-one-period c.args.c.now (waves_of (map (λ s. skewed (g.W.CyclicWave.cells s.wave) s.skew) c.args.waves.now)) c.args.instance.now some
-    (nets-fit (λ s. skewed (g.W.CyclicWave.cells s.wave) s.skew) c.args.c.now c.args.waves.now (λ s. s.is_normal) c.requires.fit) c.requires.fits)
+    (sym (c.in_ok-pins.ensures.waves ∙ ap (map (pin_wave c.args.c.now (waves_of c.args.waves.now))) c.as_slice.ensures))
+    (made-one-period c.args.c.now (waves_of c.args.waves.now) c.args.instance.now some
+    c.requires.fit.each_slot c.requires.fits)
 
 pub returns-then-instance : goal.returns-then-instance
 returns-then-instance g c =
-    IfOk-weaker c.flipped.result
-    (λ s. skewed (g.W.CyclicWave.cells s.wave) s.skew ≡ flipped values (skewed (g.W.CyclicWave.cells c.in_ok-wave.wave.wave) c.in_ok-wave.wave.skew))
-    (λ s. skewed (g.W.CyclicWave.cells s.wave) s.skew ≡ instance_wave c.args.c.now (waves_of (map (λ s. skewed (g.W.CyclicWave.cells s.wave) s.skew) c.args.waves.now)) c.args.instance.now)
-    (λ s e. instance-is c.args.c.now (waves_of (map (λ s. skewed (g.W.CyclicWave.cells s.wave) s.skew) c.args.waves.now)) c.args.instance.now (map (λ p. skewed (g.W.CyclicWave.cells p.wave.wave) p.wave.skew) c.in_ok-pins.pins) (position (λ p. p.hold) c.in_ok-pins.pins) true
-    (skewed (g.W.CyclicWave.cells c.in_ok-wave.wave.wave) c.in_ok-wave.wave.skew) (skewed (g.W.CyclicWave.cells s.wave) s.skew) c.if-instance.true
-    (let two = (g.met.W.CyclicWave.sized s.wave).shortest in omega (arith, two)) s.is_normal
-    (c.in_ok-pins.ensures.waves ∙ ap (map (pin_wave c.args.c.now (waves_of (map (λ s. skewed (g.W.CyclicWave.cells s.wave) s.skew) c.args.waves.now)))) c.as_slice.ensures)
+    instance-is c.args.c.now (waves_of c.args.waves.now) c.args.instance.now (map (λ p. p.wave) c.in_ok-pins.pins) (position (λ p. p.hold) c.in_ok-pins.pins) true
+    c.in_ok-wave.wave c.in_ok-turned.turned c.if-instance.true
+    (let two = c.known-then-instance.ensures.sized.shortest in omega (arith, two)) c.known-then-instance.ensures.normal
+    (c.in_ok-pins.ensures.waves ∙ ap (map (pin_wave c.args.c.now (waves_of c.args.waves.now))) c.as_slice.ensures)
     (position-marks (λ p. p.hold) (λ p. p.hold) c.in_ok-pins.pins c.as_slice.result.now c.in_ok-pins.ensures.marks ∙ ap (position (λ p. p.hold)) c.as_slice.ensures)
-    c.in_ok-wave.ensures.wave e)
-    c.flipped.ensures.wave
+    c.in_ok-wave.ensures.wave c.in_ok-turned.ensures.wave
 
 pub returns : goal.returns
 returns g c =
-    instance-is c.args.c.now (waves_of (map (λ s. skewed (g.W.CyclicWave.cells s.wave) s.skew) c.args.waves.now)) c.args.instance.now (map (λ p. skewed (g.W.CyclicWave.cells p.wave.wave) p.wave.skew) c.in_ok-pins.pins) (position (λ p. p.hold) c.in_ok-pins.pins) false
-    (skewed (g.W.CyclicWave.cells c.in_ok-wave.wave.wave) c.in_ok-wave.wave.skew) (skewed (g.W.CyclicWave.cells c.in_ok-wave.wave.wave) c.in_ok-wave.wave.skew) c.if-instance.false
-    (let two = (g.met.W.CyclicWave.sized c.in_ok-wave.wave.wave).shortest in omega (arith, two)) c.in_ok-wave.wave.is_normal
-    (c.in_ok-pins.ensures.waves ∙ ap (map (pin_wave c.args.c.now (waves_of (map (λ s. skewed (g.W.CyclicWave.cells s.wave) s.skew) c.args.waves.now)))) c.as_slice.ensures)
+    instance-is c.args.c.now (waves_of c.args.waves.now) c.args.instance.now (map (λ p. p.wave) c.in_ok-pins.pins) (position (λ p. p.hold) c.in_ok-pins.pins) false
+    c.in_ok-wave.wave c.in_ok-wave.wave c.if-instance.false
+    (let two = c.known-else-instance.ensures.sized.shortest in omega (arith, two)) c.known-else-instance.ensures.normal
+    (c.in_ok-pins.ensures.waves ∙ ap (map (pin_wave c.args.c.now (waves_of c.args.waves.now))) c.as_slice.ensures)
     (position-marks (λ p. p.hold) (λ p. p.hold) c.in_ok-pins.pins c.as_slice.result.now c.in_ok-pins.ensures.marks ∙ ap (position (λ p. p.hold)) c.as_slice.ensures)
     c.in_ok-wave.ensures.wave refl

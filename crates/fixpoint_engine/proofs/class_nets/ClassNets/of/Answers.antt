@@ -21,5 +21,6 @@ loop-net-preserved c =
       each_net = ap length c.in_ok-push.ensures.items ∙ length_push c.loop-net.before.items c.in_ok-insert.field-0 ∙ (let each = c.loop-net.invariant.each_net in omega (arith, each));
       before = before-more c.in_ok-classes.classes.items c.loop-net.net c.loop-net.before.items c.push.new.self.items c.in_ok-insert.field-0 c.loop-net.invariant.each_net c.in_ok-push.ensures.items
           (c.in_ok-insert.ensures.old ∙ ap (get nat_eq c.loop-net.last) key ∙ c.loop-net.invariant.last _) c.loop-net.invariant.before;
-      last = last-more c.in_ok-classes.classes.items (get nat_eq c.loop-net.last) (get nat_eq c.insert.new.self) c.index.result.now c.loop-net.net c.in_ok-insert.ensures.updates.0 key c.loop-net.invariant.last;
+      last = last-more c.in_ok-classes.classes.items (get nat_eq c.loop-net.last) (get nat_eq c.insert.new.self)
+          c.index.result.now c.loop-net.net c.in_ok-insert.ensures.updates.0 key c.loop-net.invariant.last;
     }

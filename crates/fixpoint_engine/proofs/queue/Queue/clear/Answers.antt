@@ -10,7 +10,8 @@ remove-requires c = last-exists c.loop-net.self-inside.nets.items c.pop.new.self
 
 pub loop-net-preserved : goal.loop-net-preserved
 loop-net-preserved c = record {
-  queue = take-last c.loop-net.self-inside.nets.items c.pop.new.self.items c.loop-net.self-inside.queued c.remove.new.self c.in-Some.net c.in-Some.ensures.items c.remove.ensures c.loop-net.invariant.queue;
+  queue = take-last c.loop-net.self-inside.nets.items c.pop.new.self.items c.loop-net.self-inside.queued
+      c.remove.new.self c.in-Some.net c.in-Some.ensures.items c.remove.ensures c.loop-net.invariant.queue;
   each_net = ap length c.remove.ensures ∙ length-set c.loop-net.self-inside.queued c.in-Some.net false ∙ c.loop-net.invariant.each_net;
 }
 

@@ -1,0 +1,121 @@
+use Rattle.std.proofs.Common.{◌∙◌, ◌<◌, ◌&&◌, List, ℕ, map, length, ap, subst, refl, arith}
+use Rattle.std.specs.Option.{option_copied}
+use Rattle.std.proofs.lemmas.List.Elements.{All-same}
+use Rattle.scald_base.specs.Time.{period}
+use Rattle.fixpoint_engine.specs.Rounds.{driver}
+use Rattle.fixpoint_engine.specs.Settled.{waves_of, marked_in}
+use Rattle.fixpoint_engine.specs.Work.{hears_in}
+use Rattle.fixpoint_engine.specs.Worklist.{among}
+use Rattle.fixpoint_engine.specs.Members.{numbers_in, is_evaluated}
+use Rattle.fixpoint_engine.proofs.Changing.{all-read, nets-below, nets-made, none-made, some-made}
+use Rattle.fixpoint_engine.proofs.Alone.{each-numbered, evaluated-first}
+use Rattle.fixpoint_engine.proofs.Kept.{kept-start, kept-more, made-of, waiting-exist, made-exist, rests, works, keeps, ends-by}
+use Rattle.fixpoint_engine.proofs.rounds.settle_firsts.Goals as goal
+
+pub rounds-init : goal.rounds-init
+rounds-init g c = record {
+  kept = kept-start c.args.c.now (marked_in c.args.active.now) (numbers_in (length c.args.c.now.nets) (option_copied c.args.classes)) c.args.start.now c.in_ok-waves.waves c.in_ok-queue.queue
+      (is_evaluated c.args.active.now (option_copied c.args.classes)) c.requires.waves
+      (λ i. evaluated-first c.args.c.now c.args.active.now (option_copied c.args.classes) i c.requires.active c.requires.classes.each_net)
+      (c.in_ok-waves.ensures ∙ c.as_slice.ensures) c.in_ok-queue.ensures.each_net c.in_ok-queue.ensures.are;
+  within = omega arith;
+}
+
+pub class_changes-requires-clause-each_net : goal.class_changes-requires-clause-each_net
+class_changes-requires-clause-each_net g c = each-numbered (length c.args.c.now.nets) (option_copied c.args.classes) c.requires.classes.each_net
+
+pub class_changes-requires-clause-exist : goal.class_changes-requires-clause-exist
+class_changes-requires-clause-exist g c =
+    All-same (λ net. net < length c.args.c.now.nets) c.nets.result.now c.rounds.queue.nets c.nets.ensures.nets
+    (waiting-exist c.args.c.now (marked_in c.args.active.now) (numbers_in (length c.args.c.now.nets) (option_copied c.args.classes))
+    (waves_of c.args.start.now) c.requires.classes c.rounds.waves
+    c.rounds.queue c.rounds.rounds c.rounds.evals c.rounds.invariant.kept c.nets.ensures.once)
+
+pub returns-then-is_empty-clause-rest : goal.returns-then-is_empty-clause-rest
+returns-then-is_empty-clause-rest g c =
+    rests c.args.c.now (marked_in c.args.active.now) (numbers_in (length c.args.c.now.nets) (option_copied c.args.classes))
+    (waves_of c.args.start.now) c.requires.classes c.rounds.waves c.rounds.queue
+    c.rounds.rounds c.rounds.evals c.rounds.invariant.kept (map (λ ch. (ch.net, ch.wave)) c.in_ok-made.made.items)
+    (made-of c.args.c.now (marked_in c.args.active.now) (option_copied c.args.classes) (waves_of c.args.start.now)
+    c.requires.classes c.rounds.waves c.rounds.queue c.rounds.rounds c.rounds.evals c.rounds.invariant.kept
+    c.nets.result.now (map (λ ch. (ch.net, ch.wave)) c.in_ok-made.made.items) c.nets.ensures.once c.nets.ensures.nets c.in_ok-made.ensures)
+    c.args.limit (none-made (λ ch. (ch.net, ch.wave)) c.in_ok-made.made.items _ c.in_ok-made.made.ok.0 c.if-is_empty.ensures) c.rounds.invariant.within
+
+pub returns-then-is_empty-clause-work : goal.returns-then-is_empty-clause-work
+returns-then-is_empty-clause-work g c =
+    works c.args.c.now (marked_in c.args.active.now) (numbers_in (length c.args.c.now.nets) (option_copied c.args.classes))
+    (waves_of c.args.start.now) c.requires.classes c.rounds.waves c.rounds.queue
+    c.rounds.rounds c.rounds.evals c.rounds.invariant.kept (map (λ ch. (ch.net, ch.wave)) c.in_ok-made.made.items)
+    (made-of c.args.c.now (marked_in c.args.active.now) (option_copied c.args.classes) (waves_of c.args.start.now)
+    c.requires.classes c.rounds.waves c.rounds.queue c.rounds.rounds c.rounds.evals c.rounds.invariant.kept
+    c.nets.result.now (map (λ ch. (ch.net, ch.wave)) c.in_ok-made.made.items) c.nets.ensures.once c.nets.ensures.nets c.in_ok-made.ensures)
+    c.nets-in-rounds.result.now c.nets-in-rounds.ensures.nets
+
+pub returns-then-is_empty-clause-sound : goal.returns-then-is_empty-clause-sound
+returns-then-is_empty-clause-sound g c =
+    let some : 0 < period c.args.c.now.header = subst (λ h. 0 < period h) c.header.ensures (let two = c.known-2.ensures.shortest in omega (arith, two)) in
+    keeps c.args.c.now (marked_in c.args.active.now) (numbers_in (length c.args.c.now.nets) (option_copied c.args.classes))
+    (waves_of c.args.start.now) c.requires.classes c.rounds.waves c.rounds.queue
+    c.rounds.rounds c.rounds.evals c.rounds.invariant.kept c.known.ensures some c.requires.waves.each_slot
+
+pub unsettled-requires-clause-exist : goal.unsettled-requires-clause-exist
+unsettled-requires-clause-exist g c =
+    All-same (λ ch. ch.net < length c.args.c.now.nets) c.deref.result.now c.in_ok-made.made.items c.deref.ensures.value
+    (all-read (λ ch. (ch.net, ch.wave)) (λ ch. ch.0 < length c.args.c.now.nets) c.in_ok-made.made.items
+    (made-exist c.args.c.now (marked_in c.args.active.now) (numbers_in (length c.args.c.now.nets) (option_copied c.args.classes))
+    (waves_of c.args.start.now) c.requires.classes c.rounds.waves c.rounds.queue
+    c.rounds.rounds c.rounds.evals c.rounds.invariant.kept (map (λ ch. (ch.net, ch.wave)) c.in_ok-made.made.items)
+    (made-of c.args.c.now (marked_in c.args.active.now) (option_copied c.args.classes) (waves_of c.args.start.now)
+    c.requires.classes c.rounds.waves c.rounds.queue c.rounds.rounds c.rounds.evals c.rounds.invariant.kept
+    c.nets.result.now (map (λ ch. (ch.net, ch.wave)) c.in_ok-made.made.items) c.nets.ensures.once c.nets.ensures.nets c.in_ok-made.ensures)))
+
+pub returns-then-rounds-limit-clause-unsettled : goal.returns-then-rounds-limit-clause-unsettled
+returns-then-rounds-limit-clause-unsettled g c =
+    ends-by (λ ch. (ch.net, ch.wave)) (λ ch. ch.net) c.args.c.now (marked_in c.args.active.now)
+    (numbers_in (length c.args.c.now.nets) (option_copied c.args.classes)) (waves_of c.args.start.now) c.requires.classes c.rounds.waves
+    c.rounds.queue c.args.limit c.rounds.rounds c.rounds.evals c.in_ok-made.made.items
+    c.deref.result.now c.in_ok-unsettled.field-0 (λ ch. refl) c.rounds.invariant.kept
+    (made-of c.args.c.now (marked_in c.args.active.now) (option_copied c.args.classes) (waves_of c.args.start.now)
+    c.requires.classes c.rounds.waves c.rounds.queue c.rounds.rounds c.rounds.evals c.rounds.invariant.kept
+    c.nets.result.now (map (λ ch. (ch.net, ch.wave)) c.in_ok-made.made.items) c.nets.ensures.once c.nets.ensures.nets c.in_ok-made.ensures)
+    c.if-rounds-limit.true c.deref.ensures.value c.in_ok-unsettled.ensures
+
+pub refill-requires-clause-exist : goal.refill-requires-clause-exist
+refill-requires-clause-exist g c =
+    All-same (λ ch. ch.net < length c.args.c.now.nets) c.deref-in-rounds.result.now c.in_ok-made.made.items c.deref-in-rounds.ensures.value
+    (all-read (λ ch. (ch.net, ch.wave)) (λ ch. ch.0 < length c.args.c.now.nets) c.in_ok-made.made.items
+    (made-exist c.args.c.now (marked_in c.args.active.now) (numbers_in (length c.args.c.now.nets) (option_copied c.args.classes))
+    (waves_of c.args.start.now) c.requires.classes c.rounds.waves c.rounds.queue
+    c.rounds.rounds c.rounds.evals c.rounds.invariant.kept (map (λ ch. (ch.net, ch.wave)) c.in_ok-made.made.items)
+    (made-of c.args.c.now (marked_in c.args.active.now) (option_copied c.args.classes) (waves_of c.args.start.now)
+    c.requires.classes c.rounds.waves c.rounds.queue c.rounds.rounds c.rounds.evals c.rounds.invariant.kept
+    c.nets.result.now (map (λ ch. (ch.net, ch.wave)) c.in_ok-made.made.items) c.nets.ensures.once c.nets.ensures.nets c.in_ok-made.ensures)))
+
+pub apply-requires : goal.apply-requires
+apply-requires g c =
+    nets-below (λ ch. ch.net) c.in_ok-made.made.items (length c.rounds.waves) (length c.args.c.now.nets) (c.rounds.invariant.kept.fit.each_net)
+    (all-read (λ ch. (ch.net, ch.wave)) (λ ch. ch.0 < length c.args.c.now.nets) c.in_ok-made.made.items
+    (made-exist c.args.c.now (marked_in c.args.active.now) (numbers_in (length c.args.c.now.nets) (option_copied c.args.classes))
+    (waves_of c.args.start.now) c.requires.classes c.rounds.waves c.rounds.queue
+    c.rounds.rounds c.rounds.evals c.rounds.invariant.kept (map (λ ch. (ch.net, ch.wave)) c.in_ok-made.made.items)
+    (made-of c.args.c.now (marked_in c.args.active.now) (option_copied c.args.classes) (waves_of c.args.start.now)
+    c.requires.classes c.rounds.waves c.rounds.queue c.rounds.rounds c.rounds.evals c.rounds.invariant.kept
+    c.nets.result.now (map (λ ch. (ch.net, ch.wave)) c.in_ok-made.made.items) c.nets.ensures.once c.nets.ensures.nets c.in_ok-made.ensures)))
+
+pub rounds-preserved : goal.rounds-preserved
+rounds-preserved g c =
+    let some : 0 < period c.args.c.now.header = subst (λ h. 0 < period h) c.header.ensures (let two = c.known-2.ensures.shortest in omega (arith, two)) in
+    record {
+      kept = kept-more c.args.c.now (marked_in c.args.active.now) (numbers_in (length c.args.c.now.nets) (option_copied c.args.classes))
+          (waves_of c.args.start.now) c.requires.classes c.rounds.waves c.rounds.queue
+          c.rounds.rounds c.rounds.evals c.rounds.invariant.kept (map (λ ch. (ch.net, ch.wave)) c.in_ok-made.made.items)
+          (made-of c.args.c.now (marked_in c.args.active.now) (option_copied c.args.classes) (waves_of c.args.start.now)
+          c.requires.classes c.rounds.waves c.rounds.queue c.rounds.rounds c.rounds.evals c.rounds.invariant.kept
+          c.nets.result.now (map (λ ch. (ch.net, ch.wave)) c.in_ok-made.made.items) c.nets.ensures.once c.nets.ensures.nets c.in_ok-made.ensures)
+          c.apply.new.waves c.refill.new.self c.nets-in-rounds.result.now (is_evaluated c.args.active.now (option_copied c.args.classes)) c.known.ensures some c.requires.waves.each_slot
+          c.nets-in-rounds.ensures.nets (some-made (λ ch. (ch.net, ch.wave)) c.in_ok-made.made.items _ c.in_ok-made.made.ok.0 c.if-is_empty.ensures)
+          c.apply.ensures c.in_ok-refill.ensures.each_net (λ i. evaluated-first c.args.c.now c.args.active.now (option_copied c.args.classes) i c.requires.active c.requires.classes.each_net)
+          (λ i. c.in_ok-refill.ensures.due i ∙ ap (λ (nets : List ℕ). is_evaluated c.args.active.now (option_copied c.args.classes) i && hears_in (among nets) (driver c.args.c.now i))
+          (nets-made (λ ch. (ch.net, ch.wave)) (λ ch. ch.net) c.in_ok-made.made.items c.deref-in-rounds.result.now (λ ch. refl) c.deref-in-rounds.ensures.value));
+      within = omega (arith, c.rounds.invariant.within, c.if-rounds-limit.false);
+    }
