@@ -26,7 +26,8 @@ same-kind And c ws vs k j same = λ i. option_map (hazard_at k) (hazard j.kind (
 same-kind Or c ws vs k j same = λ i. option_map (hazard_at k) (hazard j.kind (same i) (marked_pin j))
 same-kind kind c ws vs k j same = refl
 
-pub same-instance : (c : Circuit) (ws vs : Waves) (k : ℕ) (j : Instance) (ps : List Pin) → Some j ≡ slice_get c.instances k → ps ≡ j.pins → All (IsSameAt ws vs) ps → instance_fault c ws k ≡ instance_fault c vs k
+pub same-instance : (c : Circuit) (ws vs : Waves) (k : ℕ) (j : Instance) (ps : List Pin) →
+    Some j ≡ slice_get c.instances k → ps ≡ j.pins → All (IsSameAt ws vs) ps → instance_fault c ws k ≡ instance_fault c vs k
 unfolding instance_fault
 same-instance c ws vs k j ps at pins all =
     let shown : pin_waves c ws j ≡ pin_waves c vs j = ap (map (pin_wave c ws)) (sym pins) ∙ same-pins c ws vs ps all ∙ ap (map (pin_wave c vs)) pins in

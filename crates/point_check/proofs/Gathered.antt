@@ -1,9 +1,9 @@
 -- Faults gathered one number after the other.
-use Rattle.std.proofs.Common.{◌≡◌, ℕ, Bool, ◌+◌, ◌<◌, List, map, [], ◌∷◌, ◌++◌, length, get_or, take, refl, sym, ap, subst, ◌∙◌, arith, append_assoc, zero-add, slice_get, Option, Some, None}
+use Rattle.std.proofs.Common.{◌≡◌, ℕ, Bool, ◌+◌, ◌<◌, List, [], ◌∷◌, ◌++◌, length, get_or, take, refl, sym, ap, subst, ◌∙◌, arith, append_assoc, zero-add, slice_get, Option, Some, None}
 use Rattle.std.specs.Prelude.{filter_map}
 use Rattle.std.specs.List.{cons_option, range_with_len}
 use Rattle.std.specs.Option.{option_map, option_to_list}
-use Rattle.std.proofs.lemmas.List.{take_more, get_or-map, length-map}
+use Rattle.std.proofs.lemmas.List.{take_more}
 use Rattle.std.proofs.lemmas.Option.{slice_get_within, get_or_from_slice_get}
 use Rattle.std.proofs.lemmas.List.Elements.{filter_map-append, All-get_or}
 use Rattle.scald_base.specs.Time.{period}
@@ -11,7 +11,7 @@ use Rattle.scald_base.specs.Fitting.{Fits}
 use Rattle.vector_names.proofs.Ranges.{range-more}
 use Rattle.step_values.specs.declared.value.Value.{Value}
 use Rattle.step_values.specs.Cell.{values}
-use Rattle.skew_algebra.specs.Wave.{Wave, skewed, folded}
+use Rattle.skew_algebra.specs.Wave.{Wave, folded}
 use Rattle.flat_circuit.specs.declared.kind.Kind.{Kind}
 use Rattle.flat_circuit.specs.declared.instance.Instance.{Instance}
 use Rattle.flat_circuit.specs.declared.net.Net.{Net}
@@ -21,6 +21,7 @@ use Rattle.gate_eval.specs.Hold.{hazard}
 use Rattle.fixpoint_engine.specs.Value.{Waves, pin_waves, marked_pin}
 use Rattle.fixpoint_engine.specs.Settled.{FitWaves, waves_of}
 use Rattle.fixpoint_engine.specs.Pins.{read}
+use Rattle.fixpoint_engine.proofs.Changing.{wave-found}
 use Rattle.fixpoint_engine.proofs.ReadSlots.{read-folded, length-folded}
 use Rattle.point_check.specs.Point.{first_fault, checker_fault}
 use Rattle.point_check.specs.Assertion.{is_held}
@@ -33,7 +34,8 @@ one-found (Some f) = refl
 found-next : (find : ℕ → Option Fault) (xs : List ℕ) (x : ℕ) → filter_map find (xs ++ x ∷ []) ≡ filter_map find xs ++ option_to_list (find x)
 found-next find xs x = filter_map-append find xs (x ∷ []) ∙ ap (λ (l : List Fault). filter_map find xs ++ l) (one-found (find x))
 
-pub range-found : (find : ℕ → Option Fault) (n : ℕ) (faults more : List Fault) (found : Option Fault) → faults ≡ filter_map find (range_with_len 0 n) → found ≡ find n → more ≡ faults ++ option_to_list found →
+pub range-found : (find : ℕ → Option Fault) (n : ℕ) (faults more : List Fault) (found : Option Fault) →
+    faults ≡ filter_map find (range_with_len 0 n) → found ≡ find n → more ≡ faults ++ option_to_list found →
     more ≡ filter_map find (range_with_len 0 (n + 1))
 range-found find n faults more found so_far is e =
     e ∙ (λ i. so_far i ++ option_to_list (is i)) ∙ sym (found-next find (range_with_len 0 n) n) ∙ ap (filter_map find) (sym (range-more 0 n n (zero-add n)))
@@ -65,7 +67,8 @@ unfolding net_fault
 net-not c ws i at = ap (fault_of_net c ws i) at
 
 -- a hazard, by the waves and the mark that code has
-pub mark-is : (c : Circuit) (ws : Waves) (k : ℕ) (j : Instance) (waves : List (Wave Value)) (marked : Option ℕ) (o : Option (ℕ × ℕ)) (found : Option Fault) → waves ≡ pin_waves c ws j → marked ≡ marked_pin j →
+pub mark-is : (c : Circuit) (ws : Waves) (k : ℕ) (j : Instance) (waves : List (Wave Value))
+    (marked : Option ℕ) (o : Option (ℕ × ℕ)) (found : Option Fault) → waves ≡ pin_waves c ws j → marked ≡ marked_pin j →
     o ≡ hazard j.kind waves marked → found ≡ option_map (hazard_at k) o → found ≡ mark_fault c ws k j
 mark-is c ws k j waves marked o found w m is e = e ∙ ap (option_map (hazard_at k)) (is ∙ (λ i. hazard j.kind (w i) (m i)))
 
@@ -83,23 +86,20 @@ same-checker kind p p' k clock clock' input input' limits found pe ce xe e = e �
 
 -- ---- one net, by the waves that code has
 
-module _ {A : Type 0} (f : A → Wave Value) (c : Circuit) (xs ys : List A) (i : ℕ) (net : Net) where
-  pub net-below : FitWaves c (map f xs) → ys ≡ xs → Some net ≡ slice_get c.nets i → i < length ys
+module _ (c : Circuit) (xs ys : List (Wave Value)) (i : ℕ) (net : Net) where
+  pub net-below : FitWaves c xs → ys ≡ xs → Some net ≡ slice_get c.nets i → i < length ys
   net-below fit same at =
       let below = slice_get_within c.nets i net (sym at) in
       let each = fit.each_net in
-      let long = length-map xs f in
       let size : length ys ≡ length xs = ap length same in
-      omega (arith, below, each, long, size)
+      omega (arith, below, each, size)
 
   -- the wave of its number
-  pub net-wave : (x : A) → FitWaves c (map f xs) → ys ≡ xs → Some net ≡ slice_get c.nets i → x ≡ get_or ys i x → waves_of (map f xs) i ≡ f x
+  pub net-wave : (x : Wave Value) → FitWaves c xs → ys ≡ xs → Some net ≡ slice_get c.nets i → x ≡ get_or ys i x → waves_of xs i ≡ x
   net-wave x fit same at is =
-      let below = net-below fit same at in
-      let size : length ys ≡ length xs = ap length same in
-      get_or-map f xs i x (skewed [] 0) (omega (arith, below, size)) ∙ ap f (sym (is ∙ ap (λ (zs : List A). get_or zs i x) same))
+      sym (wave-found ys i (length ys) x (net-below fit same at) refl is ∙ ap (λ (ws : List (Wave Value)). waves_of ws i) same)
 
-  pub net-long : (x : A) → FitWaves c (map f xs) → ys ≡ xs → Some net ≡ slice_get c.nets i → x ≡ get_or ys i x → length (f x).cells ≡ period c.header
+  pub net-long : (x : Wave Value) → FitWaves c xs → ys ≡ xs → Some net ≡ slice_get c.nets i → x ≡ get_or ys i x → length x.cells ≡ period c.header
   net-long x fit same at is =
       ap (λ (w : Wave Value). length w.cells) (sym (net-wave x fit same at is)) ∙ fit.each_slot i (slice_get_within c.nets i net (sym at))
 

@@ -72,7 +72,8 @@ module _ (c : Circuit) (ws : Waves) (run : Run) (k : ℕ) (j : Instance) (choice
       (long-pin-at c ws j.pins 0 long fits.exists.reads (omega (arith, two))) (long-pin-at c ws j.pins 1 long fits.exists.reads (omega (arith, two)))
       (permit 0 (omega (arith, two))) (permit 1 (omega (arith, two)))
       (ap (λ (q : Kind). checker_fault q (period c.header) k (wave_of_pin (pin_waves c ws j) 0) (wave_of_pin (pin_waves c ws j) 1) j.limits) (sym is) ∙ none)
-      b.at.rises (omega (arith, begins)) (starts 0 b.edge b.at.edge_in) b.at.edge_in.ends (omega (arith, begins')) (starts 1 b.change b.at.change_in) b.at.change_in.ends b.at.not_before b.at.not_after)
+      b.at.rises (omega (arith, begins)) (starts 0 b.edge b.at.edge_in) b.at.edge_in.ends
+      (omega (arith, begins')) (starts 1 b.change b.at.change_in) b.at.change_in.ends b.at.not_before b.at.not_after)
 
   keeps-rise_fall : j.kind ≡ RiseFall → checker_fault j.kind (period c.header) k (wave_of_pin (pin_waves c ws j) 0) (wave_of_pin (pin_waves c ws j) 1) j.limits ≡ None →
       ¬ BreaksRiseFall run j choice start
@@ -84,7 +85,8 @@ module _ (c : Circuit) (ws : Waves) (run : Run) (k : ℕ) (j : Instance) (choice
       (max start (wire_to choice 0 + 1)) (max start (wire_to choice 1 + 1)) (pin_at run j choice 0) (pin_at run j choice 1) pos
       (long-pin-at c ws j.pins 0 long fits.exists.reads (omega (arith, two))) (long-pin-at c ws j.pins 1 long fits.exists.reads (omega (arith, two)))
       (permit 0 (omega (arith, two))) (permit 1 (omega (arith, two)))
-      b.at.is_high (omega (arith, begins)) (starts 0 b.edge b.at.edge_in) b.at.fall_in.ends (omega (arith, begins')) (starts 1 b.change b.at.change_in) b.at.change_in.ends b.at.not_before b.at.not_after
+      b.at.is_high (omega (arith, begins)) (starts 0 b.edge b.at.edge_in) b.at.fall_in.ends
+      (omega (arith, begins')) (starts 1 b.change b.at.change_in) b.at.change_in.ends b.at.not_before b.at.not_after
       (ap (λ (q : Kind). checker_fault q (period c.header) k (wave_of_pin (pin_waves c ws j) 0) (wave_of_pin (pin_waves c ws j) 1) j.limits) (sym is) ∙ none))
 
   -- the fold of a pin's wave in the slot of a tick has the pin's step there

@@ -1,51 +1,23 @@
--- Runs that are written out, of one instance whose pins are on nets 0, 1 and so on, and what
--- computing
--- finds in them.
-use Rattle.std.proofs.Common.{inl, inr, ◌⊎◌, ◌≡◌, ◌≢◌, ℕ, zero, suc, ◌+◌, ◌-◌, ◌<◌, ◌≤◌, ◌==◌, Bool, true, false, not, ◌&&◌, ◌||◌, ltb, eqb, List, [], ◌∷◌, length, map, refl, sym, ap, subst, ◌∙◌, arith, slice_get, Option, Some, None}
-use Rattle.std.specs.Prelude.{slice_index_or, ⊤}
-use Rattle.std.proofs.lemmas.Bool.{false≢true, true≢false, cases_eq, cases_lt, both_ways, eqb-true, and_parts, le-ltb, ne_eqb, not-true}
+-- What computing finds in runs that are written out, of one instance whose pins are on nets 0, 1 and
+-- so on.
+use Rattle.std.proofs.Common.{inl, inr, ◌⊎◌, ◌≡◌, ◌≢◌, ℕ, ◌-◌, ◌<◌, ◌≤◌, ◌==◌, Bool, true, false, not, ◌&&◌, nat_le, List, length, refl, sym, ap, subst, ◌∙◌, arith, slice_get, Option, Some, None}
+use Rattle.std.specs.Prelude.{⊤}
+use Rattle.std.proofs.lemmas.Bool.{false≢true, true≢false, cases_lt, both_ways, le-leb, ne_eqb, not-true}
 use Rattle.std.proofs.lemmas.Option.{slice_get_within}
-use Rattle.scald_base.specs.Time.{Header, Bounds}
 use Rattle.scald_base.specs.Signal.{Signal, turned}
 use Rattle.scald_base.specs.declared.assertion.AssertSpec.{AssertSpec}
 use Rattle.scald_base.specs.declared.assertion.AssertSpec.TheVariants.{None as Unasserted}
 use Rattle.step_values.specs.Steps.{has}
-use Rattle.vector_names.specs.declared.bits.Target.TheVariants.{Net as OnNet}
-use Rattle.flat_circuit.specs.declared.kind.Kind.{Kind}
 use Rattle.flat_circuit.specs.declared.instance.Pin.{Pin}
 use Rattle.flat_circuit.specs.declared.instance.Instance.{Instance}
 use Rattle.flat_circuit.specs.declared.net.Net.{Net}
 use Rattle.flat_circuit.specs.Circuit.{Circuit}
 use Rattle.flat_circuit.specs.Run.{Run, Choice, net_signal}
+use Rattle.flat_circuit.proofs.RunTables.{late}
+use Rattle.pin_waves.proofs.Tests.{implies, implies_is, all_below, each_passes}
 use Rattle.fixpoint_engine.specs.Pins.{pin_at}
+use Rattle.fixpoint_engine.proofs.WrittenRuns.{alone, run_of, only, only_at}
 use Rattle.point_check.specs.Break.{Rises, Changes, IsHighTo, IsSetupHoldBreak, BreaksSetupHold, IsRiseFallBreak, BreaksRiseFall, HasMark, IsMarkBreak, BreaksMark, BreaksKind, BreaksInstance, Asserts, wide_at, IsNetBreak, BreaksNet}
-
--- ---- tests of all numbers below another
-
-abbrev pub each_below : (ℕ → Bool) → ℕ → Bool
-each_below test zero = true
-each_below test (suc n) = test n && each_below test n
-
-pub at_below : (test : ℕ → Bool) (n t : ℕ) → each_below test n ≡ true → t < n → test t ≡ true
-at_below test zero t all less = absurd (omega arith)
-at_below test (suc n) t all less = elim (cases_eq t n) [
-  | inl same ↦ ap test same ∙ (and_parts (test n) (each_below test n) all).0
-  | inr other ↦ at_below test n t (and_parts (test n) (each_below test n) all).1 (omega arith)
-]
-
-pub either_is : (a b : Bool) → (a || b) ≡ true → a ≡ false → b ≡ true
-either_is true b either other = cc
-either_is false b either other = either
-
--- of those below n, k alone may pass
-abbrev pub only : (ℕ → Bool) → ℕ → ℕ → Bool
-only test n k = each_below (λ t. not (test t) || t == k) n
-
-pub only_at : (test : ℕ → Bool) (n k t : ℕ) → only test n k ≡ true → t < n → test t ≡ true → t ≡ k
-only_at test n k t is less passes =
-    eqb-true t k
-    (either_is (not (test t)) (t == k) (at_below (λ t. not (test t) || t == k) n t is less)
-    (ap not passes))
 
 -- ---- steps
 
@@ -77,7 +49,7 @@ only_change x n k t is less changes =
 
 -- high from the rise on, to the fall
 abbrev pub stays_high : Signal → ℕ → ℕ → Bool
-stays_high x rise fall = each_below (λ t. ltb t rise || x t) fall
+stays_high x rise fall = all_below (λ t. implies (nat_le rise t) (x t)) fall
 
 pub high_to : {x : Signal} (rise fall : ℕ) → rise < fall → Rises x rise →
     stays_high x rise fall ≡ true → x fall ≡ false →
@@ -91,8 +63,8 @@ high_to {x} rise fall less rises high falls = record {
   where
     at : (t : ℕ) → rise ≤ t → t < fall → x t ≡ true
     at t after before =
-        either_is (ltb t rise) (x t) (at_below (λ t. ltb t rise || x t) fall t high before)
-        (le-ltb t rise after)
+        implies_is (nat_le rise t) (x t)
+        (each_passes (λ t. implies (nat_le rise t) (x t)) fall high t before) (le-leb rise t after)
 
 -- where it is low between, it is not high to the end
 pub no_fall : {x : Signal} {rise fall : ℕ} (low : ℕ) → x low ≡ false → rise ≤ low → low < fall →
@@ -117,51 +89,8 @@ one_fall x rise fall other one two = by (cases_lt fall other) (cases_lt other fa
 
 -- ---- circuits of one instance
 
-abbrev pub no_delay : Bounds
-no_delay = record { min = 0; max = 0 }
-
-abbrev pub header : Header
-header = record { units = 8; ticks = 1; wire = no_delay; pskew = (0, 0); cskew = (0, 0) }
-
-abbrev pub alone : Instance → Circuit
-alone j = record { header = header; nets = []; instances = j ∷ []; order = [] }
-
--- a pin on a net: plain, complemented, marked, or both
-abbrev pub on : ℕ → Pin
-on i = record { target = OnNet i; inverted = false; hold = false }
-
-abbrev pub against : ℕ → Pin
-against i = record { target = OnNet i; inverted = true; hold = false }
-
 abbrev pub holding : Pin → Pin
 holding p = record p { hold = true }
-
-abbrev pub element : Kind → ℕ × ℕ → List Pin → Instance
-element kind limits pins = record {
-  path = [];
-  bit = 0;
-  kind = kind;
-  delay = no_delay;
-  limits = limits;
-  pins = pins;
-  out = None;
-  out_inverted = false;
-  place = record { line = 1; col = 1 };
-}
-
--- the bits of a text: 1 for each `1`, 0 for any other character
-abbrev pub bits : List ℕ → List Bool
-bits text = map (λ c. c == 49) text
-
-abbrev pub signal : List Bool → Signal
-signal xs t = slice_index_or xs t false
-
-abbrev pub choice_of : List ℕ → Choice
-choice_of wires = record { delay = 0; wires = wires }
-
--- a run of so many ticks, with wires of these delays to the pins and these bits on the nets
-abbrev pub run_of : ℕ → List ℕ → List (List Bool) → Run
-run_of ticks wires nets = record { ticks = ticks; choices = choice_of wires ∷ []; bits = nets }
 
 abbrev pub Breaks : Instance → Run → ℕ → Type 0
 Breaks j run start = BreaksInstance (alone j) run 0 start
@@ -170,26 +99,26 @@ abbrev BreaksAs : Run → ℕ → Instance → Choice → Type 0
 BreaksAs run start j choice = BreaksKind j.kind run j choice start
 
 module _ {j : Instance} {ticks start : ℕ} {wires : List ℕ} {nets : List (List Bool)} where
-  pub broken : BreaksKind j.kind (run_of ticks wires nets) j (choice_of wires) start →
+  pub broken : BreaksKind j.kind (run_of ticks wires nets) j (late 0 wires) start →
       Breaks j (run_of ticks wires nets) start
   broken breaks =
       record {
         instance = j;
-        choice = choice_of wires;
+        choice = late 0 wires;
         instance_is = refl;
         choice_is = refl;
         breaks = breaks;
       }
 
-  pub unbroken : ¬ BreaksKind j.kind (run_of ticks wires nets) j (choice_of wires) start →
+  pub unbroken : ¬ BreaksKind j.kind (run_of ticks wires nets) j (late 0 wires) start →
       ¬ Breaks j (run_of ticks wires nets) start
   unbroken none b =
       let at : Some j ≡ Some b.instance = b.instance_is in
-      let by : Some (choice_of wires) ≡ Some b.choice = b.choice_is in
+      let by : Some (late 0 wires) ≡ Some b.choice = b.choice_is in
       let same : j ≡ b.instance = cc in
-      let same' : choice_of wires ≡ b.choice = cc in
+      let same' : late 0 wires ≡ b.choice = cc in
       none
-      (subst (λ (i : Instance). BreaksAs (run_of ticks wires nets) start i (choice_of wires))
+      (subst (λ (i : Instance). BreaksAs (run_of ticks wires nets) start i (late 0 wires))
       (sym same)
       (subst (λ (ch : Choice). BreaksAs (run_of ticks wires nets) start b.instance ch) (sym same')
       b.breaks))
@@ -270,12 +199,12 @@ module _ {run : Run} {j : Instance} {choice : Choice} {start : ℕ} where
       steps.changes in
       none (subst (λ (t : ℕ). IsMarkBreak run j choice closed start marked pin t) t steps)
 
-  pub none_marked : {closed : Bool} → each_below (λ i. not (marked_at j i)) (length j.pins) ≡ true →
+  pub none_marked : {closed : Bool} → all_below (λ i. not (marked_at j i)) (length j.pins) ≡ true →
       ¬ BreaksMark run j choice closed start
   none_marked none b =
       both_ways (marked_at j b.marked)
       (not-true (marked_at j b.marked)
-      (at_below (λ i. not (marked_at j i)) (length j.pins) b.marked none
+      (each_passes (λ i. not (marked_at j i)) (length j.pins) none b.marked
       (slice_get_within j.pins b.marked b.at.is_marked.pin b.at.is_marked.pin_is)))
       (ap marked_in b.at.is_marked.pin_is ∙ b.at.is_marked.holds)
 

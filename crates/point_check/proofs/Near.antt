@@ -97,7 +97,8 @@ module _ (kind : Kind) (p k : ℕ) (clock input : Wave Value) (limits : ℕ × �
       (first_some-none (edge_fault kind p k (fold values clock) (fold values input) limits) p 0 s none (omega arith) (omega arith))
 
   -- the edge of a tick
-  quiet-rise : (n edge v : ℕ) (c : Signal) → 0 < p → length clock.cells ≡ p → Permits values clock n c v → checker_fault kind p k clock input limits ≡ None → Rises c edge → 1 ≤ edge → v ≤ edge → edge < n →
+  quiet-rise : (n edge v : ℕ) (c : Signal) → 0 < p → length clock.cells ≡ p → Permits values clock n c v →
+      checker_fault kind p k clock input limits ≡ None → Rises c edge → 1 ≤ edge → v ≤ edge → edge < n →
       window_fault p k (fold values input) (edge % p) (window_of kind p (fold values clock) limits (edge % p)) ≡ None
   quiet-rise n edge v c pos long permits none up e1 ev en =
       quiet-edge (edge % p) none (mod-lt edge pos)
@@ -170,7 +171,8 @@ module _ (p k : ℕ) (clock input : Wave Value) (limits : ℕ × ℕ) (n edge fa
       let slot : fall % p < p = mod-lt fall pos in
       let here : has (fold values clock (fall % p)) true false ≡ true =
       ap (λ (w : Value). has w true false) (fold-mod values p clock fall long)
-      ∙ step-has p clock n fall v fall c true false long permits refl (high.high (fall - 1) (omega (arith, before)) (omega (arith, before))) high.falls (omega (arith, before)) (omega (arith, before)) fn in
+      ∙ step-has p clock n fall v fall c true false long permits refl
+      (high.high (fall - 1) (omega (arith, before)) (omega (arith, before))) high.falls (omega (arith, before)) (omega (arith, before)) fn in
       some-not_none (first_some (λ s. cond (has (fold values clock s) true false) (Some s) None) p 0)
       (first_some-some (λ s. cond (has (fold values clock s) true false) (Some s) None) p 0 (fall % p) (omega arith) (omega (arith, slot)) (ap (λ b. is_none (cond b (Some (fall % p)) None)) here))
 

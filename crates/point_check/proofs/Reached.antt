@@ -29,7 +29,8 @@ use Rattle.point_check.specs.Faults.{is_of_instance, is_of_net}
 use Rattle.point_check.specs.Break.{BreaksInstance, BreaksNet}
 use Rattle.point_check.specs.Sound.{KeepsConstraints}
 
-pins-permit : (c : Circuit) (run : Run) (ws : Waves) (ps : List Pin) (wires : List ℕ) (v start i : ℕ) → 0 < period c.header → AreLong c ws → All (PinExists (length c.nets)) ps → PermitRun c run ws v → 1 ≤ v →
+pins-permit : (c : Circuit) (run : Run) (ws : Waves) (ps : List Pin) (wires : List ℕ) (v start i : ℕ) →
+    0 < period c.header → AreLong c ws → All (PinExists (length c.nets)) ps → PermitRun c run ws v → 1 ≤ v →
     WiresFit c.nets ps wires → v + greatest_wire c.nets ps ≤ start → i < length ps →
     Permits values (wave_of_pin (map (pin_wave c ws) ps) i) run.ticks (nth_signal (pin_signals run ps wires) i) (max start (slice_index_or wires i 0 + 1))
 pins-permit c run ws [] wires v start i some long exist permits v1 fits far below = absurd (omega arith)

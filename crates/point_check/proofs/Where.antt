@@ -87,7 +87,13 @@ module _ (cells : List Value) (period from left : ℕ) (same : period ≡ length
       ap (λ (z : ℕ). has (read cells z) false true) (sym on) ∙ sym (none (s - from) (omega arith))
 
   pub no-next : ((k : ℕ) → k < left → false ≡ has (read cells (from + k)) false true) → IsNextEdge (read cells) from (length cells) period
-  no-next none = record { after = most; within = omega (arith, same); none = λ s above below. no-rise left s none above (omega (arith, is, below, most)); at = λ below. absurd (omega (arith, same, below)) }
+  no-next none = record {
+    after = most;
+    within = omega (arith, same);
+    none =
+        λ s above below. no-rise left s none above (omega (arith, is, below, most));
+    at = λ below. absurd (omega (arith, same, below));
+  }
 
   pub is-next : (place : ℕ) → place < left → ((k : ℕ) → k < place → false ≡ has (read cells (from + k)) false true) → true ≡ has (read cells (from + place)) false true →
       IsNextEdge (read cells) from (length cells) (from + place)

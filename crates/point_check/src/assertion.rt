@@ -2,7 +2,6 @@
 
 ghost use Rattle.std.specs.Prelude.{◌≡◌, ◌<◌, ◌&&◌, not, IfOk, IfSome, length};
 ghost use Rattle.step_values.specs.Steps.{has};
-ghost use Rattle.skew_algebra.specs.Wave.{skewed};
 ghost use Rattle.scald_base.specs.Time.{period};
 ghost use Rattle.scald_base.specs.Fitting.{Fits};
 ghost use Rattle.fixpoint_engine.specs.Pins.{read};
@@ -66,9 +65,10 @@ pub fn assertion_fault<W: CyclicWave<Item = Value>>(
     wave: &Skewed<W>,
 ) -> Result<Option<Fault>, NoMemory>
     requires fits { Fits h.now spec.now }
-    requires period { length (W.cells wave.now.wave) ≡ period h.now }
-    ensures { IfOk result (λ found. found ≡ fault_of_assertion h.now spec.now number (skewed (W.cells wave.now.wave) wave.now.skew)) }
+    requires period { length wave.now.cells ≡ period h.now }
+    ensures { IfOk result (λ found. found ≡ fault_of_assertion h.now spec.now number wave.now) }
 {
+    wave.known();
     let wide: W = wide_wave(alloc, spec, h)?;
     let found = wave.folded(alloc)?;
     match first_excess(&found, &wide) {

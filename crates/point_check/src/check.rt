@@ -1,18 +1,20 @@
 //! The faults of a whole circuit.
 
-ghost use Rattle.std.specs.Prelude.{◌≡◌, ◌++◌, ◌<◌, IfOk, OnOk, length, map, Some, filter_map};
+ghost use Rattle.std.specs.Prelude.{◌≡◌, ◌++◌, IfOk, IfSome, OnOk, length, Some, filter_map};
 ghost use Rattle.std.specs.List.{range_with_len};
 ghost use Rattle.std.specs.Option.{option_to_list};
-ghost use Rattle.skew_algebra.specs.Wave.{skewed};
 ghost use Rattle.flat_circuit.specs.Instances.{InstanceFits};
 ghost use Rattle.fixpoint_engine.specs.Settled.{FitWaves, waves_of};
 ghost use Rattle.fixpoint_engine.specs.Rounds.{net_at};
 ghost use Rattle.point_check.specs.Faults.{fault_by_kind, instance_fault as fault_of_instance, net_fault as fault_of_net, point_faults};
+ghost use Rattle.point_check.specs.Known.{AreChecked, AreKnown};
 ghost use Rattle.point_check.specs.Sound.{KeepsConstraints};
 
 use crate::assertion::{assertion_fault, is_held};
+use crate::before::{Before, instance_before, net_before};
 use crate::checker::limited_fault;
 use crate::folds::Folds;
+use crate::known::PointFaults;
 use crate::mark::mark_fault;
 use fixpoint_engine::Waves;
 use flat_circuit::{Circuit, Fault, Faults, Instance, Kind};
@@ -31,8 +33,9 @@ fn fault_by_kind<W: CyclicWave<Item = Value>>(
     instance: &Instance,
 ) -> Result<Option<Fault>, NoMemory>
     requires fits { InstanceFits c.now.header (length c.now.nets) instance.now }
-    requires fit { FitWaves c.now (map (λ s. skewed (W.cells s.wave) s.skew) waves.now) }
-    ensures { IfOk result (λ found. found ≡ fault_by_kind instance.now.kind c.now (waves_of (map (λ s. skewed (W.cells s.wave) s.skew) waves.now)) number instance.now) }
+    requires fit { FitWaves c.now waves.now }
+    ensures { IfOk result (λ found.
+        found ≡ fault_by_kind instance.now.kind c.now (waves_of waves.now) number instance.now) }
 {
     match instance.kind {
         Kind::SetupHold | Kind::RiseFall => {
@@ -43,18 +46,26 @@ fn fault_by_kind<W: CyclicWave<Item = Value>>(
     }
 }
 
-/// The fault of the instance of a number, if it has one.
+/// The fault of the instance of a number, if it has one. Where it is known from before it is not
+/// checked again.
 #[inline(always)]
 pub fn instance_fault<W: CyclicWave<Item = Value>>(
     alloc: Global,
     folds: &mut Folds<W>,
     c: &Circuit,
+    before: &Option<Before<W>>,
     waves: &Waves<W>,
     number: u32,
 ) -> Result<Option<Fault>, NoMemory>
-    requires { FitWaves c.now (map (λ s. skewed (W.cells s.wave) s.skew) waves.now) }
-    ensures { IfOk result (λ found. found ≡ fault_of_instance c.now (waves_of (map (λ s. skewed (W.cells s.wave) s.skew) waves.now)) number) }
+    requires before { IfSome before.now (λ b. AreChecked c.now b.waves.now b.known.now) }
+    requires fit { FitWaves c.now waves.now }
+    ensures { IfOk result (λ found. found ≡ fault_of_instance c.now (waves_of waves.now) number) }
 {
+    if let Some(before) = before {
+        if let Some(found) = instance_before(c, before, waves, number) {
+            return Ok(found);
+        }
+    }
     c.known();
     match c.instance(number) {
         None => Ok(None),
@@ -65,17 +76,25 @@ pub fn instance_fault<W: CyclicWave<Item = Value>>(
     }
 }
 
-/// The fault of the net of a number, if something drives it, its name asserts something and it has one.
+/// The fault of the net of a number, if something drives it, its name asserts something and it has
+/// one. Where it is known from before it is not checked again.
 #[inline(always)]
 pub fn net_fault<W: CyclicWave<Item = Value>>(
     alloc: Global,
     c: &Circuit,
+    before: &Option<Before<W>>,
     waves: &Waves<W>,
     number: u32,
 ) -> Result<Option<Fault>, NoMemory>
-    requires { FitWaves c.now (map (λ s. skewed (W.cells s.wave) s.skew) waves.now) }
-    ensures { IfOk result (λ found. found ≡ fault_of_net c.now (waves_of (map (λ s. skewed (W.cells s.wave) s.skew) waves.now)) number) }
+    requires before { IfSome before.now (λ b. AreChecked c.now b.waves.now b.known.now) }
+    requires fit { FitWaves c.now waves.now }
+    ensures { IfOk result (λ found. found ≡ fault_of_net c.now (waves_of waves.now) number) }
 {
+    if let Some(before) = before {
+        if let Some(found) = net_before(c, before, waves, number) {
+            return Ok(found);
+        }
+    }
     c.known();
     match c.net(number) {
         None => Ok(None),
@@ -91,7 +110,7 @@ pub fn net_fault<W: CyclicWave<Item = Value>>(
 }
 
 /// Appends a fault, if there is one.
-pub fn add(faults: &mut Faults, found: Option<Fault>) -> Result<(), NoMemory>
+fn add(faults: &mut Faults, found: Option<Fault>) -> Result<(), NoMemory>
     ensures { OnOk result (faults.new ≡ faults.old ++ option_to_list found) }
 {
     match found {
@@ -102,7 +121,7 @@ pub fn add(faults: &mut Faults, found: Option<Fault>) -> Result<(), NoMemory>
 
 /// The number of the net at a place in name order; past the last, 0.
 #[tactic(auto, using(fixpoint_engine::proofs::Places::past_last, fixpoint_engine::proofs::Places::at_place))]
-pub fn net_named(c: &Circuit, place: u32) -> u32
+fn net_named(c: &Circuit, place: u32) -> u32
     ensures { result ≡ net_at c.now.order place }
 {
     match c.by_name(place) {
@@ -115,15 +134,18 @@ pub fn net_named(c: &Circuit, place: u32) -> u32
 fn instance_faults<W: CyclicWave<Item = Value>>(
     alloc: Global,
     c: &Circuit,
+    before: &Option<Before<W>>,
     waves: &Waves<W>,
 ) -> Result<Faults, NoMemory>
-    requires { FitWaves c.now (map (λ s. skewed (W.cells s.wave) s.skew) waves.now) }
-    ensures { IfOk result (λ faults. faults ≡ filter_map (fault_of_instance c.now (waves_of (map (λ s. skewed (W.cells s.wave) s.skew) waves.now))) (range_with_len 0 (length c.now.instances))) }
+    requires before { IfSome before.now (λ b. AreChecked c.now b.waves.now b.known.now) }
+    requires fit { FitWaves c.now waves.now }
+    ensures { IfOk result (λ faults. faults ≡ filter_map (fault_of_instance c.now (waves_of waves.now))
+        (range_with_len 0 (length c.now.instances))) }
 {
     let mut faults = Faults::new(alloc);
     let mut folds = Folds::new();
     for number in 0..c.instance_count() {
-        let found = instance_fault(alloc, &mut folds, c, waves, number)?;
+        let found = instance_fault(alloc, &mut folds, c, before, waves, number)?;
         add(&mut faults, found)?;
     }
     Ok(faults)
@@ -134,17 +156,39 @@ fn add_net_faults<W: CyclicWave<Item = Value>>(
     faults: &mut Faults,
     alloc: Global,
     c: &Circuit,
+    before: &Option<Before<W>>,
     waves: &Waves<W>,
 ) -> Result<(), NoMemory>
-    requires { FitWaves c.now (map (λ s. skewed (W.cells s.wave) s.skew) waves.now) }
-    ensures { OnOk result (faults.new ≡ faults.old ++ filter_map (fault_of_net c.now (waves_of (map (λ s. skewed (W.cells s.wave) s.skew) waves.now))) c.now.order) }
+    requires before { IfSome before.now (λ b. AreChecked c.now b.waves.now b.known.now) }
+    requires fit { FitWaves c.now waves.now }
+    ensures { OnOk result
+        (faults.new ≡ faults.old ++ filter_map (fault_of_net c.now (waves_of waves.now)) c.now.order) }
 {
     c.known();
     for place in 0..c.net_count() {
-        let found = net_fault(alloc, c, waves, net_named(c, place))?;
+        let found = net_fault(alloc, c, before, waves, net_named(c, place))?;
         add(faults, found)?;
     }
     Ok(())
+}
+
+/// The faults of all instances and nets, in the order of the report.
+fn all_faults<W: CyclicWave<Item = Value>>(
+    alloc: Global,
+    c: &Circuit,
+    before: &Option<Before<W>>,
+    waves: &Waves<W>,
+) -> Result<Faults, NoMemory>
+    requires before { IfSome before.now (λ b. AreChecked c.now b.waves.now b.known.now) }
+    requires fit { FitWaves c.now waves.now }
+    ensures faults { IfOk result (λ faults. faults ≡ point_faults c.now (waves_of waves.now)) }
+    ensures sound { IfOk result (KeepsConstraints c.now (waves_of waves.now)) }
+{
+    c.known();
+    c.header().known();
+    let mut faults = instance_faults(alloc, c, before, waves)?;
+    add_net_faults(&mut faults, alloc, c, before, waves)?;
+    Ok(faults)
 }
 
 /// The faults that these settled waves of all nets show: of setup and hold, of rise and fall and of
@@ -156,13 +200,31 @@ pub fn check_points<W: CyclicWave<Item = Value>>(
     c: &Circuit,
     waves: &Waves<W>,
 ) -> Result<Faults, NoMemory>
-    requires { FitWaves c.now (map (λ s. skewed (W.cells s.wave) s.skew) waves.now) }
-    ensures faults { IfOk result (λ faults. faults ≡ point_faults c.now (waves_of (map (λ s. skewed (W.cells s.wave) s.skew) waves.now))) }
-    ensures sound { IfOk result (KeepsConstraints c.now (waves_of (map (λ s. skewed (W.cells s.wave) s.skew) waves.now))) }
+    requires { FitWaves c.now waves.now }
+    ensures faults { IfOk result (λ faults. faults ≡ point_faults c.now (waves_of waves.now)) }
+    ensures sound { IfOk result (KeepsConstraints c.now (waves_of waves.now)) }
 {
-    c.known();
-    c.header().known();
-    let mut faults = instance_faults(alloc, c, waves)?;
-    add_net_faults(&mut faults, alloc, c, waves)?;
-    Ok(faults)
+    all_faults(alloc, c, &None, waves)
+}
+
+/// What [`check_points`] answers for these waves, where the fault of each instance and of each net in
+/// others is known. What has the same waves in both is not checked again.
+pub fn check_points_again<W: CyclicWave<Item = Value>>(
+    alloc: Global,
+    c: &Circuit,
+    before: &Waves<W>,
+    known: &PointFaults,
+    waves: &Waves<W>,
+) -> Result<Faults, NoMemory>
+    requires before { FitWaves c.now before.now }
+    requires known { AreKnown c.now (waves_of before.now) known.now }
+    requires fit { FitWaves c.now waves.now }
+    ensures faults { IfOk result (λ faults. faults ≡ point_faults c.now (waves_of waves.now)) }
+    ensures sound { IfOk result (KeepsConstraints c.now (waves_of waves.now)) }
+{
+    let before = Before {
+        waves: before,
+        known,
+    };
+    all_faults(alloc, c, &Some(before), waves)
 }

@@ -1,8 +1,7 @@
 //! The checkers that hold an input against the edges of a clock.
 
-ghost use Rattle.std.specs.Prelude.{◌≡◌, ◌+◌, ◌≤◌, IfOk, length, map, slice_get, true};
+ghost use Rattle.std.specs.Prelude.{◌≡◌, ◌+◌, ◌≤◌, IfOk, length, slice_get, true};
 ghost use Rattle.scald_base.specs.Time.{period};
-ghost use Rattle.skew_algebra.specs.Wave.{skewed};
 ghost use Rattle.flat_circuit.specs.Instances.{InstanceFits, PinExists};
 ghost use Rattle.fixpoint_engine.specs.Settled.{FitWaves, waves_of};
 ghost use Rattle.fixpoint_engine.specs.Value.{pin_wave as wave_shown};
@@ -29,10 +28,13 @@ fn fault_between<W: CyclicWave<Item = Value>>(
     input: &Skewed<W>,
     limits: (u16, u16),
 ) -> Result<Option<Fault>, NoMemory>
-    requires limits { limits.0 + limits.1 ≤ length (W.cells clock.now.wave) }
-    requires periods { length (W.cells input.now.wave) ≡ length (W.cells clock.now.wave) }
-    ensures { IfOk result (λ found. found ≡ fault_of_checker kind (length (W.cells clock.now.wave)) instance (skewed (W.cells clock.now.wave) clock.now.skew) (skewed (W.cells input.now.wave) input.now.skew) limits) }
+    requires limits { limits.0 + limits.1 ≤ length clock.now.cells }
+    requires periods { length input.now.cells ≡ length clock.now.cells }
+    ensures { IfOk result (λ found.
+        found ≡ fault_of_checker kind (length clock.now.cells) instance clock.now input.now limits) }
 {
+    clock.known();
+    input.known();
     if input.is_steady() {
         return Ok(None);
     }
@@ -56,9 +58,10 @@ fn checker_fault<W: CyclicWave<Item = Value>>(
     requires clock { PinExists (length c.now.nets) clock }
     requires input { PinExists (length c.now.nets) input }
     requires limits { limits.0 + limits.1 ≤ period c.now.header }
-    requires fit { FitWaves c.now (map (λ s. skewed (W.cells s.wave) s.skew) waves.now) }
-    ensures { let ws = waves_of (map (λ s. skewed (W.cells s.wave) s.skew) waves.now) in
-        IfOk result (λ found. found ≡ fault_of_checker kind (period c.now.header) instance (wave_shown c.now ws clock) (wave_shown c.now ws input) limits) }
+    requires fit { FitWaves c.now waves.now }
+    ensures { let ws = waves_of waves.now in
+        IfOk result (λ found. found ≡ fault_of_checker kind (period c.now.header)
+        instance (wave_shown c.now ws clock) (wave_shown c.now ws input) limits) }
 {
     let clock_wave = pin_wave(alloc, c, waves, clock)?;
     let input_wave = pin_wave(alloc, c, waves, input)?;
@@ -87,8 +90,8 @@ pub fn limited_fault<W: CyclicWave<Item = Value>>(
     requires checker { checks_points checker.now.kind ≡ true }
     requires fits { InstanceFits c.now.header (length c.now.nets) checker.now }
     requires limits { limits.0 + limits.1 ≤ period c.now.header }
-    requires fit { FitWaves c.now (map (λ s. skewed (W.cells s.wave) s.skew) waves.now) }
-    ensures { let ws = waves_of (map (λ s. skewed (W.cells s.wave) s.skew) waves.now) in
+    requires fit { FitWaves c.now waves.now }
+    ensures { let ws = waves_of waves.now in
         IfOk result (λ found. found ≡ fault_with c.now ws number checker.now limits) }
 {
     let pins = checker.pins.as_slice();
@@ -121,8 +124,8 @@ pub fn point_fault<W: CyclicWave<Item = Value>>(
 ) -> Result<Option<Fault>, NoMemory>
     requires checker { IsPointChecker (slice_get c.now.instances instance) }
     requires limits { limits.0 + limits.1 ≤ period c.now.header }
-    requires fit { FitWaves c.now (map (λ s. skewed (W.cells s.wave) s.skew) waves.now) }
-    ensures { let ws = waves_of (map (λ s. skewed (W.cells s.wave) s.skew) waves.now) in
+    requires fit { FitWaves c.now waves.now }
+    ensures { let ws = waves_of waves.now in
         IfOk result (λ found. found ≡ limited_fault_at c.now ws instance limits) }
 {
     c.known();

@@ -48,7 +48,8 @@ fn window_fault<W: CyclicWave<Item = Value>>(
 ) -> Option<Fault>
     requires window { WindowFits (length (W.cells input.now)) window }
     requires edge { edge < length (W.cells input.now) }
-    ensures { result ≡ fault_of_window (length (W.cells input.now)) instance (read (W.cells input.now)) edge (Some window) }
+    ensures { result ≡ fault_of_window (length (W.cells input.now))
+        instance (read (W.cells input.now)) edge (Some window) }
 {
     let period = input.period();
     let from = slot_at(period, window, edge, 0);
@@ -107,7 +108,8 @@ fn last_fall<W: CyclicWave<Item = Value>>(clock: &W, edge: u16, low: u16) -> Opt
 /// The window where the clock may stay at 1 for ever: the whole period, or none where it can not fall.
 fn all_round<W: CyclicWave<Item = Value>>(clock: &W, limits: (u16, u16)) -> Option<Window>
     requires { limits.0 + limits.1 ≤ length (W.cells clock.now) }
-    ensures window { result ≡ window_all_round (length (W.cells clock.now)) limits (falls (length (W.cells clock.now)) (read (W.cells clock.now))) }
+    ensures window { result ≡ window_all_round (length (W.cells clock.now))
+        limits (falls (length (W.cells clock.now)) (read (W.cells clock.now))) }
     ensures fits { IfSome result (WindowFits (length (W.cells clock.now))) }
 {
     let period = clock.period();
@@ -181,7 +183,8 @@ fn edge_fault<W: CyclicWave<Item = Value>>(
     requires edge { edge < length (W.cells clock.now) }
     requires limits { limits.0 + limits.1 ≤ length (W.cells clock.now) }
     requires periods { length (W.cells input.now) ≡ length (W.cells clock.now) }
-    ensures { result ≡ fault_of_edge kind (length (W.cells clock.now)) instance (read (W.cells clock.now)) (read (W.cells input.now)) limits edge }
+    ensures { result ≡ fault_of_edge kind (length (W.cells clock.now))
+        instance (read (W.cells clock.now)) (read (W.cells input.now)) limits edge }
 {
     if !clock.at(edge).may_rise() {
         return None;
@@ -217,7 +220,8 @@ pub fn first_fault<W: CyclicWave<Item = Value>>(
 ) -> Option<Fault>
     requires limits { limits.0 + limits.1 ≤ length (W.cells clock.now) }
     requires periods { length (W.cells input.now) ≡ length (W.cells clock.now) }
-    ensures { result ≡ fault_of_edges kind (length (W.cells clock.now)) instance (read (W.cells clock.now)) (read (W.cells input.now)) limits }
+    ensures { result ≡ fault_of_edges kind (length (W.cells clock.now))
+        instance (read (W.cells clock.now)) (read (W.cells input.now)) limits }
 {
     let mut edge = 0;
     'edges: while edge < clock.period() {

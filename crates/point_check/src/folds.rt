@@ -2,7 +2,7 @@
 
 ghost use Rattle.std.specs.Prelude.{◌≡◌, IfOk};
 ghost use Rattle.step_values.specs.Cell.{values};
-ghost use Rattle.skew_algebra.specs.Wave.{folded, skewed};
+ghost use Rattle.skew_algebra.specs.Wave.{folded};
 
 use scald_base::NoMemory;
 use skew_algebra::Skewed;
@@ -15,7 +15,7 @@ use wave_core::CyclicWave;
 struct Fold<W: CyclicWave<Item = Value>> {
     wave: Skewed<W>,
     made: W,
-    ghost is: { W.cells made ≡ folded values (skewed (W.cells wave.wave) wave.skew) },
+    ghost is: { W.cells made ≡ folded values wave },
 }
 
 /// The last wave that was folded, with its fold: checkers side by side mostly have one clock, and inputs that
@@ -33,7 +33,7 @@ impl<W: CyclicWave<Item = Value>> LastFold<W> {
 
     /// A wave with its skew folded in.
     pub fn of(&mut self, alloc: Global, wave: &Skewed<W>) -> Result<W, NoMemory>
-        ensures { IfOk result (λ w. W.cells w ≡ folded values (skewed (W.cells wave.now.wave) wave.now.skew)) }
+        ensures { IfOk result (λ w. W.cells w ≡ folded values wave.now) }
     {
         if let Some(kept) = &self.kept {
             if kept.wave.same(wave) {

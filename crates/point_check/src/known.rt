@@ -2,7 +2,6 @@
 
 ghost use Rattle.std.specs.Prelude.{◌≡◌, IfOk, length, map};
 ghost use Rattle.std.specs.List.{range_with_len};
-ghost use Rattle.skew_algebra.specs.Wave.{skewed};
 ghost use Rattle.fixpoint_engine.specs.Settled.{FitWaves, waves_of};
 ghost use Rattle.point_check.specs.Faults.{instance_fault as fault_of_instance, net_fault as fault_of_net};
 ghost use Rattle.point_check.specs.Known.{AreKnown};
@@ -29,13 +28,14 @@ fn known_instances<W: CyclicWave<Item = Value>>(
     c: &Circuit,
     waves: &Waves<W>,
 ) -> Result<List<Option<Fault>>, NoMemory>
-    requires { FitWaves c.now (map (λ s. skewed (W.cells s.wave) s.skew) waves.now) }
-    ensures { IfOk result (λ known. known ≡ map (fault_of_instance c.now (waves_of (map (λ s. skewed (W.cells s.wave) s.skew) waves.now))) (range_with_len 0 (length c.now.instances))) }
+    requires { FitWaves c.now waves.now }
+    ensures { IfOk result (λ known.
+        known ≡ map (fault_of_instance c.now (waves_of waves.now)) (range_with_len 0 (length c.now.instances))) }
 {
     let mut known = List::new(alloc);
     let mut folds = Folds::new();
     for number in 0..c.instance_count() {
-        let found = instance_fault(alloc, &mut folds, c, waves, number)?;
+        let found = instance_fault(alloc, &mut folds, c, &None, waves, number)?;
         known.push(found)?;
     }
     Ok(known)
@@ -47,12 +47,13 @@ fn known_nets<W: CyclicWave<Item = Value>>(
     c: &Circuit,
     waves: &Waves<W>,
 ) -> Result<List<Option<Fault>>, NoMemory>
-    requires { FitWaves c.now (map (λ s. skewed (W.cells s.wave) s.skew) waves.now) }
-    ensures { IfOk result (λ known. known ≡ map (fault_of_net c.now (waves_of (map (λ s. skewed (W.cells s.wave) s.skew) waves.now))) (range_with_len 0 (length c.now.nets))) }
+    requires { FitWaves c.now waves.now }
+    ensures { IfOk result (λ known.
+        known ≡ map (fault_of_net c.now (waves_of waves.now)) (range_with_len 0 (length c.now.nets))) }
 {
     let mut known = List::new(alloc);
     for number in 0..c.net_count() {
-        let found = net_fault(alloc, c, waves, number)?;
+        let found = net_fault(alloc, c, &None, waves, number)?;
         known.push(found)?;
     }
     Ok(known)
@@ -64,8 +65,8 @@ pub fn known_points<W: CyclicWave<Item = Value>>(
     c: &Circuit,
     waves: &Waves<W>,
 ) -> Result<PointFaults, NoMemory>
-    requires { FitWaves c.now (map (λ s. skewed (W.cells s.wave) s.skew) waves.now) }
-    ensures { IfOk result (AreKnown c.now (waves_of (map (λ s. skewed (W.cells s.wave) s.skew) waves.now))) }
+    requires { FitWaves c.now waves.now }
+    ensures { IfOk result (AreKnown c.now (waves_of waves.now)) }
 {
     let instances = known_instances(alloc, c, waves)?;
     let nets = known_nets(alloc, c, waves)?;

@@ -18,12 +18,11 @@ mod assertion;
 mod checker;
 mod mark;
 
-// all of them, and again where most waves are as before
-mod again;
+// all of them, and what is known of them from before
+mod before;
 mod check;
 mod known;
 
-pub use again::check_points_again;
-pub use check::check_points;
+pub use check::{check_points, check_points_again};
 pub use checker::point_fault;
 pub use known::{PointFaults, known_points};

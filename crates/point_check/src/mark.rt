@@ -1,7 +1,6 @@
 //! Hazards of marked pins.
 
-ghost use Rattle.std.specs.Prelude.{◌≡◌, IfOk, length, map};
-ghost use Rattle.skew_algebra.specs.Wave.{skewed};
+ghost use Rattle.std.specs.Prelude.{◌≡◌, IfOk, length};
 ghost use Rattle.flat_circuit.specs.Instances.{InstanceFits};
 ghost use Rattle.fixpoint_engine.specs.Value.{marked_pin as marked};
 ghost use Rattle.fixpoint_engine.specs.Settled.{FitWaves, waves_of};
@@ -32,8 +31,8 @@ pub fn mark_fault<W: CyclicWave<Item = Value>>(
     gate: &Instance,
 ) -> Result<Option<Fault>, NoMemory>
     requires fits { InstanceFits c.now.header (length c.now.nets) gate.now }
-    requires fit { FitWaves c.now (map (λ s. skewed (W.cells s.wave) s.skew) waves.now) }
-    ensures { let ws = waves_of (map (λ s. skewed (W.cells s.wave) s.skew) waves.now) in
+    requires fit { FitWaves c.now waves.now }
+    ensures { let ws = waves_of waves.now in
         IfOk result (λ found. found ≡ fault_of_mark c.now ws number gate.now) }
 {
     if marked_pin(gate).is_none() {

@@ -13,9 +13,10 @@ use Rattle.flat_circuit.specs.declared.fault.PointKind.TheVariants.{Setup}
 use Rattle.flat_circuit.specs.declared.kind.Kind.TheVariants.{MinPulse}
 use Rattle.flat_circuit.specs.declared.net.Net.{Net}
 use Rattle.flat_circuit.specs.Circuit.{Circuit}
+use Rattle.flat_circuit.proofs.RunTables.{on}
+use Rattle.fixpoint_engine.proofs.WrittenRuns.{alone, element}
 use Rattle.pulse_check.specs.Faults.{width_fault, instance_faults}
 use Rattle.pulse_check.specs.Sound.{is_of_pulse}
-use Rattle.pulse_check.proofs.Literal.{alone, pin, element}
 
 -- a wave of eight slots, late by up to so many
 abbrev eight : ℕ → Value → Value → Value → Value → Value → Value → Value → Value → Wave Value
@@ -89,7 +90,7 @@ abbrev net : Net
 net = record { name = []; bit = 0; spec = Unasserted; wire = record { min = 0; max = 0 }; driver = None }
 
 abbrev measured : ℕ × ℕ → Circuit
-measured limits = record (alone (element MinPulse limits (pin false))) { nets = net ∷ [] }
+measured limits = record (alone (element MinPulse limits (on 0 ∷ []))) { nets = net ∷ [] }
 
 both_levels : instance_faults (measured (3, 7)) (λ i. pulse) 0 ≡ Width 0 true 2 2 ∷ Width 0 false 4 6 ∷ []
 unfolding instance_faults width_fault moved normal back earlier

@@ -29,7 +29,8 @@ pub no-width : (p k : ℕ) (wave : Wave Value) (level : Bool) (limit : ℕ) → 
 unfolding width_fault
 no-width p k wave level limit e = ap (option_map (fault_at k level)) e
 
-pub a-width : (p k from width : ℕ) (wave : Wave Value) (level : Bool) (limit : ℕ) → Some (from, width) ≡ first_narrow p level (read wave.cells) limit → Some (Width k level from width) ≡ width_fault p k wave level limit
+pub a-width : (p k from width : ℕ) (wave : Wave Value) (level : Bool) (limit : ℕ) →
+    Some (from, width) ≡ first_narrow p level (read wave.cells) limit → Some (Width k level from width) ≡ width_fault p k wave level limit
 unfolding width_fault
 a-width p k from width wave level limit e = ap (option_map (fault_at k level)) e
 
@@ -38,7 +39,8 @@ pub a-pin : (kind : Kind) (ps : List Pin) → checks_pulses kind ≡ true → Pi
 a-pin MinPulse ps is fits = fits.least
 a-pin kind ps is fits = cc
 
-pub long-first : (c : Circuit) (ws : Waves) (j : Instance) (ps : List Pin) (d : Pin) (wave : Wave Value) → checks_pulses j.kind ≡ true → InstanceFits c.header (length c.nets) j → AreLong c ws → ps ≡ j.pins →
+pub long-first : (c : Circuit) (ws : Waves) (j : Instance) (ps : List Pin) (d : Pin) (wave : Wave Value) →
+    checks_pulses j.kind ≡ true → InstanceFits c.header (length c.nets) j → AreLong c ws → ps ≡ j.pins →
     wave ≡ pin_wave c ws (get_or ps 0 d) → length wave.cells ≡ period c.header
 long-first c ws j ps d wave checks fits long same is =
     ap (λ (w : Wave Value). length w.cells) is

@@ -73,7 +73,8 @@ module _ (level : Bool) (wave : Wave Value) (n v start end limit : ℕ) (x : Sig
 
   goes-on : (k : ℕ) → 1 ≤ k → k < end - start → may_last level (read wave.cells (slot + k)) ≡ true
   goes-on k some less =
-      step (start + k) k level level refl (omega (arith, ordered)) (pulse.during (start + k - 1) (omega arith) (omega (arith, ordered))) (pulse.during (start + k) (omega arith) (omega (arith, ordered)))
+      step (start + k) k level level refl (omega (arith, ordered))
+      (pulse.during (start + k - 1) (omega arith) (omega (arith, ordered))) (pulse.during (start + k) (omega arith) (omega (arith, ordered)))
 
   ends : may_end level (read wave.cells (slot + (end - start))) ≡ true
   ends = step end (end - start) level (not level) (omega (arith, ordered)) within (pulse.during (end - 1) (omega (arith, ordered)) (omega (arith, ordered))) pulse.behind
@@ -118,7 +119,8 @@ module _ (c : Circuit) (ws : Waves) (run : Run) (k : ℕ) (j : Instance) (choice
 
 -- ---- all
 
-keeps-pulse : (c : Circuit) (ws : Waves) (run : Run) (k : ℕ) (level : Bool) (start : ℕ) → 0 < period c.header → IsCircuit c → AreLong c ws → list_any (is_of_pulse k level) (width_faults c ws) ≡ false →
+keeps-pulse : (c : Circuit) (ws : Waves) (run : Run) (k : ℕ) (level : Bool) (start : ℕ) →
+    0 < period c.header → IsCircuit c → AreLong c ws → list_any (is_of_pulse k level) (width_faults c ws) ≡ false →
     PinsPermitAt c ws run k start → ¬ BreaksPulse c run k level start
 keeps-pulse c ws run k level start pos known long none permit b =
     keeps-kind c ws run k b.instance b.choice level start pos long (fits-of c k b.instance known b.instance_is) (permit b.instance b.choice b.instance_is b.choice_is)

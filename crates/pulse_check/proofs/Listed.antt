@@ -31,7 +31,8 @@ none-listed : (k : ℕ) (level : Bool) (o : Option (ℕ × ℕ)) → list_any (i
 none-listed k level None none = refl
 none-listed k level (Some found) none = absurd (both_ways (is_of_pulse k level (fault_at k level found)) (or_parts (is_of_pulse k level (fault_at k level found)) false none).0 (is-own k level found))
 
-pub none-limited : (c : Circuit) (ws : Waves) (k : ℕ) (j : Instance) (level : Bool) (limit : ℕ) (wave : Wave Value) → list_any (is_of_pulse k level) (listed (width_fault (period c.header) k wave level limit)) ≡ false →
+pub none-limited : (c : Circuit) (ws : Waves) (k : ℕ) (j : Instance) (level : Bool) (limit : ℕ) (wave : Wave Value) →
+    list_any (is_of_pulse k level) (listed (width_fault (period c.header) k wave level limit)) ≡ false →
     first_narrow (period c.header) level (read wave.cells) limit ≡ None
 unfolding width_fault
 none-limited c ws k j level limit wave none = none-listed k level (first_narrow (period c.header) level (read wave.cells) limit) none
@@ -47,7 +48,8 @@ pub none-of-checker : (c : Circuit) (ws : Waves) (k : ℕ) (j : Instance) (level
 none-of-checker c ws k j true none = (either (is_of_pulse k true) (listed (limited_fault c ws k j true j.limits.0)) (listed (limited_fault c ws k j false j.limits.1)) none).0
 none-of-checker c ws k j false none = (either (is_of_pulse k false) (listed (limited_fault c ws k j true j.limits.0)) (listed (limited_fault c ws k j false j.limits.1)) none).1
 
-none-at : (find : ℕ → List Fault) (test : Fault → Bool) (xs : List ℕ) (place d x : ℕ) → place < length xs → get_or xs place d ≡ x → list_any test (flat_map find xs) ≡ false → list_any test (find x) ≡ false
+none-at : (find : ℕ → List Fault) (test : Fault → Bool) (xs : List ℕ) (place d x : ℕ) →
+    place < length xs → get_or xs place d ≡ x → list_any test (flat_map find xs) ≡ false → list_any test (find x) ≡ false
 none-at find test [] place d x below is none = absurd (omega arith)
 none-at find test (y ∷ ys) zero d x below is none =
     subst (λ (z : ℕ). list_any test (find z) ≡ false) is (either test (find y) (flat_map find ys) none).0

@@ -40,7 +40,8 @@ pub record GoesOn (level : Bool) (wave : Slots) (a k : ℕ) : Type 0 where
   pub unended : may_end level (wave (a + k)) ≡ false
   pub lasts : may_last level (wave (a + k)) ≡ true
 
-pub unended-on : (level : Bool) (wave : Slots) (a k : ℕ) (v : Value) (ends lasts : Bool) → wave (a + k) ≡ v → ends ≡ may_end level v → ends ≡ false → lasts ≡ may_last level v → lasts ≡ true → GoesOn level wave a k
+pub unended-on : (level : Bool) (wave : Slots) (a k : ℕ) (v : Value) (ends lasts : Bool) →
+    wave (a + k) ≡ v → ends ≡ may_end level v → ends ≡ false → lasts ≡ may_last level v → lasts ≡ true → GoesOn level wave a k
 unended-on level wave a k v ends lasts at e unended l goes = record { unended = ap (may_end level) at ∙ sym e ∙ unended; lasts = ap (may_last level) at ∙ sym l ∙ goes }
 
 module _ (level : Bool) (wave : Slots) (limit a : ℕ) where
@@ -105,7 +106,8 @@ narrow-wide level wave limit a least = by (may_begin level (wave a))
     by true = ap (option_map {U = ℕ × ℕ} (λ w. (a, w))) least
     by false = refl
 
-pub first-at : (period : ℕ) (level : Bool) (wave : Slots) (limit a : ℕ) (found : ℕ × ℕ) → ((k : ℕ) → k < a → narrow_at level wave limit k ≡ None) → a < period → narrow_at level wave limit a ≡ Some found →
+pub first-at : (period : ℕ) (level : Bool) (wave : Slots) (limit a : ℕ) (found : ℕ × ℕ) →
+    ((k : ℕ) → k < a → narrow_at level wave limit k ≡ None) → a < period → narrow_at level wave limit a ≡ Some found →
     first_narrow period level wave limit ≡ Some found
 first-at period level wave limit a found before below here = first_some-from (narrow_at level wave limit) period 0 a found (λ k above less. before k less) (omega arith) (omega arith) here
 

@@ -1,12 +1,15 @@
 //! The faults of a whole circuit.
 
-ghost use Rattle.std.specs.Prelude.{◌≡◌, ◌++◌, IfOk, OnOk, map};
-ghost use Rattle.skew_algebra.specs.Wave.{skewed};
+ghost use Rattle.std.specs.Prelude.{◌≡◌, ◌++◌, IfOk, IfSome, OnOk, length, map};
+ghost use Rattle.std.specs.List.{range_with_len};
 ghost use Rattle.fixpoint_engine.specs.Settled.{FitWaves, waves_of};
 ghost use Rattle.pulse_check.specs.Faults.{instance_faults, width_faults};
+ghost use Rattle.pulse_check.specs.Known.{AreChecked};
 ghost use Rattle.pulse_check.specs.Sound.{KeepsWidths};
 
+use crate::before::{Before, faults_before};
 use crate::checker::add_checker_faults;
+use crate::known::PulseFaults;
 use fixpoint_engine::Waves;
 use flat_circuit::{Circuit, Faults, Kind};
 use scald_base::NoMemory;
@@ -14,18 +17,36 @@ use std::alloc::Global;
 use step_values::Value;
 use wave_core::CyclicWave;
 
-/// Appends the faults of the instance of a number.
+/// Appends more faults.
+fn add_all(faults: &mut Faults, more: &Faults) -> Result<(), NoMemory>
+    ensures { OnOk result (faults.new ≡ faults.old ++ more.now) }
+{
+    for fault in more.as_slice() {
+        faults.push(*fault)?;
+    }
+    Ok(())
+}
+
+/// Appends the faults of the instance of a number. Where they are known from before it is not checked
+/// again.
 #[inline(always)]
 pub fn add_faults<W: CyclicWave<Item = Value>>(
     faults: &mut Faults,
     alloc: Global,
     c: &Circuit,
+    before: &Option<Before<W>>,
     waves: &Waves<W>,
     number: u32,
 ) -> Result<(), NoMemory>
-    requires { FitWaves c.now (map (λ s. skewed (W.cells s.wave) s.skew) waves.now) }
-    ensures { OnOk result (faults.new ≡ faults.old ++ instance_faults c.now (waves_of (map (λ s. skewed (W.cells s.wave) s.skew) waves.now)) number) }
+    requires before { IfSome before.now (λ b. AreChecked c.now b.waves.now b.known.now) }
+    requires fit { FitWaves c.now waves.now }
+    ensures { OnOk result (faults.new ≡ faults.old ++ instance_faults c.now (waves_of waves.now) number) }
 {
+    if let Some(before) = before {
+        if let Some(found) = faults_before(c, before, waves, number) {
+            return add_all(faults, found);
+        }
+    }
     c.known();
     match c.instance(number) {
         None => Ok(()),
@@ -34,6 +55,27 @@ pub fn add_faults<W: CyclicWave<Item = Value>>(
             _ => Ok(()),
         },
     }
+}
+
+/// The faults of all checkers, in the order of the report.
+fn all_faults<W: CyclicWave<Item = Value>>(
+    alloc: Global,
+    c: &Circuit,
+    before: &Option<Before<W>>,
+    waves: &Waves<W>,
+) -> Result<Faults, NoMemory>
+    requires before { IfSome before.now (λ b. AreChecked c.now b.waves.now b.known.now) }
+    requires fit { FitWaves c.now waves.now }
+    ensures faults { IfOk result (λ faults. faults ≡ width_faults c.now (waves_of waves.now)) }
+    ensures sound { IfOk result (KeepsWidths c.now (waves_of waves.now)) }
+{
+    c.known();
+    c.header().known();
+    let mut faults = Faults::new(alloc);
+    for number in 0..c.instance_count() {
+        add_faults(&mut faults, alloc, c, before, waves, number)?;
+    }
+    Ok(faults)
 }
 
 /// The faults that these settled waves of all nets show: pulses that may be narrower than a checker
@@ -45,15 +87,32 @@ pub fn check_pulses<W: CyclicWave<Item = Value>>(
     c: &Circuit,
     waves: &Waves<W>,
 ) -> Result<Faults, NoMemory>
-    requires { FitWaves c.now (map (λ s. skewed (W.cells s.wave) s.skew) waves.now) }
-    ensures faults { IfOk result (λ faults. faults ≡ width_faults c.now (waves_of (map (λ s. skewed (W.cells s.wave) s.skew) waves.now))) }
-    ensures sound { IfOk result (KeepsWidths c.now (waves_of (map (λ s. skewed (W.cells s.wave) s.skew) waves.now))) }
+    requires { FitWaves c.now waves.now }
+    ensures faults { IfOk result (λ faults. faults ≡ width_faults c.now (waves_of waves.now)) }
+    ensures sound { IfOk result (KeepsWidths c.now (waves_of waves.now)) }
 {
-    c.known();
-    c.header().known();
-    let mut faults = Faults::new(alloc);
-    for number in 0..c.instance_count() {
-        add_faults(&mut faults, alloc, c, waves, number)?;
-    }
-    Ok(faults)
+    all_faults(alloc, c, &None, waves)
+}
+
+/// What [`check_pulses`] answers for these waves, where the faults of each instance in others are
+/// known. A checker whose pin is on the same wave in both does not measure it again.
+pub fn check_pulses_again<W: CyclicWave<Item = Value>>(
+    alloc: Global,
+    c: &Circuit,
+    before: &Waves<W>,
+    known: &PulseFaults,
+    waves: &Waves<W>,
+) -> Result<Faults, NoMemory>
+    requires before { FitWaves c.now before.now }
+    requires known { known.now ≡ map (instance_faults c.now (waves_of before.now))
+        (range_with_len 0 (length c.now.instances)) }
+    requires fit { FitWaves c.now waves.now }
+    ensures faults { IfOk result (λ faults. faults ≡ width_faults c.now (waves_of waves.now)) }
+    ensures sound { IfOk result (KeepsWidths c.now (waves_of waves.now)) }
+{
+    let before = Before {
+        waves: before,
+        known,
+    };
+    all_faults(alloc, c, &Some(before), waves)
 }

@@ -1,8 +1,7 @@
 //! A checker of pulses.
 
-ghost use Rattle.std.specs.Prelude.{◌≡◌, ◌≤◌, ◌++◌, IfOk, OnOk, length, map, slice_get, true};
+ghost use Rattle.std.specs.Prelude.{◌≡◌, ◌≤◌, ◌++◌, IfOk, OnOk, length, slice_get, true};
 ghost use Rattle.scald_base.specs.Time.{period};
-ghost use Rattle.skew_algebra.specs.Wave.{skewed};
 ghost use Rattle.flat_circuit.specs.Instances.{InstanceFits};
 ghost use Rattle.fixpoint_engine.specs.Settled.{FitWaves, waves_of};
 ghost use Rattle.pulse_check.specs.Faults.{IsPulseChecker, checks_pulses, faults_by_kind, limited_fault_at, pin_of, width_fault as fault_of_wave};
@@ -23,10 +22,10 @@ fn fault_in<W: CyclicWave<Item = Value>>(
     high: bool,
     width: u16,
 ) -> Option<Fault>
-    requires { width ≤ length (W.cells wave.now.wave) }
-    ensures { result ≡ fault_of_wave (length (W.cells wave.now.wave)) instance (skewed (W.cells wave.now.wave) wave.now.skew) high width }
+    requires { width ≤ length wave.now.cells }
+    ensures { result ≡ fault_of_wave (length wave.now.cells) instance wave.now high width }
 {
-    match first_narrow(&wave.wave, high, width) {
+    match first_narrow(wave.wave(), high, width) {
         None => None,
         Some((from, width)) => Some(Fault::Width {
             instance,
@@ -46,9 +45,9 @@ pub fn checked_wave<W: CyclicWave<Item = Value>>(
 ) -> Result<Skewed<W>, NoMemory>
     requires checker { checks_pulses checker.now.kind ≡ true }
     requires fits { InstanceFits c.now.header (length c.now.nets) checker.now }
-    requires fit { FitWaves c.now (map (λ s. skewed (W.cells s.wave) s.skew) waves.now) }
-    ensures wave { IfOk result (λ s. skewed (W.cells s.wave) s.skew ≡ pin_of c.now (waves_of (map (λ s. skewed (W.cells s.wave) s.skew) waves.now)) checker.now) }
-    ensures sized { IfOk result (λ s. length (W.cells s.wave) ≡ period c.now.header) }
+    requires fit { FitWaves c.now waves.now }
+    ensures wave { IfOk result (λ s. s ≡ pin_of c.now (waves_of waves.now) checker.now) }
+    ensures sized { IfOk result (λ s. length s.cells ≡ period c.now.header) }
 {
     let pins = checker.pins.as_slice();
     pin_wave(alloc, c, waves, pins[0])
@@ -67,8 +66,8 @@ pub fn width_fault<W: CyclicWave<Item = Value>>(
 ) -> Result<Option<Fault>, NoMemory>
     requires checker { IsPulseChecker (slice_get c.now.instances instance) }
     requires limit { width ≤ period c.now.header }
-    requires fit { FitWaves c.now (map (λ s. skewed (W.cells s.wave) s.skew) waves.now) }
-    ensures { IfOk result (λ found. found ≡ limited_fault_at c.now (waves_of (map (λ s. skewed (W.cells s.wave) s.skew) waves.now)) instance high width) }
+    requires fit { FitWaves c.now waves.now }
+    ensures { IfOk result (λ found. found ≡ limited_fault_at c.now (waves_of waves.now) instance high width) }
 {
     c.known();
     match c.instance(instance) {
@@ -91,8 +90,9 @@ pub fn add_checker_faults<W: CyclicWave<Item = Value>>(
 ) -> Result<(), NoMemory>
     requires checker { checks_pulses checker.now.kind ≡ true }
     requires fits { InstanceFits c.now.header (length c.now.nets) checker.now }
-    requires fit { FitWaves c.now (map (λ s. skewed (W.cells s.wave) s.skew) waves.now) }
-    ensures { OnOk result (faults.new ≡ faults.old ++ faults_by_kind checker.now.kind c.now (waves_of (map (λ s. skewed (W.cells s.wave) s.skew) waves.now)) number checker.now) }
+    requires fit { FitWaves c.now waves.now }
+    ensures { OnOk result
+        (faults.new ≡ faults.old ++ faults_by_kind checker.now.kind c.now (waves_of waves.now) number checker.now) }
 {
     let wave = checked_wave(alloc, c, waves, checker)?;
     if let Some(fault) = fault_in(&wave, number, true, checker.limits.0) {

@@ -2,7 +2,6 @@
 
 ghost use Rattle.std.specs.Prelude.{◌≡◌, IfOk, length, map};
 ghost use Rattle.std.specs.List.{range_with_len};
-ghost use Rattle.skew_algebra.specs.Wave.{skewed};
 ghost use Rattle.fixpoint_engine.specs.Settled.{FitWaves, waves_of};
 ghost use Rattle.pulse_check.specs.Faults.{instance_faults};
 
@@ -23,13 +22,14 @@ pub fn known_pulses<W: CyclicWave<Item = Value>>(
     c: &Circuit,
     waves: &Waves<W>,
 ) -> Result<PulseFaults, NoMemory>
-    requires { FitWaves c.now (map (λ s. skewed (W.cells s.wave) s.skew) waves.now) }
-    ensures { IfOk result (λ known. known ≡ map (instance_faults c.now (waves_of (map (λ s. skewed (W.cells s.wave) s.skew) waves.now))) (range_with_len 0 (length c.now.instances))) }
+    requires { FitWaves c.now waves.now }
+    ensures { IfOk result (λ known.
+        known ≡ map (instance_faults c.now (waves_of waves.now)) (range_with_len 0 (length c.now.instances))) }
 {
     let mut known = PulseFaults::new(alloc);
     for number in 0..c.instance_count() {
         let mut faults = Faults::new(alloc);
-        add_faults(&mut faults, alloc, c, waves, number)?;
+        add_faults(&mut faults, alloc, c, &None, waves, number)?;
         known.push(faults)?;
     }
     Ok(known)

@@ -11,12 +11,11 @@
 mod checker;
 mod pulse;
 
-// all of them, and again where most waves are as before
-mod again;
+// all of them, and what is known of them from before
+mod before;
 mod check;
 mod known;
 
-pub use again::check_pulses_again;
-pub use check::check_pulses;
+pub use check::{check_pulses, check_pulses_again};
 pub use checker::width_fault;
 pub use known::{PulseFaults, known_pulses};

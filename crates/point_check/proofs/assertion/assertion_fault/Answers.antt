@@ -1,5 +1,4 @@
 use Rattle.std.proofs.Common.{sym, ◌∙◌, arith}
-use Rattle.skew_algebra.specs.Wave.{skewed}
 use Rattle.fixpoint_engine.proofs.ReadSlots.{length-folded}
 use Rattle.point_check.proofs.Exceeded.{no_assertion_fault, an_assertion_fault}
 use Rattle.point_check.proofs.assertion.assertion_fault.Goals as goal
@@ -7,19 +6,19 @@ use Rattle.point_check.proofs.assertion.assertion_fault.Goals as goal
 pub first_excess-requires : goal.first_excess-requires
 first_excess-requires g c =
     c.in_ok-wide.ensures.sized ∙ sym c.requires.period
-    ∙ sym (length-folded (skewed (g.W.CyclicWave.cells c.args.wave.now.wave) c.args.wave.now.skew) (g.W.CyclicWave.cells c.in_ok-found.found) c.in_ok-found.ensures.wave)
+    ∙ sym (length-folded c.args.wave.now (g.W.CyclicWave.cells c.in_ok-found.found) c.in_ok-found.ensures.wave)
 
 pub returns-in-None : goal.returns-in-None
 returns-in-None g c =
-    no_assertion_fault c.args.h.now c.args.spec.now c.args.number (skewed (g.W.CyclicWave.cells c.args.wave.now.wave) c.args.wave.now.skew)
+    no_assertion_fault c.args.h.now c.args.spec.now c.args.number c.args.wave.now
     (g.W.CyclicWave.cells c.in_ok-found.found) (g.W.CyclicWave.cells c.in_ok-wide.wide)
-    (let two = (g.met.W.CyclicWave.sized c.args.wave.now.wave).shortest in omega (arith, two)) c.requires.period
+    (let two = c.known.ensures.sized.shortest in omega (arith, two)) c.requires.period
     c.in_ok-found.ensures.wave c.in_ok-wide.ensures.wave c.in_ok-wide.ensures.sized c.in-None.ensures.first
 
 pub returns : goal.returns
 returns g c =
-    an_assertion_fault c.args.h.now c.args.spec.now c.args.number (skewed (g.W.CyclicWave.cells c.args.wave.now.wave) c.args.wave.now.skew)
+    an_assertion_fault c.args.h.now c.args.spec.now c.args.number c.args.wave.now
     (g.W.CyclicWave.cells c.in_ok-found.found) (g.W.CyclicWave.cells c.in_ok-wide.wide)
-    (let two = (g.met.W.CyclicWave.sized c.args.wave.now.wave).shortest in omega (arith, two)) c.requires.period
+    (let two = c.known.ensures.sized.shortest in omega (arith, two)) c.requires.period
     c.in_ok-found.ensures.wave c.in_ok-wide.ensures.wave c.in_ok-wide.ensures.sized
     c.in-Some.slot c.at.result c.letter.result c.in-Some.ensures.first c.in-Some.ensures.within c.at.ensures c.letter.ensures

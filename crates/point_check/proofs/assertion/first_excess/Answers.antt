@@ -25,4 +25,5 @@ changes-preserved g c =
 pub returns-clause-first : goal.returns-clause-first
 returns-clause-first g c =
     let p = c.period.ensures in
-    excess-nowhere (length (g.W.CyclicWave.cells c.args.found.now)) (read (g.W.CyclicWave.cells c.args.found.now)) (read (g.W.CyclicWave.cells c.args.wide.now)) (λ k below. c.changes.invariant k (omega (arith, p)))
+    excess-nowhere (length (g.W.CyclicWave.cells c.args.found.now)) (read (g.W.CyclicWave.cells c.args.found.now))
+    (read (g.W.CyclicWave.cells c.args.wide.now)) (λ k below. c.changes.invariant k (omega (arith, p)))

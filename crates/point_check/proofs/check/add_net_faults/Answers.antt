@@ -1,7 +1,6 @@
-use Rattle.std.proofs.Common.{◌≡◌, ◌++◌, ℕ, List, length, map, take, ap, ◌∙◌, arith}
+use Rattle.std.proofs.Common.{◌≡◌, ◌++◌, ℕ, List, length, take, ap, ◌∙◌, arith}
 use Rattle.std.specs.Prelude.{filter_map}
 use Rattle.std.proofs.Math.Seq.{take-length}
-use Rattle.skew_algebra.specs.Wave.{skewed}
 use Rattle.fixpoint_engine.specs.Settled.{waves_of}
 use Rattle.fixpoint_engine.proofs.Places.{order_long}
 use Rattle.point_check.specs.Faults.{net_fault}
@@ -12,7 +11,7 @@ pub loop-place-preserved : goal.loop-place-preserved
 loop-place-preserved g c =
     let long = order_long c.args.c.now.nets c.args.c.now.order c.known.ensures.by_name in
     let count = c.net_count-place-end.ensures in
-    order-found (net_fault c.args.c.now (waves_of (map (λ s. skewed (g.W.CyclicWave.cells s.wave) s.skew) c.args.waves.now))) c.args.c.now.order c.loop-place.place c.net_named.result c.args.faults.now c.loop-place.faults c.add.new.faults c.in_ok-found.found
+    order-found (net_fault c.args.c.now (waves_of c.args.waves.now)) c.args.c.now.order c.loop-place.place c.net_named.result c.args.faults.now c.loop-place.faults c.add.new.faults c.in_ok-found.found
     (omega (arith, long, count)) c.net_named.ensures c.loop-place.invariant c.in_ok-found.ensures c.in_ok-add.ensures
 
 pub returns : goal.returns
@@ -21,4 +20,4 @@ returns g c =
     let count = c.net_count-place-end.ensures in
     let all : c.loop-place.place ≡ length c.args.c.now.order = omega (arith, long, count) in
     c.loop-place.invariant
-    ∙ ap (λ (l : List ℕ). c.args.faults.now ++ filter_map (net_fault c.args.c.now (waves_of (map (λ s. skewed (g.W.CyclicWave.cells s.wave) s.skew) c.args.waves.now))) l) (ap (λ (n : ℕ). take n c.args.c.now.order) all ∙ take-length c.args.c.now.order)
+    ∙ ap (λ (l : List ℕ). c.args.faults.now ++ filter_map (net_fault c.args.c.now (waves_of c.args.waves.now)) l) (ap (λ (n : ℕ). take n c.args.c.now.order) all ∙ take-length c.args.c.now.order)

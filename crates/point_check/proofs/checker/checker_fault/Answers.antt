@@ -1,6 +1,6 @@
-use Rattle.std.proofs.Common.{◌≡◌, ◌∙◌, length, map, sym, ap, arith}
+use Rattle.std.proofs.Common.{◌≡◌, ◌∙◌, length, sym, ap, arith}
 use Rattle.step_values.specs.declared.value.Value.{Value}
-use Rattle.skew_algebra.specs.Wave.{Wave, skewed}
+use Rattle.skew_algebra.specs.Wave.{Wave}
 use Rattle.scald_base.specs.Time.{period}
 use Rattle.fixpoint_engine.specs.Value.{pin_wave}
 use Rattle.fixpoint_engine.specs.Settled.{waves_of}
@@ -10,24 +10,24 @@ use Rattle.point_check.proofs.checker.checker_fault.Goals as goal
 
 pub fault_between-requires-clause-limits : goal.fault_between-requires-clause-limits
 fault_between-requires-clause-limits g c =
-    let ws = waves_of (map (λ s. skewed (g.W.CyclicWave.cells s.wave) s.skew) c.args.waves.now) in
-    let long : length (g.W.CyclicWave.cells c.in_ok-clock_wave.clock_wave.wave) ≡ period c.args.c.now.header =
+    let ws = waves_of c.args.waves.now in
+    let long : length c.in_ok-clock_wave.clock_wave.cells ≡ period c.args.c.now.header =
     ap (λ (w : Wave Value). length w.cells) c.in_ok-clock_wave.ensures ∙ long-pin c.args.c.now ws c.args.clock c.requires.fit.each_slot c.requires.clock in
     let within = c.requires.limits in
     omega (arith, long, within)
 
 pub fault_between-requires-clause-periods : goal.fault_between-requires-clause-periods
 fault_between-requires-clause-periods g c =
-    let ws = waves_of (map (λ s. skewed (g.W.CyclicWave.cells s.wave) s.skew) c.args.waves.now) in
+    let ws = waves_of c.args.waves.now in
     ap (λ (w : Wave Value). length w.cells) c.in_ok-input_wave.ensures ∙ long-pin c.args.c.now ws c.args.input c.requires.fit.each_slot c.requires.input
     ∙ sym (ap (λ (w : Wave Value). length w.cells) c.in_ok-clock_wave.ensures ∙ long-pin c.args.c.now ws c.args.clock c.requires.fit.each_slot c.requires.clock)
 
 pub returns : goal.returns
 returns g c =
-    let ws = waves_of (map (λ s. skewed (g.W.CyclicWave.cells s.wave) s.skew) c.args.waves.now) in
-    same-checker c.args.kind (length (g.W.CyclicWave.cells c.in_ok-clock_wave.clock_wave.wave)) (period c.args.c.now.header) c.args.instance
-    (skewed (g.W.CyclicWave.cells c.in_ok-clock_wave.clock_wave.wave) c.in_ok-clock_wave.clock_wave.skew) (pin_wave c.args.c.now ws c.args.clock)
-    (skewed (g.W.CyclicWave.cells c.in_ok-input_wave.input_wave.wave) c.in_ok-input_wave.input_wave.skew) (pin_wave c.args.c.now ws c.args.input)
+    let ws = waves_of c.args.waves.now in
+    same-checker c.args.kind (length c.in_ok-clock_wave.clock_wave.cells) (period c.args.c.now.header) c.args.instance
+    c.in_ok-clock_wave.clock_wave (pin_wave c.args.c.now ws c.args.clock)
+    c.in_ok-input_wave.input_wave (pin_wave c.args.c.now ws c.args.input)
     c.args.limits c.in_ok-found.found
     (ap (λ (w : Wave Value). length w.cells) c.in_ok-clock_wave.ensures ∙ long-pin c.args.c.now ws c.args.clock c.requires.fit.each_slot c.requires.clock)
     c.in_ok-clock_wave.ensures c.in_ok-input_wave.ensures c.in_ok-found.ensures

@@ -7,7 +7,8 @@ use Rattle.point_check.proofs.edges.first_fault.Goals as goal
 pub returns-in-Some : goal.returns-in-Some
 returns-in-Some g c =
     let p = c.period.ensures in
-    first_fault-here c.args.kind (length (g.W.CyclicWave.cells c.args.clock.now)) c.args.instance (read (g.W.CyclicWave.cells c.args.clock.now)) (read (g.W.CyclicWave.cells c.args.input.now)) c.args.limits
+    first_fault-here c.args.kind (length (g.W.CyclicWave.cells c.args.clock.now)) c.args.instance
+    (read (g.W.CyclicWave.cells c.args.clock.now)) (read (g.W.CyclicWave.cells c.args.input.now)) c.args.limits
     c.edges.edge c.in-Some.fault c.edges.invariant (omega (arith, p)) c.in-Some.ensures
 
 pub edges-preserved : goal.edges-preserved
@@ -18,5 +19,6 @@ edges-preserved g c =
 pub returns : goal.returns
 returns g c =
     let p = c.period.ensures in
-    first_fault-nowhere c.args.kind (length (g.W.CyclicWave.cells c.args.clock.now)) c.args.instance (read (g.W.CyclicWave.cells c.args.clock.now)) (read (g.W.CyclicWave.cells c.args.input.now)) c.args.limits
+    first_fault-nowhere c.args.kind (length (g.W.CyclicWave.cells c.args.clock.now)) c.args.instance
+    (read (g.W.CyclicWave.cells c.args.clock.now)) (read (g.W.CyclicWave.cells c.args.input.now)) c.args.limits
     (λ s below. c.edges.invariant s (omega (arith, p)))

@@ -1,6 +1,5 @@
 use Rattle.std.proofs.Common.{◌≡◌, ℕ, length, map, ap, ◌∙◌, arith}
 use Rattle.std.specs.List.{range_with_len}
-use Rattle.skew_algebra.specs.Wave.{skewed}
 use Rattle.fixpoint_engine.specs.Settled.{waves_of}
 use Rattle.point_check.specs.Faults.{instance_fault}
 use Rattle.fixpoint_engine.proofs.ByNumber.{known-more}
@@ -8,11 +7,11 @@ use Rattle.point_check.proofs.known.known_instances.Goals as goal
 
 pub loop-number-preserved : goal.loop-number-preserved
 loop-number-preserved g c =
-    known-more (instance_fault c.args.c.now (waves_of (map (λ s. skewed (g.W.CyclicWave.cells s.wave) s.skew) c.args.waves.now))) c.loop-number.number c.loop-number.known c.push.new.self c.in_ok-found.found
+    known-more (instance_fault c.args.c.now (waves_of c.args.waves.now)) c.loop-number.number c.loop-number.known c.push.new.self c.in_ok-found.found
     c.loop-number.invariant c.in_ok-found.ensures c.in_ok-push.ensures.ok
 
 pub returns : goal.returns
 returns g c =
     let count = c.instance_count-number-end.ensures in
     let all : c.loop-number.number ≡ length c.args.c.now.instances = omega (arith, count) in
-    c.loop-number.invariant ∙ ap (λ (n : ℕ). map (instance_fault c.args.c.now (waves_of (map (λ s. skewed (g.W.CyclicWave.cells s.wave) s.skew) c.args.waves.now))) (range_with_len 0 n)) all
+    c.loop-number.invariant ∙ ap (λ (n : ℕ). map (instance_fault c.args.c.now (waves_of c.args.waves.now)) (range_with_len 0 n)) all

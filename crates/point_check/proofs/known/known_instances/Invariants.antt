@@ -1,9 +1,8 @@
 use Rattle.std.proofs.Common.{◌≡◌, map}
 use Rattle.std.specs.List.{range_with_len}
-use Rattle.skew_algebra.specs.Wave.{skewed}
 use Rattle.fixpoint_engine.specs.Settled.{waves_of}
 use Rattle.point_check.specs.Faults.{instance_fault}
 use Rattle.point_check.proofs.known.known_instances.Given as goal
 
 abbrev pub invariant-loop-number : goal.invariant-loop-number
-invariant-loop-number g l = l.known ≡ map (instance_fault l.c (waves_of (map (λ s. skewed (g.W.CyclicWave.cells s.wave) s.skew) l.waves))) (range_with_len 0 l.number)
+invariant-loop-number g l = l.known ≡ map (instance_fault l.c (waves_of l.waves)) (range_with_len 0 l.number)

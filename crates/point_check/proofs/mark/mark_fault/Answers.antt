@@ -3,13 +3,13 @@ use Rattle.std.specs.List.{position}
 use Rattle.std.specs.Option.{option_map}
 use Rattle.scald_base.specs.Time.{period}
 use Rattle.step_values.specs.declared.value.Value.{Value}
-use Rattle.skew_algebra.specs.Wave.{Wave, skewed}
+use Rattle.skew_algebra.specs.Wave.{Wave}
 use Rattle.flat_circuit.specs.declared.fault.Fault.TheVariants.{Hazard}
 use Rattle.gate_eval.specs.Meeting.{HaveOnePeriod}
 use Rattle.gate_eval.proofs.Found.{none-is, hazard-unmarked}
 use Rattle.fixpoint_engine.specs.Value.{pin_wave, pin_waves, marked_pin}
 use Rattle.fixpoint_engine.specs.Settled.{waves_of}
-use Rattle.fixpoint_engine.proofs.Made.{nets-fit, made-one-period}
+use Rattle.fixpoint_engine.proofs.Made.{made-one-period}
 use Rattle.fixpoint_engine.proofs.Marks.{count-marks, position-marks, length-marks}
 use Rattle.point_check.specs.Faults.{hazard_at}
 use Rattle.point_check.proofs.Gathered.{mark-is}
@@ -18,7 +18,7 @@ use Rattle.point_check.proofs.mark.mark_fault.Goals as goal
 pub returns-then-is_none : goal.returns-then-is_none
 returns-then-is_none g c =
     ap (option_map (hazard_at c.args.number))
-    (hazard-unmarked c.args.gate.now.kind (pin_waves c.args.c.now (waves_of (map (λ s. skewed (g.W.CyclicWave.cells s.wave) s.skew) c.args.waves.now)) c.args.gate.now) (marked_pin c.args.gate.now)
+    (hazard-unmarked c.args.gate.now.kind (pin_waves c.args.c.now (waves_of c.args.waves.now) c.args.gate.now) (marked_pin c.args.gate.now)
     (sym (none-is c.marked_pin.result (search rules)) ∙ c.marked_pin.ensures))
 
 pub hold_fault-requires-clause-pins : goal.hold_fault-requires-clause-pins
@@ -41,23 +41,23 @@ hold_fault-requires-clause-periods g c =
     let head = c.header.ensures in
     let some : 0 < period c.args.c.now.header = subst (λ h. 0 < period h) head (let two = h.shortest in omega (arith, two)) in
     subst (λ (ws : List (Wave Value)). HaveOnePeriod ws)
-    (sym (c.in_ok-pins.ensures.waves ∙ ap (map (pin_wave c.args.c.now (waves_of (map (λ s. skewed (g.W.CyclicWave.cells s.wave) s.skew) c.args.waves.now)))) c.as_slice.ensures))
-    (made-one-period c.args.c.now (waves_of (map (λ s. skewed (g.W.CyclicWave.cells s.wave) s.skew) c.args.waves.now)) c.args.gate.now some
-    (nets-fit (λ s. skewed (g.W.CyclicWave.cells s.wave) s.skew) c.args.c.now c.args.waves.now (λ s. s.is_normal) c.requires.fit) c.requires.fits)
+    (sym (c.in_ok-pins.ensures.waves ∙ ap (map (pin_wave c.args.c.now (waves_of c.args.waves.now))) c.as_slice.ensures))
+    (made-one-period c.args.c.now (waves_of c.args.waves.now) c.args.gate.now some
+    c.requires.fit.each_slot c.requires.fits)
 
 pub returns-in-None : goal.returns-in-None
 returns-in-None g c =
-    mark-is c.args.c.now (waves_of (map (λ s. skewed (g.W.CyclicWave.cells s.wave) s.skew) c.args.waves.now)) c.args.number c.args.gate.now
-    (map (λ p. skewed (g.W.CyclicWave.cells p.wave.wave) p.wave.skew) c.in_ok-pins.pins) (position (λ p. p.hold) c.in_ok-pins.pins) None None
-    (c.in_ok-pins.ensures.waves ∙ ap (map (pin_wave c.args.c.now (waves_of (map (λ s. skewed (g.W.CyclicWave.cells s.wave) s.skew) c.args.waves.now)))) c.as_slice.ensures)
+    mark-is c.args.c.now (waves_of c.args.waves.now) c.args.number c.args.gate.now
+    (map (λ p. p.wave) c.in_ok-pins.pins) (position (λ p. p.hold) c.in_ok-pins.pins) None None
+    (c.in_ok-pins.ensures.waves ∙ ap (map (pin_wave c.args.c.now (waves_of c.args.waves.now))) c.as_slice.ensures)
     (position-marks (λ p. p.hold) (λ p. p.hold) c.in_ok-pins.pins c.as_slice.result.now c.in_ok-pins.ensures.marks ∙ ap (position (λ p. p.hold)) c.as_slice.ensures)
     c.in-None.ensures.first refl
 
 pub returns : goal.returns
 returns g c =
-    mark-is c.args.c.now (waves_of (map (λ s. skewed (g.W.CyclicWave.cells s.wave) s.skew) c.args.waves.now)) c.args.number c.args.gate.now
-    (map (λ p. skewed (g.W.CyclicWave.cells p.wave.wave) p.wave.skew) c.in_ok-pins.pins) (position (λ p. p.hold) c.in_ok-pins.pins) (Some c.in-Some.found)
+    mark-is c.args.c.now (waves_of c.args.waves.now) c.args.number c.args.gate.now
+    (map (λ p. p.wave) c.in_ok-pins.pins) (position (λ p. p.hold) c.in_ok-pins.pins) (Some c.in-Some.found)
     (Some (Hazard c.args.number c.in-Some.found.0 c.in-Some.found.1))
-    (c.in_ok-pins.ensures.waves ∙ ap (map (pin_wave c.args.c.now (waves_of (map (λ s. skewed (g.W.CyclicWave.cells s.wave) s.skew) c.args.waves.now)))) c.as_slice.ensures)
+    (c.in_ok-pins.ensures.waves ∙ ap (map (pin_wave c.args.c.now (waves_of c.args.waves.now))) c.as_slice.ensures)
     (position-marks (λ p. p.hold) (λ p. p.hold) c.in_ok-pins.pins c.as_slice.result.now c.in_ok-pins.ensures.marks ∙ ap (position (λ p. p.hold)) c.as_slice.ensures)
     c.in-Some.ensures.first refl

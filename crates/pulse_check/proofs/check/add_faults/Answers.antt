@@ -1,20 +1,24 @@
-use Rattle.std.proofs.Common.{◌≡◌, ◌++◌, OnOk, List, map, subst}
-use Rattle.skew_algebra.specs.Wave.{skewed}
+use Rattle.std.proofs.Common.{◌≡◌, ◌++◌, OnOk, List, subst}
 use Rattle.flat_circuit.specs.declared.fault.Fault.{Fault}
 use Rattle.fixpoint_engine.specs.Settled.{waves_of}
 use Rattle.pulse_check.proofs.Gathered.{instance-kind, none-more, other-more}
 use Rattle.pulse_check.proofs.check.add_faults.Goals as goal
 
 pub returns-in-None : goal.returns-in-None
-returns-in-None g c = none-more c.args.c.now (waves_of (map (λ s. skewed (g.W.CyclicWave.cells s.wave) s.skew) c.args.waves.now)) c.args.number c.args.faults.now c.in-None.ensures
+returns-in-None g c = none-more c.args.c.now (waves_of c.args.waves.now) c.args.number c.args.faults.now c.in-None.ensures
 
 pub returns-in-MinPulse : goal.returns-in-MinPulse
 returns-in-MinPulse g c =
     subst (λ (l : List Fault). OnOk c.add_checker_faults.result (c.add_checker_faults.new.faults ≡ c.args.faults.now ++ l))
-    (instance-kind c.args.c.now (waves_of (map (λ s. skewed (g.W.CyclicWave.cells s.wave) s.skew) c.args.waves.now)) c.args.number c.in-Some.instance.now c.in-Some.ensures)
+    (instance-kind c.args.c.now (waves_of c.args.waves.now) c.args.number c.in-Some-instance.instance.now c.in-Some-instance.ensures)
     c.add_checker_faults.ensures
 
-pub returns-in_default : goal.returns-in_default
-returns-in_default g c =
-    other-more c.args.c.now (waves_of (map (λ s. skewed (g.W.CyclicWave.cells s.wave) s.skew) c.args.waves.now)) c.args.number c.in-Some.instance.now c.args.faults.now c.in-Some.ensures
-    c.in_default.not-MinPulse
+pub returns-in_default-kind : goal.returns-in_default-kind
+returns-in_default-kind g c =
+    other-more c.args.c.now (waves_of c.args.waves.now) c.args.number c.in-Some-instance.instance.now c.args.faults.now c.in-Some-instance.ensures
+    c.in_default-kind.not-MinPulse
+
+pub returns-in-Some-faults_before : goal.returns-in-Some-faults_before
+returns-in-Some-faults_before g c =
+    subst (λ (l : List Fault). OnOk c.add_all.result (c.add_all.new.faults ≡ c.args.faults.now ++ l))
+    c.in-Some-faults_before.ensures c.add_all.ensures

@@ -1,6 +1,5 @@
 use Rattle.std.proofs.Common.{◌≡◌, ◌++◌, ℕ, List, length, map, ap, ◌∙◌, arith}
 use Rattle.std.specs.List.{range_with_len}
-use Rattle.skew_algebra.specs.Wave.{skewed}
 use Rattle.flat_circuit.specs.declared.fault.Fault.{Fault}
 use Rattle.fixpoint_engine.specs.Settled.{waves_of}
 use Rattle.pulse_check.specs.Faults.{instance_faults}
@@ -9,13 +8,13 @@ use Rattle.pulse_check.proofs.known.known_pulses.Goals as goal
 
 pub loop-number-preserved : goal.loop-number-preserved
 loop-number-preserved g c =
-    known-more (instance_faults c.args.c.now (waves_of (map (λ s. skewed (g.W.CyclicWave.cells s.wave) s.skew) c.args.waves.now))) c.loop-number.number c.loop-number.known c.push.new.self c.add_faults.new.faults
+    known-more (instance_faults c.args.c.now (waves_of c.args.waves.now)) c.loop-number.number c.loop-number.known c.push.new.self c.add_faults.new.faults
     c.loop-number.invariant
-    (c.in_ok-add_faults.ensures ∙ ap (λ (l : List Fault). l ++ instance_faults c.args.c.now (waves_of (map (λ s. skewed (g.W.CyclicWave.cells s.wave) s.skew) c.args.waves.now)) c.loop-number.number) c.new-faults.ensures)
+    (c.in_ok-add_faults.ensures ∙ ap (λ (l : List Fault). l ++ instance_faults c.args.c.now (waves_of c.args.waves.now) c.loop-number.number) c.new-faults.ensures)
     c.in_ok-push.ensures.ok
 
 pub returns : goal.returns
 returns g c =
     let count = c.instance_count-number-end.ensures in
     let all : c.loop-number.number ≡ length c.args.c.now.instances = omega (arith, count) in
-    c.loop-number.invariant ∙ ap (λ (n : ℕ). map (instance_faults c.args.c.now (waves_of (map (λ s. skewed (g.W.CyclicWave.cells s.wave) s.skew) c.args.waves.now))) (range_with_len 0 n)) all
+    c.loop-number.invariant ∙ ap (λ (n : ℕ). map (instance_faults c.args.c.now (waves_of c.args.waves.now)) (range_with_len 0 n)) all

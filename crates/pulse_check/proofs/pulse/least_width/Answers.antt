@@ -38,7 +38,8 @@ runs-preserved g c =
       begun = omega (arith, one);
       goes_on = below_run (λ k. 1 ≤ k → GoesOn c.args.level (read cells) c.args.start k) c.runs.width _ c.runs.invariant.goes_on
           (λ k above below one. unended-on c.args.level (read cells) c.args.start k c.at-value.result c.may_end.result c.may_last.result
-          (same-cell values cells c.period-period.result c.args.start c.runs.width ((c.args.start + c.runs.width) % c.period-period.result) c.same_until.result k c.at-value.result p refl c.at-value.ensures c.same_until.ensures
+          (same-cell values cells c.period-period.result c.args.start c.runs.width ((c.args.start + c.runs.width) % c.period-period.result)
+          c.same_until.result k c.at-value.result p refl c.at-value.ensures c.same_until.ensures
           (omega arith) (omega (arith, below)))
           c.may_end.ensures c.if-may_end.false c.may_last.ensures c.if-not-may_last.false);
     }

@@ -1,0 +1,9 @@
+use Rattle.std.proofs.Common.{◌≡◌}
+use Rattle.std.specs.List.{flat_map, range_with_len}
+use Rattle.fixpoint_engine.specs.Settled.{waves_of}
+use Rattle.pulse_check.specs.Faults.{instance_faults}
+use Rattle.pulse_check.proofs.check.all_faults.Given as goal
+
+abbrev pub invariant-loop-number : goal.invariant-loop-number
+invariant-loop-number g l =
+    l.faults ≡ flat_map (instance_faults l.c (waves_of l.waves)) (range_with_len 0 l.number)
