@@ -1,25 +1,23 @@
--- The words on outcomes, commands and cases, computed for every outcome and every command.
+-- The words on outcomes and commands, computed for every outcome and every command.
 use Rattle.std.proofs.Common.{◌≡◌, ℕ, true, false, List, [], ◌∷◌, map, refl, Option, Some, None}
 use Rattle.std.specs.Prelude.{codes, replicate, Ok, Err}
-use Rattle.std.specs.List.{range_with_len}
 use Rattle.scald_base.specs.Time.{Header}
 use Rattle.scald_base.specs.declared.refusal.Refusal.{Refusal}
-use Rattle.flat_circuit.specs.declared.case.CaseValue.{CaseValue}
 use Rattle.flat_circuit.specs.Circuit.{Circuit}
 use Rattle.listing.specs.declared.case.Mode.{Mode}
 use Rattle.listing.specs.declared.case.Mode.TheVariants.{Full, Waves, Faults}
 use Rattle.design_gen.specs.Datapath.{datapath}
-use Rattle.scald_tool.specs.declared.outcome.Outcome.{Outcome}
-use Rattle.scald_tool.specs.declared.outcome.Outcome.TheVariants.{Clean, Faulty, Done, Refused, Unsettled, BadWords, TooLong, ReadFault, WriteFault, NoMemory}
+use Rattle.scald_base.specs.declared.outcome.Outcome.{Outcome}
+use Rattle.scald_base.specs.declared.outcome.Outcome.TheVariants.{Clean, Faulty, Done, Refused, Unsettled, BadWords, TooLong, ReadFault, WriteFault, NoMemory}
+use Rattle.scald_base.specs.Program.{by_source, by_words}
 use Rattle.scald_tool.specs.declared.words.Command.{Command}
 use Rattle.scald_tool.specs.declared.words.Command.TheVariants.{Verify, Format, Bench}
 use Rattle.scald_tool.specs.Words.{are_reading, command_of, reads}
-use Rattle.scald_tool.specs.Case.{Listed, listed_cases, numbered}
 use Rattle.scald_tool.specs.Answer.{limit_for, most_bytes}
-use Rattle.scald_tool.specs.Status.{status_of}
+use Rattle.scald_base.specs.Outcome.{status_of}
 use Rattle.scald_tool.specs.Report.{faults_in, verdict_of}
 use Rattle.scald_tool.specs.Finished.{is_finished}
-use Rattle.scald_tool.specs.Promise.{AreTold, asks_verify, by_source, by_words, evaluates, has_read, has_report, is_silent, may_answer, may_give, speaks, unlimited}
+use Rattle.scald_tool.specs.Promise.{AreTold, asks_verify, evaluates, has_read, has_report, is_silent, may_answer, may_give, speaks, unlimited}
 
 -- ---- outcomes
 
@@ -164,23 +162,3 @@ only_told left text (by_words e) = absurd (cc)
 
 told_without_a_form : (text : List ℕ) → AreTold (codes "check" ∷ []) None text
 told_without_a_form text = by_words refl
-
--- ---- cases
-
--- Without a case of its own a drawing has the case of number 0, which sets no net.
-no_case : listed_cases [] ≡ record { number = 0; values = [] } ∷ []
-no_case = refl
-
-two_cases : (vs ws : List CaseValue) →
-    listed_cases (vs ∷ ws ∷ []) ≡
-    record { number = 1; values = vs } ∷ record { number = 2; values = ws } ∷ []
-two_cases vs ws = refl
-
-most_cases :
-    map (λ (case : Listed). case.number) (listed_cases (replicate 256 [])) ≡ range_with_len 1 256
-most_cases = refl
-
-later_cases : (vs : List CaseValue) →
-    numbered 100 (vs ∷ vs ∷ []) ≡
-    record { number = 100; values = vs } ∷ record { number = 101; values = vs } ∷ []
-later_cases vs = refl

@@ -2,15 +2,16 @@
 use Rattle.std.proofs.Common.{◌≡◌, ◌⊎◌, inl, inr, ℕ, Bool, true, false, cond, List, refl, subst, arith, Option, None}
 use Rattle.std.specs.Prelude.{◌==◌}
 use Rattle.scald_base.specs.Device.{Rose}
+use Rattle.scald_base.specs.Program.{replied}
 use Rattle.drawing_tree.specs.Canonical.{canonical}
 use Rattle.design_gen.specs.Datapath.{datapath}
-use Rattle.scald_tool.specs.declared.outcome.Outcome.{Outcome}
-use Rattle.scald_tool.specs.declared.outcome.Outcome.TheVariants.{Clean, Faulty, Done, NoMemory}
+use Rattle.scald_base.specs.declared.outcome.Outcome.{Outcome}
+use Rattle.scald_base.specs.declared.outcome.Outcome.TheVariants.{Clean, Faulty, Done, NoMemory}
 use Rattle.scald_tool.specs.declared.words.Command.{Command}
-use Rattle.scald_tool.specs.Case.{fault_count}
+use Rattle.timing_analysis.specs.Case.{fault_count}
 use Rattle.scald_tool.specs.Report.{verdict_of}
 use Rattle.scald_tool.specs.Answer as answer
-use Rattle.scald_tool.specs.Answer.{Telling, Evaluated, Replied, measured, reported, replied}
+use Rattle.scald_tool.specs.Answer.{Telling, Evaluated, Replied, measured, reported}
 use Rattle.scald_tool.specs.Promise.{IsAnswered}
 use Rattle.scald_tool.specs.Finished.{ComesToRest, Passes, formatted, verified, benched, is_finished, IsFinished, AsksWell}
 

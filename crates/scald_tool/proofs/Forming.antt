@@ -41,7 +41,8 @@ value-decimal n few = (is_numeral n few).value
 passes : (most : ℕ) (digits : List ℕ) (v : ℕ) → digits ≡ decimal v → IsFrom most v → (bytes_eq digits (decimal v) && (nat_le 1 v && nat_le v most)) ≡ true
 passes most digits v same from = rw (alike digits (decimal v) same, le-leb 1 v from.0, le-leb v most from.1) refl
 
-by-test : (most : ℕ) (digits : List ℕ) (v : ℕ) (t : Bool) → most < 2 ^ 64 → v ≡ value_of digits → (bytes_eq digits (decimal v) && (nat_le 1 v && nat_le v most)) ≡ t → IsNumber most digits (cond t (Some v) None)
+by-test : (most : ℕ) (digits : List ℕ) (v : ℕ) (t : Bool) → most < 2 ^ 64 → v ≡ value_of digits →
+    (bytes_eq digits (decimal v) && (nat_le 1 v && nat_le v most)) ≡ t → IsNumber most digits (cond t (Some v) None)
 by-test most digits v true few value e =
     let first = and_parts (bytes_eq digits (decimal v)) (nat_le 1 v && nat_le v most) e in
     let second = and_parts (nat_le 1 v) (nat_le v most) first.1 in
@@ -86,7 +87,8 @@ limit-is word = limit-front word (bytes_eq (take 7 word) (codes "rounds=")) refl
 
 -- ---- where words go wrong
 
-wrong-at : (front : List (List ℕ)) (w : List ℕ) (ws : List (List ℕ)) (i : ℕ) → i ≡ length front → GoesOn front → ((command : Command) (rest : List (List ℕ)) → MayBeAsked command → front ++ w ∷ rest ≢ words_for command) →
+wrong-at : (front : List (List ℕ)) (w : List ℕ) (ws : List (List ℕ)) (i : ℕ) → i ≡ length front →
+    GoesOn front → ((command : Command) (rest : List (List ℕ)) → MayBeAsked command → front ++ w ∷ rest ≢ words_for command) →
     GoesWrong (front ++ w ∷ ws) i
 wrong-at front w ws i at on off = record {
   no_form = λ command may. off command ws may;
@@ -162,7 +164,8 @@ IsNoMode Full w = (w ≢ codes "waves") × (w ≢ codes "faults")
 IsNoMode mode w = Unit {0}
 
 -- no other word goes on behind the mode than that with the limit
-past-mode : (mode : Mode) (w : List ℕ) → IsNoMode mode w → IsLimit w None → (command : Command) (rest : List (List ℕ)) → MayBeAsked command → codes "verify" ∷ (mode_words mode ++ w ∷ rest) ≢ words_for command
+past-mode : (mode : Mode) (w : List ℕ) → IsNoMode mode w → IsLimit w None → (command : Command) (rest : List (List ℕ)) →
+    MayBeAsked command → codes "verify" ∷ (mode_words mode ++ w ∷ rest) ≢ words_for command
 past-mode Full w other none (Verify Full None) rest may e = absurd (omega (arith, ap length e))
 past-mode Full w other none (Verify Full (Some m)) rest may e = none m may (ap word-1 e)
 past-mode Full w other none (Verify Waves rounds) rest may e = other.0 (ap word-1 e)
@@ -207,12 +210,14 @@ mode-read : (mode : Mode) (ws : List (List ℕ)) → IsHead mode ws → AreReadA
 mode-read mode [] head = (tt, refl)
 mode-read mode (w ∷ ws) head = limit-read (limit_of w) ws (limit-is w)
   where
-    last-read : (n : ℕ) (xs : List (List ℕ)) → w ≡ codes "rounds=" ++ decimal n → IsFrom most_rounds n → AreReadAs (codes "verify" ∷ (mode_words mode ++ w ∷ xs)) (alone (Verify mode (Some n)) (up_to_mode mode + 1) xs)
+    last-read : (n : ℕ) (xs : List (List ℕ)) → w ≡ codes "rounds=" ++ decimal n → IsFrom most_rounds n →
+        AreReadAs (codes "verify" ∷ (mode_words mode ++ w ∷ xs)) (alone (Verify mode (Some n)) (up_to_mode mode + 1) xs)
     last-read n [] is from = (from, ap (λ (z : List ℕ). codes "verify" ∷ (mode_words mode ++ z ∷ [])) is)
     last-read n (x ∷ xs) is from =
         subst (λ (words : List (List ℕ)). GoesWrong words (up_to_mode mode + 1)) (append_assoc (codes "verify" ∷ mode_words mode) (w ∷ []) (x ∷ xs))
         (wrong-at (codes "verify" ∷ (mode_words mode ++ w ∷ [])) x xs (up_to_mode mode + 1) (up-to-limit mode w)
-        (goes-on (Verify mode (Some n)) from (codes "verify" ∷ (mode_words mode ++ w ∷ [])) [] (append-nil (codes "verify" ∷ (mode_words mode ++ w ∷ [])) ∙ ap (λ (z : List ℕ). codes "verify" ∷ (mode_words mode ++ z ∷ [])) is))
+        (goes-on (Verify mode (Some n)) from (codes "verify" ∷ (mode_words mode ++ w ∷ []))
+        [] (append-nil (codes "verify" ∷ (mode_words mode ++ w ∷ [])) ∙ ap (λ (z : List ℕ). codes "verify" ∷ (mode_words mode ++ z ∷ [])) is))
         (λ command rest may e. past-limit mode n x command rest
         (ap (λ (z : List ℕ). codes "verify" ∷ (mode_words mode ++ z ∷ x ∷ rest)) (sym is) ∙ sym (append_assoc (codes "verify" ∷ mode_words mode) (w ∷ []) (x ∷ rest)) ∙ e)))
 

@@ -4,28 +4,16 @@ use Rattle.std.specs.Prelude.{◌≢◌}
 use Rattle.scald_base.specs.declared.list.NoMemory.{NoMemory as OutOfMemory}
 use Rattle.design_gen.specs.Datapath.{datapath}
 use Rattle.listing.specs.declared.case.Mode.{Mode}
-use Rattle.scald_tool.specs.declared.outcome.Outcome.{Outcome}
-use Rattle.scald_tool.specs.declared.outcome.Outcome.TheVariants.{Clean, Faulty, Done, Refused, Unsettled, BadWords, TooLong, ReadFault, WriteFault, NoMemory}
-use Rattle.scald_tool.specs.declared.reply.Reply.{Reply}
+use Rattle.scald_base.specs.declared.outcome.Outcome.{Outcome}
+use Rattle.scald_base.specs.declared.outcome.Outcome.TheVariants.{Clean, Faulty, Done, Refused, Unsettled, BadWords, TooLong, ReadFault, WriteFault, NoMemory}
+use Rattle.scald_base.specs.declared.reply.Reply.{Reply}
 use Rattle.scald_tool.specs.declared.words.Command.{Command}
 use Rattle.scald_tool.specs.declared.words.Command.TheVariants.{Verify, Format, Bench}
-use Rattle.scald_tool.specs.Drawn.{IsLoopless}
-use Rattle.scald_tool.specs.Promise.{asks_verify, has_report, may_give, speaks, unlimited}
+use Rattle.drawn_circuit.specs.Drawn.{IsLoopless}
+use Rattle.scald_tool.specs.Promise.{asks_verify, has_report, may_give, unlimited}
 
--- what speaks and is not done with a text may come of `verify`
-pub verify-may : (mode : Mode) (rounds : Option ℕ) (o : Outcome) → speaks o ≡ true → o ≢ Done → may_give (Verify mode rounds) o ≡ true
-verify-may mode rounds Clean spoken other = refl
-verify-may mode rounds (Faulty n) spoken other = refl
-verify-may mode rounds Done spoken other = absurd (other refl)
-verify-may mode rounds (Refused r) spoken other = refl
-verify-may mode rounds (Unsettled place round) spoken other = refl
-verify-may mode rounds (BadWords i) spoken other = absurd (cc)
-verify-may mode rounds TooLong spoken other = absurd (cc)
-verify-may mode rounds ReadFault spoken other = absurd (cc)
-verify-may mode rounds WriteFault spoken other = absurd (cc)
-verify-may mode rounds NoMemory spoken other = absurd (cc)
-
-pub gives_by : (command form : Command) (made : Result Reply OutOfMemory) → command ≡ form → IfOk made (λ reply. may_give form reply.outcome ≡ true) → IfOk made (λ reply. may_give command reply.outcome ≡ true)
+pub gives_by : (command form : Command) (made : Result (Reply Outcome) OutOfMemory) → command ≡ form →
+    IfOk made (λ reply. may_give form reply.outcome ≡ true) → IfOk made (λ reply. may_give command reply.outcome ≡ true)
 gives_by command form made is given = subst (λ (k : Command). IfOk made (λ reply. may_give k reply.outcome ≡ true)) (sym is) given
 
 -- no other form gives a report
@@ -41,11 +29,13 @@ report-of form ReadFault other given has = absurd (cc)
 report-of form WriteFault other given has = absurd (cc)
 report-of form NoMemory other given has = absurd (cc)
 
-pub no_report : (form : Command) (P : Type 0) (made : Result Reply OutOfMemory) → asks_verify form ≡ false → IfOk made (λ reply. may_give form reply.outcome ≡ true) → IfOk made (λ reply. has_report reply.outcome ≡ true → P)
+pub no_report : (form : Command) (P : Type 0) (made : Result (Reply Outcome) OutOfMemory) → asks_verify form ≡ false →
+    IfOk made (λ reply. may_give form reply.outcome ≡ true) → IfOk made (λ reply. has_report reply.outcome ≡ true → P)
 no_report form P (Ok reply) other given = λ has. absurd (report-of form reply.outcome other given has)
 no_report form P (Err e) other given = tt
 
-pub not_clean : (form : Command) (P : Type 0) (made : Result Reply OutOfMemory) → asks_verify form ≡ false → IfOk made (λ reply. may_give form reply.outcome ≡ true) → IfOk made (λ reply. reply.outcome ≡ Clean → P)
+pub not_clean : (form : Command) (P : Type 0) (made : Result (Reply Outcome) OutOfMemory) → asks_verify form ≡ false →
+    IfOk made (λ reply. may_give form reply.outcome ≡ true) → IfOk made (λ reply. reply.outcome ≡ Clean → P)
 not_clean form P (Ok reply) other given = λ clean. absurd (report-of form reply.outcome other given (ap has_report clean))
 not_clean form P (Err e) other given = tt
 
@@ -56,20 +46,20 @@ verify-rests : (mode : Mode) (rounds : Option ℕ) (text : List ℕ) (o : Outcom
 verify-rests mode None text o rests evaluated place round is free = rests place round refl (let same : evaluated ≡ text = cc in subst IsLoopless same free)
 verify-rests mode (Some n) text o rests evaluated place round is free = absurd (cc)
 
-pub verify_rests : (command : Command) (mode : Mode) (rounds : Option ℕ) (text : List ℕ) (made : Result Reply OutOfMemory) → command ≡ Verify mode rounds →
+pub verify_rests : (command : Command) (mode : Mode) (rounds : Option ℕ) (text : List ℕ) (made : Result (Reply Outcome) OutOfMemory) → command ≡ Verify mode rounds →
     IfOk made (λ reply. (place round : ℕ) → rounds ≡ None → IsLoopless text → reply.outcome ≢ Unsettled place round) →
     IfOk made (λ reply. (evaluated : List ℕ) (place round : ℕ) → unlimited command text ≡ Some evaluated → IsLoopless evaluated → reply.outcome ≢ Unsettled place round)
 verify_rests command mode rounds text (Ok reply) form rests =
     λ evaluated place round is free. verify-rests mode rounds text reply.outcome rests evaluated place round (subst (λ (k : Command). unlimited k text ≡ Some evaluated) form is) free
 verify_rests command mode rounds text (Err e) form rests = tt
 
-pub format_rests : (command : Command) (text : List ℕ) (made : Result Reply OutOfMemory) → command ≡ Format →
+pub format_rests : (command : Command) (text : List ℕ) (made : Result (Reply Outcome) OutOfMemory) → command ≡ Format →
     IfOk made (λ reply. (evaluated : List ℕ) (place round : ℕ) → unlimited command text ≡ Some evaluated → IsLoopless evaluated → reply.outcome ≢ Unsettled place round)
 format_rests command text (Ok reply) form =
     λ evaluated place round is free. let none : unlimited Format text ≡ Some evaluated = subst (λ (k : Command). unlimited k text ≡ Some evaluated) form is in absurd (cc)
 format_rests command text (Err e) form = tt
 
-pub bench_rests : (command : Command) (sections : ℕ) (text : List ℕ) (made : Result Reply OutOfMemory) → command ≡ Bench sections →
+pub bench_rests : (command : Command) (sections : ℕ) (text : List ℕ) (made : Result (Reply Outcome) OutOfMemory) → command ≡ Bench sections →
     IfOk made (λ reply. (place round : ℕ) → IsLoopless (datapath sections) → reply.outcome ≢ Unsettled place round) →
     IfOk made (λ reply. (evaluated : List ℕ) (place round : ℕ) → unlimited command text ≡ Some evaluated → IsLoopless evaluated → reply.outcome ≢ Unsettled place round)
 bench_rests command sections text (Ok reply) form rests =

@@ -1,32 +1,29 @@
 -- The report is that of the circuit, the base and the cases that a promise speaks of.
-use Rattle.std.proofs.Common.{◌≡◌, ℕ, List, sym, ap, subst, ◌∙◌, true, Option}
+use Rattle.std.proofs.Common.{◌≡◌, ℕ, List, ap, subst, ◌∙◌, true, Option}
 use Rattle.flat_circuit.specs.declared.case.CaseValue.{CaseValue}
 use Rattle.flat_circuit.specs.Circuit.{Circuit}
-use Rattle.case_analysis.specs.Base.{base_round}
 use Rattle.listing.specs.declared.case.Mode.{Mode}
-use Rattle.scald_tool.specs.declared.outcome.Outcome.{Outcome}
-use Rattle.scald_tool.specs.Drawn.{DrawsCircuit}
-use Rattle.scald_tool.specs.Case.{Case, AreAtRest, listed_cases}
+use Rattle.scald_base.specs.declared.outcome.Outcome.{Outcome}
+use Rattle.drawn_circuit.specs.Drawn.{DrawsCircuit}
+use Rattle.timing_analysis.specs.Case.{Case, listed_cases}
 use Rattle.scald_tool.specs.Answer as answer
 use Rattle.scald_tool.specs.Answer.{Judged, Verified, limit_for, rested, unsettled, case_unsettled}
 use Rattle.scald_tool.specs.Report.{report}
-use Rattle.scald_tool.specs.Promise.{IsKept, IsSafe, IsUnbroken, has_report}
+use Rattle.timing_analysis.specs.Promise.{IsKept, IsSafe, IsUnbroken}
+use Rattle.scald_tool.specs.Promise.{has_report}
 use Rattle.scald_tool.specs.Laws.{ReportsArePromised}
-use Rattle.scald_tool.proofs.OneRest.{one_rest, one_cases}
-use Rattle.scald_tool.proofs.Judgement.{text_draws_one_circuit}
+use Rattle.timing_analysis.proofs.OneRest.{rest_in_one_way}
+use Rattle.drawn_circuit.proofs.OneText.{text_draws_one_circuit}
 
 -- The report on a circuit is that of the base and the cases at rest, whatever is said to hold of these.
 judged-report : (mode : Mode) (c : Circuit) (values : List (List CaseValue)) (limit limit' : ℕ) (o : Outcome)
     (bytes : List ℕ) (holds : ℕ → Case → Type 0) → Judged mode c values limit o bytes → has_report o ≡ true →
     (safe : IsSafe c values limit' holds) → bytes ≡ report mode c safe.base safe.cases
 judged-report mode c values limit limit' _ _ holds (rested base cases rests at_rest) has safe =
-    let same : safe.base ≡ base =
-    one_rest (base_round c) limit' limit safe.base base safe.rests rests in
-    let moved : AreAtRest c limit' base (listed_cases values) safe.cases =
-    subst (λ (b : ℕ). AreAtRest c limit' b (listed_cases values) safe.cases) same safe.at_rest in
-    let alike : cases ≡ safe.cases =
-    one_cases c limit base limit' (listed_cases values) cases safe.cases at_rest moved in
-    ap (report mode c base) alike ∙ ap (λ (b : ℕ). report mode c b safe.cases) (sym same)
+    let one =
+    rest_in_one_way c limit limit' base safe.base (listed_cases values) cases safe.cases rests at_rest
+    safe.rests safe.at_rest in
+    ap (report mode c base) one.1 ∙ ap (λ (b : ℕ). report mode c b safe.cases) one.0
 judged-report mode c values limit limit' _ _ holds (unsettled place is) has safe = absurd cc
 judged-report mode c values limit limit' _ _ holds (case_unsettled base place rests stops) has safe = absurd cc
 

@@ -1,5 +1,8 @@
 -- What the program answers to its words and to the bytes that it is given.
-use Rattle.std.specs.Prelude.{◌≡◌, ℕ, ◌<◌, ◌≤◌, true, List, [], length, Option, Some, None, Ok, Err}
+use Rattle.std.specs.Prelude.{ℕ, List, Option, Some, None}
+use Rattle.scald_base.specs.Outcome.{ended, end_of}
+use Rattle.scald_base.specs.Program as program
+use Rattle.scald_base.specs.Program.{Meaning}
 use Rattle.scald_base.specs.declared.refusal.Refusal.{Refusal}
 use Rattle.drawing_tree.specs.Tree.{Drawing}
 use Rattle.drawing_tree.specs.Canonical.{canonical}
@@ -14,13 +17,14 @@ use Rattle.fixpoint_engine.specs.Reach.{reach}
 use Rattle.case_analysis.specs.Tick.{tick}
 use Rattle.listing.specs.Answer.{refusal_line, summary_line, unsettled_line}
 use Rattle.design_gen.specs.Datapath.{datapath}
-use Rattle.scald_tool.specs.declared.outcome.Outcome.{Outcome}
-use Rattle.scald_tool.specs.declared.outcome.Outcome.TheVariants.{Done, Refused, Unsettled, BadWords, TooLong}
+use Rattle.scald_base.specs.declared.outcome.Outcome.{Outcome}
+use Rattle.scald_base.specs.declared.outcome.Outcome.TheVariants.{Done, Refused, Unsettled}
 use Rattle.scald_tool.specs.declared.words.Command.{Command}
 use Rattle.scald_tool.specs.declared.words.Command.TheVariants.{Verify, Format, Bench}
 use Rattle.scald_tool.specs.Words.{command_of, reads}
-use Rattle.scald_tool.specs.Drawn.{IsRefusal, IsTextRefused, DrawsCircuit}
-use Rattle.scald_tool.specs.Case.{Case, AreAtRest, StopsAt, listed_cases, fault_count}
+use Rattle.drawing_grammar.specs.Refused.{IsRefusal}
+use Rattle.drawn_circuit.specs.Drawn.{IsTextRefused, DrawsCircuit}
+use Rattle.timing_analysis.specs.Case.{Case, AreAtRest, StopsAt, listed_cases, fault_count}
 use Rattle.scald_tool.specs.Report.{report, verdict_of}
 
 -- the most bytes that are read
@@ -84,10 +88,18 @@ Replied (Verify mode rounds) text = Verified mode rounds text
 Replied Format text = Formatted text
 Replied (Bench sections) text = Benched sections
 
+-- What the words ask for, and what is answered to a text.
+abbrev pub verifier : Meaning Command Outcome
+verifier = record {
+  command_of = command_of;
+  reads = reads;
+  most_bytes = λ read. most_bytes;
+  Replied = Replied;
+  ended = ended;
+  end_of = end_of;
+}
+
 -- The outcome and the bytes that are written, to words and to the bytes of the input. A form that does not read takes no
 -- text to be too long.
-pub data Answer (words : List (List ℕ)) (text : List ℕ) : Outcome → List ℕ → Type 0 where
-  no_form : (i : ℕ) → command_of words ≡ Err i → Answer words text (BadWords i) []
-  too_long : (command : Command) → command_of words ≡ Ok command → reads command ≡ true → most_bytes < length text → Answer words text TooLong []
-  replied : (command : Command) (o : Outcome) (bytes : List ℕ) → command_of words ≡ Ok command → (reads command ≡ true → length text ≤ most_bytes) →
-      Replied command text o bytes → Answer words text o bytes
+abbrev pub Answer : List (List ℕ) → List ℕ → Outcome → List ℕ → Type 0
+Answer = program.Answer verifier

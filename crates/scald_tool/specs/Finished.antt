@@ -8,13 +8,13 @@ use Rattle.fixpoint_engine.specs.Rounds.{RestsAt}
 use Rattle.case_analysis.specs.Base.{base_round}
 use Rattle.design_gen.specs.Datapath.{datapath}
 use Rattle.listing.specs.declared.case.Mode.{Mode}
-use Rattle.scald_tool.specs.declared.outcome.Outcome.{Outcome}
-use Rattle.scald_tool.specs.declared.outcome.Outcome.TheVariants.{Clean, Faulty, Done, Refused, Unsettled, BadWords, TooLong, ReadFault, WriteFault, NoMemory}
+use Rattle.scald_base.specs.declared.outcome.Outcome.{Outcome}
+use Rattle.scald_base.specs.declared.outcome.Outcome.TheVariants.{Clean, Faulty, Done, Refused, Unsettled, BadWords, TooLong, ReadFault, WriteFault, NoMemory}
 use Rattle.scald_tool.specs.declared.words.Command.{Command}
 use Rattle.scald_tool.specs.declared.words.Command.TheVariants.{Verify, Format, Bench}
 use Rattle.scald_tool.specs.Words.{command_of, reads}
-use Rattle.scald_tool.specs.Drawn.{DrawsCircuit}
-use Rattle.scald_tool.specs.Case.{Case, AreAtRest, listed_cases}
+use Rattle.drawn_circuit.specs.Drawn.{DrawsCircuit}
+use Rattle.timing_analysis.specs.Case.{Case, AreAtRest, listed_cases}
 use Rattle.scald_tool.specs.Answer.{limit_for, most_bytes}
 use Rattle.scald_tool.specs.Promise.{IsAnswered}
 

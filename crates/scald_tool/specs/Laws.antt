@@ -1,31 +1,17 @@
 -- Laws of texts and answers on which the promise of the whole call rests.
 use Rattle.std.specs.Prelude.{◌≡◌, ℕ, true, List, Option}
-use Rattle.scald_base.specs.declared.refusal.Refusal.{Refusal}
-use Rattle.scald_lex.specs.Place.{IsPlaceOf}
-use Rattle.flat_circuit.specs.declared.case.CaseValue.{CaseValue}
-use Rattle.flat_circuit.specs.Circuit.{Circuit}
-use Rattle.scald_tool.specs.declared.outcome.Outcome.{Outcome}
-use Rattle.scald_tool.specs.Drawn.{DrawsCircuit, IsTextRefused}
 use Rattle.listing.specs.declared.case.Mode.{Mode}
+use Rattle.timing_analysis.specs.Promise.{FaultlessNeverBreaks, NeverBreaks}
+use Rattle.scald_base.specs.declared.outcome.Outcome.{Outcome}
 use Rattle.scald_tool.specs.Answer.{Answer, Verified}
 use Rattle.scald_tool.specs.Report.{report}
-use Rattle.scald_tool.specs.Promise.{FaultlessNeverBreaks, NeverBreaks, has_report}
-
--- a text draws one circuit at most, with the same cases
-abbrev pub OneCircuit : Type 0
-OneCircuit =
-    (text : List ℕ) (c c' : Circuit) (cases cases' : List (List CaseValue)) →
-    DrawsCircuit text c cases → DrawsCircuit text c' cases' → (c ≡ c') × (cases ≡ cases')
+use Rattle.scald_tool.specs.Promise.{has_report}
 
 -- words and a text have one answer at most
 abbrev pub OneAnswer : Type 0
 OneAnswer =
     (words : List (List ℕ)) (text : List ℕ) (o o' : Outcome) (bytes bytes' : List ℕ) →
     Answer words text o bytes → Answer words text o' bytes' → (o ≡ o') × (bytes ≡ bytes')
-
--- a text is refused at the place of one of its bytes, or of its end
-abbrev pub RefusalsArePlaced : Type 0
-RefusalsArePlaced = (text : List ℕ) (r : Refusal) → IsTextRefused text r → IsPlaceOf text r.place
 
 -- The report that is printed is that of the circuit, the base and the cases at rest that a promise speaks of. So the numbers
 -- of each case in it, its base, rounds and tick, are those of the promise.

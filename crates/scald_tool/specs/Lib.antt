@@ -1,13 +1,9 @@
-pub mod Known
 pub mod Words
 pub mod Forms
-pub mod Drawn
-pub mod Case
-pub mod Subject
 pub mod Report
 pub mod Answer
-pub mod Status
 pub mod Promise
+pub mod Kept
 pub mod Finished
 pub mod Laws
 pub mod Reported

@@ -6,9 +6,9 @@ use Rattle.listing.specs.declared.case.Mode.{Mode}
 use Rattle.listing.specs.Head.{head}
 use Rattle.listing.specs.Case.{case_lines}
 use Rattle.listing.specs.End.{last_line}
-use Rattle.scald_tool.specs.declared.outcome.Outcome.{Outcome}
-use Rattle.scald_tool.specs.declared.outcome.Outcome.TheVariants.{Clean, Faulty, Done, Refused, Unsettled, BadWords, TooLong, ReadFault, WriteFault, NoMemory}
-use Rattle.scald_tool.specs.Case.{Case, printed_tick, faults, fault_count}
+use Rattle.scald_base.specs.declared.outcome.Outcome.{Outcome}
+use Rattle.scald_base.specs.declared.outcome.Outcome.TheVariants.{Clean, Faulty, Done, Refused, Unsettled, BadWords, TooLong, ReadFault, WriteFault, NoMemory}
+use Rattle.timing_analysis.specs.Case.{Case, printed_tick, faults, fault_count}
 
 abbrev pub case_text : Mode → Circuit → ℕ → Case → List ℕ
 case_text mode c base case = case_lines c mode case.listed.number base case.rounds (printed_tick c base case) case.waves (faults c case)

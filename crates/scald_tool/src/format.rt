@@ -6,16 +6,15 @@ ghost use Rattle.drawing_tree.specs.Canonical.{canonical};
 ghost use Rattle.scald_tool.specs.Answer.{Formatted};
 ghost use Rattle.scald_tool.specs.Promise.{may_give};
 
-use crate::drawn::read_text;
-use crate::outcome::Outcome;
-use crate::reply::{Reply, refused};
+use crate::reply::refused;
 use crate::words::Command;
 use drawing_tree::{Drawing, print_drawing};
-use scald_base::{NoMemory, Stop};
+use drawn_circuit::read_text;
+use scald_base::{NoMemory, Outcome, Reply, Stop};
 use std::alloc::Global;
 
 /// The canonical text of a drawing, or the line of its refusal.
-pub fn format(alloc: Global, text: &[u8]) -> Result<Reply, NoMemory>
+pub fn format(alloc: Global, text: &[u8]) -> Result<Reply<Outcome>, NoMemory>
     requires { length text.now < 2 ^ 32 - 1 }
     ensures is { IfOk result (λ reply. Formatted text.now reply.outcome reply.bytes) }
     ensures given { IfOk result (λ reply. may_give Command.Format reply.outcome ≡ true) }
@@ -28,7 +27,7 @@ pub fn format(alloc: Global, text: &[u8]) -> Result<Reply, NoMemory>
 }
 
 /// The canonical text of a drawing.
-fn formatted(alloc: Global, drawing: &Drawing) -> Result<Reply, NoMemory>
+fn formatted(alloc: Global, drawing: &Drawing) -> Result<Reply<Outcome>, NoMemory>
     ensures outcome { IfOk result (λ reply. reply.outcome ≡ Outcome.Done) }
     ensures bytes { IfOk result (λ reply. reply.bytes ≡ canonical (drawing_of drawing.now)) }
 {

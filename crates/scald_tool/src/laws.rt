@@ -3,13 +3,11 @@
 ghost use Rattle.std.specs.Prelude.{◌≡◌, ◌⊎◌, None};
 ghost use Rattle.scald_tool.specs.Finished.{AsksWell, IsFinished};
 ghost use Rattle.scald_tool.specs.Forms.{WordsAreKnown, WordsAreRead};
-ghost use Rattle.scald_tool.specs.Laws.{OneAnswer, OneCircuit, RefusalsArePlaced, ReportsArePromised};
+ghost use Rattle.scald_tool.specs.Laws.{OneAnswer, ReportsArePromised};
 ghost use Rattle.scald_tool.specs.Promise.{IsAnswered};
 
-use crate::outcome::Outcome;
 use crate::tool::tool_main;
-use crate::words::Words;
-use scald_base::{CountSink, SureSource};
+use scald_base::{CountSink, Outcome, SureSource, Words};
 use std::alloc::Global;
 
 /// Words are read as the form that has them, or as unrecognised from the first word with which no form
@@ -19,19 +17,9 @@ pub fn words_are_read_by_their_form()
     ensures known { WordsAreKnown }
 {}
 
-/// A text draws one circuit alone.
-pub fn text_draws_one_circuit()
-    ensures { OneCircuit }
-{}
-
 /// Words and a text have one answer.
 pub fn words_have_one_answer()
     ensures { OneAnswer }
-{}
-
-/// A text is refused at the place of one of its bytes, or of its end.
-pub fn refusals_are_placed()
-    ensures { RefusalsArePlaced }
 {}
 
 /// A report is that of the circuit, the base and the cases at rest which the promises of its text speak of:
@@ -50,7 +38,8 @@ pub fn answers_over_sure_devices(
     sink: &mut CountSink,
 ) -> Outcome
     ensures whole { (result ≡ Outcome.NoMemory) ⊎ IsAnswered words.now source.old result None None }
-    ensures finished { AsksWell words.now source.old → (result ≡ Outcome.NoMemory) ⊎ IsFinished words.now source.old result None None }
+    ensures finished { AsksWell words.now source.old →
+        (result ≡ Outcome.NoMemory) ⊎ IsFinished words.now source.old result None None }
 {
     tool_main(alloc, words, source, sink)
 }

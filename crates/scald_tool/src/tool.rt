@@ -1,21 +1,17 @@
 //! The whole call: words and bytes in, bytes and an outcome out.
 
-ghost use Rattle.std.specs.Prelude.{◌≡◌, ◌≢◌, ℕ, List, ◌≤◌, ◌<◌, length, true, false, Ok, Err, IfOk, IsErr, IsErrOf, IfSome, ◌⊎◌};
+ghost use Rattle.std.specs.Prelude.{◌≡◌, ◌≢◌, ℕ, List, ◌<◌, length, true, false, Err, IfSome, ◌⊎◌};
 ghost use Rattle.std.specs.Io.KnownBytes.{IsAtEnd};
-ghost use Rattle.scald_base.specs.Device.{Rose, ReadsAll, ReadsFront, ReadsPast};
-ghost use Rattle.scald_tool.specs.Words.{are_reading, command_of, reads};
+ghost use Rattle.scald_base.specs.Device.{Rose, ReadsFront, ReadsPast};
+ghost use Rattle.scald_tool.specs.Words.{are_reading, command_of};
 ghost use Rattle.scald_tool.specs.Answer.{most_bytes};
 ghost use Rattle.scald_tool.specs.Finished.{AsksWell, IsFinished};
-ghost use Rattle.scald_tool.specs.Promise.{AreTold, IsAnswered, IsCutShort, RestsWithoutLoops, FaultlessNeverBreaks, NeverBreaks, has_read, has_report, is_silent, may_answer, speaks};
+ghost use Rattle.timing_analysis.specs.Promise.{FaultlessNeverBreaks, NeverBreaks};
+ghost use Rattle.scald_tool.specs.Promise.{AreTold, IsAnswered, IsCutShort, RestsWithoutLoops, has_read, has_report, is_silent, may_answer, speaks};
 
-use crate::answer::answer;
-use crate::outcome::Outcome;
-use crate::words::{Command, Words, read_words};
-use scald_base::{Bytes, ReadEnd, Sink, Source, read_all, write_all};
+use crate::verifier::Verifier;
+use scald_base::{Outcome, Sink, Source, Words, main_call};
 use std::alloc::Global;
-
-/// The most bytes of a text.
-const MOST_BYTES: u32 = 4_194_304;
 
 /// Answers what the words ask for and writes it to the sink: the report on the drawing that the source
 /// gives, or its canonical text, or the numbers of the report on a generated drawing.
@@ -56,7 +52,8 @@ pub fn tool_main<S: Source, K: Sink>(
     ensures truthful { (text : List ℕ) → AreTold words.now (S.left source.old) text → speaks result ≡ true →
         IsAnswered words.now text result (K.taken sink.old) (K.taken sink.new) }
     ensures front { ReadsFront (S.left source.old) (S.left source.new) most_bytes }
-    ensures to_end { IfSome (S.left source.old) (λ text. are_reading (command_of words.now) ≡ true → speaks result ≡ true → IsAtEnd (S.left source.new)) }
+    ensures to_end { IfSome (S.left source.old) (λ text.
+        are_reading (command_of words.now) ≡ true → speaks result ≡ true → IsAtEnd (S.left source.new)) }
 
     // No fault of a device is hidden.
     ensures source_steady { result ≢ Outcome.ReadFault → S.faults source.new ≡ S.faults source.old }
@@ -72,51 +69,18 @@ pub fn tool_main<S: Source, K: Sink>(
     ensures cut_short { (text : List ℕ) → AreTold words.now (S.left source.old) text → result ≡ Outcome.WriteFault →
         IsCutShort words.now text (K.taken sink.old) (K.taken sink.new) }
     ensures too_long { result ≡ Outcome.TooLong → ReadsPast (S.left source.old) (S.left source.new) most_bytes }
-    ensures long_text { IfSome (S.left source.old) (λ text. are_reading (command_of words.now) ≡ true → most_bytes < length text →
+    ensures long_text { IfSome (S.left source.old) (λ text.
+        are_reading (command_of words.now) ≡ true → most_bytes < length text →
         ¬ Rose (S.faults source.old) (S.faults source.new) →
         (result ≡ Outcome.NoMemory) ⊎ (result ≡ Outcome.TooLong)) }
 
     // Waves without loops settle, where the words set no limit.
-    ensures loopless { (text : List ℕ) → AreTold words.now (S.left source.old) text → RestsWithoutLoops words.now text result }
+    ensures loopless { (text : List ℕ) → AreTold words.now (S.left source.old) text →
+        RestsWithoutLoops words.now text result }
 
     // No fault, no break: in every run of the circuit that the text draws, from the printed tick on.
     ensures clean { IfSome (S.left source.old) (λ text. result ≡ Outcome.Clean → NeverBreaks text) }
     ensures faultless { IfSome (S.left source.old) (λ text. has_report result ≡ true → FaultlessNeverBreaks text) }
 {
-    let command = match read_words(words) {
-        Ok(command) => command,
-        Err(i) => return Outcome::BadWords(i),
-    };
-    let text = match text_for(alloc, command, source) {
-        Ok(text) => text,
-        Err(ReadEnd::TooLong) => return Outcome::TooLong,
-        Err(ReadEnd::ReadFault) => return Outcome::ReadFault,
-        Err(ReadEnd::NoMemory) => return Outcome::NoMemory,
-    };
-    let reply = match answer(alloc, command, text.as_slice()) {
-        Ok(reply) => reply,
-        Err(_) => return Outcome::NoMemory,
-    };
-    match write_all(sink, reply.bytes.as_slice()) {
-        Ok(()) => reply.outcome,
-        Err(_) => Outcome::WriteFault,
-    }
-}
-
-/// All bytes of the source where the command reads them, and no bytes where it does not.
-fn text_for<S: Source>(alloc: Global, command: Command, source: &mut S) -> Result<Bytes, ReadEnd>
-    ensures all { reads command ≡ true → IfOk result (λ text. ReadsAll (S.left source.old) (S.left source.new) most_bytes text) }
-    ensures short { IfOk result (λ text. length text ≤ most_bytes) }
-    ensures unread { reads command ≡ false → source.new ≡ source.old }
-    ensures asked { IsErr result → reads command ≡ true }
-    ensures too_long { IsErrOf result ReadEnd.TooLong → ReadsPast (S.left source.old) (S.left source.new) most_bytes }
-    ensures front { ReadsFront (S.left source.old) (S.left source.new) most_bytes }
-    ensures fault { IsErrOf result ReadEnd.ReadFault → Rose (S.faults source.old) (S.faults source.new) }
-    ensures steady { ¬ IsErrOf result ReadEnd.ReadFault → S.faults source.new ≡ S.faults source.old }
-{
-    if command.reads() {
-        read_all(alloc, source, MOST_BYTES)
-    } else {
-        Ok(Bytes::new(alloc))
-    }
+    main_call::<Verifier, S, K>(alloc, words, source, sink)
 }

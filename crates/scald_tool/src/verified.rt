@@ -1,17 +1,14 @@
-//! The report on a text, whichever way its waves are kept.
+//! The report on a text that lies in memory, whichever way its waves are kept.
 
-ghost use Rattle.std.specs.Prelude.{◌≡◌, ◌≢◌, ◌-◌, ◌^◌, ◌<◌, ◌≤◌, ◌⊎◌, ℕ, true, None, IfOk, IfSome, length};
-ghost use Rattle.scald_tool.specs.Answer.{Verified};
-ghost use Rattle.scald_tool.specs.Drawn.{IsLoopless};
-ghost use Rattle.scald_tool.specs.Promise.{FaultlessNeverBreaks, IsVerified, NeverBreaks, has_report, may_give};
+ghost use Rattle.std.specs.Prelude.{◌≡◌, ◌≢◌, ◌-◌, ◌^◌, ◌<◌, ◌≤◌, ◌⊎◌, ℕ, true, None, IfSome, length};
+ghost use Rattle.drawn_circuit.specs.Drawn.{IsLoopless};
+ghost use Rattle.timing_analysis.specs.Promise.{FaultlessNeverBreaks, NeverBreaks};
+ghost use Rattle.scald_tool.specs.Promise.{IsVerified, has_report, may_give};
 
-use crate::outcome::Outcome;
-use crate::reply::Reply;
 use crate::verify::verify;
 use crate::words::Command;
 use listing::Mode;
-use run_wave::RunWave;
-use scald_base::{Bytes, NoMemory};
+use scald_base::{Bytes, Outcome};
 use std::alloc::Global;
 use step_values::Value;
 use wave_core::CyclicWave;
@@ -36,7 +33,8 @@ pub fn verify_text<W: CyclicWave<Item = Value>>(
     ensures given { (result ≡ Outcome.NoMemory) ⊎ (may_give (Command.Verify mode rounds) result ≡ true) }
     ensures clean { result ≡ Outcome.Clean → NeverBreaks text.now }
     ensures faultless { has_report result ≡ true → FaultlessNeverBreaks text.now }
-    ensures loopless { (place round : ℕ) → rounds ≡ None → IsLoopless text.now → result ≢ Outcome.Unsettled place round }
+    ensures loopless { (place round : ℕ) → rounds ≡ None →
+        IsLoopless text.now → result ≢ Outcome.Unsettled place round }
 {
     let reply = match verify::<W>(alloc, text, mode, rounds) {
         Ok(reply) => reply,
@@ -45,27 +43,5 @@ pub fn verify_text<W: CyclicWave<Item = Value>>(
     match out.extend(reply.bytes.as_slice()) {
         Ok(()) => reply.outcome,
         Err(_) => Outcome::NoMemory,
-    }
-}
-
-/// The same, as an answer that is not written yet, by the kind of waves that costs least.
-pub fn verified(
-    alloc: Global,
-    text: &[u8],
-    mode: Mode,
-    rounds: Option<u32>,
-) -> Result<Reply, NoMemory>
-    requires short { length text.now < 2 ^ 32 - 1 }
-    requires few { IfSome rounds (λ limit. limit ≤ 10000000) }
-    ensures is { IfOk result (λ reply. Verified mode rounds text.now reply.outcome reply.bytes) }
-    ensures given { IfOk result (λ reply. may_give (Command.Verify mode rounds) reply.outcome ≡ true) }
-    ensures clean { IfOk result (λ reply. reply.outcome ≡ Outcome.Clean → NeverBreaks text.now) }
-    ensures faultless { IfOk result (λ reply. has_report reply.outcome ≡ true → FaultlessNeverBreaks text.now) }
-    ensures loopless { IfOk result (λ reply. (place round : ℕ) → rounds ≡ None → IsLoopless text.now → reply.outcome ≢ Outcome.Unsettled place round) }
-{
-    let mut bytes = Bytes::new(alloc);
-    match verify_text::<RunWave<Value>>(alloc, text, mode, rounds, &mut bytes) {
-        Outcome::NoMemory => Err(NoMemory),
-        outcome => Ok(Reply { outcome, bytes }),
     }
 }

@@ -1,32 +1,12 @@
 //! The words that the program is called with.
 
-ghost use Rattle.std.specs.Prelude.{◌≡◌, ◌<◌, ◌≤◌, ◌^◌, ◌-◌, IfOk, IfSome, drop, map, min, string_bytes};
-ghost use Rattle.std.specs.Vec.Iter.{into_iter_items};
+ghost use Rattle.std.specs.Prelude.{◌≡◌, ◌<◌, ◌≤◌, ◌^◌, ◌-◌, IfOk, IfSome, min};
 ghost use Rattle.scald_lex.specs.Bytes.{value_of};
 ghost use Rattle.scald_tool.specs.Words.{IsWithin, alone, behind_bench, behind_mode, behind_verify, command_of, limit_of, mode_of, number_in, reads};
 
 use itoa::Buffer;
 use listing::Mode;
-use scald_base::{Bytes, List, NoMemory};
-use std::alloc::Global;
-use std::env::Args;
-
-/// The words after the program's name.
-pub type Words = List<Bytes>;
-
-/// The words of a program that is called with these arguments, of which the first is its name: all others,
-/// byte for byte, empty ones too.
-pub fn words_of(alloc: Global, arguments: Args) -> Result<Words, NoMemory>
-    ensures { IfOk result (λ words. words ≡ map string_bytes (drop 1 (into_iter_items arguments))) }
-{
-    let mut words = Words::new(alloc);
-    let mut arguments = arguments;
-    let _name = arguments.next();
-    for argument in arguments {
-        words.push(Bytes::of(alloc, argument.as_bytes())?)?;
-    }
-    Ok(words)
-}
+use scald_base::{Bytes, Words};
 
 /// The most rounds that may be asked for.
 const MOST_ROUNDS: u32 = 10_000_000;

@@ -5,13 +5,13 @@ use Rattle.scald_tool.proofs.Replies.{by_verify, by_format, by_bench}
 use Rattle.scald_tool.proofs.answer.answer.Goals as goal
 
 pub returns-in-Verify-clause-is : goal.returns-in-Verify-clause-is
-returns-in-Verify-clause-is c = by_verify c.args.command c.in-Verify.mode c.in-Verify.rounds _ _ c.in-Verify.is c.verified.ensures.is
+returns-in-Verify-clause-is c = by_verify c.args.command c.in-Verify.mode c.in-Verify.rounds _ _ c.in-Verify.is c.verify.ensures.is
 
 pub returns-in-Verify-clause-given : goal.returns-in-Verify-clause-given
-returns-in-Verify-clause-given c = gives_by c.args.command (Verify c.in-Verify.mode c.in-Verify.rounds) _ c.in-Verify.is c.verified.ensures.given
+returns-in-Verify-clause-given c = gives_by c.args.command (Verify c.in-Verify.mode c.in-Verify.rounds) _ c.in-Verify.is c.verify.ensures.given
 
 pub returns-in-Verify-clause-loopless : goal.returns-in-Verify-clause-loopless
-returns-in-Verify-clause-loopless c = verify_rests c.args.command c.in-Verify.mode c.in-Verify.rounds _ _ c.in-Verify.is c.verified.ensures.loopless
+returns-in-Verify-clause-loopless c = verify_rests c.args.command c.in-Verify.mode c.in-Verify.rounds _ _ c.in-Verify.is c.verify.ensures.loopless
 
 pub returns-in-Format-clause-is : goal.returns-in-Format-clause-is
 returns-in-Format-clause-is c = by_format c.args.command _ _ c.in-Format.is c.format.ensures.is

@@ -1,25 +1,19 @@
 use Rattle.std.proofs.Common.{◌∙◌, refl, sym, subst, ap, arith, length, None}
 use Rattle.design_gen.proofs.Sections.{datapath-short}
+use Rattle.timing_analysis.proofs.Drawn.{subject_is_drawn}
 use Rattle.scald_tool.specs.Answer.{measured}
-use Rattle.scald_tool.specs.Drawn.{IsTextRefused}
+use Rattle.drawn_circuit.specs.Drawn.{IsTextRefused}
 use Rattle.scald_tool.proofs.Replies.{accepted, refused}
-use Rattle.scald_tool.proofs.Subjects.{subject_draws, subject_exists, subject_few}
 use Rattle.scald_tool.proofs.bench.bench.Goals as goal
 
 pub read_circuit-requires : goal.read_circuit-requires
 read_circuit-requires c =
     omega (arith, ap length c.as_slice.ensures, ap length c.in_ok-text.ensures, datapath-short c.args.sections (omega (arith, c.ranges.sections)))
 
-pub measured-requires-clause-exist : goal.measured-requires-clause-exist
-measured-requires-clause-exist c = subject_exists c.as_slice.result.now _ _ _ _ c.in_ok-subject-in-Ok.ensures.circuit c.in_ok-subject-in-Ok.ensures.cases c.in-Ok.ensures.drawn
-
-pub measured-requires-clause-not_many : goal.measured-requires-clause-not_many
-measured-requires-clause-not_many c = subject_few c.as_slice.result.now _ _ _ _ c.in_ok-subject-in-Ok.ensures.circuit c.in_ok-subject-in-Ok.ensures.cases c.in-Ok.ensures.drawn c.in-Ok.ensures.few
-
 pub returns-in-Ok-clause-is : goal.returns-in-Ok-clause-is
 returns-in-Ok-clause-is c =
     let same = c.as_slice.ensures ∙ c.in_ok-text.ensures in
-    let drawn = subject_draws c.as_slice.result.now _ _ _ _ c.in_ok-subject-in-Ok.ensures.circuit c.in_ok-subject-in-Ok.ensures.cases c.in-Ok.ensures.drawn in
+    let drawn = subject_is_drawn c.as_slice.result.now _ _ _ _ c.in_ok-subject-in-Ok.ensures.circuit c.in_ok-subject-in-Ok.ensures.cases c.in-Ok.ensures.drawn in
     rw same at (accepted (measured c.args.sections) None c.as_slice.result.now _ _ _ _ drawn refl c.measured.ensures.is)
 
 pub returns-in-Err-Refused-clause-is : goal.returns-in-Err-Refused-clause-is

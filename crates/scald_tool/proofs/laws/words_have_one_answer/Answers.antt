@@ -1,4 +1,4 @@
-use Rattle.scald_tool.proofs.Judgement.{words_have_one_answer}
+use Rattle.scald_tool.proofs.OneAnswer.{words_have_one_answer}
 use Rattle.scald_tool.proofs.laws.words_have_one_answer.Goals as goal
 
 pub returns : goal.returns

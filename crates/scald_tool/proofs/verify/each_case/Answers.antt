@@ -2,38 +2,59 @@ use Rattle.std.proofs.Common.{◌≡◌, List, take, subst, arith}
 use Rattle.std.proofs.lemmas.List.{take_all}
 use Rattle.std.proofs.lemmas.Result.{err_from_is_err_and}
 use Rattle.flat_circuit.specs.declared.case.CaseValue.{CaseValue}
-use Rattle.scald_tool.specs.Case.{numbered}
-use Rattle.scald_tool.proofs.Telling.{Told, told-start, told-end}
-use Rattle.scald_tool.proofs.Going.{going-more, going-ended}
+use Rattle.timing_analysis.specs.Case.{numbered}
+use Rattle.scald_tool.proofs.Telling.{Told, told_start, told_end}
+use Rattle.scald_tool.proofs.Going.{going_more, going_ends}
 use Rattle.scald_tool.proofs.verify.each_case.Goals as goal
 
 pub loop-place-init : goal.loop-place-init
 loop-place-init g c = record {
-  told = told-start c.args.mode c.args.subject.now.circuit c.args.limit c.args.base.now.rounds c.in_ok-report.report.bytes c.in_ok-report.report.total c.in_ok-report.ensures.head c.in_ok-report.ensures.none;
+  told =
+      told_start c.args.mode c.args.subject.now.circuit c.args.limit c.args.rested.now.base.rounds
+      c.in_ok-report.report.bytes c.in_ok-report.report.total c.in_ok-report.ensures.head c.in_ok-report.ensures.none;
   room = let none = c.in_ok-report.ensures.none in omega (arith, none);
 }
 
-pub tell_case-requires-clause-room : goal.tell_case-requires-clause-room
-tell_case-requires-clause-room g c =
+pub add_case-requires-clause-room : goal.add_case-requires-clause-room
+add_case-requires-clause-room g c =
     let room = c.loop-place.invariant.room in
     let inside = c.loop-place-test.true in
-    let many = c.requires.not_many in
-    omega (arith, room, inside, many)
+    let few = c.requires.is.few in
+    omega (arith, room, inside, few)
 
-pub returns-in_err-tell_case-clause-ended : goal.returns-in_err-tell_case-clause-ended
-returns-in_err-tell_case-clause-ended g c =
-    let p = err_from_is_err_and c.from_residual-in_err-tell_case.result c.from_residual-in_err-tell_case.ensures.1 in
-    rw (p.1, p.2) (going-ended c.args.mode c.args.subject.now.circuit c.args.limit c.args.base.now.rounds c.args.subject.now.cases c.loop-place.place c.loop-place.report.bytes c.loop-place.report.total
-    (let len = c.len-place-end.ensures in let inside = c.loop-place-test.true in omega (arith, len, inside)) c.loop-place.invariant c.in_err-tell_case.field-0.0 c.in_err-tell_case.ensures.ended)
+pub add_case-requires-clause-fit : goal.add_case-requires-clause-fit
+add_case-requires-clause-fit g c = c.in_ok-case.ensures.rest.fit
+
+pub add_case-requires-clause-few : goal.add_case-requires-clause-few
+add_case-requires-clause-few g c = c.in_ok-case.ensures.rest.few
+
+pub returns-in_err-case-clause-ended : goal.returns-in_err-case-clause-ended
+returns-in_err-case-clause-ended g c =
+    let p = err_from_is_err_and c.from_residual-in_err-case.result c.from_residual-in_err-case.ensures.1 in
+    let len = c.len-place-end.ensures in
+    let inside = c.loop-place-test.true in
+    rw (p.1, p.2) (going_ends c.args.mode c.args.subject.now.circuit c.args.limit c.args.rested.now.base.rounds
+    c.args.subject.now.cases c.loop-place.place c.loop-place.report.bytes c.loop-place.report.total
+    (omega (arith, len, inside)) c.loop-place.invariant c.in_err-case.field-0.0 c.in_err-case.ensures.unsettled)
 
 pub loop-place-preserved : goal.loop-place-preserved
 loop-place-preserved g c =
-    going-more c.args.mode c.args.subject.now.circuit c.args.limit c.args.base.now.rounds c.args.subject.now.cases c.loop-place.place c.loop-place.report.bytes c.loop-place.report.total
-    (let len = c.len-place-end.ensures in let inside = c.loop-place-test.true in omega (arith, len, inside)) c.loop-place.invariant c.tell_case.new.report.bytes c.tell_case.new.report.total c.in_ok-tell_case.ensures.told c.in_ok-tell_case.ensures.few
+    let len = c.len-place-end.ensures in
+    let inside = c.loop-place-test.true in
+    going_more c.args.mode c.args.subject.now.circuit c.args.limit c.args.rested.now.base.rounds
+    c.args.subject.now.cases c.loop-place.place c.loop-place.report.bytes c.loop-place.report.total
+    (omega (arith, len, inside)) c.loop-place.invariant _ _ _ _ _ _ _
+    c.in_ok-case.ensures.rest c.in_ok-add_case.ensures.told c.in_ok-add_case.ensures.counted
 
 pub returns-clause-told : goal.returns-clause-told
 returns-clause-told g c =
-    let whole : take c.loop-place.place c.args.subject.now.cases ≡ c.args.subject.now.cases = take_all c.loop-place.place c.args.subject.now.cases (let len = c.len-place-end.ensures in let past = c.loop-place-test.false in omega (arith, len, past)) in
-    told-end c.args.mode c.args.subject.now.circuit c.args.limit c.args.base.now.rounds (numbered 1 c.args.subject.now.cases) c.loop-place.report.bytes c.loop-place.report.total _ _
-    (subst (λ (xs : List (List CaseValue)). Told c.args.mode c.args.subject.now.circuit c.args.limit c.args.base.now.rounds (numbered 1 xs) c.loop-place.report.bytes c.loop-place.report.total) whole c.loop-place.invariant.told)
+    let len = c.len-place-end.ensures in
+    let past = c.loop-place-test.false in
+    let whole : take c.loop-place.place c.args.subject.now.cases ≡ c.args.subject.now.cases =
+    take_all c.loop-place.place c.args.subject.now.cases (omega (arith, len, past)) in
+    let told =
+    subst (λ (xs : List (List CaseValue)). Told c.args.mode c.args.subject.now.circuit c.args.limit c.args.rested.now.base.rounds
+    (numbered 1 xs) c.loop-place.report.bytes c.loop-place.report.total) whole c.loop-place.invariant.told in
+    told_end c.args.mode c.args.subject.now.circuit c.args.limit c.args.rested.now.base.rounds
+    (numbered 1 c.args.subject.now.cases) c.loop-place.report.bytes c.loop-place.report.total _ _ told
     c.in_ok-end.ensures.outcome c.in_ok-end.ensures.bytes

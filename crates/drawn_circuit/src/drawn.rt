@@ -1,0 +1,70 @@
+//! From a text to the drawing that it draws, and to its circuit and cases.
+
+ghost use Rattle.std.specs.Prelude.{◌≡◌, ◌-◌, ◌^◌, ◌<◌, ◌≤◌, IfOk, IfErr, length};
+ghost use Rattle.std.specs.List.{All};
+ghost use Rattle.scald_base.specs.declared.refusal.Refusal.{Refusal};
+ghost use Rattle.drawing_tree.specs.Tree.{drawing_of};
+ghost use Rattle.drawing_tree.specs.WellFormed.{IsWellFormed};
+ghost use Rattle.drawing_grammar.specs.CanonicalDraws.{TextDraws};
+ghost use Rattle.drawing_grammar.specs.Refused.{IsRefusal};
+ghost use Rattle.case_analysis.specs.Case.{NetsExist};
+ghost use Rattle.drawn_circuit.specs.Drawn.{DrawsCircuit, IsTextRefused};
+
+use case_analysis::check_cases;
+use drawing_reader::read_drawing;
+use drawing_tree::Drawing;
+use flat_circuit::{CaseList, Circuit};
+use macro_expander::expand;
+use scald_base::Stop;
+use scald_lex::tokens;
+use std::alloc::Global;
+
+/// The drawing that a text of fewer than 4,294,967,295 bytes draws; or `Refused`, where it draws none,
+/// or `NoMemory`, where memory runs out.
+pub fn read_text(alloc: Global, text: &[u8]) -> Result<Drawing, Stop>
+    requires { length text.now < 2 ^ 32 - 1 }
+    ensures drawn { IfOk result (λ drawing. TextDraws text.now (drawing_of drawing)) }
+    ensures formed { IfOk result (λ drawing. IsWellFormed (drawing_of drawing)) }
+    ensures refused { IfErr result (λ stop. (r : Refusal) → stop ≡ Stop.Refused r → IsRefusal text.now r) }
+{
+    let tokens = match tokens(alloc, text) {
+        Ok(tokens) => tokens,
+        Err(stop) => return Err(stop),
+    };
+    match read_drawing(alloc, text, &tokens) {
+        Ok(drawing) => Ok(drawing),
+        Err(stop) => Err(stop),
+    }
+}
+
+/// A circuit and the cases in which it is evaluated.
+#[derive(Drop)]
+pub struct Drawn {
+    pub circuit: Circuit,
+    pub cases: CaseList,
+}
+
+/// The circuit that a text of fewer than 4,294,967,295 bytes draws, with its cases; or `Refused`, where
+/// the text draws no drawing, or that has no circuit or has a case that is refused; or `NoMemory`, where
+/// memory runs out.
+pub fn read_circuit(alloc: Global, text: &[u8]) -> Result<Drawn, Stop>
+    requires { length text.now < 2 ^ 32 - 1 }
+    ensures drawn { IfOk result (λ drawn. DrawsCircuit text.now drawn.circuit drawn.cases) }
+    ensures exist { IfOk result (λ drawn. All (NetsExist drawn.circuit) drawn.cases) }
+    ensures few { IfOk result (λ drawn. length drawn.cases ≤ 256) }
+    ensures refused { IfErr result (λ stop. (r : Refusal) → stop ≡ Stop.Refused r → IsTextRefused text.now r) }
+{
+    let drawing = match read_text(alloc, text) {
+        Ok(drawing) => drawing,
+        Err(stop) => return Err(stop),
+    };
+    let circuit = match expand(alloc, &drawing) {
+        Ok(circuit) => circuit,
+        Err(stop) => return Err(stop),
+    };
+    circuit.known();
+    match check_cases(alloc, &circuit, &drawing) {
+        Ok(cases) => Ok(Drawn { circuit, cases }),
+        Err(stop) => Err(stop),
+    }
+}

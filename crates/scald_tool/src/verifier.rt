@@ -1,0 +1,50 @@
+//! The verifier as a program: what its main call reads and answers.
+
+use crate::answer::answer;
+use crate::words::{Command, read_words};
+use scald_base::{CallEnd, NoMemory, Outcome, Program, Reply, Words};
+use std::alloc::Global;
+
+/// The most bytes of a text.
+const MOST_BYTES: u32 = 4_194_304;
+
+/// The verifier.
+pub struct Verifier;
+
+impl Program for Verifier {
+    ghost use Rattle.scald_tool.specs.Answer.{verifier};
+    ghost use Rattle.scald_tool.specs.Kept.{IsPromised};
+    ghost use Rattle.scald_tool.specs.Words.{IsWithin};
+
+    type Command = Command;
+
+    type Outcome = Outcome;
+
+    ghost meaning = { verifier };
+
+    ghost within = { IsWithin };
+
+    ghost promised = { IsPromised };
+
+    fn read_words(words: &Words) -> Result<Command, u32> {
+        read_words(words)
+    }
+
+    fn reads(command: Command) -> bool {
+        command.reads()
+    }
+
+    fn most_bytes(_command: Command) -> u32 {
+        MOST_BYTES
+    }
+
+    fn reply(alloc: Global, command: Command, text: &[u8]) -> Result<Reply<Outcome>, NoMemory> {
+        answer(alloc, command, text)
+    }
+
+    fn ended(end: CallEnd) -> Outcome {
+        Outcome::ended(end)
+    }
+
+    fn laws() {}
+}

@@ -1,0 +1,9 @@
+pub mod Counts
+pub mod OneRest
+pub mod Headline
+pub mod Rest
+pub mod Cases
+pub mod Ends
+pub mod Drawn
+mod Examples
+mod Unbroken

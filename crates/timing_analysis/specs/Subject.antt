@@ -1,0 +1,19 @@
+-- What is evaluated: a circuit, its cases, and the classes in which its nets are evaluated.
+use Rattle.std.specs.Prelude.{◌≡◌, ℕ, ◌≤◌, List, length, Option, Some, None, ⊤}
+use Rattle.std.specs.List.{All}
+use Rattle.flat_circuit.specs.declared.case.CaseValue.{CaseValue}
+use Rattle.flat_circuit.specs.Circuit.{Circuit}
+use Rattle.class_table.specs.Stable.{IsStable}
+use Rattle.case_analysis.specs.Case.{NetsExist}
+use Rattle.timing_analysis.specs.declared.subject.Subject.{Subject}
+
+-- Where there are classes, each net has one, and nothing tells the nets of one class apart, in no case either.
+abbrev pub AreClasses : Circuit → List (List CaseValue) → Option (List ℕ) → Type 0
+AreClasses c cases (Some classes) = (length classes ≡ length c.nets) × IsStable c cases classes
+AreClasses c cases None = ⊤
+
+-- Its cases are few, their nets exist, and its classes are stable.
+pub record IsSubject (s : Subject) : Type 0 where
+  pub few : length s.cases ≤ 256
+  pub exist : All (NetsExist s.circuit) s.cases
+  pub classes : AreClasses s.circuit s.cases s.classes

@@ -1,0 +1,135 @@
+//! What is evaluated, and its rounds: by one net of each class where nothing tells the nets of a class
+//! apart, and else by each net.
+
+ghost use Rattle.std.specs.Prelude.{◌≡◌, ◌≤◌, ◌<◌, ◌+◌, ℕ, Bool, IfErr, IfOk, MatchResult, length};
+ghost use Rattle.std.specs.List.{All};
+ghost use Rattle.flat_circuit.specs.Instances.{outputs};
+ghost use Rattle.fixpoint_engine.specs.End.{EndsFor};
+ghost use Rattle.fixpoint_engine.specs.Loops.{HasNoLoop};
+ghost use Rattle.fixpoint_engine.specs.Settled.{FitWaves, waves_of};
+ghost use Rattle.case_analysis.specs.Base.{IsBase, PermitInputs, base_round};
+ghost use Rattle.case_analysis.specs.Case.{EndsInCone, HasCone, IsCase, IsCone, NetsExist, PermitCase, case_at, case_round};
+ghost use Rattle.timing_analysis.specs.Subject.{AreClasses, IsSubject};
+
+use case_analysis::{base, base_classes, case_at, case_classes, case_waves};
+use class_table::{ClassMap, classes, stable};
+use drawn_circuit::Drawn;
+use fixpoint_engine::{EngineEnd, Settled};
+use flat_circuit::{CaseList, Circuit};
+use scald_base::NoMemory;
+use std::alloc::Global;
+use step_values::Value;
+use wave_core::CyclicWave;
+
+/// A circuit and the cases in which it is evaluated, and the classes of its nets where they are stable.
+#[derive(Drop)]
+pub struct Subject {
+    pub circuit: Circuit,
+    pub cases: CaseList,
+    pub classes: Option<ClassMap>,
+}
+
+/// The classes of the nets of a circuit, where nothing tells the nets of one class apart.
+fn stable_classes(
+    alloc: Global,
+    circuit: &Circuit,
+    cases: &CaseList,
+) -> Result<Option<ClassMap>, NoMemory>
+    ensures { IfOk result (AreClasses circuit.now cases.now) }
+{
+    let classes = classes(alloc, circuit, cases)?;
+    if stable(circuit, cases, &classes) {
+        Ok(Some(classes))
+    } else {
+        Ok(None)
+    }
+}
+
+impl Subject {
+    /// A circuit with its cases, and its classes where they are stable. `NoMemory` comes where memory runs
+    /// out.
+    pub fn new(alloc: Global, drawn: Drawn) -> Result<Subject, NoMemory>
+        requires few { length drawn.cases ≤ 256 }
+        requires exist { All (NetsExist drawn.circuit) drawn.cases }
+        ensures circuit { IfOk result (λ subject. subject.circuit ≡ drawn.circuit) }
+        ensures cases { IfOk result (λ subject. subject.cases ≡ drawn.cases) }
+        ensures is { IfOk result IsSubject }
+    {
+        let Drawn { circuit, cases } = drawn;
+        let classes = stable_classes(alloc, &circuit, &cases)?;
+        Ok(Subject {
+            circuit,
+            cases,
+            classes,
+        })
+    }
+
+    /// The settled base of the circuit, or its end where it does not settle within so many rounds.
+    pub(crate) fn settled_base<W: CyclicWave<Item = Value>>(
+        &self,
+        alloc: Global,
+        limit: u32,
+    ) -> Result<Settled<W>, EngineEnd>
+        requires classes { AreClasses self.now.circuit self.now.cases self.now.classes }
+        ensures rest { IfOk result (λ s. IsBase self.now.circuit limit s.rounds (waves_of s.waves)) }
+        ensures within { IfOk result (λ s. s.rounds ≤ limit) }
+        ensures fit { IfOk result (λ s. FitWaves self.now.circuit s.waves) }
+        ensures sound { IfOk result (λ s. PermitInputs self.now.circuit s.rounds (waves_of s.waves)) }
+        ensures unsettled { IfErr result (EndsFor self.now.circuit.order (base_round self.now.circuit) limit) }
+        ensures loopless { HasNoLoop self.now.circuit → outputs self.now.circuit.instances ≤ limit →
+            MatchResult result (λ s. s.rounds ≤ outputs self.now.circuit.instances) (λ e. e ≡ EngineEnd.NoMemory) }
+    {
+        match &self.classes {
+            Some(classes) => base_classes(alloc, &self.circuit, &self.cases, classes, limit),
+            None => base(alloc, &self.circuit, limit),
+        }
+    }
+
+    /// The settled case with this number from 0, from the base of the circuit on, or its end where it does not
+    /// settle within so many rounds.
+    pub(crate) fn settled_case<W: CyclicWave<Item = Value>>(
+        &self,
+        alloc: Global,
+        base: &Settled<W>,
+        number: u32,
+        limit: u32,
+    ) -> Result<Settled<W>, EngineEnd>
+        requires classes { AreClasses self.now.circuit self.now.cases self.now.classes }
+        requires number { number < length self.now.cases }
+        requires exist { NetsExist self.now.circuit (case_at self.now.cases number) }
+        requires base { IsBase self.now.circuit base.now.rounds base.now.rounds (waves_of base.now.waves) }
+        requires fit { FitWaves self.now.circuit base.now.waves }
+        ensures rest { let case = case_at self.now.cases number in
+            let before = waves_of base.now.waves in
+            IfOk result (λ s. (cone : ℕ → Bool) → IsCone self.now.circuit case cone →
+            IsCase self.now.circuit case cone before limit s.rounds (waves_of s.waves)) }
+        ensures within { IfOk result (λ s. s.rounds ≤ limit) }
+        ensures fit { IfOk result (λ s. FitWaves self.now.circuit s.waves) }
+        ensures sound { IfOk result (λ s. PermitCase self.now.circuit
+            (case_at self.now.cases number) (base.now.rounds + s.rounds) (waves_of s.waves)) }
+        ensures unsettled { let case = case_at self.now.cases number in
+            let before = waves_of base.now.waves in
+            IfErr result (λ e. (cone : ℕ → Bool) → IsCone self.now.circuit case cone →
+            EndsFor self.now.circuit.order (case_round self.now.circuit case cone before) limit e) }
+        ensures cone { let case = case_at self.now.cases number in
+            MatchResult result (λ _. HasCone self.now.circuit case) (EndsInCone self.now.circuit case) }
+        ensures loopless { HasNoLoop self.now.circuit → outputs self.now.circuit.instances ≤ limit →
+            MatchResult result (λ s. s.rounds ≤ outputs self.now.circuit.instances) (λ e. e ≡ EngineEnd.NoMemory) }
+    {
+        match &self.classes {
+            Some(classes) => case_classes(
+                alloc,
+                &self.circuit,
+                &self.cases,
+                classes,
+                base,
+                number,
+                limit,
+            ),
+            None => {
+                let case = case_at(&self.cases, number);
+                case_waves(alloc, &self.circuit, base, case, limit)
+            }
+        }
+    }
+}
