@@ -2,6 +2,7 @@
 
 ghost use Rattle.std.specs.Prelude.{◌≤◌};
 
+use crate::rows::{expect, expect_bytes, expect_eq};
 use crate::texts::words_of;
 use scald_base::{
     Bytes, Calls, CountSink, MemorySink, MemorySource, NoMemory, Place, Refusal, RefusalKind,
@@ -10,7 +11,6 @@ use scald_base::{
 use scald_tool::{Outcome, tool_main};
 use std::alloc::Global;
 use std::process::Abort;
-use std::test::Fail;
 
 const FIRST: &[u8] =
     b"SCALD 1;\nCLOCK 8 x 50;\nDRAWING ROW;\nc1 : SETUP_HOLD_CHK {SETUP=20, HOLD=10} (\"CK .P2-3\", \"D .S1-4\");\nEND;\n";
@@ -51,11 +51,12 @@ fn calls_of(alloc: Global, failing: Option<u32>) -> Result<Calls, NoMemory> {
 /// The call to these words over the first drawing and these devices ends so, and writes a front of its report.
 fn ends(
     rt: &(impl Abort + AllocGlobal),
+    name: &str,
     words: &[&[u8]],
     from: Device,
     to: Device,
     wanted: End,
-) -> Result<(), Fail>
+) -> Result<(), NoMemory>
     requires from { 1 ≤ from.piece }
     requires to { 1 ≤ to.piece }
 {
@@ -65,15 +66,15 @@ fn ends(
     let mut source = MemorySource::new(text, from.piece, calls_of(alloc, from.failing)?);
     let mut sink = MemorySink::new(alloc, to.room, to.piece, calls_of(alloc, to.failing)?)?;
     let outcome = tool_main(alloc, &words, &mut source, &mut sink);
-    assert_eq!(rt; outcome, wanted.outcome);
-    assert_eq!(rt; source.left().len(), wanted.left);
-    assert_eq!(rt; sink.taken().len(), wanted.taken);
-    assert!(rt; FIRST_REPORT.starts_with(sink.taken()));
+    expect_eq(rt, name, &outcome, &wanted.outcome);
+    expect_eq(rt, name, &source.left().len(), &wanted.left);
+    expect_eq(rt, name, &sink.taken().len(), &wanted.taken);
+    expect(rt, name, FIRST_REPORT.starts_with(sink.taken()));
     Ok(())
 }
 
 #[test]
-fn devices(rt: HostRuntime) -> Result<(), Fail> {
+fn devices(rt: HostRuntime) -> Result<(), NoMemory> {
     // 106 bytes are six pieces of 16 and a shorter one, and the eighth call finds the end.
     for call in 0..8 {
         let from = Device {
@@ -86,7 +87,7 @@ fn devices(rt: HostRuntime) -> Result<(), Fail> {
             left: 106_usize.saturating_sub(16 * call as usize),
             taken: 0,
         };
-        ends(&rt, &[b"verify"], from, SURE, end)?;
+        ends(&rt, "a read fails", &[b"verify"], from, SURE, end)?;
     }
     for call in 0..5 {
         let to = Device {
@@ -99,68 +100,95 @@ fn devices(rt: HostRuntime) -> Result<(), Fail> {
             left: 0,
             taken: 32 * call as usize,
         };
-        ends(&rt, &[b"verify"], SURE, to, end)?;
+        ends(&rt, "a write fails", &[b"verify"], SURE, to, end)?;
+    }
+    Ok(())
+}
+
+/// The call over a sink of so much room ends so.
+fn into_room(
+    rt: &(impl Abort + AllocGlobal),
+    name: &str,
+    room: u32,
+    outcome: Outcome,
+    taken: usize,
+) -> Result<(), NoMemory> {
+    let to = Device {
+        piece: 32,
+        failing: None,
+        room,
+    };
+    let end = End {
+        outcome,
+        left: 0,
+        taken,
+    };
+    ends(rt, name, &[b"verify"], SURE, to, end)
+}
+
+#[test]
+fn a_sink_with_room(rt: HostRuntime) -> Result<(), NoMemory> {
+    into_room(&rt, "room enough", 4096, Outcome::Clean, 157)?;
+    into_room(&rt, "too little room", 100, Outcome::WriteFault, 100)
+}
+
+/// The name of a row, unrecognised words, and the number of the first with which no form continues.
+type WordRow = (&'static str, &'static [&'static [u8]], u32);
+
+const WORDS: [WordRow; 13] = [
+    ("no word", &[], 0),
+    ("no such form", &[b"check"], 0),
+    ("no such form either", &[b"upgrade"], 0),
+    ("no such mode", &[b"verify", b"twice"], 1),
+    ("no round", &[b"verify", b"rounds=0"], 1),
+    ("a zero before the rounds", &[b"verify", b"rounds=05"], 1),
+    (
+        "a mode after the rounds",
+        &[b"verify", b"rounds=5", b"faults"],
+        2,
+    ),
+    ("two modes", &[b"verify", b"waves", b"faults"], 2),
+    (
+        "two modes around the rounds",
+        &[b"verify", b"waves", b"rounds=5", b"faults"],
+        3,
+    ),
+    ("a mode of another form", &[b"format", b"waves"], 1),
+    ("no sections", &[b"bench"], 1),
+    ("too many sections", &[b"bench", b"201"], 1),
+    ("a word past the last", &[b"bench", b"3", b"3"], 2),
+];
+
+/// Nothing is read for a row's words, and nothing is written.
+fn has_no_form(
+    rt: &(impl Abort + AllocGlobal),
+    (name, words, number): WordRow,
+) -> Result<(), NoMemory> {
+    let end = End {
+        outcome: Outcome::BadWords(number),
+        left: 106,
+        taken: 0,
+    };
+    ends(rt, name, words, SURE, SURE, end)
+}
+
+#[test]
+fn words_of_no_form(rt: HostRuntime) -> Result<(), NoMemory> {
+    for row in &WORDS {
+        has_no_form(&rt, *row)?;
     }
     Ok(())
 }
 
 #[test]
-fn a_sink_with_room(rt: HostRuntime) -> Result<(), Fail> {
-    for (room, outcome, taken) in [(4096, Outcome::Clean, 157), (100, Outcome::WriteFault, 100)] {
-        let to = Device {
-            piece: 32,
-            failing: None,
-            room,
-        };
-        let end = End {
-            outcome,
-            left: 0,
-            taken,
-        };
-        ends(&rt, &[b"verify"], SURE, to, end)?;
-    }
-    Ok(())
-}
-
-/// Unrecognised words, each with the number of the first with which no form continues: nothing is read for
-/// them, and nothing is written.
-#[test]
-fn words_of_no_form(rt: HostRuntime) -> Result<(), Fail> {
-    let table: [(&[&[u8]], u32); 13] = [
-        (&[], 0),
-        (&[b"check"], 0),
-        (&[b"upgrade"], 0),
-        (&[b"verify", b"twice"], 1),
-        (&[b"verify", b"rounds=0"], 1),
-        (&[b"verify", b"rounds=05"], 1),
-        (&[b"verify", b"rounds=5", b"faults"], 2),
-        (&[b"verify", b"waves", b"faults"], 2),
-        (&[b"verify", b"waves", b"rounds=5", b"faults"], 3),
-        (&[b"format", b"waves"], 1),
-        (&[b"bench"], 1),
-        (&[b"bench", b"201"], 1),
-        (&[b"bench", b"3", b"3"], 2),
-    ];
-    for (words, number) in table {
-        let end = End {
-            outcome: Outcome::BadWords(number),
-            left: 106,
-            taken: 0,
-        };
-        ends(&rt, words, SURE, SURE, end)?;
-    }
-    Ok(())
-}
-
-#[test]
-fn devices_that_never_fail(rt: HostRuntime) -> Result<(), Fail> {
+fn devices_that_never_fail(rt: HostRuntime) -> Result<(), NoMemory> {
     let words = words_of(rt.alloc(), &[b"verify"])?;
     let mut source = SureSource::new(Bytes::of(rt.alloc(), FIRST)?);
     let mut sink = CountSink::new();
     let outcome = tool_main(rt.alloc(), &words, &mut source, &mut sink);
-    assert_eq!(rt; outcome, Outcome::Clean);
-    assert_eq!(rt; sink.length(), 157);
-    assert_eq!(rt; source.left().len(), 0);
+    expect_eq(&rt, "the outcome", &outcome, &Outcome::Clean);
+    expect_eq(&rt, "the bytes written", &sink.length(), &157);
+    expect_eq(&rt, "the bytes left", &source.left().len(), &0);
     Ok(())
 }
 
@@ -176,28 +204,44 @@ fn spaces(alloc: Global, pieces: usize, more: usize) -> Result<Bytes, NoMemory> 
     Ok(text)
 }
 
+/// What the call to this word over so many more bytes than the most answers and writes.
+fn is_at_limit(
+    rt: &(impl Abort + AllocGlobal),
+    name: &str,
+    word: &[u8],
+    more: usize,
+    wanted: Outcome,
+    bytes: &[u8],
+) -> Result<(), NoMemory> {
+    let alloc = rt.alloc();
+    let words = words_of(alloc, &[word])?;
+    let mut source = SureSource::new(spaces(alloc, 1024, more)?);
+    let mut sink = MemorySink::new(alloc, 4096, 4096, Calls::new(alloc))?;
+    let outcome = tool_main(alloc, &words, &mut source, &mut sink);
+    expect_eq(rt, name, &outcome, &wanted);
+    expect_bytes(rt, name, sink.taken(), bytes);
+    expect_eq(rt, name, &source.left().len(), &0);
+    Ok(())
+}
+
 /// A text of the most bytes, and texts of one more, which is read and not looked at.
 #[test]
-fn bytes_at_the_limit(rt: HostRuntime) -> Result<(), Fail> {
+fn bytes_at_the_limit(rt: HostRuntime) -> Result<(), NoMemory> {
     let place = Place {
         line: 1,
         col: 4_194_305,
     };
     let kind = RefusalKind::Syntax;
     let refused = Outcome::Refused(Refusal { kind, place });
-    let table: [(&[u8], usize, Outcome, &[u8]); 3] = [
-        (b"verify", 0, refused, b"REFUSED 3 Syntax 1:4194305\n"),
-        (b"verify", 1, Outcome::TooLong, b""),
-        (b"format", 1, Outcome::TooLong, b""),
-    ];
-    for (word, more, wanted, bytes) in table {
-        let words = words_of(rt.alloc(), &[word])?;
-        let mut source = SureSource::new(spaces(rt.alloc(), 1024, more)?);
-        let mut sink = MemorySink::new(rt.alloc(), 4096, 4096, Calls::new(rt.alloc()))?;
-        let outcome = tool_main(rt.alloc(), &words, &mut source, &mut sink);
-        assert_eq!(rt; outcome, wanted);
-        assert_eq!(rt; sink.taken(), bytes);
-        assert_eq!(rt; source.left().len(), 0);
-    }
-    Ok(())
+    let line = b"REFUSED 3 Syntax 1:4194305\n";
+    is_at_limit(&rt, "the most bytes", b"verify", 0, refused, line)?;
+    is_at_limit(&rt, "one more", b"verify", 1, Outcome::TooLong, b"")?;
+    is_at_limit(
+        &rt,
+        "one more, to format",
+        b"format",
+        1,
+        Outcome::TooLong,
+        b"",
+    )
 }

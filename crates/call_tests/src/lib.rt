@@ -5,7 +5,9 @@
 //! The crate has tests alone, and nothing stands on it.
 #![tactic(auto)]
 
-// how a row is run
+// how a row is run and judged
+#[cfg(test)]
+mod rows;
 #[cfg(test)]
 mod texts;
 
@@ -14,6 +16,8 @@ mod texts;
 mod answers;
 #[cfg(test)]
 mod calls;
+#[cfg(test)]
+mod fault_reports;
 #[cfg(test)]
 mod refusals;
 #[cfg(test)]

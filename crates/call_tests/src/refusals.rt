@@ -1,10 +1,9 @@
 //! Each kind of refusal: a text that has it, and its line.
 
 use crate::texts::{END, FRAME, HEAD, answers};
-use scald_base::{Place, Refusal, RefusalKind};
+use scald_base::{NoMemory, Place, Refusal, RefusalKind};
 use scald_tool::Outcome;
 use std::process::Abort;
-use std::test::Fail;
 
 /// The line that is written, the kind of the refusal, the line and the column of its place, and the pieces of
 /// a text that has it.
@@ -245,26 +244,29 @@ a1 : AND [0:0] ("CK .P2-3", "X") -> ("Y");"#,
 ];
 
 /// The text of a row is refused so to these words.
-fn is_refused(rt: &(impl Abort + AllocGlobal), word: &[u8], row: Row) -> Result<(), Fail> {
-    let (bytes, kind, (line, col), text) = row;
+fn is_refused(
+    rt: &(impl Abort + AllocGlobal),
+    word: &[u8],
+    (bytes, kind, (line, col), text): Row,
+) -> Result<(), NoMemory> {
     let place = Place { line, col };
     let outcome = Outcome::Refused(Refusal { kind, place });
     answers(rt, bytes, &[word], text, outcome, bytes.as_bytes())
 }
 
 #[test]
-fn refused_by_both_forms(rt: HostRuntime) -> Result<(), Fail> {
-    for row in EARLY {
-        is_refused(&rt, b"verify", row)?;
-        is_refused(&rt, b"format", row)?;
+fn refused_by_both_forms(rt: HostRuntime) -> Result<(), NoMemory> {
+    for row in &EARLY {
+        is_refused(&rt, b"verify", *row)?;
+        is_refused(&rt, b"format", *row)?;
     }
     Ok(())
 }
 
 #[test]
-fn refused_by_verify(rt: HostRuntime) -> Result<(), Fail> {
-    for row in LATE {
-        is_refused(&rt, b"verify", row)?;
+fn refused_by_verify(rt: HostRuntime) -> Result<(), NoMemory> {
+    for row in &LATE {
+        is_refused(&rt, b"verify", *row)?;
     }
     Ok(())
 }

@@ -1,11 +1,11 @@
 //! Reports by waves of slots and by waves of runs, and texts that are cut short.
 
+use crate::rows::{expect, expect_bytes, expect_eq};
 use listing::Mode;
 use run_wave::RunWave;
 use scald_base::{Bytes, RefusalKind};
 use scald_tool::{Outcome, verify_text};
 use std::process::Abort;
-use std::test::Fail;
 use step_values::Value;
 use wave_core::SlotWave;
 
@@ -47,19 +47,27 @@ const UNIT: Row = (
     b"SCALD 1 PERIOD 400\nNETS 115 INSTANCES 73 CHECKS 37\nCASE 0 BASE 3 ROUNDS 0 T 564\nCLEAN\n",
 );
 
+/// Looks at the report of a row by each kind of waves.
+fn is_reported(rt: &(impl Abort + AllocGlobal), name: &str, (text, mode, report): Row) {
+    assert!(rt; text.len() < 1_000_000);
+    let alloc = rt.alloc();
+    let mut slots = Bytes::new(alloc);
+    let by_slots = verify_text::<SlotWave<Value>>(alloc, text, mode, None, &mut slots);
+    expect_eq(rt, name, &by_slots, &Outcome::Clean);
+    expect_bytes(rt, name, slots.as_slice(), report);
+    let mut runs = Bytes::new(alloc);
+    let by_runs = verify_text::<RunWave<Value>>(alloc, text, mode, None, &mut runs);
+    expect_eq(rt, name, &by_runs, &Outcome::Clean);
+    expect_bytes(rt, name, runs.as_slice(), report);
+}
+
 #[test]
-fn waves_of_slots_and_of_runs(rt: HostRuntime) -> Result<(), Fail> {
-    for (text, mode, report) in [PULSE, MOVERS, CHOICES, LATE, UNIT] {
-        let mut slots = Bytes::new(rt.alloc());
-        let mut runs = Bytes::new(rt.alloc());
-        let by_slots = verify_text::<SlotWave<Value>>(rt.alloc(), text, mode, None, &mut slots);
-        let by_runs = verify_text::<RunWave<Value>>(rt.alloc(), text, mode, None, &mut runs);
-        assert_eq!(rt; by_slots, Outcome::Clean);
-        assert_eq!(rt; by_runs, Outcome::Clean);
-        assert_eq!(rt; slots.as_slice(), report);
-        assert_eq!(rt; runs.as_slice(), report);
-    }
-    Ok(())
+fn waves_of_slots_and_of_runs(rt: HostRuntime) {
+    is_reported(&rt, "a pulse", PULSE);
+    is_reported(&rt, "two movers", MOVERS);
+    is_reported(&rt, "two choices", CHOICES);
+    is_reported(&rt, "late", LATE);
+    is_reported(&rt, "a unit", UNIT);
 }
 
 /// A text that ends too early is refused for its last token or for its end.
@@ -72,26 +80,27 @@ fn is_cut(outcome: &Outcome) -> bool {
     }
 }
 
+/// Each front of the text that lacks its last two bytes, or more, is cut.
+fn fronts_are_cut(rt: &(impl Abort + AllocGlobal), text: &[u8], mode: Mode, bytes: &mut Bytes) {
+    assert!(rt; text.len() < 1_000_000);
+    // they are the semicolon of END and the end of the line
+    for length in 0..text.len().saturating_sub(1) {
+        let front = &text[..length];
+        let outcome = verify_text::<RunWave<Value>>(rt.alloc(), front, mode, None, bytes);
+        expect(rt, "a front", is_cut(&outcome));
+    }
+}
+
 #[test]
-fn every_front_of_a_text(rt: HostRuntime) -> Result<(), Fail> {
+fn every_front_of_a_text(rt: HostRuntime) {
     let (text, mode, report) = UNIT;
     let mut bytes = Bytes::new(rt.alloc());
-    // Its last two bytes are the semicolon of END and the end of the line.
-    for length in 0..text.len().saturating_sub(1) {
-        let outcome = verify_text::<RunWave<Value>>(
-            rt.alloc(),
-            &text[..length],
-            mode,
-            None,
-            &mut bytes,
-        );
-        assert!(rt; is_cut(&outcome));
-    }
+    fronts_are_cut(&rt, text, mode, &mut bytes);
     // what is there stands
     let before = bytes.len();
     let whole = &text[..text.len().saturating_sub(1)];
     let outcome = verify_text::<RunWave<Value>>(rt.alloc(), whole, mode, None, &mut bytes);
-    assert_eq!(rt; outcome, Outcome::Clean);
-    assert_eq!(rt; &bytes.as_slice()[before..], report);
-    Ok(())
+    expect_eq(&rt, "the whole", &outcome, &Outcome::Clean);
+    let last = bytes.as_slice().get(before..).unwrap_or(b"");
+    expect_bytes(&rt, "the whole", last, report);
 }

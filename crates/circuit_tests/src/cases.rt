@@ -4,6 +4,7 @@ ghost use Rattle.std.specs.List.{All};
 ghost use Rattle.case_analysis.specs.Listed.{IsListed};
 
 use crate::drawings::{Drawn, HEAD, read_circuit};
+use crate::rows::expect_eq;
 use case_analysis::{base, case_waves, reach, tick};
 use fixpoint_engine::EngineEnd;
 use std::alloc::Global;
@@ -22,7 +23,7 @@ fn first_case(alloc: Global, drawn: &Drawn) -> Result<Option<(u32, u64, Option<V
         Some(case) => {
             let before = base::<SlotWave<Value>>(alloc, c, 9)?;
             let settled = case_waves(alloc, c, &before, case, 9)?;
-            let last = settled.waves.get(2).map(|wave| wave.wave.at(0));
+            let last = settled.waves.get(2).map(|wave| wave.wave().at(0));
             let from = tick(reach(c), before.rounds, settled.rounds);
             Ok(Some((settled.rounds, from, last)))
         }
@@ -37,9 +38,12 @@ END;
 CASE "X"<0>=1;
 "#;
     let drawn = read_circuit(rt.alloc(), &[HEAD, lines])?;
-    assert_eq!(rt;
-        first_case(rt.alloc(), &drawn),
-        Ok(Some((2, 10, Some(Value::One))))
+    let came = first_case(rt.alloc(), &drawn);
+    expect_eq(
+        &rt,
+        "X<0> is 1",
+        &came,
+        &Ok(Some((2, 10, Some(Value::One)))),
     );
     Ok(())
 }

@@ -1,13 +1,18 @@
 //! How circuits are built and read.
 
 use crate::drawings::{HEAD, read_circuit};
+use crate::rows::{expect, expect_eq};
 use flat_circuit::Circuit;
 use scald_base::{Place, Refusal, RefusalKind, Stop};
-use std::test::Fail;
+use std::process::Abort;
 
-/// Two buffers of a drawing, on lines 4 and 5, its refusal, and the line at which it stands.
-const REFUSALS: [(&[u8], RefusalKind, u32); 2] = [
+/// The name of a row, two buffers of a drawing, on lines 4 and 5, its refusal, and the line at which
+/// it stands.
+type RefusalRow = (&'static str, &'static [u8], RefusalKind, u32);
+
+const REFUSALS: [RefusalRow; 2] = [
     (
+        "fed by a loop",
         br#"DRAWING FED_BY_A_LOOP;
 b1 : BUF [0:3] ("X") -> ("A");
 b2 : BUF [0:3] ("X") -> ("X");
@@ -17,6 +22,7 @@ END;
         4,
     ),
     (
+        "driven twice",
         br#"DRAWING DRIVEN_TWICE;
 b1 : BUF [0:3] ("X") -> ("X");
 b2 : BUF [0:3] ("A") -> ("X");
@@ -27,14 +33,22 @@ END;
     ),
 ];
 
+/// Looks at the refusal of a row.
+fn is_refused(rt: &(impl Abort + AllocGlobal), (name, lines, kind, line): RefusalRow) {
+    let place = Place { line, col: 1 };
+    let outcome = read_circuit(rt.alloc(), &[HEAD, lines]).err();
+    expect_eq(
+        rt,
+        name,
+        &outcome,
+        &Some(Stop::Refused(Refusal { kind, place })),
+    );
+}
+
 #[test]
 fn refusals(rt: HostRuntime) {
-    for (lines, kind, line) in REFUSALS {
-        let place = Place { line, col: 1 };
-        let outcome = read_circuit(rt.alloc(), &[HEAD, lines]).map(|drawn| drawn
-            .circuit
-            .net_count());
-        assert_eq!(rt; outcome, Err(Stop::Refused(Refusal { kind, place })));
+    for row in &REFUSALS {
+        is_refused(&rt, *row);
     }
 }
 
@@ -50,13 +64,13 @@ fn is_chain(circuit: &Circuit) -> bool {
 }
 
 #[test]
-fn a_chain(rt: HostRuntime) -> Result<(), Fail> {
+fn a_chain(rt: HostRuntime) -> Result<(), Stop> {
     let lines = br#"DRAWING CHAIN;
 b1 : BUF [1:3] ("Y") -> ("X");
 b2 : BUF [1:3] ("X") -> ("A");
 END;
 "#;
     let drawn = read_circuit(rt.alloc(), &[HEAD, lines])?;
-    assert!(rt; is_chain(&drawn.circuit));
+    expect(&rt, "a chain", is_chain(&drawn.circuit));
     Ok(())
 }

@@ -2,9 +2,11 @@
 //! classes of whole drawings.
 
 use crate::drawings::{Drawn, HEAD, read_circuit};
+use crate::rows::expect_eq;
 use class_table::{ClassMap, classes, stable};
 use scald_base::{NoMemory, Stop};
 use std::alloc::Global;
+use std::process::Abort;
 
 /// Two nets that nothing drives and two that gates drive, numbered by their bits, and the first of the gates.
 const FIRST: &[u8] = br#"WIRE 0:2;
@@ -192,28 +194,44 @@ fn are_made(alloc: Global, pieces: &[&[u8]], numbers: &[u32]) -> Result<bool, St
     Ok(made.as_slice() == numbers && are_stable(&drawn, &made))
 }
 
+/// Looks at whether the classes of a row are stable.
+fn is_stable(rt: &(impl Abort + AllocGlobal), (name, second, case, numbers, want): StableRow) {
+    let pieces = [HEAD, FIRST, second, END, case];
+    let outcome = are_stable_by(rt.alloc(), &pieces, &numbers);
+    expect_eq(rt, name, &outcome, &Ok(want));
+}
+
+/// Looks at whether the classes of a whole drawing are stable.
+fn is_drawn_stable(rt: &(impl Abort + AllocGlobal), (name, drawing, numbers, want): DrawingRow) {
+    let outcome = are_stable_by(rt.alloc(), &[HEAD, drawing], numbers);
+    expect_eq(rt, name, &outcome, &Ok(want));
+}
+
 #[test]
 fn stable_classes(rt: HostRuntime) {
-    for rows in [GATES.as_slice(), NUMBERS.as_slice()] {
-        for (name, second, case, numbers, want) in rows {
-            let pieces = [HEAD, FIRST, second, END, case];
-            let outcome = are_stable_by(rt.alloc(), &pieces, numbers);
-            assert_eq!(rt; outcome, Ok(*want), "{name}");
-        }
+    for row in &GATES {
+        is_stable(&rt, *row);
     }
-    for (name, drawing, numbers, want) in BUFFERS {
-        let outcome = are_stable_by(rt.alloc(), &[HEAD, drawing], numbers);
-        assert_eq!(rt; outcome, Ok(want), "{name}");
+    for row in &NUMBERS {
+        is_stable(&rt, *row);
     }
+    for row in &BUFFERS {
+        is_drawn_stable(&rt, *row);
+    }
+}
+
+/// Looks at the fewest classes of a row.
+fn is_fewest(rt: &(impl Abort + AllocGlobal), (name, second, case, numbers): FewestRow) {
+    let pieces = [HEAD, FIRST, second, END, case];
+    let outcome = are_made(rt.alloc(), &pieces, &numbers);
+    expect_eq(rt, name, &outcome, &Ok(true));
 }
 
 #[test]
 fn the_fewest_classes(rt: HostRuntime) {
-    for (name, second, case, numbers) in FEWEST {
-        let pieces = [HEAD, FIRST, second, END, case];
-        let outcome = are_made(rt.alloc(), &pieces, &numbers);
-        assert_eq!(rt; outcome, Ok(true), "{name}");
+    for row in &FEWEST {
+        is_fewest(&rt, *row);
     }
     let outcome = are_made(rt.alloc(), &[HEAD, SECTIONS], &GROUPS);
-    assert_eq!(rt; outcome, Ok(true), "three sections");
+    expect_eq(&rt, "three sections", &outcome, &Ok(true));
 }

@@ -1,8 +1,7 @@
 //! Circuits of drawings, and waves that fit them.
 
-ghost use Rattle.std.specs.Prelude.{◌≡◌, ◌==◌, IfOk, IsTrue, length, map};
+ghost use Rattle.std.specs.Prelude.{◌≡◌, ◌==◌, IfOk, IsTrue, length};
 ghost use Rattle.std.specs.List.{All, list_all};
-ghost use Rattle.skew_algebra.specs.Wave.{skewed};
 ghost use Rattle.fixpoint_engine.specs.Settled.{FitWaves};
 ghost use Rattle.case_analysis.specs.Listed.{IsListed};
 
@@ -54,14 +53,14 @@ pub fn read_circuit(alloc: Global, pieces: &[&[u8]]) -> Result<Drawn, Stop>
 
 /// Whether all waves have this period.
 fn have_period<W: CyclicWave<Item = Value>>(waves: &[Skewed<W>], period: u16) -> bool
-    ensures { result ≡ list_all (λ s. length (W.cells s.wave) == period) waves.now }
+    ensures { result ≡ list_all (λ s. length s.cells == period) waves.now }
 {
-    waves.iter().all(|s| s.wave.period() == period)
+    waves.iter().all(|s| s.period() == period)
 }
 
 /// Whether there is one wave for each net, over the circuit's period.
 pub fn are_fit<W: CyclicWave<Item = Value>>(c: &Circuit, waves: &Waves<W>) -> bool
-    ensures { IsTrue result → FitWaves c.now (map (λ s. skewed (W.cells s.wave) s.skew) waves.now) }
+    ensures { IsTrue result → FitWaves c.now waves.now }
 {
     let period = c.header().period();
     waves.len() == c.net_count() as usize && have_period(waves.as_slice(), period)

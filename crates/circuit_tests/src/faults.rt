@@ -1,17 +1,18 @@
 //! That the public calls of the checks give answers where there is memory. What the answers are the contracts
 //! say.
 
-ghost use Rattle.std.specs.Prelude.{map};
-ghost use Rattle.skew_algebra.specs.Wave.{skewed};
 ghost use Rattle.fixpoint_engine.specs.Settled.{FitWaves};
 
 use crate::drawings::{HEAD, read_circuit};
+use crate::rows::expect_eq;
 use case_analysis::base;
 use fixpoint_engine::Waves;
 use flat_circuit::{Circuit, Fault, Kind, PointKind};
 use point_check::{check_points, point_fault};
 use pulse_check::{check_pulses, width_fault};
+use scald_base::NoMemory;
 use std::alloc::Global;
+use std::process::Abort;
 use std::test::Fail;
 use step_values::Value;
 use wave_core::{CyclicWave, SlotWave};
@@ -32,7 +33,7 @@ fn point_with<W: CyclicWave<Item = Value>>(
     setup: u16,
     hold: u16,
 ) -> Option<Fault>
-    requires { FitWaves c.now (map (λ s. skewed (W.cells s.wave) s.skew) waves.now) }
+    requires { FitWaves c.now waves.now }
 {
     if setup > 200 || hold > 200 || c.header().period() < 400 {
         return None;
@@ -50,7 +51,7 @@ fn width_with<W: CyclicWave<Item = Value>>(
     waves: &Waves<W>,
     width: u16,
 ) -> Option<Fault>
-    requires { FitWaves c.now (map (λ s. skewed (W.cells s.wave) s.skew) waves.now) }
+    requires { FitWaves c.now waves.now }
 {
     if width > c.header().period() {
         return None;
@@ -82,31 +83,58 @@ fn pulse(high: bool, from: u16, width: u16) -> Option<Fault> {
     })
 }
 
+/// Looks at the faults that the checkers find with their own limits.
+fn expect_found<W: CyclicWave<Item = Value>>(
+    rt: &(impl Abort + AllocGlobal),
+    c: &Circuit,
+    waves: &Waves<W>,
+) -> Result<(), NoMemory>
+    requires { FitWaves c.now waves.now }
+{
+    let points = check_points(rt.alloc(), c, waves)?;
+    let setup = at_edge(PointKind::Setup, 100, b'R');
+    expect_eq(rt, "setup", &points.get(0).copied(), &setup);
+    let pulses = check_pulses(rt.alloc(), c, waves)?;
+    let high = pulse(true, 100, 50);
+    expect_eq(rt, "high pulse", &pulses.get(0).copied(), &high);
+    Ok(())
+}
+
+/// Looks at what they find with other limits.
+fn expect_other_limits<W: CyclicWave<Item = Value>>(
+    rt: &(impl Abort + AllocGlobal),
+    c: &Circuit,
+    waves: &Waves<W>,
+)
+    requires { FitWaves c.now waves.now }
+{
+    let alloc = rt.alloc();
+    let clean = point_with(alloc, c, waves, 0, 49);
+    expect_eq(rt, "a shorter hold", &clean, &None);
+    let held = point_with(alloc, c, waves, 0, 50);
+    expect_eq(
+        rt,
+        "a longer hold",
+        &held,
+        &at_edge(PointKind::Hold, 150, b'F'),
+    );
+    let wide = width_with(alloc, c, waves, 350);
+    expect_eq(rt, "a low pulse that is wide enough", &wide, &None);
+    let narrow = width_with(alloc, c, waves, 351);
+    expect_eq(
+        rt,
+        "a low pulse that is narrow",
+        &narrow,
+        &pulse(false, 150, 350),
+    );
+}
+
 #[test]
 fn answers(rt: HostRuntime) -> Result<(), Fail> {
-    let alloc = rt.alloc();
-    let drawn = read_circuit(alloc, &[HEAD, CHECKED])?;
+    let drawn = read_circuit(rt.alloc(), &[HEAD, CHECKED])?;
     let c = &drawn.circuit;
-    let waves = base::<SlotWave<Value>>(alloc, c, 0)?.waves;
-    let points = check_points(alloc, c, &waves)?;
-    let pulses = check_pulses(alloc, c, &waves)?;
-    let clean = point_with(alloc, c, &waves, 0, 49);
-    let held = point_with(alloc, c, &waves, 0, 50);
-    let wide = width_with(alloc, c, &waves, 350);
-    let narrow = width_with(alloc, c, &waves, 351);
-    assert_eq!(rt;
-        points.get(0).copied(),
-        at_edge(PointKind::Setup, 100, b'R'),
-        "setup"
-    );
-    assert_eq!(rt; pulses.get(0).copied(), pulse(true, 100, 50), "high pulse");
-    assert_eq!(rt; clean, None, "a shorter hold");
-    assert_eq!(rt; held, at_edge(PointKind::Hold, 150, b'F'), "a longer hold");
-    assert_eq!(rt; wide, None, "a low pulse that is wide enough");
-    assert_eq!(rt;
-        narrow,
-        pulse(false, 150, 350),
-        "a low pulse that is narrow"
-    );
+    let settled = base::<SlotWave<Value>>(rt.alloc(), c, 0)?;
+    expect_found(&rt, c, &settled.waves)?;
+    expect_other_limits(&rt, c, &settled.waves);
     Ok(())
 }

@@ -2,9 +2,13 @@
 //! waves, and the lines of a report. Each row has a drawing, and what comes of it as it was worked out on
 //! paper.
 //!
-//! The crate has tests alone, and nothing stands on it. `drawings` makes the circuit of a text and tells
-//! which waves fit it; the other modules have the rows.
+//! The crate has tests alone, and nothing stands on it. `rows` has how a row is judged; `drawings` makes the
+//! circuit of a text and tells which waves fit it; the other modules have the rows.
 #![tactic(auto)]
+
+// how a row is judged
+#[cfg(test)]
+mod rows;
 
 // circuits of texts, and waves that fit them
 #[cfg(test)]

@@ -5,6 +5,7 @@ ghost use Rattle.skew_algebra.specs.Wave.{skewed};
 ghost use Rattle.fixpoint_engine.specs.Settled.{FitWaves};
 
 use crate::drawings::{are_fit, read_circuit};
+use crate::rows::expect_bytes;
 use fixpoint_engine::{Settled, Waves};
 use flat_circuit::{Circuit, Fault, Faults};
 use listing::{
@@ -88,7 +89,7 @@ fn one_net_in_each_mode(rt: HostRuntime) -> Result<(), Fail> {
         CASE 3 BASE 4 ROUNDS 3 T 408\n\
         FAULT ASSERT u1/K<3> SLOT 5 VALUE R\n\
         FAULTS 3\n";
-    assert_eq!(rt; out.as_slice(), expected.as_slice());
+    expect_bytes(&rt, "a case in each mode", out.as_slice(), expected);
     Ok(())
 }
 
@@ -112,6 +113,6 @@ fn lines_by_themselves(rt: HostRuntime) -> Result<(), Fail> {
     let out = single_lines(rt.alloc(), &drawn.circuit)?;
     let expected = b"CLEAN\nREFUSED 18 ZeroLoop 4:1\nUNSETTLED u1/K<3> ROUND 1657\n\
         BENCH 3 NETS 1 INSTANCES 0 CHECKS 0 ROUNDS 2 T 189 FAULTS 4\n";
-    assert_eq!(rt; out.as_slice(), expected.as_slice());
+    expect_bytes(&rt, "lines by themselves", out.as_slice(), expected);
     Ok(())
 }

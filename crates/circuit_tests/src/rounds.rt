@@ -3,13 +3,14 @@
 ghost use Rattle.std.specs.Prelude.{◌≤◌};
 
 use crate::drawings::{Drawn, HEAD, read_circuit};
+use crate::rows::expect_eq;
 use case_analysis::{base, base_classes, default_limit, reach, tick};
 use class_table::{ClassMap, stable};
 use fixpoint_engine::{EngineEnd, Settled};
 use flat_circuit::Circuit;
-use scald_base::NoMemory;
+use scald_base::{NoMemory, Stop};
 use std::alloc::Global;
-use std::test::Fail;
+use std::process::Abort;
 use step_values::Value;
 use wave_core::SlotWave;
 
@@ -150,27 +151,38 @@ fn by_classes(alloc: Global, drawn: &Drawn, limit: u16) -> Result<Option<Rest>, 
     Ok(Some(numbers_of(c, &settled)))
 }
 
+/// Looks at the base of a row, net by net and by classes.
+fn ends_so(
+    rt: &(impl Abort + AllocGlobal),
+    (name, lines, limit, want, default): BaseRow,
+) -> Result<(), Stop> {
+    let drawn = read_circuit(rt.alloc(), &[HEAD, lines])?;
+    expect_eq(rt, name, &by_nets(rt.alloc(), &drawn.circuit, limit), &want);
+    expect_eq(
+        rt,
+        name,
+        &by_classes(rt.alloc(), &drawn, limit),
+        &want.map(Some),
+    );
+    expect_eq(rt, name, &default_limit(&drawn.circuit), &default);
+    Ok(())
+}
+
 #[test]
-fn bases(rt: HostRuntime) -> Result<(), Fail> {
-    let alloc = rt.alloc();
-    for (name, lines, limit, want, default) in BASES {
-        let drawn = read_circuit(alloc, &[HEAD, lines])?;
-        assert_eq!(rt; by_nets(alloc, &drawn.circuit, limit), want, "{name}");
-        assert_eq!(rt;
-            by_classes(alloc, &drawn, limit),
-            want.map(Some),
-            "{name}, by classes"
-        );
-        assert_eq!(rt; default_limit(&drawn.circuit), default, "{name}");
+fn bases(rt: HostRuntime) -> Result<(), Stop> {
+    for row in &BASES {
+        ends_so(&rt, *row)?;
     }
     Ok(())
 }
 
-/// A limit of rounds, and the number of the round that settles, or the net that still changes.
-type LimitRow = (u16, Result<u32, EngineEnd>);
+/// The name of a row, a limit of rounds, and the number of the round that settles, or the net that
+/// still changes.
+type LimitRow = (&'static str, u16, Result<u32, EngineEnd>);
 
 const LIMITS: [LimitRow; 3] = [
     (
+        "half way",
         1657,
         Err(EngineEnd::Unsettled {
             net: 18,
@@ -178,21 +190,27 @@ const LIMITS: [LimitRow; 3] = [
         }),
     ),
     (
+        "one round too few",
         2131,
         Err(EngineEnd::Unsettled {
             net: 41,
             round: 2131,
         }),
     ),
-    (2132, Ok(2132)),
+    ("enough rounds", 2132, Ok(2132)),
 ];
 
+/// Looks at how the loop's rounds end under a row's limit.
+fn is_limited(rt: &(impl Abort + AllocGlobal), c: &Circuit, (name, limit, want): LimitRow) {
+    let outcome = by_nets(rt.alloc(), c, limit).map(|rest| rest.rounds);
+    expect_eq(rt, name, &outcome, &want);
+}
+
 #[test]
-fn a_loop_rests_late(rt: HostRuntime) -> Result<(), Fail> {
+fn a_loop_rests_late(rt: HostRuntime) -> Result<(), Stop> {
     let drawn = read_circuit(rt.alloc(), &[HEAD, LOOP])?;
-    for (limit, want) in LIMITS {
-        let outcome = by_nets(rt.alloc(), &drawn.circuit, limit);
-        assert_eq!(rt; outcome.map(|rest| rest.rounds), want, "limit {limit}");
+    for row in &LIMITS {
+        is_limited(&rt, &drawn.circuit, *row);
     }
     Ok(())
 }

@@ -37,8 +37,8 @@ const HAZARDS: [HazardRow; 3] = [
 
 #[test]
 fn hazards(rt: HostRuntime) -> Result<(), NoMemory> {
-    for (name, pins, period, want) in HAZARDS {
-        expect_hazard(&rt, name, pins, period, want)?;
+    for (name, pins, period, want) in &HAZARDS {
+        expect_hazard(&rt, name, pins, *period, *want)?;
     }
     Ok(())
 }

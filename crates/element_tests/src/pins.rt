@@ -2,12 +2,12 @@
 
 ghost use Rattle.std.specs.Prelude.{◌≡◌, ◌==◌, IsTrue, count_by, length, map};
 ghost use Rattle.std.specs.List.{list_all};
-ghost use Rattle.skew_algebra.specs.Wave.{skewed};
 ghost use Rattle.flat_circuit.specs.Kind.{greatest_marks, pin_counts as counts};
 ghost use Rattle.gate_eval.specs.Meeting.{HaveOnePeriod};
 ghost use Rattle.gate_eval.specs.Instance.{CountsFit, is_gate as gate};
 ghost use Rattle.storage_eval.specs.Storage.{is_storage as storage};
 
+use crate::rows::{expect, expect_eq};
 use flat_circuit::Kind;
 use gate_eval::{PinWave, PinWaves, eval_gate, hold_fault};
 use scald_base::{Delay, NoMemory};
@@ -51,7 +51,7 @@ fn cells_of(alloc: Global, stretches: Stretches) -> Result<Vec<Value>, NoMemory>
 }
 
 /// The wave of these runs, which may be late by up to `skew` ticks.
-fn wave_of(
+pub fn wave_of(
     rt: &impl Abort,
     alloc: Global,
     stretches: Stretches,
@@ -63,7 +63,7 @@ fn wave_of(
     Skewed::normal(alloc, wave, skew)
 }
 
-fn pins_of(
+pub fn pins_of(
     rt: &impl Abort,
     alloc: Global,
     rows: &[PinRow],
@@ -75,7 +75,7 @@ fn pins_of(
             PinRow::Marked(stretches, skew) => (*stretches, *skew, true),
         };
         let wave = wave_of(rt, alloc, stretches, skew)?;
-        pins.push(PinWave { wave, hold })?;
+        pins.push(PinWave::new(wave, hold))?;
     }
     Ok(pins)
 }
@@ -130,15 +130,15 @@ fn marks<W: CyclicWave<Item = Value>>(pins: &[PinWave<W>]) -> usize
 
 /// Whether all waves have this period.
 fn have_period<W: CyclicWave<Item = Value>>(pins: &[PinWave<W>], period: u16) -> bool
-    ensures { result ≡ list_all (λ p. length (W.cells p.wave.wave) == period) pins.now }
+    ensures { result ≡ list_all (λ p. length p.wave.cells == period) pins.now }
 {
-    pins.iter().all(|pin| pin.wave.wave.period() == period)
+    pins.iter().all(|pin| pin.wave.period() == period)
 }
 
 /// Whether the kind has so many pins, so many of them marked, and all waves have this period.
-fn are_fit<W: CyclicWave<Item = Value>>(kind: Kind, pins: &[PinWave<W>], period: u16) -> bool
+pub fn are_fit<W: CyclicWave<Item = Value>>(kind: Kind, pins: &[PinWave<W>], period: u16) -> bool
     ensures counts { IsTrue result → CountsFit kind (length pins.now) (count_by (λ p. p.hold) pins.now) }
-    ensures periods { IsTrue result → HaveOnePeriod (map (λ p. skewed (W.cells p.wave.wave) p.wave.skew) pins.now) }
+    ensures periods { IsTrue result → HaveOnePeriod (map (λ p. p.wave) pins.now) }
 {
     let (least, most, greatest) = pin_counts(kind);
     let fit = least <= pins.len() && pins.len() <= most && marks(pins) <= greatest;
@@ -171,8 +171,8 @@ pub fn expect_outputs(
     for (name, kind, delay, pins, output) in rows {
         let pins = pins_of(rt, alloc, pins)?;
         let want = wave_of(rt, alloc, output.0, output.1)?;
-        let got = evaluated(rt, alloc, *kind, *delay, &pins, want.wave.period())?;
-        assert!(rt; got.same(&want), "{name}");
+        let got = evaluated(rt, alloc, *kind, *delay, &pins, want.period())?;
+        expect(rt, name, got.same(&want));
     }
     Ok(())
 }
@@ -196,6 +196,6 @@ pub fn expect_hazard(
     want: Option<(u16, u16)>,
 ) -> Result<(), NoMemory> {
     let pins = pins_of(rt, rt.alloc(), pins)?;
-    assert_eq!(rt; hazard(rt, &pins, period), want, "{name}");
+    expect_eq(rt, name, &hazard(rt, &pins, period), &want);
     Ok(())
 }

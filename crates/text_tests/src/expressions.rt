@@ -1,9 +1,10 @@
 //! Values of small expressions. The least whole number of 64 bits is -9223372036854775808.
 
+use crate::rows::expect_eq;
 use scald_base::{Bytes, NoMemory};
 use scald_expr::{Binding, Env, Expr, ExprFault, Op, eval};
 use std::alloc::Global;
-use std::test::Fail;
+use std::process::Abort;
 
 const LEAST: i64 = -9223372036854775808;
 
@@ -52,40 +53,91 @@ fn of_parameter(
     Ok(eval(&Expr::Binary(op, left, right), &env))
 }
 
-#[test]
-fn operators(rt: HostRuntime) -> Result<(), Fail> {
-    for (left, op, right, expected) in [
-        (7, Op::Sub, 9, Ok(-2)),
-        (GREATEST, Op::Add, 1, Err(ExprFault::Overflow)),
-        (LEAST, Op::Sub, 1, Err(ExprFault::Overflow)),
-        (4294967296, Op::Mul, 2147483648, Err(ExprFault::Overflow)),
-        (-7, Op::Div, 2, Ok(-3)),
-        (7, Op::Div, 0, Err(ExprFault::ZeroDivisor)),
-        (LEAST, Op::Div, -1, Err(ExprFault::Overflow)),
-        (-3, Op::Lt, 2, Ok(1)),
-        (2, Op::Ne, 2, Ok(0)),
-        (2, Op::Ge, 2, Ok(1)),
-    ] {
-        assert_eq!(rt; of_numbers(rt.alloc(), left, op, right)?, expected);
-    }
-    Ok(())
+/// The name of a row, its left side, the operator, the right side, and the value.
+type Row = (&'static str, i64, Op, i64, Result<i64, ExprFault>);
+
+const OPERATORS: [Row; 10] = [
+    ("a difference below 0", 7, Op::Sub, 9, Ok(-2)),
+    (
+        "a sum too large",
+        GREATEST,
+        Op::Add,
+        1,
+        Err(ExprFault::Overflow),
+    ),
+    (
+        "a difference too small",
+        LEAST,
+        Op::Sub,
+        1,
+        Err(ExprFault::Overflow),
+    ),
+    (
+        "a product too large",
+        4294967296,
+        Op::Mul,
+        2147483648,
+        Err(ExprFault::Overflow),
+    ),
+    ("a quotient is cut towards 0", -7, Op::Div, 2, Ok(-3)),
+    ("by zero", 7, Op::Div, 0, Err(ExprFault::ZeroDivisor)),
+    (
+        "a quotient too large",
+        LEAST,
+        Op::Div,
+        -1,
+        Err(ExprFault::Overflow),
+    ),
+    ("less", -3, Op::Lt, 2, Ok(1)),
+    ("not unequal", 2, Op::Ne, 2, Ok(0)),
+    ("as great", 2, Op::Ge, 2, Ok(1)),
+];
+
+/// Looks at the value of a row.
+fn is_valued(rt: &(impl Abort + AllocGlobal), (name, left, op, right, want): Row) {
+    expect_eq(
+        rt,
+        name,
+        &of_numbers(rt.alloc(), left, op, right),
+        &Ok(want),
+    );
 }
 
 #[test]
-fn left_before_right(rt: HostRuntime) -> Result<(), Fail> {
-    let alloc = rt.alloc();
-    assert_eq!(rt; of_parameter(alloc, b"N", Op::Add, 1)?, Ok(-19));
-    assert_eq!(rt;
-        of_parameter(alloc, b"M", Op::Add, 0)?,
-        Err(ExprFault::Unknown)
+fn operators(rt: HostRuntime) {
+    for row in &OPERATORS {
+        is_valued(&rt, *row);
+    }
+}
+
+/// Looks at the value of `-parameter + 1 / divisor`.
+fn sum_is(
+    rt: &(impl Abort + AllocGlobal),
+    name: &str,
+    parameter: &[u8],
+    divisor: i64,
+    want: Result<i64, ExprFault>,
+) {
+    let value = of_parameter(rt.alloc(), parameter, Op::Add, divisor);
+    expect_eq(rt, name, &value, &Ok(want));
+}
+
+#[test]
+fn left_before_right(rt: HostRuntime) {
+    sum_is(&rt, "both sides", b"N", 1, Ok(-19));
+    sum_is(
+        &rt,
+        "no value, before zero",
+        b"M",
+        0,
+        Err(ExprFault::Unknown),
     );
-    assert_eq!(rt;
-        of_parameter(alloc, b"W", Op::Add, 0)?,
-        Err(ExprFault::Overflow)
+    sum_is(
+        &rt,
+        "too large, before zero",
+        b"W",
+        0,
+        Err(ExprFault::Overflow),
     );
-    assert_eq!(rt;
-        of_parameter(alloc, b"N", Op::Add, 0)?,
-        Err(ExprFault::ZeroDivisor)
-    );
-    Ok(())
+    sum_is(&rt, "zero alone", b"N", 0, Err(ExprFault::ZeroDivisor));
 }

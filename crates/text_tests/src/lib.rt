@@ -2,9 +2,15 @@
 //! of faults, and the drawing of a bench. Each row has a text or the parts of one, and what is read of
 //! it or written for it as it was worked out on paper.
 //!
-//! The crate has tests alone, and nothing stands on it.
+//! The crate has tests alone, and nothing stands on it. `rows` has how a row is judged; the other
+//! modules have the rows.
 #![tactic(auto)]
 
+// how a row is judged
+#[cfg(test)]
+mod rows;
+
+// the rows
 #[cfg(test)]
 mod bench_text;
 #[cfg(test)]

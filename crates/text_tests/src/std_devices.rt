@@ -3,13 +3,14 @@
 //! A source asks its reader once a call, and a sink its writer: for pieces and rooms of all sizes a
 //! row says what comes of it, and what the stream was asked for.
 
+use crate::rows::{expect, expect_at, expect_eq, expect_eq_at};
 use scald_base::{
-    Failed, NoMemory, ReadEnd, Sink, Source, StdSink, StdSource, WriteFault, read_all, write_all,
+    Bytes, Failed, NoMemory, ReadEnd, Sink, Source, StdSink, StdSource, WriteFault, read_all,
+    write_all,
 };
 use std::alloc::Global;
 use std::io::{Error, ErrorKind, Read, Result as IoResult, Write};
 use std::process::Abort;
-use std::test::Fail;
 
 /// The sizes of rooms and pieces: none, few, about sixteen, and about where a read or a pipe ends.
 const SIZES: [usize; 12] = [
@@ -101,37 +102,39 @@ fn text_of(alloc: Global, length: usize) -> Result<Vec<u8>, NoMemory> {
 
 /// One call of a source, whose reader does this at its first call and gives all at the next.
 fn read_once(
-    rt: &impl Abort,
-    alloc: Global,
+    rt: &(impl Abort + AllocGlobal),
     text: &[u8],
     size: usize,
     script: &[u8],
     want: Result<usize, Failed>,
 ) -> Result<(), NoMemory> {
-    let mut room = vec![in alloc; b'.'; size]?;
+    let mut room = vec![in rt.alloc(); b'.'; size]?;
     let mut reader = Stream::new(script, usize::MAX, text);
-    let mut source = StdSource::new(&mut reader);
-    assert_eq!(rt; source.read(&mut room), want, "a room of {size}");
-    assert_eq!(rt; reader.calls, 1, "a room of {size}");
-    let asked = reader.asked;
-    assert_eq!(rt; asked[0], size.min(4096), "a room of {size}");
+    let came = StdSource::new(&mut reader).read(&mut room);
+    let made = (came, reader.calls, reader.asked[0]);
+    expect_eq_at(rt, "a room of", size, &made, &(want, 1, size.min(4096)));
     let count = want.unwrap_or(0);
-    let mut pairs = room.iter().zip(text.iter()).take(count);
-    assert!(rt; pairs.all(|(one, other)| one == other), "a room of {size}");
+    let is_front = room.get(..count) == text.get(..count);
+    expect_at(rt, "the bytes in a room of", size, is_front);
     let mut rest = room.iter().skip(count);
-    assert!(rt; rest.all(|byte| *byte == b'.'), "a room of {size}");
+    let is_kept = rest.all(|byte| *byte == b'.');
+    expect_at(rt, "the rest of a room of", size, is_kept);
     Ok(())
 }
 
+/// Rooms of one size.
+fn read_sizes(rt: &(impl Abort + AllocGlobal), text: &[u8], size: usize) -> Result<(), NoMemory> {
+    read_once(rt, text, size, b"*", Ok(size.min(4096)))?;
+    read_once(rt, text, size, b"1", Ok(size.min(1)))?;
+    read_once(rt, text, size, b"0", Ok(0))?;
+    read_once(rt, text, size, b"!", Err(Failed))
+}
+
 #[test]
-fn each_read_asks_the_reader_once(rt: HostRuntime) -> Result<(), Fail> {
-    let a = rt.alloc();
-    let text = text_of(a, 65_537)?;
-    for size in SIZES {
-        read_once(&rt, a, &text, size, b"*", Ok(size.min(4096)))?;
-        read_once(&rt, a, &text, size, b"1", Ok(size.min(1)))?;
-        read_once(&rt, a, &text, size, b"0", Ok(0))?;
-        read_once(&rt, a, &text, size, b"!", Err(Failed))?;
+fn each_read_asks_the_reader_once(rt: HostRuntime) -> Result<(), NoMemory> {
+    let text = text_of(rt.alloc(), 65_537)?;
+    for size in &SIZES {
+        read_sizes(&rt, &text, *size)?;
     }
     Ok(())
 }
@@ -140,56 +143,90 @@ fn each_read_asks_the_reader_once(rt: HostRuntime) -> Result<(), Fail> {
 fn write_once(rt: &impl Abort, text: &[u8], script: &[u8], want: Result<usize, Failed>) {
     let size = text.len();
     let mut writer = Stream::new(script, usize::MAX, text);
-    let mut sink = StdSink::new(&mut writer);
-    assert_eq!(rt; sink.write(text), want, "a piece of {size}");
-    assert_eq!(rt; writer.calls, 1, "a piece of {size}");
-    let asked = writer.asked;
-    assert_eq!(rt; asked[0], size, "a piece of {size}");
-    assert!(rt; writer.is_whole, "a piece of {size}");
+    let came = StdSink::new(&mut writer).write(text);
     let left = size.saturating_sub(want.unwrap_or(0));
-    assert_eq!(rt; writer.left.len(), left, "a piece of {size}");
+    let made = (came, writer.calls, writer.asked[0], writer.left.len());
+    expect_eq_at(rt, "a piece of", size, &made, &(want, 1, size, left));
+    expect_at(rt, "the bytes of a piece of", size, writer.is_whole);
+}
+
+/// Pieces of one size.
+fn write_sizes(rt: &(impl Abort + AllocGlobal), size: usize) -> Result<(), NoMemory> {
+    let text = text_of(rt.alloc(), size)?;
+    write_once(rt, &text, b"*", Ok(size));
+    write_once(rt, &text, b"1", Ok(size.min(1)));
+    // Of some bytes a writer takes one at least.
+    let none = if size == 0 { Ok(0) } else { Err(Failed) };
+    write_once(rt, &text, b"0", none);
+    write_once(rt, &text, b"!", Err(Failed));
+    Ok(())
 }
 
 #[test]
-fn each_write_asks_the_writer_once(rt: HostRuntime) -> Result<(), Fail> {
-    let a = rt.alloc();
-    for size in SIZES {
-        let text = text_of(a, size)?;
-        write_once(&rt, &text, b"*", Ok(size));
-        write_once(&rt, &text, b"1", Ok(size.min(1)));
-        // Of some bytes a writer takes one at least.
-        let none = if size == 0 { Ok(0) } else { Err(Failed) };
-        write_once(&rt, &text, b"0", none);
-        write_once(&rt, &text, b"!", Err(Failed));
+fn each_write_asks_the_writer_once(rt: HostRuntime) -> Result<(), NoMemory> {
+    for size in &SIZES {
+        write_sizes(&rt, *size)?;
     }
     Ok(())
 }
 
+/// What comes of three calls.
+type Three = [Result<usize, Failed>; 3];
+
+const NO: Result<usize, Failed> = Err(Failed);
+
 /// What a stream does at three calls, and what comes of three reads and of three writes.
+type CallRow = (&'static str, Three, Three);
+
+const CALLS: [CallRow; 6] = [
+    ("!33", [NO, Ok(3), Ok(3)], [NO, Ok(3), Ok(3)]),
+    ("?!3", [NO, NO, Ok(3)], [NO, NO, Ok(3)]),
+    ("3?5", [Ok(3), NO, Ok(5)], [Ok(3), NO, Ok(5)]),
+    ("38?", [Ok(3), Ok(8), NO], [Ok(3), Ok(8), NO]),
+    ("030", [Ok(0), Ok(3), Ok(0)], [NO, Ok(3), NO]),
+    ("003", [Ok(0), Ok(0), Ok(3)], [NO, NO, Ok(3)]),
+];
+
+/// Three reads from one source.
+fn read_thrice(source: &mut impl Source) -> Three {
+    let mut room = [0; 8];
+    [
+        source.read(&mut room),
+        source.read(&mut room),
+        source.read(&mut room),
+    ]
+}
+
+/// Three writes to one sink.
+fn write_thrice(sink: &mut impl Sink) -> Three {
+    let text = b"12345678";
+    [sink.write(text), sink.write(text), sink.write(text)]
+}
+
+/// Looks at the calls of a row.
+fn has_calls(rt: &impl Abort, text: &[u8], (script, reads, writes): CallRow) {
+    let mut reader = Stream::new(script.as_bytes(), 0, text);
+    expect_eq(
+        rt,
+        script,
+        &read_thrice(&mut StdSource::new(&mut reader)),
+        &reads,
+    );
+    let mut writer = Stream::new(script.as_bytes(), 0, text);
+    expect_eq(
+        rt,
+        script,
+        &write_thrice(&mut StdSink::new(&mut writer)),
+        &writes,
+    );
+    expect_eq(rt, script, &(reader.calls, writer.calls), &(3, 3));
+}
+
 #[test]
-fn each_call_goes_by_itself(rt: HostRuntime) -> Result<(), Fail> {
+fn each_call_goes_by_itself(rt: HostRuntime) -> Result<(), NoMemory> {
     let text = text_of(rt.alloc(), 100)?;
-    let no = Err(Failed);
-    let rows = [
-        (b"!33", [no, Ok(3), Ok(3)], [no, Ok(3), Ok(3)]),
-        (b"?!3", [no, no, Ok(3)], [no, no, Ok(3)]),
-        (b"3?5", [Ok(3), no, Ok(5)], [Ok(3), no, Ok(5)]),
-        (b"38?", [Ok(3), Ok(8), no], [Ok(3), Ok(8), no]),
-        (b"030", [Ok(0), Ok(3), Ok(0)], [no, Ok(3), no]),
-        (b"003", [Ok(0), Ok(0), Ok(3)], [no, no, Ok(3)]),
-    ];
-    for (script, reads, writes) in rows {
-        let mut reader = Stream::new(script, 0, &text);
-        let mut source = StdSource::new(&mut reader);
-        for want in reads {
-            assert_eq!(rt; source.read(&mut [0; 8]), want, "{script:?}");
-        }
-        let mut writer = Stream::new(script, 0, &text);
-        let mut sink = StdSink::new(&mut writer);
-        for want in writes {
-            assert_eq!(rt; sink.write(b"12345678"), want, "{script:?}");
-        }
-        assert_eq!(rt; (reader.calls, writer.calls), (3, 3), "{script:?}");
+    for row in &CALLS {
+        has_calls(&rt, &text, *row);
     }
     Ok(())
 }
@@ -199,103 +236,163 @@ fn calls_of(asked: [usize; 5]) -> usize {
     asked.iter().filter(|size| **size > 0).count()
 }
 
-/// Of nine bytes: the script, the limit, how many are read or why none, for how much each call asks,
-/// and how many are left.
+const FAULT: Result<usize, ReadEnd> = Err(ReadEnd::ReadFault);
+
+const LONG: Result<usize, ReadEnd> = Err(ReadEnd::TooLong);
+
+/// Of nine bytes: the name of a row, the script, the limit, how many are read or why none, for how
+/// much each call asks, and how many are left.
+type ReadRow = (
+    &'static str,
+    &'static str,
+    u16,
+    Result<usize, ReadEnd>,
+    [usize; 5],
+    usize,
+);
+
+const READS: [ReadRow; 12] = [
+    ("at once", "", 50, Ok(9), [51, 42, 0, 0, 0], 0),
+    ("in pieces", "125", 50, Ok(9), [51, 50, 48, 43, 42], 0),
+    ("failed at first", "!", 50, FAULT, [51, 0, 0, 0, 0], 9),
+    ("failed within", "3!", 50, FAULT, [51, 48, 0, 0, 0], 6),
+    ("failed at the end", "9?", 50, FAULT, [51, 42, 0, 0, 0], 0),
+    ("none at first", "0", 50, Ok(0), [51, 0, 0, 0, 0], 9),
+    ("none within", "30", 50, Ok(3), [51, 48, 0, 0, 0], 6),
+    ("at the limit", "", 9, Ok(9), [10, 1, 0, 0, 0], 0),
+    ("one past it", "", 8, LONG, [9, 0, 0, 0, 0], 0),
+    ("far past it", "", 3, LONG, [4, 0, 0, 0, 0], 5),
+    ("past it at last", "3", 3, LONG, [4, 1, 0, 0, 0], 5),
+    ("failed at the limit", "8!", 8, FAULT, [9, 1, 0, 0, 0], 1),
+];
+
+/// Looks at the front of a text that was read.
+fn expect_front(
+    rt: &impl Abort,
+    name: &str,
+    text: &[u8],
+    came: Result<Bytes, ReadEnd>,
+    want: Result<usize, ReadEnd>,
+) {
+    match came {
+        Ok(bytes) => {
+            expect_eq(rt, name, &Ok(bytes.len()), &want);
+            expect(rt, name, text.starts_with(bytes.as_slice()));
+        }
+        Err(end) => expect_eq(rt, name, &Err(end), &want),
+    }
+}
+
+/// Reads the text as a row says.
+fn is_read(
+    rt: &(impl Abort + AllocGlobal),
+    text: &[u8],
+    (name, script, limit, want, asked, left): ReadRow,
+) {
+    let mut reader = Stream::new(script.as_bytes(), usize::MAX, text);
+    let came = read_all(
+        rt.alloc(),
+        &mut StdSource::new(&mut reader),
+        u32::from(limit),
+    );
+    expect_front(rt, name, text, came, want);
+    let made = (reader.asked, reader.calls, reader.left.len());
+    expect_eq(rt, name, &made, &(asked, calls_of(asked), left));
+}
+
 #[test]
-fn whole_texts_are_read_to_the_first_end(rt: HostRuntime) -> Result<(), Fail> {
+fn whole_texts_are_read_to_the_first_end(rt: HostRuntime) -> Result<(), NoMemory> {
     let text = text_of(rt.alloc(), 9)?;
-    let fault = Err(ReadEnd::ReadFault);
-    let long = Err(ReadEnd::TooLong);
-    let rows = [
-        ("at once", "", 50, Ok(9), [51, 42, 0, 0, 0], 0),
-        ("in pieces", "125", 50, Ok(9), [51, 50, 48, 43, 42], 0),
-        ("failed at first", "!", 50, fault, [51, 0, 0, 0, 0], 9),
-        ("failed within", "3!", 50, fault, [51, 48, 0, 0, 0], 6),
-        ("failed at the end", "9?", 50, fault, [51, 42, 0, 0, 0], 0),
-        ("none at first", "0", 50, Ok(0), [51, 0, 0, 0, 0], 9),
-        ("none within", "30", 50, Ok(3), [51, 48, 0, 0, 0], 6),
-        ("at the limit", "", 9, Ok(9), [10, 1, 0, 0, 0], 0),
-        ("one past it", "", 8, long, [9, 0, 0, 0, 0], 0),
-        ("far past it", "", 3, long, [4, 0, 0, 0, 0], 5),
-        ("past it at last", "3", 3, long, [4, 1, 0, 0, 0], 5),
-        ("failed at the limit", "8!", 8, fault, [9, 1, 0, 0, 0], 1),
-    ];
-    for (name, script, limit, want, asked, left) in rows {
-        let mut reader = Stream::new(script.as_bytes(), usize::MAX, &text);
-        match (
-            read_all(rt.alloc(), &mut StdSource::new(&mut reader), limit),
-            want,
-        ) {
-            (Ok(bytes), Ok(count)) => {
-                assert_eq!(rt; bytes.len(), count, "{name}");
-                assert!(rt; text.starts_with(bytes.as_slice()), "{name}");
-            }
-            (read, want) => assert_eq!(rt; read.err(), want.err(), "{name}"),
-        }
-        assert_eq!(rt; reader.asked, asked, "{name}");
-        assert_eq!(rt; reader.calls, calls_of(asked), "{name}");
-        assert_eq!(rt; reader.left.len(), left, "{name}");
+    for row in &READS {
+        is_read(&rt, &text, *row);
     }
     Ok(())
 }
 
-/// How many bytes there are, the script, what comes of writing them, for how much each call asks, and
-/// how many are left.
+const FULL: Result<(), WriteFault> = Err(WriteFault);
+
+/// The name of a row, how many bytes there are, the script, what comes of writing them, for how much
+/// each call asks, and how many are left.
+type WriteRow = (
+    &'static str,
+    usize,
+    &'static str,
+    Result<(), WriteFault>,
+    [usize; 5],
+    usize,
+);
+
+const WRITES: [WriteRow; 8] = [
+    ("at once", 9, "", Ok(()), [9, 0, 0, 0, 0], 0),
+    ("in pieces", 9, "123", Ok(()), [9, 8, 6, 3, 0], 0),
+    ("failed at first", 9, "!", FULL, [9, 0, 0, 0, 0], 9),
+    ("failed within", 9, "3!", FULL, [9, 6, 0, 0, 0], 6),
+    ("failed at last", 9, "8?", FULL, [9, 1, 0, 0, 0], 1),
+    ("none at first", 9, "0", FULL, [9, 0, 0, 0, 0], 9),
+    ("none within", 9, "30", FULL, [9, 6, 0, 0, 0], 6),
+    ("nothing to write", 0, "!!", Ok(()), [0, 0, 0, 0, 0], 0),
+];
+
+/// Writes the text of a row.
+fn is_written(
+    rt: &(impl Abort + AllocGlobal),
+    (name, length, script, want, asked, left): WriteRow,
+) -> Result<(), NoMemory> {
+    let text = text_of(rt.alloc(), length)?;
+    let mut writer = Stream::new(script.as_bytes(), usize::MAX, &text);
+    let came = write_all(&mut StdSink::new(&mut writer), &text);
+    expect_eq(rt, name, &came, &want);
+    expect(rt, name, writer.is_whole);
+    let made = (writer.asked, writer.calls, writer.left.len());
+    expect_eq(rt, name, &made, &(asked, calls_of(asked), left));
+    Ok(())
+}
+
 #[test]
-fn whole_texts_are_written_to_the_first_failure(rt: HostRuntime) -> Result<(), Fail> {
-    let fault = Err(WriteFault);
-    let rows = [
-        ("at once", 9, "", Ok(()), [9, 0, 0, 0, 0], 0),
-        ("in pieces", 9, "123", Ok(()), [9, 8, 6, 3, 0], 0),
-        ("failed at first", 9, "!", fault, [9, 0, 0, 0, 0], 9),
-        ("failed within", 9, "3!", fault, [9, 6, 0, 0, 0], 6),
-        ("failed at last", 9, "8?", fault, [9, 1, 0, 0, 0], 1),
-        ("none at first", 9, "0", fault, [9, 0, 0, 0, 0], 9),
-        ("none within", 9, "30", fault, [9, 6, 0, 0, 0], 6),
-        ("nothing to write", 0, "!!", Ok(()), [0, 0, 0, 0, 0], 0),
-    ];
-    for (name, length, script, want, asked, left) in rows {
-        let text = text_of(rt.alloc(), length)?;
-        let mut writer = Stream::new(script.as_bytes(), usize::MAX, &text);
-        let mut sink = StdSink::new(&mut writer);
-        assert_eq!(rt; write_all(&mut sink, &text), want, "{name}");
-        assert!(rt; writer.is_whole, "{name}");
-        assert_eq!(rt; writer.asked, asked, "{name}");
-        assert_eq!(rt; writer.calls, calls_of(asked), "{name}");
-        assert_eq!(rt; writer.left.len(), left, "{name}");
+fn whole_texts_are_written_to_the_first_failure(rt: HostRuntime) -> Result<(), NoMemory> {
+    for row in &WRITES {
+        is_written(&rt, *row)?;
     }
     Ok(())
 }
 
-/// How many calls move 65,537 bytes, by how many the stream moves at most: reads, of up to 4,096
-/// bytes and with the one that finds the end, and writes.
+/// How many bytes a stream moves in a call at most, and how many calls move 65,537 bytes: reads, of
+/// up to 4,096 bytes and with the one that finds the end, and writes.
+const PIECES: [(usize, usize, usize); 11] = [
+    (1, 65_538, 65_537),
+    (2, 32_770, 32_769),
+    (15, 4_371, 4_370),
+    (16, 4_098, 4_097),
+    (17, 3_857, 3_856),
+    (4_095, 18, 17),
+    (4_096, 18, 17),
+    (4_097, 18, 16),
+    (65_535, 18, 2),
+    (65_536, 18, 2),
+    (65_537, 18, 1),
+];
+
+/// Moves the text in pieces of this size.
+fn is_moved(
+    rt: &(impl Abort + AllocGlobal),
+    text: &[u8],
+    (piece, reads, writes): (usize, usize, usize),
+) {
+    let mut reader = Stream::new(b"", piece, text);
+    let came = read_all(rt.alloc(), &mut StdSource::new(&mut reader), 100_000);
+    expect_front(rt, "the whole", text, came, Ok(65_537));
+    let mut writer = Stream::new(b"", piece, text);
+    let came = write_all(&mut StdSink::new(&mut writer), text);
+    let made = (came, reader.calls, writer.calls, writer.left.len());
+    expect_eq_at(rt, "pieces of", piece, &made, &(Ok(()), reads, writes, 0));
+    expect_at(rt, "the bytes in pieces of", piece, writer.is_whole);
+}
+
 #[test]
-fn pieces_of_all_sizes_make_the_whole(rt: HostRuntime) -> Result<(), Fail> {
+fn pieces_of_all_sizes_make_the_whole(rt: HostRuntime) -> Result<(), NoMemory> {
     let text = text_of(rt.alloc(), 65_537)?;
-    let rows = [
-        (1, 65_538, 65_537),
-        (2, 32_770, 32_769),
-        (15, 4_371, 4_370),
-        (16, 4_098, 4_097),
-        (17, 3_857, 3_856),
-        (4_095, 18, 17),
-        (4_096, 18, 17),
-        (4_097, 18, 16),
-        (65_535, 18, 2),
-        (65_536, 18, 2),
-        (65_537, 18, 1),
-    ];
-    for (piece, reads, writes) in rows {
-        let mut reader = Stream::new(b"", piece, &text);
-        match read_all(rt.alloc(), &mut StdSource::new(&mut reader), 100_000) {
-            Ok(bytes) => assert!(rt; bytes.as_slice() == text.as_slice(), "{piece}"),
-            Err(end) => assert_eq!(rt; Some(end), None, "{piece}"),
-        }
-        let mut writer = Stream::new(b"", piece, &text);
-        let mut sink = StdSink::new(&mut writer);
-        assert_eq!(rt; write_all(&mut sink, &text), Ok(()), "{piece}");
-        assert!(rt; writer.is_whole && writer.left.is_empty(), "{piece}");
-        assert_eq!(rt; (reader.calls, writer.calls), (reads, writes), "{piece}");
+    for row in &PIECES {
+        is_moved(&rt, &text, *row);
     }
     Ok(())
 }

@@ -2,11 +2,11 @@
 
 ghost use Rattle.std.specs.Prelude.{◌<◌, ◌-◌, ◌^◌, length};
 
-use scald_base::{Bytes, Place, Refusal, RefusalKind, Stop};
+use crate::rows::{expect_eq, expect_list};
+use scald_base::{Bytes, NoMemory, Place, Refusal, RefusalKind, Stop};
 use scald_lex::{Token, TokenKind, tokens};
 use std::alloc::Global;
 use std::process::Abort;
-use std::test::Fail;
 
 const fn token(kind: TokenKind, line: u32, col: u32, start: u32, end: u32) -> Token {
     Token {
@@ -21,8 +21,8 @@ fn expect_tokens(rt: &impl Abort, alloc: Global, name: &str, text: &[u8], want: 
     requires { length text.now < 2 ^ 32 - 1 }
 {
     match tokens(alloc, text) {
-        Ok(list) => assert_eq!(rt; list.as_slice(), want, "{name}"),
-        Err(stop) => assert_eq!(rt; Some(stop), None, "{name}"),
+        Ok(list) => expect_list(rt, name, list.as_slice(), want),
+        Err(stop) => expect_eq(rt, name, &Some(stop), &None),
     }
 }
 
@@ -39,11 +39,11 @@ fn expect_refused(
 {
     let place = Place { line, col };
     let want = Stop::Refused(Refusal { kind, place });
-    assert_eq!(rt; tokens(alloc, text).err(), Some(want), "{name}");
+    expect_eq(rt, name, &tokens(alloc, text).err(), &Some(want));
 }
 
 #[test]
-fn texts_have_tokens(rt: HostRuntime) -> Result<(), Fail> {
+fn texts_have_tokens(rt: HostRuntime) {
     let a = rt.alloc();
     let end = TokenKind::End;
     let word = TokenKind::Word;
@@ -119,11 +119,10 @@ fn texts_have_tokens(rt: HostRuntime) -> Result<(), Fail> {
         b"a123456789b123456789c123456789d123456789e123456789f123456789_ABC",
         &[token(word, 1, 1, 0, 64), token(end, 1, 65, 64, 64)],
     );
-    Ok(())
 }
 
 #[test]
-fn each_symbol_is_a_token(rt: HostRuntime) -> Result<(), Fail> {
+fn each_symbol_is_a_token(rt: HostRuntime) -> Result<(), NoMemory> {
     let a = rt.alloc();
     for symbol in b";:,()<>[]{}=+-*/&!" {
         let mut text = Bytes::new(a);
@@ -140,7 +139,7 @@ fn each_symbol_is_a_token(rt: HostRuntime) -> Result<(), Fail> {
 }
 
 #[test]
-fn bytes_are_refused(rt: HostRuntime) -> Result<(), Fail> {
+fn bytes_are_refused(rt: HostRuntime) {
     let a = rt.alloc();
     let bad = RefusalKind::BadByte;
     let comment = b"-- caf\xc3\xa9\n.";
@@ -148,11 +147,10 @@ fn bytes_are_refused(rt: HostRuntime) -> Result<(), Fail> {
     expect_refused(&rt, a, "before any token", comment, bad, 1, 7);
     expect_refused(&rt, a, "on a later line", b".\n\n a\0", bad, 3, 3);
     expect_refused(&rt, a, "behind the printable ones", b"\x7f", bad, 1, 1);
-    Ok(())
 }
 
 #[test]
-fn tokens_are_refused(rt: HostRuntime) -> Result<(), Fail> {
+fn tokens_are_refused(rt: HostRuntime) {
     let a = rt.alloc();
     let bad = RefusalKind::BadToken;
     let lines = b"SCALD 1;\nCLOCK 8 x 50;\nDRAWING A;\nc1 : BUF [0:0] (\"CK";
@@ -166,5 +164,4 @@ fn tokens_are_refused(rt: HostRuntime) -> Result<(), Fail> {
     let number = b"99999999999999999999999";
     expect_refused(&rt, a, "a number far too large", number, bad, 1, 1);
     expect_refused(&rt, a, "no token begins so", b"a\n1 .P", bad, 2, 3);
-    Ok(())
 }

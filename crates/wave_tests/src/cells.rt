@@ -5,6 +5,7 @@ ghost use Rattle.std.proofs.Common.{sym};
 ghost use Rattle.std.proofs.lemmas.Bool.{true≢false};
 ghost use Rattle.wave_tests.specs.declared.cells.Slot.TheVariants.{Still, Moving};
 
+use crate::rows::{expect_eq, expect_of};
 use std::process::Abort;
 use wave_core::{Cell, CyclicWave};
 
@@ -73,12 +74,9 @@ pub fn expect_slots<W: CyclicWave<Item = Slot>>(
     wave: &W,
     want: &[Slot],
 ) {
-    assert_eq!(rt; wave.period() as usize, want.len(), "{name}");
+    expect_eq(rt, name, &(wave.period() as usize), &want.len());
     for slot in 0..wave.period() {
-        assert_eq!(rt;
-            Some(&wave.at(slot)),
-            want.get(slot as usize),
-            "{name}: slot {slot}"
-        );
+        let wanted = want.get(slot as usize).copied();
+        expect_of(rt, name, &slot, &Some(wave.at(slot)), &wanted);
     }
 }

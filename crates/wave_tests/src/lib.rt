@@ -2,9 +2,13 @@
 //! and the waves of nets and pins. Each row has what goes into a call, and what comes of it as it was worked
 //! out on paper.
 //!
-//! The crate has tests alone, and nothing stands on it. `cells` has the cells of the waves that are tried as
-//! waves alone; the other modules have the rows.
+//! The crate has tests alone, and nothing stands on it. `rows` has how a row is judged, and `cells` the cells
+//! of the waves that are tried as waves alone; the other modules have the rows.
 #![tactic(auto)]
+
+// how a row is judged
+#[cfg(test)]
+mod rows;
 
 // cells that may change or not
 #[cfg(test)]

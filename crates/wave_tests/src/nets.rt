@@ -1,5 +1,6 @@
 //! Waves of nets and of pins, as they are read off the names on paper.
 
+use crate::rows::{expect_eq, expect_of};
 use assertion_syntax::read_name;
 use pin_waves::{constant_wave, interface_wave, pin_wave, wide_wave};
 use scald_base::{Delay, Header};
@@ -36,6 +37,21 @@ fn two_ticks() -> Header {
     }
 }
 
+/// Looks at each slot of one stretch, which begins at this slot, and gives the slot after it.
+fn expect_stretch<W: CyclicWave<Item = Value>>(
+    rt: &impl Abort,
+    name: &str,
+    wave: &W,
+    first: u16,
+    (value, width): (Value, u16),
+) -> u16 {
+    let end = first.saturating_add(width).min(wave.period());
+    for slot in first..end {
+        expect_of(rt, name, &slot, &wave.at(slot), &value);
+    }
+    first.saturating_add(width)
+}
+
 /// Looks at each slot.
 fn expect_cells<W: CyclicWave<Item = Value>>(
     rt: &impl Abort,
@@ -43,15 +59,11 @@ fn expect_cells<W: CyclicWave<Item = Value>>(
     wave: &W,
     want: Stretches,
 ) {
-    let mut slot = 0;
+    let mut first = 0;
     for (value, width) in want {
-        for _slot in 0..*width {
-            assert!(rt; slot < wave.period(), "{name}");
-            assert_eq!(rt; wave.at(slot), *value, "{name}: slot {slot}");
-            slot += 1;
-        }
+        first = expect_stretch(rt, name, wave, first, (*value, *width));
     }
-    assert_eq!(rt; slot, wave.period(), "{name}");
+    expect_eq(rt, name, &first, &wave.period());
 }
 
 /// Looks at each slot, and at the skew.
@@ -62,8 +74,8 @@ fn expect_wave(
     want: Stretches,
     skew: u16,
 ) {
-    expect_cells(rt, name, &wave.wave, want);
-    assert_eq!(rt; wave.skew, skew, "{name}");
+    expect_cells(rt, name, wave.wave(), want);
+    expect_eq(rt, name, &wave.skew(), &skew);
 }
 
 /// The wave of an undriven net of this name.
@@ -187,8 +199,8 @@ const NETS: [Row; 15] = [
 
 #[test]
 fn nets(rt: HostRuntime) -> Result<(), Fail> {
-    for (name, want, skew) in NETS {
-        expect_net(&rt, name, want, skew)?;
+    for (name, want, skew) in &NETS {
+        expect_net(&rt, name, want, *skew)?;
     }
     Ok(())
 }
@@ -226,7 +238,7 @@ const WIDE: [(&'static str, Stretches<'static>); 4] = [
 
 #[test]
 fn wide_waves(rt: HostRuntime) -> Result<(), Fail> {
-    for (name, want) in WIDE {
+    for (name, want) in &WIDE {
         expect_wide(&rt, name, want)?;
     }
     Ok(())

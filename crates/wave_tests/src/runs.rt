@@ -1,5 +1,6 @@
 //! The waves of clocks, turned, folded and paired on paper.
 
+use crate::rows::{expect, expect_eq, expect_of};
 use run_wave::{Run, RunWave};
 use std::alloc::Global;
 use std::mem::size_of;
@@ -26,13 +27,13 @@ fn wave_of(a: Global, runs: &[(Value, u16)]) -> Result<RunWave<Value>, Fail> {
 
 /// Looks at each run of a wave.
 fn expect_runs(rt: &impl Abort, name: &str, wave: &RunWave<Value>, want: &[(Value, u16)]) {
-    assert_eq!(rt; wave.runs().len(), want.len(), "{name}");
+    expect_eq(rt, name, &wave.runs().len(), &want.len());
     for (run, (cell, width)) in wave.runs().iter().zip(want.iter()) {
         let wanted = Run {
             cell: *cell,
             width: *width,
         };
-        assert_eq!(rt; *run, wanted, "{name}");
+        expect_eq(rt, name, run, &wanted);
     }
 }
 
@@ -50,7 +51,7 @@ const CLOCK: [(Value, u16); 5] = [
 fn a_clock(rt: HostRuntime) -> Result<(), Fail> {
     let a = rt.alloc();
     let clock = wave_of(a, &CLOCK)?;
-    assert_eq!(rt; clock.period(), PERIOD);
+    expect_eq(&rt, "its period", &clock.period(), &PERIOD);
     expect_runs(&rt, "as it is", &clock, &CLOCK);
     let turned = [
         (Value::R, 1),
@@ -84,6 +85,13 @@ fn square(slot: u16) -> Value {
     }
 }
 
+/// Looks at each slot of such a wave.
+fn expect_square(rt: &impl Abort, wave: &RunWave<Value>) {
+    for slot in 0..wave.period() {
+        expect_of(rt, "square", &slot, &wave.at(slot), &square(slot));
+    }
+}
+
 /// A wave of many runs, slot by slot. A run takes four bytes.
 #[test]
 fn many_runs(rt: HostRuntime) -> Result<(), Fail> {
@@ -94,13 +102,21 @@ fn many_runs(rt: HostRuntime) -> Result<(), Fail> {
     }
     if cells.len() == 200 {
         let wave = RunWave::from_slots(a, &cells)?;
-        assert_eq!(rt; wave.runs().len(), 67);
-        for slot in 0..wave.period() {
-            assert_eq!(rt; wave.at(slot), square(slot), "{slot}");
-        }
+        expect_eq(&rt, "its runs", &wave.runs().len(), &67);
+        expect_square(&rt, &wave);
     }
-    assert_eq!(rt; size_of::<Run<Value>>(), 4);
+    expect_eq(&rt, "the bytes of a run", &size_of::<Run<Value>>(), &4);
     Ok(())
+}
+
+/// Looks at one slot.
+fn expect_cell(rt: &impl Abort, wave: &RunWave<Value>, slot: u16, want: Value) {
+    let cell = if slot < wave.period() {
+        Some(wave.at(slot))
+    } else {
+        None
+    };
+    expect_of(rt, "the clock", &slot, &cell, &Some(want));
 }
 
 /// Maps that make neighbours equal, pairs whose runs end apart, copies and comparisons.
@@ -110,7 +126,8 @@ fn others(rt: HostRuntime) -> Result<(), Fail> {
     let clock = wave_of(a, &CLOCK)?;
     let same = clock.copy(a)?;
     let late = clock.rotate(a, 10)?;
-    assert!(rt; clock.equal(&same) && !clock.equal(&late));
+    expect(&rt, "the same", clock.equal(&same));
+    expect(&rt, "late", !clock.equal(&late));
     expect_runs(
         &rt,
         "of one cell",
@@ -138,17 +155,10 @@ fn others(rt: HostRuntime) -> Result<(), Fail> {
             &CLOCK,
         );
     }
-    let slots = [
-        (99, Value::Zero),
-        (100, Value::R),
-        (149, Value::One),
-        (150, Value::F),
-        (151, Value::Zero),
-    ];
-    for (slot, cell) in slots {
-        if slot < clock.period() {
-            assert_eq!(rt; clock.at(slot), cell);
-        }
-    }
+    expect_cell(&rt, &clock, 99, Value::Zero);
+    expect_cell(&rt, &clock, 100, Value::R);
+    expect_cell(&rt, &clock, 149, Value::One);
+    expect_cell(&rt, &clock, 150, Value::F);
+    expect_cell(&rt, &clock, 151, Value::Zero);
     Ok(())
 }

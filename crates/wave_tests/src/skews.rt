@@ -1,6 +1,7 @@
 //! Waves with a skew, over cells that say no more than whether a net may change, on paper.
 
 use crate::cells::{M, S, Slot, expect_slots};
+use crate::rows::{expect, expect_eq, expect_of};
 use scald_base::{Delay, NoMemory};
 use skew_algebra::Skewed;
 use std::alloc::Global;
@@ -29,8 +30,8 @@ fn moved_by(alloc: Global, skew: u16, delay: Delay) -> Result<Skewed<SlotWave<Sl
 
 /// Looks at each slot, and at the skew.
 fn expect_wave(rt: &impl Abort, wave: &Skewed<SlotWave<Slot>>, want: &[Slot; 6], skew: u16) {
-    expect_slots(rt, "beside a skew", &wave.wave, want);
-    assert_eq!(rt; wave.skew, skew);
+    expect_slots(rt, "beside a skew", wave.wave(), want);
+    expect_eq(rt, "its skew", &wave.skew(), &skew);
 }
 
 /// A skew is less than a period, and a wave of one cell has none.
@@ -69,6 +70,14 @@ fn moves(rt: HostRuntime) -> Result<(), Fail> {
     Ok(())
 }
 
+/// Looks at what each slot of the folded wave would have.
+fn expect_folds(rt: &impl Abort, wave: &Skewed<SlotWave<Slot>>, want: &[Slot; 6]) {
+    for slot in 0..wave.period() {
+        let wanted = want.get(slot as usize).copied();
+        expect_of(rt, "the fold", &slot, &Some(wave.fold_at(slot)), &wanted);
+    }
+}
+
 /// A change that may come up to two ticks late lasts three slots.
 #[test]
 fn folds(rt: HostRuntime) -> Result<(), Fail> {
@@ -76,13 +85,7 @@ fn folds(rt: HostRuntime) -> Result<(), Fail> {
     let wave = wave_of(a, &ONE, 2)?;
     let want = [S, S, M, M, M, S];
     expect_slots(&rt, "folded", &wave.folded(a)?, &want);
-    for slot in 0..wave.wave.period() {
-        assert_eq!(rt;
-            Some(&wave.fold_at(slot)),
-            want.get(slot as usize),
-            "slot {slot}"
-        );
-    }
+    expect_folds(&rt, &wave, &want);
     Ok(())
 }
 
@@ -93,11 +96,11 @@ fn others(rt: HostRuntime) -> Result<(), Fail> {
     let wave = wave_of(a, &ONE, 2)?;
     expect_wave(&rt, &wave.flipped(a)?, &ONE, 2);
     let same = wave.copy(a)?;
-    assert!(rt; same.same(&wave));
+    expect(&rt, "the same", same.same(&wave));
     let less = wave_of(a, &ONE, 1)?;
-    assert!(rt; !less.same(&wave));
-    assert!(rt; !wave.is_steady());
+    expect(&rt, "of less skew", !less.same(&wave));
+    expect(&rt, "not steady", !wave.is_steady());
     let steady = wave_of(a, &[S; 6], 2)?;
-    assert!(rt; steady.is_steady());
+    expect(&rt, "steady", steady.is_steady());
     Ok(())
 }

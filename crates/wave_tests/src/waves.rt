@@ -1,24 +1,27 @@
 //! Waves over cells that say no more than whether a net may change, turned and folded on paper.
 
 use crate::cells::{M, S, Slot, expect_slots};
+use crate::rows::expect;
 use std::test::Fail;
 use wave_core::{CyclicWave, SlotWave};
+
+/// By how many slots a wave of five is turned, and what comes.
+const TURNS: [(u16, [Slot; 5]); 6] = [
+    (0, [M, M, S, S, S]),
+    (1, [S, M, M, S, S]),
+    (2, [S, S, M, M, S]),
+    (4, [M, S, S, S, M]),
+    (5, [M, M, S, S, S]),
+    (4096, [S, M, M, S, S]),
+];
 
 /// Each turn of a wave of five slots, and of one of two.
 #[test]
 fn rotations(rt: HostRuntime) -> Result<(), Fail> {
     let a = rt.alloc();
     let five = SlotWave::from_slots(a, &[M, M, S, S, S])?;
-    let table = [
-        (0, [M, M, S, S, S]),
-        (1, [S, M, M, S, S]),
-        (2, [S, S, M, M, S]),
-        (4, [M, S, S, S, M]),
-        (5, [M, M, S, S, S]),
-        (4096, [S, M, M, S, S]),
-    ];
-    for (by, want) in table {
-        expect_slots(&rt, "of five", &five.rotate(a, by)?, &want);
+    for (by, want) in &TURNS {
+        expect_slots(&rt, "of five", &five.rotate(a, *by)?, want);
     }
     let two = SlotWave::from_slots(a, &[M, S])?;
     expect_slots(&rt, "of two", &two.rotate(a, 1)?, &[S, M]);
@@ -26,22 +29,24 @@ fn rotations(rt: HostRuntime) -> Result<(), Fail> {
     Ok(())
 }
 
+/// How many slots longer the change of a wave of seven lasts, and what comes.
+const FOLDS: [(u16, [Slot; 7]); 6] = [
+    (0, [S, S, S, S, M, S, S]),
+    (1, [S, S, S, S, M, M, S]),
+    (2, [S, S, S, S, M, M, M]),
+    (3, [M, S, S, S, M, M, M]),
+    (5, [M, M, M, S, M, M, M]),
+    (6, [M, M, M, M, M, M, M]),
+];
+
 /// Each fold of a wave of seven slots with one change, which lasts so many slots longer.
 #[test]
 fn folds(rt: HostRuntime) -> Result<(), Fail> {
     let a = rt.alloc();
     let seven = SlotWave::from_slots(a, &[S, S, S, S, M, S, S])?;
-    let table = [
-        (0, [S, S, S, S, M, S, S]),
-        (1, [S, S, S, S, M, M, S]),
-        (2, [S, S, S, S, M, M, M]),
-        (3, [M, S, S, S, M, M, M]),
-        (5, [M, M, M, S, M, M, M]),
-        (6, [M, M, M, M, M, M, M]),
-    ];
-    for (back, want) in table {
-        if back < seven.period() {
-            expect_slots(&rt, "of seven", &seven.fold(a, back)?, &want);
+    for (back, want) in &FOLDS {
+        if *back < seven.period() {
+            expect_slots(&rt, "of seven", &seven.fold(a, *back)?, want);
         }
     }
     let two = SlotWave::from_slots(a, &[M, S])?;
@@ -65,7 +70,8 @@ fn others(rt: HostRuntime) -> Result<(), Fail> {
     let less = one.zip(a, &other, |c, d| if d == S { c } else { S })?;
     expect_slots(&rt, "in order", &less, &[S, M, S, S]);
     let same = one.copy(a)?;
-    assert!(rt; one.equal(&same) && !one.equal(&other));
+    expect(&rt, "the same", one.equal(&same));
+    expect(&rt, "another", !one.equal(&other));
     let uniform: SlotWave<Slot> = SlotWave::uniform(a, 3, M)?;
     expect_slots(&rt, "uniform", &uniform, &[M, M, M]);
     Ok(())

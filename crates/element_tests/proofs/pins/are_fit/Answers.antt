@@ -2,7 +2,7 @@ use Rattle.std.proofs.Common.{◌≡◌, ◌==◌, ℕ, true, List, [], ◌∷�
 use Rattle.std.specs.List.{All, list_all}
 use Rattle.std.proofs.lemmas.List.Elements.{All-nil, All-cons, All-weaker}
 use Rattle.step_values.specs.declared.value.Value.{Value}
-use Rattle.skew_algebra.specs.Wave.{Wave, skewed}
+use Rattle.skew_algebra.specs.Wave.{Wave}
 use Rattle.gate_eval.specs.Meeting.{HaveOnePeriod}
 use Rattle.element_tests.proofs.pins.are_fit.Goals as goal
 
@@ -24,4 +24,4 @@ tested-one wave period (p ∷ ps) tested =
 
 pub returns-then-fit-clause-periods : goal.returns-then-fit-clause-periods
 returns-then-fit-clause-periods g c same =
-    tested-one (λ p. skewed (g.W.CyclicWave.cells p.wave.wave) p.wave.skew) c.args.period c.args.pins.now (sym c.have_period.ensures ∙ same)
+    tested-one (λ p. p.wave) c.args.period c.args.pins.now (sym c.have_period.ensures ∙ same)

@@ -1,0 +1,227 @@
+//! Reports with faults: words and a text, and the outcome and the bytes that they have.
+
+use crate::texts::{END, FRAME, HEAD, Row, expect_answers};
+use scald_base::NoMemory;
+use scald_tool::Outcome;
+
+const FULL: &[&[u8]] = &[b"verify"];
+
+const WAVES: &[&[u8]] = &[b"verify", b"waves"];
+
+const FAULTS: &[&[u8]] = &[b"verify", b"faults"];
+
+/// An input that may change up to the edge at tick 100, where it is to be stable from slot 81 on.
+const LATE: &[&[u8]] = &[
+    FRAME,
+    br#"c1 : SETUP_HOLD_CHK {SETUP=20, HOLD=10} ("CK .P2-3", "D .S2-4");"#,
+    END,
+];
+
+/// What `verify` answers to texts with faults.
+const REPORTS: [Row; 12] = [
+    Row {
+        name: "one fault",
+        words: FULL,
+        text: LATE,
+        outcome: Outcome::Faulty(1),
+        bytes: b"SCALD 1 PERIOD 400
+NETS 2 INSTANCES 0 CHECKS 1
+CASE 0 BASE 0 ROUNDS 0 T 1
+WAVE CK<0> SKEW 0 0:100 R:1 1:49 F:1 0:249
+WAVE D<0> SKEW 0 C:101 S:99 C:200
+FAULT SETUP c1<0> EDGE 100 SLOT 81 VALUE C
+FAULTS 1
+",
+    },
+    Row {
+        name: "its waves alone",
+        words: WAVES,
+        text: LATE,
+        outcome: Outcome::Faulty(1),
+        bytes: b"SCALD 1 PERIOD 400
+NETS 2 INSTANCES 0 CHECKS 1
+CASE 0 BASE 0 ROUNDS 0 T 1
+WAVE CK<0> SKEW 0 0:100 R:1 1:49 F:1 0:249
+WAVE D<0> SKEW 0 C:101 S:99 C:200
+FAULTS 1
+",
+    },
+    Row {
+        name: "its fault alone",
+        words: FAULTS,
+        text: LATE,
+        outcome: Outcome::Faulty(1),
+        bytes: b"SCALD 1 PERIOD 400
+NETS 2 INSTANCES 0 CHECKS 1
+CASE 0 BASE 0 ROUNDS 0 T 1
+FAULT SETUP c1<0> EDGE 100 SLOT 81 VALUE C
+FAULTS 1
+",
+    },
+    Row {
+        name: "two faults",
+        words: FAULTS,
+        text: &[
+            HEAD,
+            br#"MACRO CHK2 {N=2} ("CK", "D"<0:N-1>);
+c : SETUP_HOLD_CHK {SETUP=20, HOLD=10} ("CK", "D"<0:N-1>);
+END;
+DRAWING ROW;
+u1 : CHK2 ("CK .P2-3", "D .S2-4"<0:1>);"#,
+            END,
+        ],
+        outcome: Outcome::Faulty(2),
+        bytes: b"SCALD 1 PERIOD 400
+NETS 3 INSTANCES 0 CHECKS 2
+CASE 0 BASE 0 ROUNDS 0 T 1
+FAULT SETUP u1/c<0> EDGE 100 SLOT 81 VALUE C
+FAULT SETUP u1/c<1> EDGE 100 SLOT 81 VALUE C
+FAULTS 2
+",
+    },
+    Row {
+        name: "a fault in each of two cases",
+        words: FAULTS,
+        text: &[
+            FRAME,
+            br#"c1 : SETUP_HOLD_CHK {SETUP=20, HOLD=10} ("CK .P2-3", "D .S2-4");
+WIRE "SEL" 0:0;"#,
+            END,
+            br#"CASE "SEL"=0;
+CASE "SEL"=1;"#,
+        ],
+        outcome: Outcome::Faulty(2),
+        bytes: b"SCALD 1 PERIOD 400
+NETS 3 INSTANCES 0 CHECKS 1
+STABLE SEL<0>
+CASE 1 BASE 0 ROUNDS 0 T 1
+FAULT SETUP c1<0> EDGE 100 SLOT 81 VALUE C
+CASE 2 BASE 0 ROUNDS 0 T 1
+FAULT SETUP c1<0> EDGE 100 SLOT 81 VALUE C
+FAULTS 2
+",
+    },
+    Row {
+        name: "a fault in the first of two cases",
+        words: FAULTS,
+        text: &[
+            FRAME,
+            br#"m1 : MUX2 [0:0] ("SEL", "D .S2-4", "E .S1-4") -> ("X");
+c1 : SETUP_HOLD_CHK {SETUP=20, HOLD=10} ("CK .P2-3", "X");"#,
+            END,
+            br#"CASE "SEL"=0;
+CASE "SEL"=1;"#,
+        ],
+        outcome: Outcome::Faulty(1),
+        bytes: b"SCALD 1 PERIOD 400
+NETS 5 INSTANCES 1 CHECKS 1
+STABLE SEL<0>
+CASE 1 BASE 1 ROUNDS 1 T 3
+FAULT SETUP c1<0> EDGE 100 SLOT 81 VALUE C
+CASE 2 BASE 1 ROUNDS 1 T 3
+FAULTS 1
+",
+    },
+    Row {
+        name: "after the edge",
+        words: FAULTS,
+        text: &[
+            FRAME,
+            br#"c1 : SETUP_HOLD_CHK {SETUP=0, HOLD=10} ("CK .P2-3", "D .S1-2");"#,
+            END,
+        ],
+        outcome: Outcome::Faulty(1),
+        bytes: b"SCALD 1 PERIOD 400
+NETS 2 INSTANCES 0 CHECKS 1
+CASE 0 BASE 0 ROUNDS 0 T 1
+FAULT HOLD c1<0> EDGE 100 SLOT 101 VALUE C
+FAULTS 1
+",
+    },
+    Row {
+        name: "while the clock is high",
+        words: FAULTS,
+        text: &[
+            FRAME,
+            br#"c1 : SETUP_RISE_HOLD_FALL_CHK {SETUP=10, HOLD=5} ("CK .P2-3", "D .S1-3");"#,
+            END,
+        ],
+        outcome: Outcome::Faulty(1),
+        bytes: b"SCALD 1 PERIOD 400
+NETS 2 INSTANCES 0 CHECKS 1
+CASE 0 BASE 0 ROUNDS 0 T 1
+FAULT HIGH c1<0> EDGE 100 SLOT 150 VALUE C
+FAULTS 1
+",
+    },
+    Row {
+        name: "a hazard",
+        words: FAULTS,
+        text: &[
+            FRAME,
+            br#"a1 : AND [0:0] ("CK .P2-3" !H, "E .S1-2") -> ("G");"#,
+            END,
+        ],
+        outcome: Outcome::Faulty(1),
+        bytes: b"SCALD 1 PERIOD 400
+NETS 3 INSTANCES 1 CHECKS 0
+CASE 0 BASE 1 ROUNDS 0 T 2
+FAULT HAZARD a1<0> SLOT 100 PIN 1
+FAULTS 1
+",
+    },
+    Row {
+        name: "an assertion of a driven net",
+        words: FAULTS,
+        text: &[
+            FRAME,
+            br#"r1 : REG [5:15] ("CK .P2-3", "D .S1-4") -> ("Q .S2-1");"#,
+            END,
+        ],
+        outcome: Outcome::Faulty(1),
+        bytes: b"SCALD 1 PERIOD 400
+NETS 3 INSTANCES 1 CHECKS 0
+CASE 0 BASE 1 ROUNDS 0 T 32
+FAULT ASSERT Q<0> SLOT 105 VALUE C
+FAULTS 1
+",
+    },
+    Row {
+        name: "a narrow pulse",
+        words: FAULTS,
+        text: &[
+            FRAME,
+            br#"b1 : BUF [10:30] ("CK .P2-3") -> ("X");
+w1 : MIN_PULSE_CHK {HIGH=51} ("X");"#,
+            END,
+        ],
+        outcome: Outcome::Faulty(1),
+        bytes: b"SCALD 1 PERIOD 400
+NETS 2 INSTANCES 1 CHECKS 1
+CASE 0 BASE 1 ROUNDS 0 T 62
+FAULT WIDTH w1<0> HIGH FROM 110 WIDTH 50
+FAULTS 1
+",
+    },
+    Row {
+        name: "regions that touch",
+        words: FAULTS,
+        text: &[
+            FRAME,
+            br#"c1 : SETUP_HOLD_CHK {SETUP=30, HOLD=10} ("CK .C2-3(25,24)", "D .S1-4");"#,
+            END,
+        ],
+        outcome: Outcome::Faulty(1),
+        bytes: b"SCALD 1 PERIOD 400
+NETS 2 INSTANCES 0 CHECKS 1
+CASE 0 BASE 0 ROUNDS 0 T 1
+FAULT SETUP c1<0> EDGE 75 SLOT 46 VALUE C
+FAULTS 1
+",
+    },
+];
+
+#[test]
+fn reports_with_faults(rt: HostRuntime) -> Result<(), NoMemory> {
+    expect_answers(&rt, &REPORTS)
+}
