@@ -2,4 +2,3 @@ mod Examples
 pub mod Device
 pub mod Back
 pub mod Below
-pub mod Answering

@@ -9,4 +9,3 @@ pub mod Memory
 pub mod Word
 pub mod Signal
 pub mod Outcome
-pub mod Program

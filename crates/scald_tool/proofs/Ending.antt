@@ -20,7 +20,7 @@ use Rattle.timing_analysis.specs.Case.{fault_count, listed_cases}
 use Rattle.timing_analysis.specs.Ended.{EndsEarly, StopsEarly, by_base, by_case}
 use Rattle.scald_base.specs.declared.outcome.Outcome.{Outcome}
 use Rattle.scald_base.specs.declared.outcome.Outcome.TheVariants.{Done, Unsettled as UnsettledOutcome}
-use Rattle.scald_base.specs.declared.reply.Reply.{Reply}
+use Rattle.program_call.specs.declared.reply.Reply.{Reply}
 use Rattle.scald_tool.specs.Report.{faults_in}
 use Rattle.scald_tool.specs.Reported.{IsReported}
 use Rattle.scald_tool.specs.Ended.{IsEnded}

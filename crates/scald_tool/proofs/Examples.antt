@@ -9,7 +9,7 @@ use Rattle.listing.specs.declared.case.Mode.TheVariants.{Full, Waves, Faults}
 use Rattle.design_gen.specs.Datapath.{datapath}
 use Rattle.scald_base.specs.declared.outcome.Outcome.{Outcome}
 use Rattle.scald_base.specs.declared.outcome.Outcome.TheVariants.{Clean, Faulty, Done, Refused, Unsettled, BadWords, TooLong, ReadFault, WriteFault, NoMemory}
-use Rattle.scald_base.specs.Program.{by_source, by_words}
+use Rattle.program_call.specs.Program.{by_source, by_words}
 use Rattle.scald_tool.specs.declared.words.Command.{Command}
 use Rattle.scald_tool.specs.declared.words.Command.TheVariants.{Verify, Format, Bench}
 use Rattle.scald_tool.specs.Words.{are_reading, command_of, reads}

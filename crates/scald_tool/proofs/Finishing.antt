@@ -2,7 +2,7 @@
 use Rattle.std.proofs.Common.{◌≡◌, ◌⊎◌, inl, inr, ℕ, Bool, true, false, cond, List, refl, subst, arith, Option, None}
 use Rattle.std.specs.Prelude.{◌==◌}
 use Rattle.scald_base.specs.Device.{Rose}
-use Rattle.scald_base.specs.Program.{replied}
+use Rattle.program_call.specs.Program.{replied}
 use Rattle.drawing_tree.specs.Canonical.{canonical}
 use Rattle.design_gen.specs.Datapath.{datapath}
 use Rattle.scald_base.specs.declared.outcome.Outcome.{Outcome}

@@ -6,7 +6,7 @@ use Rattle.design_gen.specs.Datapath.{datapath}
 use Rattle.listing.specs.declared.case.Mode.{Mode}
 use Rattle.scald_base.specs.declared.outcome.Outcome.{Outcome}
 use Rattle.scald_base.specs.declared.outcome.Outcome.TheVariants.{Clean, Faulty, Done, Refused, Unsettled, BadWords, TooLong, ReadFault, WriteFault, NoMemory}
-use Rattle.scald_base.specs.declared.reply.Reply.{Reply}
+use Rattle.program_call.specs.declared.reply.Reply.{Reply}
 use Rattle.scald_tool.specs.declared.words.Command.{Command}
 use Rattle.scald_tool.specs.declared.words.Command.TheVariants.{Verify, Format, Bench}
 use Rattle.drawn_circuit.specs.Drawn.{IsLoopless}

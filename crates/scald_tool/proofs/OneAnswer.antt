@@ -4,8 +4,8 @@ use Rattle.std.specs.Prelude.{◌==◌}
 use Rattle.scald_base.specs.declared.outcome.Outcome.{Outcome}
 use Rattle.scald_base.specs.declared.outcome.Outcome.TheVariants.{Clean, Faulty}
 use Rattle.scald_base.specs.Outcome.{end_of}
-use Rattle.scald_base.specs.Program.{IsLawful}
-use Rattle.scald_base.proofs.Answering.{end_of_ended, one_answer}
+use Rattle.program_call.specs.Program.{IsLawful}
+use Rattle.program_call.proofs.Answering.{end_of_ended, one_answer}
 use Rattle.flat_circuit.specs.declared.case.CaseValue.{CaseValue}
 use Rattle.flat_circuit.specs.Circuit.{Circuit}
 use Rattle.scald_tool.specs.declared.words.Command.{Command}

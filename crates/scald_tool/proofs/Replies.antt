@@ -19,7 +19,7 @@ use Rattle.timing_analysis.specs.Promise.{FaultlessNeverBreaks, IsKept, IsSafe, 
 use Rattle.timing_analysis.proofs.Headline.{faultless_is_safe}
 use Rattle.scald_base.specs.declared.outcome.Outcome.{Outcome}
 use Rattle.scald_base.specs.declared.outcome.Outcome.TheVariants.{Clean, Done, Refused}
-use Rattle.scald_base.specs.declared.reply.Reply.{Reply}
+use Rattle.program_call.specs.declared.reply.Reply.{Reply}
 use Rattle.scald_tool.specs.declared.words.Command.{Command}
 use Rattle.scald_tool.specs.declared.words.Command.TheVariants.{Verify, Format, Bench}
 use Rattle.scald_tool.specs.Answer as answer

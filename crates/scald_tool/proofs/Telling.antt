@@ -21,7 +21,7 @@ use Rattle.timing_analysis.specs.Promise.{IsKept}
 use Rattle.timing_analysis.specs.Rested.{IsCaseAtRest, settled_case}
 use Rattle.timing_analysis.proofs.Cases.{none_at_rest, one_more_at_rest}
 use Rattle.scald_base.specs.declared.outcome.Outcome.{Outcome}
-use Rattle.scald_base.specs.declared.reply.Reply.{Reply}
+use Rattle.program_call.specs.declared.reply.Reply.{Reply}
 use Rattle.scald_tool.specs.Report.{case_text, verdict_of}
 use Rattle.scald_tool.specs.Reported.{IsReported}
 

@@ -4,9 +4,9 @@ use Rattle.std.specs.Prelude.{◌≢◌}
 use Rattle.scald_base.specs.declared.list.NoMemory.{NoMemory as OutOfMemory}
 use Rattle.scald_base.specs.declared.outcome.Outcome.{Outcome}
 use Rattle.scald_base.specs.declared.outcome.Outcome.TheVariants.{Clean, Faulty, Done, Refused, Unsettled, BadWords, TooLong, ReadFault, WriteFault, NoMemory}
-use Rattle.scald_base.specs.declared.reply.Reply.{Reply}
-use Rattle.scald_base.specs.Program.{IsReplied}
-use Rattle.scald_base.proofs.Answering.{read_whole, told_all}
+use Rattle.program_call.specs.declared.reply.Reply.{Reply}
+use Rattle.program_call.specs.Program.{IsReplied}
+use Rattle.program_call.proofs.Answering.{read_whole, told_all}
 use Rattle.scald_tool.specs.declared.words.Command.{Command}
 use Rattle.scald_tool.specs.declared.words.Command.TheVariants.{Verify, Format, Bench}
 use Rattle.scald_tool.specs.Words.{command_of, reads}

@@ -1,8 +1,8 @@
 -- What the program answers to its words and to the bytes that it is given.
 use Rattle.std.specs.Prelude.{ℕ, List, Option, Some, None}
 use Rattle.scald_base.specs.Outcome.{ended, end_of}
-use Rattle.scald_base.specs.Program as program
-use Rattle.scald_base.specs.Program.{Meaning}
+use Rattle.program_call.specs.Program as program
+use Rattle.program_call.specs.Program.{Meaning}
 use Rattle.scald_base.specs.declared.refusal.Refusal.{Refusal}
 use Rattle.drawing_tree.specs.Tree.{Drawing}
 use Rattle.drawing_tree.specs.Canonical.{canonical}

@@ -1,6 +1,6 @@
 -- What the whole call promises.
 use Rattle.std.specs.Prelude.{◌≡◌, ◌≢◌, ℕ, Bool, true, false, not, List, ◌++◌, Option, Some, None, Result, Ok, Err}
-use Rattle.scald_base.specs.Program as program
+use Rattle.program_call.specs.Program as program
 use Rattle.listing.specs.declared.case.Mode.{Mode}
 use Rattle.design_gen.specs.Datapath.{datapath}
 use Rattle.scald_base.specs.declared.outcome.Outcome.{Outcome}

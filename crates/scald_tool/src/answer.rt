@@ -12,7 +12,8 @@ use crate::format::format;
 use crate::verify::verify;
 use crate::words::Command;
 use run_wave::RunWave;
-use scald_base::{NoMemory, Outcome, Reply};
+use program_call::Reply;
+use scald_base::{NoMemory, Outcome};
 use std::alloc::Global;
 use step_values::Value;
 

@@ -10,7 +10,8 @@ use crate::reply::refused;
 use crate::words::Command;
 use drawing_tree::{Drawing, print_drawing};
 use drawn_circuit::read_text;
-use scald_base::{NoMemory, Outcome, Reply, Stop};
+use program_call::Reply;
+use scald_base::{NoMemory, Outcome, Stop};
 use std::alloc::Global;
 
 /// The canonical text of a drawing, or the line of its refusal.

@@ -4,7 +4,8 @@ ghost use Rattle.std.specs.Prelude.{◌≡◌, IfOk};
 ghost use Rattle.listing.specs.Answer.{refusal_line};
 
 use listing::write_refusal;
-use scald_base::{Bytes, NoMemory, Outcome, Refusal, Reply};
+use program_call::Reply;
+use scald_base::{Bytes, NoMemory, Outcome, Refusal};
 use std::alloc::Global;
 
 /// A refusal with its line.

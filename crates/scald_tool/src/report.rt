@@ -9,7 +9,8 @@ ghost use Rattle.scald_tool.specs.Report.{verdict_of};
 
 use flat_circuit::Circuit;
 use listing::{Mode, begin_report, end_report, write_case};
-use scald_base::{Bytes, NoMemory, Outcome, Reply};
+use program_call::Reply;
+use scald_base::{Bytes, NoMemory, Outcome};
 use std::alloc::Global;
 use step_values::Value;
 use timing_analysis::CaseAtRest;

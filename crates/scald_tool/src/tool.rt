@@ -10,7 +10,8 @@ ghost use Rattle.timing_analysis.specs.Promise.{FaultlessNeverBreaks, NeverBreak
 ghost use Rattle.scald_tool.specs.Promise.{AreTold, IsAnswered, IsCutShort, RestsWithoutLoops, has_read, has_report, is_silent, may_answer, speaks};
 
 use crate::verifier::Verifier;
-use scald_base::{Outcome, Sink, Source, Words, main_call};
+use program_call::main_call;
+use scald_base::{Outcome, Sink, Source, Words};
 use std::alloc::Global;
 
 /// Answers what the words ask for and writes it to the sink: the report on the drawing that the source

@@ -2,7 +2,8 @@
 
 use crate::answer::answer;
 use crate::words::{Command, read_words};
-use scald_base::{CallEnd, NoMemory, Outcome, Program, Reply, Words};
+use program_call::{Program, Reply};
+use scald_base::{CallEnd, NoMemory, Outcome, Words};
 use std::alloc::Global;
 
 /// The most bytes of a text.

@@ -1,5 +1,5 @@
 use Rattle.std.proofs.Common.{refl, None}
-use Rattle.scald_base.specs.Program.{by_source}
+use Rattle.program_call.specs.Program.{by_source}
 use Rattle.scald_tool.proofs.Finishing.{finished_or_not, calm}
 use Rattle.scald_tool.proofs.laws.answers_over_sure_devices.Goals as goal
 

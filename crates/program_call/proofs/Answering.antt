@@ -8,7 +8,7 @@ use Rattle.scald_base.specs.Device.{ReadsAll, ReadsPast}
 use Rattle.scald_base.specs.declared.call_end.CallEnd.{CallEnd}
 use Rattle.scald_base.specs.declared.call_end.CallEnd.TheVariants.{BadWords, TooLong, ReadFault, WriteFault, NoMemory}
 use Rattle.scald_base.specs.Outcome.{ended, end_of}
-use Rattle.scald_base.specs.Program.{Meaning, IsLawful, are_reading, is_no_end, is_end, ends_silent, ends_reading, speaks, outcome_of, Answer, no_form, too_long, replied, AreTold, by_source, by_words, IsAnswered, IsCutShort, IsReply, IsReplied, IsPartReplied}
+use Rattle.program_call.specs.Program.{Meaning, IsLawful, are_reading, is_no_end, is_end, ends_silent, ends_reading, speaks, outcome_of, Answer, no_form, too_long, replied, AreTold, by_source, by_words, IsAnswered, IsCutShort, IsReply, IsReplied, IsPartReplied}
 
 -- ---- what was read
 

@@ -1,8 +1,8 @@
 use Rattle.std.proofs.Common.{refl}
 use Rattle.scald_base.specs.declared.call_end.CallEnd.TheVariants.{BadWords, TooLong, ReadFault, WriteFault}
-use Rattle.scald_base.specs.Program.{ends_reading, ends_silent}
-use Rattle.scald_base.proofs.Answering.{end_is, end_gives, other_end, at_end, speaks_replied, at_source_end, reply_answers, part_answers, whole_answer, long_text}
-use Rattle.scald_base.proofs.call.main_call.Goals as goal
+use Rattle.program_call.specs.Program.{ends_reading, ends_silent}
+use Rattle.program_call.proofs.Answering.{end_is, end_gives, other_end, at_end, speaks_replied, at_source_end, reply_answers, part_answers, whole_answer, long_text}
+use Rattle.program_call.proofs.call.main_call.Goals as goal
 
 -- ---- the words
 

@@ -1,13 +1,10 @@
 //! What a program is to its main call.
 
 ghost use Rattle.std.specs.Prelude.{◌≡◌, ◌≤◌, ◌<◌, ◌-◌, ◌^◌, ℕ, List, Ok, IfOk, length};
-ghost use Rattle.scald_base.specs.Program.{IsLawful, Meaning};
+ghost use Rattle.program_call.specs.Program.{IsLawful, Meaning};
 
-use crate::bytes::Bytes;
-use crate::call_end::CallEnd;
-use crate::list::NoMemory;
 use crate::reply::Reply;
-use crate::words::Words;
+use scald_base::{CallEnd, NoMemory, Words};
 use std::alloc::Global;
 
 /// A program that answers to its words and to a text. `main_call` reads the text, and writes the

@@ -1,6 +1,6 @@
 //! An answer before it is written.
 
-use crate::bytes::Bytes;
+use scald_base::Bytes;
 
 /// An outcome, with the bytes that are written.
 #[derive(Drop, Debug)]

@@ -3,15 +3,10 @@
 ghost use Rattle.std.specs.Prelude.{◌≡◌, ◌≢◌, ℕ, ◌≤◌, ◌<◌, List, length, true, false, Ok, Err, IfOk, IfErr, IsErr, IsErrOf, IfSome, ◌⊎◌};
 ghost use Rattle.std.specs.Io.KnownBytes.{IsAtEnd};
 ghost use Rattle.scald_base.specs.Device.{Rose, ReadsAll, ReadsFront, ReadsPast};
-ghost use Rattle.scald_base.specs.Program.{AreTold, IsAnswered, IsCutShort, IsPartReplied, IsReplied, asks, ends_reading, ends_silent, has_read, is_silent, most_for, outcome_of, speaks};
+ghost use Rattle.program_call.specs.Program.{AreTold, IsAnswered, IsCutShort, IsPartReplied, IsReplied, asks, ends_reading, ends_silent, has_read, is_silent, most_for, outcome_of, speaks};
 
-use crate::bytes::Bytes;
-use crate::call_end::CallEnd;
 use crate::program::Program;
-use crate::sink::Sink;
-use crate::source::Source;
-use crate::transfer::{ReadEnd, read_all, write_all};
-use crate::words::Words;
+use scald_base::{Bytes, CallEnd, ReadEnd, Sink, Source, Words, read_all, write_all};
 use std::alloc::Global;
 
 /// Answers what the words ask the program for and writes it to the sink.

@@ -1,8 +1,8 @@
 use Rattle.std.proofs.Common.{subst}
 use Rattle.std.specs.Io.KnownBytes.{Appends}
 use Rattle.scald_base.specs.Device.{TakesFront}
-use Rattle.scald_base.proofs.Answering.{reply_made}
-use Rattle.scald_base.proofs.call.replied.Goals as goal
+use Rattle.program_call.proofs.Answering.{reply_made}
+use Rattle.program_call.proofs.call.replied.Goals as goal
 
 pub returns-in-Ok-write_all-clause-replied : goal.returns-in-Ok-write_all-clause-replied
 returns-in-Ok-write_all-clause-replied g c =
