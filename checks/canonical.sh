@@ -68,6 +68,8 @@ statement 'one bit' 'WIRE"W"<3>0:1;' 'WIRE "W"<3> 0:1;'
 statement 'a range' 'WIRE"W"<3:N-1>0:1;' 'WIRE "W"<3:N - 1> 0:1;'
 statement 'a use' 'a:B();' 'a : B ();'
 statement 'a delay' 'a:B[1:2]();' 'a : B [1:2] ();'
+statement 'two delays' 'a:B[1:2,3:4]();' 'a : B [1:2, 3:4] ();'
+statement 'expressions in two delays' 'a:B[A:B+1,-A:(A<(B))]{X=1}();' 'a : B [A:B + 1, -A:(A < B)] {X=1} ();'
 statement 'a parameter of a use' 'a:B{X=1}();' 'a : B {X=1} ();'
 statement 'two parameters of a use' 'a:B[0:9]{X=1,Y=X}();' 'a : B [0:9] {X=1, Y=X} ();'
 statement 'a complement' 'a:B(-"X"<1>);' 'a : B (-"X"<1>);'
@@ -84,6 +86,7 @@ statement 'an ELSE' 'IF A THEN a:B();ELSE b:B();END;' 'IF A THEN' '  a : B ();' 
 
 statement 'parameters without a delay' 't:T{N=(1+2)*3-(-(4))}("A")->("Z");' 't : T {N=(1 + 2) * 3 - -4} ("A") -> ("Z");'
 statement 'all parts of a use' 't:T[0:1]{N=(1+2)*3-(-(4))}(-"A")->("Z");' 't : T [0:1] {N=(1 + 2) * 3 - -4} (-"A") -> ("Z");'
+statement 'all parts of a use with two delays' 't:T[0:(1),002:3*(N-1)]{N=1}(-"A")->("Z");' 't : T [0:1, 2:3 * (N - 1)] {N=1} (-"A") -> ("Z");'
 
 # --- what surrounds statements
 drawn 'the shortest drawing' 'DRAWING D;END;' 'DRAWING D;' 'END;'

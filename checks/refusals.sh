@@ -84,6 +84,15 @@ early '15 TooDeep 4:75' "b1 : BUF [$(many 65 '(')0$(many 65 ')'):0] (\"A\") -> (
 early '15 TooDeep 4:75' "b1 : BUF [$(many 33 '-(')0$(many 33 ')'):0] (\"A\") -> (\"X\");"
 early '15 TooDeep 4:139' "b1 : BUF [$(many 65 '- ')0:0] (\"A\") -> (\"X\");"
 early '15 TooDeep 4:140' "b1 : BUF [0$(many 65 '+1'):70] (\"A\") -> (\"X\");"
+early '3 Syntax 4:9' 'a:B[1:2,]();'
+early '3 Syntax 4:10' 'a:B[1:2,3]();'
+early '3 Syntax 4:10' 'a:B[1:2,3=4]();'
+early '3 Syntax 4:12' 'a:B[1:2,3:4,5:6]();'
+early '3 Syntax 4:5' 'a:B[,3:4]();'
+early '3 Syntax 4:6' 'a:B[1,3:4]();'
+early '3 Syntax 4:9' 'a:B[1:2][3:4]();'
+early '15 TooDeep 4:82' "b1 : BUF [0:0, 0:$(many 65 '(')0$(many 65 ')')] (\"A\") -> (\"X\");"
+early '15 TooDeep 4:401' "b1 : BUF [0$(many 64 '+1'):0$(many 64 '+1'), 0$(many 65 '+1'):0] (\"A\") -> (\"X\");"
 early '15 TooDeep 4:641' "$(many 65 'IF 1 THEN ')b1 : BUF [0:0] (\"A\") -> (\"X\"); $(many 65 'END; ')"
 
 # --- header

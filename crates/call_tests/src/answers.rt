@@ -126,7 +126,7 @@ CLEAN
 ];
 
 /// What the other forms answer.
-const OTHERS: [Row; 5] = [
+const OTHERS: [Row; 6] = [
     Row {
         name: "a text on one line",
         words: FORMAT,
@@ -139,6 +139,21 @@ PSKEW 0:0;
 CSKEW 0:0;
 DRAWING T;
   b1 : BUF [0:0] (-"A") -> ("B");
+END;
+"#,
+    },
+    Row {
+        name: "two delays",
+        words: FORMAT,
+        text: &[FRAME, br#"b1:BUF[2:1+3,(6):8]("A")->("X");"#, END],
+        outcome: Outcome::Done,
+        bytes: br#"SCALD 1;
+CLOCK 8 x 50;
+WIRE 0:0;
+PSKEW 0:0;
+CSKEW 0:0;
+DRAWING ROW;
+  b1 : BUF [2:1 + 3, 6:8] ("A") -> ("X");
 END;
 "#,
     },

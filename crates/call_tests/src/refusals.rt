@@ -18,7 +18,7 @@ type Row = (
 const PARENTHESES: &[u8] = b"(((((((((((((((((((((((((((((((((((((((((((((((((((((((((((((((((";
 
 /// What is refused before any expansion: `format` refuses it too.
-const EARLY: [Row; 11] = [
+const EARLY: [Row; 13] = [
     (
         "REFUSED 1 BadByte 1:7\n",
         RefusalKind::BadByte,
@@ -47,6 +47,18 @@ const EARLY: [Row; 11] = [
         RefusalKind::Syntax,
         (2, 1),
         &[b"SCALD 1;\nclock 8 x 50;\n"],
+    ),
+    (
+        "REFUSED 3 Syntax 4:17\n",
+        RefusalKind::Syntax,
+        (4, 17),
+        &[FRAME, br#"b1 : BUF [1:2, 3] ("A") -> ("X");"#, END],
+    ),
+    (
+        "REFUSED 3 Syntax 4:19\n",
+        RefusalKind::Syntax,
+        (4, 19),
+        &[FRAME, br#"b1 : BUF [1:2, 3:4, 5:6] ("A") -> ("X");"#, END],
     ),
     (
         "REFUSED 15 TooDeep 4:75\n",

@@ -168,15 +168,19 @@ assignment_tokens a = word a.name ++ equals ++ sum_tokens a.value
 abbrev pub params_tokens : List Assignment → List Bare
 params_tokens params = bracketed_tokens_if_some open_brace close_brace assignment_tokens params
 
-abbrev pub delay_tokens : Option (Expression × Expression) → List Bare
-delay_tokens None = []
-delay_tokens (Some delay) = open_bracket ++ bounds_tokens delay.0 delay.1 ++ close_bracket
+abbrev pub fall_tokens : Option (Expression × Expression) → List Bare
+fall_tokens None = []
+fall_tokens (Some fall) = comma ++ bounds_tokens fall.0 fall.1
+
+abbrev pub delay_tokens : Option (Expression × Expression) → Option (Expression × Expression) → List Bare
+delay_tokens None fall = []
+delay_tokens (Some delay) fall = open_bracket ++ bounds_tokens delay.0 delay.1 ++ fall_tokens fall ++ close_bracket
 
 -- ---- statements
 
 abbrev pub use_tokens : UseStatement → List Bare
 use_tokens u =
-    word u.label ++ colon ++ word u.kind ++ delay_tokens u.delay ++ params_tokens u.params
+    word u.label ++ colon ++ word u.kind ++ delay_tokens u.delay u.fall ++ params_tokens u.params
     ++ inputs_tokens connection_tokens u.ins ++ outputs_tokens connection_tokens u.outs ++ semicolon
 
 abbrev pub wire_tokens : WireStatement → List Bare

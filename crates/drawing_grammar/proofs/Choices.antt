@@ -130,6 +130,7 @@ choice_of g.formal = refl
 choice_of g.next_formal = refl
 choice_of g.formal_outputs = refl
 choice_of g.delay = refl
+choice_of g.fall = refl
 choice_of g.complement = refl
 choice_of g.zero_term = refl
 choice_of g.one_term = refl
@@ -181,6 +182,7 @@ opens_with g.Formal is.Name c e = let h : g.formal ≡ c = cc in ap opening h
 opens_with g.MoreFormals is.Comma c e = let h : g.next_formal ≡ c = cc in ap opening h
 opens_with g.FormalOutputs is.Arrow c e = let h : g.formal_outputs ≡ c = cc in ap opening h
 opens_with g.Delay is.OpenBracket c e = let h : g.delay ≡ c = cc in ap opening h
+opens_with g.Fall is.Comma c e = let h : g.fall ≡ c = cc in ap opening h
 opens_with g.Term is.Minus c e = let h : g.complement ≡ c = cc in ap opening h
 opens_with g.Term is.Zero c e = let h : g.zero_term ≡ c = cc in ap opening h
 opens_with g.Term is.One c e = let h : g.one_term ≡ c = cc in ap opening h

@@ -1,5 +1,5 @@
 -- What is known of the numbers, words, names and lists of a drawing that some text draws.
-use Rattle.std.specs.Prelude.{◌≡◌, ◌≤◌, ◌<◌, ◌^◌, ℤ, pos, negsuc, List, [], ◌∷◌, IfSome, ⊤}
+use Rattle.std.specs.Prelude.{◌≡◌, ◌≤◌, ◌<◌, ◌^◌, ℤ, pos, negsuc, List, [], ◌∷◌, Option, Some, None, IfSome, ⊤}
 use Rattle.std.specs.List.{AllByRecursion}
 use Rattle.scald_base.specs.Time.{IsHeader}
 use Rattle.scald_lex.specs.Piece.{greatest_number}
@@ -7,7 +7,7 @@ use Rattle.scald_expr.specs.Expression.{Expression, Number, Param, Negate, Binar
 use Rattle.assertion_syntax.specs.Name.{IsName, IsBase}
 use Rattle.drawing_tree.specs.declared.drawing.CaseEntry.{CaseEntry}
 use Rattle.drawing_tree.specs.declared.drawing.CaseStmt.{CaseStmt}
-use Rattle.drawing_tree.specs.Tree.{Range, Item, Zero, One, Named, Term, Connection, Assignment, UseStatement, WireStatement, Statement, Use, Wire, If, Statements, nil, cons, Otherwise, no_else, else_, Formal, Macro, Drawing}
+use Rattle.drawing_tree.specs.Tree.{Range, Item, Zero, One, Named, Term, Connection, Assignment, UseStatement, WireStatement, Statement, Use, Wire, If, Statements, nil, cons, Otherwise, no_else, else_, Formal, Macro, Drawing, EachDelay}
 use Rattle.drawing_tree.specs.WellFormed.{IsFreeWord}
 
 -- a number of a token
@@ -46,10 +46,16 @@ pub record IsDrawnAssignment (a : Assignment) : Type 0 where
   pub name : IsFreeWord a.name
   pub value : IsDrawn a.value
 
+-- A fall delay stands beside a delay.
+abbrev pub IsBeside : Option (Expression × Expression) → Option (Expression × Expression) → Type 0
+IsBeside None fall = fall ≡ None
+IsBeside (Some delay) fall = ⊤
+
 pub record IsDrawnUse (u : UseStatement) : Type 0 where
   pub label : IsFreeWord u.label
   pub kind : IsFreeWord u.kind
-  pub delay : IfSome u.delay (λ d. IsDrawn d.0 × IsDrawn d.1)
+  pub delays : EachDelay IsDrawn u.delay u.fall
+  pub beside : IsBeside u.delay u.fall
   pub params : AllByRecursion IsDrawnAssignment u.params
   pub ins : AllByRecursion IsDrawnConnection u.ins
   pub outs : AllByRecursion IsDrawnConnection u.outs

@@ -52,7 +52,7 @@ module _ (G : SignalName → Type 0) (k : (n : SignalName) → G n → IsName n)
   connection_drawn c a = record { some = a.some; terms = all_map (IsTermOf G) drawn.IsDrawnTerm (λ t h. item_drawn t.item h) c.terms a.terms }
 
   use_drawn : (u : tree.UseStatement) → IsUseOf G u → drawn.IsDrawnUse u
-  use_drawn u a = record { label = a.label; kind = a.kind; delay = a.delay; params = a.params; ins = all_map (IsConnectionOf G) drawn.IsDrawnConnection connection_drawn u.ins a.ins; outs = all_map (IsConnectionOf G) drawn.IsDrawnConnection connection_drawn u.outs a.outs }
+  use_drawn u a = record { label = a.label; kind = a.kind; delays = a.delays; beside = a.beside; params = a.params; ins = all_map (IsConnectionOf G) drawn.IsDrawnConnection connection_drawn u.ins a.ins; outs = all_map (IsConnectionOf G) drawn.IsDrawnConnection connection_drawn u.outs a.outs }
 
   wire_drawn : (w : tree.WireStatement) → IsWireOf G w → drawn.IsDrawnWire w
   wire_drawn w a = record { name = k w.name a.name; range = a.range; min = a.min; max = a.max }
@@ -111,9 +111,13 @@ some_range_good : (o : Option tree.Range) → IfSome o IsDrawnRange → IfSome o
 some_range_good None a = tt
 some_range_good (Some r) a = range_good r a
 
-delay_good : (o : Option (Expression × Expression)) → IfSome o (λ d. IsDrawn d.0 × IsDrawn d.1) → IfSome o (λ d. IsGoodExpression d.0 × IsGoodExpression d.1)
-delay_good None a = tt
-delay_good (Some d) a = (expression_good d.0 a.0, expression_good d.1 a.1)
+fall_good : (o : Option (Expression × Expression)) → IfSome o (λ d. IsDrawn d.0 × IsDrawn d.1) → IfSome o (λ d. IsGoodExpression d.0 × IsGoodExpression d.1)
+fall_good None a = tt
+fall_good (Some d) a = (expression_good d.0 a.0, expression_good d.1 a.1)
+
+delays_good : (delay fall : Option (Expression × Expression)) → tree.EachDelay IsDrawn delay fall → tree.EachDelay IsGoodExpression delay fall
+delays_good None fall a = tt
+delays_good (Some d) fall a = ((expression_good d.0 a.0.0, expression_good d.1 a.0.1), fall_good fall a.1)
 
 assignment_good : (x : tree.Assignment) → drawn.IsDrawnAssignment x → well.IsGoodAssignment x
 assignment_good x a = record { name = a.name; value = expression_good x.value a.value }
@@ -137,7 +141,7 @@ module _ (h : Header) where
   use_good u a = record {
     label = a.label;
     kind = a.kind;
-    delay = delay_good u.delay a.delay;
+    delays = delays_good u.delay u.fall a.delays;
     params = all_of drawn.IsDrawnAssignment well.IsGoodAssignment assignment_good u.params a.params;
     ins = all_of (IsConnectionOf Good) (λ c. well.IsGoodConnection h c) connection_good u.ins a.ins;
     outs = all_of (IsConnectionOf Good) (λ c. well.IsGoodConnection h c) connection_good u.outs a.outs;

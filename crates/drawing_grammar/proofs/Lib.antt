@@ -67,6 +67,7 @@ pub mod PlacedValues
 pub mod PlacedDrawings
 pub mod TextLaws
 mod Examples
+mod ExamplesDelays
 pub mod LeftOver
 pub mod NestExpression
 pub mod NestForms

@@ -36,7 +36,7 @@ abbrev pub IsFewAssignment : tree.Assignment → Type 0
 IsFewAssignment a = IsFew a.value
 
 pub record IsFewUse (u : tree.UseStatement) : Type 0 where
-  pub delay : IfSome u.delay (λ d. IsFew d.0 × IsFew d.1)
+  pub delays : tree.EachDelay IsFew u.delay u.fall
   pub params : AllByRecursion IsFewAssignment u.params
   pub ins : AllByRecursion IsFewConnection u.ins
   pub outs : AllByRecursion IsFewConnection u.outs
@@ -100,7 +100,8 @@ IsPartOk g.MoreAssigns n v a b = AllByRecursion IsFewAssignment v.items
 IsPartOk g.Formal n v a b = IsFewFormal v.item
 IsPartOk g.MoreFormals n v a b = AllByRecursion IsFewFormal v.items
 IsPartOk g.FormalOutputs n v a b = AllByRecursion IsFewFormal v.items
-IsPartOk g.Delay n v a b = IfSome v (λ d. IsFew d.0 × IsFew d.1)
+IsPartOk g.Delay n v a b = tree.EachDelay IsFew v.delay v.fall
+IsPartOk g.Fall n v a b = IfSome v (λ d. IsFew d.0 × IsFew d.1)
 IsPartOk g.Term n v a b = IsFewItem v.item.item
 IsPartOk g.Atom n v a b = IsFewItem v
 IsPartOk g.MoreTerms n v a b = AllByRecursion (λ t. IsFewItem t.item) v
@@ -233,7 +234,8 @@ choice_ok g.next_assign n t v a b l m = (m.1, m.2.1)
 choice_ok g.formal n t v a b l m = m.1
 choice_ok g.next_formal n t v a b l m = (m.1, m.2.1)
 choice_ok g.formal_outputs n t v a b l m = m.1
-choice_ok g.delay n t v a b l m = (few_of v.0 m.0 m.1, few_of v.1.0 m.2.0 m.2.1)
+choice_ok g.delay n t v a b l m = ((few_of v.0 m.0 m.1, few_of v.1.0 m.2.0 m.2.1), m.2.2.1)
+choice_ok g.fall n t v a b l m = (few_of v.0 m.0 m.1, few_of v.1.0 m.2.0 m.2.1)
 choice_ok g.complement n t v a b l m = m.1
 choice_ok g.zero_term n t v a b l m = tt
 choice_ok g.one_term n t v a b l m = tt
@@ -245,7 +247,7 @@ choice_ok g.next_term n t v a b l m = (m.1, m.2.1)
 choice_ok g.hold n t v a b l m = tt
 choice_ok g.next_conn n t v a b l m = (m.1, m.2.1)
 choice_ok g.outputs n t v a b l m = m.1
-choice_ok g.use_ n t v a b l m = record { delay = m.1; params = m.2.1; ins = m.2.2.1; outs = m.2.2.2.1 }
+choice_ok g.use_ n t v a b l m = record { delays = m.1; params = m.2.1; ins = m.2.2.1; outs = m.2.2.2.1 }
 choice_ok g.wire n t v a b l m = record { range = m.1; min = few_of v.1.1.0 m.2.0 m.2.1; max = few_of v.1.1.1.0 m.2.2.0 m.2.2.1 }
 choice_ok g.if_ n t v a b l m = (l, few_of v.0 m.0 m.1, m.2.1, m.2.2.1)
 choice_ok g.else_ n t v a b l m = m.1
@@ -291,6 +293,7 @@ absent_ok g.Formal n v a h = absurd cc
 absent_ok g.MoreFormals n v a h = subst (λ (o : Meaning g.MoreFormals). IsPartOk g.MoreFormals n o a a) (same_Some _ v h) tt
 absent_ok g.FormalOutputs n v a h = subst (λ (o : Meaning g.FormalOutputs). IsPartOk g.FormalOutputs n o a a) (same_Some _ v h) tt
 absent_ok g.Delay n v a h = subst (λ (o : Meaning g.Delay). IsPartOk g.Delay n o a a) (same_Some _ v h) tt
+absent_ok g.Fall n v a h = subst (λ (o : Meaning g.Fall). IsPartOk g.Fall n o a a) (same_Some _ v h) tt
 absent_ok g.Term n v a h = absurd cc
 absent_ok g.Atom n v a h = absurd cc
 absent_ok g.MoreTerms n v a h = subst (λ (o : Meaning g.MoreTerms). IsPartOk g.MoreTerms n o a a) (same_Some _ v h) tt

@@ -11,9 +11,10 @@ use Rattle.drawing_grammar.specs.Lexeme.{word_terminal, symbol_terminal}
 use Rattle.drawing_grammar.specs.Grammar.{Need, mark, item, letter, fresh, part, group}
 use Rattle.drawing_grammar.specs.Grammar as g
 use Rattle.drawing_grammar.specs.Machine.{choice}
+use Rattle.drawing_grammar.specs.Sketch.{no_delays}
 use Rattle.drawing_grammar.proofs.Cutting.{Bare}
 use Rattle.drawing_grammar.proofs.Leaves as leaf
-use Rattle.drawing_grammar.proofs.CanonicalTokens.{word, semicolon, colon, close_bracket, condition_tokens, sum_tokens, bounds_tokens, range_tokens, connection_tokens, inputs_tokens, outputs_tokens, params_tokens, delay_tokens, use_tokens, wire_tokens, end_tokens, statement_tokens, statements_tokens, else_tokens, body_tokens}
+use Rattle.drawing_grammar.proofs.CanonicalTokens.{word, semicolon, colon, close_bracket, condition_tokens, sum_tokens, bounds_tokens, range_tokens, connection_tokens, inputs_tokens, outputs_tokens, params_tokens, fall_tokens, delay_tokens, use_tokens, wire_tokens, end_tokens, statement_tokens, statements_tokens, else_tokens, body_tokens}
 use Rattle.drawing_grammar.proofs.Drawable.{IsDrawn, IsDrawnUse, IsDrawnWire, IsDrawnStatement, AreDrawn, IsDrawnOtherwise}
 use Rattle.drawing_grammar.proofs.LeftOver.{LeftOver, first_of, take_mark, take_item, take_choice, pass_part, pass_fresh, pass_group, into_group, into_leading}
 use Rattle.drawing_grammar.proofs.Matching.{free_word}
@@ -28,27 +29,60 @@ bare_word text = leaf.word text
 
 -- ---- uses and wires
 
-delay_held : (delay : Option (Expression × Expression)) →
-    IfSome delay (λ d. IsDrawn d.0 × IsDrawn d.1) → (more : List Bare) (rest : List Need) →
-    choice g.Delay (first_of more) ≡ None → LeftOver (delay_tokens delay ++ more)
-    (part g.Delay 0 ∷ rest) → Held (IfSome delay (λ d. IsShallow d.0 × IsShallow d.1)) more rest
+fall_factors : (fall : Option (Expression × Expression)) (more : List Bare) →
+    choice g.Factors (first_of (fall_tokens fall ++ (bare_symbol 93 ∷ more))) ≡ None
 unfolding symbol_terminal
-delay_held None is more rest none b = record {
+fall_factors None more = refl
+fall_factors (Some f) more = refl
+
+fall_terms : (fall : Option (Expression × Expression)) (more : List Bare) →
+    choice g.Terms (first_of (fall_tokens fall ++ (bare_symbol 93 ∷ more))) ≡ None
+unfolding symbol_terminal
+fall_terms None more = refl
+fall_terms (Some f) more = refl
+
+fall_held : (fall : Option (Expression × Expression)) →
+    IfSome fall (λ f. IsDrawn f.0 × IsDrawn f.1) → (more : List Bare) (rest : List Need) →
+    LeftOver (fall_tokens fall ++ (bare_symbol 93 ∷ more)) (part g.Fall 0 ∷ rest) →
+    Held (IfSome fall (λ f. IsShallow f.0 × IsShallow f.1)) (bare_symbol 93 ∷ more) rest
+unfolding symbol_terminal
+fall_held None is more rest b = record {
   holds = tt;
   left =
-      pass_part g.Delay 0 None more rest none refl b;
+      pass_part g.Fall 0 None (bare_symbol 93 ∷ more) rest refl refl b;
 }
-delay_held (Some d) is more rest none b =
+fall_held (Some f) is more rest b =
+    let end = bare_symbol 93 ∷ more in
+    let o = take_choice g.fall 0 (bare_symbol 44) (bounds_tokens f.0 f.1 ++ end) rest refl b in
+    let r = bounds_held f.0 f.1 is.0 is.1 end rest refl refl o.left in
+    record { holds = r.holds; left = r.left }
+
+delay_held : (delay fall : Option (Expression × Expression)) →
+    tree.EachDelay IsDrawn delay fall → (more : List Bare) (rest : List Need) →
+    choice g.Delay (first_of more) ≡ None → LeftOver (delay_tokens delay fall ++ more)
+    (part g.Delay 0 ∷ rest) → Held (tree.EachDelay IsShallow delay fall) more rest
+unfolding symbol_terminal
+delay_held None fall is more rest none b = record {
+  holds = tt;
+  left =
+      pass_part g.Delay 0 no_delays more rest none refl b;
+}
+delay_held (Some d) fall is more rest none b =
     let inner = bounds_tokens d.0 d.1 in
-    let needs : List Need = fresh ∷ group g.Sum 0 ∷ mark token.Colon ∷ fresh ∷ group g.Sum 0 ∷ mark
-    token.CloseBracket ∷ rest in
-    let o = take_choice g.delay 0 (bare_symbol 91) ((inner ++ close_bracket) ++ more) rest refl b in
-    let r = bounds_held d.0 d.1 is.0 is.1 (bare_symbol 93 ∷ more) (mark token.CloseBracket ∷ rest) refl
-    refl (shift inner close_bracket more needs o.left) in
+    let behind = fall_tokens fall in
+    let end = bare_symbol 93 ∷ more in
+    let later : List Need = part g.Fall 0 ∷ mark token.CloseBracket ∷ rest in
+    let needs : List Need = fresh ∷ group g.Sum 0 ∷ mark token.Colon ∷ fresh ∷ group g.Sum 0 ∷ later in
+    let o = take_choice g.delay 0 (bare_symbol 91) (((inner ++ behind) ++ close_bracket) ++ more) rest
+    refl b in
+    let x = shift inner behind end needs (shift (inner ++ behind) close_bracket more needs o.left) in
+    let one = bounds_held d.0 d.1 is.0.0 is.0.1 (behind ++ end) later (fall_factors fall more)
+    (fall_terms fall more) x in
+    let two = fall_held fall is.1 more (mark token.CloseBracket ∷ rest) one.left in
     record {
-      holds = r.holds;
+      holds = (one.holds, two.holds);
       left = take_mark (bare_symbol 93) more token.CloseBracket rest refl
-          r.left;
+          two.left;
     }
 
 -- what may stand first after the kind of a use
@@ -69,7 +103,7 @@ use_held : (u : tree.UseStatement) → IsDrawnUse u → (n : ℕ) (more : List B
     LeftOver (use_tokens u ++ more) (part g.Statement n ∷ rest) → Held (IsShallowUse u) more rest
 unfolding symbol_terminal
 use_held u is n more rest b =
-    let delay = delay_tokens u.delay in
+    let delay = delay_tokens u.delay u.fall in
     let params = params_tokens u.params in
     let ins = inputs_tokens connection_tokens u.ins in
     let outs = outputs_tokens connection_tokens u.outs in
@@ -91,7 +125,7 @@ use_held u is n more rest b =
     (free_word u.kind is.kind.is_free) x4 in
     let later : List Need = mark token.OpenParenthesis ∷ group g.Conns 0 ∷ mark token.CloseParenthesis ∷
     part g.Outputs 0 ∷ mark token.Semicolon ∷ rest in
-    let one = delay_held u.delay is.delay tail (part g.Parameters 0 ∷ later)
+    let one = delay_held u.delay u.fall is.delays tail (part g.Parameters 0 ∷ later)
     (after_params g.Delay u.params (ins ++ (outs ++ end)) refl
     (after_inputs connection_tokens g.Delay u.ins (outs ++ end) refl)) x5 in
     let two = params_held u.params is.params (ins ++ (outs ++ end)) later
@@ -101,7 +135,7 @@ use_held u is n more rest b =
     let four = outputs_held u.outs is.outs end (mark token.Semicolon ∷ rest) refl three.left in
     record {
       holds = record {
-        delay = one.holds;
+        delays = one.holds;
         params = two.holds;
         ins = three.holds;
         outs =

@@ -69,6 +69,10 @@ pub no_delay : (l : Terminal) → l ≢ is.OpenBracket → choice g.Delay l ≡ 
 no_delay is.OpenBracket h0 = absurd (h0 refl)
 no_delay _ h0 = refl
 
+pub no_fall : (l : Terminal) → l ≢ is.Comma → choice g.Fall l ≡ None
+no_fall is.Comma h0 = absurd (h0 refl)
+no_fall _ h0 = refl
+
 pub no_term : (l : Terminal) → l ≢ is.Minus → l ≢ is.Zero → l ≢ is.One → l ≢ is.Name → choice g.Term l ≡ None
 no_term is.Minus h0 h1 h2 h3 = absurd (h0 refl)
 no_term is.Zero h0 h1 h2 h3 = absurd (h1 refl)

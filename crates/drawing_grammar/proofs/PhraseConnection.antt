@@ -1,5 +1,5 @@
 -- The phrases of canonical ranges, terms and connections.
-use Rattle.std.proofs.Common.{◌≡◌, ℕ, ◌+◌, ◌-◌, ◌≤◌, Bool, true, false, List, [], ◌∷◌, ◌++◌, length, take, Option, Some, None, refl, sym, ap, subst, ◌∙◌, arith, append_assoc, length-append}
+use Rattle.std.proofs.Common.{◌≡◌, ℕ, ◌+◌, ◌-◌, ◌≤◌, Bool, true, false, List, [], ◌∷◌, ◌++◌, length, take, Option, Some, None, refl, sym, ap, subst, ◌∙◌, arith, length-append}
 use Rattle.std.specs.Prelude.{codes, IfSome, ⊤}
 use Rattle.std.proofs.Math.Seq.{take-append_seam}
 use Rattle.scald_expr.specs.Expression.{Expression}
@@ -20,7 +20,7 @@ use Rattle.drawing_grammar.proofs.Leaves as leaf
 use Rattle.drawing_grammar.proofs.CanonicalTokens.{name, minus, colon, less, greater, sum_tokens, last_tokens, range_tokens, signal_tokens, item_tokens, minus_tokens}
 use Rattle.drawing_grammar.proofs.Drawable.{IsDrawn}
 use Rattle.drawing_grammar.proofs.Matching.{bare, Are, parts, single, terminal_is, text_is}
-use Rattle.drawing_grammar.proofs.PhraseSteps.{Fits, bare_symbol, spelled_one, spelled_single}
+use Rattle.drawing_grammar.proofs.PhraseSteps.{Fits, bare_symbol, spelled_one, spelled_single, spelled_around}
 use Rattle.drawing_grammar.proofs.PhraseForms.{forms}
 
 -- ---- within the limits
@@ -91,10 +91,6 @@ last_built (Some x) is ts are rest w =
       fits = λ f a. (omega arith, s.fits f a);
     }
 
-range_spelled : (ts a b c before first last : List Lexeme) (t u : Lexeme) (rest : List Lexeme) → ts ≡ before ++ last → before ≡ a ++ b → a ≡ first ++ c → first ≡ t ∷ [] → last ≡ u ∷ [] → t ∷ (c ++ (b ++ u ∷ rest)) ≡ ts ++ rest
-range_spelled ts a b c before first last t u rest e f h i j =
-    rw (e, f, h, i, j) (ap (λ (us : List Lexeme). t ∷ us) (sym (append_assoc (c ++ b) (u ∷ []) rest ∙ append_assoc c b (u ∷ rest))))
-
 range_stands : (range : tree.Range) (first : Expression) (last : Option Expression) → first ≡ range.first → last ≡ range.last → Some (let r : tree.Range = record { first = first; last = last } in r) ≡ Some range
 range_stands range first last e f = rw (e, f) refl
 
@@ -114,7 +110,7 @@ range_built (Some range) is ts are rest w =
     record {
       written = chosen g.range t.token opens s.written;
       spelled = ap (λ (us : List Lexeme). t.token ∷ us) (s.spelled ∙ ap (λ (us : List Lexeme). begin.second ++ us) end.spelled)
-          ∙ range_spelled ts one.first one.second begin.second two.first begin.first two.second t.token u.token (spelling w) two.whole one.whole begin.whole t.whole u.whole;
+          ∙ spelled_around ts one.first one.second begin.second two.first begin.first two.second t.token u.token (spelling w) two.whole one.whole begin.whole t.whole u.whole;
       stands = range_stands range (values s.written).0 (values s.written).1.0 s.stands (ap (λ (v : Values (part RangeEnd 0 ∷ mark Greater ∷ rest)). v.0) s.others ∙ end.stands);
       others = ap (λ (v : Values (part RangeEnd 0 ∷ mark Greater ∷ rest)). v.1) s.others ∙ end.others;
       fits = λ f a. (omega arith, s.fits (λ b. end.fits (λ c. (omega arith, f c)) b) a);

@@ -33,6 +33,11 @@ spelled_two ts first second rest a = rw a (sym (append_assoc first second rest))
 pub spelled_middle : (ts first before middle last : List Lexeme) (t : Lexeme) (rest : List Lexeme) → ts ≡ before ++ last → before ≡ first ++ middle → middle ≡ t ∷ [] → first ++ t ∷ (last ++ rest) ≡ ts ++ rest
 spelled_middle ts first before middle last t rest a b c = rw (a, b, c) (sym (append_assoc (first ++ t ∷ []) last rest ∙ append_assoc first (t ∷ []) (last ++ rest)))
 
+-- two parts between a first token and a last one
+pub spelled_around : (ts a b c before first last : List Lexeme) (t u : Lexeme) (rest : List Lexeme) → ts ≡ before ++ last → before ≡ a ++ b → a ≡ first ++ c → first ≡ t ∷ [] → last ≡ u ∷ [] → t ∷ (c ++ (b ++ u ∷ rest)) ≡ ts ++ rest
+spelled_around ts a b c before first last t u rest e f h i j =
+    rw (e, f, h, i, j) (ap (λ (us : List Lexeme). t ∷ us) (sym (append_assoc (c ++ b) (u ∷ []) rest ∙ append_assoc c b (u ∷ rest))))
+
 -- a mark, an item and what follows it
 pub spelled_item : (ts first second before last : List Lexeme) (t : Lexeme) (rest : List Lexeme) → ts ≡ before ++ last → before ≡ first ++ second → first ≡ t ∷ [] → t ∷ (second ++ (last ++ rest)) ≡ ts ++ rest
 spelled_item ts first second before last t rest e f h = rw (e, f, h) (ap (λ (us : List Lexeme). t ∷ us) (sym (append_assoc second last rest)))

@@ -18,7 +18,7 @@ use Rattle.drawing_grammar.specs.Grammar.{Part, Group, Need, mark, item, letter,
 use Rattle.drawing_grammar.specs.Grammar as g
 use Rattle.drawing_grammar.specs.Sketch.{Placed, PlacedList, HeadedMacro, HeadedMacros, Sketch, Meaning, GroupMeaning, Values, front, behind, choice_value, absent_value, group_value, absent_group, signal_of, capped}
 use Rattle.drawing_grammar.specs.Written.{Written, nothing, marked, token, lettered, begun, chosen, left_out, grouped, lacking, spelling, values}
-use Rattle.drawing_grammar.proofs.Drawable.{IsDrawnNumber, HasOne, IsDrawn, IsDrawnRange, IsDrawnAssignment, IsDrawnFormal}
+use Rattle.drawing_grammar.proofs.Drawable.{IsDrawnNumber, HasOne, IsDrawn, IsBeside, IsDrawnRange, IsDrawnAssignment, IsDrawnFormal}
 
 -- ---- tokens
 
@@ -49,7 +49,8 @@ pub record IsConnectionOf (G : SignalName → Type 0) (c : tree.Connection) : Ty
 pub record IsUseOf (G : SignalName → Type 0) (u : tree.UseStatement) : Type 0 where
   pub label : IsFreeWord u.label
   pub kind : IsFreeWord u.kind
-  pub delay : IfSome u.delay (λ d. IsDrawn d.0 × IsDrawn d.1)
+  pub delays : tree.EachDelay IsDrawn u.delay u.fall
+  pub beside : IsBeside u.delay u.fall
   pub params : AllByRecursion IsDrawnAssignment u.params
   pub ins : AllByRecursion (IsConnectionOf G) u.ins
   pub outs : AllByRecursion (IsConnectionOf G) u.outs
@@ -140,7 +141,8 @@ IsPartOf G g.MoreAssigns v = AllPlaced IsDrawnAssignment v
 IsPartOf G g.Formal v = IsDrawnFormal v.item
 IsPartOf G g.MoreFormals v = AllPlaced IsDrawnFormal v
 IsPartOf G g.FormalOutputs v = AllPlaced IsDrawnFormal v
-IsPartOf G g.Delay v = IfSome v (λ d. IsDrawn d.0 × IsDrawn d.1)
+IsPartOf G g.Delay v = tree.EachDelay IsDrawn v.delay v.fall × IsBeside v.delay v.fall
+IsPartOf G g.Fall v = IfSome v (λ d. IsDrawn d.0 × IsDrawn d.1)
 IsPartOf G g.Term v = IsTermOf G v.item
 IsPartOf G g.Atom v = IsItemOf G v
 IsPartOf G g.MoreTerms v = AllByRecursion (IsTermOf G) v
@@ -231,7 +233,8 @@ choice_of G k g.next_assign n t v p e a = with_item_of IsDrawnAssignment v.0 v.1
 choice_of G k g.formal n t v p e a = record { base = (k (signal_of t) (p.name e)).base; range = a.0 }
 choice_of G k g.next_formal n t v p e a = with_item_of IsDrawnFormal v.0 v.1.0 a.0 a.1.0
 choice_of G k g.formal_outputs n t v p e a = a.0
-choice_of G k g.delay n t v p e a = (a.0, a.1.0)
+choice_of G k g.delay n t v p e a = (((a.0, a.1.0), a.1.1.0), tt)
+choice_of G k g.fall n t v p e a = (a.0, a.1.0)
 choice_of G k g.complement n t v p e a = a.0
 choice_of G k g.zero_term n t v p e a = tt
 choice_of G k g.one_term n t v p e a = tt
@@ -243,7 +246,7 @@ choice_of G k g.next_term n t v p e a = (a.0, a.1.0)
 choice_of G k g.hold n t v p e a = tt
 choice_of G k g.next_conn n t v p e a = (a.0, a.1.0)
 choice_of G k g.outputs n t v p e a = a.0
-choice_of G k g.use_ n t v p e a = record { label = p.word e; kind = a.0.proper.word a.0.is; delay = a.1.0; params = a.1.1.0.items; ins = a.1.1.1.0; outs = a.1.1.1.1.0 }
+choice_of G k g.use_ n t v p e a = record { label = p.word e; kind = a.0.proper.word a.0.is; delays = a.1.0.0; beside = a.1.0.1; params = a.1.1.0.items; ins = a.1.1.1.0; outs = a.1.1.1.1.0 }
 choice_of G k g.wire n t v p e a = record { name = a.0.proper.name a.0.is; range = a.1.0; min = a.1.1.0; max = a.1.1.1.0 }
 choice_of G k g.if_ n t v p e a = (a.0, a.1.0, a.1.1.0)
 choice_of G k g.else_ n t v p e a = a.0
@@ -290,7 +293,8 @@ absent_of G g.MoreAssigns v e = subst (IsPartOf G g.MoreAssigns) (same_Some _ v 
 absent_of G g.Formal v e = absurd cc
 absent_of G g.MoreFormals v e = subst (IsPartOf G g.MoreFormals) (same_Some _ v e) (record { items = tt; places = refl })
 absent_of G g.FormalOutputs v e = subst (IsPartOf G g.FormalOutputs) (same_Some _ v e) (record { items = tt; places = refl })
-absent_of G g.Delay v e = subst (IsPartOf G g.Delay) (same_Some _ v e) tt
+absent_of G g.Delay v e = subst (IsPartOf G g.Delay) (same_Some _ v e) (tt, refl)
+absent_of G g.Fall v e = subst (IsPartOf G g.Fall) (same_Some _ v e) tt
 absent_of G g.Term v e = absurd cc
 absent_of G g.Atom v e = absurd cc
 absent_of G g.MoreTerms v e = subst (IsPartOf G g.MoreTerms) (same_Some _ v e) tt

@@ -24,7 +24,7 @@ use Rattle.drawing_grammar.specs.Names.{naming, names_at, head_behind, names_fro
 use Rattle.drawing_grammar.specs.Sketch.{unquoted}
 use Rattle.drawing_grammar.proofs.Cutting.{Bare}
 use Rattle.drawing_grammar.proofs.Leaves as leaf
-use Rattle.drawing_grammar.proofs.CanonicalTokens.{word, number, semicolon, colon, comma, ampersand, less, greater, open_parenthesis, close_parenthesis, open_bracket, close_bracket, open_brace, close_brace, arrow, end_of_text, enclosed_tokens, op_tokens, condition_tokens, sum_tokens, bounds_tokens, last_tokens, range_tokens, signal_tokens, item_tokens, minus_tokens, term_tokens, hold_tokens, connection_tokens, listed_tokens, inputs_tokens, outputs_tokens, assignment_tokens, params_tokens, delay_tokens, use_tokens, wire_tokens, end_tokens, statement_tokens, statements_tokens, else_tokens, body_tokens, pair_tokens, header_tokens, formal_tokens, entry_tokens, case_tokens}
+use Rattle.drawing_grammar.proofs.CanonicalTokens.{word, number, semicolon, colon, comma, ampersand, less, greater, open_parenthesis, close_parenthesis, open_bracket, close_bracket, open_brace, close_brace, arrow, end_of_text, enclosed_tokens, op_tokens, condition_tokens, sum_tokens, bounds_tokens, last_tokens, range_tokens, signal_tokens, item_tokens, minus_tokens, term_tokens, hold_tokens, connection_tokens, listed_tokens, inputs_tokens, outputs_tokens, assignment_tokens, params_tokens, fall_tokens, delay_tokens, use_tokens, wire_tokens, end_tokens, statement_tokens, statements_tokens, else_tokens, body_tokens, pair_tokens, header_tokens, formal_tokens, entry_tokens, case_tokens}
 use Rattle.drawing_grammar.proofs.Drawable.{IsDrawn, IsDrawnRange, IsDrawnAssignment, IsDrawnFormal}
 use Rattle.drawing_grammar.proofs.Matching.{bare, free_word}
 use Rattle.drawing_grammar.proofs.GoodNames.{good_both}
@@ -228,10 +228,18 @@ module _ (h : Header) where
       joined false (join_by term_tokens ampersand c.terms) (hold_tokens c.hold)
       (between false (IsTermOf Good) term_tokens ampersand (other false _ terminal.Ampersand refl refl refl, tt) term c.terms p.terms) (hold c.hold)
 
-  delay : (o : Option (Expression × Expression)) → IfSome o (λ d. IsDrawn d.0 × IsDrawn d.1) → AreCalm h false (delay_tokens o)
+  fall : (o : Option (Expression × Expression)) → IfSome o (λ f. IsDrawn f.0 × IsDrawn f.1) → AreCalm h false (fall_tokens o)
   unfolding symbol_terminal
-  delay None p = tt
-  delay (Some d) p = joined false (open_bracket ++ bounds_tokens d.0 d.1) close_bracket (other false _ terminal.OpenBracket refl refl refl, bounds false d.0 d.1 p.0 p.1) (other false _ terminal.CloseBracket refl refl refl, tt)
+  fall None p = tt
+  fall (Some f) p = (other false _ terminal.Comma refl refl refl, bounds false f.0 f.1 p.0 p.1)
+
+  delay : (o f : Option (Expression × Expression)) → tree.EachDelay IsDrawn o f → AreCalm h false (delay_tokens o f)
+  unfolding symbol_terminal
+  delay None f p = tt
+  delay (Some d) f p =
+      joined false (open_bracket ++ bounds_tokens d.0 d.1 ++ fall_tokens f) close_bracket
+      (joined false (open_bracket ++ bounds_tokens d.0 d.1) (fall_tokens f) (other false _ terminal.OpenBracket refl refl refl, bounds false d.0 d.1 p.0.0 p.0.1) (fall f p.1))
+      (other false _ terminal.CloseBracket refl refl refl, tt)
 
   stop : AreCalm h false semicolon
   unfolding symbol_terminal
@@ -243,13 +251,13 @@ module _ (h : Header) where
       let first = word u.label ++ colon ++ word u.kind in
       let ins = inputs_tokens connection_tokens u.ins in
       let outs = outputs_tokens connection_tokens u.outs in
-      let d = delay_tokens u.delay in
+      let d = delay_tokens u.delay u.fall in
       let ps = params_tokens u.params in
       joined false (first ++ d ++ ps ++ ins ++ outs) semicolon
       (joined false (first ++ d ++ ps ++ ins) outs
       (joined false (first ++ d ++ ps) ins
       (joined false (first ++ d) ps
-      (joined false first d (free false u.label p.label, (other false _ terminal.Colon refl refl refl, (free false u.kind p.kind, tt))) (delay u.delay p.delay))
+      (joined false first d (free false u.label p.label, (other false _ terminal.Colon refl refl refl, (free false u.kind p.kind, tt))) (delay u.delay u.fall p.delays))
       (params false u.params p.params))
       (inputs false (IsConnectionOf Good) connection_tokens connection u.ins p.ins))
       (outputs false (IsConnectionOf Good) connection_tokens connection u.outs p.outs)) stop

@@ -45,15 +45,20 @@ connection_short c p q r = record { some = p.some; terms = three IsDrawnTerm (λ
 assignment_short : (a : tree.Assignment) → IsDrawnAssignment a → IsShallowAssignment a → IsFewAssignment a → IsShortAssignment a
 assignment_short a p q r = record { name = p.name; value = short a.value p.value q r }
 
-delay_short : (o : Option (Expression × Expression)) → IfSome o (λ d. IsDrawn d.0 × IsDrawn d.1) → IfSome o (λ d. IsShallow d.0 × IsShallow d.1) → IfSome o (λ d. IsFew d.0 × IsFew d.1) → IfSome o (λ d. IsShort d.0 × IsShort d.1)
-delay_short None p q r = tt
-delay_short (Some d) p q r = (short d.0 p.0 q.0 r.0, short d.1 p.1 q.1 r.1)
+fall_short : (o : Option (Expression × Expression)) → IfSome o (λ d. IsDrawn d.0 × IsDrawn d.1) → IfSome o (λ d. IsShallow d.0 × IsShallow d.1) → IfSome o (λ d. IsFew d.0 × IsFew d.1) → IfSome o (λ d. IsShort d.0 × IsShort d.1)
+fall_short None p q r = tt
+fall_short (Some d) p q r = (short d.0 p.0 q.0 r.0, short d.1 p.1 q.1 r.1)
+
+delays_short : (delay fall : Option (Expression × Expression)) → tree.EachDelay IsDrawn delay fall → tree.EachDelay IsShallow delay fall → tree.EachDelay IsFew delay fall → tree.EachDelay IsShort delay fall
+delays_short None fall p q r = tt
+delays_short (Some d) fall p q r = ((short d.0 p.0.0 q.0.0 r.0.0, short d.1 p.0.1 q.0.1 r.0.1), fall_short fall p.1 q.1 r.1)
 
 use_short : (u : tree.UseStatement) → IsDrawnUse u → IsShallowUse u → IsFewUse u → IsShortUse u
 use_short u p q r = record {
   label = p.label;
   kind = p.kind;
-  delay = delay_short u.delay p.delay q.delay r.delay;
+  delays = delays_short u.delay u.fall p.delays q.delays r.delays;
+  beside = p.beside;
   params = three IsDrawnAssignment IsShallowAssignment IsFewAssignment IsShortAssignment assignment_short u.params p.params q.params r.params;
   ins = three IsDrawnConnection IsShallowConnection IsFewConnection IsShortConnection connection_short u.ins p.ins q.ins r.ins;
   outs = three IsDrawnConnection IsShallowConnection IsFewConnection IsShortConnection connection_short u.outs p.outs q.outs r.outs;

@@ -5,16 +5,16 @@ use Rattle.std.specs.List.{join_by}
 use Rattle.scald_expr.specs.Expression.{Expression}
 use Rattle.assertion_syntax.specs.declared.name.SignalName.{SignalName}
 use Rattle.assertion_syntax.specs.Name.{IsName, name_text}
-use Rattle.drawing_tree.specs.Tree.{Range, Item, Zero, One, Named, Term, Connection, Assignment}
+use Rattle.drawing_tree.specs.Tree.{Range, Item, Zero, One, Named, Term, Connection, Assignment, EachDelay}
 use Rattle.drawing_tree.specs.ExpressionText.{sum_text}
-use Rattle.drawing_tree.specs.Canonical.{quoted, bounds_text, last_text, range_text, signal_text, item_text, minus_text, term_text, hold_text, connection_text, bracketed, bracketed_if_some, assignment_text, params_text, delay_text}
+use Rattle.drawing_tree.specs.Canonical.{quoted, bounds_text, last_text, range_text, signal_text, item_text, minus_text, term_text, hold_text, connection_text, bracketed, bracketed_if_some, assignment_text, params_text, fall_text, delay_text}
 use Rattle.drawing_grammar.proofs.Cutting.{stops, Spells, Closes, closed, nothing_closes, before, before_closed, then_, then_closed}
 use Rattle.drawing_grammar.proofs.Leaves.{word_spells, name_closes}
 use Rattle.drawing_grammar.proofs.NameBytes.{name_holds}
-use Rattle.drawing_grammar.proofs.Literals.{colon_closes, equals_closes, less_closes, greater_closes, ampersand_closes, open_bracket_closes, close_bracket_closes, open_brace_closes, close_brace_closes, zero_spells, one_spells, hold_spells, is_plain_first, minus_before}
+use Rattle.drawing_grammar.proofs.Literals.{colon_closes, comma_closes, equals_closes, less_closes, greater_closes, ampersand_closes, open_bracket_closes, close_bracket_closes, open_brace_closes, close_brace_closes, zero_spells, one_spells, hold_spells, is_plain_first, minus_before}
 use Rattle.drawing_grammar.proofs.SpelledExpression.{sum_spells, bounds_spell}
 use Rattle.drawing_grammar.proofs.SpelledLists.{all_map, Each, joined_spells, bracketed_if_some_closes}
-use Rattle.drawing_grammar.proofs.CanonicalTokens.{word, name, colon, equals, ampersand, less, greater, open_bracket, close_bracket, open_brace, close_brace, sum_tokens, bounds_tokens, last_tokens, range_tokens, signal_tokens, item_tokens, minus_tokens, term_tokens, hold_tokens, connection_tokens, assignment_tokens, params_tokens, delay_tokens}
+use Rattle.drawing_grammar.proofs.CanonicalTokens.{word, name, colon, comma, equals, ampersand, less, greater, open_bracket, close_bracket, open_brace, close_brace, sum_tokens, bounds_tokens, last_tokens, range_tokens, signal_tokens, item_tokens, minus_tokens, term_tokens, hold_tokens, connection_tokens, assignment_tokens, params_tokens, fall_tokens, delay_tokens}
 use Rattle.drawing_grammar.proofs.Drawable.{IsDrawn, IsDrawnRange, IsDrawnItem, IsDrawnTerm, IsDrawnConnection, IsDrawnAssignment}
 
 last_stops : (last : Option Expression) → stops (last_text last) ≡ true
@@ -82,13 +82,22 @@ unfolding bracketed bracketed_if_some
 params_stop [] = refl
 params_stop (param ∷ params) = refl
 
-pub delay_closes : (delay : Option (Expression × Expression)) → IfSome delay (λ d. IsDrawn d.0 × IsDrawn d.1) → Closes (delay_text delay) (delay_tokens delay)
-delay_closes None is = nothing_closes
-delay_closes (Some delay) is =
-    then_closed (codes " [" ++ bounds_text delay.0 delay.1) (codes "]") (open_bracket ++ bounds_tokens delay.0 delay.1) close_bracket
-    (before (codes " [") (bounds_text delay.0 delay.1) open_bracket (bounds_tokens delay.0 delay.1) open_bracket_closes (bounds_spell delay.0 delay.1 is.0 is.1))
-    close_bracket_closes refl
+fall_stops : (fall : Option (Expression × Expression)) → stops (fall_text fall) ≡ true
+fall_stops None = refl
+fall_stops (Some fall) = refl
 
-pub delay_stops : (delay : Option (Expression × Expression)) → stops (delay_text delay) ≡ true
-delay_stops None = refl
-delay_stops (Some delay) = refl
+fall_spells : (fall : Option (Expression × Expression)) → IfSome fall (λ f. IsDrawn f.0 × IsDrawn f.1) → Spells (fall_text fall) (fall_tokens fall)
+fall_spells None is = closed [] [] nothing_closes
+fall_spells (Some fall) is = before (codes ", ") (bounds_text fall.0 fall.1) comma (bounds_tokens fall.0 fall.1) comma_closes (bounds_spell fall.0 fall.1 is.0 is.1)
+
+pub delay_closes : (delay fall : Option (Expression × Expression)) → EachDelay IsDrawn delay fall → Closes (delay_text delay fall) (delay_tokens delay fall)
+delay_closes None fall is = nothing_closes
+delay_closes (Some delay) fall is =
+    then_closed (codes " [" ++ bounds_text delay.0 delay.1 ++ fall_text fall) (codes "]") (open_bracket ++ bounds_tokens delay.0 delay.1 ++ fall_tokens fall) close_bracket
+    (then_ (codes " [" ++ bounds_text delay.0 delay.1) (fall_text fall) (open_bracket ++ bounds_tokens delay.0 delay.1) (fall_tokens fall)
+    (before (codes " [") (bounds_text delay.0 delay.1) open_bracket (bounds_tokens delay.0 delay.1) open_bracket_closes (bounds_spell delay.0 delay.1 is.0.0 is.0.1))
+    (fall_spells fall is.1) (fall_stops fall)) close_bracket_closes refl
+
+pub delay_stops : (delay fall : Option (Expression × Expression)) → stops (delay_text delay fall) ≡ true
+delay_stops None fall = refl
+delay_stops (Some delay) fall = refl

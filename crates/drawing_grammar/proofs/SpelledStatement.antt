@@ -32,21 +32,21 @@ connections_spell : (cs : List Connection) → AllByRecursion IsDrawnConnection 
 connections_spell cs is = all_map IsDrawnConnection (λ c. Spells (connection_text c) (connection_tokens c)) connection_spells cs is
 
 abbrev head_tokens : UseStatement → List Bare
-head_tokens u = word u.label ++ colon ++ word u.kind ++ delay_tokens u.delay ++ params_tokens u.params
+head_tokens u = word u.label ++ colon ++ word u.kind ++ delay_tokens u.delay u.fall ++ params_tokens u.params
 
 head_spells : (u : UseStatement) → IsDrawnUse u → Spells (use_head u) (head_tokens u)
 unfolding use_head
 head_spells u is =
     let label = u.label ++ codes " : " in
     let kind = label ++ u.kind in
-    let delay = kind ++ delay_text u.delay in
+    let delay = kind ++ delay_text u.delay u.fall in
     let params = all_map IsDrawnAssignment (λ a. Spells (assignment_text a) (assignment_tokens a)) assignment_spells u.params is.params in
-    then_ delay (params_text u.params) (word u.label ++ colon ++ word u.kind ++ delay_tokens u.delay) (params_tokens u.params)
-    (then_ kind (delay_text u.delay) (word u.label ++ colon ++ word u.kind) (delay_tokens u.delay)
+    then_ delay (params_text u.params) (word u.label ++ colon ++ word u.kind ++ delay_tokens u.delay u.fall) (params_tokens u.params)
+    (then_ kind (delay_text u.delay u.fall) (word u.label ++ colon ++ word u.kind) (delay_tokens u.delay u.fall)
     (before label u.kind (word u.label ++ colon) (word u.kind)
     (then_closed u.label (codes " : ") (word u.label) colon (word_spells u.label is.label.is_word) wide_colon_closes refl)
     (word_spells u.kind is.kind.is_word))
-    (closed (delay_text u.delay) (delay_tokens u.delay) (delay_closes u.delay is.delay)) (delay_stops u.delay))
+    (closed (delay_text u.delay u.fall) (delay_tokens u.delay u.fall) (delay_closes u.delay u.fall is.delays)) (delay_stops u.delay u.fall))
     (closed (params_text u.params) (params_tokens u.params) (params_close u.params params)) (params_stop u.params)
 
 use_closes : (u : UseStatement) → IsDrawnUse u → Closes (use_text u) (use_tokens u)

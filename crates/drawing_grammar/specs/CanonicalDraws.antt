@@ -36,7 +36,7 @@ abbrev pub IsShallowAssignment : tree.Assignment → Type 0
 IsShallowAssignment a = IsShallow a.value
 
 pub record IsShallowUse (u : tree.UseStatement) : Type 0 where
-  pub delay : IfSome u.delay (λ d. IsShallow d.0 × IsShallow d.1)
+  pub delays : tree.EachDelay IsShallow u.delay u.fall
   pub params : AllByRecursion IsShallowAssignment u.params
   pub ins : AllByRecursion IsShallowConnection u.ins
   pub outs : AllByRecursion IsShallowConnection u.outs

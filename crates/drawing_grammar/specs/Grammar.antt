@@ -22,6 +22,7 @@ pub data Part : Type 0 where
   MoreFormals : Part
   FormalOutputs : Part
   Delay : Part
+  Fall : Part
   Term : Part
   Atom : Part
   MoreTerms : Part
@@ -95,6 +96,7 @@ pub data Choice : Part → Type 0 where
   next_formal : Choice MoreFormals
   formal_outputs : Choice FormalOutputs
   delay : Choice Delay
+  fall : Choice Fall
   complement : Choice Term
   zero_term : Choice Term
   one_term : Choice Term
@@ -144,6 +146,7 @@ opening formal = Name
 opening next_formal = Comma
 opening formal_outputs = Arrow
 opening delay = OpenBracket
+opening fall = Comma
 opening complement = Minus
 opening zero_term = Zero
 opening one_term = One
@@ -200,7 +203,8 @@ following next_assign n = part Assign 0 ∷ part MoreAssigns 0 ∷ []
 following formal n = part Range 0 ∷ []
 following next_formal n = part Formal 0 ∷ part MoreFormals 0 ∷ []
 following formal_outputs n = mark OpenParenthesis ∷ group SomeFormals 0 ∷ mark CloseParenthesis ∷ []
-following delay n = own_sum (mark Colon ∷ own_sum (mark CloseBracket ∷ []))
+following delay n = own_sum (mark Colon ∷ own_sum (part Fall 0 ∷ mark CloseBracket ∷ []))
+following fall n = own_sum (mark Colon ∷ own_sum [])
 following complement n = part Atom 0 ∷ []
 following zero_term n = []
 following one_term n = []
@@ -290,6 +294,7 @@ cost formal = plain
 cost next_formal = plain
 cost formal_outputs = plain
 cost delay = plain
+cost fall = plain
 cost complement = plain
 cost zero_term = plain
 cost one_term = plain

@@ -82,6 +82,7 @@ choice g.Formal is.Name = Some g.formal
 choice g.MoreFormals is.Comma = Some g.next_formal
 choice g.FormalOutputs is.Arrow = Some g.formal_outputs
 choice g.Delay is.OpenBracket = Some g.delay
+choice g.Fall is.Comma = Some g.fall
 choice g.Term is.Minus = Some g.complement
 choice g.Term is.Zero = Some g.zero_term
 choice g.Term is.One = Some g.one_term

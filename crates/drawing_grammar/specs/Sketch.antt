@@ -57,6 +57,14 @@ no_items = record { items = []; places = [] }
 abbrev pub with_item : {A : Type 0} → Placed A → PlacedList A → PlacedList A
 with_item first more = record { items = first.item ∷ more.items; places = first.place ∷ more.places }
 
+-- the delays of a use: the one in common or of rises, and the one of falls
+pub record Delays : Type 0 where
+  pub delay : Option (Expression × Expression)
+  pub fall : Option (Expression × Expression)
+
+abbrev pub no_delays : Delays
+no_delays = record { delay = None; fall = None }
+
 -- a macro, and where its head names what it declares
 pub record HeadedMacro : Type 0 where
   pub macro : tree.Macro
@@ -89,7 +97,8 @@ Meaning g.MoreAssigns = PlacedList tree.Assignment
 Meaning g.Formal = Placed tree.Formal
 Meaning g.MoreFormals = PlacedList tree.Formal
 Meaning g.FormalOutputs = PlacedList tree.Formal
-Meaning g.Delay = Option (Expression × Expression)
+Meaning g.Delay = Delays
+Meaning g.Fall = Option (Expression × Expression)
 Meaning g.Term = Placed tree.Term
 Meaning g.Atom = tree.Item
 Meaning g.MoreTerms = List tree.Term
@@ -207,7 +216,8 @@ choice_value g.next_assign n t v = with_item v.0 v.1.0
 choice_value g.formal n t v = record { item = record { base = (signal_of t).base; range = v.0 }; place = t.place }
 choice_value g.next_formal n t v = with_item v.0 v.1.0
 choice_value g.formal_outputs n t v = v.0
-choice_value g.delay n t v = Some (v.0, v.1.0)
+choice_value g.delay n t v = record { delay = Some (v.0, v.1.0); fall = v.1.1.0 }
+choice_value g.fall n t v = Some (v.0, v.1.0)
 choice_value g.complement n t v = placed_term true v.0 t
 choice_value g.zero_term n t v = placed_term false tree.Zero t
 choice_value g.one_term n t v = placed_term false tree.One t
@@ -219,7 +229,7 @@ choice_value g.next_term n t v = v.0.item ∷ v.1.0
 choice_value g.hold n t v = true
 choice_value g.next_conn n t v = v.0 ∷ v.1.0
 choice_value g.outputs n t v = v.0
-choice_value g.use_ n t v = tree.Use (record { label = t.text; kind = v.0.text; delay = v.1.0; params = v.1.1.0.items; ins = v.1.1.1.0; outs = v.1.1.1.1.0; place = t.place })
+choice_value g.use_ n t v = tree.Use (record { label = t.text; kind = v.0.text; delay = v.1.0.delay; fall = v.1.0.fall; params = v.1.1.0.items; ins = v.1.1.1.0; outs = v.1.1.1.1.0; place = t.place })
 choice_value g.wire n t v = tree.Wire (record { name = signal_of v.0; range = v.1.0; min = v.1.1.0; max = v.1.1.1.0; place = t.place })
 choice_value g.if_ n t v = tree.If v.0 v.1.0 v.1.1.0 t.place
 choice_value g.else_ n t v = tree.else_ v.0
@@ -261,7 +271,8 @@ absent_value g.MoreAssigns = Some no_items
 absent_value g.Formal = None
 absent_value g.MoreFormals = Some no_items
 absent_value g.FormalOutputs = Some no_items
-absent_value g.Delay = Some None
+absent_value g.Delay = Some no_delays
+absent_value g.Fall = Some None
 absent_value g.Term = None
 absent_value g.Atom = None
 absent_value g.MoreTerms = Some []

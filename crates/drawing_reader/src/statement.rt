@@ -4,7 +4,7 @@ ghost use Rattle.std.specs.Prelude.{◌≡◌, ◌≢◌, ◌≤◌, ◌<◌, �
 ghost use Rattle.scald_expr.specs.Expression.{expression_of};
 ghost use Rattle.drawing_tree.specs.Tree as tree;
 ghost use Rattle.drawing_tree.specs.Tree.{assignment_of, both_of, connection_of, use_of, wire_of, statement_of, statements_of, else_of};
-ghost use Rattle.drawing_grammar.specs.Grammar.{Need, fresh, mark, part, group, own_sum, Expr as Whole, Assign as AssignPart, Assigns as AssignsGroup, Parameters, Conns as ConnsGroup, Outputs, Delay as DelayPart, Statement as StatementPart, Statements as StatementsGroup, Otherwise as OtherwisePart};
+ghost use Rattle.drawing_grammar.specs.Grammar.{Need, fresh, mark, part, group, own_sum, Expr as Whole, Assign as AssignPart, Assigns as AssignsGroup, Parameters, Conns as ConnsGroup, Outputs, Delay as DelayPart, Fall as FallPart, Statement as StatementPart, Statements as StatementsGroup, Otherwise as OtherwisePart};
 ghost use Rattle.std.specs.Prelude.{is_some};
 ghost use Rattle.drawing_grammar.specs.declared.terminal.Terminal.TheVariants.{EndOfText};
 ghost use Rattle.drawing_grammar.specs.Machine.{Gives, choice};
@@ -25,10 +25,18 @@ fn put(all: &mut Stmts, next: Stmt) -> Result<(), NoMemory>
     Ok(())
 }
 
+/// The delays of a use, as they are written.
+#[derive(Drop)]
+struct Delays {
+    delay: Option<(Expr, Expr)>,
+    fall: Option<(Expr, Expr)>,
+}
+
 /// What follows the kind of a use.
 #[derive(Drop)]
 struct Details {
     delay: Option<(Expr, Expr)>,
+    fall: Option<(Expr, Expr)>,
     params: Assigns,
     ins: Conns,
     outs: Conns,
@@ -82,29 +90,60 @@ impl<'a> Cursor<'a> {
         Ok(all)
     }
 
+    /// Two sums with a colon between them.
+    fn two_sums(&mut self, alloc: Global) -> Result<(Expr, Expr), Stop>
+        ensures reads { (rest : List Need) → Gives result (λ x v. (expression_of x.0, (expression_of x.1, v))) (ahead self.old (own_sum (mark Terminal.Colon ∷ own_sum rest))) (ahead self.new rest) }
+        ensures no_longer { length self.new.rest.now ≤ length self.old.rest.now }
+    {
+        let min = self.own_sum(alloc)?;
+        self.mark(Terminal::Colon)?;
+        let max = self.own_sum(alloc)?;
+        Ok((min, max))
+    }
+
     /// Two sums with a colon between them, and what closes them.
     fn sums(&mut self, alloc: Global, close: Terminal) -> Result<(Expr, Expr), Stop>
         requires { close ≢ EndOfText }
         ensures reads { (rest : List Need) → Gives result (λ x v. (expression_of x.0, (expression_of x.1, v))) (ahead self.old (own_sum (mark Terminal.Colon ∷ own_sum (mark close ∷ rest)))) (ahead self.new rest) }
         ensures no_longer { length self.new.rest.now ≤ length self.old.rest.now }
     {
-        let min = self.own_sum(alloc)?;
-        self.mark(Terminal::Colon)?;
-        let max = self.own_sum(alloc)?;
+        let both = self.two_sums(alloc)?;
         self.mark(close)?;
-        Ok((min, max))
+        Ok(both)
     }
 
-    fn delay(&mut self, alloc: Global) -> Result<Option<(Expr, Expr)>, Stop>
-        ensures reads { (rest : List Need) → Gives result (λ x v. (option_map both_of x, v)) (ahead self.old (part DelayPart 0 ∷ rest)) (ahead self.new rest) }
+    /// A comma and the delay of falls, or nothing.
+    fn fall(&mut self, alloc: Global) -> Result<Option<(Expr, Expr)>, Stop>
+        ensures reads { (rest : List Need) → Gives result (λ x v. (option_map both_of x, v)) (ahead self.old (part FallPart 0 ∷ rest)) (ahead self.new rest) }
         ensures no_longer { length self.new.rest.now ≤ length self.old.rest.now }
     {
-        if !self.starts(Terminal::OpenBracket) {
+        if !self.starts(Terminal::Comma) {
             return Ok(None);
         }
         self.bump();
-        let bounds = self.sums(alloc, Terminal::CloseBracket)?;
+        let bounds = self.two_sums(alloc)?;
         Ok(Some(bounds))
+    }
+
+    /// The delay of a use in brackets, with that of falls where two are written, or nothing.
+    fn delays(&mut self, alloc: Global) -> Result<Delays, Stop>
+        ensures reads { (rest : List Need) → Gives result (λ x v. (record { delay = option_map both_of x.delay; fall = option_map both_of x.fall }, v)) (ahead self.old (part DelayPart 0 ∷ rest)) (ahead self.new rest) }
+        ensures no_longer { length self.new.rest.now ≤ length self.old.rest.now }
+    {
+        if !self.starts(Terminal::OpenBracket) {
+            return Ok(Delays {
+                delay: None,
+                fall: None,
+            });
+        }
+        self.bump();
+        let bounds = self.two_sums(alloc)?;
+        let fall = self.fall(alloc)?;
+        self.mark(Terminal::CloseBracket)?;
+        Ok(Delays {
+            delay: Some(bounds),
+            fall,
+        })
     }
 
     /// The pins of a use, inputs before outputs, and the semicolon after them.
@@ -124,11 +163,12 @@ impl<'a> Cursor<'a> {
         ensures reads { DetailsAt result self.old self.new }
         ensures no_longer { length self.new.rest.now ≤ length self.old.rest.now }
     {
-        let delay = self.delay(alloc)?;
+        let delays = self.delays(alloc)?;
         let (params, _) = self.parameters(alloc)?;
         let (ins, outs) = self.pins(alloc)?;
         Ok(Details {
-            delay,
+            delay: delays.delay,
+            fall: delays.fall,
             params,
             ins,
             outs,
@@ -150,6 +190,7 @@ impl<'a> Cursor<'a> {
             label,
             kind,
             delay: details.delay,
+            fall: details.fall,
             params: details.params,
             ins: details.ins,
             outs: details.outs,

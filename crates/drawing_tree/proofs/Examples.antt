@@ -1,13 +1,13 @@
 -- Canonical texts of small trees, one for each rule of spacing and of parentheses.
 use Rattle.std.proofs.Common.{◌≡◌, ℕ, pos, negsuc, Bool, true, false, List, [], ◌∷◌, Option, Some, None, refl}
-use Rattle.std.specs.Prelude.{codes}
+use Rattle.std.specs.Prelude.{codes, ⊤}
 use Rattle.std.specs.Fmt.{digits}
 use Rattle.scald_base.specs.declared.refusal.Place.{Place}
 use Rattle.scald_base.specs.declared.assertion.AssertSpec.TheVariants.{None as Unasserted}
 use Rattle.scald_expr.specs.declared.expr.Op.TheVariants.{Add, Sub, Mul, Div, Eq, Ne, Lt, Ge}
 use Rattle.scald_expr.specs.Expression.{Expression, Number, Param, Negate, Binary}
 use Rattle.assertion_syntax.specs.declared.name.SignalName.{SignalName}
-use Rattle.drawing_tree.specs.Tree.{Range, Item, Zero, One, Named, Term, Connection, UseStatement, Use, If, nil, cons, no_else, else_}
+use Rattle.drawing_tree.specs.Tree.{Range, Item, Zero, One, Named, Term, Connection, UseStatement, Use, If, nil, cons, no_else, else_, EachDelay}
 use Rattle.drawing_tree.specs.ExpressionText.{condition_text, sum_text}
 use Rattle.drawing_tree.specs.Canonical.{connection_text, bracketed, bracketed_if_some, use_head, use_text, wire_text, statement_lines, statements_lines, else_lines, header_lines, body_lines, macro_head, macro_lines, case_lines, canonical}
 
@@ -99,6 +99,7 @@ buffer = record {
   label = codes "b1";
   kind = codes "BUF";
   delay = Some (num 0, num 0);
+  fall = None;
   params = [];
   ins = record { terms = term true (named (codes "A")) ∷ []; hold = false; place = here } ∷ [];
   outs = single (named (codes "B")) ∷ [];
@@ -110,6 +111,7 @@ checker = record {
   label = codes "c";
   kind = codes "CHK";
   delay = None;
+  fall = None;
   params = record { name = codes "SETUP"; value = num 20 } ∷ record { name = codes "HOLD"; value = Binary Lt a b } ∷ [];
   ins = single (named (codes "CK")) ∷ single (named (codes "D")) ∷ [];
   outs = [];
@@ -119,6 +121,15 @@ checker = record {
 params_and_no_outputs : use_text checker ≡ codes "c : CHK {SETUP=20, HOLD=(A < B)} (\"CK\", \"D\");"
 unfolding digits condition_text bracketed bracketed_if_some use_head use_text
 params_and_no_outputs = refl
+
+two_delays : use_text (record buffer { delay = Some (a, Binary Add b (num 1)); fall = Some (Negate a, Binary Lt a b) }) ≡ codes "b1 : BUF [A:B + 1, -A:(A < B)] (-\"A\") -> (\"B\");"
+unfolding digits condition_text bracketed bracketed_if_some use_head use_text
+two_delays = refl
+
+-- no text draws such a use
+fall_alone : use_text (record buffer { delay = None; fall = Some (num 2, num 3) }) ≡ codes "b1 : BUF (-\"A\") -> (\"B\");"
+unfolding digits condition_text bracketed bracketed_if_some use_head use_text
+fall_alone = refl
 
 no_connections : use_text (record checker { params = []; ins = [] }) ≡ codes "c : CHK ();"
 unfolding digits condition_text bracketed bracketed_if_some use_head use_text
@@ -135,6 +146,27 @@ choices = refl
 empty_else : statement_lines [] (If a nil (else_ nil) here) ≡ codes "IF A THEN\nELSE\nEND;\n"
 unfolding digits condition_text statement_lines
 empty_else = refl
+
+-- ---- the bounds of delays
+
+abbrev IsParam : Expression → Type 0
+IsParam (Number n) = ⊥
+IsParam (Param name) = ⊤
+IsParam (Negate operand) = ⊥
+IsParam (Binary op left right) = ⊥
+
+each_bound : EachDelay IsParam (Some (a, b)) (Some (b, a))
+each_bound = ((tt, tt), (tt, tt))
+
+not_the_greatest : EachDelay IsParam (Some (a, num 1)) None → ⊥
+not_the_greatest h = h.0.1
+
+not_the_greatest_of_falls : EachDelay IsParam (Some (a, b)) (Some (b, num 1)) → ⊥
+not_the_greatest_of_falls h = h.1.1
+
+-- without a delay nothing is asked of a fall delay
+falls_alone : EachDelay IsParam None (Some (num 1, num 1))
+falls_alone = tt
 
 -- ---- drawings
 

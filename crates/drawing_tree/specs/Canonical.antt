@@ -77,15 +77,20 @@ assignment_text a = a.name ++ codes "=" ++ sum_text a.value
 abbrev pub params_text : List Assignment → List ℕ
 params_text params = bracketed_if_some (codes " {") (codes "}") assignment_text params
 
-abbrev pub delay_text : Option (Expression × Expression) → List ℕ
-delay_text None = []
-delay_text (Some delay) = codes " [" ++ bounds_text delay.0 delay.1 ++ codes "]"
+abbrev pub fall_text : Option (Expression × Expression) → List ℕ
+fall_text None = []
+fall_text (Some fall) = codes ", " ++ bounds_text fall.0 fall.1
+
+-- in brackets, a fall delay behind the delay; without a delay it counts as not there
+abbrev pub delay_text : Option (Expression × Expression) → Option (Expression × Expression) → List ℕ
+delay_text None fall = []
+delay_text (Some delay) fall = codes " [" ++ bounds_text delay.0 delay.1 ++ fall_text fall ++ codes "]"
 
 -- ---- statements
 
 -- what stands before the connections
 unfoldable pub use_head : UseStatement → List ℕ
-use_head u = u.label ++ codes " : " ++ u.kind ++ delay_text u.delay ++ params_text u.params
+use_head u = u.label ++ codes " : " ++ u.kind ++ delay_text u.delay u.fall ++ params_text u.params
 
 unfoldable pub use_text : UseStatement → List ℕ
 use_text u = use_head u ++ inputs_text connection_text u.ins ++ outputs_text connection_text u.outs ++ codes ";"

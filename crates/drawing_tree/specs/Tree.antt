@@ -1,5 +1,5 @@
 -- A drawing as a tree of what it holds, without where its parts lie in memory.
-use Rattle.std.specs.Prelude.{ℕ, Bool, List, [], ◌∷◌, map, Option, Some, None, option_map}
+use Rattle.std.specs.Prelude.{ℕ, Bool, List, [], ◌∷◌, map, Option, Some, None, option_map, IfSome, ⊤}
 use Rattle.std.specs.Global.{Vec}
 use Rattle.scald_base.specs.Time.{Header}
 use Rattle.scald_base.specs.declared.refusal.Place.{Place}
@@ -52,14 +52,22 @@ pub record Assignment : Type 0 where
   pub name : List ℕ
   pub value : Expression
 
+-- Where two delays are written, the first is that of rises. Without it a fall delay counts as not there.
 pub record UseStatement : Type 0 where
   pub label : List ℕ
   pub kind : List ℕ
   pub delay : Option (Expression × Expression)
+  pub fall : Option (Expression × Expression)
   pub params : List Assignment
   pub ins : List Connection
   pub outs : List Connection
   pub place : Place
+
+-- It holds of each bound of the delays of a use. A fall delay without a delay counts as not there.
+abbrev pub EachDelay : (Expression → Type 0) → Option (Expression × Expression) →
+    Option (Expression × Expression) → Type 0
+EachDelay P None fall = ⊤
+EachDelay P (Some delay) fall = (P delay.0 × P delay.1) × IfSome fall (λ f. P f.0 × P f.1)
 
 pub record WireStatement : Type 0 where
   pub name : SignalName
@@ -132,6 +140,7 @@ use_of u = record {
   label = u.label;
   kind = u.kind;
   delay = option_map both_of u.delay;
+  fall = option_map both_of u.fall;
   params = map assignment_of u.params;
   ins = map connection_of u.ins;
   outs = map connection_of u.outs;

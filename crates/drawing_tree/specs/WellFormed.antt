@@ -10,7 +10,7 @@ use Rattle.assertion_syntax.specs.declared.name.SignalName.{SignalName}
 use Rattle.assertion_syntax.specs.Name.{IsName, IsBase}
 use Rattle.drawing_tree.specs.declared.drawing.CaseEntry.{CaseEntry}
 use Rattle.drawing_tree.specs.declared.drawing.CaseStmt.{CaseStmt}
-use Rattle.drawing_tree.specs.Tree.{Range, Item, Zero, One, Named, Connection, Assignment, UseStatement, WireStatement, Statement, Use, Wire, If, Statements, nil, cons, Otherwise, no_else, else_, Formal, Macro, Drawing}
+use Rattle.drawing_tree.specs.Tree.{Range, Item, Zero, One, Named, Connection, Assignment, UseStatement, WireStatement, Statement, Use, Wire, If, Statements, nil, cons, Otherwise, no_else, else_, Formal, Macro, Drawing, EachDelay}
 
 -- ---- words and names
 
@@ -51,7 +51,7 @@ pub record IsGoodAssignment (a : Assignment) : Type 0 where
 pub record IsGoodUse (h : Header) (u : UseStatement) : Type 0 where
   pub label : IsFreeWord u.label
   pub kind : IsFreeWord u.kind
-  pub delay : IfSome u.delay (λ d. IsGoodExpression d.0 × IsGoodExpression d.1)
+  pub delays : EachDelay IsGoodExpression u.delay u.fall
   pub params : All IsGoodAssignment u.params
   pub ins : All (IsGoodConnection h) u.ins
   pub outs : All (IsGoodConnection h) u.outs

@@ -20,8 +20,11 @@ pub type Assigns = List<Assign>;
 pub struct UseStmt {
     pub label: Bytes,
     pub kind: Bytes,
-    /// The least and the greatest delay, in ticks.
+    /// The least and the greatest delay, in ticks; where `fall` is there, those of rises alone.
     pub delay: Option<(Expr, Expr)>,
+    /// The least and the greatest delay of falls, in ticks, where two delays are written. Without a
+    /// `delay`, which no text draws, it counts as not there.
+    pub fall: Option<(Expr, Expr)>,
     pub params: Assigns,
     pub ins: Conns,
     pub outs: Conns,

@@ -4,7 +4,7 @@ ghost use Rattle.std.specs.Prelude.{◌≡◌, ◌++◌, OnOk, IfOk, option_map,
 ghost use Rattle.scald_expr.specs.Expression.{expression_of};
 ghost use Rattle.drawing_tree.specs.Tree.{assignment_of, connection_of, both_of, use_of, wire_of, statement_of, statements_of, if_of};
 ghost use Rattle.drawing_tree.specs.ExpressionText.{condition_text};
-ghost use Rattle.drawing_tree.specs.Canonical.{assignment_text, params_text, delay_text, connection_text, inputs_text, outputs_text, use_head, use_text, wire_text, line, deeper, statement_lines, statements_lines};
+ghost use Rattle.drawing_tree.specs.Canonical.{assignment_text, params_text, fall_text, delay_text, connection_text, inputs_text, outputs_text, use_head, use_text, wire_text, line, deeper, statement_lines, statements_lines};
 
 use crate::connection::Conn;
 use crate::connection_text::{add_bounds, add_signal};
@@ -33,14 +33,31 @@ pub fn add_params(alloc: Global, out: &mut Bytes, params: &[Assign]) -> Result<(
     add_bracketed_if_some(alloc, out, b" {", b"}", params)
 }
 
-fn add_delay(out: &mut Bytes, delay: &Option<(Expr, Expr)>) -> Result<(), NoMemory>
-    ensures { OnOk result (out.new ≡ out.old ++ delay_text (option_map both_of delay.now)) }
+/// Puts a comma and the delay of falls at the end, where there is one.
+fn add_fall(out: &mut Bytes, fall: &Option<(Expr, Expr)>) -> Result<(), NoMemory>
+    ensures { OnOk result (out.new ≡ out.old ++ fall_text (option_map both_of fall.now)) }
+{
+    let Some(fall) = fall else {
+        return Ok(());
+    };
+    out.extend(b", ")?;
+    add_bounds(out, &fall.0, &fall.1)
+}
+
+/// Puts the delay, or the delays, of a use in brackets at the end, where there is one.
+fn add_delay(
+    out: &mut Bytes,
+    delay: &Option<(Expr, Expr)>,
+    fall: &Option<(Expr, Expr)>,
+) -> Result<(), NoMemory>
+    ensures { OnOk result (out.new ≡ out.old ++ delay_text (option_map both_of delay.now) (option_map both_of fall.now)) }
 {
     let Some(delay) = delay else {
         return Ok(());
     };
     out.extend(b" [")?;
     add_bounds(out, &delay.0, &delay.1)?;
+    add_fall(out, fall)?;
     out.extend(b"]")
 }
 
@@ -68,7 +85,7 @@ fn add_head(alloc: Global, out: &mut Bytes, u: &UseStmt) -> Result<(), NoMemory>
     out.extend(u.label.as_slice())?;
     out.extend(b" : ")?;
     out.extend(u.kind.as_slice())?;
-    add_delay(out, &u.delay)?;
+    add_delay(out, &u.delay, &u.fall)?;
     add_params(alloc, out, u.params.as_slice())
 }
 

@@ -46,7 +46,7 @@ drawing : List Macro → Statements → Drawing
 drawing macros body = record { version = 1; header = header; macros = macros; name = codes "ROW"; body = body; cases = [] }
 
 simple : List ℕ → List ℕ → Option (Expression × Expression) → List Connection → List Connection → ℕ → Statement
-simple label kind delay ins outs line = Use (record { label = label; kind = kind; delay = delay; params = []; ins = ins; outs = outs; place = at line })
+simple label kind delay ins outs line = Use (record { label = label; kind = kind; delay = delay; fall = None; params = []; ins = ins; outs = outs; place = at line })
 
 zero_delay : Option (Expression × Expression)
 zero_delay = Some (number 0, number 0)
@@ -87,6 +87,7 @@ checks = record {
     label = codes "c";
     kind = codes "SETUP_HOLD_CHK";
     delay = None;
+    fall = None;
     params = (record { name = codes "SETUP"; value = number 20 }) ∷ (record { name = codes "HOLD"; value = number 10 }) ∷ [];
     ins = alone (codes "CK") ∷ one (term (signal (codes "D") Unasserted) (range (number 0) (Binary Sub (Param (codes "N")) (number 1)))) ∷ [];
     outs = [];
