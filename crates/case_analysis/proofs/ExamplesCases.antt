@@ -8,7 +8,7 @@ use Rattle.vector_names.specs.declared.bits.Target.TheVariants.{Constant}
 use Rattle.step_values.specs.declared.value.Value.TheVariants.{Zero, One, U}
 use Rattle.skew_algebra.specs.Wave.{skewed}
 use Rattle.flat_circuit.specs.declared.case.CaseValue.{CaseValue}
-use Rattle.flat_circuit.specs.declared.kind.Kind.TheVariants.{Buf, And, Reg, RegRs, Latch, SetupHold}
+use Rattle.element_kinds.specs.declared.kind.Kind.TheVariants.{Buf, And, Reg, RegRs, Latch, SetupHold}
 use Rattle.flat_circuit.specs.declared.instance.Pin.{Pin}
 use Rattle.flat_circuit.specs.declared.net.Net.{Net}
 use Rattle.flat_circuit.specs.Circuit.{Circuit}

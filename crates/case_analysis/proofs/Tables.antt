@@ -11,11 +11,11 @@ use Rattle.std.proofs.lemmas.Option.{slice_get_past}
 use Rattle.vector_names.specs.declared.bits.Target.{Target}
 use Rattle.vector_names.specs.declared.bits.Target.TheVariants.{Net as OnNet, Constant}
 use Rattle.flat_circuit.specs.declared.case.CaseValue.{CaseValue}
-use Rattle.flat_circuit.specs.declared.kind.Kind.{Kind}
+use Rattle.element_kinds.specs.declared.kind.Kind.{Kind}
 use Rattle.flat_circuit.specs.declared.instance.Pin.{Pin}
 use Rattle.flat_circuit.specs.declared.instance.Instance.{Instance}
 use Rattle.flat_circuit.specs.declared.net.Net.{Net}
-use Rattle.flat_circuit.specs.Kind.{listens}
+use Rattle.element_kinds.specs.Kinds.{listens}
 use Rattle.flat_circuit.specs.Circuit.{Circuit, driver_in}
 use Rattle.flat_circuit.specs.Run.{Run, net_signal}
 use Rattle.pin_waves.proofs.Tests.{bits, ticks, same_bit, same_bit_is, same_bit_from, implies, implies_is, not_true, all_below, each_passes, all_pass}

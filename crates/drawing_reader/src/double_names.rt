@@ -11,8 +11,9 @@ use crate::ascending::are_ascending;
 use crate::declared::Declared;
 use drawing_grammar::{Head, Kind};
 use drawing_tree::{Assign, Formal, IfStmt, MacroDef, MacroDefs, Stmt};
+use element_kinds::is_kind_name;
 use indexmap::IndexSet;
-use scald_base::{Place, RefusalKind, Stop, same_bytes};
+use scald_base::{Place, RefusalKind, Stop};
 use std::alloc::Global;
 use std::marker::Model;
 
@@ -36,21 +37,7 @@ impl<'a> Model for Declarations<'a> {
 fn is_primitive(name: &[u8]) -> bool
     ensures { result ≡ list_any (bytes_eq name.now) primitive_names }
 {
-    same_bytes(name, b"BUF")
-        || same_bytes(name, b"AND")
-        || same_bytes(name, b"OR")
-        || same_bytes(name, b"XOR")
-        || same_bytes(name, b"MUX2")
-        || same_bytes(name, b"MUX4")
-        || same_bytes(name, b"MUX8")
-        || same_bytes(name, b"CHG")
-        || same_bytes(name, b"REG")
-        || same_bytes(name, b"REG_RS")
-        || same_bytes(name, b"LATCH")
-        || same_bytes(name, b"LATCH_RS")
-        || same_bytes(name, b"SETUP_HOLD_CHK")
-        || same_bytes(name, b"SETUP_RISE_HOLD_FALL_CHK")
-        || same_bytes(name, b"MIN_PULSE_CHK")
+    is_kind_name(name)
 }
 
 /// Whether a declaration is one that each drawing has.

@@ -1,10 +1,11 @@
 -- Well formed drawings: names that are names, words that are words and not reserved, a header that may be, and nothing named twice.
-use Rattle.std.specs.Prelude.{◌≡◌, ℕ, false, List, [], ◌∷◌, ◌++◌, map, All, codes, IfSome, ⊤}
+use Rattle.std.specs.Prelude.{◌≡◌, ℕ, false, List, [], ◌∷◌, ◌++◌, map, All, IfSome, ⊤}
 use Rattle.std.specs.List.{IsDistinct}
 use Rattle.std.specs.Str.{bytes_eq}
 use Rattle.scald_base.specs.Time.{Header, IsHeader}
 use Rattle.scald_base.specs.Fitting.{Fits}
 use Rattle.scald_base.specs.Word.{IsWord, is_reserved}
+use Rattle.element_kinds.specs.Kinds.{kind_names}
 use Rattle.scald_expr.specs.Expression.{Expression, Number, Param, Negate, Binary}
 use Rattle.assertion_syntax.specs.declared.name.SignalName.{SignalName}
 use Rattle.assertion_syntax.specs.Name.{IsName, IsBase}
@@ -118,10 +119,7 @@ pub record IsGoodMacro (h : Header) (m : Macro) : Type 0 where
 
 -- the names of the primitives, which no macro may have
 abbrev pub primitive_names : List (List ℕ)
-primitive_names =
-    codes "BUF" ∷ codes "AND" ∷ codes "OR" ∷ codes "XOR" ∷ codes "MUX2" ∷ codes "MUX4" ∷ codes "MUX8" ∷ codes "CHG"
-    ∷ codes "REG" ∷ codes "REG_RS" ∷ codes "LATCH" ∷ codes "LATCH_RS"
-    ∷ codes "SETUP_HOLD_CHK" ∷ codes "SETUP_RISE_HOLD_FALL_CHK" ∷ codes "MIN_PULSE_CHK" ∷ []
+primitive_names = kind_names
 
 abbrev pub IsGoodEntry : Header → CaseEntry → Type 0
 IsGoodEntry h e = IsGoodName h e.name

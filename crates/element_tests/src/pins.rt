@@ -2,7 +2,8 @@
 
 ghost use Rattle.std.specs.Prelude.{◌≡◌, ◌==◌, IsTrue, count_by, length, map};
 ghost use Rattle.std.specs.List.{list_all};
-ghost use Rattle.flat_circuit.specs.Kind.{greatest_marks, pin_counts as counts};
+ghost use Rattle.element_kinds.specs.Kinds.{greatest_marks};
+ghost use Rattle.flat_circuit.specs.Kind.{pin_counts as counts};
 ghost use Rattle.gate_eval.specs.Meeting.{HaveOnePeriod};
 ghost use Rattle.gate_eval.specs.Instance.{CountsFit, is_gate as gate};
 ghost use Rattle.storage_eval.specs.Storage.{is_storage as storage};
@@ -83,41 +84,41 @@ pub fn pins_of(
 fn is_gate(kind: Kind) -> bool
     ensures { result ≡ gate kind }
 {
-    matches!(
-        kind,
-        Kind::Buf
-            | Kind::And
-            | Kind::Or
-            | Kind::Xor
-            | Kind::Mux2
-            | Kind::Mux4
-            | Kind::Mux8
-            | Kind::Chg
-    )
+    kind.form().is_memoryless()
 }
 
 fn is_storage(kind: Kind) -> bool
     ensures { result ≡ storage kind }
 {
-    matches!(kind, Kind::Reg | Kind::RegRs | Kind::Latch | Kind::LatchRs)
+    kind.form().keeps_bit()
 }
 
-/// The least and the greatest number of pins of a kind, and how many of them may be marked.
-fn pin_counts(kind: Kind) -> (usize, usize, usize)
-    ensures least { result.0 ≡ (counts kind).0 }
-    ensures most { result.1 ≡ (counts kind).1 }
-    ensures marks { result.2 ≡ greatest_marks kind }
+/// The least number of pins of a kind.
+fn fewest_pins(kind: Kind) -> usize
+    ensures { result ≡ (counts kind).0 }
 {
-    match kind {
-        Kind::Buf | Kind::MinPulse => (1, 1, 0),
-        Kind::And | Kind::Or => (1, 16, 1),
-        Kind::Xor => (1, 16, 0),
-        Kind::Mux2 => (3, 3, 0),
-        Kind::Mux4 => (6, 6, 0),
-        Kind::Mux8 => (11, 11, 0),
-        Kind::Chg => (1, 4096, 0),
-        Kind::Reg | Kind::Latch | Kind::SetupHold | Kind::RiseFall => (2, 2, 0),
-        Kind::RegRs | Kind::LatchRs => (4, 4, 0),
+    kind.inputs().0 as usize
+}
+
+/// The greatest number of pins: a change function has one for each bit of each connection.
+fn most_pins(kind: Kind) -> usize
+    ensures { result ≡ (counts kind).1 }
+{
+    let most = kind.inputs().1;
+    if kind.is_change() {
+        most as usize * 256
+    } else {
+        most as usize
+    }
+}
+
+/// How many pins of a kind may be marked.
+fn most_marks(kind: Kind) -> usize
+    ensures { result ≡ greatest_marks kind }
+{
+    match kind.closes() {
+        None => 0,
+        Some(_) => 1,
     }
 }
 
@@ -140,7 +141,9 @@ pub fn are_fit<W: CyclicWave<Item = Value>>(kind: Kind, pins: &[PinWave<W>], per
     ensures counts { IsTrue result → CountsFit kind (length pins.now) (count_by (λ p. p.hold) pins.now) }
     ensures periods { IsTrue result → HaveOnePeriod (map (λ p. p.wave) pins.now) }
 {
-    let (least, most, greatest) = pin_counts(kind);
+    let least = fewest_pins(kind);
+    let most = most_pins(kind);
+    let greatest = most_marks(kind);
     let fit = least <= pins.len() && pins.len() <= most && marks(pins) <= greatest;
     fit && have_period(pins, period)
 }

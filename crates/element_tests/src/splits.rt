@@ -226,10 +226,7 @@ fn delay_of(rt: &impl Abort, (min, max): (u16, u16)) -> Delay {
 fn may_split(kind: Kind) -> bool
     ensures { result ≡ split kind }
 {
-    matches!(
-        kind,
-        Kind::Buf | Kind::And | Kind::Or | Kind::Xor | Kind::Mux2 | Kind::Mux4 | Kind::Mux8
-    )
+    kind.form().is_function()
 }
 
 /// The wave of a gate, which has such pins, whose waves have this period.

@@ -11,9 +11,9 @@ use Rattle.skew_algebra.specs.Wave.{Wave, normal}
 use Rattle.flat_circuit.specs.declared.case.CaseValue.{CaseValue}
 use Rattle.flat_circuit.specs.declared.instance.Pin.{Pin}
 use Rattle.flat_circuit.specs.declared.instance.Instance.{Instance}
-use Rattle.flat_circuit.specs.declared.kind.Kind.{Kind}
+use Rattle.element_kinds.specs.declared.kind.Kind.{Kind}
 use Rattle.flat_circuit.specs.declared.net.Net.{Net}
-use Rattle.flat_circuit.specs.Kind.{listens}
+use Rattle.element_kinds.specs.Kinds.{listens}
 use Rattle.flat_circuit.specs.Instances.{PinExists, TargetExists}
 use Rattle.flat_circuit.specs.Circuit.{Circuit, IsCircuit, wire_in, wire_at, driver_in, driver_at}
 use Rattle.pin_waves.specs.Interface.{constant_wave}

@@ -5,7 +5,7 @@ use Rattle.std.proofs.lemmas.List.Elements.{All-head, All-tail}
 use Rattle.vector_names.specs.declared.bits.Target.TheVariants.{Net as OnNet}
 use Rattle.flat_circuit.specs.declared.instance.Instance.{Instance}
 use Rattle.flat_circuit.specs.declared.net.Net.{Net}
-use Rattle.flat_circuit.specs.Kind.{has_output}
+use Rattle.element_kinds.specs.Kinds.{has_output}
 use Rattle.flat_circuit.specs.Instances.{InstanceFits, out_of}
 use Rattle.flat_circuit.specs.Circuit.{Circuit, IsCircuit, driver_at}
 use Rattle.fixpoint_engine.specs.Rounds.{instance_in, driver}

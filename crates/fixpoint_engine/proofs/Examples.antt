@@ -11,8 +11,8 @@ use Rattle.step_values.specs.declared.value.Value.TheVariants.{Zero, S, C, R, F,
 use Rattle.step_values.specs.Image.{image1, image2, and_image, and_of, xor_image, xor_of, reg_image, reg_of}
 use Rattle.wave_core.specs.Slots.{earlier}
 use Rattle.skew_algebra.specs.Wave.{Wave, skewed, normal, moved}
-use Rattle.flat_circuit.specs.declared.kind.Kind.{Kind}
-use Rattle.flat_circuit.specs.declared.kind.Kind.TheVariants.{Buf, And, Xor, Reg}
+use Rattle.element_kinds.specs.declared.kind.Kind.{Kind}
+use Rattle.element_kinds.specs.declared.kind.Kind.TheVariants.{Buf, And, Xor, Reg}
 use Rattle.flat_circuit.specs.declared.instance.Pin.{Pin}
 use Rattle.flat_circuit.specs.declared.instance.Instance.{Instance}
 use Rattle.flat_circuit.specs.declared.net.Net.{Net}

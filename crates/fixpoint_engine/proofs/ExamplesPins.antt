@@ -8,7 +8,7 @@ use Rattle.step_values.specs.declared.value.Value.{Value}
 use Rattle.step_values.specs.declared.value.Value.TheVariants.{Zero, R, F}
 use Rattle.wave_core.specs.Slots.{earlier}
 use Rattle.skew_algebra.specs.Wave.{skewed, normal, moved}
-use Rattle.flat_circuit.specs.declared.kind.Kind.TheVariants.{And, Buf}
+use Rattle.element_kinds.specs.declared.kind.Kind.TheVariants.{And, Buf}
 use Rattle.flat_circuit.specs.declared.instance.Pin.{Pin}
 use Rattle.flat_circuit.specs.declared.instance.Instance.{Instance}
 use Rattle.flat_circuit.specs.Circuit.{Circuit}

@@ -7,11 +7,11 @@ use Rattle.vector_names.specs.declared.bits.Target.TheVariants.{Net as OnNet, Co
 use Rattle.step_values.specs.declared.value.Value.{Value}
 use Rattle.step_values.specs.Cell.{values}
 use Rattle.skew_algebra.specs.Wave.{Wave, normal}
-use Rattle.flat_circuit.specs.declared.kind.Kind.{Kind}
-use Rattle.flat_circuit.specs.declared.kind.Kind.TheVariants.{Reg, RegRs, Latch, LatchRs}
+use Rattle.element_kinds.specs.declared.kind.Kind.{Kind}
+use Rattle.element_kinds.specs.declared.kind.Kind.TheVariants.{Reg, RegRs, Latch, LatchRs}
 use Rattle.flat_circuit.specs.declared.instance.Pin.{Pin}
 use Rattle.flat_circuit.specs.declared.instance.Instance.{Instance}
-use Rattle.flat_circuit.specs.Kind.{listens}
+use Rattle.element_kinds.specs.Kinds.{listens}
 use Rattle.flat_circuit.specs.Circuit.{Circuit}
 use Rattle.gate_eval.specs.Instance.{gate_wave}
 use Rattle.storage_eval.specs.Storage.{listening_from}

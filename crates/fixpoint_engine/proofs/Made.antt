@@ -8,11 +8,12 @@ use Rattle.step_values.specs.declared.value.Value.TheVariants.{S}
 use Rattle.step_values.specs.Cell.{values}
 use Rattle.skew_algebra.specs.Wave.{Wave, skewed}
 use Rattle.skew_algebra.proofs.Normal.{length-normal}
-use Rattle.flat_circuit.specs.declared.kind.Kind.{Kind}
-use Rattle.flat_circuit.specs.declared.kind.Kind.TheVariants.{Chg, Reg, RegRs, Latch, LatchRs, SetupHold, RiseFall, MinPulse}
+use Rattle.element_kinds.specs.declared.kind.Kind.{Kind}
+use Rattle.element_kinds.specs.declared.kind.Kind.TheVariants.{Chg, Reg, RegRs, Latch, LatchRs, SetupHold, RiseFall, MinPulse}
 use Rattle.flat_circuit.specs.declared.instance.Pin.{Pin}
 use Rattle.flat_circuit.specs.declared.instance.Instance.{Instance}
-use Rattle.flat_circuit.specs.Kind.{has_output, pin_counts}
+use Rattle.element_kinds.specs.Kinds.{has_output}
+use Rattle.flat_circuit.specs.Kind.{pin_counts}
 use Rattle.flat_circuit.specs.Instances.{InstanceFits}
 use Rattle.flat_circuit.specs.Circuit.{Circuit}
 use Rattle.pin_waves.proofs.Pins.{length-moved}

@@ -17,10 +17,10 @@ use Rattle.vector_names.specs.declared.bits.Target.{Target}
 use Rattle.vector_names.specs.declared.bits.Target.TheVariants.{Net as OnNet, Constant}
 use Rattle.step_values.specs.declared.value.Value.{Value}
 use Rattle.skew_algebra.specs.Wave.{Wave}
-use Rattle.flat_circuit.specs.declared.kind.Kind.{Kind}
+use Rattle.element_kinds.specs.declared.kind.Kind.{Kind}
 use Rattle.flat_circuit.specs.declared.instance.Pin.{Pin}
 use Rattle.flat_circuit.specs.declared.instance.Instance.{Instance}
-use Rattle.flat_circuit.specs.Kind.{has_output, listens}
+use Rattle.element_kinds.specs.Kinds.{has_output, listens}
 use Rattle.flat_circuit.specs.Instances.{InstanceFits, outputs, out_at}
 use Rattle.flat_circuit.specs.Loop.{Reaches, By_one, And_then}
 use Rattle.flat_circuit.specs.Circuit.{Circuit, IsCircuit, driver_at}

@@ -15,7 +15,7 @@ use Rattle.skew_algebra.proofs.Moves.{Permits-after, Permits-normal, Permits-fli
 use Rattle.flat_circuit.specs.declared.instance.Pin.{Pin}
 use Rattle.flat_circuit.specs.declared.instance.Instance.{Instance}
 use Rattle.flat_circuit.specs.declared.net.Net.{Net}
-use Rattle.flat_circuit.specs.Kind.{has_output}
+use Rattle.element_kinds.specs.Kinds.{has_output}
 use Rattle.flat_circuit.specs.Instances.{InstanceFits, PinExists, TargetExists, out_of}
 use Rattle.flat_circuit.specs.Circuit.{Circuit, IsCircuit, driver_at}
 use Rattle.flat_circuit.specs.Run.{Choice, Run, IsRun, IsRunAt, net_signal, target_signal, pin_signal, pin_signals, out_signal, WireFits, WiresFit}

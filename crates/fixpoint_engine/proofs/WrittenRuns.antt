@@ -1,7 +1,7 @@
 -- Runs that are written out, of circuits of one instance, and tests of which one tick alone passes.
 use Rattle.std.proofs.Common.{◌≡◌, ℕ, ◌<◌, ◌==◌, Bool, true, List, [], ◌∷◌}
 use Rattle.std.proofs.lemmas.Bool.{eqb-true}
-use Rattle.flat_circuit.specs.declared.kind.Kind.{Kind}
+use Rattle.element_kinds.specs.declared.kind.Kind.{Kind}
 use Rattle.flat_circuit.specs.declared.instance.Pin.{Pin}
 use Rattle.flat_circuit.specs.declared.instance.Instance.{Instance}
 use Rattle.flat_circuit.specs.Circuit.{Circuit}

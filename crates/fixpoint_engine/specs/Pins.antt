@@ -7,7 +7,7 @@ use Rattle.wave_core.specs.Slots.{earlier}
 use Rattle.skew_algebra.specs.Permits.{Permits}
 use Rattle.flat_circuit.specs.declared.instance.Instance.{Instance}
 use Rattle.flat_circuit.specs.Circuit.{Circuit}
-use Rattle.flat_circuit.specs.Equation.{nth_signal}
+use Rattle.element_kinds.specs.Equation.{nth_signal}
 use Rattle.flat_circuit.specs.Run.{Run, Choice, pin_signals}
 use Rattle.gate_eval.specs.Instance.{wave_of_pin}
 use Rattle.fixpoint_engine.specs.Value.{Waves, pin_waves}

@@ -4,7 +4,7 @@ use Rattle.std.specs.Prelude.{ℕ, ◌+◌, max, if◌then◌else◌, List, [], 
 use Rattle.flat_circuit.specs.declared.instance.Pin.{Pin}
 use Rattle.flat_circuit.specs.declared.instance.Instance.{Instance}
 use Rattle.flat_circuit.specs.declared.net.Net.{Net}
-use Rattle.flat_circuit.specs.Kind.{has_output}
+use Rattle.element_kinds.specs.Kinds.{has_output}
 use Rattle.flat_circuit.specs.Circuit.{Circuit}
 use Rattle.fixpoint_engine.specs.Value.{target_wire}
 

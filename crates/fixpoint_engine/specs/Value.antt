@@ -7,8 +7,10 @@ use Rattle.vector_names.specs.declared.bits.Target.TheVariants.{Net as OnNet, Co
 use Rattle.step_values.specs.declared.value.Value.{Value}
 use Rattle.step_values.specs.Cell.{values}
 use Rattle.skew_algebra.specs.Wave.{Wave, flipped, normal}
-use Rattle.flat_circuit.specs.declared.kind.Kind.{Kind}
-use Rattle.flat_circuit.specs.declared.kind.Kind.TheVariants.{Buf, And, Or, Xor, Mux2, Mux4, Mux8, Chg, Reg, RegRs, Latch, LatchRs, SetupHold, RiseFall, MinPulse}
+use Rattle.element_kinds.specs.declared.kind.Kind.{Kind}
+use Rattle.element_kinds.specs.declared.form.Form.{Form}
+use Rattle.element_kinds.specs.declared.form.Form.TheVariants.{Gate, Change, Register, Latch as Enabled, Checker}
+use Rattle.element_kinds.specs.Kinds.{by_form}
 use Rattle.flat_circuit.specs.declared.instance.Pin.{Pin}
 use Rattle.flat_circuit.specs.declared.instance.Instance.{Instance}
 use Rattle.flat_circuit.specs.declared.net.Net.{Net}
@@ -42,24 +44,18 @@ pin_waves c ws j = map (pin_wave c ws) j.pins
 abbrev pub marked_pin : Instance → Option ℕ
 marked_pin j = position (λ (p : Pin). p.hold) j.pins
 
+-- by the form of a kind
+abbrev pub made_in : Form → Kind → List (Wave Value) → Option ℕ → Bounds → Wave Value
+made_in Gate kind waves marked d = gate_wave kind waves marked d
+made_in Change kind waves marked d = gate_wave kind waves marked d
+made_in (Register forced) kind waves marked d = storage_wave kind waves d
+made_in (Enabled forced) kind waves marked d = storage_wave kind waves d
+made_in (Checker check) kind waves marked d = gate_wave kind waves marked d
+
 -- What a kind makes of the waves at its pins, its delay counted in. A checker has no output, so that nothing asks what
 -- it makes.
 abbrev pub made_by : Kind → List (Wave Value) → Option ℕ → Bounds → Wave Value
-made_by Buf waves marked d = gate_wave Buf waves marked d
-made_by And waves marked d = gate_wave And waves marked d
-made_by Or waves marked d = gate_wave Or waves marked d
-made_by Xor waves marked d = gate_wave Xor waves marked d
-made_by Mux2 waves marked d = gate_wave Mux2 waves marked d
-made_by Mux4 waves marked d = gate_wave Mux4 waves marked d
-made_by Mux8 waves marked d = gate_wave Mux8 waves marked d
-made_by Chg waves marked d = gate_wave Chg waves marked d
-made_by Reg waves marked d = storage_wave Reg waves d
-made_by RegRs waves marked d = storage_wave RegRs waves d
-made_by Latch waves marked d = storage_wave Latch waves d
-made_by LatchRs waves marked d = storage_wave LatchRs waves d
-made_by SetupHold waves marked d = gate_wave SetupHold waves marked d
-made_by RiseFall waves marked d = gate_wave RiseFall waves marked d
-made_by MinPulse waves marked d = gate_wave MinPulse waves marked d
+made_by kind waves marked d = by_form (λ form. made_in form kind waves marked d) kind
 
 -- the complement, where an output is marked so
 abbrev pub turned_wave : Bool → Wave Value → Wave Value

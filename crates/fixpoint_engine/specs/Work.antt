@@ -7,10 +7,10 @@ use Rattle.vector_names.specs.declared.bits.Target.TheVariants.{Net as OnNet, Co
 use Rattle.step_values.specs.declared.value.Value.{Value}
 use Rattle.step_values.specs.Cell.{same}
 use Rattle.skew_algebra.specs.Wave.{Wave}
-use Rattle.flat_circuit.specs.declared.kind.Kind.{Kind}
+use Rattle.element_kinds.specs.declared.kind.Kind.{Kind}
 use Rattle.flat_circuit.specs.declared.instance.Pin.{Pin}
 use Rattle.flat_circuit.specs.declared.instance.Instance.{Instance}
-use Rattle.flat_circuit.specs.Kind.{listens}
+use Rattle.element_kinds.specs.Kinds.{listens}
 use Rattle.flat_circuit.specs.Circuit.{Circuit}
 use Rattle.fixpoint_engine.specs.Value.{Waves}
 use Rattle.fixpoint_engine.specs.Rounds.{driver}

@@ -3,7 +3,7 @@
 ghost use Rattle.std.specs.Prelude.{◌≡◌, ◌<◌, IfOk, count_by, length, map, true};
 ghost use Rattle.std.specs.List.{position};
 ghost use Rattle.std.specs.Option.{option_copied};
-ghost use Rattle.flat_circuit.specs.Kind.{has_output};
+ghost use Rattle.element_kinds.specs.Kinds.{has_output};
 ghost use Rattle.flat_circuit.specs.Instances.{InstanceFits};
 ghost use Rattle.gate_eval.specs.Instance.{CountsFit, IsSound};
 ghost use Rattle.gate_eval.specs.Meeting.{HaveOnePeriod};

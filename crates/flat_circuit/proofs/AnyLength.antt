@@ -1,7 +1,7 @@
 -- Runs of any length and of any bits: those of a wire, and those of a buffer that passes them on.
 use Rattle.std.proofs.Common.{◌≡◌, ℕ, zero, suc, ◌-◌, Bool, false, List, [], ◌∷◌, length, get_or, refl, ap, subst, arith, slice_get, Some}
 use Rattle.std.proofs.lemmas.List.Elements.{All-nil, All-cons}
-use Rattle.flat_circuit.specs.declared.kind.Kind.TheVariants.{Buf}
+use Rattle.element_kinds.specs.declared.kind.Kind.TheVariants.{Buf}
 use Rattle.flat_circuit.specs.declared.instance.Instance.{Instance}
 use Rattle.flat_circuit.specs.Circuit.{Circuit}
 use Rattle.flat_circuit.specs.Run.{Run, Choice, IsRunAt, IsRun}

@@ -3,7 +3,7 @@
 use Rattle.std.proofs.Common.{true, false, List, [], ◌∷◌, map, refl}
 use Prim.Native.String.{String}
 use Rattle.scald_base.specs.Time.{Bounds}
-use Rattle.flat_circuit.specs.declared.kind.Kind.TheVariants.{Chg}
+use Rattle.element_kinds.specs.declared.kind.Kind.TheVariants.{Chg}
 use Rattle.flat_circuit.specs.declared.instance.Pin.{Pin}
 use Rattle.flat_circuit.specs.Circuit.{Circuit}
 use Rattle.flat_circuit.specs.Run.{Run}

@@ -2,8 +2,8 @@
 -- one past them, too few and too many choices, wires, nets and bits. All bits here are 0, which
 -- each delay allows, unless more is said.
 use Rattle.std.proofs.Common.{ℕ, Bool, true, List, [], ◌∷◌, map, refl, None}
-use Rattle.flat_circuit.specs.declared.kind.Kind.{Kind}
-use Rattle.flat_circuit.specs.declared.kind.Kind.TheVariants.{Buf, And, Or, Xor, Mux2, Mux4, Mux8, Chg, Reg, RegRs, Latch, LatchRs, SetupHold, RiseFall, MinPulse}
+use Rattle.element_kinds.specs.declared.kind.Kind.{Kind}
+use Rattle.element_kinds.specs.declared.kind.Kind.TheVariants.{Buf, And, Or, Xor, Mux2, Mux4, Mux8, Chg, Reg, RegRs, Latch, LatchRs, SetupHold, RiseFall, MinPulse}
 use Rattle.flat_circuit.specs.declared.instance.Pin.{Pin}
 use Rattle.flat_circuit.specs.Circuit.{Circuit}
 use Rattle.flat_circuit.specs.Run.{Run, Choice}

@@ -11,7 +11,7 @@ use Rattle.scald_base.specs.declared.assertion.AssertSpec.{AssertSpec}
 use Rattle.vector_names.specs.declared.bits.Target.{Target}
 use Rattle.vector_names.specs.declared.bits.Target.TheVariants.{Net as OnNet, Constant}
 use Rattle.flat_circuit.specs.declared.instance.Instance.{Instance}
-use Rattle.flat_circuit.specs.Kind.{has_output}
+use Rattle.element_kinds.specs.Kinds.{has_output}
 use Rattle.flat_circuit.specs.Name.{Name}
 use Rattle.flat_circuit.specs.Instances.{TargetExists, PinExists, OutExists, InstanceExists, InstanceFits, outputs, checkers, all_pins, AreFew, AreCounts, most_bits, most_pins}
 use Rattle.flat_circuit.specs.Builder.{built, Nets, Asserted, is_asserted, with_asserted, has_text, has_name, is_one_too_many, IsBuilt}

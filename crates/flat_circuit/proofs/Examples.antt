@@ -1,43 +1,45 @@
--- Equations worked out on paper.
-use Rattle.std.proofs.Common.{◌≡◌, Bool, true, false, [], ◌∷◌, refl}
-use Rattle.scald_base.specs.Time.{Bounds}
-use Rattle.flat_circuit.specs.declared.kind.Kind.TheVariants.{And, Or, Xor, Mux2, Mux4, Mux8, Chg, Reg, LatchRs}
-use Rattle.flat_circuit.specs.Equation.{gate_bit, named_before}
+-- Pins, limits and equations of each kind, by their rows, worked out on paper, in the order of the kinds.
+use Rattle.std.proofs.Common.{◌≡◌, ℕ, ◌+◌, ◌≤◌, true, false, [], ◌∷◌, map, refl}
+use Rattle.scald_base.specs.Time.{Header, Bounds, period}
+use Rattle.element_kinds.specs.declared.kind.Kind.TheVariants.{And, Chg, Reg, RiseFall, MinPulse}
+use Rattle.element_kinds.specs.Kinds.{kinds}
+use Rattle.flat_circuit.specs.Kind.{pin_counts, LimitsFit}
+use Rattle.flat_circuit.specs.Run.{Within, DelayFits}
+use Rattle.flat_circuit.specs.Laws.{looks_back}
+use Rattle.flat_circuit.specs.Split.{may_split}
 
--- selects 1 and 0 choose input 2 of four
-mux4_chooses : (a b c d : Bool) → gate_bit Mux4 (true ∷ false ∷ a ∷ b ∷ c ∷ d ∷ []) ≡ c
-mux4_chooses a b c d = refl
+-- a change function has up to 16 connections of up to 256 bits
+counts : map pin_counts kinds
+    ≡ (1, 1) ∷ (1, 16) ∷ (1, 16) ∷ (1, 16) ∷ (3, 3) ∷ (6, 6) ∷ (11, 11) ∷ (1, 4096) ∷ (2, 2) ∷ (4, 4)
+    ∷ (2, 2) ∷ (4, 4) ∷ (2, 2) ∷ (2, 2) ∷ (1, 1) ∷ []
+counts = refl
 
--- selects 0, 1 and 1 choose input 3 of eight
-mux8_chooses : (a b c d e f g h : Bool) → gate_bit Mux8 (false ∷ true ∷ true ∷ a ∷ b ∷ c ∷ d ∷ e ∷ f ∷ g ∷ h ∷ []) ≡ d
-mux8_chooses a b c d e f g h = refl
+backwards : map looks_back kinds
+    ≡ false ∷ false ∷ false ∷ false ∷ false ∷ false ∷ false ∷ true ∷ true ∷ true ∷ true ∷ true
+    ∷ false ∷ false ∷ false ∷ []
+backwards = refl
 
-mux2_chooses : (a b : Bool) → gate_bit Mux2 (false ∷ a ∷ b ∷ []) ≡ a
-mux2_chooses a b = refl
+with_two_delays : map may_split kinds
+    ≡ true ∷ true ∷ true ∷ true ∷ true ∷ true ∷ true ∷ false ∷ false ∷ false ∷ false ∷ false
+    ∷ false ∷ false ∷ false ∷ []
+with_two_delays = refl
 
-three_ones_are_odd : gate_bit Xor (true ∷ false ∷ true ∷ true ∷ []) ≡ true
-three_ones_are_odd = refl
+-- a gate and a register have a delay, a change function and a checker have none
+gates_are_late : (d : Bounds) (n : ℕ) → Within d n → DelayFits And d n
+gates_are_late d n within = within
 
-two_ones_are_even : gate_bit Xor (true ∷ false ∷ true ∷ []) ≡ false
-two_ones_are_even = refl
+registers_are_late : (d : Bounds) (n : ℕ) → DelayFits Reg d n → Within d n
+registers_are_late d n fits = fits
 
-and_of_a_zero : gate_bit And (true ∷ false ∷ true ∷ []) ≡ false
-and_of_a_zero = refl
+changes_have_none : (d : Bounds) (n : ℕ) → DelayFits Chg d n
+changes_have_none d n = tt
 
-or_of_a_one : gate_bit Or (false ∷ false ∷ true ∷ []) ≡ true
-or_of_a_one = refl
+checkers_have_none : (d : Bounds) (n : ℕ) → DelayFits MinPulse d n
+checkers_have_none d n = tt
 
--- a delay of 5 behind wires of 2 and 3: a register names its output 1 tick before, its clock also 8 ticks before
-register_names : (bounds : Bounds) → named_before Reg bounds 5 (2 ∷ 3 ∷ []) ≡ 1 ∷ 8 ∷ 7 ∷ 8 ∷ []
-register_names bounds = refl
+-- setup and hold are limited together, widths each
+together : (h : Header) (l : ℕ × ℕ) → LimitsFit h RiseFall l → l.0 + l.1 ≤ period h
+together h l fits = fits
 
--- the steps of a change function's pins lie as far back as its greatest delay, and each names the tick before
-change_names : named_before Chg (record { min = 1; max = 4 }) 0 (2 ∷ 0 ∷ []) ≡ 1 ∷ 7 ∷ 5 ∷ []
-change_names = refl
-
--- a gate names its pins alone, also those that it does not select; a latch its output too
-gate_names : (bounds : Bounds) → named_before Mux2 bounds 5 (0 ∷ 2 ∷ 9 ∷ []) ≡ 5 ∷ 7 ∷ 14 ∷ []
-gate_names bounds = refl
-
-latch_names : (bounds : Bounds) → named_before LatchRs bounds 5 (0 ∷ 2 ∷ 9 ∷ 0 ∷ []) ≡ 1 ∷ 5 ∷ 7 ∷ 14 ∷ 5 ∷ []
-latch_names bounds = refl
+each_alone : (h : Header) (l : ℕ × ℕ) → l.0 ≤ period h → l.1 ≤ period h → LimitsFit h MinPulse l
+each_alone h l high low = (high, low)

@@ -1,8 +1,8 @@
 -- Runs of one gate. Without delays each tick is a row of the gate's table, and every bit of the
 -- output is fixed.
 use Rattle.std.proofs.Common.{true, false, List, [], ◌∷◌, refl}
-use Rattle.flat_circuit.specs.declared.kind.Kind.{Kind}
-use Rattle.flat_circuit.specs.declared.kind.Kind.TheVariants.{Buf, And, Or, Xor, Mux2, Mux4, Mux8}
+use Rattle.element_kinds.specs.declared.kind.Kind.{Kind}
+use Rattle.element_kinds.specs.declared.kind.Kind.TheVariants.{Buf, And, Or, Xor, Mux2, Mux4, Mux8}
 use Rattle.flat_circuit.specs.declared.instance.Pin.{Pin}
 use Rattle.flat_circuit.specs.Circuit.{Circuit}
 use Rattle.flat_circuit.proofs.RunTables.{bounds, input, driven_by, on, not_on, constant, not_constant, element, complemented, circuit, late, run, AreNone, Fixes, none, fixes}

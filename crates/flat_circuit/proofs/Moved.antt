@@ -1,15 +1,18 @@
 -- An equation at a tick follows from the same equation so many ticks later in other signals, where
 -- both show the same bits at the ticks that it names. Parts of runs, and runs with another bit, are
 -- other signals of that kind.
-use Rattle.std.proofs.Common.{◌≡◌, ℕ, zero, suc, ◌+◌, ◌-◌, ◌≤◌, Bool, true, not, ◌&&◌, if◌then◌else◌, List, [], ◌∷◌, refl, sym, ap, subst, ◌∙◌, arith, All}
+use Rattle.std.proofs.Common.{◌≡◌, ℕ, zero, suc, ◌+◌, ◌-◌, ◌≤◌, Bool, true, false, not, ◌&&◌, if◌then◌else◌, List, [], ◌∷◌, refl, sym, ap, subst, ◌∙◌, arith, All}
 use Rattle.std.specs.Prelude.{⊤}
 use Rattle.std.proofs.lemmas.List.Elements.{All-nil, All-cons, All-head, All-tail}
 use Rattle.scald_base.specs.Time.{Bounds}
 use Rattle.scald_base.specs.Signal.{Signal}
-use Rattle.flat_circuit.specs.declared.kind.Kind.{Kind}
-use Rattle.flat_circuit.specs.declared.kind.Kind.TheVariants.{Buf, And, Or, Xor, Mux2, Mux4, Mux8, Chg, Reg, RegRs, Latch, LatchRs, SetupHold, RiseFall, MinPulse}
-use Rattle.flat_circuit.specs.Equation.{bits_at, gate_bit, nth_signal, rises_at, registered, latched, Follows, IsForced, IsSetReset, AreStill, Equation, pins_before, clock_before, IsAsked}
-use Rattle.flat_circuit.specs.Laws.{looks_back}
+use Rattle.element_kinds.specs.declared.kind.Kind.{Kind}
+use Rattle.element_kinds.specs.declared.kind.Kind.TheVariants.{Chg}
+use Rattle.element_kinds.specs.declared.form.Form.{Form}
+use Rattle.element_kinds.specs.declared.form.Form.TheVariants.{Gate, Change, Register, Latch as Enabled, Checker}
+use Rattle.element_kinds.specs.Kinds.{form_of}
+use Rattle.element_kinds.specs.Equation.{bits_at, gate_bit, nth_signal, rises_at, registered, latched, Follows, IsForced, IsSetReset, AreStill, EquationOf, Equation, pins_before, clock_before, named_by, IsAsked}
+use Rattle.flat_circuit.specs.Laws.{looks_back_by, looks_back}
 
 -- From the ticks of its wire on up to t, each signal of ys shows what that of xs shows m ticks
 -- later.
@@ -184,38 +187,36 @@ module _ (m t : ℕ) (bounds : Bounds) (delay : ℕ) (ws : List ℕ) (xs ys : Li
       All (λ named. named ≤ t) more
   rest before more asked = All-tail (λ (named : ℕ). named ≤ t) before more asked
 
-  pub equation_moves : (kind : Kind) → IsAsked kind bounds delay ws t → OutputMoves kind m t x y →
-      Equation kind bounds delay xs x (m + t) → Equation kind bounds delay ys y t
-  equation_moves Buf asked out h = gate_moves Buf asked out.now h
-  equation_moves And asked out h = gate_moves And asked out.now h
-  equation_moves Or asked out h = gate_moves Or asked out.now h
-  equation_moves Xor asked out h = gate_moves Xor asked out.now h
-  equation_moves Mux2 asked out h = gate_moves Mux2 asked out.now h
-  equation_moves Mux4 asked out h = gate_moves Mux4 asked out.now h
-  equation_moves Mux8 asked out h = gate_moves Mux8 asked out.now h
-  equation_moves Chg asked out h = change_moves (rest 1 (pins_before (bounds.max + 1) ws) asked)
-      out.now (out.before refl) h
-  equation_moves Reg asked out h =
+  -- by the form of a kind
+  form_moves : (form : Form) (kind : Kind) → All (λ named. named ≤ t) (named_by form bounds delay ws) →
+      y t ≡ x (m + t) → (looks_back_by form ≡ true → y (t - 1) ≡ x ((m + t) - 1)) →
+      EquationOf form kind bounds delay xs x (m + t) → EquationOf form kind bounds delay ys y t
+  form_moves Gate kind asked now before h = gate_moves kind asked now h
+  form_moves Change kind asked now before h =
+      change_moves (rest 1 (pins_before (bounds.max + 1) ws) asked) now (before refl) h
+  form_moves (Register false) kind asked now before h =
       let clock : All (λ named. named ≤ t) (clock_before delay ws ∷ pins_before delay ws) =
       rest 1 (clock_before delay ws ∷ pins_before delay ws) asked in
-      out.now ∙ h ∙ sym (register_moves (first (clock_before delay ws)
+      now ∙ h ∙ sym (register_moves (first (clock_before delay ws)
       (pins_before delay ws) clock) (rest (clock_before delay ws) (pins_before delay ws) clock)
-      (out.before refl))
-  equation_moves RegRs asked out h =
+      (before refl))
+  form_moves (Register true) kind asked now before h =
       let clock : All (λ named. named ≤ t) (clock_before delay ws ∷ pins_before delay ws) =
       rest 1 (clock_before delay ws ∷ pins_before delay ws) asked in
       let named : Named t delay ws = rest (clock_before delay ws) (pins_before delay ws) clock in
       set_reset_moves (registered ys (t - delay) (y (t - 1)))
       (registered xs ((m + t) - delay) (x ((m + t) - 1))) named
       (register_moves (first (clock_before delay ws) (pins_before delay ws) clock) named
-      (out.before refl)) out.now h
-  equation_moves Latch asked out h = out.now ∙ h ∙ sym
-      (latch_moves (rest 1 (pins_before delay ws) asked) (out.before refl))
-  equation_moves LatchRs asked out h =
+      (before refl)) now h
+  form_moves (Enabled false) kind asked now before h = now ∙ h ∙ sym
+      (latch_moves (rest 1 (pins_before delay ws) asked) (before refl))
+  form_moves (Enabled true) kind asked now before h =
       let named : Named t delay ws = rest 1 (pins_before delay ws) asked in
       set_reset_moves (latched ys (t - delay) (y (t - 1)))
       (latched xs ((m + t) - delay) (x ((m + t) - 1))) named
-      (latch_moves named (out.before refl)) out.now h
-  equation_moves SetupHold asked out h = tt
-  equation_moves RiseFall asked out h = tt
-  equation_moves MinPulse asked out h = tt
+      (latch_moves named (before refl)) now h
+  form_moves (Checker check) kind asked now before h = tt
+
+  pub equation_moves : (kind : Kind) → IsAsked kind bounds delay ws t → OutputMoves kind m t x y →
+      Equation kind bounds delay xs x (m + t) → Equation kind bounds delay ys y t
+  equation_moves kind asked out h = form_moves (form_of kind) kind asked out.now out.before h

@@ -8,14 +8,14 @@ use Rattle.scald_base.specs.Time.{Bounds}
 use Rattle.scald_base.specs.Signal.{Signal, turned}
 use Rattle.vector_names.specs.declared.bits.Target.{Target}
 use Rattle.vector_names.specs.declared.bits.Target.TheVariants.{Net as OnNet, Constant}
-use Rattle.flat_circuit.specs.declared.kind.Kind.{Kind}
-use Rattle.flat_circuit.specs.declared.kind.Kind.TheVariants.{Chg, Reg, RegRs, Latch, LatchRs, SetupHold, RiseFall, MinPulse}
+use Rattle.element_kinds.specs.declared.kind.Kind.{Kind}
+use Rattle.element_kinds.specs.declared.kind.Kind.TheVariants.{Chg, Reg, RegRs, Latch, LatchRs, SetupHold, RiseFall, MinPulse}
 use Rattle.flat_circuit.specs.declared.instance.Pin.{Pin}
 use Rattle.flat_circuit.specs.declared.instance.Instance.{Instance}
 use Rattle.flat_circuit.specs.declared.net.Net.{Net}
-use Rattle.flat_circuit.specs.Kind.{has_output}
+use Rattle.element_kinds.specs.Kinds.{has_output}
 use Rattle.flat_circuit.specs.Circuit.{Circuit}
-use Rattle.flat_circuit.specs.Equation.{Equation, named_before, IsAsked}
+use Rattle.element_kinds.specs.Equation.{Equation, named_before, IsAsked}
 use Rattle.flat_circuit.specs.Run.{Run, Choice, net_signal, target_signal, pin_signal, pin_signals, out_signal, WiresFit, IsRunAt}
 use Rattle.flat_circuit.specs.Laws.{front, later_part, FrontsAreRuns, LaterPartsAreRuns, with_bit, looks_back, LeavesFree, UnnamedBitsAreFree}
 use Rattle.flat_circuit.proofs.Moved.{Match, equation_moves}

@@ -7,14 +7,16 @@ use Rattle.scald_base.specs.Time.{Bounds}
 use Rattle.scald_base.specs.Signal.{Signal}
 use Rattle.vector_names.specs.declared.bits.Target.{Target}
 use Rattle.vector_names.specs.declared.bits.Target.TheVariants.{Net as OnNet, Constant}
-use Rattle.flat_circuit.specs.declared.kind.Kind.{Kind}
-use Rattle.flat_circuit.specs.declared.kind.Kind.TheVariants.{Buf, And, Or, Xor, Mux2, Mux4, Mux8, Chg, Reg, RegRs, Latch, LatchRs, SetupHold, RiseFall, MinPulse}
+use Rattle.element_kinds.specs.declared.kind.Kind.{Kind}
+use Rattle.element_kinds.specs.declared.form.Form.{Form}
+use Rattle.element_kinds.specs.declared.form.Form.TheVariants.{Gate, Change, Register, Latch as Enabled, Checker}
+use Rattle.element_kinds.specs.Kinds.{form_of}
 use Rattle.flat_circuit.specs.declared.instance.Pin.{Pin}
 use Rattle.flat_circuit.specs.declared.instance.Instance.{Instance}
 use Rattle.flat_circuit.specs.declared.net.Net.{Net}
 use Rattle.flat_circuit.specs.Circuit.{Circuit}
-use Rattle.flat_circuit.specs.Equation.{bits_at, gate_bit, nth_signal, registered, latched, Follows, IsForced, IsSetReset, AreStill, IsInReach, Equation, named_before, IsAsked}
-use Rattle.flat_circuit.specs.Run.{Run, Choice, pin_signals, out_signal, Within, DelayFits, net_wire_fits, WireFits, WiresFit, Obeys, IsRunAt, IsRun}
+use Rattle.element_kinds.specs.Equation.{bits_at, gate_bit, nth_signal, registered, latched, Follows, IsForced, IsSetReset, AreStill, IsInReach, IsStored, EquationOf, Equation, named_before, IsAsked}
+use Rattle.flat_circuit.specs.Run.{Run, Choice, pin_signals, out_signal, Within, DelayFitsForm, DelayFits, net_wire_fits, WireFits, WiresFit, Obeys, IsRunAt, IsRun}
 use Rattle.flat_circuit.proofs.Deciding.{at_most_tells, equal_tells, same_bit, same_bit_tells, always_tells, never_tells, if_tells, all_tells, each_below, below_tells}
 
 -- ---- equations
@@ -80,56 +82,53 @@ still_in_reach_tells bounds signals t =
     (λ u. if_tells (is_in_reach bounds t u) (are_still signals u) (reach_tells bounds t u)
     (still_tells signals u)) (suc t))
 
-abbrev obeys_at : Kind → Bounds → ℕ → List Signal → Signal → ℕ → Bool
-obeys_at Buf bounds delay signals output t = follows Buf signals (t - delay) (output t)
-obeys_at And bounds delay signals output t = follows And signals (t - delay) (output t)
-obeys_at Or bounds delay signals output t = follows Or signals (t - delay) (output t)
-obeys_at Xor bounds delay signals output t = follows Xor signals (t - delay) (output t)
-obeys_at Mux2 bounds delay signals output t = follows Mux2 signals (t - delay) (output t)
-obeys_at Mux4 bounds delay signals output t = follows Mux4 signals (t - delay) (output t)
-obeys_at Mux8 bounds delay signals output t = follows Mux8 signals (t - delay) (output t)
-obeys_at Chg bounds delay signals output t =
+abbrev is_stored : Bool → List Signal → ℕ → Bool → Bool → Bool
+is_stored false signals s free output = same_bit output free
+is_stored true signals s free output = is_set_reset signals s free output
+
+stored_tells : (forced : Bool) (signals : List Signal) (s : ℕ) (free output : Bool) →
+    Decides (is_stored forced signals s free output) (IsStored forced signals s free output)
+stored_tells false signals s free output = same_bit_tells output free
+stored_tells true signals s free output = set_reset_tells signals s free output
+
+abbrev obeys_as : Form → Kind → Bounds → ℕ → List Signal → Signal → ℕ → Bool
+obeys_as Gate kind bounds delay signals output t = follows kind signals (t - delay) (output t)
+obeys_as Change kind bounds delay signals output t =
     not (still_in_reach bounds signals t) || same_bit (output (t - 1)) (output t)
-obeys_at Reg bounds delay signals output t =
-    same_bit (output t) (registered signals (t - delay) (output (t - 1)))
-obeys_at RegRs bounds delay signals output t =
-    is_set_reset signals (t - delay) (registered signals (t - delay) (output (t - 1))) (output t)
-obeys_at Latch bounds delay signals output t =
-    same_bit (output t) (latched signals (t - delay) (output (t - 1)))
-obeys_at LatchRs bounds delay signals output t =
-    is_set_reset signals (t - delay) (latched signals (t - delay) (output (t - 1))) (output t)
-obeys_at SetupHold bounds delay signals output t = true
-obeys_at RiseFall bounds delay signals output t = true
-obeys_at MinPulse bounds delay signals output t = true
+obeys_as (Register forced) kind bounds delay signals output t =
+    is_stored forced signals (t - delay) (registered signals (t - delay) (output (t - 1)))
+    (output t)
+obeys_as (Enabled forced) kind bounds delay signals output t =
+    is_stored forced signals (t - delay) (latched signals (t - delay) (output (t - 1))) (output t)
+obeys_as (Checker check) kind bounds delay signals output t = true
+
+abbrev obeys_at : Kind → Bounds → ℕ → List Signal → Signal → ℕ → Bool
+obeys_at kind bounds delay signals output t =
+    obeys_as (form_of kind) kind bounds delay signals output t
+
+obeys_as_tells : (form : Form) (kind : Kind) (bounds : Bounds) (delay : ℕ) (signals : List Signal)
+    (output : Signal) (t : ℕ) →
+    Decides (obeys_as form kind bounds delay signals output t)
+    (EquationOf form kind bounds delay signals output t)
+obeys_as_tells Gate kind bounds delay signals output t =
+    follows_tells kind signals (t - delay) (output t)
+obeys_as_tells Change kind bounds delay signals output t =
+    if_tells (still_in_reach bounds signals t) (same_bit (output (t - 1)) (output t))
+    (still_in_reach_tells bounds signals t) (same_bit_tells (output (t - 1)) (output t))
+obeys_as_tells (Register forced) kind bounds delay signals output t =
+    stored_tells forced signals (t - delay) (registered signals (t - delay) (output (t - 1)))
+    (output t)
+obeys_as_tells (Enabled forced) kind bounds delay signals output t =
+    stored_tells forced signals (t - delay) (latched signals (t - delay) (output (t - 1)))
+    (output t)
+obeys_as_tells (Checker check) kind bounds delay signals output t = always_tells
 
 obeys_at_tells : (kind : Kind) (bounds : Bounds) (delay : ℕ) (signals : List Signal)
     (output : Signal) (t : ℕ) →
     Decides (obeys_at kind bounds delay signals output t)
     (Equation kind bounds delay signals output t)
-obeys_at_tells Buf bounds delay signals output t = follows_tells Buf signals (t - delay) (output t)
-obeys_at_tells And bounds delay signals output t = follows_tells And signals (t - delay) (output t)
-obeys_at_tells Or bounds delay signals output t = follows_tells Or signals (t - delay) (output t)
-obeys_at_tells Xor bounds delay signals output t = follows_tells Xor signals (t - delay) (output t)
-obeys_at_tells Mux2 bounds delay signals output t =
-    follows_tells Mux2 signals (t - delay) (output t)
-obeys_at_tells Mux4 bounds delay signals output t =
-    follows_tells Mux4 signals (t - delay) (output t)
-obeys_at_tells Mux8 bounds delay signals output t =
-    follows_tells Mux8 signals (t - delay) (output t)
-obeys_at_tells Chg bounds delay signals output t =
-    if_tells (still_in_reach bounds signals t) (same_bit (output (t - 1)) (output t))
-    (still_in_reach_tells bounds signals t) (same_bit_tells (output (t - 1)) (output t))
-obeys_at_tells Reg bounds delay signals output t =
-    same_bit_tells (output t) (registered signals (t - delay) (output (t - 1)))
-obeys_at_tells RegRs bounds delay signals output t =
-    set_reset_tells signals (t - delay) (registered signals (t - delay) (output (t - 1))) (output t)
-obeys_at_tells Latch bounds delay signals output t =
-    same_bit_tells (output t) (latched signals (t - delay) (output (t - 1)))
-obeys_at_tells LatchRs bounds delay signals output t =
-    set_reset_tells signals (t - delay) (latched signals (t - delay) (output (t - 1))) (output t)
-obeys_at_tells SetupHold bounds delay signals output t = always_tells
-obeys_at_tells RiseFall bounds delay signals output t = always_tells
-obeys_at_tells MinPulse bounds delay signals output t = always_tells
+obeys_at_tells kind bounds delay signals output t =
+    obeys_as_tells (form_of kind) kind bounds delay signals output t
 
 abbrev is_asked : Kind → Bounds → ℕ → List ℕ → ℕ → Bool
 is_asked kind bounds delay wires t =
@@ -169,40 +168,27 @@ within_tells : (d : Bounds) (n : ℕ) → Decides (is_within d n) (Within d n)
 within_tells d n =
     Decides-and (nat_le d.min n) (nat_le n d.max) (at_most_tells _ _) (at_most_tells _ _)
 
+abbrev delay_fits_as : Form → Bounds → ℕ → Bool
+delay_fits_as Gate d n = is_within d n
+delay_fits_as Change d n = true
+delay_fits_as (Register forced) d n = is_within d n
+delay_fits_as (Enabled forced) d n = is_within d n
+delay_fits_as (Checker check) d n = true
+
 abbrev delay_fits : Kind → Bounds → ℕ → Bool
-delay_fits Buf d n = is_within d n
-delay_fits And d n = is_within d n
-delay_fits Or d n = is_within d n
-delay_fits Xor d n = is_within d n
-delay_fits Mux2 d n = is_within d n
-delay_fits Mux4 d n = is_within d n
-delay_fits Mux8 d n = is_within d n
-delay_fits Chg d n = true
-delay_fits Reg d n = is_within d n
-delay_fits RegRs d n = is_within d n
-delay_fits Latch d n = is_within d n
-delay_fits LatchRs d n = is_within d n
-delay_fits SetupHold d n = true
-delay_fits RiseFall d n = true
-delay_fits MinPulse d n = true
+delay_fits kind d n = delay_fits_as (form_of kind) d n
+
+delay_as_tells : (form : Form) (d : Bounds) (n : ℕ) →
+    Decides (delay_fits_as form d n) (DelayFitsForm form d n)
+delay_as_tells Gate d n = within_tells d n
+delay_as_tells Change d n = always_tells
+delay_as_tells (Register forced) d n = within_tells d n
+delay_as_tells (Enabled forced) d n = within_tells d n
+delay_as_tells (Checker check) d n = always_tells
 
 delay_tells : (kind : Kind) (d : Bounds) (n : ℕ) →
     Decides (delay_fits kind d n) (DelayFits kind d n)
-delay_tells Buf d n = within_tells d n
-delay_tells And d n = within_tells d n
-delay_tells Or d n = within_tells d n
-delay_tells Xor d n = within_tells d n
-delay_tells Mux2 d n = within_tells d n
-delay_tells Mux4 d n = within_tells d n
-delay_tells Mux8 d n = within_tells d n
-delay_tells Chg d n = always_tells
-delay_tells Reg d n = within_tells d n
-delay_tells RegRs d n = within_tells d n
-delay_tells Latch d n = within_tells d n
-delay_tells LatchRs d n = within_tells d n
-delay_tells SetupHold d n = always_tells
-delay_tells RiseFall d n = always_tells
-delay_tells MinPulse d n = always_tells
+delay_tells kind d n = delay_as_tells (form_of kind) d n
 
 abbrev net_wire_is_in : Option Net → ℕ → Bool
 net_wire_is_in None w = false

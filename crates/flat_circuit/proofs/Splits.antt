@@ -4,9 +4,12 @@ use Rattle.std.specs.List.{list_all, list_any, range_with_len}
 use Rattle.std.proofs.lemmas.Bool.{and_parts, and_from, or_cases, or_left, or_right, cases_eq, cases_lt, le-leb, lt-leb}
 use Rattle.scald_base.specs.Time.{Bounds}
 use Rattle.scald_base.specs.Signal.{Signal}
-use Rattle.flat_circuit.specs.declared.kind.Kind.{Kind}
-use Rattle.flat_circuit.specs.declared.kind.Kind.TheVariants.{Buf, And, Or, Xor, Mux2, Mux4, Mux8}
-use Rattle.flat_circuit.specs.Equation.{gate_bit, bits_at, pins_before, Equation, IsAsked, IsInReach}
+use Rattle.element_kinds.specs.declared.kind.Kind.{Kind}
+use Rattle.element_kinds.specs.declared.form.Form.{Form}
+use Rattle.element_kinds.specs.declared.form.Form.TheVariants.{Gate}
+use Rattle.element_kinds.specs.Kinds.{form_of, is_function}
+use Rattle.element_kinds.proofs.Forms.{of_form}
+use Rattle.element_kinds.specs.Equation.{gate_bit, bits_at, pins_before, EquationOf, Equation, named_by, IsAsked, IsInReach}
 use Rattle.flat_circuit.specs.Split.{may_split, gate_signal, ticks, split_bit, SplitEquation, IsSplitAsked, EqualDelaysAreOne, EveryTickCounts, RiseMirrorsFall}
 
 -- ---- a signal over some ticks in a row
@@ -95,16 +98,15 @@ equal_delays = record { equation = equation; asked = asked }
     follows kind delay signals output t =
         (λ h. h ∙ same-delays (gate_signal kind signals) delay t, λ h. h ∙ sym (same-delays (gate_signal kind signals) delay t))
 
+    equation_by : (form : Form) (kind : Kind) (bounds : Bounds) (delay : ℕ) (signals : List Signal) (output : Signal) (t : ℕ) → is_function form ≡ true →
+        SplitEquation kind delay delay signals output t ↔ EquationOf form kind bounds delay signals output t
+    equation_by Gate kind bounds delay signals output t h = follows kind delay signals output t
+    equation_by form kind bounds delay signals output t h = cc
+
     equation : (kind : Kind) (bounds : Bounds) (delay : ℕ) (signals : List Signal) (output : Signal) (t : ℕ) → may_split kind ≡ true →
         SplitEquation kind delay delay signals output t ↔ Equation kind bounds delay signals output t
-    equation Buf bounds delay signals output t h = follows Buf delay signals output t
-    equation And bounds delay signals output t h = follows And delay signals output t
-    equation Or bounds delay signals output t h = follows Or delay signals output t
-    equation Xor bounds delay signals output t h = follows Xor delay signals output t
-    equation Mux2 bounds delay signals output t h = follows Mux2 delay signals output t
-    equation Mux4 bounds delay signals output t h = follows Mux4 delay signals output t
-    equation Mux8 bounds delay signals output t h = follows Mux8 delay signals output t
-    equation kind bounds delay signals output t h = cc
+    equation kind bounds delay signals output t h = equation_by (form_of kind) kind bounds delay signals output t
+        (of_form is_function kind ∙ h)
 
     greater : (delay : ℕ) → max delay delay ≡ delay
     greater delay = omega arith
@@ -115,16 +117,14 @@ equal_delays = record { equation = equation; asked = asked }
       λ h. subst (λ (d : ℕ). All (λ back. back ≤ t) (pins_before d wires)) (sym (greater delay)) h,
     )
 
+    asked_by : (form : Form) (bounds : Bounds) (delay : ℕ) (wires : List ℕ) (t : ℕ) → is_function form ≡ true →
+        IsSplitAsked delay delay wires t ↔ All (λ back. back ≤ t) (named_by form bounds delay wires)
+    asked_by Gate bounds delay wires t h = both delay wires t
+    asked_by form bounds delay wires t h = cc
+
     asked : (kind : Kind) (bounds : Bounds) (delay : ℕ) (wires : List ℕ) (t : ℕ) → may_split kind ≡ true →
         IsSplitAsked delay delay wires t ↔ IsAsked kind bounds delay wires t
-    asked Buf bounds delay wires t h = both delay wires t
-    asked And bounds delay wires t h = both delay wires t
-    asked Or bounds delay wires t h = both delay wires t
-    asked Xor bounds delay wires t h = both delay wires t
-    asked Mux2 bounds delay wires t h = both delay wires t
-    asked Mux4 bounds delay wires t h = both delay wires t
-    asked Mux8 bounds delay wires t h = both delay wires t
-    asked kind bounds delay wires t h = cc
+    asked kind bounds delay wires t h = asked_by (form_of kind) bounds delay wires t (of_form is_function kind ∙ h)
 
 pub every_tick : EveryTickCounts
 every_tick = record {

@@ -1,8 +1,8 @@
 -- Runs of one register or latch. Its output at the tick before counts, so nothing is asked at tick
 -- 0.
 use Rattle.std.proofs.Common.{[], ◌∷◌, refl}
-use Rattle.flat_circuit.specs.declared.kind.Kind.{Kind}
-use Rattle.flat_circuit.specs.declared.kind.Kind.TheVariants.{Reg, RegRs, Latch, LatchRs}
+use Rattle.element_kinds.specs.declared.kind.Kind.{Kind}
+use Rattle.element_kinds.specs.declared.kind.Kind.TheVariants.{Reg, RegRs, Latch, LatchRs}
 use Rattle.flat_circuit.specs.Circuit.{Circuit}
 use Rattle.flat_circuit.proofs.RunTables.{bounds, input, driven_by, on, not_on, element, complemented, circuit, late, run, AreRuns, AreNone, Fixes, runs, none, fixes}
 

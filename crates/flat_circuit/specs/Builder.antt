@@ -15,7 +15,7 @@ use Rattle.scald_base.specs.declared.refusal.Stop.TheVariants.{Refused, NoMemory
 use Rattle.flat_circuit.specs.declared.net.Net.{Net}
 use Rattle.flat_circuit.specs.declared.net_table.NetName.{NetName}
 use Rattle.flat_circuit.specs.declared.instance.Instance.{Instance}
-use Rattle.flat_circuit.specs.Kind.{has_output}
+use Rattle.element_kinds.specs.Kinds.{has_output}
 use Rattle.flat_circuit.specs.Name.{Name, IsNumber, AreDistinct}
 use Rattle.flat_circuit.specs.Instances.{InstanceFits, AreFew, outputs, checkers, all_pins, most_bits, most_pins, IsTaken}
 use Rattle.flat_circuit.specs.Loop.{IsLooped, HoldsOfNone}

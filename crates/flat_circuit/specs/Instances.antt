@@ -4,10 +4,11 @@ use Rattle.std.specs.List.{All}
 use Rattle.scald_base.specs.Time.{Header}
 use Rattle.vector_names.specs.declared.bits.Target.{Target}
 use Rattle.vector_names.specs.declared.bits.Target.TheVariants.{Net as OnNet, Constant}
-use Rattle.flat_circuit.specs.declared.kind.Kind.{Kind}
+use Rattle.element_kinds.specs.declared.kind.Kind.{Kind}
 use Rattle.flat_circuit.specs.declared.instance.Pin.{Pin}
 use Rattle.flat_circuit.specs.declared.instance.Instance.{Instance}
-use Rattle.flat_circuit.specs.Kind.{has_output, listens, PinsFit, LimitsFit}
+use Rattle.element_kinds.specs.Kinds.{has_output, listens}
+use Rattle.flat_circuit.specs.Kind.{PinsFit, LimitsFit}
 
 -- ---- one instance between so many nets
 

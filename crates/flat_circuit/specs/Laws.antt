@@ -2,12 +2,13 @@
 -- no equation names is free.
 use Rattle.std.specs.Prelude.{◌≡◌, ℕ, ◌-◌, ◌<◌, min, Bool, true, false, [], map, take, drop, ◌++◌, ◌∷◌, All, slice_get, slice_set, slice_index_or, Some, ◌≢◌}
 use Rattle.vector_names.specs.declared.bits.Target.TheVariants.{Net as OnNet}
-use Rattle.flat_circuit.specs.declared.kind.Kind.{Kind}
-use Rattle.flat_circuit.specs.declared.kind.Kind.TheVariants.{Buf, And, Or, Xor, Mux2, Mux4, Mux8, Chg, Reg, RegRs, Latch, LatchRs, SetupHold, RiseFall, MinPulse}
+use Rattle.element_kinds.specs.declared.kind.Kind.{Kind}
+use Rattle.element_kinds.specs.declared.form.Form.{Form}
+use Rattle.element_kinds.specs.declared.form.Form.TheVariants.{Gate, Change, Register, Latch as Enabled, Checker}
+use Rattle.element_kinds.specs.Kinds.{form_of, has_output}
 use Rattle.flat_circuit.specs.declared.instance.Pin.{Pin}
 use Rattle.flat_circuit.specs.declared.instance.Instance.{Instance}
-use Rattle.flat_circuit.specs.Kind.{has_output}
-use Rattle.flat_circuit.specs.Equation.{IsAsked}
+use Rattle.element_kinds.specs.Equation.{IsAsked}
 use Rattle.flat_circuit.specs.Circuit.{Circuit}
 use Rattle.flat_circuit.specs.Run.{Run, Choice, IsRunAt, IsRun}
 
@@ -34,23 +35,17 @@ with_bit run net t b = record run {
       (slice_set (slice_index_or run.bits net []) t b);
 }
 
+-- by the form of a kind
+abbrev pub looks_back_by : Form → Bool
+looks_back_by Gate = false
+looks_back_by Change = true
+looks_back_by (Register forced) = true
+looks_back_by (Enabled forced) = true
+looks_back_by (Checker check) = false
+
 -- the equation names the output at the tick before
 abbrev pub looks_back : Kind → Bool
-looks_back Buf = false
-looks_back And = false
-looks_back Or = false
-looks_back Xor = false
-looks_back Mux2 = false
-looks_back Mux4 = false
-looks_back Mux8 = false
-looks_back Chg = true
-looks_back Reg = true
-looks_back RegRs = true
-looks_back Latch = true
-looks_back LatchRs = true
-looks_back SetupHold = false
-looks_back RiseFall = false
-looks_back MinPulse = false
+looks_back kind = looks_back_by (form_of kind)
 
 -- No pin of this instance is on the net, unless it is a checker; and where the instance drives the
 -- net, its equation is asked at no tick that names the net's bit at this one.

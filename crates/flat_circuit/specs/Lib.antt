@@ -1,5 +1,4 @@
 pub mod Kind
-pub mod Equation
 pub mod Split
 pub mod Name
 pub mod Instances

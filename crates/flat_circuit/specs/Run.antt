@@ -4,13 +4,15 @@ use Rattle.scald_base.specs.Time.{Bounds}
 use Rattle.scald_base.specs.Signal.{Signal, turned}
 use Rattle.vector_names.specs.declared.bits.Target.{Target}
 use Rattle.vector_names.specs.declared.bits.Target.TheVariants.{Net as OnNet, Constant}
-use Rattle.flat_circuit.specs.declared.kind.Kind.{Kind}
-use Rattle.flat_circuit.specs.declared.kind.Kind.TheVariants.{Buf, And, Or, Xor, Mux2, Mux4, Mux8, Chg, Reg, RegRs, Latch, LatchRs, SetupHold, RiseFall, MinPulse}
+use Rattle.element_kinds.specs.declared.kind.Kind.{Kind}
+use Rattle.element_kinds.specs.declared.form.Form.{Form}
+use Rattle.element_kinds.specs.declared.form.Form.TheVariants.{Gate, Change, Register, Latch as Enabled, Checker}
+use Rattle.element_kinds.specs.Kinds.{form_of}
 use Rattle.flat_circuit.specs.declared.instance.Pin.{Pin}
 use Rattle.flat_circuit.specs.declared.instance.Instance.{Instance}
 use Rattle.flat_circuit.specs.declared.net.Net.{Net}
 use Rattle.flat_circuit.specs.Circuit.{Circuit}
-use Rattle.flat_circuit.specs.Equation.{Equation, IsAsked}
+use Rattle.element_kinds.specs.Equation.{Equation, IsAsked}
 
 -- what a run chooses at an instance: its delay, and the delay of the wire to each of its pins
 pub record Choice : Type 0 where
@@ -48,24 +50,18 @@ out_signal run (Some target) inverted t = turned inverted (target_signal run tar
 abbrev pub Within : Bounds → ℕ → Type 0
 Within d n = (d.min ≤ n) × (n ≤ d.max)
 
+-- by the form of a kind
+abbrev pub DelayFitsForm : Form → Bounds → ℕ → Type 0
+DelayFitsForm Gate d n = Within d n
+DelayFitsForm Change d n = ⊤
+DelayFitsForm (Register forced) d n = Within d n
+DelayFitsForm (Enabled forced) d n = Within d n
+DelayFitsForm (Checker check) d n = ⊤
+
 -- An instance has one delay for the whole of a run. A change function has none, since each of its changes may come
 -- after another delay, and a checker has none.
 abbrev pub DelayFits : Kind → Bounds → ℕ → Type 0
-DelayFits Buf d n = Within d n
-DelayFits And d n = Within d n
-DelayFits Or d n = Within d n
-DelayFits Xor d n = Within d n
-DelayFits Mux2 d n = Within d n
-DelayFits Mux4 d n = Within d n
-DelayFits Mux8 d n = Within d n
-DelayFits Chg d n = ⊤
-DelayFits Reg d n = Within d n
-DelayFits RegRs d n = Within d n
-DelayFits Latch d n = Within d n
-DelayFits LatchRs d n = Within d n
-DelayFits SetupHold d n = ⊤
-DelayFits RiseFall d n = ⊤
-DelayFits MinPulse d n = ⊤
+DelayFits kind d n = DelayFitsForm (form_of kind) d n
 
 abbrev pub net_wire_fits : Option Net → ℕ → Type 0
 net_wire_fits None w = ⊥

@@ -1,31 +1,17 @@
 -- Gates with two delays: a rise delay, after which the output comes to 1, and a fall delay, after
 -- which it comes to 0.
-use Rattle.std.specs.Prelude.{◌≡◌, ◌↔◌, ℕ, ◌+◌, ◌-◌, ◌<◌, ◌≤◌, min, max, nat_le, Bool, true, false, not, if◌then◌else◌, List, All}
+use Rattle.std.specs.Prelude.{◌≡◌, ◌↔◌, ℕ, ◌+◌, ◌-◌, ◌<◌, ◌≤◌, min, max, nat_le, Bool, true, not, if◌then◌else◌, List, All}
 use Rattle.std.specs.List.{list_all, list_any, range_with_len}
 use Rattle.scald_base.specs.Time.{Bounds}
 use Rattle.scald_base.specs.Signal.{Signal}
-use Rattle.flat_circuit.specs.declared.kind.Kind.{Kind}
-use Rattle.flat_circuit.specs.declared.kind.Kind.TheVariants.{Buf, And, Or, Xor, Mux2, Mux4, Mux8, Chg, Reg, RegRs, Latch, LatchRs, SetupHold, RiseFall, MinPulse}
+use Rattle.element_kinds.specs.declared.kind.Kind.{Kind}
+use Rattle.element_kinds.specs.Kinds.{by_form, is_function}
 use Rattle.flat_circuit.specs.declared.split.Split.{Split}
-use Rattle.flat_circuit.specs.Equation.{gate_bit, bits_at, pins_before, Equation, IsAsked, IsInReach}
+use Rattle.element_kinds.specs.Equation.{gate_bit, bits_at, pins_before, Equation, IsAsked, IsInReach}
 
 -- the kinds that may have two delays
 abbrev pub may_split : Kind → Bool
-may_split Buf = true
-may_split And = true
-may_split Or = true
-may_split Xor = true
-may_split Mux2 = true
-may_split Mux4 = true
-may_split Mux8 = true
-may_split Chg = false
-may_split Reg = false
-may_split RegRs = false
-may_split Latch = false
-may_split LatchRs = false
-may_split SetupHold = false
-may_split RiseFall = false
-may_split MinPulse = false
+may_split kind = by_form is_function kind
 
 -- from the least to the greatest of both delays
 abbrev pub either_delay : Split → Bounds

@@ -9,12 +9,12 @@ use Rattle.scald_base.specs.declared.refusal.Stop.{Stop}
 use Rattle.scald_base.specs.declared.refusal.Stop.TheVariants.{Refused, NoMemory}
 use Rattle.vector_names.specs.declared.bits.Target.{Target}
 use Rattle.vector_names.specs.declared.bits.Target.TheVariants.{Net as OnNet, Constant}
-use Rattle.flat_circuit.specs.declared.kind.Kind.{Kind}
+use Rattle.element_kinds.specs.declared.kind.Kind.{Kind}
 use Rattle.flat_circuit.specs.declared.instance.Pin.{Pin}
 use Rattle.flat_circuit.specs.declared.instance.Instance.{Instance}
 use Rattle.flat_circuit.specs.declared.net.Net.{Net}
 use Rattle.flat_circuit.specs.declared.search.Node.{Node}
-use Rattle.flat_circuit.specs.Kind.{listens}
+use Rattle.element_kinds.specs.Kinds.{listens}
 use Rattle.flat_circuit.specs.Name.{Name, name_at}
 use Rattle.flat_circuit.specs.Instances.{out_at, pins_at, least_delay_at, is_on, reads, readers_of, numbers_from, IsTaken}
 use Rattle.flat_circuit.specs.Loop.{IsLooped}

@@ -1,6 +1,6 @@
 //! The bits of elements and checkers.
 
-use crate::kind::Kind;
+use element_kinds::Kind;
 use scald_base::{Bytes, Delay, List, Place};
 use vector_names::Target;
 

@@ -3,8 +3,8 @@
 //! The layer above makes one by a `Builder`, which numbers the nets and takes instances, and whose
 //! `finish` refuses two drivers of a net and loops without delay. The layers that evaluate read a
 //! `Circuit` by its methods. `specs/Circuit` says what holds of each circuit, `specs/Builder` what a
-//! builder makes of each call, `specs/Run` and `specs/Equation` what a run of a circuit is, and
-//! `specs/Split` what a gate with two delays does in it.
+//! builder makes of each call, `specs/Run` what a run of a circuit is, by the equations of
+//! `element_kinds`, and `specs/Split` what a gate with two delays does in it.
 #![tactic(auto)]
 
 mod assertions;
@@ -15,7 +15,6 @@ mod drivers;
 mod fault;
 mod finish;
 mod instance;
-mod kind;
 mod laws;
 mod net;
 mod net_table;
@@ -29,9 +28,9 @@ pub use assertions::is_same_assertion;
 pub use builder::Builder;
 pub use case::{Case, CaseList, CaseValue};
 pub use circuit::Circuit;
+pub use element_kinds::Kind;
 pub use fault::{Fault, Faults, PointKind};
 pub use instance::{Instance, Pin, Pins};
-pub use kind::Kind;
 pub use laws::{
     fronts_are_runs, later_parts_are_runs, runs_go_by_instances, unnamed_bits_are_free,
 };

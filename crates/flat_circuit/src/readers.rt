@@ -2,12 +2,12 @@
 
 ghost use Rattle.std.specs.Prelude.{◌≡◌, ◌<◌, ◌^◌, ◌&&◌, ◌==◌, ℕ, [], length, map, if◌then◌else◌, IfOk, OnOk};
 ghost use Rattle.std.specs.List.{All, range_with_len};
-ghost use Rattle.flat_circuit.specs.Kind.{listens};
+ghost use Rattle.element_kinds.specs.Kinds.{listens};
 ghost use Rattle.flat_circuit.specs.Instances.{InstanceExists, PinExists, TargetExists, is_on, readers_of};
 ghost use Rattle.flat_circuit.specs.Steps.{row_at, row_noted, row_told, rows_of, told_by, last_is};
 
 use crate::instance::{Instance, Pin};
-use crate::kind::Kind;
+use element_kinds::Kind;
 use scald_base::NoMemory;
 use std::alloc::Global;
 use vector_names::Target;

@@ -7,9 +7,9 @@ use Rattle.step_values.specs.Steps.{has}
 use Rattle.step_values.specs.Cell.{values}
 use Rattle.step_values.specs.Image.{and_of, or_of, xor_of, mux2_of, differ, selected}
 use Rattle.step_values.proofs.Sound.{and_of-has, or_of-has, xor_of-has, mux2_of-has}
-use Rattle.flat_circuit.specs.declared.kind.Kind.{Kind}
-use Rattle.flat_circuit.specs.declared.kind.Kind.TheVariants.{Buf, And, Or, Xor, Mux2, Mux4, Mux8}
-use Rattle.flat_circuit.specs.Equation.{gate_bit, parity, bits_at, selected as selected_bit}
+use Rattle.element_kinds.specs.declared.kind.Kind.{Kind}
+use Rattle.element_kinds.specs.declared.kind.Kind.TheVariants.{Buf, And, Or, Xor, Mux2, Mux4, Mux8}
+use Rattle.element_kinds.specs.Equation.{gate_bit, parity, bits_at, selected as selected_bit}
 use Rattle.gate_eval.specs.Permitted.{AllHave}
 use Rattle.gate_eval.specs.Gates.{from_left, of_two, of_four, of_eight, gate_value}
 use Rattle.gate_eval.proofs.Fitting.{as-many-cells}

@@ -1,8 +1,9 @@
 -- What the code of each kind gives is the wave of that kind.
-use Rattle.std.proofs.Common.{◌≡◌, ℕ, zero, suc, ◌+◌, ◌<◌, ◌≤◌, Bool, true, false, cond, List, [], ◌∷◌, length, map, get_or, refl, sym, ap, ◌∙◌, Option, Some, None, count_by, arith}
-use Rattle.std.specs.Prelude.{is_none, IfNone}
+use Rattle.std.proofs.Common.{◌≡◌, ℕ, zero, suc, ◌+◌, ◌<◌, ◌≤◌, Bool, true, false, not, ◌&&◌, cond, List, [], ◌∷◌, length, map, get_or, refl, sym, ap, ◌∙◌, Option, Some, None, count_by, arith}
+use Rattle.std.specs.Prelude.{is_none, is_some, IfNone}
 use Rattle.std.specs.List.{All, position}
 use Rattle.std.specs.Option.{option_map}
+use Rattle.std.proofs.lemmas.Bool.{and_parts}
 use Rattle.std.proofs.lemmas.List.Elements.{All-head, All-tail}
 use Rattle.std.proofs.lemmas.List.Quantifiers.{position-Some}
 use Rattle.std.proofs.lemmas.List.Sums.{sum_by-cons}
@@ -10,15 +11,19 @@ use Rattle.scald_base.specs.Time.{Bounds}
 use Rattle.step_values.specs.declared.value.Value.{Value}
 use Rattle.step_values.specs.Cell.{values}
 use Rattle.skew_algebra.specs.Wave.{Wave, cell_at, folded, moved, normal, IsNormal}
-use Rattle.flat_circuit.specs.declared.kind.Kind.{Kind}
-use Rattle.flat_circuit.specs.declared.kind.Kind.TheVariants.{Buf, And, Or, Xor, Mux2, Mux4, Mux8, Chg, Reg, RegRs, Latch, LatchRs, SetupHold, RiseFall, MinPulse}
-use Rattle.flat_circuit.specs.Kind.{pin_counts, greatest_marks}
+use Rattle.element_kinds.specs.declared.kind.Kind.{Kind}
+use Rattle.element_kinds.specs.declared.kind.Kind.TheVariants.{Buf, Chg}
+use Rattle.element_kinds.specs.declared.form.Form.{Form}
+use Rattle.element_kinds.specs.declared.form.Form.TheVariants.{Gate, Change, Register, Latch as Enabled, Checker}
+use Rattle.element_kinds.specs.Kinds.{form_of, closes_of, is_function, may_be_marked, marks_by, greatest_marks}
+use Rattle.element_kinds.proofs.Forms.{of_form}
+use Rattle.flat_circuit.specs.Kind.{pin_counts}
 use Rattle.gate_eval.specs.Meeting.{folds_in, period_of, HaveOnePeriod, meeting}
 use Rattle.gate_eval.specs.Gates.{gate_value}
 use Rattle.gate_eval.specs.Hold.{first_some, disturber, hazard, hazard_beside}
 use Rattle.gate_eval.specs.Change.{change_wave}
 use Rattle.flat_circuit.specs.Split.{may_split}
-use Rattle.gate_eval.specs.Instance.{MarkFits, image_by, gate_image, gate_wave}
+use Rattle.gate_eval.specs.Instance.{MarkIsAt, MarkFits, image_by, gate_image, wave_by, gate_wave}
 use Rattle.gate_eval.proofs.Fitting.{AllFit}
 use Rattle.gate_eval.proofs.Gathered.{folded-cells}
 use Rattle.gate_eval.proofs.Held.{first_some-none, map-none}
@@ -37,20 +42,7 @@ pins-fit (p ∷ ps) wave period one normal = (
 -- each kind has a pin
 pub some-pins : (kind : Kind) (pins : ℕ) → (pin_counts kind).0 ≤ pins → 0 < pins
 some-pins Buf pins least = omega arith
-some-pins And pins least = omega arith
-some-pins Or pins least = omega arith
-some-pins Xor pins least = omega arith
-some-pins Mux2 pins least = omega arith
-some-pins Mux4 pins least = omega arith
-some-pins Mux8 pins least = omega arith
-some-pins Chg pins least = omega arith
-some-pins Reg pins least = omega arith
-some-pins RegRs pins least = omega arith
-some-pins Latch pins least = omega arith
-some-pins LatchRs pins least = omega arith
-some-pins SetupHold pins least = omega arith
-some-pins RiseFall pins least = omega arith
-some-pins MinPulse pins least = omega arith
+some-pins kind pins least = omega arith
 
 -- ---- marks
 
@@ -68,13 +60,13 @@ place-within marked [] i e = cc
 place-within marked (p ∷ ps) i e =
     let at = position-Some marked (p ∷ ps) i p e in (at.0, count-some marked (p ∷ ps) i p at.0 at.1)
 
+mark-at : (closes : Option Bool) (i pins count : ℕ) → i < pins → 0 < count → count ≤ marks_by closes → MarkIsAt closes i pins
+mark-at None i pins count below some few = absurd (omega (arith, some, few))
+mark-at (Some bit) i pins count below some few = below
+
 mark-by : (kind : Kind) (marked : Option ℕ) (pins count : ℕ) → ((i : ℕ) → marked ≡ Some i → (i < pins) × (0 < count)) → count ≤ greatest_marks kind → MarkFits kind marked pins
-mark-by And None pins count at few = tt
-mark-by And (Some i) pins count at few = (at i refl).0
-mark-by Or None pins count at few = tt
-mark-by Or (Some i) pins count at few = (at i refl).0
 mark-by kind None pins count at few = tt
-mark-by kind (Some i) pins count at few = let some : 0 < count = (at i refl).1 in omega (arith, some, few)
+mark-by kind (Some i) pins count at few = mark-at (closes_of kind) i pins count (at i refl).0 (at i refl).1 few
 
 pub mark-fits : {P : Type 0} (kind : Kind) (marked : P → Bool) (pins : List P) → count_by marked pins ≤ greatest_marks kind →
     MarkFits kind (position marked pins) (length pins)
@@ -119,54 +111,41 @@ module _ {A P : Type 0} (folds : List A) (pins : List P) (cells : A → List Val
 
 -- ---- kinds
 
--- the kinds that no mark stands at
+-- the gates that no mark stands at
 abbrev pub is_plain : Kind → Bool
-is_plain Buf = true
-is_plain Xor = true
-is_plain Mux2 = true
-is_plain Mux4 = true
-is_plain Mux8 = true
-is_plain kind = false
+is_plain kind = may_split kind && not (may_be_marked kind)
 
 pub plain-is : (kind : Kind) (image : List Value → Value) (waves : List (Wave Value)) (marked : Option ℕ) (pins : ℕ) → image ≡ gate_value kind → is_plain kind ≡ true →
     MarkFits kind marked pins → meeting values image waves ≡ gate_image kind waves marked
-plain-is Buf image waves None pins e plain mark = ap (λ (f : List Value → Value). meeting values f waves) e
-plain-is Xor image waves None pins e plain mark = ap (λ (f : List Value → Value). meeting values f waves) e
-plain-is Mux2 image waves None pins e plain mark = ap (λ (f : List Value → Value). meeting values f waves) e
-plain-is Mux4 image waves None pins e plain mark = ap (λ (f : List Value → Value). meeting values f waves) e
-plain-is Mux8 image waves None pins e plain mark = ap (λ (f : List Value → Value). meeting values f waves) e
-plain-is Buf image waves (Some i) pins e plain mark = absurd mark
-plain-is Xor image waves (Some i) pins e plain mark = absurd mark
-plain-is Mux2 image waves (Some i) pins e plain mark = absurd mark
-plain-is Mux4 image waves (Some i) pins e plain mark = absurd mark
-plain-is Mux8 image waves (Some i) pins e plain mark = absurd mark
-plain-is kind image waves marked pins e plain mark = cc
+plain-is kind image waves None pins e plain mark = ap (λ (f : List Value → Value). meeting values f waves) e
+plain-is kind image waves (Some i) pins e plain mark =
+    absurd (never (closes_of kind) i pins (and_parts (may_split kind) (not (may_be_marked kind)) plain).1 mark)
+  where
+    never : (closes : Option Bool) (i pins : ℕ) → not (is_some closes) ≡ true → MarkIsAt closes i pins → ⊥
+    never None i pins unmarked at = at
+    never (Some bit) i pins unmarked at = cc
 
--- the kinds that a mark may stand at
+-- the gates that a mark may stand at
 abbrev pub is_markable : Kind → Bool
-is_markable And = true
-is_markable Or = true
-is_markable kind = false
+is_markable kind = may_split kind && may_be_marked kind
 
 pub markable-is : (kind : Kind) (image : List Value → Value) (waves : List (Wave Value)) (marked : Option ℕ) → image ≡ gate_value kind → is_markable kind ≡ true →
     image_by image waves marked (hazard kind waves marked) ≡ gate_image kind waves marked
-markable-is And image waves marked e m = ap (λ (f : List Value → Value). image_by f waves marked (hazard And waves marked)) e
-markable-is Or image waves marked e m = ap (λ (f : List Value → Value). image_by f waves marked (hazard Or waves marked)) e
-markable-is kind image waves marked e m = cc
+markable-is kind image waves marked e m = ap (λ (f : List Value → Value). image_by f waves marked (hazard kind waves marked)) e
 
 -- ---- with their delay
 
 pub delayed-is : (kind : Kind) (waves : List (Wave Value)) (marked : Option ℕ) (d : Bounds) → may_split kind ≡ true →
     moved values (gate_image kind waves marked) d ≡ gate_wave kind waves marked d
 unfolding gate_wave
-delayed-is Buf waves marked d h = refl
-delayed-is And waves marked d h = refl
-delayed-is Or waves marked d h = refl
-delayed-is Xor waves marked d h = refl
-delayed-is Mux2 waves marked d h = refl
-delayed-is Mux4 waves marked d h = refl
-delayed-is Mux8 waves marked d h = refl
-delayed-is kind waves marked d h = cc
+delayed-is kind waves marked d h = by (form_of kind) (of_form is_function kind ∙ h)
+  where
+    by : (form : Form) → is_function form ≡ true → moved values (gate_image kind waves marked) d ≡ wave_by form kind waves marked d
+    by Gate e = refl
+    by Change e = cc
+    by (Register forced) e = cc
+    by (Enabled forced) e = cc
+    by (Checker check) e = cc
 
 pub change-is : (kind : Kind) (waves : List (Wave Value)) (marked : Option ℕ) (d : Bounds) → kind ≡ Chg → normal values (change_wave waves d) ≡ gate_wave kind waves marked d
 unfolding gate_wave

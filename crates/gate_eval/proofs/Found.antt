@@ -11,7 +11,7 @@ use Rattle.step_values.specs.declared.value.Value.TheVariants.{U}
 use Rattle.step_values.specs.Steps.{is_quiet}
 use Rattle.step_values.specs.Cell.{values}
 use Rattle.skew_algebra.specs.Wave.{Wave, fold, cell_at}
-use Rattle.flat_circuit.specs.declared.kind.Kind.{Kind}
+use Rattle.element_kinds.specs.declared.kind.Kind.{Kind}
 use Rattle.gate_eval.specs.Meeting.{folds_in, period_of}
 use Rattle.gate_eval.specs.Hold.{first_some, value_of_pin, is_closed, moves_beside, mover_beside, disturber, hazard}
 

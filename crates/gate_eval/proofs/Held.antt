@@ -12,12 +12,12 @@ use Rattle.step_values.specs.Cell.{values}
 use Rattle.step_values.specs.Lawful.{values_lawful}
 use Rattle.step_values.proofs.Permits.{quiet-same, still-has}
 use Rattle.skew_algebra.specs.Wave.{Wave, fold}
-use Rattle.flat_circuit.specs.declared.kind.Kind.{Kind}
-use Rattle.flat_circuit.specs.declared.kind.Kind.TheVariants.{And, Or}
-use Rattle.flat_circuit.specs.Equation.{nth_signal, bits_at}
+use Rattle.element_kinds.specs.declared.kind.Kind.{Kind}
+use Rattle.element_kinds.specs.Kinds.{closes_of}
+use Rattle.element_kinds.specs.Equation.{nth_signal, bits_at}
 use Rattle.gate_eval.specs.Meeting.{folds_in, period_of}
 use Rattle.gate_eval.specs.Permitted.{AllPermit, AllHave}
-use Rattle.gate_eval.specs.Hold.{first_some, value_of_pin, is_closed, moves_beside, mover_beside, disturber, hazard_beside, closed_bit, IsHeld}
+use Rattle.gate_eval.specs.Hold.{first_some, value_of_pin, is_settled, is_closed, moves_beside, mover_beside, disturber, hazard_beside, settling_bit, closed_bit, IsHeld}
 use Rattle.gate_eval.proofs.Fitting.{AllFit, as-many-cells, folds-have}
 
 -- ---- first places
@@ -60,11 +60,14 @@ beside-quiet marked folds pin none below apart =
 
 -- a marked pin that lets nothing through is at the closing bit before and after
 pub closed-bits : (kind : Kind) (v : Value) (a b : Bool) → is_closed kind v ≡ true → has v a b ≡ true → (a ≡ closed_bit kind) × (b ≡ closed_bit kind)
-closed-bits And v a b closed h =
-    let low = and_parts (not a) (not b) (subst (λ (w : Value). has w a b ≡ true) (values_lawful.same_is v Zero closed) h) in
-    (not-true a low.0, not-true b low.1)
-closed-bits Or v a b closed h = and_parts a b (subst (λ (w : Value). has w a b ≡ true) (values_lawful.same_is v One closed) h)
-closed-bits kind v a b closed h = cc
+closed-bits kind v a b closed h = by (closes_of kind) closed
+  where
+    by : (closes : Option Bool) → is_settled closes v ≡ true → (a ≡ settling_bit closes) × (b ≡ settling_bit closes)
+    by None settled = cc
+    by (Some false) settled =
+        let low = and_parts (not a) (not b) (subst (λ (w : Value). has w a b ≡ true) (values_lawful.same_is v Zero settled) h) in
+        (not-true a low.0, not-true b low.1)
+    by (Some true) settled = and_parts a b (subst (λ (w : Value). has w a b ≡ true) (values_lawful.same_is v One settled) h)
 
 held-by : (kind : Kind) (folds : List Value) (marked : ℕ) (xs : List Signal) (t : ℕ) → disturber kind marked folds ≡ None → AllHave values folds xs t →
     marked < length folds → IsHeld (closed_bit kind) marked xs t

@@ -6,8 +6,8 @@ use Prim.Native.String.{String}
 use Rattle.std.specs.List.{list_all}
 use Rattle.std.proofs.lemmas.Bool.Decides.{Decides-and, Decides-or, Decides-not}
 use Rattle.scald_base.specs.Signal.{Signal}
-use Rattle.flat_circuit.specs.declared.kind.Kind.TheVariants.{And, Or}
-use Rattle.flat_circuit.specs.Equation.{nth_signal}
+use Rattle.element_kinds.specs.declared.kind.Kind.TheVariants.{And, Or}
+use Rattle.element_kinds.specs.Equation.{nth_signal}
 use Rattle.flat_circuit.proofs.Deciding.{equal_tells, same_bit, same_bit_tells, if_tells, all_tells, each_below, below_tells}
 use Rattle.gate_eval.specs.Hold.{closed_bit, IsHeld}
 use Rattle.gate_eval.proofs.PermitExamples.{signal}

@@ -14,8 +14,8 @@ use Rattle.step_values.specs.Steps.{has}
 use Rattle.step_values.specs.Cell.{values}
 use Rattle.skew_algebra.specs.Wave.{Wave, skewed}
 use Rattle.skew_algebra.specs.Permits.{Permits, KeepsMoved}
-use Rattle.flat_circuit.specs.declared.kind.Kind.{Kind}
-use Rattle.flat_circuit.specs.Equation.{Equation}
+use Rattle.element_kinds.specs.declared.kind.Kind.{Kind}
+use Rattle.element_kinds.specs.Equation.{Equation}
 use Rattle.flat_circuit.specs.Run.{DelayFits}
 use Rattle.flat_circuit.proofs.Deciding.{at_most_tells, if_tells, all_tells, each_below, below_tells, some_below, some_tells}
 use Rattle.flat_circuit.proofs.RunTables.{bits}

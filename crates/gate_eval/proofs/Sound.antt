@@ -22,16 +22,17 @@ use Rattle.step_values.proofs.Permits.{quiet-same, still-has}
 use Rattle.skew_algebra.specs.Wave.{Wave, skewed, moved}
 use Rattle.skew_algebra.specs.Permits.{Permits}
 use Rattle.skew_algebra.proofs.Moves.{Permits-moved, Permits-normal}
-use Rattle.flat_circuit.specs.declared.kind.Kind.{Kind}
-use Rattle.flat_circuit.specs.declared.kind.Kind.TheVariants.{Buf, And, Or, Xor, Mux2, Mux4, Mux8, Chg}
-use Rattle.flat_circuit.specs.Equation.{gate_bit, bits_at, nth_signal, AreStill, IsInReach}
+use Rattle.element_kinds.specs.declared.kind.Kind.{Kind}
+use Rattle.element_kinds.specs.declared.kind.Kind.TheVariants.{And, Or, Chg, Reg, RegRs, Latch, LatchRs, SetupHold, RiseFall, MinPulse}
+use Rattle.element_kinds.specs.Kinds.{closes_of}
+use Rattle.element_kinds.specs.Equation.{gate_bit, bits_at, nth_signal, AreStill, IsInReach}
 use Rattle.flat_circuit.specs.Run.{Within}
 use Rattle.gate_eval.specs.Meeting.{folds_in, period_of, meeting}
 use Rattle.gate_eval.specs.Permitted.{AllPermit, AllHave}
 use Rattle.gate_eval.specs.Gates.{gate_value}
 use Rattle.gate_eval.specs.Hold.{hazard, hazard_beside, closed_bit, IsHeld, KeepsMark}
 use Rattle.gate_eval.specs.Change.{pass_before, is_known, change_at, change_wave}
-use Rattle.gate_eval.specs.Instance.{wave_of_pin, held_wave, image_by, gate_image, gate_wave, is_gate, MarkFits, IsSound}
+use Rattle.gate_eval.specs.Instance.{wave_of_pin, held_wave, image_by, gate_image, gate_wave, is_gate, MarkIsAt, MarkFits, IsSound}
 use Rattle.gate_eval.proofs.Fitting.{Fits, AllFit, as-many-waves, folds-have}
 use Rattle.gate_eval.proofs.Meets.{Permits-meeting, length-meeting}
 use Rattle.gate_eval.proofs.Bits.{gate-has}
@@ -84,9 +85,11 @@ held-has Or marked count v xs t fits below h held =
 held-has kind marked count v xs t fits below h held = absurd fits
 
 pub mark-below : (kind : Kind) (marked count : ℕ) → MarkFits kind (Some marked) count → marked < count
-mark-below And marked count fits = fits
-mark-below Or marked count fits = fits
-mark-below kind marked count fits = absurd fits
+mark-below kind marked count fits = by (closes_of kind) fits
+  where
+    by : (closes : Option Bool) → MarkIsAt closes marked count → marked < count
+    by None at = absurd at
+    by (Some bit) at = at
 
 module _ (kind : Kind) (waves : List (Wave Value)) (n : ℕ) (xs : List Signal) (v : ℕ) (some : 0 < period_of waves) (fits : AllFit values (period_of waves) waves)
     (ps : AllPermit values waves n xs v) where
@@ -201,14 +204,14 @@ gate-sound Chg waves marked d gate mark some fits = λ n m v delay xs y ps v1 wi
     let long : length (change_wave waves d).cells ≡ period_of waves = length-change waves d in
     Permits-normal values values_lawful (change_wave waves d) (omega (arith, long)) m (v + d.max + 1) y
     (change-sound waves d n m v xs y some fits ps mn obeys)
-gate-sound Buf waves marked d gate mark some fits = λ n m v delay xs y ps v1 within mn obeys. moved-sound Buf waves marked d n m v delay xs y some fits mark ps v1 within mn obeys
-gate-sound And waves marked d gate mark some fits = λ n m v delay xs y ps v1 within mn obeys. moved-sound And waves marked d n m v delay xs y some fits mark ps v1 within mn obeys
-gate-sound Or waves marked d gate mark some fits = λ n m v delay xs y ps v1 within mn obeys. moved-sound Or waves marked d n m v delay xs y some fits mark ps v1 within mn obeys
-gate-sound Xor waves marked d gate mark some fits = λ n m v delay xs y ps v1 within mn obeys. moved-sound Xor waves marked d n m v delay xs y some fits mark ps v1 within mn obeys
-gate-sound Mux2 waves marked d gate mark some fits = λ n m v delay xs y ps v1 within mn obeys. moved-sound Mux2 waves marked d n m v delay xs y some fits mark ps v1 within mn obeys
-gate-sound Mux4 waves marked d gate mark some fits = λ n m v delay xs y ps v1 within mn obeys. moved-sound Mux4 waves marked d n m v delay xs y some fits mark ps v1 within mn obeys
-gate-sound Mux8 waves marked d gate mark some fits = λ n m v delay xs y ps v1 within mn obeys. moved-sound Mux8 waves marked d n m v delay xs y some fits mark ps v1 within mn obeys
-gate-sound kind waves marked d gate mark some fits = λ n m v delay xs y ps v1 within mn obeys. cc
+gate-sound Reg waves marked d gate mark some fits = λ n m v delay xs y ps v1 within mn obeys. cc
+gate-sound RegRs waves marked d gate mark some fits = λ n m v delay xs y ps v1 within mn obeys. cc
+gate-sound Latch waves marked d gate mark some fits = λ n m v delay xs y ps v1 within mn obeys. cc
+gate-sound LatchRs waves marked d gate mark some fits = λ n m v delay xs y ps v1 within mn obeys. cc
+gate-sound SetupHold waves marked d gate mark some fits = λ n m v delay xs y ps v1 within mn obeys. cc
+gate-sound RiseFall waves marked d gate mark some fits = λ n m v delay xs y ps v1 within mn obeys. cc
+gate-sound MinPulse waves marked d gate mark some fits = λ n m v delay xs y ps v1 within mn obeys. cc
+gate-sound kind waves marked d gate mark some fits = λ n m v delay xs y ps v1 within mn obeys. moved-sound kind waves marked d n m v delay xs y some fits mark ps v1 within mn obeys
 
 -- where there is no hazard, the rule of the mark is kept
 pub no-hazard : (kind : Kind) (waves : List (Wave Value)) (mark : Option ℕ) → None ≡ hazard kind waves mark → MarkFits kind mark (length waves) →

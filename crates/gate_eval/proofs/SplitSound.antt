@@ -16,9 +16,9 @@ use Rattle.step_values.proofs.Permits.{cover-has}
 use Rattle.skew_algebra.specs.Wave.{Wave}
 use Rattle.skew_algebra.specs.Permits.{Permits}
 use Rattle.skew_algebra.proofs.Moves.{Permits-normal}
-use Rattle.flat_circuit.specs.declared.kind.Kind.{Kind}
+use Rattle.element_kinds.specs.declared.kind.Kind.{Kind}
 use Rattle.flat_circuit.specs.declared.split.Split.{Split}
-use Rattle.flat_circuit.specs.Equation.{gate_bit, bits_at}
+use Rattle.element_kinds.specs.Equation.{gate_bit, bits_at}
 use Rattle.flat_circuit.specs.Run.{Within}
 use Rattle.flat_circuit.specs.Split.{either_delay, split_bit}
 use Rattle.flat_circuit.proofs.Splits.{Came, came-one, came-zero, came-step, came-both, came-some}

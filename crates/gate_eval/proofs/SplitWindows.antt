@@ -14,7 +14,7 @@ use Rattle.step_values.specs.Cell.{values}
 use Rattle.step_values.specs.Each.{tests-are}
 use Rattle.skew_algebra.specs.Wave.{Wave, skewed, cell_at, fold, normal}
 use Rattle.skew_algebra.proofs.Moves.{length-later}
-use Rattle.flat_circuit.specs.declared.kind.Kind.{Kind}
+use Rattle.element_kinds.specs.declared.kind.Kind.{Kind}
 use Rattle.flat_circuit.specs.declared.split.Split.{Split}
 use Rattle.flat_circuit.specs.Split.{either_delay}
 use Rattle.gate_eval.specs.Change.{all_to}

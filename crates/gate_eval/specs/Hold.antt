@@ -7,9 +7,9 @@ use Rattle.step_values.specs.declared.value.Value.TheVariants.{Zero, One, U}
 use Rattle.step_values.specs.Steps.{is_quiet}
 use Rattle.step_values.specs.Cell.{values, same}
 use Rattle.skew_algebra.specs.Wave.{Wave}
-use Rattle.flat_circuit.specs.declared.kind.Kind.{Kind}
-use Rattle.flat_circuit.specs.declared.kind.Kind.TheVariants.{Buf, And, Or, Xor, Mux2, Mux4, Mux8, Chg, Reg, RegRs, Latch, LatchRs, SetupHold, RiseFall, MinPulse}
-use Rattle.flat_circuit.specs.Equation.{nth_signal}
+use Rattle.element_kinds.specs.declared.kind.Kind.{Kind}
+use Rattle.element_kinds.specs.Kinds.{closes_of}
+use Rattle.element_kinds.specs.Equation.{nth_signal}
 use Rattle.gate_eval.specs.Meeting.{folds_in, period_of}
 use Rattle.gate_eval.specs.Permitted.{AllPermit}
 
@@ -21,23 +21,19 @@ first_some f (suc n) i = option_or (f i) (first_some f n (i + 1))
 abbrev pub value_of_pin : List Value → ℕ → Value
 value_of_pin found pin = slice_index_or found pin U
 
+-- the value of a pin that stays at this bit
+abbrev pub staying : Bool → Value
+staying false = Zero
+staying true = One
+
+-- the pin stays at the bit that settles the output, where there is one
+abbrev pub is_settled : Option Bool → Value → Bool
+is_settled None v = false
+is_settled (Some bit) v = same v (staying bit)
+
 -- at this value of a pin the others do not matter: 0 at an AND, 1 at an OR
 abbrev pub is_closed : Kind → Value → Bool
-is_closed Buf v = false
-is_closed And v = same v Zero
-is_closed Or v = same v One
-is_closed Xor v = false
-is_closed Mux2 v = false
-is_closed Mux4 v = false
-is_closed Mux8 v = false
-is_closed Chg v = false
-is_closed Reg v = false
-is_closed RegRs v = false
-is_closed Latch v = false
-is_closed LatchRs v = false
-is_closed SetupHold v = false
-is_closed RiseFall v = false
-is_closed MinPulse v = false
+is_closed kind v = is_settled (closes_of kind) v
 
 -- a pin other than the marked one that may change
 abbrev pub moves_beside : ℕ → List Value → ℕ → Bool
@@ -61,23 +57,13 @@ unfoldable pub hazard : Kind → List (Wave Value) → Option ℕ → Option (�
 hazard kind waves None = None
 hazard kind waves (Some marked) = hazard_beside kind waves marked
 
--- the bit of a pin at which the others do not matter
+abbrev pub settling_bit : Option Bool → Bool
+settling_bit None = false
+settling_bit (Some bit) = bit
+
+-- the bit of a pin at which the others do not matter, of a kind that has one
 abbrev pub closed_bit : Kind → Bool
-closed_bit Buf = false
-closed_bit And = false
-closed_bit Or = true
-closed_bit Xor = false
-closed_bit Mux2 = false
-closed_bit Mux4 = false
-closed_bit Mux8 = false
-closed_bit Chg = false
-closed_bit Reg = false
-closed_bit RegRs = false
-closed_bit Latch = false
-closed_bit LatchRs = false
-closed_bit SetupHold = false
-closed_bit RiseFall = false
-closed_bit MinPulse = false
+closed_bit kind = settling_bit (closes_of kind)
 
 -- At a tick the marked pin stays at this bit, or no other pin steps.
 abbrev pub IsHeld : Bool → ℕ → List Signal → ℕ → Type 0

@@ -1,5 +1,5 @@
 -- What a gate or change function makes of its pins' waves, its delay counted in.
-use Rattle.std.specs.Prelude.{ℕ, ◌+◌, ◌<◌, ◌≤◌, Bool, true, false, ⊤, List, [], ◌∷◌, map, slice_index_or, Option, Some, None}
+use Rattle.std.specs.Prelude.{ℕ, ◌+◌, ◌<◌, ◌≤◌, Bool, ⊤, List, [], ◌∷◌, map, slice_index_or, Option, Some, None}
 use Rattle.scald_base.specs.Time.{Bounds}
 use Rattle.scald_base.specs.Signal.{Signal}
 use Rattle.step_values.specs.declared.value.Value.{Value}
@@ -7,10 +7,12 @@ use Rattle.step_values.specs.declared.value.Value.TheVariants.{S}
 use Rattle.step_values.specs.Cell.{values}
 use Rattle.skew_algebra.specs.Wave.{Wave, skewed, moved, normal}
 use Rattle.skew_algebra.specs.Permits.{Permits}
-use Rattle.flat_circuit.specs.declared.kind.Kind.{Kind}
-use Rattle.flat_circuit.specs.declared.kind.Kind.TheVariants.{Buf, And, Or, Xor, Mux2, Mux4, Mux8, Chg, Reg, RegRs, Latch, LatchRs, SetupHold, RiseFall, MinPulse}
-use Rattle.flat_circuit.specs.Kind.{pin_counts, greatest_marks}
-use Rattle.flat_circuit.specs.Equation.{Equation}
+use Rattle.element_kinds.specs.declared.kind.Kind.{Kind}
+use Rattle.element_kinds.specs.declared.form.Form.{Form}
+use Rattle.element_kinds.specs.declared.form.Form.TheVariants.{Gate, Change, Register, Latch as Enabled, Checker}
+use Rattle.element_kinds.specs.Kinds.{by_form, form_of, closes_of, is_memoryless, greatest_marks}
+use Rattle.flat_circuit.specs.Kind.{pin_counts}
+use Rattle.element_kinds.specs.Equation.{Equation}
 use Rattle.flat_circuit.specs.Run.{DelayFits}
 use Rattle.gate_eval.specs.Meeting.{meeting}
 use Rattle.gate_eval.specs.Permitted.{AllPermit}
@@ -18,23 +20,9 @@ use Rattle.gate_eval.specs.Gates.{gate_value}
 use Rattle.gate_eval.specs.Hold.{hazard}
 use Rattle.gate_eval.specs.Change.{change_wave}
 
--- the kinds of this crate
+-- the kinds of this crate: gates and change functions
 abbrev pub is_gate : Kind → Bool
-is_gate Buf = true
-is_gate And = true
-is_gate Or = true
-is_gate Xor = true
-is_gate Mux2 = true
-is_gate Mux4 = true
-is_gate Mux8 = true
-is_gate Chg = true
-is_gate Reg = false
-is_gate RegRs = false
-is_gate Latch = false
-is_gate LatchRs = false
-is_gate SetupHold = false
-is_gate RiseFall = false
-is_gate MinPulse = false
+is_gate kind = by_form is_memoryless kind
 
 -- as many pins, and as many of them marked, as the kind has
 pub record CountsFit (kind : Kind) (pins marked : ℕ) : Type 0 where
@@ -42,24 +30,15 @@ pub record CountsFit (kind : Kind) (pins marked : ℕ) : Type 0 where
   pub most : pins ≤ (pin_counts kind).1
   pub marks : marked ≤ greatest_marks kind
 
--- a pin is marked only of an AND or OR
+-- one of so many pins, where there is a bit that settles the output
+abbrev pub MarkIsAt : Option Bool → ℕ → ℕ → Type 0
+MarkIsAt None marked pins = ⊥
+MarkIsAt (Some bit) marked pins = marked < pins
+
+-- a pin is marked only of a kind that has such a bit, as an AND or OR
 abbrev pub MarkFits : Kind → Option ℕ → ℕ → Type 0
 MarkFits kind None pins = ⊤
-MarkFits Buf (Some marked) pins = ⊥
-MarkFits And (Some marked) pins = marked < pins
-MarkFits Or (Some marked) pins = marked < pins
-MarkFits Xor (Some marked) pins = ⊥
-MarkFits Mux2 (Some marked) pins = ⊥
-MarkFits Mux4 (Some marked) pins = ⊥
-MarkFits Mux8 (Some marked) pins = ⊥
-MarkFits Chg (Some marked) pins = ⊥
-MarkFits Reg (Some marked) pins = ⊥
-MarkFits RegRs (Some marked) pins = ⊥
-MarkFits Latch (Some marked) pins = ⊥
-MarkFits LatchRs (Some marked) pins = ⊥
-MarkFits SetupHold (Some marked) pins = ⊥
-MarkFits RiseFall (Some marked) pins = ⊥
-MarkFits MinPulse (Some marked) pins = ⊥
+MarkFits kind (Some marked) pins = MarkIsAt (closes_of kind) marked pins
 
 abbrev pub wave_of_pin : List (Wave Value) → ℕ → Wave Value
 wave_of_pin waves pin = slice_index_or waves pin (skewed [] 0)
@@ -76,23 +55,17 @@ image_by image waves marked hazard = meeting values image waves
 abbrev pub gate_image : Kind → List (Wave Value) → Option ℕ → Wave Value
 gate_image kind waves marked = image_by (gate_value kind) waves marked (hazard kind waves marked)
 
+-- by the form of a kind
+abbrev pub wave_by : Form → Kind → List (Wave Value) → Option ℕ → Bounds → Wave Value
+wave_by Gate kind waves marked d = moved values (gate_image kind waves marked) d
+wave_by Change kind waves marked d = normal values (change_wave waves d)
+wave_by (Register forced) kind waves marked d = moved values (gate_image kind waves marked) d
+wave_by (Enabled forced) kind waves marked d = moved values (gate_image kind waves marked) d
+wave_by (Checker check) kind waves marked d = moved values (gate_image kind waves marked) d
+
 -- the wave of the output, before its complement; `marked` is the pin that is marked
 unfoldable pub gate_wave : Kind → List (Wave Value) → Option ℕ → Bounds → Wave Value
-gate_wave Buf waves marked d = moved values (gate_image Buf waves marked) d
-gate_wave And waves marked d = moved values (gate_image And waves marked) d
-gate_wave Or waves marked d = moved values (gate_image Or waves marked) d
-gate_wave Xor waves marked d = moved values (gate_image Xor waves marked) d
-gate_wave Mux2 waves marked d = moved values (gate_image Mux2 waves marked) d
-gate_wave Mux4 waves marked d = moved values (gate_image Mux4 waves marked) d
-gate_wave Mux8 waves marked d = moved values (gate_image Mux8 waves marked) d
-gate_wave Chg waves marked d = normal values (change_wave waves d)
-gate_wave Reg waves marked d = moved values (gate_image Reg waves marked) d
-gate_wave RegRs waves marked d = moved values (gate_image RegRs waves marked) d
-gate_wave Latch waves marked d = moved values (gate_image Latch waves marked) d
-gate_wave LatchRs waves marked d = moved values (gate_image LatchRs waves marked) d
-gate_wave SetupHold waves marked d = moved values (gate_image SetupHold waves marked) d
-gate_wave RiseFall waves marked d = moved values (gate_image RiseFall waves marked) d
-gate_wave MinPulse waves marked d = moved values (gate_image MinPulse waves marked) d
+gate_wave kind waves marked d = wave_by (form_of kind) kind waves marked d
 
 -- The pins' signals are n bits long, and their waves permit them from tick v on. Then the wave permits each output that
 -- obeys the equation of its kind at its ticks from v + d.max on, from the next tick on, with one offset for all of it.

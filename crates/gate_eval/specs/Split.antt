@@ -10,7 +10,7 @@ use Rattle.step_values.specs.Steps.{Steps, has, cover, is_unknown}
 use Rattle.step_values.specs.Cell.{values}
 use Rattle.skew_algebra.specs.Wave.{Wave, skewed, normal}
 use Rattle.skew_algebra.specs.Permits.{Permits}
-use Rattle.flat_circuit.specs.declared.kind.Kind.{Kind}
+use Rattle.element_kinds.specs.declared.kind.Kind.{Kind}
 use Rattle.flat_circuit.specs.declared.split.Split.{Split}
 use Rattle.flat_circuit.specs.Run.{Within}
 use Rattle.flat_circuit.specs.Split.{either_delay, SplitEquation}

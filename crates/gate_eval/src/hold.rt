@@ -2,10 +2,10 @@
 //! them through.
 
 ghost use Rattle.std.specs.Prelude.{◌≡◌, ◌<◌, ◌≤◌, ℕ, All, IfNone, IfSome, count_by, is_none, length, map, position};
-ghost use Rattle.step_values.specs.Cell.{values};
+ghost use Rattle.step_values.specs.Cell.{same, values};
 ghost use Rattle.skew_algebra.specs.Wave.{cell_at, fold};
 ghost use Rattle.gate_eval.specs.Meeting.{HaveOnePeriod, folds_in};
-ghost use Rattle.gate_eval.specs.Hold.{KeepsMark, disturber, first_some, hazard, is_closed as closed};
+ghost use Rattle.gate_eval.specs.Hold.{KeepsMark, disturber, first_some, hazard, is_closed as closed, staying};
 ghost use Rattle.gate_eval.specs.Instance.{CountsFit};
 
 use crate::meeting::next_change;
@@ -16,14 +16,24 @@ use std::cmp::min;
 use step_values::Value;
 use wave_core::{Cell, CyclicWave};
 
+/// Whether a value is that of a pin which stays at this bit.
+fn stays_at(bit: bool, v: Value) -> bool
+    ensures { result ≡ same v (staying bit) }
+{
+    if bit {
+        v == Value::One
+    } else {
+        v == Value::Zero
+    }
+}
+
 /// Whether the other pins do not matter while a pin has this value: 0 at an AND, 1 at an OR.
 fn is_closed(kind: Kind, v: Value) -> bool
     ensures { result ≡ closed kind v }
 {
-    match kind {
-        Kind::And => v == Value::Zero,
-        Kind::Or => v == Value::One,
-        _ => false,
+    match kind.closes() {
+        None => false,
+        Some(bit) => stays_at(bit, v),
     }
 }
 

@@ -11,8 +11,8 @@ use Rattle.vector_names.specs.declared.bits.Target.TheVariants.{Net as OnNet}
 use Rattle.step_values.specs.declared.value.Value.{Value}
 use Rattle.step_values.specs.declared.value.Value.TheVariants.{Zero, One, S, C, R, F}
 use Rattle.skew_algebra.specs.Wave.{Wave, skewed}
-use Rattle.flat_circuit.specs.declared.kind.Kind.{Kind}
-use Rattle.flat_circuit.specs.declared.kind.Kind.TheVariants.{Buf, And, Reg, SetupHold, MinPulse}
+use Rattle.element_kinds.specs.declared.kind.Kind.{Kind}
+use Rattle.element_kinds.specs.declared.kind.Kind.TheVariants.{Buf, And, Reg, SetupHold, MinPulse}
 use Rattle.flat_circuit.specs.declared.instance.Instance.{Instance}
 use Rattle.flat_circuit.specs.declared.net.Net.{Net}
 use Rattle.flat_circuit.specs.declared.fault.PointKind.TheVariants.{Setup, High, Hold}

@@ -2,7 +2,7 @@
 
 ghost use Rattle.std.specs.Prelude.{◌≡◌, ◌<◌, length, slice_get};
 ghost use Rattle.flat_circuit.specs.declared.instance.Instance.{Instance};
-ghost use Rattle.flat_circuit.specs.Kind.{has_output};
+ghost use Rattle.element_kinds.specs.Kinds.{has_output};
 ghost use Rattle.flat_circuit.specs.Instances.{checkers, outputs};
 
 use flat_circuit::Circuit;

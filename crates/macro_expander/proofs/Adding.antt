@@ -10,10 +10,10 @@ use Rattle.scald_base.specs.declared.refusal.Refusal.{Refusal}
 use Rattle.scald_base.specs.declared.refusal.Stop.{Stop}
 use Rattle.scald_base.specs.declared.refusal.Stop.TheVariants.{Refused, NoMemory}
 use Rattle.vector_names.specs.declared.bits.BitRef.{BitRef}
-use Rattle.flat_circuit.specs.declared.kind.Kind.{Kind}
-use Rattle.flat_circuit.specs.declared.kind.Kind.TheVariants.{Buf, And, Or, Xor, Mux2, Mux4, Mux8, Chg, Reg, RegRs, Latch, LatchRs, SetupHold, RiseFall, MinPulse}
+use Rattle.element_kinds.specs.declared.kind.Kind.{Kind}
+use Rattle.element_kinds.specs.declared.kind.Kind.TheVariants.{Chg}
 use Rattle.flat_circuit.specs.declared.instance.Instance.{Instance}
-use Rattle.flat_circuit.specs.Kind.{has_output}
+use Rattle.element_kinds.specs.Kinds.{has_output}
 use Rattle.flat_circuit.specs.Name.{Name}
 use Rattle.flat_circuit.specs.Instances.{InstanceFits, AreFew, outputs, checkers, all_pins, most_bits, most_pins}
 use Rattle.flat_circuit.specs.Builder.{Built, IsBuilt, GivesInstance, IsInstanceRefusal, is_one_too_many}
@@ -105,20 +105,7 @@ module _ (names : List Name) where
 
   pins_map : (kind : Kind) (ins : List numbered_joined.Joined) (k : ℕ) → map (pin_of names) (pin_refs kind ins k) ≡ pins_of kind (map (joined_of names) ins) k
   pins_map Chg ins k = flat_refs_map ins
-  pins_map Buf ins k = column_map ins k
-  pins_map And ins k = column_map ins k
-  pins_map Or ins k = column_map ins k
-  pins_map Xor ins k = column_map ins k
-  pins_map Mux2 ins k = column_map ins k
-  pins_map Mux4 ins k = column_map ins k
-  pins_map Mux8 ins k = column_map ins k
-  pins_map Reg ins k = column_map ins k
-  pins_map RegRs ins k = column_map ins k
-  pins_map Latch ins k = column_map ins k
-  pins_map LatchRs ins k = column_map ins k
-  pins_map SetupHold ins k = column_map ins k
-  pins_map RiseFall ins k = column_map ins k
-  pins_map MinPulse ins k = column_map ins k
+  pins_map kind ins k = column_map ins k
 
   out_map : (outs : List numbered_joined.Joined) (k : ℕ) → out_of names (target_ref (output_ref outs k)) ≡ target_of (output_at (map (joined_of names) outs) k)
   out_map [] k = refl

@@ -9,7 +9,7 @@ use Rattle.scald_base.specs.declared.assertion.AssertSpec.TheVariants.{None as U
 use Rattle.assertion_syntax.specs.declared.name.SignalName.{SignalName}
 use Rattle.scald_expr.specs.Expression.{Expression, Number, Param, Binary}
 use Rattle.scald_expr.specs.declared.expr.Op.TheVariants.{Sub, Div}
-use Rattle.flat_circuit.specs.declared.kind.Kind.TheVariants.{SetupHold}
+use Rattle.element_kinds.specs.declared.kind.Kind.TheVariants.{SetupHold}
 use Rattle.drawing_tree.specs.Tree.{Range, Named, Term, Connection, Use, Statement, Statements, nil, cons, Formal, Macro, Drawing}
 use Rattle.macro_expander.specs.Named.{On, NamedInstance}
 use Rattle.macro_expander.specs.Outcome.{Gives, Fails}

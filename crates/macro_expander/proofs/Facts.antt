@@ -1,5 +1,5 @@
 -- What holds of the bits of a use that is not refused.
-use Rattle.std.proofs.Common.{◌≡◌, ℕ, ℤ, pos, negsuc, zero, suc, ◌+◌, ◌*◌, ◌≤◌, Bool, true, false, ◌&&◌, cond, List, [], ◌∷◌, length, map, Ok, Err, is_some, refl, sym, ◌∙◌, subst, arith}
+use Rattle.std.proofs.Common.{◌≡◌, ℕ, ℤ, pos, negsuc, zero, suc, ◌+◌, ◌*◌, ◌≤◌, Bool, true, false, ◌&&◌, cond, List, [], ◌∷◌, length, map, Ok, Err, Option, Some, None, is_some, refl, sym, ◌∙◌, subst, arith}
 use Rattle.std.specs.Prelude.{◌==◌, nat_le, slice_index_or}
 use Rattle.std.specs.List.{All, count_by, flat_map}
 use Rattle.std.proofs.lemmas.Bool.{and_parts, eqb-true, leb-true}
@@ -11,10 +11,13 @@ use Rattle.scald_base.specs.declared.refusal.RefusalKind.{RefusalKind}
 use Rattle.scald_base.specs.declared.refusal.RefusalKind.TheVariants.{BadParameter, Bounds, PinCount}
 use Rattle.scald_expr.specs.declared.environment.Binding.{Binding}
 use Rattle.vector_names.specs.declared.bits.BitRef.{BitRef}
-use Rattle.flat_circuit.specs.declared.kind.Kind.{Kind}
-use Rattle.flat_circuit.specs.declared.kind.Kind.TheVariants.{Buf, And, Or, Xor, Mux2, Mux4, Mux8, Chg, Reg, RegRs, Latch, LatchRs, SetupHold, RiseFall, MinPulse}
+use Rattle.element_kinds.specs.declared.kind.Kind.{Kind}
+use Rattle.element_kinds.specs.declared.kind.Kind.TheVariants.{Chg}
+use Rattle.element_kinds.specs.declared.form.Check.{Check}
+use Rattle.element_kinds.specs.declared.form.Check.TheVariants.{SetupHold as AboutRise, RiseFall as RiseToFall, MinPulse as Widths}
 use Rattle.flat_circuit.specs.declared.instance.Pin.{Pin}
-use Rattle.flat_circuit.specs.Kind.{has_output, PinsFit, LimitsFit}
+use Rattle.element_kinds.specs.Kinds.{has_output, check_of}
+use Rattle.flat_circuit.specs.Kind.{PinsFit, LimitsFitCheck, LimitsFit}
 use Rattle.flat_circuit.specs.Name.{Name}
 use Rattle.flat_circuit.specs.Instances.{PinExists, OutExists, InstanceFits}
 use Rattle.drawing_tree.specs.declared.statement.UseStmt.{UseStmt}
@@ -23,7 +26,7 @@ use Rattle.macro_expander.specs.declared.primitive.Plan.{Plan}
 use Rattle.macro_expander.specs.declared.connection.Joined as numbered_joined
 use Rattle.macro_expander.specs.Outcome.{Judged, judging}
 use Rattle.macro_expander.specs.Terms.{Joined}
-use Rattle.macro_expander.specs.Primitives.{demanded, are_of, takes, same_truth, written_delay, values_given, delay_of, limits_of, setup_and_hold, high_and_low, are_connected, plan_of, fewest_inputs, most_inputs, most_marks, outputs, marks, bit_at}
+use Rattle.macro_expander.specs.Primitives.{demanded, are_of, takes, same_truth, written_delay, values_given, delay_of, limits_for, limits_of, setup_and_hold, high_and_low, are_connected, plan_of, fewest_inputs, most_inputs, most_marks, outputs, marks, bit_at}
 use Rattle.macro_expander.specs.Numbered.{bit_of, joined_of, no_ref, pin_ref, all_refs, column_ref, pin_refs, output_ref, target_ref, instance_ref, BitExists, JoinedExists}
 use Rattle.macro_expander.proofs.Lists.{count_by-map}
 use Rattle.macro_expander.proofs.Joints.{HasWidth, AreJoined}
@@ -69,21 +72,13 @@ high_fits p (negsuc s) (pos h) l e = absurd (cc)
 high_fits p (negsuc s) (negsuc h) l e = absurd (cc)
 
 limits_fit : (h : Header) (kind : Kind) (given : List Binding) (l : ℕ × ℕ) → limits_of (period h) kind given ≡ Ok l → LimitsFit h kind l
-limits_fit h SetupHold given l e = setup_fits (period h) _ _ l e
-limits_fit h RiseFall given l e = setup_fits (period h) _ _ l e
-limits_fit h MinPulse given l e = high_fits (period h) _ _ l e
-limits_fit h Buf given l e = tt
-limits_fit h And given l e = tt
-limits_fit h Or given l e = tt
-limits_fit h Xor given l e = tt
-limits_fit h Mux2 given l e = tt
-limits_fit h Mux4 given l e = tt
-limits_fit h Mux8 given l e = tt
-limits_fit h Chg given l e = tt
-limits_fit h Reg given l e = tt
-limits_fit h RegRs given l e = tt
-limits_fit h Latch given l e = tt
-limits_fit h LatchRs given l e = tt
+limits_fit h kind given l e = by (check_of kind) e
+  where
+    by : (check : Option Check) → limits_for (period h) check given ≡ Ok l → LimitsFitCheck h check l
+    by None e = tt
+    by (Some AboutRise) e = setup_fits (period h) _ _ l e
+    by (Some RiseToFall) e = setup_fits (period h) _ _ l e
+    by (Some Widths) e = high_fits (period h) _ _ l e
 
 pub record PlanFits (h : Header) (kind : Kind) (u : UseStatement) (plan : Plan) : Type 0 where
   pub limits : LimitsFit h kind plan.limits
@@ -128,20 +123,7 @@ all_refs_exist nets (c ∷ ins) h =
 
 pins_exist : (nets k : ℕ) (kind : Kind) (ins : List numbered_joined.Joined) → All (JoinedExists nets) ins → All (PinExists nets) (pin_refs kind ins k)
 pins_exist nets k Chg ins h = all_refs_exist nets ins h
-pins_exist nets k Buf ins h = columns_exist nets k ins h
-pins_exist nets k And ins h = columns_exist nets k ins h
-pins_exist nets k Or ins h = columns_exist nets k ins h
-pins_exist nets k Xor ins h = columns_exist nets k ins h
-pins_exist nets k Mux2 ins h = columns_exist nets k ins h
-pins_exist nets k Mux4 ins h = columns_exist nets k ins h
-pins_exist nets k Mux8 ins h = columns_exist nets k ins h
-pins_exist nets k Reg ins h = columns_exist nets k ins h
-pins_exist nets k RegRs ins h = columns_exist nets k ins h
-pins_exist nets k Latch ins h = columns_exist nets k ins h
-pins_exist nets k LatchRs ins h = columns_exist nets k ins h
-pins_exist nets k SetupHold ins h = columns_exist nets k ins h
-pins_exist nets k RiseFall ins h = columns_exist nets k ins h
-pins_exist nets k MinPulse ins h = columns_exist nets k ins h
+pins_exist nets k kind ins h = columns_exist nets k ins h
 
 out_exists : (nets k : ℕ) (outs : List numbered_joined.Joined) → All (JoinedExists nets) outs → OutExists nets (target_ref (output_ref outs k))
 out_exists nets k [] h = tt
@@ -198,20 +180,9 @@ pins_fit k Chg ins f w = record {
   most = let a = refs_most ins w in omega (arith, f.most);
   marks = refs_none ins f.marked;
 }
-pins_fit k Buf ins f w = let r = cols k 1 1 0 ins f.least f.most f.marked in record { least = r.0; most = r.1; marks = r.2 }
-pins_fit k And ins f w = let r = cols k 1 16 1 ins f.least f.most f.marked in record { least = r.0; most = r.1; marks = r.2 }
-pins_fit k Or ins f w = let r = cols k 1 16 1 ins f.least f.most f.marked in record { least = r.0; most = r.1; marks = r.2 }
-pins_fit k Xor ins f w = let r = cols k 1 16 0 ins f.least f.most f.marked in record { least = r.0; most = r.1; marks = r.2 }
-pins_fit k Mux2 ins f w = let r = cols k 3 3 0 ins f.least f.most f.marked in record { least = r.0; most = r.1; marks = r.2 }
-pins_fit k Mux4 ins f w = let r = cols k 6 6 0 ins f.least f.most f.marked in record { least = r.0; most = r.1; marks = r.2 }
-pins_fit k Mux8 ins f w = let r = cols k 11 11 0 ins f.least f.most f.marked in record { least = r.0; most = r.1; marks = r.2 }
-pins_fit k Reg ins f w = let r = cols k 2 2 0 ins f.least f.most f.marked in record { least = r.0; most = r.1; marks = r.2 }
-pins_fit k RegRs ins f w = let r = cols k 4 4 0 ins f.least f.most f.marked in record { least = r.0; most = r.1; marks = r.2 }
-pins_fit k Latch ins f w = let r = cols k 2 2 0 ins f.least f.most f.marked in record { least = r.0; most = r.1; marks = r.2 }
-pins_fit k LatchRs ins f w = let r = cols k 4 4 0 ins f.least f.most f.marked in record { least = r.0; most = r.1; marks = r.2 }
-pins_fit k SetupHold ins f w = let r = cols k 2 2 0 ins f.least f.most f.marked in record { least = r.0; most = r.1; marks = r.2 }
-pins_fit k RiseFall ins f w = let r = cols k 2 2 0 ins f.least f.most f.marked in record { least = r.0; most = r.1; marks = r.2 }
-pins_fit k MinPulse ins f w = let r = cols k 1 1 0 ins f.least f.most f.marked in record { least = r.0; most = r.1; marks = r.2 }
+pins_fit k kind ins f w =
+    let r = cols k (fewest_inputs kind) (most_inputs kind) (most_marks kind) ins f.least f.most f.marked in
+    record { least = r.0; most = r.1; marks = r.2 }
 
 -- ---- the whole
 

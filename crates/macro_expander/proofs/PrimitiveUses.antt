@@ -10,8 +10,8 @@ use Rattle.scald_base.specs.declared.refusal.RefusalKind.{RefusalKind}
 use Rattle.scald_base.specs.declared.refusal.RefusalKind.TheVariants.{Width}
 use Rattle.scald_base.specs.declared.refusal.Stop.{Stop}
 use Rattle.scald_base.specs.declared.refusal.Stop.TheVariants.{Refused}
-use Rattle.flat_circuit.specs.declared.kind.Kind.{Kind}
-use Rattle.flat_circuit.specs.Kind.{has_output}
+use Rattle.element_kinds.specs.declared.kind.Kind.{Kind}
+use Rattle.element_kinds.specs.Kinds.{has_output}
 use Rattle.flat_circuit.specs.Name.{Name}
 use Rattle.flat_circuit.specs.Instances.{InstanceFits}
 use Rattle.drawing_tree.specs.declared.statement.UseStmt.{UseStmt}

@@ -15,7 +15,8 @@ use Rattle.flat_circuit.specs.Name.{Name}
 use Rattle.flat_circuit.specs.Instances.{most_bits}
 use Rattle.flat_circuit.specs.Builder.{Built, StandsAt, IsFirst, IsRuleBroken, has_name}
 use Rattle.flat_circuit.specs.declared.instance.Instance.{Instance}
-use Rattle.flat_circuit.specs.declared.kind.Kind.{Kind}
+use Rattle.element_kinds.specs.declared.kind.Kind.{Kind}
+use Rattle.element_kinds.specs.Kinds.{kind_of}
 use Rattle.drawing_tree.specs.declared.drawing.CaseEntry.{CaseEntry}
 use Rattle.drawing_tree.specs.declared.drawing.CaseStmt.{CaseStmt}
 use Rattle.drawing_tree.specs.Tree.{Item, Zero, One, Named, Term, Connection, UseStatement, WireStatement, Statement, Use, Wire, If, Statements, nil, cons, Otherwise, no_else, else_, Macro, Drawing}
@@ -25,7 +26,7 @@ use Rattle.macro_expander.specs.declared.primitive.Plan.{Plan}
 use Rattle.macro_expander.specs.Named.{Where, On, Fixed, Bit, NamedInstance, State}
 use Rattle.macro_expander.specs.Outcome.{Outcome, Gives, Fails, after, Judged, judged, gathered, each}
 use Rattle.macro_expander.specs.Terms.{Bound, Scope, Joined, formal_of, net_text, valued, written_ends, numbers_of, formal_term, clashes, with_net, naming, net_bit, net_bits, meant, named_bits, item_bits, term_bits, has_width, terms_bits, joined, all_joined, wires_of}
-use Rattle.macro_expander.specs.Primitives.{Primitive, primitive_of, plan_of, inputs_fit, width, width_in, instance_at, are_few, with_instance, adding, all_added, primitive_use, delay_between}
+use Rattle.macro_expander.specs.Primitives.{plan_of, inputs_fit, width, width_in, instance_at, are_few, with_instance, adding, all_added, primitive_use, delay_between}
 use Rattle.macro_expander.specs.Macros.{macro_of, given_to, inside_of, inner_path, bound_scope, inner_scope}
 use Rattle.macro_expander.specs.Flat.{Act, with_wire, with_wires, wire_act, expanded, macro_use, use_act_of, use_act, most_statements, counted, is_zero, statement_act, statements_act, otherwise_act, body_at, deepest, top, nothing_yet, flat}
 use Rattle.macro_expander.specs.Cases.{CaseBit, may_set, entry_bit, case_bits, with_case, cases_behind, most_cases, unless_many, cases_of}
@@ -180,13 +181,13 @@ module _ (P : Place → Type 0) where
   macro_use_at body (Some m) u b a p scope s h = judged_at (given_to m scope.env u) u.place _ p (λ given. expanded_at body m given u b a p scope s h)
 
   module _ (ticks : ℕ) (macros : List Macro) (ms : AllByRecursion (IsMacroAt P) macros) where
-    use_act_of_at : (found : Option Primitive) (body : Option (Macro → Act)) (u : UseStatement) → IsBodyAt P body → P u.place → IsActAt P (use_act_of found ticks macros body u)
-    use_act_of_at (Some prim) body u b p scope s h = primitive_use_at ticks prim.kind u p scope s h
+    use_act_of_at : (found : Option Kind) (body : Option (Macro → Act)) (u : UseStatement) → IsBodyAt P body → P u.place → IsActAt P (use_act_of found ticks macros body u)
+    use_act_of_at (Some kind) body u b p scope s h = primitive_use_at ticks kind u p scope s h
     use_act_of_at None body u b p scope s h = macro_use_at body (macro_of u.kind macros) u b (every_find (IsMacroAt P) _ macros ms) p scope s h
 
     use_act_at : (body : Option (Macro → Act)) (u : UseStatement) → IsBodyAt P body → P u.place → IsActAt P (use_act ticks macros body u)
     unfolding use_act
-    use_act_at body u b p scope s h = use_act_of_at (primitive_of u.kind) body u b p scope s h
+    use_act_at body u b p scope s h = use_act_of_at (kind_of u.kind) body u b p scope s h
 
     -- ---- statements
 

@@ -1,13 +1,13 @@
 -- Statements one behind another, and the uses of macros.
 use Rattle.std.proofs.Common.{◌≡◌, ◌≢◌, ℕ, zero, suc, ◌+◌, ◌-◌, ◌<◌, Bool, true, false, cond, List, [], ◌∷◌, length, drop, get_or, Option, Some, None, Result, Ok, refl, ap, sym, ◌∙◌, subst, arith}
 use Rattle.std.specs.List.{All, find}
-use Rattle.std.specs.Option.{option_map}
 use Rattle.std.proofs.lemmas.List.Elements.{All-head, All-tail}
 use Rattle.scald_base.specs.Time.{Header}
 use Rattle.scald_base.specs.declared.refusal.RefusalKind.TheVariants.{TooDeep}
 use Rattle.scald_base.specs.declared.refusal.Stop.{Stop}
 use Rattle.scald_expr.specs.declared.environment.Binding.{Binding}
-use Rattle.flat_circuit.specs.declared.kind.Kind.{Kind}
+use Rattle.element_kinds.specs.declared.kind.Kind.{Kind}
+use Rattle.element_kinds.specs.Kinds.{kind_of}
 use Rattle.drawing_tree.specs.declared.statement.Stmt.{Stmt}
 use Rattle.drawing_tree.specs.Tree.{Statements, cons, UseStatement, Macro, listed, statement_of, statements_of}
 use Rattle.macro_expander.specs.declared.expansion.Expansion.{Expansion}
@@ -16,7 +16,7 @@ use Rattle.macro_expander.specs.declared.scope.Scope as numbered_scope
 use Rattle.macro_expander.specs.Named.{State}
 use Rattle.macro_expander.specs.Outcome.{Outcome, Fails}
 use Rattle.macro_expander.specs.Terms.{Scope}
-use Rattle.macro_expander.specs.Primitives.{Primitive, primitive_of, primitive_use}
+use Rattle.macro_expander.specs.Primitives.{primitive_use}
 use Rattle.macro_expander.specs.Macros.{macro_of as first_called, given_to, inner_scope}
 use Rattle.macro_expander.specs.Flat.{Act, macro_use, use_act_of, use_act, statement_act, statements_act, body_at}
 use Rattle.macro_expander.specs.Fitting.{StatementFits, StatementsFit}
@@ -58,21 +58,21 @@ module _ (ticks : ℕ) (macros : List Macro) (below : Option (Macro → Act)) (s
 -- ---- uses
 
 module _ (ticks : ℕ) (macros : List Macro) (below : Option (Macro → Act)) (u : UseStatement) (scope : Scope) (s : State) where
-  primitive_by : (o : Option Primitive) (kind : Kind) → Some kind ≡ option_map (λ (p : Primitive). p.kind) o → use_act_of o ticks macros below u scope s ≡ primitive_use ticks kind scope u s
+  primitive_by : (o : Option Kind) (kind : Kind) → Some kind ≡ o → use_act_of o ticks macros below u scope s ≡ primitive_use ticks kind scope u s
   primitive_by None kind h = absurd (cc)
-  primitive_by (Some p) kind h = let same : kind ≡ p.kind = cc in rw same refl
+  primitive_by (Some k) kind h = let same : kind ≡ k = cc in rw same refl
 
-  pub primitive_act : (kind : Kind) → Some kind ≡ option_map (λ (p : Primitive). p.kind) (primitive_of u.kind) → use_act ticks macros below u scope s ≡ primitive_use ticks kind scope u s
+  pub primitive_act : (kind : Kind) → Some kind ≡ kind_of u.kind → use_act ticks macros below u scope s ≡ primitive_use ticks kind scope u s
   unfolding use_act
-  primitive_act kind h = primitive_by (primitive_of u.kind) kind h
+  primitive_act kind h = primitive_by (kind_of u.kind) kind h
 
-  macro_by : (o : Option Primitive) → None ≡ option_map (λ (p : Primitive). p.kind) o → use_act_of o ticks macros below u scope s ≡ macro_use below (first_called u.kind macros) u scope s
+  macro_by : (o : Option Kind) → None ≡ o → use_act_of o ticks macros below u scope s ≡ macro_use below (first_called u.kind macros) u scope s
   macro_by None h = refl
-  macro_by (Some p) h = absurd (cc)
+  macro_by (Some kind) h = absurd (cc)
 
-  pub macro_act : (o : Option Macro) → None ≡ option_map (λ (p : Primitive). p.kind) (primitive_of u.kind) → o ≡ first_called u.kind macros → use_act ticks macros below u scope s ≡ macro_use below o u scope s
+  pub macro_act : (o : Option Macro) → None ≡ kind_of u.kind → o ≡ first_called u.kind macros → use_act ticks macros below u scope s ≡ macro_use below o u scope s
   unfolding use_act
-  macro_act o h is = macro_by (primitive_of u.kind) h ∙ ap (λ (x : Option Macro). macro_use below x u scope s) (sym is)
+  macro_act o h is = macro_by (kind_of u.kind) h ∙ ap (λ (x : Option Macro). macro_use below x u scope s) (sym is)
 
 -- what holds of all holds of the first that passes
 pub found_is : {X : Type 0} (P : X → Type 0) (p : X → Bool) (xs : List X) (x : X) → All P xs → Some x ≡ find p xs → P x

@@ -5,12 +5,14 @@ use Rattle.scald_base.specs.declared.refusal.Place.{Place}
 use Rattle.scald_base.specs.declared.refusal.RefusalKind.TheVariants.{TooDeep, TooMany, UnknownKind}
 use Rattle.scald_expr.specs.declared.environment.Binding.{Binding}
 use Rattle.drawing_tree.specs.Tree.{Statement, Use, Wire, If, Statements, nil, cons, Otherwise, no_else, else_, UseStatement, WireStatement, Macro, Drawing}
+use Rattle.element_kinds.specs.declared.kind.Kind.{Kind}
+use Rattle.element_kinds.specs.Kinds.{kind_of}
 use Rattle.flat_circuit.specs.Name.{Name}
 use Rattle.flat_circuit.specs.Builder.{same_name}
 use Rattle.macro_expander.specs.Named.{Where, On, Fixed, Bit, State}
 use Rattle.macro_expander.specs.Outcome.{Outcome, Gives, Fails, after, judged}
 use Rattle.macro_expander.specs.Terms.{Scope, valued, written_ends, named_bits}
-use Rattle.macro_expander.specs.Primitives.{Primitive, primitive_of, primitive_use, delay_between}
+use Rattle.macro_expander.specs.Primitives.{primitive_use, delay_between}
 use Rattle.macro_expander.specs.Macros.{macro_of, given_to, inner_scope}
 
 -- what a piece of a body does in a scope
@@ -53,12 +55,12 @@ abbrev pub macro_use : Option (Macro → Act) → Option Macro → UseStatement 
 macro_use body None u scope s = Fails UnknownKind u.place
 macro_use body (Some m) u scope s = judged (given_to m scope.env u) u.place (λ given. expanded body m given u scope s)
 
-abbrev pub use_act_of : Option Primitive → ℕ → List Macro → Option (Macro → Act) → UseStatement → Act
-use_act_of (Some p) ticks macros body u scope s = primitive_use ticks p.kind scope u s
+abbrev pub use_act_of : Option Kind → ℕ → List Macro → Option (Macro → Act) → UseStatement → Act
+use_act_of (Some kind) ticks macros body u scope s = primitive_use ticks kind scope u s
 use_act_of None ticks macros body u scope s = macro_use body (macro_of u.kind macros) u scope s
 
 unfoldable pub use_act : ℕ → List Macro → Option (Macro → Act) → UseStatement → Act
-use_act ticks macros body u scope s = use_act_of (primitive_of u.kind) ticks macros body u scope s
+use_act ticks macros body u scope s = use_act_of (kind_of u.kind) ticks macros body u scope s
 
 -- ---- statements
 

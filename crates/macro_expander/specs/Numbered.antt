@@ -1,5 +1,5 @@
 -- What the numbers of nets stand for while a circuit is expanded, and what it is to take a step by them.
-use Rattle.std.specs.Prelude.{◌≡◌, ℕ, ◌<◌, ◌≤◌, Bool, false, not, if◌then◌else◌, List, [], ◌∷◌, ◌++◌, length, map, nat_le, Option, Some, None, Result, Ok, Err}
+use Rattle.std.specs.Prelude.{◌≡◌, ℕ, ◌<◌, ◌≤◌, Bool, true, false, not, if◌then◌else◌, List, [], ◌∷◌, ◌++◌, length, map, nat_le, Option, Some, None, Result, Ok, Err}
 use Rattle.std.specs.List.{All, flat_map, zip}
 use Rattle.scald_base.specs.declared.refusal.Refusal.{Refusal}
 use Rattle.scald_base.specs.declared.refusal.Stop.{Stop}
@@ -8,8 +8,8 @@ use Rattle.vector_names.specs.declared.bits.Target.{Target}
 use Rattle.vector_names.specs.declared.bits.Target.TheVariants.{Net as OnNet, Constant}
 use Rattle.vector_names.specs.declared.bits.BitRef.{BitRef}
 use Rattle.vector_names.specs.Bits.{widest}
-use Rattle.flat_circuit.specs.declared.kind.Kind.{Kind}
-use Rattle.flat_circuit.specs.declared.kind.Kind.TheVariants.{Buf, And, Or, Xor, Mux2, Mux4, Mux8, Chg, Reg, RegRs, Latch, LatchRs, SetupHold, RiseFall, MinPulse}
+use Rattle.element_kinds.specs.declared.kind.Kind.{Kind}
+use Rattle.element_kinds.specs.Kinds.{is_change}
 use Rattle.drawing_tree.specs.declared.statement.UseStmt.{UseStmt}
 use Rattle.macro_expander.specs.declared.primitive.Plan.{Plan}
 use Rattle.macro_expander.specs.Primitives.{bit_at}
@@ -77,22 +77,12 @@ all_refs c = map (pin_ref c.hold) c.bits
 abbrev pub column_ref : ℕ → numbered_joined.Joined → Pin
 column_ref k c = pin_ref c.hold (bit_at no_ref c.bits k)
 
+abbrev pub refs_by : Bool → List numbered_joined.Joined → ℕ → List Pin
+refs_by true ins k = flat_map all_refs ins
+refs_by false ins k = map (column_ref k) ins
+
 abbrev pub pin_refs : Kind → List numbered_joined.Joined → ℕ → List Pin
-pin_refs Buf ins k = map (column_ref k) ins
-pin_refs And ins k = map (column_ref k) ins
-pin_refs Or ins k = map (column_ref k) ins
-pin_refs Xor ins k = map (column_ref k) ins
-pin_refs Mux2 ins k = map (column_ref k) ins
-pin_refs Mux4 ins k = map (column_ref k) ins
-pin_refs Mux8 ins k = map (column_ref k) ins
-pin_refs Chg ins k = flat_map all_refs ins
-pin_refs Reg ins k = map (column_ref k) ins
-pin_refs RegRs ins k = map (column_ref k) ins
-pin_refs Latch ins k = map (column_ref k) ins
-pin_refs LatchRs ins k = map (column_ref k) ins
-pin_refs SetupHold ins k = map (column_ref k) ins
-pin_refs RiseFall ins k = map (column_ref k) ins
-pin_refs MinPulse ins k = map (column_ref k) ins
+pin_refs kind ins k = refs_by (is_change kind) ins k
 
 abbrev pub output_ref : List numbered_joined.Joined → ℕ → Option BitRef
 output_ref [] k = None

@@ -8,9 +8,10 @@ use Rattle.scald_base.specs.declared.refusal.RefusalKind.{RefusalKind}
 use Rattle.scald_base.specs.declared.refusal.RefusalKind.TheVariants.{BadParameter, Bounds, PinCount, TooMany, Width}
 use Rattle.scald_expr.specs.declared.environment.Binding.{Binding}
 use Rattle.scald_expr.specs.Expression.{Expression}
-use Rattle.flat_circuit.specs.declared.kind.Kind.{Kind}
-use Rattle.flat_circuit.specs.declared.kind.Kind.TheVariants.{Buf, And, Or, Xor, Mux2, Mux4, Mux8, Chg, Reg, RegRs, Latch, LatchRs, SetupHold, RiseFall, MinPulse}
-use Rattle.flat_circuit.specs.Kind.{has_output}
+use Rattle.element_kinds.specs.declared.kind.Kind.{Kind}
+use Rattle.element_kinds.specs.declared.form.Check.{Check}
+use Rattle.element_kinds.specs.declared.form.Check.TheVariants.{SetupHold as AboutRise, RiseFall as RiseToFall, MinPulse as Widths}
+use Rattle.element_kinds.specs.Kinds.{inputs_of, has_output, is_change, check_of, greatest_marks}
 use Rattle.flat_circuit.specs.Instances.{most_bits, most_pins}
 use Rattle.drawing_tree.specs.Tree.{Assignment, Connection, UseStatement}
 use Rattle.macro_expander.specs.declared.primitive.Plan.{Plan}
@@ -20,104 +21,29 @@ use Rattle.macro_expander.specs.Terms.{Scope, valued, Joined, Wires, wires_of, p
 
 -- ---- kinds
 
-pub record Primitive : Type 0 where
-  pub name : List ℕ
-  pub kind : Kind
-
-abbrev pub primitives : List Primitive
-primitives =
-    (record { name = codes "BUF"; kind = Buf })
-    ∷ (record { name = codes "AND"; kind = And })
-    ∷ (record { name = codes "OR"; kind = Or })
-    ∷ (record { name = codes "XOR"; kind = Xor })
-    ∷ (record { name = codes "MUX2"; kind = Mux2 })
-    ∷ (record { name = codes "MUX4"; kind = Mux4 })
-    ∷ (record { name = codes "MUX8"; kind = Mux8 })
-    ∷ (record { name = codes "CHG"; kind = Chg })
-    ∷ (record { name = codes "REG"; kind = Reg })
-    ∷ (record { name = codes "REG_RS"; kind = RegRs })
-    ∷ (record { name = codes "LATCH"; kind = Latch })
-    ∷ (record { name = codes "LATCH_RS"; kind = LatchRs })
-    ∷ (record { name = codes "SETUP_HOLD_CHK"; kind = SetupHold })
-    ∷ (record { name = codes "SETUP_RISE_HOLD_FALL_CHK"; kind = RiseFall })
-    ∷ (record { name = codes "MIN_PULSE_CHK"; kind = MinPulse })
-    ∷ []
-
-abbrev pub primitive_of : List ℕ → Option Primitive
-primitive_of name = find (λ p. bytes_eq name p.name) primitives
-
 -- the fewest and the most input connections
 abbrev pub fewest_inputs : Kind → ℕ
-fewest_inputs Buf = 1
-fewest_inputs And = 1
-fewest_inputs Or = 1
-fewest_inputs Xor = 1
-fewest_inputs Mux2 = 3
-fewest_inputs Mux4 = 6
-fewest_inputs Mux8 = 11
-fewest_inputs Chg = 1
-fewest_inputs Reg = 2
-fewest_inputs RegRs = 4
-fewest_inputs Latch = 2
-fewest_inputs LatchRs = 4
-fewest_inputs SetupHold = 2
-fewest_inputs RiseFall = 2
-fewest_inputs MinPulse = 1
+fewest_inputs kind = (inputs_of kind).0
 
 abbrev pub most_inputs : Kind → ℕ
-most_inputs Buf = 1
-most_inputs And = 16
-most_inputs Or = 16
-most_inputs Xor = 16
-most_inputs Mux2 = 3
-most_inputs Mux4 = 6
-most_inputs Mux8 = 11
-most_inputs Chg = 16
-most_inputs Reg = 2
-most_inputs RegRs = 4
-most_inputs Latch = 2
-most_inputs LatchRs = 4
-most_inputs SetupHold = 2
-most_inputs RiseFall = 2
-most_inputs MinPulse = 1
+most_inputs kind = (inputs_of kind).1
 
 abbrev pub outputs : Kind → ℕ
 outputs kind = if has_output kind then 1 else 0
 
 -- how many of its input connections may be marked
 abbrev pub most_marks : Kind → ℕ
-most_marks Buf = 0
-most_marks And = 1
-most_marks Or = 1
-most_marks Xor = 0
-most_marks Mux2 = 0
-most_marks Mux4 = 0
-most_marks Mux8 = 0
-most_marks Chg = 0
-most_marks Reg = 0
-most_marks RegRs = 0
-most_marks Latch = 0
-most_marks LatchRs = 0
-most_marks SetupHold = 0
-most_marks RiseFall = 0
-most_marks MinPulse = 0
+most_marks kind = greatest_marks kind
+
+-- by what is checked, if anything is
+abbrev pub parameters_for : Option Check → List (List ℕ)
+parameters_for None = []
+parameters_for (Some AboutRise) = codes "SETUP" ∷ codes "HOLD" ∷ []
+parameters_for (Some RiseToFall) = codes "SETUP" ∷ codes "HOLD" ∷ []
+parameters_for (Some Widths) = codes "HIGH" ∷ codes "LOW" ∷ []
 
 abbrev pub parameters : Kind → List (List ℕ)
-parameters Buf = []
-parameters And = []
-parameters Or = []
-parameters Xor = []
-parameters Mux2 = []
-parameters Mux4 = []
-parameters Mux8 = []
-parameters Chg = []
-parameters Reg = []
-parameters RegRs = []
-parameters Latch = []
-parameters LatchRs = []
-parameters SetupHold = codes "SETUP" ∷ codes "HOLD" ∷ []
-parameters RiseFall = codes "SETUP" ∷ codes "HOLD" ∷ []
-parameters MinPulse = codes "HIGH" ∷ codes "LOW" ∷ []
+parameters kind = parameters_for (check_of kind)
 
 -- ---- parameters and connections that a use gives
 
@@ -186,22 +112,15 @@ high_and_low period (pos high) (pos low) = if nat_le high period && nat_le low p
 high_and_low period (pos high) (negsuc low) = Err Bounds
 high_and_low period (negsuc high) low = Err Bounds
 
+-- by what is checked, if anything is
+abbrev pub limits_for : ℕ → Option Check → List Binding → Judged (ℕ × ℕ)
+limits_for period None given = Ok (0, 0)
+limits_for period (Some AboutRise) given = setup_and_hold period (given_or_zero given (codes "SETUP")) (given_or_zero given (codes "HOLD"))
+limits_for period (Some RiseToFall) given = setup_and_hold period (given_or_zero given (codes "SETUP")) (given_or_zero given (codes "HOLD"))
+limits_for period (Some Widths) given = high_and_low period (given_or_zero given (codes "HIGH")) (given_or_zero given (codes "LOW"))
+
 abbrev pub limits_of : ℕ → Kind → List Binding → Judged (ℕ × ℕ)
-limits_of period Buf given = Ok (0, 0)
-limits_of period And given = Ok (0, 0)
-limits_of period Or given = Ok (0, 0)
-limits_of period Xor given = Ok (0, 0)
-limits_of period Mux2 given = Ok (0, 0)
-limits_of period Mux4 given = Ok (0, 0)
-limits_of period Mux8 given = Ok (0, 0)
-limits_of period Chg given = Ok (0, 0)
-limits_of period Reg given = Ok (0, 0)
-limits_of period RegRs given = Ok (0, 0)
-limits_of period Latch given = Ok (0, 0)
-limits_of period LatchRs given = Ok (0, 0)
-limits_of period SetupHold given = setup_and_hold period (given_or_zero given (codes "SETUP")) (given_or_zero given (codes "HOLD"))
-limits_of period RiseFall given = setup_and_hold period (given_or_zero given (codes "SETUP")) (given_or_zero given (codes "HOLD"))
-limits_of period MinPulse given = high_and_low period (given_or_zero given (codes "HIGH")) (given_or_zero given (codes "LOW"))
+limits_of period kind given = limits_for period (check_of kind) given
 
 -- ---- what a use of a primitive says before its connections are looked at: its delay and limits
 
@@ -244,21 +163,7 @@ can_have n width = width == n || width == 1
 
 -- the inputs of a change function may have any width
 abbrev pub inputs_fit : Kind → ℕ → List ℕ → Bool
-inputs_fit Buf n widths = list_all (can_have n) widths
-inputs_fit And n widths = list_all (can_have n) widths
-inputs_fit Or n widths = list_all (can_have n) widths
-inputs_fit Xor n widths = list_all (can_have n) widths
-inputs_fit Mux2 n widths = list_all (can_have n) widths
-inputs_fit Mux4 n widths = list_all (can_have n) widths
-inputs_fit Mux8 n widths = list_all (can_have n) widths
-inputs_fit Chg n widths = true
-inputs_fit Reg n widths = list_all (can_have n) widths
-inputs_fit RegRs n widths = list_all (can_have n) widths
-inputs_fit Latch n widths = list_all (can_have n) widths
-inputs_fit LatchRs n widths = list_all (can_have n) widths
-inputs_fit SetupHold n widths = list_all (can_have n) widths
-inputs_fit RiseFall n widths = list_all (can_have n) widths
-inputs_fit MinPulse n widths = list_all (can_have n) widths
+inputs_fit kind n widths = if is_change kind then true else list_all (can_have n) widths
 
 -- ---- instance bits
 
@@ -282,22 +187,12 @@ abbrev pub each_bit : List Joined → List NamedPin
 each_bit ins = flat_map (λ c. map (pin_of c.hold) c.bits) ins
 
 -- Pin by pin: every bit of a change function's inputs, and of another kind's bit k of each connection.
+abbrev pub pins_by : Bool → List Joined → ℕ → List NamedPin
+pins_by true ins k = each_bit ins
+pins_by false ins k = bits_at k ins
+
 abbrev pub pins_of : Kind → List Joined → ℕ → List NamedPin
-pins_of Buf ins k = bits_at k ins
-pins_of And ins k = bits_at k ins
-pins_of Or ins k = bits_at k ins
-pins_of Xor ins k = bits_at k ins
-pins_of Mux2 ins k = bits_at k ins
-pins_of Mux4 ins k = bits_at k ins
-pins_of Mux8 ins k = bits_at k ins
-pins_of Chg ins k = each_bit ins
-pins_of Reg ins k = bits_at k ins
-pins_of RegRs ins k = bits_at k ins
-pins_of Latch ins k = bits_at k ins
-pins_of LatchRs ins k = bits_at k ins
-pins_of SetupHold ins k = bits_at k ins
-pins_of RiseFall ins k = bits_at k ins
-pins_of MinPulse ins k = bits_at k ins
+pins_of kind ins k = pins_by (is_change kind) ins k
 
 abbrev pub output_at : List Joined → ℕ → Option Bit
 output_at [] k = None

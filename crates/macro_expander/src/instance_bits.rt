@@ -5,7 +5,7 @@ ghost use Rattle.std.specs.List.{flat_map, list_all};
 ghost use Rattle.flat_circuit.specs.Instances.{InstanceFits};
 ghost use Rattle.drawing_tree.specs.Tree.{use_of};
 ghost use Rattle.macro_expander.specs.Primitives.{all_added, greatest as spec_greatest, width_of as spec_width_of, can_have, inputs_fit as spec_inputs_fit, bit_at as spec_bit_at, adding};
-ghost use Rattle.macro_expander.specs.Numbered.{bits_in, no_ref, pin_ref, all_refs, column_ref, pin_refs, output_ref, target_ref, inverted_ref, instance_ref, instance_of, joined_of, SameNets, DoneAt, state_of, nets_in, names_in};
+ghost use Rattle.macro_expander.specs.Numbered.{bits_in, no_ref, pin_ref, all_refs, column_ref, refs_by, pin_refs, output_ref, target_ref, inverted_ref, instance_ref, instance_of, joined_of, SameNets, DoneAt, state_of, nets_in, names_in};
 
 use crate::connection::Joined;
 use crate::expansion::Expansion;
@@ -51,9 +51,10 @@ fn all_can_have(connections: &[Joined], width: usize) -> bool
 pub(crate) fn inputs_fit(kind: Kind, width: usize, ins: &[Joined]) -> bool
     ensures { result ≡ spec_inputs_fit kind width (map bits_in ins.now) }
 {
-    match kind {
-        Kind::Chg => true,
-        _ => all_can_have(ins, width),
+    if kind.is_change() {
+        true
+    } else {
+        all_can_have(ins, width)
     }
 }
 
@@ -113,14 +114,22 @@ fn column(alloc: Global, ins: &[Joined], k: usize) -> Result<Pins, NoMemory>
     Ok(pins)
 }
 
-/// The pins of bit k: one for each connection, or, of a change function, one for each bit of each.
+/// The pins of bit k: one for each connection, or one for each bit of each.
+fn pins_by(alloc: Global, each_bit: bool, ins: &[Joined], k: usize) -> Result<Pins, NoMemory>
+    ensures { IfOk result (λ pins. pins ≡ refs_by each_bit ins.now k) }
+{
+    if each_bit {
+        all_pins(alloc, ins)
+    } else {
+        column(alloc, ins, k)
+    }
+}
+
+/// The pins of bit k: those of a change function are all bits of its inputs.
 fn pins(alloc: Global, kind: Kind, ins: &[Joined], k: usize) -> Result<Pins, NoMemory>
     ensures { IfOk result (λ pins. pins ≡ pin_refs kind ins.now k) }
 {
-    match kind {
-        Kind::Chg => all_pins(alloc, ins),
-        _ => column(alloc, ins, k),
-    }
+    pins_by(alloc, kind.is_change(), ins, k)
 }
 
 fn output(outs: &[Joined], k: usize) -> Option<BitRef>

@@ -3,14 +3,15 @@
 ghost use Rattle.std.specs.Prelude.{◌≡◌, ◌+◌, ◌∷◌, [], map, is_some, option_map};
 ghost use Rattle.std.specs.List.{list_any};
 ghost use Rattle.std.specs.Str.{bytes_eq};
+ghost use Rattle.element_kinds.specs.Kinds.{kind_of};
 ghost use Rattle.drawing_tree.specs.Tree.{assignment_of, connection_of, both_of, use_of};
-ghost use Rattle.macro_expander.specs.Primitives.{primitive_of, fewest_inputs as spec_fewest, most_inputs as spec_most, most_marks as spec_most_marks, takes as spec_takes, are_of, marks as spec_marks, delay_between as spec_delay_between, written_delay as spec_written_delay, delay_of as spec_delay_of, setup_and_hold as spec_setup_and_hold, high_and_low as spec_high_and_low, limits_of as spec_limits_of, are_connected as spec_are_connected, plan_of};
+ghost use Rattle.macro_expander.specs.Primitives.{parameters_for, fewest_inputs as spec_fewest, most_inputs as spec_most, most_marks as spec_most_marks, takes as spec_takes, are_of, marks as spec_marks, delay_between as spec_delay_between, written_delay as spec_written_delay, delay_of as spec_delay_of, setup_and_hold as spec_setup_and_hold, high_and_low as spec_high_and_low, limits_for as spec_limits_for, limits_of as spec_limits_of, are_connected as spec_are_connected, plan_of};
 ghost use Rattle.macro_expander.specs.Steps.{JudgedAt};
 
 use crate::parameter::{comes_again, value_given, values_given};
 use crate::range::{at, value};
 use drawing_tree::{Assigns, Conns, UseStmt};
-use flat_circuit::Kind;
+use element_kinds::{Check, Kind, kind_named};
 use scald_base::{Delay, RefusalKind, Stop, same_bytes};
 use scald_expr::{Env, Expr};
 use std::alloc::Global;
@@ -26,84 +27,29 @@ const LONGEST_DELAY: i64 = 4095;
 
 /// The primitive of a name.
 pub(crate) fn primitive(name: &[u8]) -> Option<Kind>
-    ensures { result ≡ option_map (λ p. p.kind) (primitive_of name.now) }
+    ensures { result ≡ kind_of name.now }
 {
-    if same_bytes(name, b"BUF") {
-        return Some(Kind::Buf);
-    }
-    if same_bytes(name, b"AND") {
-        return Some(Kind::And);
-    }
-    if same_bytes(name, b"OR") {
-        return Some(Kind::Or);
-    }
-    if same_bytes(name, b"XOR") {
-        return Some(Kind::Xor);
-    }
-    if same_bytes(name, b"MUX2") {
-        return Some(Kind::Mux2);
-    }
-    if same_bytes(name, b"MUX4") {
-        return Some(Kind::Mux4);
-    }
-    if same_bytes(name, b"MUX8") {
-        return Some(Kind::Mux8);
-    }
-    if same_bytes(name, b"CHG") {
-        return Some(Kind::Chg);
-    }
-    if same_bytes(name, b"REG") {
-        return Some(Kind::Reg);
-    }
-    if same_bytes(name, b"REG_RS") {
-        return Some(Kind::RegRs);
-    }
-    if same_bytes(name, b"LATCH") {
-        return Some(Kind::Latch);
-    }
-    if same_bytes(name, b"LATCH_RS") {
-        return Some(Kind::LatchRs);
-    }
-    if same_bytes(name, b"SETUP_HOLD_CHK") {
-        return Some(Kind::SetupHold);
-    }
-    if same_bytes(name, b"SETUP_RISE_HOLD_FALL_CHK") {
-        return Some(Kind::RiseFall);
-    }
-    if same_bytes(name, b"MIN_PULSE_CHK") {
-        return Some(Kind::MinPulse);
-    }
-    None
+    kind_named(name)
 }
 
 fn fewest_inputs(kind: Kind) -> usize
     ensures { result ≡ spec_fewest kind }
 {
-    match kind {
-        Kind::Buf | Kind::And | Kind::Or | Kind::Xor | Kind::Chg | Kind::MinPulse => 1,
-        Kind::Reg | Kind::Latch | Kind::SetupHold | Kind::RiseFall => 2,
-        Kind::Mux2 => 3,
-        Kind::RegRs | Kind::LatchRs => 4,
-        Kind::Mux4 => 6,
-        Kind::Mux8 => 11,
-    }
+    kind.inputs().0 as usize
 }
 
 fn most_inputs(kind: Kind) -> usize
     ensures { result ≡ spec_most kind }
 {
-    match kind {
-        Kind::And | Kind::Or | Kind::Xor | Kind::Chg => 16,
-        _ => fewest_inputs(kind),
-    }
+    kind.inputs().1 as usize
 }
 
 fn most_marks(kind: Kind) -> usize
     ensures { result ≡ spec_most_marks kind }
 {
-    match kind {
-        Kind::And | Kind::Or => 1,
-        _ => 0,
+    match kind.closes() {
+        None => 0,
+        Some(_) => 1,
     }
 }
 
@@ -113,17 +59,25 @@ fn is_one_of(name: &[u8], one: &[u8], other: &[u8]) -> bool
     same_bytes(name, one) || same_bytes(name, other)
 }
 
-fn takes(kind: Kind, name: &[u8]) -> bool
-    ensures { result ≡ spec_takes kind name.now }
+fn takes_for(check: Check, name: &[u8]) -> bool
+    ensures { result ≡ list_any (bytes_eq name.now) (parameters_for (Some check)) }
 {
-    match kind {
-        Kind::SetupHold | Kind::RiseFall => is_one_of(
+    match check {
+        Check::SetupHold | Check::RiseFall => is_one_of(
             name,
             b"SETUP".as_slice(),
             b"HOLD".as_slice(),
         ),
-        Kind::MinPulse => is_one_of(name, b"HIGH".as_slice(), b"LOW".as_slice()),
-        _ => false,
+        Check::MinPulse => is_one_of(name, b"HIGH".as_slice(), b"LOW".as_slice()),
+    }
+}
+
+fn takes(kind: Kind, name: &[u8]) -> bool
+    ensures { result ≡ spec_takes kind name.now }
+{
+    match kind.check() {
+        None => false,
+        Some(check) => takes_for(check, name),
     }
 }
 
@@ -202,21 +156,29 @@ fn high_and_low(period: u16, high: i64, low: i64) -> Result<(u16, u16), RefusalK
     Err(RefusalKind::Bounds)
 }
 
-fn limits_of(period: u16, kind: Kind, given: &Env) -> Result<(u16, u16), RefusalKind>
-    ensures { result ≡ spec_limits_of period kind given.now }
+fn limits_for(period: u16, check: Check, given: &Env) -> Result<(u16, u16), RefusalKind>
+    ensures { result ≡ spec_limits_for period (Some check) given.now }
 {
-    match kind {
-        Kind::SetupHold | Kind::RiseFall => {
+    match check {
+        Check::SetupHold | Check::RiseFall => {
             let setup = value_given(given, b"SETUP".as_slice());
             let hold = value_given(given, b"HOLD".as_slice());
             setup_and_hold(period, setup, hold)
         }
-        Kind::MinPulse => {
+        Check::MinPulse => {
             let high = value_given(given, b"HIGH".as_slice());
             let low = value_given(given, b"LOW".as_slice());
             high_and_low(period, high, low)
         }
-        _ => Ok((0, 0)),
+    }
+}
+
+fn limits_of(period: u16, kind: Kind, given: &Env) -> Result<(u16, u16), RefusalKind>
+    ensures { result ≡ spec_limits_of period kind given.now }
+{
+    match kind.check() {
+        None => Ok((0, 0)),
+        Some(check) => limits_for(period, check, given),
     }
 }
 

@@ -2,8 +2,8 @@
 use Rattle.std.proofs.Common.{◌≡◌, ℕ, Bool, true, false, All, List, map, refl, sym, ap, ◌∙◌, slice_get, Option, Some, None}
 use Rattle.std.specs.Option.{option_map}
 use Rattle.scald_base.specs.Time.{period}
-use Rattle.flat_circuit.specs.declared.kind.Kind.{Kind}
-use Rattle.flat_circuit.specs.declared.kind.Kind.TheVariants.{And, Or, SetupHold, RiseFall}
+use Rattle.element_kinds.specs.declared.kind.Kind.{Kind}
+use Rattle.element_kinds.specs.Kinds.{checks_points, may_be_marked}
 use Rattle.flat_circuit.specs.declared.instance.Pin.{Pin}
 use Rattle.flat_circuit.specs.declared.instance.Instance.{Instance}
 use Rattle.flat_circuit.specs.declared.net.Net.{Net}
@@ -15,16 +15,17 @@ use Rattle.fixpoint_engine.specs.SameWaves.{IsSameAt}
 use Rattle.fixpoint_engine.proofs.SameWaves.{same-pins}
 use Rattle.point_check.specs.Point.{checker_fault}
 use Rattle.point_check.specs.Assertion.{is_held, assertion_fault}
-use Rattle.point_check.specs.Faults.{hazard_at, fault_by_kind, fault_of, instance_fault, fault_if_held, fault_of_net, net_fault}
+use Rattle.point_check.specs.Faults.{hazard_at, fault_by, fault_by_kind, fault_of, instance_fault, fault_if_held, fault_of_net, net_fault}
 
 -- ---- an instance, by the waves at its pins
 
 same-kind : (kind : Kind) (c : Circuit) (ws vs : Waves) (k : ℕ) (j : Instance) → pin_waves c ws j ≡ pin_waves c vs j → fault_by_kind kind c ws k j ≡ fault_by_kind kind c vs k j
-same-kind SetupHold c ws vs k j same = λ i. checker_fault j.kind (period c.header) k (wave_of_pin (same i) 0) (wave_of_pin (same i) 1) j.limits
-same-kind RiseFall c ws vs k j same = λ i. checker_fault j.kind (period c.header) k (wave_of_pin (same i) 0) (wave_of_pin (same i) 1) j.limits
-same-kind And c ws vs k j same = λ i. option_map (hazard_at k) (hazard j.kind (same i) (marked_pin j))
-same-kind Or c ws vs k j same = λ i. option_map (hazard_at k) (hazard j.kind (same i) (marked_pin j))
-same-kind kind c ws vs k j same = refl
+same-kind kind c ws vs k j same = by (checks_points kind) (may_be_marked kind)
+  where
+    by : (points markable : Bool) → fault_by points markable c ws k j ≡ fault_by points markable c vs k j
+    by true markable = λ i. checker_fault j.kind (period c.header) k (wave_of_pin (same i) 0) (wave_of_pin (same i) 1) j.limits
+    by false true = λ i. option_map (hazard_at k) (hazard j.kind (same i) (marked_pin j))
+    by false false = refl
 
 pub same-instance : (c : Circuit) (ws vs : Waves) (k : ℕ) (j : Instance) (ps : List Pin) →
     Some j ≡ slice_get c.instances k → ps ≡ j.pins → All (IsSameAt ws vs) ps → instance_fault c ws k ≡ instance_fault c vs k

@@ -8,7 +8,7 @@ use Rattle.scald_base.specs.declared.assertion.AssertSpec.{AssertSpec}
 use Rattle.scald_base.specs.declared.assertion.AssertSpec.TheVariants.{None as Unasserted, Precision, Stable}
 use Rattle.wave_core.specs.Slots.{earlier}
 use Rattle.skew_algebra.specs.Wave.{normal}
-use Rattle.flat_circuit.specs.declared.kind.Kind.TheVariants.{Buf, And, SetupHold, RiseFall}
+use Rattle.element_kinds.specs.declared.kind.Kind.TheVariants.{Buf, And, SetupHold, RiseFall}
 use Rattle.flat_circuit.specs.declared.instance.Instance.{Instance}
 use Rattle.flat_circuit.specs.declared.net.Net.{Net}
 use Rattle.flat_circuit.specs.Circuit.{Circuit}

@@ -2,7 +2,7 @@
 use Prim.Native.String.{String}
 use Rattle.std.proofs.Common.{ℕ, List, [], ◌∷◌, length, refl, arith}
 use Rattle.std.proofs.lemmas.Bool.{true≢false}
-use Rattle.flat_circuit.specs.declared.kind.Kind.TheVariants.{SetupHold}
+use Rattle.element_kinds.specs.declared.kind.Kind.TheVariants.{SetupHold}
 use Rattle.flat_circuit.specs.declared.instance.Pin.{Pin}
 use Rattle.flat_circuit.specs.declared.instance.Instance.{Instance}
 use Rattle.flat_circuit.specs.Run.{Run}

@@ -4,7 +4,7 @@ use Rattle.std.specs.Prelude.{is_some}
 use Rattle.std.specs.Option.{option_map}
 use Rattle.step_values.specs.declared.value.Value.{Value}
 use Rattle.step_values.specs.Steps.{has, is_quiet, letter_of}
-use Rattle.flat_circuit.specs.declared.kind.Kind.{Kind}
+use Rattle.element_kinds.specs.declared.kind.Kind.{Kind}
 use Rattle.flat_circuit.specs.declared.fault.PointKind.{PointKind}
 use Rattle.flat_circuit.specs.declared.fault.Fault.{Fault}
 use Rattle.flat_circuit.specs.declared.fault.Fault.TheVariants.{Point}

@@ -1,21 +1,24 @@
 -- Faults gathered one number after the other.
-use Rattle.std.proofs.Common.{◌≡◌, ℕ, Bool, ◌+◌, ◌<◌, List, [], ◌∷◌, ◌++◌, length, get_or, take, refl, sym, ap, subst, ◌∙◌, arith, append_assoc, zero-add, slice_get, Option, Some, None}
+use Rattle.std.proofs.Common.{◌≡◌, ℕ, Bool, true, ◌+◌, ◌<◌, ◌≤◌, List, [], ◌∷◌, ◌++◌, length, get_or, take, refl, sym, ap, subst, ◌∙◌, arith, append_assoc, zero-add, slice_get, Option, Some, None}
 use Rattle.std.specs.Prelude.{filter_map}
 use Rattle.std.specs.List.{cons_option, range_with_len}
 use Rattle.std.specs.Option.{option_map, option_to_list}
 use Rattle.std.proofs.lemmas.List.{take_more}
 use Rattle.std.proofs.lemmas.Option.{slice_get_within, get_or_from_slice_get}
 use Rattle.std.proofs.lemmas.List.Elements.{filter_map-append, All-get_or}
-use Rattle.scald_base.specs.Time.{period}
+use Rattle.scald_base.specs.Time.{Header, period}
 use Rattle.scald_base.specs.Fitting.{Fits}
 use Rattle.vector_names.proofs.Ranges.{range-more}
 use Rattle.step_values.specs.declared.value.Value.{Value}
 use Rattle.step_values.specs.Cell.{values}
 use Rattle.skew_algebra.specs.Wave.{Wave, folded}
-use Rattle.flat_circuit.specs.declared.kind.Kind.{Kind}
+use Rattle.element_kinds.specs.declared.kind.Kind.{Kind}
+use Rattle.element_kinds.specs.declared.kind.Kind.TheVariants.{SetupHold, RiseFall}
+use Rattle.element_kinds.specs.Kinds.{checks_points}
 use Rattle.flat_circuit.specs.declared.instance.Instance.{Instance}
 use Rattle.flat_circuit.specs.declared.net.Net.{Net}
 use Rattle.flat_circuit.specs.declared.fault.Fault.{Fault}
+use Rattle.flat_circuit.specs.Kind.{LimitsFit}
 use Rattle.flat_circuit.specs.Circuit.{Circuit, IsCircuit}
 use Rattle.gate_eval.specs.Hold.{hazard}
 use Rattle.fixpoint_engine.specs.Value.{Waves, pin_waves, marked_pin}
@@ -73,6 +76,12 @@ pub mark-is : (c : Circuit) (ws : Waves) (k : ℕ) (j : Instance) (waves : List 
 mark-is c ws k j waves marked o found w m is e = e ∙ ap (option_map (hazard_at k)) (is ∙ (λ i. hazard j.kind (w i) (m i)))
 
 -- ---- one checker, by the folds that code has
+
+-- what a checker at edges of a clock may have as its limits
+pub points-limits : (h : Header) (kind : Kind) (l : ℕ × ℕ) → checks_points kind ≡ true → LimitsFit h kind l → l.0 + l.1 ≤ period h
+points-limits h SetupHold l checks fits = fits
+points-limits h RiseFall l checks fits = fits
+points-limits h kind l checks fits = cc
 
 pub checker-is : (kind : Kind) (k : ℕ) (clock input : Wave Value) (cs xs : List Value) (limits : ℕ × ℕ) (found : Option Fault) → 0 < length clock.cells → 0 < length input.cells →
     cs ≡ folded values clock → xs ≡ folded values input → found ≡ first_fault kind (length cs) k (read cs) (read xs) limits → found ≡ checker_fault kind (length clock.cells) k clock input limits

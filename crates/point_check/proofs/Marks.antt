@@ -7,7 +7,7 @@ use Rattle.step_values.specs.Steps.{has}
 use Rattle.step_values.specs.Cell.{values}
 use Rattle.step_values.proofs.Permits.{quiet-same}
 use Rattle.skew_algebra.specs.Wave.{Wave, fold}
-use Rattle.flat_circuit.specs.declared.kind.Kind.{Kind}
+use Rattle.element_kinds.specs.declared.kind.Kind.{Kind}
 use Rattle.gate_eval.specs.Meeting.{folds_in, period_of}
 use Rattle.gate_eval.specs.Hold.{value_of_pin, is_closed, closed_bit, mover_beside, disturber, hazard}
 use Rattle.gate_eval.specs.Instance.{wave_of_pin}

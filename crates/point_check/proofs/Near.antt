@@ -14,8 +14,8 @@ use Rattle.step_values.proofs.Permits.{quiet-same}
 use Rattle.skew_algebra.specs.Wave.{Wave, fold}
 use Rattle.skew_algebra.specs.Permits.{Permits}
 use Rattle.skew_algebra.proofs.Moves.{fold-has}
-use Rattle.flat_circuit.specs.declared.kind.Kind.{Kind}
-use Rattle.flat_circuit.specs.declared.kind.Kind.TheVariants.{SetupHold, RiseFall}
+use Rattle.element_kinds.specs.declared.kind.Kind.{Kind}
+use Rattle.element_kinds.specs.declared.kind.Kind.TheVariants.{SetupHold, RiseFall}
 use Rattle.flat_circuit.specs.declared.fault.Fault.{Fault}
 use Rattle.gate_eval.specs.Hold.{first_some}
 use Rattle.gate_eval.proofs.Fitting.{fold-mod}

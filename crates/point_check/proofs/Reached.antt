@@ -15,7 +15,7 @@ use Rattle.flat_circuit.specs.declared.net.Net.{Net}
 use Rattle.flat_circuit.specs.declared.fault.Fault.{Fault}
 use Rattle.flat_circuit.specs.Instances.{PinExists}
 use Rattle.flat_circuit.specs.Circuit.{Circuit, IsCircuit}
-use Rattle.flat_circuit.specs.Equation.{nth_signal}
+use Rattle.element_kinds.specs.Equation.{nth_signal}
 use Rattle.flat_circuit.specs.Run.{Run, IsRun, net_signal, pin_signals, WiresFit}
 use Rattle.gate_eval.specs.Instance.{wave_of_pin}
 use Rattle.fixpoint_engine.specs.Value.{Waves, pin_wave}

@@ -9,7 +9,7 @@ use Rattle.step_values.specs.Cell.{values}
 use Rattle.wave_core.specs.Slots.{earlier, join_to}
 use Rattle.skew_algebra.specs.Wave.{Wave, fold, is_steady}
 use Rattle.skew_algebra.proofs.Cells.{all-at}
-use Rattle.flat_circuit.specs.declared.kind.Kind.{Kind}
+use Rattle.element_kinds.specs.declared.kind.Kind.{Kind}
 use Rattle.flat_circuit.specs.declared.fault.Fault.{Fault}
 use Rattle.point_check.specs.declared.window.Window.{Window}
 use Rattle.point_check.specs.Window.{slot_at, window_fault}

@@ -11,7 +11,7 @@ use Rattle.step_values.specs.Steps.{has, is_quiet}
 use Rattle.step_values.specs.Cell.{values}
 use Rattle.wave_core.specs.Slots.{earlier}
 use Rattle.skew_algebra.proofs.Moves.{earlier-mod}
-use Rattle.flat_circuit.specs.declared.kind.Kind.{Kind}
+use Rattle.element_kinds.specs.declared.kind.Kind.{Kind}
 use Rattle.fixpoint_engine.specs.Pins.{read}
 use Rattle.fixpoint_engine.proofs.ReadSlots.{below_run}
 use Rattle.point_check.specs.declared.window.Window.{Window}

@@ -14,8 +14,8 @@ use Rattle.step_values.specs.declared.value.Value.{Value}
 use Rattle.step_values.specs.Steps.{has}
 use Rattle.step_values.specs.Cell.{values}
 use Rattle.skew_algebra.specs.Wave.{Wave, fold}
-use Rattle.flat_circuit.specs.declared.kind.Kind.{Kind}
-use Rattle.flat_circuit.specs.declared.kind.Kind.TheVariants.{And, Or, SetupHold, RiseFall}
+use Rattle.element_kinds.specs.declared.kind.Kind.{Kind}
+use Rattle.element_kinds.specs.Kinds.{checks_points, may_be_marked}
 use Rattle.flat_circuit.specs.declared.instance.Instance.{Instance}
 use Rattle.flat_circuit.specs.declared.net.Net.{Net}
 use Rattle.flat_circuit.specs.declared.fault.Fault.{Fault}
@@ -26,7 +26,7 @@ use Rattle.point_check.specs.declared.window.Window.{Window}
 use Rattle.point_check.specs.Window.{Folds, first_mover, fault_at, window_fault}
 use Rattle.point_check.specs.Point.{window_of, edge_fault, checker_fault}
 use Rattle.point_check.specs.Assertion.{is_held, first_excess, fault_in, assertion_fault}
-use Rattle.point_check.specs.Faults.{hazard_at, mark_fault, fault_by_kind, fault_of, instance_fault, fault_if_held, fault_of_net, net_fault, point_faults, is_of_instance, is_of_net}
+use Rattle.point_check.specs.Faults.{hazard_at, mark_fault, fault_by, fault_by_kind, fault_of, instance_fault, fault_if_held, fault_of_net, net_fault, point_faults, is_of_instance, is_of_net}
 
 -- ---- what holds of whatever is found
 
@@ -63,11 +63,12 @@ mark-of : (c : Circuit) (ws : Waves) (k : ℕ) (j : Instance) → IfSome (mark_f
 mark-of c ws k j = map-each (λ f. is_of_instance k f ≡ true) (hazard_at k) (hazard j.kind (pin_waves c ws j) (marked_pin j)) (λ found. eq-eqb k k refl)
 
 kind-of : (kind : Kind) (c : Circuit) (ws : Waves) (k : ℕ) (j : Instance) → IfSome (fault_by_kind kind c ws k j) (λ f. is_of_instance k f ≡ true)
-kind-of SetupHold c ws k j = checker-of j.kind _ k _ _ j.limits
-kind-of RiseFall c ws k j = checker-of j.kind _ k _ _ j.limits
-kind-of And c ws k j = mark-of c ws k j
-kind-of Or c ws k j = mark-of c ws k j
-kind-of kind c ws k j = tt
+kind-of kind c ws k j = by (checks_points kind) (may_be_marked kind)
+  where
+    by : (points markable : Bool) → IfSome (fault_by points markable c ws k j) (λ f. is_of_instance k f ≡ true)
+    by true markable = checker-of j.kind _ k _ _ j.limits
+    by false true = mark-of c ws k j
+    by false false = tt
 
 instance-of : (c : Circuit) (ws : Waves) (k : ℕ) → IfSome (instance_fault c ws k) (λ f. is_of_instance k f ≡ true)
 unfolding instance_fault

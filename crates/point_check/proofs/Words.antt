@@ -8,12 +8,12 @@ use Rattle.std.proofs.lemmas.List.Sums.{get_or-le-sum_by, sum_by_more_le, positi
 use Rattle.std.proofs.lemmas.Option.{slice_get_within, get_or_from_slice_get}
 use Rattle.scald_base.specs.declared.assertion.AssertSpec.{AssertSpec}
 use Rattle.scald_base.specs.declared.assertion.AssertSpec.TheVariants.{None as Unasserted, Precision, Clock, Stable}
-use Rattle.flat_circuit.specs.declared.kind.Kind.{Kind}
-use Rattle.flat_circuit.specs.declared.kind.Kind.TheVariants.{And, Or}
+use Rattle.element_kinds.specs.declared.kind.Kind.{Kind}
 use Rattle.flat_circuit.specs.declared.instance.Pin.{Pin}
 use Rattle.flat_circuit.specs.declared.instance.Instance.{Instance}
 use Rattle.flat_circuit.specs.declared.net.Net.{Net}
-use Rattle.flat_circuit.specs.Kind.{PinsFit, greatest_marks}
+use Rattle.element_kinds.specs.Kinds.{closes_of, marks_by, greatest_marks}
+use Rattle.flat_circuit.specs.Kind.{PinsFit}
 use Rattle.flat_circuit.specs.Builder.{is_asserted}
 use Rattle.fixpoint_engine.specs.Value.{marked_pin}
 use Rattle.point_check.specs.Assertion.{is_held}
@@ -22,9 +22,11 @@ use Rattle.point_check.specs.Break.{HasMark, Asserts}
 -- ---- the marked pin
 
 few_of : (kind : Kind) → greatest_marks kind ≤ 1
-few_of And = omega arith
-few_of Or = omega arith
-few_of kind = omega arith
+few_of kind = by (closes_of kind)
+  where
+    by : (closes : Option Bool) → marks_by closes ≤ 1
+    by None = omega arith
+    by (Some bit) = omega arith
 
 -- no instance has two marked pins
 pub few_marks : (j : Instance) → PinsFit j.kind j.pins → count_by (λ (p : Pin). p.hold) j.pins ≤ 1

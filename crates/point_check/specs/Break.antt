@@ -1,6 +1,6 @@
 -- Constraints of a run that are broken, at ticks of the run. The one wave that is spoken of is the
 -- wide wave of an assertion, and no word here is one of those that say which faults checks find.
-use Rattle.std.specs.Prelude.{◌≡◌, ◌≢◌, ℕ, ◌+◌, ◌-◌, ◌%◌, ◌<◌, ◌≤◌, Bool, true, false, length, slice_get, Some, ⊤}
+use Rattle.std.specs.Prelude.{◌≡◌, ◌≢◌, ℕ, ◌+◌, ◌-◌, ◌%◌, ◌<◌, ◌≤◌, Bool, true, false, length, slice_get, Option, Some, None, ⊤}
 use Rattle.scald_base.specs.Time.{Header, period}
 use Rattle.scald_base.specs.Signal.{Signal}
 use Rattle.scald_base.specs.declared.assertion.AssertSpec.{AssertSpec}
@@ -9,8 +9,12 @@ use Rattle.step_values.specs.declared.value.Value.{Value}
 use Rattle.step_values.specs.Steps.{has}
 use Rattle.step_values.specs.Cell.{values}
 use Rattle.skew_algebra.specs.Wave.{cell_at}
-use Rattle.flat_circuit.specs.declared.kind.Kind.{Kind}
-use Rattle.flat_circuit.specs.declared.kind.Kind.TheVariants.{Buf, And, Or, Xor, Mux2, Mux4, Mux8, Chg, Reg, RegRs, Latch, LatchRs, SetupHold, RiseFall, MinPulse}
+use Rattle.element_kinds.specs.declared.kind.Kind.{Kind}
+use Rattle.element_kinds.specs.declared.form.Check.{Check}
+use Rattle.element_kinds.specs.declared.form.Check.TheVariants.{SetupHold as AboutRise, RiseFall as RiseToFall, MinPulse as Widths}
+use Rattle.element_kinds.specs.declared.form.Form.{Form}
+use Rattle.element_kinds.specs.declared.form.Form.TheVariants.{Gate, Change, Register, Latch as Enabled, Checker}
+use Rattle.element_kinds.specs.Kinds.{form_of, closes_of}
 use Rattle.flat_circuit.specs.declared.instance.Pin.{Pin}
 use Rattle.flat_circuit.specs.declared.instance.Instance.{Instance}
 use Rattle.flat_circuit.specs.declared.net.Net.{Net}
@@ -99,24 +103,27 @@ pub record BreaksMark (run : Run) (j : Instance) (choice : Choice) (closed : Boo
   pub tick : ℕ
   pub at : IsMarkBreak run j choice closed start marked pin tick
 
--- Those of this crate, by kind; a pulse's width is none of them. Beside a 0 the other pins of an
--- AND do not matter, and beside a 1 those of an OR.
+-- Those of this crate, by what a checker checks; a pulse's width is none of them.
+abbrev pub BreaksCheck : Check → Run → Instance → Choice → ℕ → Type 0
+BreaksCheck AboutRise run j choice start = BreaksSetupHold run j choice start
+BreaksCheck RiseToFall run j choice start = BreaksRiseFall run j choice start
+BreaksCheck Widths run j choice start = ⊥
+
+-- Beside the bit that settles the output the other pins do not matter: beside a 0 those of an AND,
+-- and beside a 1 those of an OR.
+abbrev pub BreaksClosed : Option Bool → Run → Instance → Choice → ℕ → Type 0
+BreaksClosed None run j choice start = ⊥
+BreaksClosed (Some closed) run j choice start = BreaksMark run j choice closed start
+
+abbrev pub BreaksForm : Form → Option Bool → Run → Instance → Choice → ℕ → Type 0
+BreaksForm Gate closes run j choice start = BreaksClosed closes run j choice start
+BreaksForm Change closes run j choice start = ⊥
+BreaksForm (Register forced) closes run j choice start = ⊥
+BreaksForm (Enabled forced) closes run j choice start = ⊥
+BreaksForm (Checker check) closes run j choice start = BreaksCheck check run j choice start
+
 abbrev pub BreaksKind : Kind → Run → Instance → Choice → ℕ → Type 0
-BreaksKind Buf run j choice start = ⊥
-BreaksKind And run j choice start = BreaksMark run j choice false start
-BreaksKind Or run j choice start = BreaksMark run j choice true start
-BreaksKind Xor run j choice start = ⊥
-BreaksKind Mux2 run j choice start = ⊥
-BreaksKind Mux4 run j choice start = ⊥
-BreaksKind Mux8 run j choice start = ⊥
-BreaksKind Chg run j choice start = ⊥
-BreaksKind Reg run j choice start = ⊥
-BreaksKind RegRs run j choice start = ⊥
-BreaksKind Latch run j choice start = ⊥
-BreaksKind LatchRs run j choice start = ⊥
-BreaksKind SetupHold run j choice start = BreaksSetupHold run j choice start
-BreaksKind RiseFall run j choice start = BreaksRiseFall run j choice start
-BreaksKind MinPulse run j choice start = ⊥
+BreaksKind kind run j choice start = BreaksForm (form_of kind) (closes_of kind) run j choice start
 
 -- the constraint of instance k is broken, at ticks from a given one on
 pub record BreaksInstance (c : Circuit) (run : Run) (k start : ℕ) : Type 0 where

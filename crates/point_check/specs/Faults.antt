@@ -3,8 +3,8 @@ use Rattle.std.specs.Prelude.{◌≡◌, ℕ, ◌==◌, Bool, true, false, List,
 use Rattle.std.specs.List.{range_with_len}
 use Rattle.std.specs.Option.{option_map}
 use Rattle.scald_base.specs.Time.{period}
-use Rattle.flat_circuit.specs.declared.kind.Kind.{Kind}
-use Rattle.flat_circuit.specs.declared.kind.Kind.TheVariants.{Buf, And, Or, Xor, Mux2, Mux4, Mux8, Chg, Reg, RegRs, Latch, LatchRs, SetupHold, RiseFall, MinPulse}
+use Rattle.element_kinds.specs.declared.kind.Kind.{Kind}
+use Rattle.element_kinds.specs.Kinds.{checks_points, may_be_marked}
 use Rattle.flat_circuit.specs.declared.instance.Instance.{Instance}
 use Rattle.flat_circuit.specs.declared.net.Net.{Net}
 use Rattle.flat_circuit.specs.declared.fault.Fault.{Fault}
@@ -18,25 +18,7 @@ use Rattle.point_check.specs.Assertion.{is_held, assertion_fault}
 
 -- ---- instances
 
--- the kinds of checkers that hold an input against the edges of a clock
-abbrev pub checks_points : Kind → Bool
-checks_points Buf = false
-checks_points And = false
-checks_points Or = false
-checks_points Xor = false
-checks_points Mux2 = false
-checks_points Mux4 = false
-checks_points Mux8 = false
-checks_points Chg = false
-checks_points Reg = false
-checks_points RegRs = false
-checks_points Latch = false
-checks_points LatchRs = false
-checks_points SetupHold = true
-checks_points RiseFall = true
-checks_points MinPulse = false
-
--- there is an instance of one of these kinds
+-- there is an instance that is a checker which holds an input against the edges of a clock
 abbrev pub IsPointChecker : Option Instance → Type 0
 IsPointChecker None = ⊥
 IsPointChecker (Some j) = checks_points j.kind ≡ true
@@ -60,22 +42,14 @@ hazard_at k found = Hazard k found.0 found.1
 abbrev pub mark_fault : Circuit → Waves → ℕ → Instance → Option Fault
 mark_fault c ws k j = option_map (hazard_at k) (hazard j.kind (pin_waves c ws j) (marked_pin j))
 
+-- that of a checker of points, or else that of a kind of which a pin may be marked
+abbrev pub fault_by : Bool → Bool → Circuit → Waves → ℕ → Instance → Option Fault
+fault_by true markable c ws k j = limited_fault c ws k j j.limits
+fault_by false true c ws k j = mark_fault c ws k j
+fault_by false false c ws k j = None
+
 abbrev pub fault_by_kind : Kind → Circuit → Waves → ℕ → Instance → Option Fault
-fault_by_kind Buf c ws k j = None
-fault_by_kind And c ws k j = mark_fault c ws k j
-fault_by_kind Or c ws k j = mark_fault c ws k j
-fault_by_kind Xor c ws k j = None
-fault_by_kind Mux2 c ws k j = None
-fault_by_kind Mux4 c ws k j = None
-fault_by_kind Mux8 c ws k j = None
-fault_by_kind Chg c ws k j = None
-fault_by_kind Reg c ws k j = None
-fault_by_kind RegRs c ws k j = None
-fault_by_kind Latch c ws k j = None
-fault_by_kind LatchRs c ws k j = None
-fault_by_kind SetupHold c ws k j = limited_fault c ws k j j.limits
-fault_by_kind RiseFall c ws k j = limited_fault c ws k j j.limits
-fault_by_kind MinPulse c ws k j = None
+fault_by_kind kind c ws k j = fault_by (checks_points kind) (may_be_marked kind) c ws k j
 
 abbrev pub fault_of : Circuit → Waves → ℕ → Option Instance → Option Fault
 fault_of c ws k None = None

@@ -4,8 +4,10 @@ use Rattle.step_values.specs.declared.value.Value.{Value}
 use Rattle.step_values.specs.Steps.{has}
 use Rattle.step_values.specs.Cell.{values}
 use Rattle.skew_algebra.specs.Wave.{Wave, fold}
-use Rattle.flat_circuit.specs.declared.kind.Kind.{Kind}
-use Rattle.flat_circuit.specs.declared.kind.Kind.TheVariants.{Buf, And, Or, Xor, Mux2, Mux4, Mux8, Chg, Reg, RegRs, Latch, LatchRs, SetupHold, RiseFall, MinPulse}
+use Rattle.element_kinds.specs.declared.kind.Kind.{Kind}
+use Rattle.element_kinds.specs.declared.form.Check.{Check}
+use Rattle.element_kinds.specs.declared.form.Check.TheVariants.{SetupHold as AboutRise, RiseFall as RiseToFall, MinPulse as Widths}
+use Rattle.element_kinds.specs.Kinds.{check_of}
 use Rattle.flat_circuit.specs.declared.fault.Fault.{Fault}
 use Rattle.gate_eval.specs.Hold.{first_some}
 use Rattle.point_check.specs.declared.window.Window.{Window}
@@ -52,23 +54,20 @@ high_window_to p clock limits t None = all_round p limits (falls_somewhere p clo
 abbrev pub high_window : ℕ → Folds → ℕ × ℕ → ℕ → Option Window
 high_window p clock limits t = high_window_to p clock limits t (first_low p clock t)
 
+-- the window of a rise at slot t, by what a checker with these limits checks
+abbrev pub window_by : Check → ℕ → Folds → ℕ × ℕ → ℕ → Option Window
+window_by AboutRise p clock limits t = Some (about limits)
+window_by RiseToFall p clock limits t = high_window p clock limits t
+window_by Widths p clock limits t = None
+
+-- that of what is checked, if anything is
+abbrev pub window_if : Option Check → ℕ → Folds → ℕ × ℕ → ℕ → Option Window
+window_if None p clock limits t = None
+window_if (Some check) p clock limits t = window_by check p clock limits t
+
 -- the window of a rise at slot t, for a checker of each kind with these limits
 abbrev pub window_of : Kind → ℕ → Folds → ℕ × ℕ → ℕ → Option Window
-window_of Buf p clock limits t = None
-window_of And p clock limits t = None
-window_of Or p clock limits t = None
-window_of Xor p clock limits t = None
-window_of Mux2 p clock limits t = None
-window_of Mux4 p clock limits t = None
-window_of Mux8 p clock limits t = None
-window_of Chg p clock limits t = None
-window_of Reg p clock limits t = None
-window_of RegRs p clock limits t = None
-window_of Latch p clock limits t = None
-window_of LatchRs p clock limits t = None
-window_of SetupHold p clock limits t = Some (about limits)
-window_of RiseFall p clock limits t = high_window p clock limits t
-window_of MinPulse p clock limits t = None
+window_of kind p clock limits t = window_if (check_of kind) p clock limits t
 
 -- ---- the fault
 

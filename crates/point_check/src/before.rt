@@ -6,14 +6,15 @@ ghost use Rattle.flat_circuit.specs.Instances.{PinExists};
 ghost use Rattle.fixpoint_engine.specs.Value.{marked_pin as marked};
 ghost use Rattle.fixpoint_engine.specs.SameWaves.{IsSameAt};
 ghost use Rattle.fixpoint_engine.specs.Settled.{FitWaves, waves_of};
-ghost use Rattle.point_check.specs.Faults.{checks_points, instance_fault as fault_of_instance, net_fault as fault_of_net};
+ghost use Rattle.element_kinds.specs.Kinds.{checks_points};
+ghost use Rattle.point_check.specs.Faults.{instance_fault as fault_of_instance, net_fault as fault_of_net};
 ghost use Rattle.point_check.specs.Known.{AreChecked};
 
 use crate::assertion::is_held;
 use crate::known::PointFaults;
 use crate::mark::marked_pin;
 use fixpoint_engine::{Waves, has_one_wave, has_one_wave_at};
-use flat_circuit::{Circuit, Fault, Instance, Kind, Pin};
+use flat_circuit::{Circuit, Fault, Instance, Pin};
 use step_values::Value;
 use wave_core::CyclicWave;
 
@@ -49,8 +50,7 @@ fn have_one_wave_at<W: CyclicWave<Item = Value>>(
 fn is_watched(instance: &Instance) -> bool
     ensures { result ≡ (checks_points instance.now.kind || is_some (marked instance.now)) }
 {
-    let checks = matches!(instance.kind, Kind::SetupHold | Kind::RiseFall);
-    checks || marked_pin(instance).is_some()
+    instance.kind.checks_points() || marked_pin(instance).is_some()
 }
 
 /// The fault that the instance of a number had before, where it is watched and has the same waves at

@@ -17,7 +17,7 @@ use crate::folds::Folds;
 use crate::known::PointFaults;
 use crate::mark::mark_fault;
 use fixpoint_engine::Waves;
-use flat_circuit::{Circuit, Fault, Faults, Instance, Kind};
+use flat_circuit::{Circuit, Fault, Faults, Instance};
 use scald_base::NoMemory;
 use std::alloc::Global;
 use step_values::Value;
@@ -37,12 +37,12 @@ fn fault_by_kind<W: CyclicWave<Item = Value>>(
     ensures { IfOk result (λ found.
         found ≡ fault_by_kind instance.now.kind c.now (waves_of waves.now) number instance.now) }
 {
-    match instance.kind {
-        Kind::SetupHold | Kind::RiseFall => {
-            limited_fault(alloc, folds, c, waves, number, instance, instance.limits)
-        }
-        Kind::And | Kind::Or => mark_fault(alloc, c, waves, number, instance),
-        _ => Ok(None),
+    if instance.kind.checks_points() {
+        limited_fault(alloc, folds, c, waves, number, instance, instance.limits)
+    } else if instance.kind.may_be_marked() {
+        mark_fault(alloc, c, waves, number, instance)
+    } else {
+        Ok(None)
     }
 }
 

@@ -6,7 +6,8 @@ ghost use Rattle.flat_circuit.specs.Instances.{InstanceFits, PinExists};
 ghost use Rattle.fixpoint_engine.specs.Settled.{FitWaves, waves_of};
 ghost use Rattle.fixpoint_engine.specs.Value.{pin_wave as wave_shown};
 ghost use Rattle.point_check.specs.Point.{checker_fault as fault_of_checker};
-ghost use Rattle.point_check.specs.Faults.{IsPointChecker, checks_points, limited_fault as fault_with, limited_fault_at};
+ghost use Rattle.element_kinds.specs.Kinds.{checks_points};
+ghost use Rattle.point_check.specs.Faults.{IsPointChecker, limited_fault as fault_with, limited_fault_at};
 
 use crate::edges::first_fault;
 use crate::folds::Folds;

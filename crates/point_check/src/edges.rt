@@ -3,11 +3,12 @@
 ghost use Rattle.std.specs.Prelude.{◌≡◌, ◌+◌, ◌*◌, ◌^◌, ◌<◌, ◌≤◌, IfSome, length};
 ghost use Rattle.fixpoint_engine.specs.Pins.{read};
 ghost use Rattle.point_check.specs.Window.{kind_at as kind_of_place, slot_at as slot_of_place, window_fault as fault_of_window};
-ghost use Rattle.point_check.specs.Point.{edge_fault as fault_of_edge, falls_somewhere as falls, first_fault as fault_of_edges, first_low as low_after, high_window as window_of_rise, last_fall as fall_before, window_of as window_by_kind, all_round as window_all_round};
+ghost use Rattle.point_check.specs.Point.{edge_fault as fault_of_edge, falls_somewhere as falls, first_fault as fault_of_edges, first_low as low_after, high_window as window_of_rise, last_fall as fall_before, window_by as window_by_check, window_of as window_by_kind, all_round as window_all_round};
 ghost use Rattle.point_check.specs.Folds.{WindowFits};
 ghost use Rattle.point_check.specs.Next.{IsNextEdge};
 
 use crate::window::Window;
+use element_kinds::Check;
 use flat_circuit::{Fault, Kind, PointKind};
 use step_values::{Step, Value};
 use wave_core::{Cell, CyclicWave, first_where};
@@ -148,6 +149,29 @@ fn high_window<W: CyclicWave<Item = Value>>(
     }
 }
 
+/// The window of an edge, by what is checked.
+fn window_by<W: CyclicWave<Item = Value>>(
+    check: Check,
+    clock: &W,
+    limits: (u16, u16),
+    edge: u16,
+) -> Option<Window>
+    requires edge { edge < length (W.cells clock.now) }
+    requires limits { limits.0 + limits.1 ≤ length (W.cells clock.now) }
+    ensures window { result ≡ window_by_check check (length (W.cells clock.now)) (read (W.cells clock.now)) limits edge }
+    ensures fits { IfSome result (WindowFits (length (W.cells clock.now))) }
+{
+    match check {
+        Check::SetupHold => Some(Window {
+            setup: limits.0,
+            high: 0,
+            hold: limits.1,
+        }),
+        Check::RiseFall => high_window(clock, limits, edge),
+        Check::MinPulse => None,
+    }
+}
+
 /// The window of an edge, for a checker of each kind.
 fn window_of<W: CyclicWave<Item = Value>>(
     kind: Kind,
@@ -160,14 +184,9 @@ fn window_of<W: CyclicWave<Item = Value>>(
     ensures window { result ≡ window_by_kind kind (length (W.cells clock.now)) (read (W.cells clock.now)) limits edge }
     ensures fits { IfSome result (WindowFits (length (W.cells clock.now))) }
 {
-    match kind {
-        Kind::SetupHold => Some(Window {
-            setup: limits.0,
-            high: 0,
-            hold: limits.1,
-        }),
-        Kind::RiseFall => high_window(clock, limits, edge),
-        _ => None,
+    match kind.check() {
+        None => None,
+        Some(check) => window_by(check, clock, limits, edge),
     }
 }
 

@@ -1,8 +1,8 @@
 -- What is the same where waves are.
 use Rattle.std.proofs.Common.{◌≡◌, ℕ, ◌<◌, true, false, List, [], ◌∷◌, ◌++◌, length, map, get_or, refl, sym, ap, ◌∙◌, arith, slice_get, Some}
 use Rattle.scald_base.specs.Time.{period}
-use Rattle.flat_circuit.specs.declared.kind.Kind.{Kind}
-use Rattle.flat_circuit.specs.declared.kind.Kind.TheVariants.{MinPulse}
+use Rattle.element_kinds.specs.declared.kind.Kind.{Kind}
+use Rattle.element_kinds.specs.declared.kind.Kind.TheVariants.{MinPulse}
 use Rattle.flat_circuit.specs.declared.instance.Pin.{Pin}
 use Rattle.flat_circuit.specs.declared.instance.Instance.{Instance}
 use Rattle.flat_circuit.specs.Kind.{PinsFit}
@@ -11,7 +11,8 @@ use Rattle.gate_eval.specs.Instance.{wave_of_pin}
 use Rattle.fixpoint_engine.specs.Value.{Waves, pin_wave}
 use Rattle.fixpoint_engine.specs.SameWaves.{IsSameAt}
 use Rattle.fixpoint_engine.proofs.SameWaves.{same-pin}
-use Rattle.pulse_check.specs.Faults.{pin_of, checks_pulses, listed, width_fault, faults_by_kind, faults_of, instance_faults}
+use Rattle.element_kinds.specs.Kinds.{checks_pulses}
+use Rattle.pulse_check.specs.Faults.{pin_of, listed, width_fault, faults_by_kind, faults_of, instance_faults}
 use Rattle.pulse_check.proofs.Gathered.{a-pin}
 
 -- ---- a checker, by the wave at its pin

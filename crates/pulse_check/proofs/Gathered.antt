@@ -1,5 +1,5 @@
 -- A checker's faults, and those of all checkers, as code gathers them.
-use Rattle.std.proofs.Common.{◌≡◌, ◌≢◌, ℕ, ◌+◌, ◌<◌, Bool, true, List, [], ◌++◌, length, append-nil, zero-add, get_or, refl, sym, ap, subst, ◌∙◌, slice_get, Option, Some, None}
+use Rattle.std.proofs.Common.{◌≡◌, ℕ, ◌+◌, ◌<◌, Bool, true, false, List, [], ◌++◌, length, append-nil, zero-add, get_or, sym, ap, subst, ◌∙◌, slice_get, Option, Some, None}
 use Rattle.std.specs.List.{flat_map, range_with_len}
 use Rattle.std.specs.Option.{option_map}
 use Rattle.std.proofs.lemmas.List.{flat_map_more}
@@ -8,8 +8,8 @@ use Rattle.scald_base.specs.Time.{period}
 use Rattle.vector_names.proofs.Ranges.{range-more}
 use Rattle.step_values.specs.declared.value.Value.{Value}
 use Rattle.skew_algebra.specs.Wave.{Wave}
-use Rattle.flat_circuit.specs.declared.kind.Kind.{Kind}
-use Rattle.flat_circuit.specs.declared.kind.Kind.TheVariants.{MinPulse}
+use Rattle.element_kinds.specs.declared.kind.Kind.{Kind}
+use Rattle.element_kinds.specs.declared.kind.Kind.TheVariants.{MinPulse}
 use Rattle.flat_circuit.specs.declared.instance.Pin.{Pin}
 use Rattle.flat_circuit.specs.declared.instance.Instance.{Instance}
 use Rattle.flat_circuit.specs.declared.fault.Fault.{Fault}
@@ -21,7 +21,8 @@ use Rattle.fixpoint_engine.specs.Value.{Waves, pin_wave}
 use Rattle.fixpoint_engine.specs.Pins.{read}
 use Rattle.fixpoint_engine.proofs.Fits.{AreLong, long-pin}
 use Rattle.pulse_check.specs.Pulse.{first_narrow}
-use Rattle.pulse_check.specs.Faults.{fault_at, width_fault, checks_pulses, faults_by_kind, faults_of, instance_faults}
+use Rattle.element_kinds.specs.Kinds.{checks_pulses}
+use Rattle.pulse_check.specs.Faults.{fault_at, width_fault, faults_by, faults_by_kind, faults_of, instance_faults}
 
 -- ---- by the wave at a pin
 
@@ -58,11 +59,10 @@ pub none-more : (c : Circuit) (ws : Waves) (k : ℕ) (faults : List Fault) → N
 unfolding instance_faults
 none-more c ws k faults at = sym (append-nil faults) ∙ ap (λ (o : Option Instance). faults ++ faults_of c ws k o) at
 
-other-kind : (kind : Kind) (c : Circuit) (ws : Waves) (k : ℕ) (j : Instance) → kind ≢ MinPulse → [] ≡ faults_by_kind kind c ws k j
-other-kind MinPulse c ws k j not = absurd (not refl)
-other-kind kind c ws k j not = refl
+other-kind : (kind : Kind) (c : Circuit) (ws : Waves) (k : ℕ) (j : Instance) → checks_pulses kind ≡ false → [] ≡ faults_by_kind kind c ws k j
+other-kind kind c ws k j none = sym (ap (λ b. faults_by b c ws k j) none)
 
-pub other-more : (c : Circuit) (ws : Waves) (k : ℕ) (j : Instance) (faults : List Fault) → Some j ≡ slice_get c.instances k → j.kind ≢ MinPulse → faults ≡ faults ++ instance_faults c ws k
+pub other-more : (c : Circuit) (ws : Waves) (k : ℕ) (j : Instance) (faults : List Fault) → Some j ≡ slice_get c.instances k → checks_pulses j.kind ≡ false → faults ≡ faults ++ instance_faults c ws k
 other-more c ws k j faults at not =
     sym (append-nil faults) ∙ ap (λ (l : List Fault). faults ++ l) (other-kind j.kind c ws k j not ∙ instance-kind c ws k j at)
 

@@ -8,7 +8,7 @@ use Rattle.std.proofs.lemmas.List.FromFn.{length-range_with_len, get_or-range_wi
 use Rattle.scald_base.specs.Time.{period}
 use Rattle.skew_algebra.specs.Wave.{Wave}
 use Rattle.step_values.specs.declared.value.Value.{Value}
-use Rattle.flat_circuit.specs.declared.kind.Kind.TheVariants.{MinPulse}
+use Rattle.element_kinds.specs.declared.kind.Kind.TheVariants.{MinPulse}
 use Rattle.flat_circuit.specs.declared.instance.Instance.{Instance}
 use Rattle.flat_circuit.specs.declared.fault.Fault.{Fault}
 use Rattle.flat_circuit.specs.Circuit.{Circuit}

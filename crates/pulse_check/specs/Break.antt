@@ -2,8 +2,8 @@
 -- no wave.
 use Rattle.std.specs.Prelude.{◌≡◌, ℕ, ◌+◌, ◌-◌, ◌<◌, ◌≤◌, Bool, true, false, not, slice_get, Some}
 use Rattle.scald_base.specs.Signal.{Signal}
-use Rattle.flat_circuit.specs.declared.kind.Kind.{Kind}
-use Rattle.flat_circuit.specs.declared.kind.Kind.TheVariants.{Buf, And, Or, Xor, Mux2, Mux4, Mux8, Chg, Reg, RegRs, Latch, LatchRs, SetupHold, RiseFall, MinPulse}
+use Rattle.element_kinds.specs.declared.kind.Kind.{Kind}
+use Rattle.element_kinds.specs.Kinds.{checks_pulses}
 use Rattle.flat_circuit.specs.declared.instance.Instance.{Instance}
 use Rattle.flat_circuit.specs.Circuit.{Circuit}
 use Rattle.flat_circuit.specs.Run.{Run, Choice}
@@ -36,22 +36,13 @@ pub record BreaksWidth (run : Run) (j : Instance) (choice : Choice) (level : Boo
   pub end : ℕ
   pub at : IsWidthBreak run j choice level from start end
 
+-- by whether its kind measures pulses
+abbrev pub BreaksMeasured : Bool → Run → Instance → Choice → Bool → ℕ → Type 0
+BreaksMeasured true run j choice level from = BreaksWidth run j choice level from
+BreaksMeasured false run j choice level from = ⊥
+
 abbrev pub BreaksKind : Kind → Run → Instance → Choice → Bool → ℕ → Type 0
-BreaksKind Buf run j choice level from = ⊥
-BreaksKind And run j choice level from = ⊥
-BreaksKind Or run j choice level from = ⊥
-BreaksKind Xor run j choice level from = ⊥
-BreaksKind Mux2 run j choice level from = ⊥
-BreaksKind Mux4 run j choice level from = ⊥
-BreaksKind Mux8 run j choice level from = ⊥
-BreaksKind Chg run j choice level from = ⊥
-BreaksKind Reg run j choice level from = ⊥
-BreaksKind RegRs run j choice level from = ⊥
-BreaksKind Latch run j choice level from = ⊥
-BreaksKind LatchRs run j choice level from = ⊥
-BreaksKind SetupHold run j choice level from = ⊥
-BreaksKind RiseFall run j choice level from = ⊥
-BreaksKind MinPulse run j choice level from = BreaksWidth run j choice level from
+BreaksKind kind run j choice level from = BreaksMeasured (checks_pulses kind) run j choice level from
 
 -- instance k has a pulse at the level that is too narrow, at ticks from a given one on
 pub record BreaksPulse (c : Circuit) (run : Run) (k : ℕ) (level : Bool) (from : ℕ) : Type 0 where

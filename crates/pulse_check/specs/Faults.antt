@@ -5,8 +5,8 @@ use Rattle.std.specs.Option.{option_map}
 use Rattle.scald_base.specs.Time.{period}
 use Rattle.skew_algebra.specs.Wave.{Wave}
 use Rattle.step_values.specs.declared.value.Value.{Value}
-use Rattle.flat_circuit.specs.declared.kind.Kind.{Kind}
-use Rattle.flat_circuit.specs.declared.kind.Kind.TheVariants.{Buf, And, Or, Xor, Mux2, Mux4, Mux8, Chg, Reg, RegRs, Latch, LatchRs, SetupHold, RiseFall, MinPulse}
+use Rattle.element_kinds.specs.declared.kind.Kind.{Kind}
+use Rattle.element_kinds.specs.Kinds.{checks_pulses}
 use Rattle.flat_circuit.specs.declared.instance.Instance.{Instance}
 use Rattle.flat_circuit.specs.declared.fault.Fault.{Fault}
 use Rattle.flat_circuit.specs.declared.fault.Fault.TheVariants.{Width}
@@ -26,25 +26,7 @@ width_fault period k wave level limit = option_map (fault_at k level) (first_nar
 abbrev pub pin_of : Circuit → Waves → Instance → Wave Value
 pin_of c ws j = wave_of_pin (pin_waves c ws j) 0
 
--- the kind of checkers that measure pulses
-abbrev pub checks_pulses : Kind → Bool
-checks_pulses Buf = false
-checks_pulses And = false
-checks_pulses Or = false
-checks_pulses Xor = false
-checks_pulses Mux2 = false
-checks_pulses Mux4 = false
-checks_pulses Mux8 = false
-checks_pulses Chg = false
-checks_pulses Reg = false
-checks_pulses RegRs = false
-checks_pulses Latch = false
-checks_pulses LatchRs = false
-checks_pulses SetupHold = false
-checks_pulses RiseFall = false
-checks_pulses MinPulse = true
-
--- there is an instance of this kind
+-- there is an instance that is a checker which measures pulses
 abbrev pub IsPulseChecker : Option Instance → Type 0
 IsPulseChecker None = ⊥
 IsPulseChecker (Some j) = checks_pulses j.kind ≡ true
@@ -64,23 +46,13 @@ abbrev pub listed : Option Fault → List Fault
 listed None = []
 listed (Some fault) = fault ∷ []
 
--- the limit of high pulses is the first of a checker's two
+-- Those of a checker that measures pulses. The limit of high pulses is the first of its two.
+abbrev pub faults_by : Bool → Circuit → Waves → ℕ → Instance → List Fault
+faults_by true c ws k j = listed (limited_fault c ws k j true j.limits.0) ++ listed (limited_fault c ws k j false j.limits.1)
+faults_by false c ws k j = []
+
 abbrev pub faults_by_kind : Kind → Circuit → Waves → ℕ → Instance → List Fault
-faults_by_kind Buf c ws k j = []
-faults_by_kind And c ws k j = []
-faults_by_kind Or c ws k j = []
-faults_by_kind Xor c ws k j = []
-faults_by_kind Mux2 c ws k j = []
-faults_by_kind Mux4 c ws k j = []
-faults_by_kind Mux8 c ws k j = []
-faults_by_kind Chg c ws k j = []
-faults_by_kind Reg c ws k j = []
-faults_by_kind RegRs c ws k j = []
-faults_by_kind Latch c ws k j = []
-faults_by_kind LatchRs c ws k j = []
-faults_by_kind SetupHold c ws k j = []
-faults_by_kind RiseFall c ws k j = []
-faults_by_kind MinPulse c ws k j = listed (limited_fault c ws k j true j.limits.0) ++ listed (limited_fault c ws k j false j.limits.1)
+faults_by_kind kind c ws k j = faults_by (checks_pulses kind) c ws k j
 
 abbrev pub faults_of : Circuit → Waves → ℕ → Option Instance → List Fault
 faults_of c ws k None = []

@@ -3,12 +3,13 @@
 ghost use Rattle.std.specs.Prelude.{◌≡◌, IsTrue, IfSome, length, true};
 ghost use Rattle.flat_circuit.specs.Instances.{InstanceFits};
 ghost use Rattle.fixpoint_engine.specs.Settled.{FitWaves, waves_of};
-ghost use Rattle.pulse_check.specs.Faults.{checks_pulses, instance_faults, pin_of};
+ghost use Rattle.element_kinds.specs.Kinds.{checks_pulses};
+ghost use Rattle.pulse_check.specs.Faults.{instance_faults, pin_of};
 ghost use Rattle.pulse_check.specs.Known.{AreChecked};
 
 use crate::known::PulseFaults;
 use fixpoint_engine::{Waves, has_one_wave_at};
-use flat_circuit::{Circuit, Faults, Instance, Kind};
+use flat_circuit::{Circuit, Faults, Instance};
 use step_values::Value;
 use wave_core::CyclicWave;
 
@@ -51,14 +52,13 @@ pub fn faults_before<'a, W: CyclicWave<Item = Value>>(
 {
     c.known();
     let instance = c.instance(number)?;
-    match instance.kind {
-        Kind::MinPulse => {
-            if !is_checked_as_before(c, before.waves, waves, instance) {
-                return None;
-            }
-            let known = before.known.as_slice();
-            Some(&known[number as usize])
+    if instance.kind.checks_pulses() {
+        if !is_checked_as_before(c, before.waves, waves, instance) {
+            return None;
         }
-        _ => None,
+        let known = before.known.as_slice();
+        Some(&known[number as usize])
+    } else {
+        None
     }
 }

@@ -11,7 +11,7 @@ use crate::before::{Before, faults_before};
 use crate::checker::add_checker_faults;
 use crate::known::PulseFaults;
 use fixpoint_engine::Waves;
-use flat_circuit::{Circuit, Faults, Kind};
+use flat_circuit::{Circuit, Faults};
 use scald_base::NoMemory;
 use std::alloc::Global;
 use step_values::Value;
@@ -50,10 +50,13 @@ pub fn add_faults<W: CyclicWave<Item = Value>>(
     c.known();
     match c.instance(number) {
         None => Ok(()),
-        Some(instance) => match instance.kind {
-            Kind::MinPulse => add_checker_faults(faults, alloc, c, waves, number, instance),
-            _ => Ok(()),
-        },
+        Some(instance) => {
+            if instance.kind.checks_pulses() {
+                add_checker_faults(faults, alloc, c, waves, number, instance)
+            } else {
+                Ok(())
+            }
+        }
     }
 }
 

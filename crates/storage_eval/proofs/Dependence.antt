@@ -6,7 +6,7 @@ use Rattle.step_values.specs.Cell.{values}
 use Rattle.skew_algebra.specs.Wave.{Wave, moved}
 use Rattle.skew_algebra.proofs.Normal.{length-normal}
 use Rattle.skew_algebra.proofs.Moves.{length-later}
-use Rattle.flat_circuit.specs.declared.kind.Kind.{Kind}
+use Rattle.element_kinds.specs.declared.kind.Kind.{Kind}
 use Rattle.gate_eval.specs.Meeting.{meeting, period_of}
 use Rattle.gate_eval.proofs.Meets.{length-meeting}
 use Rattle.storage_eval.specs.Storage.{listening, storage_value}

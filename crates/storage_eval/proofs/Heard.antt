@@ -7,9 +7,10 @@ use Rattle.step_values.specs.declared.value.Value.{Value}
 use Rattle.step_values.specs.Cell.{values}
 use Rattle.skew_algebra.specs.Wave.{Wave}
 use Rattle.skew_algebra.specs.Permits.{Permits}
-use Rattle.flat_circuit.specs.declared.kind.Kind.{Kind}
-use Rattle.flat_circuit.specs.declared.kind.Kind.TheVariants.{Reg, RegRs, Latch, LatchRs}
-use Rattle.flat_circuit.specs.Kind.{listens, pin_counts}
+use Rattle.element_kinds.specs.declared.kind.Kind.{Kind}
+use Rattle.element_kinds.specs.declared.kind.Kind.TheVariants.{Reg, RegRs, Latch, LatchRs}
+use Rattle.element_kinds.specs.Kinds.{listens}
+use Rattle.flat_circuit.specs.Kind.{pin_counts}
 use Rattle.gate_eval.specs.Meeting.{period_of, HaveOnePeriod}
 use Rattle.gate_eval.specs.Permitted.{AllPermit}
 use Rattle.gate_eval.proofs.Fitting.{AllFit}

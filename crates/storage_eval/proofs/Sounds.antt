@@ -8,10 +8,10 @@ use Rattle.step_values.specs.Lawful.{values_lawful}
 use Rattle.skew_algebra.specs.Wave.{Wave}
 use Rattle.skew_algebra.specs.Permits.{Permits}
 use Rattle.skew_algebra.proofs.Moves.{Permits-moved}
-use Rattle.flat_circuit.specs.declared.kind.Kind.{Kind}
-use Rattle.flat_circuit.specs.declared.kind.Kind.TheVariants.{Reg, RegRs, Latch, LatchRs}
+use Rattle.element_kinds.specs.declared.kind.Kind.{Kind}
+use Rattle.element_kinds.specs.declared.kind.Kind.TheVariants.{Reg, RegRs, Latch, LatchRs}
 use Rattle.flat_circuit.specs.Kind.{pin_counts}
-use Rattle.flat_circuit.specs.Equation.{Equation}
+use Rattle.element_kinds.specs.Equation.{Equation}
 use Rattle.flat_circuit.specs.Run.{Within, DelayFits}
 use Rattle.gate_eval.specs.Meeting.{period_of, meeting}
 use Rattle.gate_eval.specs.Permitted.{AllPermit}

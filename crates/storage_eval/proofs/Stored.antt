@@ -7,10 +7,10 @@ use Rattle.step_values.specs.Steps.{has}
 use Rattle.step_values.specs.Cell.{values}
 use Rattle.step_values.specs.Image.{reg_rule, latch_rule, reg_rs_rule, latch_rs_rule, set_reset}
 use Rattle.step_values.proofs.Sound.{reg_of-has, reg_rs_of-has, latch_of-has, latch_rs_of-has}
-use Rattle.flat_circuit.specs.declared.kind.Kind.{Kind}
-use Rattle.flat_circuit.specs.declared.kind.Kind.TheVariants.{Reg, RegRs, Latch, LatchRs}
+use Rattle.element_kinds.specs.declared.kind.Kind.{Kind}
+use Rattle.element_kinds.specs.declared.kind.Kind.TheVariants.{Reg, RegRs, Latch, LatchRs}
 use Rattle.flat_circuit.specs.Kind.{pin_counts}
-use Rattle.flat_circuit.specs.Equation.{Equation, IsForced, nth_signal, registered, latched}
+use Rattle.element_kinds.specs.Equation.{Equation, IsForced, nth_signal, registered, latched}
 use Rattle.gate_eval.specs.Permitted.{AllHave}
 use Rattle.storage_eval.specs.Storage.{listening, storage_value}
 

@@ -4,7 +4,7 @@ use Rattle.scald_base.specs.Time.{Bounds}
 use Rattle.step_values.specs.declared.value.Value.{Value}
 use Rattle.step_values.specs.Cell.{values}
 use Rattle.skew_algebra.specs.Wave.{Wave, moved}
-use Rattle.flat_circuit.specs.declared.kind.Kind.{Kind}
+use Rattle.element_kinds.specs.declared.kind.Kind.{Kind}
 use Rattle.gate_eval.specs.Meeting.{meeting}
 use Rattle.storage_eval.specs.Storage.{listening, storage_value}
 

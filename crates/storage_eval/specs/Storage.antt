@@ -1,29 +1,15 @@
 -- What a register or latch makes of a value for each of its listening pins: the cover of its image.
-use Rattle.std.specs.Prelude.{ℕ, ◌+◌, Bool, true, false, List, [], ◌∷◌, if◌then◌else◌}
+use Rattle.std.specs.Prelude.{ℕ, ◌+◌, Bool, List, [], ◌∷◌, if◌then◌else◌}
 use Rattle.step_values.specs.declared.value.Value.{Value}
 use Rattle.step_values.specs.declared.value.Value.TheVariants.{U}
 use Rattle.step_values.specs.Image.{reg_of, reg_rs_of, latch_of, latch_rs_of}
-use Rattle.flat_circuit.specs.declared.kind.Kind.{Kind}
-use Rattle.flat_circuit.specs.declared.kind.Kind.TheVariants.{Buf, And, Or, Xor, Mux2, Mux4, Mux8, Chg, Reg, RegRs, Latch, LatchRs, SetupHold, RiseFall, MinPulse}
-use Rattle.flat_circuit.specs.Kind.{listens}
+use Rattle.element_kinds.specs.declared.kind.Kind.{Kind}
+use Rattle.element_kinds.specs.declared.kind.Kind.TheVariants.{Reg, RegRs, Latch, LatchRs}
+use Rattle.element_kinds.specs.Kinds.{by_form, keeps_bit, listens}
 
 -- registers and latches
 abbrev pub is_storage : Kind → Bool
-is_storage Buf = false
-is_storage And = false
-is_storage Or = false
-is_storage Xor = false
-is_storage Mux2 = false
-is_storage Mux4 = false
-is_storage Mux8 = false
-is_storage Chg = false
-is_storage Reg = true
-is_storage RegRs = true
-is_storage Latch = true
-is_storage LatchRs = true
-is_storage SetupHold = false
-is_storage RiseFall = false
-is_storage MinPulse = false
+is_storage kind = by_form keeps_bit kind
 
 -- what stands at the listening pins, of what stands at the pins from a place on
 abbrev pub listening_from : {A : Type 0} → Kind → ℕ → List A → List A
@@ -57,14 +43,4 @@ storage_value Reg found = of_clock reg_of found
 storage_value RegRs found = of_three reg_rs_of found
 storage_value Latch found = of_two latch_of found
 storage_value LatchRs found = of_four latch_rs_of found
-storage_value Buf found = U
-storage_value And found = U
-storage_value Or found = U
-storage_value Xor found = U
-storage_value Mux2 found = U
-storage_value Mux4 found = U
-storage_value Mux8 found = U
-storage_value Chg found = U
-storage_value SetupHold found = U
-storage_value RiseFall found = U
-storage_value MinPulse found = U
+storage_value kind found = U

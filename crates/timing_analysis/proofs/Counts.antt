@@ -6,8 +6,8 @@ use Rattle.std.proofs.lemmas.List.{length-map}
 use Rattle.std.proofs.lemmas.List.FromFn.{length-range_with_len}
 use Rattle.std.proofs.lemmas.List.Sorted.{length_permutation}
 use Rattle.flat_circuit.specs.declared.fault.Fault.{Fault}
-use Rattle.flat_circuit.specs.declared.kind.Kind.{Kind}
-use Rattle.flat_circuit.specs.declared.kind.Kind.TheVariants.{MinPulse}
+use Rattle.element_kinds.specs.declared.kind.Kind.{Kind}
+use Rattle.element_kinds.specs.declared.kind.Kind.TheVariants.{MinPulse}
 use Rattle.flat_circuit.specs.declared.instance.Instance.{Instance}
 use Rattle.flat_circuit.specs.Circuit.{Circuit, IsCircuit, net_name, net_names}
 use Rattle.flat_circuit.proofs.Counts.{length-few}

@@ -1,13 +1,13 @@
 use Rattle.std.proofs.Common.{◌≡◌, ◌≢◌, ℕ, List, Option, Some, None, sym, subst, arith}
-use Rattle.std.specs.Option.{option_map}
 use Rattle.std.specs.Str.{bytes_eq}
 use Rattle.std.proofs.lemmas.Result.{err_from_is_err_and}
 use Rattle.scald_base.specs.Time.{Header}
-use Rattle.flat_circuit.specs.declared.kind.Kind.{Kind}
+use Rattle.element_kinds.specs.declared.kind.Kind.{Kind}
+use Rattle.element_kinds.specs.Kinds.{kind_of}
 use Rattle.scald_base.specs.declared.refusal.RefusalKind.TheVariants.{TooDeep, UnknownKind}
 use Rattle.drawing_tree.specs.Tree.{statement_of, statements_of, macro_of, use_of, Macro}
 use Rattle.macro_expander.specs.Terms.{Scope}
-use Rattle.macro_expander.specs.Primitives.{Primitive, primitive_of, primitive_use}
+use Rattle.macro_expander.specs.Primitives.{primitive_use}
 use Rattle.macro_expander.specs.Macros.{macro_of as first_called}
 use Rattle.macro_expander.specs.Flat.{use_act, macro_use}
 use Rattle.macro_expander.specs.Fitting.{StatementFits, MacroFits}
@@ -86,7 +86,7 @@ expand_use-returns-in-Some t c =
     let below = bodies_in l c.args.levels in
     let scope = scope_of (names_in e) c.args.scope.now in
     let u = use_of c.args.used.now in
-    let known = subst (λ (name : List ℕ). Some c.in-Some.kind ≡ option_map (λ (p : Primitive). p.kind) (primitive_of name)) c.as_slice.ensures c.in-Some.ensures in
+    let known = subst (λ (name : List ℕ). Some c.in-Some.kind ≡ kind_of name) c.as_slice.ensures c.in-Some.ensures in
     done_later e e c.primitive_use.new.expansion c.primitive_use.result (primitive_use l.ticks c.in-Some.kind scope u (state_of e)) (use_act l.ticks (macros_in l) below u scope (state_of e)) (grows_refl e)
     (primitive_act l.ticks (macros_in l) below u scope (state_of e) c.in-Some.kind known) c.primitive_use.ensures
 
@@ -112,7 +112,7 @@ expand_use-returns-in-Some-find t c =
     let scope = scope_of (names_in e) c.args.scope.now in
     let u = use_of c.args.used.now in
     let m = macro_of c.in-Some-find.definition.now in
-    let unknown = subst (λ (name : List ℕ). let none : Option Kind = None in none ≡ option_map (λ (p : Primitive). p.kind) (primitive_of name)) c.as_slice.ensures c.in_default.ensures in
+    let unknown = subst (λ (name : List ℕ). let none : Option Kind = None in none ≡ kind_of name) c.as_slice.ensures c.in_default.ensures in
     let first = subst (λ (name : List ℕ). Some m ≡ first_called name (macros_in l)) c.as_slice-2.ensures c.in-Some-find.ensures in
     done_later e e c.expand_macro.new.expansion c.expand_macro.result (macro_use below (Some m) u scope (state_of e)) (use_act l.ticks (macros_in l) below u scope (state_of e)) (grows_refl e)
     (macro_act l.ticks (macros_in l) below u scope (state_of e) (Some m) unknown first) c.expand_macro.ensures
@@ -124,7 +124,7 @@ expand_use-returns-in-None t c =
     let below = bodies_in l c.args.levels in
     let scope = scope_of (names_in e) c.args.scope.now in
     let u = use_of c.args.used.now in
-    let unknown = subst (λ (name : List ℕ). let none : Option Kind = None in none ≡ option_map (λ (p : Primitive). p.kind) (primitive_of name)) c.as_slice.ensures c.in_default.ensures in
+    let unknown = subst (λ (name : List ℕ). let none : Option Kind = None in none ≡ kind_of name) c.as_slice.ensures c.in_default.ensures in
     let nowhere = subst (λ (name : List ℕ). let none : Option Macro = None in none ≡ first_called name (macros_in l)) c.as_slice-2.ensures c.in-None.ensures in
     failed_so c.refused.result (use_act l.ticks (macros_in l) below u scope (state_of e)) UnknownKind c.args.used.now.place c.refused.ensures
     (macro_act l.ticks (macros_in l) below u scope (state_of e) None unknown nowhere)

@@ -3,8 +3,11 @@ use Rattle.std.specs.Prelude.{◌≡◌, ℕ, ◌+◌, ◌-◌, ◌^◌, ◌≤�
 use Rattle.std.specs.List.{list_any, list_all}
 use Rattle.scald_base.specs.Time.{Bounds}
 use Rattle.scald_base.specs.Signal.{Signal, turned}
-use Rattle.flat_circuit.specs.declared.kind.Kind.{Kind}
-use Rattle.flat_circuit.specs.declared.kind.Kind.TheVariants.{Buf, And, Or, Xor, Mux2, Mux4, Mux8, Chg, Reg, RegRs, Latch, LatchRs, SetupHold, RiseFall, MinPulse}
+use Rattle.element_kinds.specs.declared.kind.Kind.{Kind}
+use Rattle.element_kinds.specs.declared.kind.Kind.TheVariants.{Buf, And, Or, Xor, Mux2, Mux4, Mux8, Chg, Reg, RegRs, Latch, LatchRs, SetupHold, RiseFall, MinPulse}
+use Rattle.element_kinds.specs.declared.form.Form.{Form}
+use Rattle.element_kinds.specs.declared.form.Form.TheVariants.{Gate, Change, Register, Latch as Enabled, Checker}
+use Rattle.element_kinds.specs.Kinds.{form_of}
 
 -- ---- gates: a function of the bits that all pins show
 
@@ -91,29 +94,26 @@ IsInReach bounds t u = (u + bounds.min ≤ t) × (t ≤ u + bounds.max)
 
 -- ---- the equation at a tick
 
+-- whether there are a set and a reset: what they make of the bit that there would be without them
+abbrev pub IsStored : Bool → List Signal → ℕ → Bool → Bool → Type 0
+IsStored false signals s free output = output ≡ free
+IsStored true signals s free output = IsSetReset signals s free output
+
+-- by the form of a kind
+abbrev pub EquationOf : Form → Kind → Bounds → ℕ → List Signal → Signal → ℕ → Type 0
+EquationOf Gate kind bounds delay signals output t = Follows kind signals (t - delay) (output t)
+EquationOf Change kind bounds delay signals output t =
+    ((u : ℕ) → IsInReach bounds t u → AreStill signals u) → output (t - 1) ≡ output t
+EquationOf (Register forced) kind bounds delay signals output t =
+    IsStored forced signals (t - delay) (registered signals (t - delay) (output (t - 1))) (output t)
+EquationOf (Enabled forced) kind bounds delay signals output t =
+    IsStored forced signals (t - delay) (latched signals (t - delay) (output (t - 1))) (output t)
+EquationOf (Checker check) kind bounds delay signals output t = ⊤
+
 -- The pins' signals stand in their order, and the delay is the one of the run, which a change function has not. A
 -- checker has no output.
 abbrev pub Equation : Kind → Bounds → ℕ → List Signal → Signal → ℕ → Type 0
-Equation Buf bounds delay signals output t = Follows Buf signals (t - delay) (output t)
-Equation And bounds delay signals output t = Follows And signals (t - delay) (output t)
-Equation Or bounds delay signals output t = Follows Or signals (t - delay) (output t)
-Equation Xor bounds delay signals output t = Follows Xor signals (t - delay) (output t)
-Equation Mux2 bounds delay signals output t = Follows Mux2 signals (t - delay) (output t)
-Equation Mux4 bounds delay signals output t = Follows Mux4 signals (t - delay) (output t)
-Equation Mux8 bounds delay signals output t = Follows Mux8 signals (t - delay) (output t)
-Equation Chg bounds delay signals output t =
-    ((u : ℕ) → IsInReach bounds t u → AreStill signals u) → output (t - 1) ≡ output t
-Equation Reg bounds delay signals output t =
-    output t ≡ registered signals (t - delay) (output (t - 1))
-Equation RegRs bounds delay signals output t =
-    IsSetReset signals (t - delay) (registered signals (t - delay) (output (t - 1))) (output t)
-Equation Latch bounds delay signals output t =
-    output t ≡ latched signals (t - delay) (output (t - 1))
-Equation LatchRs bounds delay signals output t =
-    IsSetReset signals (t - delay) (latched signals (t - delay) (output (t - 1))) (output t)
-Equation SetupHold bounds delay signals output t = ⊤
-Equation RiseFall bounds delay signals output t = ⊤
-Equation MinPulse bounds delay signals output t = ⊤
+Equation kind bounds delay signals output t = EquationOf (form_of kind) kind bounds delay signals output t
 
 -- ---- the ticks that it names
 
@@ -125,25 +125,19 @@ pins_before delay wires = map (λ wire. delay + wire) wires
 abbrev pub clock_before : ℕ → List ℕ → ℕ
 clock_before delay wires = delay + 1 + slice_index_or wires 0 0
 
+-- by the form of a kind
+abbrev pub named_by : Form → Bounds → ℕ → List ℕ → List ℕ
+named_by Gate bounds delay wires = pins_before delay wires
+named_by Change bounds delay wires = 1 ∷ pins_before (bounds.max + 1) wires
+named_by (Register forced) bounds delay wires = 1 ∷ clock_before delay wires ∷ pins_before delay wires
+named_by (Enabled forced) bounds delay wires = 1 ∷ pins_before delay wires
+named_by (Checker check) bounds delay wires = pins_before delay wires
+
 -- How many ticks before t lie the ticks that the equation names, whatever the bits are. The wires' delays stand in the
 -- order of the pins, 0 for a constant. A step at a tick names the tick before, too: a register's clock, and each pin
 -- of a change function, of whose steps the earliest counts.
 abbrev pub named_before : Kind → Bounds → ℕ → List ℕ → List ℕ
-named_before Buf bounds delay wires = pins_before delay wires
-named_before And bounds delay wires = pins_before delay wires
-named_before Or bounds delay wires = pins_before delay wires
-named_before Xor bounds delay wires = pins_before delay wires
-named_before Mux2 bounds delay wires = pins_before delay wires
-named_before Mux4 bounds delay wires = pins_before delay wires
-named_before Mux8 bounds delay wires = pins_before delay wires
-named_before Chg bounds delay wires = 1 ∷ pins_before (bounds.max + 1) wires
-named_before Reg bounds delay wires = 1 ∷ clock_before delay wires ∷ pins_before delay wires
-named_before RegRs bounds delay wires = 1 ∷ clock_before delay wires ∷ pins_before delay wires
-named_before Latch bounds delay wires = 1 ∷ pins_before delay wires
-named_before LatchRs bounds delay wires = 1 ∷ pins_before delay wires
-named_before SetupHold bounds delay wires = pins_before delay wires
-named_before RiseFall bounds delay wires = pins_before delay wires
-named_before MinPulse bounds delay wires = pins_before delay wires
+named_before kind bounds delay wires = named_by (form_of kind) bounds delay wires
 
 -- An equation is asked only where every tick that it names is 0 or later: nothing is said of the start.
 abbrev pub IsAsked : Kind → Bounds → ℕ → List ℕ → ℕ → Type 0
