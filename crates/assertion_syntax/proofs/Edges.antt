@@ -131,8 +131,10 @@ near_from c h early late pos (inl shares) = go (cases_order one.by two.by)
 
     go : (one.by ≡ two.by) ⊎ ((one.by < two.by) ⊎ (two.by < one.by)) → AreNear (steps c h) (early + late) (2 * period h)
     go (inl same) = absurd (shares.apart (sym one.there ∙ ap (back (period h) (shares.slot + early)) same ∙ two.there))
-    go (inr (inl less)) = near_later c h (early + late) (shares.slot + early) shares.to shares.other_to shares.edge shares.other one.by two.by pos one.is_edge two.is_edge one.there two.there less two.near
-    go (inr (inr less)) = near_later c h (early + late) (shares.slot + early) shares.other_to shares.to shares.other shares.edge two.by one.by pos two.is_edge one.is_edge two.there one.there less one.near
+    go (inr (inl less)) = near_later c h (early + late) (shares.slot + early) shares.to
+        shares.other_to shares.edge shares.other one.by two.by pos one.is_edge two.is_edge one.there two.there less two.near
+    go (inr (inr less)) = near_later c h (early + late) (shares.slot + early) shares.other_to
+        shares.to shares.other shares.edge two.by one.by pos two.is_edge one.is_edge two.there one.there less one.near
 
 pub overlap_decided : (c : ClockSpec) (h : Header) (skew : ℕ × ℕ) (r : Bool) → 0 < period h →
     (let near = AreNear (steps c h) (skew.0 + skew.1) (2 * period h) in MatchBool r near (¬ near)) → MatchBool r (Overlap c h skew.0 skew.1) (¬ Overlap c h skew.0 skew.1)

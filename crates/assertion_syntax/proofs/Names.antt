@@ -65,20 +65,22 @@ with_stable inside = stable_at inside >>= λ spans. Some (Stable spans)
 assertion_takes : (rest : List ℕ) (a : AssertSpec) → assertion_at rest ≡ Some a → IsRead rest a
 unfolding assertion_at IsRead
 assertion_takes rest a e =
-    elim (chosen (eqb (length rest) 0) (Some Unasserted) (either (literal_at precision_dot rest) (either (literal_at clock_dot rest) (either (literal_at stable_dot rest) None with_stable) with_clock) with_precision) (Some a) e) [
+    elim (chosen (eqb (length rest) 0) (Some Unasserted) (either (literal_at precision_dot rest)
+    (either (literal_at clock_dot rest) (either (literal_at stable_dot rest) None with_stable) with_clock) with_precision) (Some a) e) [
       | inl none ↦
           subst (λ (y : AssertSpec). (rest ≡ assertion_text y) × IsAssertion y) (same_Some Unasserted a none.1)
           (nil_from_length rest (eqb-true (length rest) 0 none.0), tt)
-      | inr some ↦ elim (either_parts (literal_at precision_dot rest) (either (literal_at clock_dot rest) (either (literal_at stable_dot rest) None with_stable) with_clock) with_precision (Some a) some.1) [
-        | inr on ↦ read_precision rest on.0 a on.1 on.2
-        | inl other ↦ elim (either_parts (literal_at clock_dot rest) (either (literal_at stable_dot rest) None with_stable) with_clock (Some a) other.1) [
-          | inr on ↦ read_clock rest on.0 a on.1 on.2
-          | inl third ↦ elim (either_parts (literal_at stable_dot rest) None with_stable (Some a) third.1) [
-            | inr on ↦ read_stable rest on.0 a on.1 on.2
-            | inl nothing ↦ absurd (none-some a nothing.1)
+      | inr some ↦ elim (either_parts (literal_at precision_dot rest)
+          (either (literal_at clock_dot rest) (either (literal_at stable_dot rest) None with_stable) with_clock) with_precision (Some a) some.1) [
+            | inr on ↦ read_precision rest on.0 a on.1 on.2
+            | inl other ↦ elim (either_parts (literal_at clock_dot rest) (either (literal_at stable_dot rest) None with_stable) with_clock (Some a) other.1) [
+              | inr on ↦ read_clock rest on.0 a on.1 on.2
+              | inl third ↦ elim (either_parts (literal_at stable_dot rest) None with_stable (Some a) third.1) [
+                | inr on ↦ read_stable rest on.0 a on.1 on.2
+                | inl nothing ↦ absurd (none-some a nothing.1)
+              ]
+            ]
           ]
-        ]
-      ]
     ]
 
 some_length : (b : ℕ) (rest : List ℕ) → eqb (length (b ∷ rest)) 0 ≡ false
@@ -237,7 +239,8 @@ name_takes text n e =
     let made : SignalName = record { base = base.0; global = g.0; spec = spec } in
     subst (λ (y : SignalName). IsTextOf y text) (same_Some made n s2.2) record {
       is_name = record { base = base-is.1; assertion = spec-is.1 };
-      spelled = global_takes text ∙ ap (λ (l : List ℕ). global_text g.0 ++ l) (base-is.0 ∙ ap (λ (l : List ℕ). base.0 ++ l) spec-is.0) ∙ sym (name_parts (global_text g.0) base.0 (assertion_text spec));
+      spelled = global_takes text ∙ ap (λ (l : List ℕ). global_text g.0 ++ l) (base-is.0 ∙ ap (λ (l : List ℕ). base.0 ++ l) spec-is.0)
+          ∙ sym (name_parts (global_text g.0) base.0 (assertion_text spec));
     }
 
 -- The name that a text spells is read.

@@ -44,7 +44,8 @@ pair_takes limit between rest x e =
     subst (λ (y : (ℕ × ℕ) × List ℕ). (rest ≡ pair_text between y.0 ++ y.1) × IsPair limit y.0) (same_Some made x s3.2)
     (three_read (decimal m.0) between (decimal n.0) rest m.1 s2.0 n.1 m-is.0 (literal_takes between m.1 s2.0 s2.1) n-is.0, record { first = m-is.1; second = n-is.1 })
 
-pair_again : (limit : ℕ) (between rest : List ℕ) (p : ℕ × ℕ) → limit < 10000 → EndsNumber between → IsPair limit p → digit_ahead rest ≡ false → pair_at limit between (pair_text between p ++ rest) ≡ Some (p, rest)
+pair_again : (limit : ℕ) (between rest : List ℕ) (p : ℕ × ℕ) → limit < 10000 → EndsNumber between →
+    IsPair limit p → digit_ahead rest ≡ false → pair_at limit between (pair_text between p ++ rest) ≡ Some (p, rest)
 unfolding pair_at
 pair_again limit between rest p small between_ends fits stop =
     let t2 = decimal p.1 ++ rest in
@@ -104,7 +105,8 @@ record AreSpans (rest : List ℕ) (x : List Span × List ℕ) : Type 0 where
   some : 1 ≤ length x.0
   each : AllByRecursion IsInterval x.0
 
-more_spans : (s : Span) (ss : List Span) (rest after inside tail : List ℕ) → rest ≡ span_text s ++ after → IsInterval s → after ≡ comma ++ inside → AreSpans inside (ss, tail) → AreSpans rest (s ∷ ss, tail)
+more_spans : (s : Span) (ss : List Span) (rest after inside tail : List ℕ) → rest ≡ span_text s ++ after →
+    IsInterval s → after ≡ comma ++ inside → AreSpans inside (ss, tail) → AreSpans rest (s ∷ ss, tail)
 more_spans s [] rest after inside tail e is c are = let none : 1 ≤ 0 = are.some in absurd (omega arith)
 more_spans s (m ∷ ms) rest after inside tail e is c are = record {
   spelled = e ∙ ap (λ (l : List ℕ). span_text s ++ l) (c ∙ ap (λ (l : List ℕ). comma ++ l) are.spelled) ∙ sym (spans_text-cons s m ms tail);
@@ -140,7 +142,8 @@ pub record EndsSpans (tail : List ℕ) : Type 0 where
   pub number : digit_ahead tail ≡ false
   pub list : literal_at comma tail ≡ None
 
-spans_again_by : (ss : List Span) (tail : List ℕ) (most : ℕ) → 1 ≤ length ss → AllByRecursion IsInterval ss → EndsSpans tail → length ss ≤ most → spans_at most (spans_text ss ++ tail) ≡ Some (ss, tail)
+spans_again_by : (ss : List Span) (tail : List ℕ) (most : ℕ) → 1 ≤ length ss → AllByRecursion IsInterval ss →
+    EndsSpans tail → length ss ≤ most → spans_at most (spans_text ss ++ tail) ≡ Some (ss, tail)
 unfolding spans_at
 spans_again_by [] tail most some each ends room = absurd (omega arith)
 spans_again_by (s ∷ ss) tail zero some each ends room = absurd (omega arith)
@@ -205,7 +208,12 @@ skew_again None tail is stop = rw stop refl
 skew_again (Some skew) tail is stop =
     let inside = pair_text comma skew ++ (codes ")" ++ tail) in
     ap skew_at (four_parts (codes "(") (decimal skew.0) comma (decimal skew.1) (codes ")") tail)
-    ∙ rw (literal_again (codes "(") inside, pair_again 4095 comma (codes ")" ++ tail) skew (omega arith) (λ _. refl) (record { first = is.early; second = is.late }) refl, literal_again (codes ")") tail) refl
+    ∙ rw (
+      literal_again (codes "(") inside,
+      pair_again 4095 comma (codes ")" ++ tail) skew
+          (omega arith) (λ _. refl) (record { first = is.early; second = is.late }) refl,
+      literal_again (codes ")") tail,
+    ) refl
 
 -- ---- the end of a clock
 

@@ -121,7 +121,8 @@ last_digit_read : (n : ℕ) (ds : List ℕ) → 10 ≤ n → IsReadAs (n / 10) d
 last_digit_read n ds long front small rest =
     let last = 48 + n % 10 in
     let whole : n / 10 * 10 + (48 + n % 10 - 48) ≡ n = omega arith in
-    ap number_at (append_assoc ds (last ∷ []) rest) ∙ front (omega arith) (last ∷ rest) ∙ digits_step (n / 10) last rest (omega arith) (omega arith) (omega arith) (omega arith) ∙ ap (λ (k : ℕ). digits_at k rest) whole
+    ap number_at (append_assoc ds (last ∷ []) rest) ∙ front (omega arith) (last ∷ rest)
+    ∙ digits_step (n / 10) last rest (omega arith) (omega arith) (omega arith) (omega arith) ∙ ap (λ (k : ℕ). digits_at k rest) whole
 
 digits_stop : (n : ℕ) (rest : List ℕ) → digit_ahead rest ≡ false → digits_at n rest ≡ Some (n, rest)
 unfolding digits_at

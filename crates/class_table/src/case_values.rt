@@ -37,7 +37,8 @@ fn said(byte: u8) -> Option<bool>
 
 /// Says the value of a net, where a circuit may have this net.
 fn say(table: &mut Table, net: u32, one: bool)
-    ensures { (i : ℕ) → i < most_bits → said (slice_index_or table.new i 0) ≡ (if net == i then Some one else said (slice_index_or table.old i 0)) }
+    ensures { (i : ℕ) → i < most_bits →
+        said (slice_index_or table.new i 0) ≡ (if net == i then Some one else said (slice_index_or table.old i 0)) }
 {
     let place = net as usize;
     if place < NETS {
@@ -64,7 +65,9 @@ fn value_at(table: &Table, net: u32) -> Option<bool>
 
 /// Whether a net has the value of the net of its class's number.
 fn has_value_of_number(table: &Table, classes: &[u32], net: u32) -> bool
-    ensures { MatchBool result (said (slice_index_or table.now net 0) ≡ said (slice_index_or table.now (class_of classes.now net) 0)) (¬ (said (slice_index_or table.now net 0) ≡ said (slice_index_or table.now (class_of classes.now net) 0))) }
+    ensures { MatchBool result
+        (said (slice_index_or table.now net 0) ≡ said (slice_index_or table.now (class_of classes.now net) 0))
+        (¬ (said (slice_index_or table.now net 0) ≡ said (slice_index_or table.now (class_of classes.now net) 0))) }
 {
     value_at(table, net) == value_at(table, class_of(classes, net))
 }
@@ -73,7 +76,8 @@ fn has_value_of_number(table: &Table, classes: &[u32], net: u32) -> bool
 fn is_as_numbers_in(c: &Circuit, classes: &[u32], case: &[CaseValue]) -> bool
     requires one_each { length classes.now ≡ length c.now.nets }
     requires numbers { AreNumbersOfNets classes.now }
-    ensures { MatchBool result (IsAsNumbersIn (length c.now.nets) classes.now case.now) (¬ (IsAsNumbersIn (length c.now.nets) classes.now case.now)) }
+    ensures { MatchBool result (IsAsNumbersIn (length c.now.nets) classes.now case.now)
+        (¬ (IsAsNumbersIn (length c.now.nets) classes.now case.now)) }
 {
     c.known();
     let mut table = [0; NETS];
@@ -90,7 +94,8 @@ fn is_as_numbers_in(c: &Circuit, classes: &[u32], case: &[CaseValue]) -> bool
 pub fn are_cases_as_their_numbers(c: &Circuit, classes: &[u32], cases: &[Case]) -> bool
     requires one_each { length classes.now ≡ length c.now.nets }
     requires numbers { AreNumbersOfNets classes.now }
-    ensures { MatchBool result (All (IsAsNumbersIn (length c.now.nets) classes.now) cases.now) (¬ (All (IsAsNumbersIn (length c.now.nets) classes.now) cases.now)) }
+    ensures { MatchBool result (All (IsAsNumbersIn (length c.now.nets) classes.now) cases.now)
+        (¬ (All (IsAsNumbersIn (length c.now.nets) classes.now) cases.now)) }
 {
     for case in cases {
         if !is_as_numbers_in(c, classes, case.as_slice()) {

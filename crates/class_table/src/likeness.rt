@@ -38,7 +38,8 @@ fn are_pins_alike(classes: &[u32], pin: Pin, other: Pin) -> bool
 }
 
 fn are_all_pins_alike(classes: &[u32], a: &[Pin], b: &[Pin]) -> bool
-    ensures { MatchBool result (AllZip (PinsAlike classes.now) a.now b.now) (¬ (AllZip (PinsAlike classes.now) a.now b.now)) }
+    ensures { MatchBool result (AllZip (PinsAlike classes.now) a.now b.now)
+        (¬ (AllZip (PinsAlike classes.now) a.now b.now)) }
 {
     if a.len() != b.len() {
         return false;
@@ -70,7 +71,8 @@ fn driver<'a>(c: &'a Circuit, number: Option<u32>) -> Option<&'a Instance>
 }
 
 fn are_drivers_alike(classes: &[u32], a: Option<&Instance>, b: Option<&Instance>) -> bool
-    ensures { MatchBool result (DriversAlike classes.now (option_copied a.entry) (option_copied b.entry)) (¬ (DriversAlike classes.now (option_copied a.entry) (option_copied b.entry))) }
+    ensures { MatchBool result (DriversAlike classes.now (option_copied a.entry) (option_copied b.entry))
+        (¬ (DriversAlike classes.now (option_copied a.entry) (option_copied b.entry))) }
 {
     match a {
         None => b.is_none(),
@@ -115,7 +117,8 @@ pub fn are_nets_alike(
     net: &Net,
     other_net: &Net,
 ) -> bool
-    ensures { MatchBool result (NetsAlike c.now cases.now classes.now number other net.now other_net.now) (¬ (NetsAlike c.now cases.now classes.now number other net.now other_net.now)) }
+    ensures { MatchBool result (NetsAlike c.now cases.now classes.now number other net.now other_net.now)
+        (¬ (NetsAlike c.now cases.now classes.now number other net.now other_net.now)) }
 {
     net.wire == other_net.wire
         && is_same_assertion(&net.spec, &other_net.spec)

@@ -10,7 +10,8 @@ use flat_circuit::{Case, CaseList, Circuit};
 
 /// Whether the nets of two numbers are alike, where there are such nets.
 fn are_alike(c: &Circuit, cases: &[Case], classes: &[u32], number: u32, other: u32) -> bool
-    ensures { MatchBool result (AreAlikeAt c.now cases.now classes.now number other) (¬ (AreAlikeAt c.now cases.now classes.now number other)) }
+    ensures { MatchBool result (AreAlikeAt c.now cases.now classes.now number other)
+        (¬ (AreAlikeAt c.now cases.now classes.now number other)) }
 {
     match c.net(number) {
         None => true,
@@ -23,7 +24,8 @@ fn are_alike(c: &Circuit, cases: &[Case], classes: &[u32], number: u32, other: u
 
 /// Whether the number of a class is that of one of its nets.
 fn is_number_of_net(classes: &[u32], number: u32) -> bool
-    ensures { MatchBool result (slice_get classes.now number ≡ Some number) (¬ (slice_get classes.now number ≡ Some number)) }
+    ensures { MatchBool result (slice_get classes.now number ≡ Some number)
+        (¬ (slice_get classes.now number ≡ Some number)) }
 {
     match classes.get(number as usize) {
         Some(found) => *found == number,
@@ -71,7 +73,8 @@ fn are_as_their_numbers(c: &Circuit, cases: &[Case], classes: &[u32]) -> bool
 
 /// Whether a net is as each net of its class before it.
 fn is_as_those_before(c: &Circuit, cases: &[Case], classes: &[u32], net: u32) -> bool
-    ensures { MatchBool result (AreAlikeBefore c.now cases.now classes.now net) (¬ (AreAlikeBefore c.now cases.now classes.now net)) }
+    ensures { MatchBool result (AreAlikeBefore c.now cases.now classes.now net)
+        (¬ (AreAlikeBefore c.now cases.now classes.now net)) }
 {
     for other in 0..net {
         if class_of(classes, net) == class_of(classes, other)

@@ -42,7 +42,9 @@ are_bare text (t ∷ ts) = ap (λ (bs : List Bare). bare_at text t ∷ bs) (are_
 pub names_spelled : (w : Written whole) (ts : List Lexeme) → spelling w ≡ ts → names w ≡ names_from false ts
 names_spelled w ts e = names_of_text w ∙ ap (λ (xs : List Lexeme). names_from false xs) e
 
-drawing_same : (d e : tree.Drawing) → e.version ≡ d.version → e.header ≡ d.header → map unplaced_macro e.macros ≡ map unplaced_macro d.macros → e.name ≡ d.name → unplaced_statements e.body ≡ unplaced_statements d.body → map unplaced_case e.cases ≡ map unplaced_case d.cases → SameButPlaces d e
+drawing_same : (d e : tree.Drawing) → e.version ≡ d.version → e.header ≡ d.header → map unplaced_macro e.macros ≡ map unplaced_macro d.macros →
+    e.name ≡ d.name → unplaced_statements e.body ≡ unplaced_statements d.body →
+    map unplaced_case e.cases ≡ map unplaced_case d.cases → SameButPlaces d e
 drawing_same d e a b c f g h = rw (a, b, c, f, g, h) refl
 
 -- ---- the law of one text
@@ -55,7 +57,9 @@ record Known (h : Header) (s : Sketch) : Type 0 where
   proper : IsSketchOf (λ n. IsGoodName h n) s
   distinct : IsDistinct (declared_by s)
 
-drawn_again : (h : Header) (s : Sketch) → Known h s → (text : List ℕ) (tokens : List lex.Token) → AreTokens text tokens → TextBuilt (drawing_of_sketch s) (lexemes text tokens) → AreGood h (names_from false (lexemes text tokens)) → (e : tree.Drawing) → e ≡ drawing_of_sketch s → DrawsAgain text e
+drawn_again : (h : Header) (s : Sketch) → Known h s → (text : List ℕ) (tokens : List lex.Token) → AreTokens text tokens →
+    TextBuilt (drawing_of_sketch s) (lexemes text tokens) →
+    AreGood h (names_from false (lexemes text tokens)) → (e : tree.Drawing) → e ≡ drawing_of_sketch s → DrawsAgain text e
 drawn_again h s known text tokens are built good e is =
     let ts = lexemes text tokens in
     let d = drawing_of_sketch s in
@@ -63,7 +67,8 @@ drawn_again h s known text tokens are built good e is =
     let again = built.again in
     let found : Sketch = (values w).0 in
     let same : header_of found.header ≡ d.header = header_again found.header d.header (subst IsHeader (sym known.header) known.may_be) again.units again.ticks again.wire again.pskew again.cskew in
-    let judged_so : judged found.header ≡ Ok d.header = judged_again found.header d.version d.header (subst IsHeader (sym known.header) known.may_be) known.version again.version again.units again.ticks again.wire again.pskew again.cskew in
+    let judged_so : judged found.header ≡ Ok d.header = judged_again found.header d.version d.header
+    (subst IsHeader (sym known.header) known.may_be) known.version again.version again.units again.ticks again.wire again.pskew again.cskew in
     let to_h : h ≡ header_of found.header = sym (same ∙ known.header) in
     let N : List Naming → Type 0 = λ ns. AreGood h ns in
     let named : AreGood h (names w) = subst N (sym (names_spelled w ts built.spelled)) good in
@@ -81,7 +86,8 @@ drawn_again h s known text tokens are built good e is =
           text = record { spelled = built.spelled; within = subst W built.spelled built.fits };
           header = judged_so ∙ ap (λ (x : Header). Ok x) (sym same);
           names = subst H to_h named;
-          distinct = distinct_again s.macros.macros found.macros.macros s.macros.heads found.macros.heads s.body found.body known.proper.macros.heads proper.macros.heads again.macros again.body known.distinct;
+          distinct = distinct_again s.macros.macros found.macros.macros s.macros.heads found.macros.heads
+              s.body found.body known.proper.macros.heads proper.macros.heads again.macros again.body known.distinct;
           stands = refl;
         };
       };

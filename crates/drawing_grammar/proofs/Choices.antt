@@ -9,7 +9,10 @@ use Rattle.drawing_grammar.specs.Grammar as g
 use Rattle.drawing_grammar.specs.Machine.{code, same, choice}
 
 abbrev pub all : List Terminal
-all = is.Scald ∷ is.Clock ∷ is.Wire ∷ is.Pskew ∷ is.Cskew ∷ is.Macro ∷ is.Drawing ∷ is.Case ∷ is.If ∷ is.Then ∷ is.Else ∷ is.End ∷ is.Zero ∷ is.One ∷ is.Word ∷ is.Number ∷ is.Name ∷ is.Arrow ∷ is.Semicolon ∷ is.Colon ∷ is.Comma ∷ is.OpenParenthesis ∷ is.CloseParenthesis ∷ is.Less ∷ is.Greater ∷ is.OpenBracket ∷ is.CloseBracket ∷ is.OpenBrace ∷ is.CloseBrace ∷ is.Equals ∷ is.Plus ∷ is.Minus ∷ is.Star ∷ is.Slash ∷ is.Ampersand ∷ is.Exclamation ∷ is.EndOfText ∷ []
+all = is.Scald ∷ is.Clock ∷ is.Wire ∷ is.Pskew ∷ is.Cskew ∷ is.Macro ∷ is.Drawing ∷ is.Case ∷ is.If ∷ is.Then ∷ is.Else ∷ is.End ∷ is.Zero ∷
+    is.One ∷ is.Word ∷ is.Number ∷ is.Name ∷ is.Arrow ∷ is.Semicolon ∷ is.Colon ∷ is.Comma ∷ is.OpenParenthesis ∷ is.CloseParenthesis ∷
+    is.Less ∷ is.Greater ∷ is.OpenBracket ∷ is.CloseBracket ∷ is.OpenBrace ∷ is.CloseBrace ∷
+    is.Equals ∷ is.Plus ∷ is.Minus ∷ is.Star ∷ is.Slash ∷ is.Ampersand ∷ is.Exclamation ∷ is.EndOfText ∷ []
 
 decoded : (l : Terminal) → get_or all (code l) is.Scald ≡ l
 decoded is.Scald = refl

@@ -43,7 +43,8 @@ different_behind (x ∷ xs) ys h = different_behind xs ys (λ i j d before withi
 texts_different : (scope : ℕ) (kind : Kind) (names : List (List ℕ)) → AreDifferent (map (key scope kind) names) → well.AreDifferent names
 texts_different scope kind names h =
     let k : List ℕ → Key = key scope kind in
-    IsDistinct-from_AllPairs bytes_eq-Decides names (λ i j d before within same. h i j (k d) before (let e = length-map names k in omega (arith, e)) (get_or-map k names i d ∙ (ap k same ∙ sym (get_or-map k names j d))))
+    IsDistinct-from_AllPairs bytes_eq-Decides names (λ i j d before within same. h i j (k d) before (let e =
+    length-map names k in omega (arith, e)) (get_or-map k names i d ∙ (ap k same ∙ sym (get_or-map k names j d))))
 
 names_different : {A : Type 0} (scope : ℕ) (kind : Kind) (f : A → List ℕ) (xs : List A) → AreDifferent (map (λ x. key scope kind (f x)) xs) → well.AreDifferent (map f xs)
 names_different scope kind f xs h =
@@ -61,7 +62,8 @@ mutual
   statement_keys : (scope : ℕ) (s : tree.Statement) → keys_of (statement_labels scope s) ≡ map (key scope Label) (well.statement_labels s)
   statement_keys scope (tree.Use u) = refl
   statement_keys scope (tree.Wire w) = refl
-  statement_keys scope (tree.If test ss other place) = joined scope (labels scope ss) (else_labels scope other) (well.labels ss) (well.else_labels other) (label_keys scope ss) (otherwise_keys scope other)
+  statement_keys scope (tree.If test ss other place) = joined scope (labels scope ss)
+      (else_labels scope other) (well.labels ss) (well.else_labels other) (label_keys scope ss) (otherwise_keys scope other)
 
   label_keys : (scope : ℕ) (ss : tree.Statements) → keys_of (labels scope ss) ≡ map (key scope Label) (well.labels ss)
   label_keys scope tree.nil = refl
@@ -84,11 +86,13 @@ mutual
   statement_same : (s : tree.Statement) → well.statement_labels (unplaced_statement s) ≡ well.statement_labels s
   statement_same (tree.Use u) = refl
   statement_same (tree.Wire w) = refl
-  statement_same (tree.If test ss other place) = both_same (well.labels (unplaced_statements ss)) (well.else_labels (unplaced_otherwise other)) (well.labels ss) (well.else_labels other) (statements_same ss) (otherwise_same other)
+  statement_same (tree.If test ss other place) = both_same (well.labels (unplaced_statements ss))
+      (well.else_labels (unplaced_otherwise other)) (well.labels ss) (well.else_labels other) (statements_same ss) (otherwise_same other)
 
   statements_same : (ss : tree.Statements) → well.labels (unplaced_statements ss) ≡ well.labels ss
   statements_same tree.nil = refl
-  statements_same (tree.cons s ss) = both_same (well.statement_labels (unplaced_statement s)) (well.labels (unplaced_statements ss)) (well.statement_labels s) (well.labels ss) (statement_same s) (statements_same ss)
+  statements_same (tree.cons s ss) = both_same (well.statement_labels (unplaced_statement s))
+      (well.labels (unplaced_statements ss)) (well.statement_labels s) (well.labels ss) (statement_same s) (statements_same ss)
 
   otherwise_same : (o : tree.Otherwise) → well.else_labels (unplaced_otherwise o) ≡ well.else_labels o
   otherwise_same tree.no_else = refl
@@ -177,12 +181,14 @@ primitives_kept : filter is_macro primitives ≡ map (key 0 Macro) primitive_nam
 unfolding primitives
 primitives_kept = refl
 
-kinds_kept : (ms : List tree.Macro) (own : List Key) → filter is_macro own ≡ [] → filter is_macro (primitives ++ (all_keys 0 (map unplaced_macro ms) ++ own)) ≡ map (key 0 Macro) (primitive_names ++ map macro_name ms)
+kinds_kept : (ms : List tree.Macro) (own : List Key) → filter is_macro own ≡ [] →
+    filter is_macro (primitives ++ (all_keys 0 (map unplaced_macro ms) ++ own)) ≡ map (key 0 Macro) (primitive_names ++ map macro_name ms)
 kinds_kept ms own e =
     let all = all_keys 0 (map unplaced_macro ms) in
     filter-append is_macro primitives (all ++ own)
     ∙ (ap (λ (ks : List Key). ks ++ filter is_macro (all ++ own)) primitives_kept
-    ∙ (ap (λ (ks : List Key). map (key 0 Macro) primitive_names ++ ks) (filter-append is_macro all own ∙ (ap (λ (ks : List Key). filter is_macro all ++ ks) e ∙ (append-nil (filter is_macro all) ∙ macros_kept 0 ms)))
+    ∙ (ap (λ (ks : List Key). map (key 0 Macro) primitive_names ++ ks) (filter-append is_macro all own
+    ∙ (ap (λ (ks : List Key). filter is_macro all ++ ks) e ∙ (append-nil (filter is_macro all) ∙ macros_kept 0 ms)))
     ∙ sym (map-append (key 0 Macro) primitive_names (map macro_name ms))))
 
 -- ---- the drawing
@@ -205,7 +211,8 @@ all_apart ms hs body heads h =
     record {
       macros = macros_apart 0 ms (different_front all own written);
       labels = labels_different (length ms) body (different_behind all own written);
-      kinds = texts_different 0 Macro (primitive_names ++ map macro_name ms) (subst F (kinds_kept ms own (no_body (length ms) body)) (AllPairs-filter (λ a b. a ≢ b) is_macro (primitives ++ (all ++ own)) every));
+      kinds = texts_different 0 Macro (primitive_names ++ map macro_name ms)
+          (subst F (kinds_kept ms own (no_body (length ms) body)) (AllPairs-filter (λ a b. a ≢ b) is_macro (primitives ++ (all ++ own)) every));
     }
 
 macros_good : (h : Header) (ms : List tree.Macro) → AllByRecursion (IsMacroOf (λ n. IsGoodName h n)) ms → AllByRecursion IsApart ms → AllByRecursion (IsGoodMacro h) ms

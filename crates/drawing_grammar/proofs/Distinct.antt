@@ -53,6 +53,7 @@ distinct_stop ds (Refused r) found = record {
 }
 distinct_stop ds NoMemory found = tt
 
-pub distinct_given : {A : Type 0} (r : Result A Stop) (now : List Key) (ds : List Declaration) → MatchResult r (λ _. Declares primitives now ds) (IsStopAt primitives ds) → MatchResult r (λ _. IsDistinct ds) (IsDoubleStop ds)
+pub distinct_given : {A : Type 0} (r : Result A Stop) (now : List Key) (ds : List Declaration) →
+    MatchResult r (λ _. Declares primitives now ds) (IsStopAt primitives ds) → MatchResult r (λ _. IsDistinct ds) (IsDoubleStop ds)
 distinct_given (Ok x) now ds given = let F : List Key → Type 0 = λ ks. AreDifferent ks in subst F given.added (given.different primitives_differ)
 distinct_given (Err s) now ds given = distinct_stop ds s given

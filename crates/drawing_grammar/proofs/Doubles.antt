@@ -104,10 +104,12 @@ declared_as taken now ds es e made = let F : List Declaration → Type 0 = λ xs
 pub stopped_as : (taken : List Key) (ds es : List Declaration) (s : Stop) → es ≡ ds → IsStopAt taken ds s → IsStopAt taken es s
 stopped_as taken ds es s e found = let F : List Declaration → Type 0 = λ xs. IsStopAt taken xs s in subst F (sym e) found
 
-pub given_as : {A : Type 0} (r : Result A Stop) (taken now : List Key) (ds es : List Declaration) → es ≡ ds → MatchResult r (λ _. Declares taken now ds) (IsStopAt taken ds) → MatchResult r (λ _. Declares taken now es) (IsStopAt taken es)
+pub given_as : {A : Type 0} (r : Result A Stop) (taken now : List Key) (ds es : List Declaration) →
+    es ≡ ds → MatchResult r (λ _. Declares taken now ds) (IsStopAt taken ds) → MatchResult r (λ _. Declares taken now es) (IsStopAt taken es)
 given_as (Ok x) taken now ds es e given = declared_as taken now ds es e given
 given_as (Err s) taken now ds es e given = stopped_as taken ds es s e given
 
-pub given_later : {A : Type 0} (r : Result A Stop) (taken now later : List Key) (ds es : List Declaration) → Declares taken now ds → MatchResult r (λ _. Declares now later es) (IsStopAt now es) → MatchResult r (λ _. Declares taken later (ds ++ es)) (IsStopAt taken (ds ++ es))
+pub given_later : {A : Type 0} (r : Result A Stop) (taken now later : List Key) (ds es : List Declaration) → Declares taken now ds →
+    MatchResult r (λ _. Declares now later es) (IsStopAt now es) → MatchResult r (λ _. Declares taken later (ds ++ es)) (IsStopAt taken (ds ++ es))
 given_later (Ok x) taken now later ds es made given = declares_both taken now later ds es made given
 given_later (Err s) taken now later ds es made given = stop_later taken now ds es s made given

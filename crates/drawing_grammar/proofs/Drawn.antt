@@ -40,14 +40,17 @@ name_wrong ts s h (Refused r) reads e found =
 good_names : (ts : List Lexeme) (s : Sketch) (h : Header) (reads : Reads ts s) → AreGood h (names_from false ts) → AreGood h (names reads.written)
 good_names ts s h reads good = let F : List Naming → Type 0 = λ ns. AreGood h ns in subst F (names_are ts s reads) good
 
-pub double_wrong : (ts : List Lexeme) (s : Sketch) (h : Header) (stop : Stop) → Reads ts s → judged s.header ≡ Ok h → AreGood h (names_from false ts) → IsDoubleStop (declared_by s) stop → IsWrongStop ts stop
+pub double_wrong : (ts : List Lexeme) (s : Sketch) (h : Header) (stop : Stop) → Reads ts s →
+    judged s.header ≡ Ok h → AreGood h (names_from false ts) → IsDoubleStop (declared_by s) stop → IsWrongStop ts stop
 double_wrong ts s h NoMemory reads e good found = tt
 double_wrong ts s h (Refused r) reads e good found =
     let F : Sketch → Type 0 = λ x. IsDoubleName (declared_by x) r in
     double reads.written h (text_of ts s reads) (ap (λ (x : Sketch). judged x.header) reads.stands ∙ e) (good_names ts s h reads good) (subst F (sym reads.stands) found)
 
 -- all is good: the drawing has the header that was judged, and version 1
-pub draws_it : (ts : List Lexeme) (s : Sketch) (h : Header) (d : tree.Drawing) → Reads ts s → judged s.header ≡ Ok h → AreGood h (names_from false ts) → IsDistinct (declared_by s) → d ≡ record { version = 1; header = h; macros = s.macros.macros; name = s.name; body = s.body; cases = s.cases } → Draws ts d
+pub draws_it : (ts : List Lexeme) (s : Sketch) (h : Header) (d : tree.Drawing) → Reads ts s → judged s.header ≡ Ok h →
+    AreGood h (names_from false ts) → IsDistinct (declared_by s) →
+    d ≡ record { version = 1; header = h; macros = s.macros.macros; name = s.name; body = s.body; cases = s.cases } → Draws ts d
 draws_it ts s h d reads e good distinct is =
     let said = judged_ok s.header h e in
     let F : Sketch → Type 0 = λ x. IsDistinct (declared_by x) in

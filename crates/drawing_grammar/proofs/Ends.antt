@@ -179,14 +179,16 @@ others_inner g.Cases n = refl
 abbrev At : List Lexeme → List Lexeme → Lexeme → Lexeme → List Lexeme → Type 0
 At ts before e x more = ts ≡ before ++ e ∷ x ∷ more
 
-behind_first : (t : Lexeme) (ts before : List Lexeme) (e x : Lexeme) (more : List Lexeme) → (terminal t ≡ is.EndOfText → ts ≡ []) → terminal e ≡ is.EndOfText → ((b : List Lexeme) → At ts b e x more → ⊥) → At (t ∷ ts) before e x more → ⊥
+behind_first : (t : Lexeme) (ts before : List Lexeme) (e x : Lexeme) (more : List Lexeme) → (terminal t ≡ is.EndOfText → ts ≡ []) →
+    terminal e ≡ is.EndOfText → ((b : List Lexeme) → At ts b e x more → ⊥) → At (t ∷ ts) before e x more → ⊥
 behind_first t ts [] e x more f g h k = let s : t ≡ e = cc in let z = f (ap terminal s ∙ g) in absurd cc
 behind_first t ts (b ∷ before) e x more f g h k = h before cc
 
 pub end_last : {needs : List Need} (w : Written needs) (before : List Lexeme) (e x : Lexeme) (more : List Lexeme) → Tidy needs → terminal e ≡ is.EndOfText → At (spelling w) before e x more → ⊥
 end_last nothing [] e x more t f k = absurd cc
 end_last nothing (b ∷ before) e x more t f k = absurd cc
-end_last (marked {l = l} {rest = rest} u h w) before e x more t f k = behind_first u (spelling w) before e x more (λ z. alone w (t.0 (is_same l is.EndOfText (sym h ∙ z)))) f (λ b. end_last w b e x more t.1 f) k
+end_last (marked {l = l} {rest = rest} u h w) before e x more t f k =
+    behind_first u (spelling w) before e x more (λ z. alone w (t.0 (is_same l is.EndOfText (sym h ∙ z)))) f (λ b. end_last w b e x more t.1 f) k
   where
     alone : {needs : List Need} (w : Written needs) → needs ≡ [] → spelling w ≡ []
     alone nothing e = refl
@@ -198,17 +200,42 @@ end_last (marked {l = l} {rest = rest} u h w) before e x more t f k = behind_fir
     alone (left_out v h w) e = absurd cc
     alone (grouped w) e = absurd cc
     alone (lacking v h w) e = absurd cc
-end_last (token {l = l} u h w) before e x more t f k = behind_first u (spelling w) before e x more (λ z. let i = is_same l is.EndOfText (sym h ∙ z) in let j = t.0 in absurd cc) f (λ b. end_last w b e x more t.1 f) k
+end_last (token {l = l} u h w) before e x more t f k = behind_first u (spelling w) before e x more (λ z. let i =
+    is_same l is.EndOfText (sym h ∙ z) in let j = t.0 in absurd cc) f (λ b. end_last w b e x more t.1 f) k
 end_last (lettered u h i w) before e x more t f k = behind_first u (spelling w) before e x more (λ z. absurd (word_end (sym h ∙ z))) f (λ b. end_last w b e x more t f) k
   where
     word_end : is.Word ≡ is.EndOfText → ⊥
     word_end z = cc
 end_last (begun w) before e x more t f k = end_last w before e x more t f k
-end_last (chosen {p = p} {n = n} {rest = rest} c u h w) before e x more t f k = behind_first u (spelling w) before e x more (λ z. let i = is_same (opening c) is.EndOfText (sym h ∙ z) in let j = opens_no_end c in absurd cc) f (λ b. end_last w b e x more (tidy_on (following c n) rest (choice_inner c n t.0) t.1) f) k
+end_last (chosen {p = p} {n = n} {rest = rest} c u h w) before e x more t f k =
+    behind_first u (spelling w) before e x more (λ z. let i = is_same (opening c) is.EndOfText (sym h ∙ z) in let j =
+    opens_no_end c in absurd cc) f (λ b. end_last w b e x more (tidy_on (following c n) rest (choice_inner c n t.0) t.1) f) k
 end_last (left_out v h w) before e x more t f k = end_last w before e x more t.1 f k
 end_last (grouped {g = g} {n = n} {rest = rest} w) before e x more t f k = end_last w before e x more (lead_inner g, tidy_on (others g n) rest (others_inner g n) t) f k
 end_last (lacking v h w) before e x more t f k = end_last w before e x more t f k
 
 pub text_end_last : (w : Written whole) (before : List Lexeme) (e x : Lexeme) (more : List Lexeme) → terminal e ≡ is.EndOfText → spelling w ≡ before ++ e ∷ x ∷ more → ⊥
-text_end_last (chosen g.text u h w) before e x more f k = behind_first u (spelling w) before e x more (λ z. let i = is_same (opening g.text) is.EndOfText (sym h ∙ z) in absurd cc) f (λ b. end_last w b e x more (refl, ((λ z. absurd cc), (refl, (refl, (refl, ((λ z. absurd cc), (refl, (refl, (refl, ((λ z. absurd cc), (refl, ((λ z. absurd cc), ((λ z. absurd cc), ((λ z. absurd cc), ((λ z. refl), tt))))))))))))))) f) k
+text_end_last (chosen g.text u h w) before e x more f k =
+    behind_first u (spelling w) before e x more (λ z. let i =
+    is_same (opening g.text) is.EndOfText (sym h ∙ z) in
+    absurd cc) f (λ b. end_last w
+    b e x more (
+      refl,
+      (
+        (λ z. absurd cc),
+        (
+          refl,
+          (
+            refl,
+            (
+              refl,
+              (
+                (λ z. absurd cc),
+                (refl, (refl, (refl, ((λ z. absurd cc), (refl, ((λ z. absurd cc), ((λ z. absurd cc), ((λ z. absurd cc), ((λ z. refl), tt))))))))),
+              ),
+            ),
+          ),
+        ),
+      ),
+    ) f) k
 text_end_last (left_out v h w) before e x more f k = absurd cc

@@ -63,15 +63,23 @@ starts_written (marked {l = l} u h w) f t zs e = let k : u ≡ t = cc in is_same
 starts_written (token {l = l} u h w) f t zs e = let k : u ≡ t = cc in is_same (terminal t) l (ap terminal (sym k) ∙ h)
 starts_written (lettered u h i w) f t zs e = let k : u ≡ t = cc in is_same (terminal t) is.Word (ap terminal (sym k) ∙ h)
 starts_written (begun w) f t zs e = starts_written w f t zs e
-starts_written (chosen {p = p} {rest = rest} c u h w) f t zs e = let k : u ≡ t = cc in or_left (is_some (choice p (terminal t))) (is_some (absent_value p) && starts rest f (terminal t)) (is_some_at (choice p (terminal t)) c (chooses c (terminal t) (ap terminal (sym k) ∙ h)))
-starts_written (left_out {p = p} {rest = rest} v h w) f t zs e = or_right (is_some (choice p (terminal t))) (is_some (absent_value p) && starts rest f (terminal t)) (and_from (is_some (absent_value p)) (starts rest f (terminal t)) (is_some_at (absent_value p) v h) (starts_written w f t zs e))
-starts_written (grouped {g = g} {n = n} {rest = rest} w) f t zs e = or_left (is_some (choice (lead g) (terminal t))) (is_some (absent_group g) && starts rest f (terminal t)) (led (is_some (choice (lead g) (terminal t))) (is_some (absent_value (lead g))) (starts (others g n ++ rest) f (terminal t)) (ap is_some (leads g)) (starts_written w f t zs e))
+starts_written (chosen {p = p} {rest = rest} c u h w) f t zs e = let k : u ≡ t = cc in or_left (is_some (choice p (terminal t)))
+    (is_some (absent_value p) && starts rest f (terminal t)) (is_some_at (choice p (terminal t)) c (chooses c (terminal t) (ap terminal (sym k) ∙ h)))
+starts_written (left_out {p = p} {rest = rest} v h w) f t zs e =
+    or_right (is_some (choice p (terminal t))) (is_some (absent_value p) && starts rest f (terminal t))
+    (and_from (is_some (absent_value p)) (starts rest f (terminal t)) (is_some_at (absent_value p) v h) (starts_written w f t zs e))
+starts_written (grouped {g = g} {n = n} {rest = rest} w) f t zs e =
+    or_left (is_some (choice (lead g) (terminal t))) (is_some (absent_group g) && starts rest f (terminal t))
+    (led (is_some (choice (lead g) (terminal t))) (is_some (absent_value (lead g)))
+    (starts (others g n ++ rest) f (terminal t)) (ap is_some (leads g)) (starts_written w f t zs e))
   where
     led : (a b c : Bool) → b ≡ false → (a || (b && c)) ≡ true → a ≡ true
     led true b c h e = refl
     led false true c h e = absurd cc
     led false false c h e = absurd cc
-starts_written (lacking {g = g} {rest = rest} v h w) f t zs e = or_right (is_some (choice (lead g) (terminal t))) (is_some (absent_group g) && starts rest f (terminal t)) (and_from (is_some (absent_group g)) (starts rest f (terminal t)) (is_some_at (absent_group g) v h) (starts_written w f t zs e))
+starts_written (lacking {g = g} {rest = rest} v h w) f t zs e =
+    or_right (is_some (choice (lead g) (terminal t))) (is_some (absent_group g) && starts rest f (terminal t))
+    (and_from (is_some (absent_group g)) (starts rest f (terminal t)) (is_some_at (absent_group g) v h) (starts_written w f t zs e))
 
 -- ---- chains of needs
 
@@ -84,17 +92,23 @@ apart_at ls rest behind e l s = one (starts rest (λ k. not (among behind k)) l)
     one false b e s = absurd cc
 
 -- a need's part is apart from what comes behind it, also where the list goes on
-apart_on : (ls : List Terminal) (xs rest : List Need) (behind : List Terminal) → apart ls xs behind ≡ true → ((l : Terminal) → starts rest never l ≡ true → among behind l ≡ false) → (l : Terminal) → starts (xs ++ rest) never l ≡ true → among ls l ≡ false
-apart_on ls xs rest behind e h l s = apart_at ls xs behind e l (starts_more xs (starts rest never) (λ k. not (among behind k)) l (λ k. not_from_false (among behind l) (h l k)) (sym (starts_append xs rest never l) ∙ s))
+apart_on : (ls : List Terminal) (xs rest : List Need) (behind : List Terminal) → apart ls xs behind ≡ true →
+    ((l : Terminal) → starts rest never l ≡ true → among behind l ≡ false) → (l : Terminal) → starts (xs ++ rest) never l ≡ true → among ls l ≡ false
+apart_on ls xs rest behind e h l s =
+    apart_at ls xs behind e l (starts_more xs (starts rest never) (λ k. not (among behind k))
+    l (λ k. not_from_false (among behind l) (h l k)) (sym (starts_append xs rest never l) ∙ s))
 
-pub chained_on : (xs rest : List Need) (behind : List Terminal) → well_chained xs behind ≡ true → ((l : Terminal) → starts rest never l ≡ true → among behind l ≡ false) → Chained rest → Chained (xs ++ rest)
+pub chained_on : (xs rest : List Need) (behind : List Terminal) → well_chained xs behind ≡ true →
+    ((l : Terminal) → starts rest never l ≡ true → among behind l ≡ false) → Chained rest → Chained (xs ++ rest)
 chained_on [] rest behind e h c = c
 chained_on (mark k ∷ xs) rest behind e h c = chained_on xs rest behind e h c
 chained_on (item k ∷ xs) rest behind e h c = chained_on xs rest behind e h c
 chained_on (letter word ∷ xs) rest behind e h c = chained_on xs rest behind e h c
 chained_on (fresh ∷ xs) rest behind e h c = chained_on xs rest behind e h c
-chained_on (part p n ∷ xs) rest behind e h c = let k = and_parts (apart (extends p) xs behind) (well_chained xs behind) e in (apart_on (extends p) xs rest behind k.0 h, chained_on xs rest behind k.1 h c)
-chained_on (group g n ∷ xs) rest behind e h c = let k = and_parts (apart (extends_group g) xs behind) (well_chained xs behind) e in (apart_on (extends_group g) xs rest behind k.0 h, chained_on xs rest behind k.1 h c)
+chained_on (part p n ∷ xs) rest behind e h c = let k = and_parts (apart (extends p) xs behind) (well_chained xs behind) e in
+    (apart_on (extends p) xs rest behind k.0 h, chained_on xs rest behind k.1 h c)
+chained_on (group g n ∷ xs) rest behind e h c = let k = and_parts (apart (extends_group g) xs behind) (well_chained xs behind) e in
+    (apart_on (extends_group g) xs rest behind k.0 h, chained_on xs rest behind k.1 h c)
 
 pub choice_on : {p : Part} (c : Choice p) (n : ℕ) (rest : List Need) → Chained (part p n ∷ rest) → Chained (following c n ++ rest)
 choice_on {p} c n rest h = chained_on (following c n) rest (extends p) (choice_chained c n) h.0 h.1
@@ -115,15 +129,19 @@ abbrev pub Forces : {needs : List Need} → Written needs → ℕ → List Lexem
 Forces w a zs (Next later b m build) = After w a zs later b m build
 Forces w a zs Stuck = ⊥
 
-mark_forced : {l : Terminal} {rest : List Need} (u : Lexeme) (h : terminal u ≡ l) (w : Written rest) (a : ℕ) (t : Lexeme) (zs : List Lexeme) (b : Bool) → b ≡ true → spelling w ≡ zs → Chained rest → Forces (marked u h w) a zs (if b then Next rest a 0 (λ v. v) else Stuck)
+mark_forced : {l : Terminal} {rest : List Need} (u : Lexeme) (h : terminal u ≡ l) (w : Written rest) (a : ℕ) (t : Lexeme) (zs : List Lexeme)
+    (b : Bool) → b ≡ true → spelling w ≡ zs → Chained rest → Forces (marked u h w) a zs (if b then Next rest a 0 (λ v. v) else Stuck)
 mark_forced u h w a t zs true e s c = record { rest = w; spelled = s; weighed = refl; valued = refl; chained = c }
 mark_forced u h w a t zs false e s c = absurd cc
 
-item_forced : {l : Terminal} {rest : List Need} (u : Lexeme) (h : terminal u ≡ l) (w : Written rest) (a : ℕ) (t : Lexeme) (zs : List Lexeme) (b : Bool) → b ≡ true → u ≡ t → spelling w ≡ zs → Chained rest → Forces (token u h w) a zs (if b then Next rest a 0 (λ v. (t, v)) else Stuck)
+item_forced : {l : Terminal} {rest : List Need} (u : Lexeme) (h : terminal u ≡ l) (w : Written rest) (a : ℕ) (t : Lexeme) (zs : List Lexeme)
+    (b : Bool) → b ≡ true → u ≡ t → spelling w ≡ zs → Chained rest → Forces (token u h w) a zs (if b then Next rest a 0 (λ v. (t, v)) else Stuck)
 item_forced u h w a t zs true e k s c = record { rest = w; spelled = s; weighed = refl; valued = ap (λ (x : Lexeme). (x, values w)) k; chained = c }
 item_forced u h w a t zs false e k s c = absurd cc
 
-letter_forced : (x : Letter) (rest : List Need) (u : Lexeme) (h : terminal u ≡ is.Word) (i : u.text ≡ letter_text x) (w : Written rest) (a : ℕ) (t : Lexeme) (zs : List Lexeme) (b d : Bool) → b ≡ true → d ≡ true → spelling w ≡ zs → Chained rest → Forces (lettered u h i w) a zs (if b && d then Next rest a 0 (λ v. v) else Stuck)
+letter_forced : (x : Letter) (rest : List Need) (u : Lexeme) (h : terminal u ≡ is.Word) (i : u.text ≡ letter_text x) (w : Written rest)
+    (a : ℕ) (t : Lexeme) (zs : List Lexeme) (b d : Bool) → b ≡ true → d ≡ true →
+    spelling w ≡ zs → Chained rest → Forces (lettered u h i w) a zs (if b && d then Next rest a 0 (λ v. v) else Stuck)
 letter_forced x rest u h i w a t zs true true e f s c = record { rest = w; spelled = s; weighed = refl; valued = refl; chained = c }
 letter_forced x rest u h i w a t zs true false e f s c = absurd cc
 letter_forced x rest u h i w a t zs false d e f s c = absurd cc
@@ -139,23 +157,54 @@ both : {A B : Type 0} (v u : A) (x y : B) → u ≡ v → x ≡ y → pair v x �
 both v u x y e f = rw (e, f) refl
 
 -- a part that is left out, before what it would not go on with
-out_forced : (p : Part) (n : ℕ) (rest : List Need) (v : Meaning p) (h : absent_value p ≡ Some v) (w : Written rest) (a : ℕ) (t : Lexeme) (zs : List Lexeme) (o : Option (Choice p)) (absent : Option (Meaning p)) (s : Step rest) → is_some o ≡ false → absent ≡ Some v → Forces w a zs s → Forces (left_out {n = n} v h w) a zs (entered p n rest a t o absent s)
+out_forced : (p : Part) (n : ℕ) (rest : List Need) (v : Meaning p) (h : absent_value p ≡ Some v) (w : Written rest) (a : ℕ)
+    (t : Lexeme) (zs : List Lexeme) (o : Option (Choice p)) (absent : Option (Meaning p)) (s : Step rest) →
+    is_some o ≡ false → absent ≡ Some v → Forces w a zs s → Forces (left_out {n = n} v h w) a zs (entered p n rest a t o absent s)
 out_forced p n rest v h w a t zs (Some c) absent s e f g = absurd cc
-out_forced p n rest v h w a t zs None (Some u) (Next later b m build) e f g = let k : u ≡ v = cc in record { rest = g.rest; spelled = g.spelled; weighed = g.weighed; valued = both v u (values w) (build (values g.rest)) k g.valued; chained = g.chained }
+out_forced p n rest v h w a t zs None (Some u) (Next later b m build) e f g = let k : u ≡ v = cc in record {
+  rest =
+      g.rest;
+  spelled = g.spelled;
+  weighed = g.weighed;
+  valued = both v u (values w) (build (values g.rest)) k g.valued;
+  chained = g.chained;
+}
 out_forced p n rest v h w a t zs None (Some u) Stuck e f g = g
 out_forced p n rest v h w a t zs None None s e f g = absurd cc
 
-lacking_forced : (h : Group) (n : ℕ) (rest : List Need) (v : GroupMeaning h) (i : absent_group h ≡ Some v) (w : Written rest) (a : ℕ) (t : Lexeme) (zs : List Lexeme) (o : Option (Choice (lead h))) (absent : Option (GroupMeaning h)) (s : Step rest) → is_some o ≡ false → absent ≡ Some v → Forces w a zs s → Forces (lacking {n = n} v i w) a zs (group_entered h n rest a t o absent s)
+lacking_forced : (h : Group) (n : ℕ) (rest : List Need) (v : GroupMeaning h) (i : absent_group h ≡ Some v) (w : Written rest) (a : ℕ)
+    (t : Lexeme) (zs : List Lexeme) (o : Option (Choice (lead h))) (absent : Option (GroupMeaning h)) (s : Step rest) →
+    is_some o ≡ false → absent ≡ Some v → Forces w a zs s → Forces (lacking {n = n} v i w) a zs (group_entered h n rest a t o absent s)
 lacking_forced h n rest v i w a t zs (Some c) absent s e f g = absurd cc
-lacking_forced h n rest v i w a t zs None (Some u) (Next later b m build) e f g = let k : u ≡ v = cc in record { rest = g.rest; spelled = g.spelled; weighed = g.weighed; valued = both v u (values w) (build (values g.rest)) k g.valued; chained = g.chained }
+lacking_forced h n rest v i w a t zs None (Some u) (Next later b m build) e f g = let k : u ≡ v = cc in record {
+  rest =
+      g.rest;
+  spelled = g.spelled;
+  weighed = g.weighed;
+  valued = both v u (values w) (build (values g.rest)) k g.valued;
+  chained = g.chained;
+}
 lacking_forced h n rest v i w a t zs None (Some u) Stuck e f g = g
 lacking_forced h n rest v i w a t zs None None s e f g = absurd cc
 
-chosen_forced : (p : Part) (n : ℕ) (rest : List Need) (c : Choice p) (u : Lexeme) (h : terminal u ≡ opening c) (w : Written (following c n ++ rest)) (a : ℕ) (t : Lexeme) (zs : List Lexeme) (o : Option (Choice p)) (absent : Option (Meaning p)) (s : Step rest) → Some c ≡ o → u ≡ t → spelling w ≡ zs → Chained (following c n ++ rest) → Forces (chosen {n = n} c u h w) a zs (entered p n rest a t o absent s)
-chosen_forced p n rest c u h w a t zs o absent s e k i j = subst (λ (x : Option (Choice p)). Forces (chosen {n = n} {rest = rest} c u h w) a zs (entered p n rest a t x absent s)) e (subst (λ (x : Lexeme). Forces (chosen {n = n} {rest = rest} c u h w) a zs (entered p n rest a x (Some c) absent s)) k (record { rest = w; spelled = i; weighed = refl; valued = refl; chained = j }))
+chosen_forced : (p : Part) (n : ℕ) (rest : List Need) (c : Choice p) (u : Lexeme) (h : terminal u ≡ opening c)
+    (w : Written (following c n ++ rest)) (a : ℕ) (t : Lexeme) (zs : List Lexeme) (o : Option (Choice p)) (absent : Option (Meaning p))
+    (s : Step rest) → Some c ≡ o → u ≡ t → spelling w ≡ zs → Chained (following c n ++ rest) →
+    Forces (chosen {n = n} c u h w) a zs (entered p n rest a t o absent s)
+chosen_forced p n rest c u h w a t zs o absent s e k i j =
+    subst (λ (x : Option (Choice p)). Forces (chosen {n = n} {rest = rest} c u h w) a zs (entered p n rest a t x absent s)) e
+    (subst (λ (x : Lexeme). Forces (chosen {n = n} {rest = rest} c u h w) a zs (entered p n rest a x (Some c) absent s))
+    k (record { rest = w; spelled = i; weighed = refl; valued = refl; chained = j }))
 
-grouped_forced : (g : Group) (n : ℕ) (rest : List Need) (c : Choice (lead g)) (u : Lexeme) (h : terminal u ≡ opening c) (w : Written (following c n ++ (others g n ++ rest))) (a : ℕ) (t : Lexeme) (zs : List Lexeme) (o : Option (Choice (lead g))) (absent : Option (GroupMeaning g)) (s : Step rest) → Some c ≡ o → u ≡ t → spelling w ≡ zs → Chained (following c n ++ (others g n ++ rest)) → Forces (grouped {g = g} {n = n} {rest = rest} (chosen c u h w)) a zs (group_entered g n rest a t o absent s)
-grouped_forced g n rest c u h w a t zs o absent s e k i j = subst (λ (x : Option (Choice (lead g))). Forces (grouped {g = g} {n = n} {rest = rest} (chosen c u h w)) a zs (group_entered g n rest a t x absent s)) e (subst (λ (x : Lexeme). Forces (grouped {g = g} {n = n} {rest = rest} (chosen c u h w)) a zs (group_entered g n rest a x (Some c) absent s)) k (record { rest = w; spelled = i; weighed = refl; valued = refl; chained = j }))
+grouped_forced : (g : Group) (n : ℕ) (rest : List Need) (c : Choice (lead g)) (u : Lexeme) (h : terminal u ≡ opening c)
+    (w : Written (following c n ++ (others g n ++ rest))) (a : ℕ) (t : Lexeme) (zs : List Lexeme) (o : Option (Choice (lead g)))
+    (absent : Option (GroupMeaning g)) (s : Step rest) → Some c ≡ o → u ≡ t → spelling w ≡ zs → Chained (following c n ++ (others g n ++ rest)) →
+    Forces (grouped {g = g} {n = n} {rest = rest} (chosen c u h w)) a zs (group_entered g n rest a t o absent s)
+grouped_forced g n rest c u h w a t zs o absent s e k i j =
+    subst (λ (x : Option (Choice (lead g))). Forces (grouped {g = g} {n = n} {rest = rest} (chosen c u h w)) a zs
+    (group_entered g n rest a t x absent s))
+    e (subst (λ (x : Lexeme). Forces (grouped {g = g} {n = n} {rest = rest} (chosen c u h w)) a zs (group_entered g n rest a x (Some c) absent s))
+    k (record { rest = w; spelled = i; weighed = refl; valued = refl; chained = j }))
 
 none_there : (p : Part) (l : Terminal) (v : Meaning p) → absent_value p ≡ Some v → among (extends p) l ≡ false → is_some (choice p l) ≡ false
 none_there p l v e f = one (is_some (absent_value p)) (is_some (choice p l)) (among (extends p) l) (tested_at (goes_on p) (part_goes_on p) l) (ap is_some e) f
@@ -177,10 +226,17 @@ pub forced : {needs : List Need} (w : Written needs) (a : ℕ) (t : Lexeme) (zs 
 forced nothing a t zs c e = absurd cc
 forced (marked {l = l} u h w) a t zs c e = let k : u ≡ t = cc in mark_forced u h w a t zs (same (terminal t) l) (is_same (terminal t) l (ap terminal (sym k) ∙ h)) (cc) c
 forced (token {l = l} u h w) a t zs c e = let k : u ≡ t = cc in item_forced u h w a t zs (same (terminal t) l) (is_same (terminal t) l (ap terminal (sym k) ∙ h)) k (cc) c
-forced (lettered {x = x} {rest = rest} u h i w) a t zs c e = let k : u ≡ t = cc in letter_forced x rest u h i w a t zs (same (terminal t) is.Word) (bytes_eq t.text (letter_text x)) (is_same (terminal t) is.Word (ap terminal (sym k) ∙ h)) ((bytes_eq-Decides t.text (letter_text x)).1 (ap (λ (y : Lexeme). y.text) (sym k) ∙ i)) (cc) c
+forced (lettered {x = x} {rest = rest} u h i w) a t zs c e = let k : u ≡ t =
+    cc in letter_forced x rest u h i w a t zs (same (terminal t) is.Word) (bytes_eq t.text (letter_text x)) (is_same (terminal t)
+    is.Word (ap terminal (sym k) ∙ h)) ((bytes_eq-Decides t.text (letter_text x)).1 (ap (λ (y : Lexeme). y.text) (sym k) ∙ i)) (cc) c
 forced (begun {rest = rest} w) a t zs c e = fresh_forced w a zs (step rest 0 t) (forced w 0 t zs c e)
-forced (chosen {p = p} {n = n} {rest = rest} d u h w) a t zs c e = let k : u ≡ t = cc in chosen_forced p n rest d u h w a t zs (choice p (terminal t)) (absent_value p) (step rest a t) (sym (chooses d (terminal t) (ap terminal (sym k) ∙ h))) k (cc) (choice_on d n rest c)
-forced (left_out {p = p} {n = n} {rest = rest} v h w) a t zs c e = out_forced p n rest v h w a t zs (choice p (terminal t)) (absent_value p) (step rest a t) (none_there p (terminal t) v h (c.0 (terminal t) (starts_written w never t zs e))) h (forced w a t zs c.1 e)
-forced (grouped {g = g} {n = n} {rest = rest} (chosen d u h w)) a t zs c e = let k : u ≡ t = cc in grouped_forced g n rest d u h w a t zs (choice (lead g) (terminal t)) (absent_group g) (step rest a t) (sym (chooses d (terminal t) (ap terminal (sym k) ∙ h))) k (cc) (choice_on d n (others g n ++ rest) (group_on g n rest c))
+forced (chosen {p = p} {n = n} {rest = rest} d u h w) a t zs c e = let k : u ≡ t = cc in chosen_forced p n rest d u h w a t
+    zs (choice p (terminal t)) (absent_value p) (step rest a t) (sym (chooses d (terminal t) (ap terminal (sym k) ∙ h))) k (cc) (choice_on d n rest c)
+forced (left_out {p = p} {n = n} {rest = rest} v h w) a t zs c e = out_forced p n rest v h w a t zs (choice p (terminal t))
+    (absent_value p) (step rest a t) (none_there p (terminal t) v h (c.0 (terminal t) (starts_written w never t zs e))) h (forced w a t zs c.1 e)
+forced (grouped {g = g} {n = n} {rest = rest} (chosen d u h w)) a t zs c e = let k : u ≡ t =
+    cc in grouped_forced g n rest d u h w a t zs (choice (lead g) (terminal t)) (absent_group g) (step rest a t)
+    (sym (chooses d (terminal t) (ap terminal (sym k) ∙ h))) k (cc) (choice_on d n (others g n ++ rest) (group_on g n rest c))
 forced (grouped {g = g} (left_out v h w)) a t zs c e = let k = leads g in absurd cc
-forced (lacking {g = g} {n = n} {rest = rest} v h w) a t zs c e = lacking_forced g n rest v h w a t zs (choice (lead g) (terminal t)) (absent_group g) (step rest a t) (none_leads g (terminal t) v h (c.0 (terminal t) (starts_written w never t zs e))) h (forced w a t zs c.1 e)
+forced (lacking {g = g} {n = n} {rest = rest} v h w) a t zs c e = lacking_forced g n rest v h w a t zs (choice (lead g) (terminal t))
+    (absent_group g) (step rest a t) (none_leads g (terminal t) v h (c.0 (terminal t) (starts_written w never t zs e))) h (forced w a t zs c.1 e)

@@ -35,7 +35,8 @@ use Rattle.drawing_grammar.proofs.SpelledLists.{all_map}
 good_name : (h : Header) (n : SignalName) → IsGoodName h n → IsName n
 good_name h n good = good.is_name
 
-pub sketch_proper : (h : Header) (text : List ℕ) (tokens : List lex.Token) (w : Written whole) → AreTokens text tokens → spelling w ≡ lexemes text tokens → AreGood h (names_from false (lexemes text tokens)) → IsSketchOf (λ n. IsGoodName h n) (values w).0
+pub sketch_proper : (h : Header) (text : List ℕ) (tokens : List lex.Token) (w : Written whole) → AreTokens text tokens →
+    spelling w ≡ lexemes text tokens → AreGood h (names_from false (lexemes text tokens)) → IsSketchOf (λ n. IsGoodName h n) (values w).0
 sketch_proper h text tokens w are spelled good =
     let G : SignalName → Type 0 = λ n. IsGoodName h n in
     (values_of G (good_name h) w (subst (AreProper G) (sym spelled) (tokens_proper h text tokens are good))).0
@@ -52,7 +53,16 @@ module _ (G : SignalName → Type 0) (k : (n : SignalName) → G n → IsName n)
   connection_drawn c a = record { some = a.some; terms = all_map (IsTermOf G) drawn.IsDrawnTerm (λ t h. item_drawn t.item h) c.terms a.terms }
 
   use_drawn : (u : tree.UseStatement) → IsUseOf G u → drawn.IsDrawnUse u
-  use_drawn u a = record { label = a.label; kind = a.kind; delays = a.delays; beside = a.beside; params = a.params; ins = all_map (IsConnectionOf G) drawn.IsDrawnConnection connection_drawn u.ins a.ins; outs = all_map (IsConnectionOf G) drawn.IsDrawnConnection connection_drawn u.outs a.outs }
+  use_drawn u a = record {
+    label = a.label;
+    kind = a.kind;
+    delays = a.delays;
+    beside = a.beside;
+    params = a.params;
+    ins = all_map (IsConnectionOf G)
+        drawn.IsDrawnConnection connection_drawn u.ins a.ins;
+    outs = all_map (IsConnectionOf G) drawn.IsDrawnConnection connection_drawn u.outs a.outs;
+  }
 
   wire_drawn : (w : tree.WireStatement) → IsWireOf G w → drawn.IsDrawnWire w
   wire_drawn w a = record { name = k w.name a.name; range = a.range; min = a.min; max = a.max }
@@ -167,7 +177,8 @@ module _ (h : Header) where
   pub body_good : (ss : tree.Statements) → AreStatementsOf Good ss → well.AreDifferent (well.labels ss) → well.IsGoodBody h ss
   body_good ss a d = record { statements = statements_good ss a; labels = d }
 
-  pub macro_good : (m : tree.Macro) → IsMacroOf Good m → well.AreDifferent (map (λ p. p.name) m.params) → well.AreDifferent (map (λ f. f.base) (m.ins ++ m.outs)) → well.AreDifferent (well.labels m.body) → well.IsGoodMacro h m
+  pub macro_good : (m : tree.Macro) → IsMacroOf Good m → well.AreDifferent (map (λ p. p.name) m.params) →
+      well.AreDifferent (map (λ f. f.base) (m.ins ++ m.outs)) → well.AreDifferent (well.labels m.body) → well.IsGoodMacro h m
   macro_good m a params formals labels = record {
     name = a.name;
     params = all_of drawn.IsDrawnAssignment well.IsGoodAssignment assignment_good m.params a.params;

@@ -67,7 +67,8 @@ stand in_head (x ∷ rest) = stands in_head x && stand (behind_need in_head x) r
 
 -- ---- choices and groups
 
-pub choice_stands : (in_head : Bool) {p : Part} (c : Choice p) (n : ℕ) (rest : List Need) → stand in_head (part p n ∷ rest) ≡ true → stand (head_behind in_head (opening c)) (following c n ++ rest) ≡ true
+pub choice_stands : (in_head : Bool) {p : Part} (c : Choice p) (n : ℕ) (rest : List Need) →
+    stand in_head (part p n ∷ rest) ≡ true → stand (head_behind in_head (opening c)) (following c n ++ rest) ≡ true
 choice_stands true g.number n rest h = h
 choice_stands true g.parameter n rest h = h
 choice_stands true g.negated n rest h = h

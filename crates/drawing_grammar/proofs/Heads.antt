@@ -37,7 +37,8 @@ item_named in_head _ rest t h = refl
 -- ---- all of them
 
 -- one token more in front
-one_more : (in_head : Bool) (l : Terminal) (t : Lexeme) (some more : List Naming) (ts : List Lexeme) → terminal t ≡ l → names_at in_head l t ≡ some → more ≡ names_from (head_behind in_head l) ts → some ++ more ≡ names_from in_head (t ∷ ts)
+one_more : (in_head : Bool) (l : Terminal) (t : Lexeme) (some more : List Naming) (ts : List Lexeme) →
+    terminal t ≡ l → names_at in_head l t ≡ some → more ≡ names_from (head_behind in_head l) ts → some ++ more ≡ names_from in_head (t ∷ ts)
 unfolding names_from
 one_more in_head l t some more ts e f h =
     ap (λ (ns : List Naming). ns ++ more) (sym f) ∙ (ap (λ (ns : List Naming). names_at in_head l t ++ ns) h
@@ -49,11 +50,14 @@ no_more in_head = refl
 
 pub names_found : (in_head : Bool) {needs : List Need} (w : Written needs) → stand in_head needs ≡ true → names w ≡ names_from in_head (spelling w)
 names_found in_head nothing h = no_more in_head
-names_found in_head (marked {l = l} {rest = rest} t e w) h = one_more in_head l t [] (names w) (spelling w) e (mark_named in_head l rest t h) (names_found (head_behind in_head l) w (mark_stands in_head l rest h))
-names_found in_head (token {l = l} {rest = rest} t e w) h = one_more in_head l t (item_names l t) (names w) (spelling w) e (item_named in_head l rest t h) (names_found (head_behind in_head l) w (item_stands in_head l rest h))
+names_found in_head (marked {l = l} {rest = rest} t e w) h = one_more in_head l t [] (names w)
+    (spelling w) e (mark_named in_head l rest t h) (names_found (head_behind in_head l) w (mark_stands in_head l rest h))
+names_found in_head (token {l = l} {rest = rest} t e w) h = one_more in_head l t (item_names l t)
+    (names w) (spelling w) e (item_named in_head l rest t h) (names_found (head_behind in_head l) w (item_stands in_head l rest h))
 names_found in_head (lettered t e f w) h = one_more in_head is.Word t [] (names w) (spelling w) e refl (names_found in_head w h)
 names_found in_head (begun w) h = names_found in_head w h
-names_found in_head (chosen {p = p} {n = n} {rest = rest} c t e w) h = one_more in_head (opening c) t (choice_names c t) (names w) (spelling w) e (choice_named in_head c n rest t h) (names_found (head_behind in_head (opening c)) w (choice_stands in_head c n rest h))
+names_found in_head (chosen {p = p} {n = n} {rest = rest} c t e w) h = one_more in_head (opening c) t (choice_names c t)
+    (names w) (spelling w) e (choice_named in_head c n rest t h) (names_found (head_behind in_head (opening c)) w (choice_stands in_head c n rest h))
 names_found in_head (left_out {p = p} v e w) h = names_found in_head w (and_parts (part_stands in_head p) _ h).1
 names_found in_head (grouped {g = k} {n = n} {rest = rest} w) h = names_found in_head w (group_parts in_head k n rest h)
 names_found in_head (lacking {g = k} v e w) h = names_found in_head w (and_parts (group_stands in_head k) _ h).1

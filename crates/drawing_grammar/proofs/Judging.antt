@@ -10,6 +10,7 @@ pub passed : {A : Type 0} (b : Bool) (place : Place) (said : Result A Refusal) (
 passed true place said x e = (refl, e)
 passed false place said x e = absurd cc
 
-pub passed_pair : {A : Type 0} (test : ℤ → ℤ → Bool) (o : Option NumberPair) (said : Result A Refusal) (x : A) → judged_pair test o said ≡ Ok x → IfSome o (λ p. test p.first p.second ≡ true) × (said ≡ Ok x)
+pub passed_pair : {A : Type 0} (test : ℤ → ℤ → Bool) (o : Option NumberPair) (said : Result A Refusal) (x : A) →
+    judged_pair test o said ≡ Ok x → IfSome o (λ p. test p.first p.second ≡ true) × (said ≡ Ok x)
 passed_pair test None said x e = (tt, e)
 passed_pair test (Some p) said x e = passed (test p.first p.second) p.place said x e

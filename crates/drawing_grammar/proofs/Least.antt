@@ -121,7 +121,8 @@ least_part g.OrEqual n rest w = left_out _ refl w
 least_part g.Range n rest w = left_out _ refl w
 least_part g.RangeEnd n rest w = left_out _ refl w
 least_part g.Parameters n rest w = left_out _ refl w
-least_part g.Assign n rest w = chosen g.assign (sample is.Word) (sampled is.Word) (m is.Equals (begun (grouped (chosen g.number (sample is.Number) (sampled is.Number) (left_out _ refl (left_out _ refl (w)))))))
+least_part g.Assign n rest w = chosen g.assign (sample is.Word) (sampled is.Word)
+    (m is.Equals (begun (grouped (chosen g.number (sample is.Number) (sampled is.Number) (left_out _ refl (left_out _ refl (w)))))))
 least_part g.MoreAssigns n rest w = left_out _ refl w
 least_part g.Formal n rest w = chosen g.formal (sample is.Name) (sampled is.Name) (left_out _ refl (w))
 least_part g.MoreFormals n rest w = left_out _ refl w
@@ -134,17 +135,32 @@ least_part g.MoreTerms n rest w = left_out _ refl w
 least_part g.Hold n rest w = left_out _ refl w
 least_part g.MoreConns n rest w = left_out _ refl w
 least_part g.Outputs n rest w = left_out _ refl w
-least_part g.Statement n rest w = chosen g.use_ (sample is.Word) (sampled is.Word) (m is.Colon (i is.Word (left_out _ refl (left_out _ refl (m is.OpenParenthesis (lacking _ refl (m is.CloseParenthesis (left_out _ refl (m is.Semicolon (w))))))))))
+least_part g.Statement n rest w =
+    chosen g.use_ (sample is.Word) (sampled is.Word)
+    (m is.Colon (i is.Word (left_out _
+    refl (left_out _ refl (m is.OpenParenthesis (lacking _ refl (m is.CloseParenthesis (left_out _ refl (m is.Semicolon (w))))))))))
 least_part g.Otherwise n rest w = left_out _ refl w
-least_part g.Macro n rest w = chosen g.macro (sample is.Macro) (sampled is.Macro) (i is.Word (left_out _ refl (m is.OpenParenthesis (lacking _ refl (m is.CloseParenthesis (left_out _ refl (m is.Semicolon (lacking _ refl (m is.End (m is.Semicolon (w)))))))))))
+least_part g.Macro n rest w =
+    chosen g.macro (sample is.Macro) (sampled is.Macro)
+    (i is.Word (left_out _ refl (m is.OpenParenthesis
+    (lacking _ refl (m is.CloseParenthesis (left_out _ refl (m is.Semicolon (lacking _ refl (m is.End (m is.Semicolon (w)))))))))))
 least_part g.Index n rest w = left_out _ refl w
 least_part g.Entry n rest w = chosen g.entry (sample is.Name) (sampled is.Name) (left_out _ refl (m is.Equals (i is.Number (w))))
 least_part g.MoreEntries n rest w = left_out _ refl w
-least_part g.CaseStatement n rest w = chosen g.case_ (sample is.Case) (sampled is.Case) (grouped (chosen g.entry (sample is.Name) (sampled is.Name) (left_out _ refl (m is.Equals (i is.Number (left_out _ refl (m is.Semicolon (w))))))))
+least_part g.CaseStatement n rest w = chosen g.case_ (sample is.Case) (sampled is.Case)
+    (grouped (chosen g.entry (sample is.Name) (sampled is.Name) (left_out _ refl (m is.Equals (i is.Number (left_out _ refl (m is.Semicolon (w))))))))
 least_part g.WireBounds n rest w = left_out _ refl w
 least_part g.PrecisionSkew n rest w = left_out _ refl w
 least_part g.ClockSkew n rest w = left_out _ refl w
-least_part g.Text n rest w = chosen g.text (sample is.Scald) (sampled is.Scald) (i is.Number (m is.Semicolon (i is.Clock (i is.Number (lettered {x = By} (word (codes "x")) (lettered_word By) refl (i is.Number (m is.Semicolon (left_out _ refl (left_out _ refl (left_out _ refl (lacking _ refl (m is.Drawing (i is.Word (m is.Semicolon (lacking _ refl (m is.End (m is.Semicolon (lacking _ refl (m is.EndOfText (w))))))))))))))))))))
+least_part g.Text n rest w =
+    chosen g.text (sample is.Scald) (sampled is.Scald)
+    (i is.Number (m is.Semicolon
+    (i is.Clock (i is.Number
+    (lettered {x = By} (word (codes "x")) (lettered_word By)
+    refl (i is.Number (m is.Semicolon
+    (left_out _ refl (left_out _
+    refl (left_out _ refl (lacking _
+    refl (m is.Drawing (i is.Word (m is.Semicolon (lacking _ refl (m is.End (m is.Semicolon (lacking _ refl (m is.EndOfText (w))))))))))))))))))))
 
 abbrev operand : (n : ℕ) {rest : List Need} → Written rest → Written (part g.Unary n ∷ rest)
 operand n w = chosen g.number (sample is.Number) (sampled is.Number) w
@@ -243,12 +259,14 @@ group_needs g.Macros n rest w e = absurd cc
 group_needs g.Cases n rest w e = absurd cc
 
 -- what needs more behind needs more
-part_more : (p : Part) (n : ℕ) (rest : List Need) (o : Option (Meaning p)) → absent_value p ≡ o → (x : Verdict rest) → (IsRefused x → NeedsMore rest) → IsRefused (finish_part {p = p} {n = n} o x) → NeedsMore (part p n ∷ rest)
+part_more : (p : Part) (n : ℕ) (rest : List Need) (o : Option (Meaning p)) → absent_value p ≡ o →
+    (x : Verdict rest) → (IsRefused x → NeedsMore rest) → IsRefused (finish_part {p = p} {n = n} o x) → NeedsMore (part p n ∷ rest)
 part_more p n rest None e x h r = part_needs p n rest (least rest) e
 part_more p n rest (Some v) e (Complete u) h r = absurd r
 part_more p n rest (Some v) e (Refused q) h r = let k = h tt in more (left_out v e k.written) k.first k.others k.spelled
 
-group_more : (h : Group) (n : ℕ) (rest : List Need) (o : Option (GroupMeaning h)) → absent_group h ≡ o → (x : Verdict rest) → (IsRefused x → NeedsMore rest) → IsRefused (finish_group {h = h} {n = n} o x) → NeedsMore (group h n ∷ rest)
+group_more : (h : Group) (n : ℕ) (rest : List Need) (o : Option (GroupMeaning h)) → absent_group h ≡ o →
+    (x : Verdict rest) → (IsRefused x → NeedsMore rest) → IsRefused (finish_group {h = h} {n = n} o x) → NeedsMore (group h n ∷ rest)
 group_more h n rest None e x f r = group_needs h n rest (least rest) e
 group_more h n rest (Some v) e (Complete u) f r = absurd r
 group_more h n rest (Some v) e (Refused q) f r = let k = f tt in more (lacking v e k.written) k.first k.others k.spelled
@@ -308,7 +326,9 @@ empty (token t h w) e = absurd cc
 empty (lettered t h i w) e = absurd cc
 empty (begun {rest = rest} w) e = ap (λ (x : Verdict rest). given {needs = fresh ∷ rest} (λ v. v) x) (empty w e)
 empty (chosen c t h w) e = absurd cc
-empty (left_out {p = p} {n = n} {rest = rest} v h w) e = ap (λ (o : Option (Meaning p)). finish_part {p = p} {n = n} o (finish rest)) h ∙ ap (λ (x : Verdict rest). given {needs = part p n ∷ rest} (λ y. (v, y)) x) (empty w e)
+empty (left_out {p = p} {n = n} {rest = rest} v h w) e = ap (λ (o : Option (Meaning p)). finish_part {p = p} {n = n} o (finish rest)) h
+    ∙ ap (λ (x : Verdict rest). given {needs = part p n ∷ rest} (λ y. (v, y)) x) (empty w e)
 empty (grouped (chosen c t h w)) e = absurd cc
 empty (grouped {g = g} (left_out v h w)) e = let k = leads g in absurd cc
-empty (lacking {g = g} {n = n} {rest = rest} v h w) e = ap (λ (o : Option (GroupMeaning g)). finish_group {h = g} {n = n} o (finish rest)) h ∙ ap (λ (x : Verdict rest). given {needs = group g n ∷ rest} (λ y. (v, y)) x) (empty w e)
+empty (lacking {g = g} {n = n} {rest = rest} v h w) e = ap (λ (o : Option (GroupMeaning g)). finish_group {h = g} {n = n} o (finish rest)) h
+    ∙ ap (λ (x : Verdict rest). given {needs = group g n ∷ rest} (λ y. (v, y)) x) (empty w e)

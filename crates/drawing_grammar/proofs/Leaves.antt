@@ -71,7 +71,8 @@ word_of_length : (s : List ℕ) (n : ℕ) → prefix_len is_word_byte s ≡ n �
 unfolding word_at
 word_of_length s n e h = rw (e, h) refl
 
-word_piece : (b : ℕ) (bs rest : List ℕ) → is_letter b ≡ true → list_all is_word_byte bs ≡ true → length (b ∷ bs) ≤ 64 → stops rest ≡ true → piece_at ((b ∷ bs) ++ rest) ≡ Some (Lexeme Word (length (b ∷ bs)))
+word_piece : (b : ℕ) (bs rest : List ℕ) → is_letter b ≡ true → list_all is_word_byte bs ≡ true →
+    length (b ∷ bs) ≤ 64 → stops rest ≡ true → piece_at ((b ∷ bs) ++ rest) ≡ Some (Lexeme Word (length (b ∷ bs)))
 word_piece b bs rest l w short h =
     let fits : nat_le (length (b ∷ bs)) 64 ≡ true = grind (arith, nat_tests) in
     piece_of_letter b (bs ++ rest) l
@@ -118,7 +119,8 @@ number_of_length : (s : List ℕ) (n k : ℕ) → prefix_len is_digit s ≡ k �
 unfolding number_at
 number_of_length s n k e v h = rw (e, v, h) refl
 
-number_piece : (n b : ℕ) (bs rest : List ℕ) → list_all is_digit (b ∷ bs) ≡ true → value_of (b ∷ bs) ≡ n → n ≤ greatest_number → stops rest ≡ true → piece_at ((b ∷ bs) ++ rest) ≡ Some (Lexeme (Number (pos n)) (length (b ∷ bs)))
+number_piece : (n b : ℕ) (bs rest : List ℕ) → list_all is_digit (b ∷ bs) ≡ true → value_of (b ∷ bs) ≡ n →
+    n ≤ greatest_number → stops rest ≡ true → piece_at ((b ∷ bs) ++ rest) ≡ Some (Lexeme (Number (pos n)) (length (b ∷ bs)))
 number_piece n b bs rest all v small h =
     let fits : nat_le n greatest_number ≡ true = grind (arith, nat_tests) in
     piece_of_digit b (bs ++ rest) (and_parts (is_digit b) (list_all is_digit bs) all).0

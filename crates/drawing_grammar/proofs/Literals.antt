@@ -111,9 +111,12 @@ one_mark : (b : ℕ) → ((rest : List ℕ) → piece_at (b ∷ 32 ∷ rest) ≡
 unfolding piece_at
 one_mark b k allowed = literal (32 ∷ b ∷ 32 ∷ []) (Space ∷ Lexeme (Symbol b) 1 ∷ Space ∷ []) (symbol b) allowed (λ rest. (refl, (k rest, (refl, refl)))) (λ rest. refl)
 
-two_marks : (b c : ℕ) → ((rest : List ℕ) → piece_at (b ∷ c ∷ rest) ≡ Some (Lexeme (Symbol b) 1)) → ((rest : List ℕ) → piece_at (c ∷ 32 ∷ rest) ≡ Some (Lexeme (Symbol c) 1)) → list_all is_allowed (32 ∷ b ∷ c ∷ 32 ∷ []) ≡ true → Closes (32 ∷ b ∷ c ∷ 32 ∷ []) (symbol b ++ symbol c)
+two_marks : (b c : ℕ) → ((rest : List ℕ) → piece_at (b ∷ c ∷ rest) ≡ Some (Lexeme (Symbol b) 1)) →
+    ((rest : List ℕ) → piece_at (c ∷ 32 ∷ rest) ≡ Some (Lexeme (Symbol c) 1)) →
+    list_all is_allowed (32 ∷ b ∷ c ∷ 32 ∷ []) ≡ true → Closes (32 ∷ b ∷ c ∷ 32 ∷ []) (symbol b ++ symbol c)
 unfolding piece_at
-two_marks b c h k allowed = literal (32 ∷ b ∷ c ∷ 32 ∷ []) (Space ∷ Lexeme (Symbol b) 1 ∷ Lexeme (Symbol c) 1 ∷ Space ∷ []) (symbol b ++ symbol c) allowed (λ rest. (refl, (h (32 ∷ rest), (k rest, (refl, refl))))) (λ rest. refl)
+two_marks b c h k allowed = literal (32 ∷ b ∷ c ∷ 32 ∷ []) (Space ∷ Lexeme (Symbol b) 1 ∷ Lexeme (Symbol c) 1 ∷ Space ∷ [])
+    (symbol b ++ symbol c) allowed (λ rest. (refl, (h (32 ∷ rest), (k rest, (refl, refl))))) (λ rest. refl)
 
 pub op_closes : (op : Op) → Closes (op_text op) (op_tokens op)
 unfolding piece_at dash_before
@@ -162,7 +165,9 @@ minus_before (b ∷ bs) ts is h = record {
 -- ---- words with the spaces around them
 
 -- a word of letters, with a space behind it
-spaced : (s : List ℕ) → list_all is_allowed (s ++ 32 ∷ []) ≡ true → ((rest : List ℕ) → Cuts ((s ++ 32 ∷ []) ++ rest) (Lexeme Word (length s) ∷ Space ∷ []) rest) → ((rest : List ℕ) → bares ((s ++ 32 ∷ []) ++ rest) (Lexeme Word (length s) ∷ Space ∷ []) ≡ word s) → Closes (s ++ 32 ∷ []) (word s)
+spaced : (s : List ℕ) → list_all is_allowed (s ++ 32 ∷ []) ≡ true →
+    ((rest : List ℕ) → Cuts ((s ++ 32 ∷ []) ++ rest) (Lexeme Word (length s) ∷ Space ∷ []) rest) →
+    ((rest : List ℕ) → bares ((s ++ 32 ∷ []) ++ rest) (Lexeme Word (length s) ∷ Space ∷ []) ≡ word s) → Closes (s ++ 32 ∷ []) (word s)
 spaced s allowed cut are = literal (s ++ 32 ∷ []) (Lexeme Word (length s) ∷ Space ∷ []) (word s) allowed cut are
 
 pub scald_closes : Closes (codes "SCALD ") (word (codes "SCALD"))

@@ -212,7 +212,8 @@ leaf_word text a b h = record { sum = omega arith; few = λ l. omega arith }
 
 -- ---- each choice
 
-choice_ok : {p : Part} (c : Choice p) (n : ℕ) (t : Lexeme) (v : Values (following c n)) (a b : ℕ) → weight (cost c) n a ≤ limit → Moderate (following c n) v (counted (cost c) a) b → IsPartOk p n (choice_value c n t v) a b
+choice_ok : {p : Part} (c : Choice p) (n : ℕ) (t : Lexeme) (v : Values (following c n)) (a b : ℕ) →
+    weight (cost c) n a ≤ limit → Moderate (following c n) v (counted (cost c) a) b → IsPartOk p n (choice_value c n t v) a b
 choice_ok g.number n t v a b l m = leaf_number _ a b m
 choice_ok g.parameter n t v a b l m = leaf_word t.text a b m
 choice_ok g.negated n t v a b l m = negates v.0 a m.0 b m.1 m.2
@@ -261,10 +262,13 @@ choice_ok g.precision_skew n t v a b l m = tt
 choice_ok g.clock_skew n t v a b l m = tt
 choice_ok g.text n t v a b l m = record { macros = m.2.2.2.1; body = m.2.2.2.2.1 }
 
-group_ok : (h : Group) (n : ℕ) (first : Meaning (lead h)) (v : Values (others h n)) (a c b : ℕ) → IsPartOk (lead h) n first a c → Moderate (others h n) v c b → IsGroupOk h n (group_value h n first v) a b
+group_ok : (h : Group) (n : ℕ) (first : Meaning (lead h)) (v : Values (others h n)) (a c b : ℕ) →
+    IsPartOk (lead h) n first a c → Moderate (others h n) v c b → IsGroupOk h n (group_value h n first v) a b
 group_ok g.Product n first v a c b p m = up_to _ a m.0 b (then_adds first v.0 a c m.0 p m.1) m.2
 group_ok g.Sum n first v a c b p m = up_to _ a m.2.0 b (then_adds (v.0 first) v.1.0 a m.0 m.2.0 (then_adds first v.0 a c m.0 p m.1) m.2.1) m.2.2
-group_ok g.Expr n first v a c b p m = up_to _ a m.2.2.0 b (then_adds (v.1.0 (v.0 first)) v.1.1.0 a m.2.0 m.2.2.0 (then_adds (v.0 first) v.1.0 a m.0 m.2.0 (then_adds first v.0 a c m.0 p m.1) m.2.1) m.2.2.1) m.2.2.2
+group_ok g.Expr n first v a c b p m =
+    up_to _ a m.2.2.0 b (then_adds (v.1.0 (v.0 first)) v.1.1.0 a m.2.0 m.2.2.0
+    (then_adds (v.0 first) v.1.0 a m.0 m.2.0 (then_adds first v.0 a c m.0 p m.1) m.2.1) m.2.2.1) m.2.2.2
 group_ok g.Conn n first v a c b p m = (p, m.1)
 group_ok g.SomeConns n first v a c b p m = ((p, m.1), m.2.2.1)
 group_ok g.Conns n first v a c b p m = ((p, m.1), m.2.2.1)

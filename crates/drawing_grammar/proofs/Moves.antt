@@ -53,7 +53,8 @@ other k l h = one (same k l) refl
 
 pub mark_moves : (l : Terminal) (a : ℕ) (ts us : List Lexeme) (t : Lexeme) → ts ≡ t ∷ us → terminal t ≡ l → (rest : List Need) → verdict ts (mark l ∷ rest) a ≡ given (λ v. v) (verdict us rest a)
 unfolding verdict
-mark_moves l a ts us t e h rest = ap (λ (ys : List Lexeme). verdict ys (mark l ∷ rest) a) e ∙ ap (λ (b : Bool). go_on {needs = mark l ∷ rest} (if b then Next rest a 0 (λ v. v) else Stuck) (verdict us) t.place) (is_same (terminal t) l h)
+mark_moves l a ts us t e h rest = ap (λ (ys : List Lexeme). verdict ys (mark l ∷ rest) a) e
+    ∙ ap (λ (b : Bool). go_on {needs = mark l ∷ rest} (if b then Next rest a 0 (λ v. v) else Stuck) (verdict us) t.place) (is_same (terminal t) l h)
 
 pub mark_stops : (l : Terminal) (a : ℕ) (ts : List Lexeme) → first_terminal ts ≢ l → (rest : List Need) → verdict ts (mark l ∷ rest) a ≡ Refused (refusal Syntax (first_place ts))
 unfolding verdict
@@ -62,55 +63,85 @@ mark_stops l a (t ∷ ts) h rest = ap (λ (b : Bool). go_on {needs = mark l ∷ 
 
 pub item_moves : (l : Terminal) (a : ℕ) (ts us : List Lexeme) (t : Lexeme) → ts ≡ t ∷ us → terminal t ≡ l → (rest : List Need) → verdict ts (item l ∷ rest) a ≡ given (λ v. (t, v)) (verdict us rest a)
 unfolding verdict
-item_moves l a ts us t e h rest = ap (λ (ys : List Lexeme). verdict ys (item l ∷ rest) a) e ∙ ap (λ (b : Bool). go_on {needs = item l ∷ rest} (if b then Next rest a 0 (λ v. (t, v)) else Stuck) (verdict us) t.place) (is_same (terminal t) l h)
+item_moves l a ts us t e h rest =
+    ap (λ (ys : List Lexeme). verdict ys (item l ∷ rest) a) e ∙ ap (λ (b : Bool). go_on {needs =
+    item l ∷ rest} (if b then Next rest a 0 (λ v. (t, v)) else Stuck) (verdict us) t.place) (is_same (terminal t) l h)
 
 pub item_stops : (l : Terminal) (a : ℕ) (ts : List Lexeme) → first_terminal ts ≢ l → (rest : List Need) → verdict ts (item l ∷ rest) a ≡ Refused (refusal Syntax (first_place ts))
 unfolding verdict
 item_stops l a [] h rest = refl
 item_stops l a (t ∷ ts) h rest = ap (λ (b : Bool). go_on {needs = item l ∷ rest} (if b then Next rest a 0 (λ v. (t, v)) else Stuck) (verdict ts) t.place) (other (terminal t) l h)
 
-pub letter_moves : (x : Letter) (a : ℕ) (ts us : List Lexeme) (t : Lexeme) → ts ≡ t ∷ us → terminal t ≡ is.Word → t.text ≡ letter_text x → (rest : List Need) → verdict ts (letter x ∷ rest) a ≡ given (λ v. v) (verdict us rest a)
+pub letter_moves : (x : Letter) (a : ℕ) (ts us : List Lexeme) (t : Lexeme) → ts ≡ t ∷ us → terminal t ≡ is.Word →
+    t.text ≡ letter_text x → (rest : List Need) → verdict ts (letter x ∷ rest) a ≡ given (λ v. v) (verdict us rest a)
 unfolding verdict
-letter_moves x a ts us t e h i rest = ap (λ (ys : List Lexeme). verdict ys (letter x ∷ rest) a) e ∙ (ap (λ (b : Bool). go_on {needs = letter x ∷ rest} (if b && bytes_eq t.text (letter_text x) then Next rest a 0 (λ v. v) else Stuck) (verdict us) t.place) (is_same (terminal t) is.Word h) ∙ ap (λ (b : Bool). go_on {needs = letter x ∷ rest} (if b then Next rest a 0 (λ v. v) else Stuck) (verdict us) t.place) ((bytes_eq-Decides t.text (letter_text x)).1 i))
+letter_moves x a ts us t e h i rest =
+    ap (λ (ys : List Lexeme). verdict ys (letter x ∷ rest) a) e
+    ∙ (ap (λ (b : Bool). go_on {needs = letter x ∷ rest} (if b && bytes_eq t.text (letter_text x) then Next rest a 0 (λ v. v) else Stuck) (verdict us)
+    t.place) (is_same (terminal t) is.Word h) ∙ ap (λ (b : Bool). go_on {needs =
+    letter x ∷ rest} (if b then Next rest a 0 (λ v. v) else Stuck) (verdict us) t.place) ((bytes_eq-Decides t.text (letter_text x)).1 i))
 
 pub letter_stops : (x : Letter) (a : ℕ) (ts : List Lexeme) → ¬ Lettered x ts → (rest : List Need) → verdict ts (letter x ∷ rest) a ≡ Refused (refusal Syntax (first_place ts))
 unfolding verdict
 letter_stops x a [] h rest = refl
 letter_stops x a (t ∷ ts) h rest = one (same (terminal t) is.Word) (bytes_eq t.text (letter_text x)) refl refl
   where
-    one : (b c : Bool) → same (terminal t) is.Word ≡ b → bytes_eq t.text (letter_text x) ≡ c → go_on {needs = letter x ∷ rest} (if b && c then Next rest a 0 (λ v. v) else Stuck) (verdict ts) t.place ≡ Refused (refusal Syntax t.place)
+    one : (b c : Bool) → same (terminal t) is.Word ≡ b → bytes_eq t.text (letter_text x) ≡ c →
+        go_on {needs = letter x ∷ rest} (if b && c then Next rest a 0 (λ v. v) else Stuck) (verdict ts) t.place ≡ Refused (refusal Syntax t.place)
     one true true e f = absurd (h (same_is (terminal t) is.Word e, (bytes_eq-Decides t.text (letter_text x)).0 f))
     one true false e f = refl
     one false c e f = refl
 
 -- ---- parts
 
-pub enters : {p : Part} (c : Choice p) (n a : ℕ) (ts us : List Lexeme) (t : Lexeme) → ts ≡ t ∷ us → terminal t ≡ opening c → weight (cost c) n a ≤ limit → (rest : List Need) → verdict ts (part p n ∷ rest) a ≡ given (λ v. (choice_value c n t (front (following c n) rest v), behind (following c n) rest v)) (verdict us (following c n ++ rest) (counted (cost c) a))
+pub enters : {p : Part} (c : Choice p) (n a : ℕ) (ts us : List Lexeme) (t : Lexeme) → ts ≡ t ∷ us → terminal t ≡ opening c →
+    weight (cost c) n a ≤ limit → (rest : List Need) →
+    verdict ts (part p n ∷ rest) a ≡ given (λ v. (choice_value c n t (front (following c n) rest v), behind (following c n) rest v))
+    (verdict us (following c n ++ rest) (counted (cost c) a))
 unfolding verdict
-enters {p} c n a ts us t e h w rest = ap (λ (ys : List Lexeme). verdict ys (part p n ∷ rest) a) e ∙ (ap (λ (o : Option (Choice p)). go_on (entered p n rest a t o (absent_value p) (step rest a t)) (verdict us) t.place) (chooses c (terminal t) h) ∙ ap (λ (b : Bool). if b then given {needs = part p n ∷ rest} (λ v. (choice_value c n t (front (following c n) rest v), behind (following c n) rest v)) (verdict us (following c n ++ rest) (counted (cost c) a)) else Refused (refusal TooDeep t.place)) (le-leb (weight (cost c) n a) limit w))
+enters {p} c n a ts us t e h w rest =
+    ap (λ (ys : List Lexeme). verdict ys (part p n ∷ rest) a) e
+    ∙ (ap (λ (o : Option (Choice p)). go_on (entered p n rest a t o (absent_value p) (step rest a t)) (verdict us) t.place) (chooses c (terminal t) h)
+    ∙ ap (λ (b : Bool). if b then given {needs =
+    part p n ∷ rest} (λ v. (choice_value c n t (front (following c n) rest v), behind (following c n) rest v))
+    (verdict us (following c n ++ rest) (counted (cost c) a)) else Refused (refusal TooDeep t.place)) (le-leb (weight (cost c) n a) limit w))
 
-pub too_deep : {p : Part} (c : Choice p) (n a : ℕ) (ts us : List Lexeme) (t : Lexeme) → ts ≡ t ∷ us → terminal t ≡ opening c → limit < weight (cost c) n a → (rest : List Need) → verdict ts (part p n ∷ rest) a ≡ Refused (refusal TooDeep t.place)
+pub too_deep : {p : Part} (c : Choice p) (n a : ℕ) (ts us : List Lexeme) (t : Lexeme) → ts ≡ t ∷ us → terminal t ≡ opening c →
+    limit < weight (cost c) n a → (rest : List Need) → verdict ts (part p n ∷ rest) a ≡ Refused (refusal TooDeep t.place)
 unfolding verdict
-too_deep {p} c n a ts us t e h w rest = ap (λ (ys : List Lexeme). verdict ys (part p n ∷ rest) a) e ∙ (ap (λ (o : Option (Choice p)). go_on (entered p n rest a t o (absent_value p) (step rest a t)) (verdict us) t.place) (chooses c (terminal t) h) ∙ ap (λ (b : Bool). if b then given {needs = part p n ∷ rest} (λ v. (choice_value c n t (front (following c n) rest v), behind (following c n) rest v)) (verdict us (following c n ++ rest) (counted (cost c) a)) else Refused (refusal TooDeep t.place)) (lt-leb (weight (cost c) n a) limit w))
+too_deep {p} c n a ts us t e h w rest =
+    ap (λ (ys : List Lexeme). verdict ys (part p n ∷ rest) a) e
+    ∙ (ap (λ (o : Option (Choice p)). go_on (entered p n rest a t o (absent_value p) (step rest a t)) (verdict us) t.place) (chooses c (terminal t) h)
+    ∙ ap (λ (b : Bool). if b then given {needs =
+    part p n ∷ rest} (λ v. (choice_value c n t (front (following c n) rest v), behind (following c n) rest v))
+    (verdict us (following c n ++ rest) (counted (cost c) a)) else Refused (refusal TooDeep t.place)) (lt-leb (weight (cost c) n a) limit w))
 
-pass : (needs later : List Need) (f : Values later → Values needs) (s : Step later) (us : List Lexeme) (place : Place) → go_on {needs = needs} (passed s f) (verdict us) place ≡ given {needs = needs} f (go_on s (verdict us) place)
+pass : (needs later : List Need) (f : Values later → Values needs) (s : Step later) (us : List Lexeme) (place : Place) →
+    go_on {needs = needs} (passed s f) (verdict us) place ≡ given {needs = needs} f (go_on s (verdict us) place)
 pass needs later f (Next more a m build) us place = one (nat_le m limit) (verdict us more a)
   where
-    one : (b : Bool) (x : Verdict more) → (if b then given {needs = needs} (λ v. f (build v)) x else Refused (refusal TooDeep place)) ≡ given {needs = needs} f (if b then given {needs = later} build x else Refused (refusal TooDeep place))
+    one : (b : Bool) (x : Verdict more) → (if b then given {needs = needs} (λ v. f (build v)) x else Refused (refusal TooDeep place)) ≡ given {needs =
+        needs} f (if b then given {needs = later} build x else Refused (refusal TooDeep place))
     one true (Complete v) = refl
     one true (Refused r) = refl
     one false x = refl
 pass needs later f Stuck us place = refl
 
-pub skips : (p : Part) (n a : ℕ) (ts : List Lexeme) (v : Meaning p) → choice p (first_terminal ts) ≡ None → absent_value p ≡ Some v → (rest : List Need) → verdict ts (part p n ∷ rest) a ≡ given (λ w. (v, w)) (verdict ts rest a)
+pub skips : (p : Part) (n a : ℕ) (ts : List Lexeme) (v : Meaning p) → choice p (first_terminal ts) ≡ None →
+    absent_value p ≡ Some v → (rest : List Need) → verdict ts (part p n ∷ rest) a ≡ given (λ w. (v, w)) (verdict ts rest a)
 unfolding verdict
 skips p n a [] v e h rest = ap (λ (o : Option (Meaning p)). finish_part {p = p} {n = n} o (finish rest)) h
-skips p n a (t ∷ us) v e h rest = ap (λ (o : Option (Choice p)). go_on (entered p n rest a t o (absent_value p) (step rest a t)) (verdict us) t.place) e ∙ (ap (λ (o : Option (Meaning p)). go_on (entered p n rest a t None o (step rest a t)) (verdict us) t.place) h ∙ pass (part p n ∷ rest) rest (λ w. (v, w)) (step rest a t) us t.place)
+skips p n a (t ∷ us) v e h rest =
+    ap (λ (o : Option (Choice p)). go_on (entered p n rest a t o (absent_value p) (step rest a t)) (verdict us) t.place) e
+    ∙ (ap (λ (o : Option (Meaning p)). go_on (entered p n rest a t None o (step rest a t)) (verdict us) t.place) h
+    ∙ pass (part p n ∷ rest) rest (λ w. (v, w)) (step rest a t) us t.place)
 
-pub stuck : (p : Part) (n a : ℕ) (ts : List Lexeme) → choice p (first_terminal ts) ≡ None → absent_value p ≡ None → (rest : List Need) → verdict ts (part p n ∷ rest) a ≡ Refused (refusal Syntax (first_place ts))
+pub stuck : (p : Part) (n a : ℕ) (ts : List Lexeme) → choice p (first_terminal ts) ≡ None →
+    absent_value p ≡ None → (rest : List Need) → verdict ts (part p n ∷ rest) a ≡ Refused (refusal Syntax (first_place ts))
 unfolding verdict
 stuck p n a [] e h rest = ap (λ (o : Option (Meaning p)). finish_part {p = p} {n = n} o (finish rest)) h
-stuck p n a (t ∷ us) e h rest = ap (λ (o : Option (Choice p)). go_on (entered p n rest a t o (absent_value p) (step rest a t)) (verdict us) t.place) e ∙ ap (λ (o : Option (Meaning p)). go_on (entered p n rest a t None o (step rest a t)) (verdict us) t.place) h
+stuck p n a (t ∷ us) e h rest = ap (λ (o : Option (Choice p)). go_on (entered p n rest a t o (absent_value p) (step rest a t)) (verdict us) t.place) e
+    ∙ ap (λ (o : Option (Meaning p)). go_on (entered p n rest a t None o (step rest a t)) (verdict us) t.place) h
 
 -- an expression of its own
 pub begins : (a : ℕ) (ts : List Lexeme) (rest : List Need) → verdict ts (fresh ∷ rest) a ≡ given (λ v. v) (verdict ts rest 0)
@@ -120,7 +151,20 @@ begins a (t ∷ us) rest = pass (fresh ∷ rest) rest (λ v. v) (step rest 0 t) 
 
 -- ---- groups
 
-group_next : (h : Group) (n a : ℕ) (us : List Lexeme) (t : Lexeme) (rest : List Need) (c : Choice (lead h)) (b : Bool) (x : Verdict (following c n ++ (others h n ++ rest))) → (if b then given {needs = group h n ∷ rest} (λ v. (group_value h n (choice_value c n t (front (following c n) (others h n ++ rest) v)) (front (others h n) rest (behind (following c n) (others h n ++ rest) v)), behind (others h n) rest (behind (following c n) (others h n ++ rest) v))) x else Refused (refusal TooDeep t.place)) ≡ given (λ v. (group_value h n v.0 (front (others h n) rest v.1), behind (others h n) rest v.1)) (if b then given {needs = part (lead h) n ∷ (others h n ++ rest)} (λ v. (choice_value c n t (front (following c n) (others h n ++ rest) v), behind (following c n) (others h n ++ rest) v)) x else Refused (refusal TooDeep t.place))
+group_next : (h : Group) (n a : ℕ) (us : List Lexeme) (t : Lexeme) (rest : List Need) (c : Choice (lead h)) (b : Bool)
+    (x : Verdict (following c n ++ (others h n ++ rest))) →
+    (if b then given {needs =
+    group h n ∷ rest} (λ v. (
+      group_value h n (choice_value c n t (front (following c n) (others h n ++ rest) v))
+          (front (others h n) rest (behind (following c n) (others h n ++ rest) v)),
+      behind
+          (others h n) rest (behind (following c n) (others h n ++ rest) v),
+    )) x else Refused (refusal TooDeep t.place))
+    ≡ given (λ v. (group_value h n v.0 (front (others h n) rest v.1), behind (others h n) rest v.1))
+    (if b then given {needs =
+    part (lead h) n ∷ (others h n
+    ++ rest)} (λ v. (choice_value c n t (front (following c n) (others h n ++ rest) v), behind (following c n) (others h n ++ rest) v))
+    x else Refused (refusal TooDeep t.place))
 group_next h n a us t rest c true (Complete v) = refl
 group_next h n a us t rest c true (Refused r) = refl
 group_next h n a us t rest c false x = refl
@@ -129,11 +173,16 @@ group_next h n a us t rest c false x = refl
 abbrev pub Leads : Group → List Lexeme → Type 0
 Leads h ts = is_some (choice (lead h) (first_terminal ts)) ≡ true
 
-group_one : (h : Group) (n a : ℕ) (us : List Lexeme) (t : Lexeme) (rest : List Need) (o : Option (Choice (lead h))) → is_some o ≡ true → go_on (group_entered h n rest a t o (absent_group h) (step rest a t)) (verdict us) t.place ≡ given (λ v. (group_value h n v.0 (front (others h n) rest v.1), behind (others h n) rest v.1)) (go_on (entered (lead h) n (others h n ++ rest) a t o (absent_value (lead h)) (step (others h n ++ rest) a t)) (verdict us) t.place)
+group_one : (h : Group) (n a : ℕ) (us : List Lexeme) (t : Lexeme) (rest : List Need) (o : Option (Choice (lead h))) → is_some o ≡ true →
+    go_on (group_entered h n rest a t o (absent_group h) (step rest a t)) (verdict us) t.place
+    ≡ given (λ v. (group_value h n v.0 (front (others h n) rest v.1), behind (others h n) rest v.1))
+    (go_on (entered (lead h) n (others h n ++ rest) a t o (absent_value (lead h)) (step (others h n ++ rest) a t)) (verdict us) t.place)
 group_one h n a us t rest None e = absurd cc
 group_one h n a us t rest (Some c) e = group_next h n a us t rest c (nat_le (weight (cost c) n a) limit) (verdict us (following c n ++ (others h n ++ rest)) (counted (cost c) a))
 
-pub leads_on : (h : Group) (n a : ℕ) (ts : List Lexeme) → Leads h ts → (rest : List Need) → verdict ts (group h n ∷ rest) a ≡ given (λ v. (group_value h n v.0 (front (others h n) rest v.1), behind (others h n) rest v.1)) (verdict ts (part (lead h) n ∷ (others h n ++ rest)) a)
+pub leads_on : (h : Group) (n a : ℕ) (ts : List Lexeme) → Leads h ts → (rest : List Need) →
+    verdict ts (group h n ∷ rest) a ≡ given (λ v. (group_value h n v.0 (front (others h n) rest v.1), behind (others h n) rest v.1))
+    (verdict ts (part (lead h) n ∷ (others h n ++ rest)) a)
 unfolding verdict
 leads_on h n a [] e rest = absurd (let z = at_end h in cc)
   where
@@ -154,23 +203,39 @@ leads_on h n a [] e rest = absurd (let z = at_end h in cc)
 leads_on h n a (t ∷ us) e rest = group_one h n a us t rest (choice (lead h) (terminal t)) e
 
 -- a group that is never left out
-pub always : (h : Group) (n a : ℕ) (ts : List Lexeme) → absent_group h ≡ None → (rest : List Need) → verdict ts (group h n ∷ rest) a ≡ given (λ v. (group_value h n v.0 (front (others h n) rest v.1), behind (others h n) rest v.1)) (verdict ts (part (lead h) n ∷ (others h n ++ rest)) a)
+pub always : (h : Group) (n a : ℕ) (ts : List Lexeme) → absent_group h ≡ None → (rest : List Need) →
+    verdict ts (group h n ∷ rest) a ≡ given (λ v. (group_value h n v.0 (front (others h n) rest v.1), behind (others h n) rest v.1))
+    (verdict ts (part (lead h) n ∷ (others h n ++ rest)) a)
 unfolding verdict
-always h n a [] e rest = ap (λ (o : Option (GroupMeaning h)). finish_group {h = h} {n = n} o (finish rest)) e ∙ ap (λ (o : Option (Meaning (lead h))). given {needs = group h n ∷ rest} (λ v. (group_value h n v.0 (front (others h n) rest v.1), behind (others h n) rest v.1)) (finish_part {p = lead h} {n = n} o (finish (others h n ++ rest)))) (sym (leads h))
+always h n a [] e rest = ap (λ (o : Option (GroupMeaning h)). finish_group {h = h} {n = n} o (finish rest)) e
+    ∙ ap (λ (o : Option (Meaning (lead h))). given {needs =
+    group h n ∷ rest} (λ v. (group_value h n v.0 (front (others h n) rest v.1), behind (others h n) rest v.1))
+    (finish_part {p = lead h} {n = n} o (finish (others h n ++ rest)))) (sym (leads h))
 always h n a (t ∷ us) e rest = one (choice (lead h) (terminal t))
   where
-    one : (o : Option (Choice (lead h))) → go_on (group_entered h n rest a t o (absent_group h) (step rest a t)) (verdict us) t.place ≡ given (λ v. (group_value h n v.0 (front (others h n) rest v.1), behind (others h n) rest v.1)) (go_on (entered (lead h) n (others h n ++ rest) a t o (absent_value (lead h)) (step (others h n ++ rest) a t)) (verdict us) t.place)
+    one : (o : Option (Choice (lead h))) →
+        go_on (group_entered h n rest a t o (absent_group h) (step rest a t)) (verdict us) t.place
+        ≡ given (λ v. (group_value h n v.0 (front (others h n) rest v.1), behind (others h n) rest v.1))
+        (go_on (entered (lead h) n (others h n ++ rest) a t o (absent_value (lead h)) (step (others h n ++ rest) a t)) (verdict us) t.place)
     one (Some c) = group_one h n a us t rest (Some c) refl
-    one None = ap (λ (o : Option (GroupMeaning h)). go_on (group_entered h n rest a t None o (step rest a t)) (verdict us) t.place) e ∙ ap (λ (o : Option (Meaning (lead h))). given {needs = group h n ∷ rest} (λ v. (group_value h n v.0 (front (others h n) rest v.1), behind (others h n) rest v.1)) (go_on (entered (lead h) n (others h n ++ rest) a t None o (step (others h n ++ rest) a t)) (verdict us) t.place)) (sym (leads h))
+    one None = ap (λ (o : Option (GroupMeaning h)). go_on (group_entered h n rest a t None o (step rest a t)) (verdict us) t.place) e
+        ∙ ap (λ (o : Option (Meaning (lead h))). given {needs =
+        group h n ∷ rest} (λ v. (group_value h n v.0 (front (others h n) rest v.1), behind (others h n) rest v.1))
+        (go_on (entered (lead h) n (others h n ++ rest) a t None o (step (others h n ++ rest) a t)) (verdict us) t.place)) (sym (leads h))
 
-pub skips_group : (h : Group) (n a : ℕ) (ts : List Lexeme) (v : GroupMeaning h) → choice (lead h) (first_terminal ts) ≡ None → absent_group h ≡ Some v → (rest : List Need) → verdict ts (group h n ∷ rest) a ≡ given (λ w. (v, w)) (verdict ts rest a)
+pub skips_group : (h : Group) (n a : ℕ) (ts : List Lexeme) (v : GroupMeaning h) → choice (lead h) (first_terminal ts) ≡ None →
+    absent_group h ≡ Some v → (rest : List Need) → verdict ts (group h n ∷ rest) a ≡ given (λ w. (v, w)) (verdict ts rest a)
 unfolding verdict
 skips_group h n a [] v e i rest = ap (λ (o : Option (GroupMeaning h)). finish_group {h = h} {n = n} o (finish rest)) i
-skips_group h n a (t ∷ us) v e i rest = ap (λ (o : Option (Choice (lead h))). go_on (group_entered h n rest a t o (absent_group h) (step rest a t)) (verdict us) t.place) e ∙ (ap (λ (o : Option (GroupMeaning h)). go_on (group_entered h n rest a t None o (step rest a t)) (verdict us) t.place) i ∙ pass (group h n ∷ rest) rest (λ w. (v, w)) (step rest a t) us t.place)
+skips_group h n a (t ∷ us) v e i rest =
+    ap (λ (o : Option (Choice (lead h))). go_on (group_entered h n rest a t o (absent_group h) (step rest a t)) (verdict us) t.place) e
+    ∙ (ap (λ (o : Option (GroupMeaning h)). go_on (group_entered h n rest a t None o (step rest a t)) (verdict us) t.place) i
+    ∙ pass (group h n ∷ rest) rest (λ w. (v, w)) (step rest a t) us t.place)
 
 -- ---- two ways to the same tokens
 
-pub through : {xs ys zs : List Need} {x : Verdict xs} {y : Verdict ys} {z : Verdict zs} {f : Values zs → Values xs} {h : Values zs → Values ys} (k : Values ys → Values xs) → Moves x z f → Moves y z h → ((v : Values zs) → f v ≡ k (h v)) → Moves x y k
+pub through : {xs ys zs : List Need} {x : Verdict xs} {y : Verdict ys} {z : Verdict zs} {f : Values zs → Values xs}
+    {h : Values zs → Values ys} (k : Values ys → Values xs) → Moves x z f → Moves y z h → ((v : Values zs) → f v ≡ k (h v)) → Moves x y k
 through {xs} {ys} {zs} {x} {y} {z} {f} {h} k d e equal = record { is = d.is ∙ (one z ∙ ap (λ (w : Verdict ys). given {needs = xs} k w) (sym e.is)) }
   where
     one : (z : Verdict zs) → given {needs = xs} f z ≡ given {needs = xs} k (given {needs = ys} h z)

@@ -82,4 +82,5 @@ global_holds true = refl
 global_holds false = refl
 
 pub name_holds : (n : SignalName) → IsName n → list_all is_name_byte (name_text n) ≡ true
-name_holds n is = both (global_text n.global ++ n.base) (assertion_text n.spec) (both (global_text n.global) n.base (global_holds n.global) (base_holds n.base is.base)) (assertion_holds n.spec is.assertion)
+name_holds n is = both (global_text n.global ++ n.base) (assertion_text n.spec)
+    (both (global_text n.global) n.base (global_holds n.global) (base_holds n.base is.base)) (assertion_holds n.spec is.assertion)

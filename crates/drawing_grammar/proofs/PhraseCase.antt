@@ -36,14 +36,18 @@ capped_again t n small e =
 
 -- ---- one entry
 
-entry_stands : (e : CaseEntry) (n : SignalName) (bit value : ℕ) (place : Place) → n ≡ e.name → bit ≡ e.bit → value ≡ e.value → unplaced_entry (record { name = n; bit = bit; value = value; place = place }) ≡ unplaced_entry e
+entry_stands : (e : CaseEntry) (n : SignalName) (bit value : ℕ) (place : Place) → n ≡ e.name →
+    bit ≡ e.bit → value ≡ e.value → unplaced_entry (record { name = n; bit = bit; value = value; place = place }) ≡ unplaced_entry e
 entry_stands e n bit value place a b c = rw (a, b, c) refl
 
-entry_spelled : (ts z0 value z1 middle z2 bit named opening greater_ equals_ : List Lexeme) (t l i c q v : Lexeme) (rest : List Lexeme) → ts ≡ z0 ++ value → z0 ≡ z1 ++ middle → z1 ≡ z2 ++ bit → z2 ≡ named ++ opening → middle ≡ greater_ ++ equals_ → named ≡ t ∷ [] → opening ≡ l ∷ [] → bit ≡ i ∷ [] → greater_ ≡ c ∷ [] → equals_ ≡ q ∷ [] → value ≡ v ∷ [] →
+entry_spelled : (ts z0 value z1 middle z2 bit named opening greater_ equals_ : List Lexeme) (t l i c q v : Lexeme) (rest : List Lexeme) →
+    ts ≡ z0 ++ value → z0 ≡ z1 ++ middle → z1 ≡ z2 ++ bit → z2 ≡ named ++ opening → middle ≡ greater_ ++ equals_ →
+    named ≡ t ∷ [] → opening ≡ l ∷ [] → bit ≡ i ∷ [] → greater_ ≡ c ∷ [] → equals_ ≡ q ∷ [] → value ≡ v ∷ [] →
     t ∷ l ∷ i ∷ c ∷ q ∷ v ∷ rest ≡ ts ++ rest
 entry_spelled ts z0 value z1 middle z2 bit named opening greater_ equals_ t l i c q v rest a b d e f h j k m n o = rw (a, b, d, e, f, h, j, k, m, n, o) refl
 
-entry_built : (e : CaseEntry) → IsDrawnEntry e → (ts : List Lexeme) → Are ts (entry_tokens e) → (rest : List Need) (w : Written rest) → PartBuilt Entry (λ v. unplaced_entry v ≡ unplaced_entry e) ts rest w
+entry_built : (e : CaseEntry) → IsDrawnEntry e → (ts : List Lexeme) → Are ts (entry_tokens e) →
+    (rest : List Need) (w : Written rest) → PartBuilt Entry (λ v. unplaced_entry v ≡ unplaced_entry e) ts rest w
 unfolding symbol_terminal
 entry_built e is ts are rest w =
     let p2 = name (name_text e.name) ++ less in
@@ -69,7 +73,8 @@ entry_built e is ts are rest w =
       written = chosen g.entry t.token opens (chosen g.index l.token begins (token i.token bits (marked c.token closes (marked q.token equal (token v.token valued w)))));
       spelled = entry_spelled ts a0.first a0.second a1.first a1.second a2.first a2.second a3.first a3.second a4.first a4.second t.token l.token i.token c.token q.token v.token (spelling w)
           a0.whole a1.whole a2.whole a3.whole a4.whole t.whole l.whole i.whole c.whole q.whole v.whole;
-      stands = entry_stands e (signal_of t.token) (capped i.token) (capped v.token) t.token.place (signal_again t.token e.name is.name t.is) (capped_again i.token e.bit is.bit i.is) (capped_again v.token e.value is.value v.is);
+      stands = entry_stands e (signal_of t.token) (capped i.token) (capped v.token) t.token.place
+          (signal_again t.token e.name is.name t.is) (capped_again i.token e.bit is.bit i.is) (capped_again v.token e.value is.value v.is);
       others = refl;
       fits = λ f a. (omega arith, (omega arith, (omega arith, (omega arith, (omega arith, (omega arith, f a))))));
     }
@@ -80,7 +85,8 @@ entry_built e is ts are rest w =
 abbrev AreEntries : List CaseEntry → List CaseEntry → Type 0
 AreEntries es v = map unplaced_entry v ≡ map unplaced_entry es
 
-more_entries : (es : List CaseEntry) → AllByRecursion IsDrawnEntry es → (ts : List Lexeme) → Are ts (flat_map (λ e. comma ++ entry_tokens e) es) → (rest : List Need) (w : Written rest) → PartBuilt MoreEntries (AreEntries es) ts rest w
+more_entries : (es : List CaseEntry) → AllByRecursion IsDrawnEntry es → (ts : List Lexeme) →
+    Are ts (flat_map (λ e. comma ++ entry_tokens e) es) → (rest : List Need) (w : Written rest) → PartBuilt MoreEntries (AreEntries es) ts rest w
 unfolding symbol_terminal
 more_entries [] is ts are rest w = record { written = left_out [] refl w; spelled = nothing_spelled ts (spelling w) are; stands = refl; others = refl; fits = λ f a. f a }
 more_entries (e ∷ es) is ts are rest w =
@@ -94,12 +100,14 @@ more_entries (e ∷ es) is ts are rest w =
       written = chosen g.next_entry t.token opens b.written;
       spelled = ap (λ (us : List Lexeme). t.token ∷ us) (b.spelled ∙ ap (λ (us : List Lexeme). one.second ++ us) m.spelled)
           ∙ spelled_item ts one.first one.second two.first two.second t.token (spelling w) two.whole one.whole t.whole;
-      stands = cons_stands (unplaced_entry e) (map unplaced_entry es) (unplaced_entry (values b.written).0) (map unplaced_entry (values b.written).1.0) b.stands (ap (λ (v : Values (part MoreEntries 0 ∷ rest)). map unplaced_entry v.0) b.others ∙ m.stands);
+      stands = cons_stands (unplaced_entry e) (map unplaced_entry es) (unplaced_entry (values b.written).0) (map unplaced_entry
+          (values b.written).1.0) b.stands (ap (λ (v : Values (part MoreEntries 0 ∷ rest)). map unplaced_entry v.0) b.others ∙ m.stands);
       others = ap (λ (v : Values (part MoreEntries 0 ∷ rest)). v.1) b.others ∙ m.others;
       fits = λ f a. (omega arith, b.fits (λ d. m.fits f d) a);
     }
 
-entries_built : (es : List CaseEntry) → HasOne es → AllByRecursion IsDrawnEntry es → (ts : List Lexeme) → Are ts (listed_tokens entry_tokens es) → (rest : List Need) (w : Written rest) → GroupBuilt Entries (AreEntries es) ts rest w
+entries_built : (es : List CaseEntry) → HasOne es → AllByRecursion IsDrawnEntry es → (ts : List Lexeme) →
+    Are ts (listed_tokens entry_tokens es) → (rest : List Need) (w : Written rest) → GroupBuilt Entries (AreEntries es) ts rest w
 entries_built [] some is ts are rest w = absurd some
 entries_built (e ∷ es) some is ts are rest w =
     let two = parts ts (entry_tokens e) (flat_map (λ x. comma ++ entry_tokens x) es) are in
@@ -108,7 +116,8 @@ entries_built (e ∷ es) some is ts are rest w =
     record {
       written = grouped b.written;
       spelled = b.spelled ∙ (ap (λ (us : List Lexeme). two.first ++ us) m.spelled ∙ spelled_two ts two.first two.second (spelling w) two.whole);
-      stands = cons_stands (unplaced_entry e) (map unplaced_entry es) (unplaced_entry (values b.written).0) (map unplaced_entry (values b.written).1.0) b.stands (ap (λ (v : Values (part MoreEntries 0 ∷ rest)). map unplaced_entry v.0) b.others ∙ m.stands);
+      stands = cons_stands (unplaced_entry e) (map unplaced_entry es) (unplaced_entry (values b.written).0) (map unplaced_entry
+          (values b.written).1.0) b.stands (ap (λ (v : Values (part MoreEntries 0 ∷ rest)). map unplaced_entry v.0) b.others ∙ m.stands);
       others = ap (λ (v : Values (part MoreEntries 0 ∷ rest)). v.1) b.others ∙ m.others;
       fits = λ f a. b.fits (λ d. m.fits f d) a;
     }
@@ -118,7 +127,8 @@ entries_built (e ∷ es) some is ts are rest w =
 case_stands : (c : CaseStmt) (es : List CaseEntry) (place : Place) → AreEntries c.entries es → unplaced_case (record { entries = es; place = place }) ≡ unplaced_case c
 case_stands c es place a = rw a refl
 
-case_built : (c : CaseStmt) → IsDrawnCase c → (ts : List Lexeme) → Are ts (case_tokens c) → (rest : List Need) (w : Written rest) → PartBuilt CaseStatement (λ v. unplaced_case v ≡ unplaced_case c) ts rest w
+case_built : (c : CaseStmt) → IsDrawnCase c → (ts : List Lexeme) → Are ts (case_tokens c) →
+    (rest : List Need) (w : Written rest) → PartBuilt CaseStatement (λ v. unplaced_case v ≡ unplaced_case c) ts rest w
 unfolding symbol_terminal word_terminal
 case_built c is ts are rest w =
     let a0 = parts ts (word (codes "CASE") ++ listed_tokens entry_tokens c.entries) semicolon are in
@@ -140,7 +150,8 @@ case_built c is ts are rest w =
 abbrev pub AreCases : List CaseStmt → List CaseStmt → Type 0
 AreCases cs v = map unplaced_case v ≡ map unplaced_case cs
 
-pub cases_built : (cs : List CaseStmt) → AllByRecursion IsDrawnCase cs → (ts : List Lexeme) → Are ts (flat_map case_tokens cs) → (rest : List Need) (w : Written rest) → GroupBuilt Cases (AreCases cs) ts rest w
+pub cases_built : (cs : List CaseStmt) → AllByRecursion IsDrawnCase cs → (ts : List Lexeme) →
+    Are ts (flat_map case_tokens cs) → (rest : List Need) (w : Written rest) → GroupBuilt Cases (AreCases cs) ts rest w
 cases_built [] is ts are rest w = record { written = lacking [] refl w; spelled = nothing_spelled ts (spelling w) are; stands = refl; others = refl; fits = λ f a. f a }
 cases_built (c ∷ cs) is ts are rest w =
     let two = parts ts (case_tokens c) (flat_map case_tokens cs) are in
@@ -149,7 +160,8 @@ cases_built (c ∷ cs) is ts are rest w =
     record {
       written = grouped b.written;
       spelled = b.spelled ∙ (ap (λ (us : List Lexeme). two.first ++ us) more.spelled ∙ spelled_two ts two.first two.second (spelling w) two.whole);
-      stands = cons_stands (unplaced_case c) (map unplaced_case cs) (unplaced_case (values b.written).0) (map unplaced_case (values b.written).1.0) b.stands (ap (λ (v : Values (group Cases 0 ∷ rest)). map unplaced_case v.0) b.others ∙ more.stands);
+      stands = cons_stands (unplaced_case c) (map unplaced_case cs) (unplaced_case (values b.written).0) (map unplaced_case (values b.written).1.0)
+          b.stands (ap (λ (v : Values (group Cases 0 ∷ rest)). map unplaced_case v.0) b.others ∙ more.stands);
       others = ap (λ (v : Values (group Cases 0 ∷ rest)). v.1) b.others ∙ more.others;
       fits = λ f a. b.fits (λ d. more.fits f d) a;
     }

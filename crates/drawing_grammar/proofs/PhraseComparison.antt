@@ -84,7 +84,8 @@ compared_unequal b bs more right n ts are rest w =
     let r = sum_group b bs more right n two.second two.back rest w in
     record {
       written = chosen g.unequal t.token opens (marked u.token next r.written);
-      spelled = ap (λ (us : List Lexeme). t.token ∷ u.token ∷ us) r.spelled ∙ spelled_pair ts one.first one.second two.first two.second t.token u.token (spelling w) two.whole one.whole t.whole u.whole;
+      spelled = ap (λ (us : List Lexeme). t.token ∷ u.token ∷ us) r.spelled
+          ∙ spelled_pair ts one.first one.second two.first two.second t.token u.token (spelling w) two.whole one.whole t.whole u.whole;
       stands = λ left. ap (λ (y : Expression). e.Binary op.Ne left y) r.stands;
       others = r.others;
       fits = λ a h m f. (omega arith, (omega arith, r.fits (suc a) h m f));
@@ -132,7 +133,8 @@ compared_at_most b bs more right n ts are rest w =
     let r = sum_group b bs more right n two.second two.back rest w in
     record {
       written = chosen g.below t.token opens (chosen g.or_equal u.token next r.written);
-      spelled = ap (λ (us : List Lexeme). t.token ∷ u.token ∷ us) r.spelled ∙ spelled_pair ts one.first one.second two.first two.second t.token u.token (spelling w) two.whole one.whole t.whole u.whole;
+      spelled = ap (λ (us : List Lexeme). t.token ∷ u.token ∷ us) r.spelled
+          ∙ spelled_pair ts one.first one.second two.first two.second t.token u.token (spelling w) two.whole one.whole t.whole u.whole;
       stands = λ left. ap (λ (y : Expression). e.Binary op.Le left y) r.stands;
       others = r.others;
       fits = λ a h m f. (omega arith, (omega arith, r.fits (suc a) h m f));
@@ -150,7 +152,8 @@ compared_at_least b bs more right n ts are rest w =
     let r = sum_group b bs more right n two.second two.back rest w in
     record {
       written = chosen g.above t.token opens (chosen g.or_equal u.token next r.written);
-      spelled = ap (λ (us : List Lexeme). t.token ∷ u.token ∷ us) r.spelled ∙ spelled_pair ts one.first one.second two.first two.second t.token u.token (spelling w) two.whole one.whole t.whole u.whole;
+      spelled = ap (λ (us : List Lexeme). t.token ∷ u.token ∷ us) r.spelled
+          ∙ spelled_pair ts one.first one.second two.first two.second t.token u.token (spelling w) two.whole one.whole t.whole u.whole;
       stands = λ left. ap (λ (y : Expression). e.Binary op.Ge left y) r.stands;
       others = r.others;
       fits = λ a h m f. (omega arith, (omega arith, r.fits (suc a) h m f));

@@ -91,10 +91,12 @@ last_built (Some x) is ts are rest w =
       fits = λ f a. (omega arith, s.fits f a);
     }
 
-range_stands : (range : tree.Range) (first : Expression) (last : Option Expression) → first ≡ range.first → last ≡ range.last → Some (let r : tree.Range = record { first = first; last = last } in r) ≡ Some range
+range_stands : (range : tree.Range) (first : Expression) (last : Option Expression) → first ≡ range.first →
+    last ≡ range.last → Some (let r : tree.Range = record { first = first; last = last } in r) ≡ Some range
 range_stands range first last e f = rw (e, f) refl
 
-pub range_built : (range : Option tree.Range) → IfSome range IsShortRange → (ts : List Lexeme) → Are ts (range_tokens range) → (rest : List Need) (w : Written rest) → PartBuilt Range (λ v. v ≡ range) ts rest w
+pub range_built : (range : Option tree.Range) → IfSome range IsShortRange → (ts : List Lexeme) →
+    Are ts (range_tokens range) → (rest : List Need) (w : Written rest) → PartBuilt Range (λ v. v ≡ range) ts rest w
 unfolding symbol_terminal
 range_built None is ts are rest w = record { written = left_out None refl w; spelled = nothing_spelled ts (spelling w) are; stands = refl; others = refl; fits = λ f a. f a }
 range_built (Some range) is ts are rest w =
@@ -139,8 +141,11 @@ term_stands : (complemented : Bool) (item other : tree.Item) → item ≡ other 
 term_stands complemented item other e = rw e refl
 
 -- a name and its range, behind whatever begins with the name
-name_range : (n : SignalName) (range : Option tree.Range) → IsShortItem (tree.Named n range) → (p : Part) (good : Meaning p → Type 0) (ts : List Lexeme) → Are ts (signal_tokens n range) → (rest : List Need) (w : Written rest) →
-    ((t : Lexeme) → terminal t ≡ NameTerminal → signal_of t ≡ n → (r : Written (part Range 0 ∷ rest)) → (values r).0 ≡ range → (values r).1 ≡ values w → (((a : ℕ) → Fits w a) → (a : ℕ) → Fits r a) → (us : List Lexeme) → spelling r ≡ us ++ spelling w → PartBuilt p good (t ∷ us) rest w) → PartBuilt p good ts rest w
+name_range : (n : SignalName) (range : Option tree.Range) → IsShortItem (tree.Named n range) →
+    (p : Part) (good : Meaning p → Type 0) (ts : List Lexeme) → Are ts (signal_tokens n range) → (rest : List Need) (w : Written rest) →
+    ((t : Lexeme) → terminal t ≡ NameTerminal → signal_of t ≡ n → (r : Written (part Range 0 ∷ rest)) → (values r).0 ≡ range →
+    (values r).1 ≡ values w → (((a : ℕ) → Fits w a) → (a : ℕ) → Fits r a) → (us : List Lexeme) →
+    spelling r ≡ us ++ spelling w → PartBuilt p good (t ∷ us) rest w) → PartBuilt p good ts rest w
 name_range n range is p good ts are rest w go =
     let two = parts ts (name (name_text n)) (range_tokens range) are in
     let t = single two.first (leaf.name (name_text n)) two.front in
@@ -153,10 +158,24 @@ atom_built : (item : tree.Item) → IsShortItem item → (ts : List Lexeme) → 
 unfolding word_terminal
 atom_built tree.Zero is ts are rest w =
     let t = single ts (leaf.word (codes "ZERO")) are in
-    record { written = chosen g.zero_atom t.token (terminal_is t.token (leaf.word (codes "ZERO")) t.is) w; spelled = spelled_single ts t.token (spelling w) t.whole; stands = refl; others = refl; fits = λ f a. (omega arith, f a) }
+    record {
+      written = chosen g.zero_atom t.token (terminal_is t.token (leaf.word (codes "ZERO")) t.is) w;
+      spelled =
+          spelled_single ts t.token (spelling w) t.whole;
+      stands = refl;
+      others = refl;
+      fits = λ f a. (omega arith, f a);
+    }
 atom_built tree.One is ts are rest w =
     let t = single ts (leaf.word (codes "ONE")) are in
-    record { written = chosen g.one_atom t.token (terminal_is t.token (leaf.word (codes "ONE")) t.is) w; spelled = spelled_single ts t.token (spelling w) t.whole; stands = refl; others = refl; fits = λ f a. (omega arith, f a) }
+    record {
+      written = chosen g.one_atom t.token (terminal_is t.token (leaf.word (codes "ONE")) t.is) w;
+      spelled =
+          spelled_single ts t.token (spelling w) t.whole;
+      stands = refl;
+      others = refl;
+      fits = λ f a. (omega arith, f a);
+    }
 atom_built (tree.Named n range) is ts are rest w =
     name_range n range is Atom (λ v. v ≡ tree.Named n range) ts are rest w (λ t opens named r stands others fits us spelled. record {
       written = chosen g.named_atom t opens r;
@@ -170,14 +189,29 @@ atom_built (tree.Named n range) is ts are rest w =
 abbrev pub IsTerm : tree.Term → Placed tree.Term → Type 0
 IsTerm x v = v.item ≡ x
 
-plain_term : (item : tree.Item) → IsShortItem item → (ts : List Lexeme) → Are ts (item_tokens item) → (rest : List Need) (w : Written rest) → PartBuilt Term (IsTerm (record { minus = false; item = item })) ts rest w
+plain_term : (item : tree.Item) → IsShortItem item → (ts : List Lexeme) → Are ts (item_tokens item) →
+    (rest : List Need) (w : Written rest) → PartBuilt Term (IsTerm (record { minus = false; item = item })) ts rest w
 unfolding word_terminal
 plain_term tree.Zero is ts are rest w =
     let t = single ts (leaf.word (codes "ZERO")) are in
-    record { written = chosen g.zero_term t.token (terminal_is t.token (leaf.word (codes "ZERO")) t.is) w; spelled = spelled_single ts t.token (spelling w) t.whole; stands = refl; others = refl; fits = λ f a. (omega arith, f a) }
+    record {
+      written = chosen g.zero_term t.token (terminal_is t.token (leaf.word (codes "ZERO")) t.is) w;
+      spelled =
+          spelled_single ts t.token (spelling w) t.whole;
+      stands = refl;
+      others = refl;
+      fits = λ f a. (omega arith, f a);
+    }
 plain_term tree.One is ts are rest w =
     let t = single ts (leaf.word (codes "ONE")) are in
-    record { written = chosen g.one_term t.token (terminal_is t.token (leaf.word (codes "ONE")) t.is) w; spelled = spelled_single ts t.token (spelling w) t.whole; stands = refl; others = refl; fits = λ f a. (omega arith, f a) }
+    record {
+      written = chosen g.one_term t.token (terminal_is t.token (leaf.word (codes "ONE")) t.is) w;
+      spelled =
+          spelled_single ts t.token (spelling w) t.whole;
+      stands = refl;
+      others = refl;
+      fits = λ f a. (omega arith, f a);
+    }
 plain_term (tree.Named n range) is ts are rest w =
     name_range n range is Term (IsTerm (record { minus = false; item = tree.Named n range })) ts are rest w (λ t opens named r stands others fits us spelled. record {
       written = chosen g.named_term t opens r;
@@ -187,7 +221,8 @@ plain_term (tree.Named n range) is ts are rest w =
       fits = λ f a. (omega arith, fits f a);
     })
 
-pub term_built : (complemented : Bool) (item : tree.Item) → IsShortItem item → (ts : List Lexeme) → Are ts (minus_tokens complemented ++ item_tokens item) → (rest : List Need) (w : Written rest) → PartBuilt Term (IsTerm (record { minus = complemented; item = item })) ts rest w
+pub term_built : (complemented : Bool) (item : tree.Item) → IsShortItem item → (ts : List Lexeme) → Are ts (minus_tokens complemented
+    ++ item_tokens item) → (rest : List Need) (w : Written rest) → PartBuilt Term (IsTerm (record { minus = complemented; item = item })) ts rest w
 unfolding symbol_terminal
 term_built false item is ts are rest w = plain_term item is ts are rest w
 term_built true item is ts are rest w =

@@ -31,7 +31,9 @@ pub record GroupBuilt (p : Group) (good : GroupMeaning p → Type 0) (ts : List 
 
 -- ---- small steps
 
-connection_stands : (x : tree.Term) (xs : List tree.Term) (hold : Bool) (place : Place) (first : Placed tree.Term) (more : List tree.Term) (held : Bool) → first.item ≡ x → more ≡ xs → held ≡ hold → unplaced_connection (connection first more held) ≡ unplaced_connection (record { terms = x ∷ xs; hold = hold; place = place })
+connection_stands : (x : tree.Term) (xs : List tree.Term) (hold : Bool) (place : Place) (first : Placed tree.Term) (more : List tree.Term)
+    (held : Bool) → first.item ≡ x → more ≡ xs → held ≡ hold →
+    unplaced_connection (connection first more held) ≡ unplaced_connection (record { terms = x ∷ xs; hold = hold; place = place })
 connection_stands x xs hold place first more held e f h = rw (e, f, h) refl
 
 pair_spelled : (ts first second : List Lexeme) (t u : Lexeme) (rest : List Lexeme) → ts ≡ first ++ second → first ≡ t ∷ [] → second ≡ u ∷ [] → t ∷ u ∷ rest ≡ ts ++ rest
@@ -42,7 +44,8 @@ three_spelled ts first second before last rest a b = rw (a, b) (sym (append_asso
 
 -- ---- the terms of a connection
 
-more_terms : (xs : List tree.Term) → AllByRecursion (λ t. IsShortItem t.item) xs → (ts : List Lexeme) → Are ts (flat_map (λ t. ampersand ++ term_tokens t) xs) → (rest : List Need) (w : Written rest) → PartBuilt MoreTerms (λ v. v ≡ xs) ts rest w
+more_terms : (xs : List tree.Term) → AllByRecursion (λ t. IsShortItem t.item) xs → (ts : List Lexeme) →
+    Are ts (flat_map (λ t. ampersand ++ term_tokens t) xs) → (rest : List Need) (w : Written rest) → PartBuilt MoreTerms (λ v. v ≡ xs) ts rest w
 unfolding symbol_terminal
 more_terms [] is ts are rest w = record { written = left_out [] refl w; spelled = nothing_spelled ts (spelling w) are; stands = refl; others = refl; fits = λ f a. f a }
 more_terms (x ∷ xs) is ts are rest w =
@@ -88,7 +91,9 @@ record ConnectionBuilt (c : tree.Connection) (ts : List Lexeme) (rest : List Nee
   others : (values written).1.1.1 ≡ values w
   fits : ((a : ℕ) → Fits w a) → (a : ℕ) → Fits written a
 
-connection_built_of : (xs : List tree.Term) (hold : Bool) (place : Place) → HasOne xs → AllByRecursion (λ t. IsShortItem t.item) xs → (ts : List Lexeme) → Are ts (join_by term_tokens ampersand xs ++ hold_tokens hold) → (rest : List Need) (w : Written rest) → ConnectionBuilt (record { terms = xs; hold = hold; place = place }) ts rest w
+connection_built_of : (xs : List tree.Term) (hold : Bool) (place : Place) → HasOne xs → AllByRecursion (λ t. IsShortItem t.item) xs →
+    (ts : List Lexeme) → Are ts (join_by term_tokens ampersand xs ++ hold_tokens hold) →
+    (rest : List Need) (w : Written rest) → ConnectionBuilt (record { terms = xs; hold = hold; place = place }) ts rest w
 connection_built_of [] hold place some is ts are rest w = absurd some
 connection_built_of (x ∷ xs) hold place some is ts are rest w =
     let two = parts ts (term_tokens x ++ flat_map (λ t. ampersand ++ term_tokens t) xs) (hold_tokens hold) are in
@@ -100,7 +105,8 @@ connection_built_of (x ∷ xs) hold place some is ts are rest w =
     let behind : (values b.written).1.1 ≡ values h.written = ap (λ (v : Values (part MoreTerms 0 ∷ part Hold 0 ∷ rest)). v.1) b.others ∙ m.others in
     record {
       written = b.written;
-      spelled = b.spelled ∙ ap (λ (us : List Lexeme). one.first ++ us) (m.spelled ∙ ap (λ (us : List Lexeme). one.second ++ us) h.spelled) ∙ three_spelled ts one.first one.second two.first two.second (spelling w) two.whole one.whole;
+      spelled = b.spelled ∙ ap (λ (us : List Lexeme). one.first ++ us) (m.spelled ∙ ap (λ (us : List Lexeme). one.second ++ us) h.spelled)
+          ∙ three_spelled ts one.first one.second two.first two.second (spelling w) two.whole one.whole;
       stands = connection_stands x xs hold place (values b.written).0 (values b.written).1.0 (values b.written).1.1.0 b.stands more (ap (λ (v : Values (part Hold 0 ∷ rest)). v.0) behind ∙ h.stands);
       others = ap (λ (v : Values (part Hold 0 ∷ rest)). v.1) behind ∙ h.others;
       fits = λ f a. b.fits (λ c. m.fits (λ d. h.fits f d) c) a;
@@ -115,7 +121,8 @@ connection_built c is ts are rest w = connection_built_of c.terms c.hold c.place
 abbrev pub AreConnections : List tree.Connection → List tree.Connection → Type 0
 AreConnections cs v = map unplaced_connection v ≡ map unplaced_connection cs
 
-more_connections : (cs : List tree.Connection) → AllByRecursion IsShortConnection cs → (ts : List Lexeme) → Are ts (flat_map (λ c. comma ++ connection_tokens c) cs) → (rest : List Need) (w : Written rest) → PartBuilt MoreConns (AreConnections cs) ts rest w
+more_connections : (cs : List tree.Connection) → AllByRecursion IsShortConnection cs → (ts : List Lexeme) → Are ts
+    (flat_map (λ c. comma ++ connection_tokens c) cs) → (rest : List Need) (w : Written rest) → PartBuilt MoreConns (AreConnections cs) ts rest w
 unfolding symbol_terminal
 more_connections [] is ts are rest w = record { written = left_out [] refl w; spelled = nothing_spelled ts (spelling w) are; stands = refl; others = refl; fits = λ f a. f a }
 more_connections (c ∷ cs) is ts are rest w =
@@ -129,7 +136,9 @@ more_connections (c ∷ cs) is ts are rest w =
       written = chosen g.next_conn t.token opens (grouped b.written);
       spelled = ap (λ (us : List Lexeme). t.token ∷ us) (b.spelled ∙ ap (λ (us : List Lexeme). one.second ++ us) m.spelled)
           ∙ spelled_item ts one.first one.second two.first two.second t.token (spelling w) two.whole one.whole t.whole;
-      stands = cons_stands (unplaced_connection c) (map unplaced_connection cs) (unplaced_connection (connection (values b.written).0 (values b.written).1.0 (values b.written).1.1.0)) (map unplaced_connection (values b.written).1.1.1.0) b.stands (ap (λ (v : Values (part MoreConns 0 ∷ rest)). map unplaced_connection v.0) b.others ∙ m.stands);
+      stands = cons_stands (unplaced_connection c) (map unplaced_connection cs)
+          (unplaced_connection (connection (values b.written).0 (values b.written).1.0 (values b.written).1.1.0)) (map unplaced_connection
+          (values b.written).1.1.1.0) b.stands (ap (λ (v : Values (part MoreConns 0 ∷ rest)). map unplaced_connection v.0) b.others ∙ m.stands);
       others = ap (λ (v : Values (part MoreConns 0 ∷ rest)). v.1) b.others ∙ m.others;
       fits = λ f a. (omega arith, b.fits (λ d. m.fits f d) a);
     }
@@ -142,7 +151,8 @@ record ConnectionsBuilt (c : tree.Connection) (cs : List tree.Connection) (ts : 
   others : (values written).1.1.1.1 ≡ values w
   fits : ((a : ℕ) → Fits w a) → (a : ℕ) → Fits written a
 
-listed_connections : (c : tree.Connection) (cs : List tree.Connection) → AllByRecursion IsShortConnection (c ∷ cs) → (ts : List Lexeme) → Are ts (listed_tokens connection_tokens (c ∷ cs)) → (rest : List Need) (w : Written rest) → ConnectionsBuilt c cs ts rest w
+listed_connections : (c : tree.Connection) (cs : List tree.Connection) → AllByRecursion IsShortConnection (c ∷ cs) →
+    (ts : List Lexeme) → Are ts (listed_tokens connection_tokens (c ∷ cs)) → (rest : List Need) (w : Written rest) → ConnectionsBuilt c cs ts rest w
 listed_connections c cs is ts are rest w =
     let two = parts ts (connection_tokens c) (flat_map (λ d. comma ++ connection_tokens d) cs) are in
     let m = more_connections cs is.1 two.second two.back rest w in
@@ -150,17 +160,21 @@ listed_connections c cs is ts are rest w =
     record {
       written = b.written;
       spelled = b.spelled ∙ (ap (λ (us : List Lexeme). two.first ++ us) m.spelled ∙ spelled_two ts two.first two.second (spelling w) two.whole);
-      stands = cons_stands (unplaced_connection c) (map unplaced_connection cs) (unplaced_connection (connection (values b.written).0 (values b.written).1.0 (values b.written).1.1.0)) (map unplaced_connection (values b.written).1.1.1.0) b.stands (ap (λ (v : Values (part MoreConns 0 ∷ rest)). map unplaced_connection v.0) b.others ∙ m.stands);
+      stands = cons_stands (unplaced_connection c) (map unplaced_connection cs)
+          (unplaced_connection (connection (values b.written).0 (values b.written).1.0 (values b.written).1.1.0)) (map unplaced_connection
+          (values b.written).1.1.1.0) b.stands (ap (λ (v : Values (part MoreConns 0 ∷ rest)). map unplaced_connection v.0) b.others ∙ m.stands);
       others = ap (λ (v : Values (part MoreConns 0 ∷ rest)). v.1) b.others ∙ m.others;
       fits = λ f a. b.fits (λ d. m.fits f d) a;
     }
 
-pub some_connections : (c : tree.Connection) (cs : List tree.Connection) → AllByRecursion IsShortConnection (c ∷ cs) → (ts : List Lexeme) → Are ts (listed_tokens connection_tokens (c ∷ cs)) → (rest : List Need) (w : Written rest) → GroupBuilt SomeConns (AreConnections (c ∷ cs)) ts rest w
+pub some_connections : (c : tree.Connection) (cs : List tree.Connection) → AllByRecursion IsShortConnection (c ∷ cs) → (ts : List Lexeme) → Are ts
+    (listed_tokens connection_tokens (c ∷ cs)) → (rest : List Need) (w : Written rest) → GroupBuilt SomeConns (AreConnections (c ∷ cs)) ts rest w
 some_connections c cs is ts are rest w =
     let b = listed_connections c cs is ts are rest w in
     record { written = grouped b.written; spelled = b.spelled; stands = b.stands; others = b.others; fits = b.fits }
 
-pub all_connections : (cs : List tree.Connection) → AllByRecursion IsShortConnection cs → (ts : List Lexeme) → Are ts (listed_tokens connection_tokens cs) → (rest : List Need) (w : Written rest) → GroupBuilt Conns (AreConnections cs) ts rest w
+pub all_connections : (cs : List tree.Connection) → AllByRecursion IsShortConnection cs → (ts : List Lexeme) →
+    Are ts (listed_tokens connection_tokens cs) → (rest : List Need) (w : Written rest) → GroupBuilt Conns (AreConnections cs) ts rest w
 all_connections [] is ts are rest w = record { written = lacking [] refl w; spelled = nothing_spelled ts (spelling w) are; stands = refl; others = refl; fits = λ f a. f a }
 all_connections (c ∷ cs) is ts are rest w =
     let b = listed_connections c cs is ts are rest w in

@@ -112,7 +112,8 @@ unary_of_whole x bs deep p n ts are rest w =
     let opens : terminal begin.token ≡ g.opening g.bracketed = terminal_is begin.token (bare_symbol 40) begin.is in
     record {
       written = chosen g.bracketed begin.token opens (grouped b.written);
-      spelled = ap (λ (us : List Lexeme). begin.token ∷ us) b.spelled ∙ spelled_between ts one.first one.second two.first two.second begin.token last.token (spelling w) two.whole one.whole begin.whole last.whole;
+      spelled = ap (λ (us : List Lexeme). begin.token ∷ us) b.spelled ∙ spelled_between ts
+          one.first one.second two.first two.second begin.token last.token (spelling w) two.whole one.whole begin.whole last.whole;
       stands = b.stands;
       others = b.others;
       fits = λ a h k f. (omega arith, b.fits a (omega arith) k (omega arith, f));
@@ -163,7 +164,8 @@ minus_unary x bs deep u n ts are rest w =
 
 -- ---- products
 
-pub product_times : (a b : Expression) (front back : List Bare) (deep more : ℕ) → AsProduct a front deep → AsUnary b back more → AsProduct (e.Binary op.Mul a b) (front ++ symbol 42 ++ back) (max deep more)
+pub product_times : (a b : Expression) (front back : List Bare) (deep more : ℕ) → AsProduct a front deep →
+    AsUnary b back more → AsProduct (e.Binary op.Mul a b) (front ++ symbol 42 ++ back) (max deep more)
 unfolding operators symbol_terminal
 product_times a b front back deep more left right n ts are rest w =
     let two = parts ts (front ++ symbol 42) back are in
@@ -176,13 +178,15 @@ product_times a b front back deep more left right n ts are rest w =
     let v = values r.written in
     record {
       written = l.written;
-      spelled = l.spelled ∙ (ap (λ (us : List Lexeme). one.first ++ t.token ∷ us) r.spelled ∙ spelled_middle ts one.first two.first one.second two.second t.token (spelling w) two.whole one.whole t.whole);
+      spelled = l.spelled ∙ (ap (λ (us : List Lexeme). one.first ++ t.token ∷ us) r.spelled
+          ∙ spelled_middle ts one.first two.first one.second two.second t.token (spelling w) two.whole one.whole t.whole);
       stands = l.stands ∙ (ap (λ (y : Expression). v.1.0 (e.Binary op.Mul a y)) r.stands ∙ ap (λ (u : Values (part Factors n ∷ rest)). u.0 (e.Binary op.Mul a b)) r.others);
       others = l.others ∙ ap (λ (u : Values (part Factors n ∷ rest)). u.1) r.others;
       fits = λ c h m f. l.fits c (omega arith) (omega arith) (omega arith, r.fits (suc (c + operators a)) (omega arith) (omega arith) (subst (λ (d : ℕ). Fits w d) (omega arith) f));
     }
 
-pub product_divided : (a b : Expression) (front back : List Bare) (deep more : ℕ) → AsProduct a front deep → AsUnary b back more → AsProduct (e.Binary op.Div a b) (front ++ symbol 47 ++ back) (max deep more)
+pub product_divided : (a b : Expression) (front back : List Bare) (deep more : ℕ) → AsProduct a front deep →
+    AsUnary b back more → AsProduct (e.Binary op.Div a b) (front ++ symbol 47 ++ back) (max deep more)
 unfolding operators symbol_terminal
 product_divided a b front back deep more left right n ts are rest w =
     let two = parts ts (front ++ symbol 47) back are in
@@ -195,7 +199,8 @@ product_divided a b front back deep more left right n ts are rest w =
     let v = values r.written in
     record {
       written = l.written;
-      spelled = l.spelled ∙ (ap (λ (us : List Lexeme). one.first ++ t.token ∷ us) r.spelled ∙ spelled_middle ts one.first two.first one.second two.second t.token (spelling w) two.whole one.whole t.whole);
+      spelled = l.spelled ∙ (ap (λ (us : List Lexeme). one.first ++ t.token ∷ us) r.spelled
+          ∙ spelled_middle ts one.first two.first one.second two.second t.token (spelling w) two.whole one.whole t.whole);
       stands = l.stands ∙ (ap (λ (y : Expression). v.1.0 (e.Binary op.Div a y)) r.stands ∙ ap (λ (u : Values (part Factors n ∷ rest)). u.0 (e.Binary op.Div a b)) r.others);
       others = l.others ∙ ap (λ (u : Values (part Factors n ∷ rest)). u.1) r.others;
       fits = λ c h m f. l.fits c (omega arith) (omega arith) (omega arith, r.fits (suc (c + operators a)) (omega arith) (omega arith) (subst (λ (d : ℕ). Fits w d) (omega arith) f));
@@ -216,7 +221,8 @@ sum_plus a b front back deep more left right n ts are rest w =
     let v = values r.written in
     record {
       written = l.written;
-      spelled = l.spelled ∙ (ap (λ (us : List Lexeme). one.first ++ t.token ∷ us) r.spelled ∙ spelled_middle ts one.first two.first one.second two.second t.token (spelling w) two.whole one.whole t.whole);
+      spelled = l.spelled ∙ (ap (λ (us : List Lexeme). one.first ++ t.token ∷ us) r.spelled
+          ∙ spelled_middle ts one.first two.first one.second two.second t.token (spelling w) two.whole one.whole t.whole);
       stands = l.stands ∙ (ap (λ (y : Expression). v.1.1.0 (e.Binary op.Add a y)) r.stands ∙ ap (λ (u : Values (part Terms n ∷ rest)). u.0 (e.Binary op.Add a b)) r.others);
       others = l.others ∙ ap (λ (u : Values (part Terms n ∷ rest)). u.1) r.others;
       fits = λ c h m f. l.fits c (omega arith) (omega arith) (omega arith, r.fits (suc (c + operators a)) (omega arith) (omega arith) (subst (λ (d : ℕ). Fits w d) (omega arith) f));
@@ -235,7 +241,8 @@ sum_less a b front back deep more left right n ts are rest w =
     let v = values r.written in
     record {
       written = l.written;
-      spelled = l.spelled ∙ (ap (λ (us : List Lexeme). one.first ++ t.token ∷ us) r.spelled ∙ spelled_middle ts one.first two.first one.second two.second t.token (spelling w) two.whole one.whole t.whole);
+      spelled = l.spelled ∙ (ap (λ (us : List Lexeme). one.first ++ t.token ∷ us) r.spelled
+          ∙ spelled_middle ts one.first two.first one.second two.second t.token (spelling w) two.whole one.whole t.whole);
       stands = l.stands ∙ (ap (λ (y : Expression). v.1.1.0 (e.Binary op.Sub a y)) r.stands ∙ ap (λ (u : Values (part Terms n ∷ rest)). u.0 (e.Binary op.Sub a b)) r.others);
       others = l.others ∙ ap (λ (u : Values (part Terms n ∷ rest)). u.1) r.others;
       fits = λ c h m f. l.fits c (omega arith) (omega arith) (omega arith, r.fits (suc (c + operators a)) (omega arith) (omega arith) (subst (λ (d : ℕ). Fits w d) (omega arith) f));

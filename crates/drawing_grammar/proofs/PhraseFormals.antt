@@ -55,7 +55,8 @@ formal_built f is ts are rest w =
 
 -- ---- several
 
-more_formals : (xs : List tree.Formal) → AllByRecursion IsShortFormal xs → (ts : List Lexeme) → Are ts (flat_map (λ f. comma ++ formal_tokens f) xs) → (rest : List Need) (w : Written rest) → PartBuilt MoreFormals (λ v. v.items ≡ xs) ts rest w
+more_formals : (xs : List tree.Formal) → AllByRecursion IsShortFormal xs → (ts : List Lexeme) →
+    Are ts (flat_map (λ f. comma ++ formal_tokens f) xs) → (rest : List Need) (w : Written rest) → PartBuilt MoreFormals (λ v. v.items ≡ xs) ts rest w
 unfolding symbol_terminal
 more_formals [] is ts are rest w = record { written = left_out no_items refl w; spelled = nothing_spelled ts (spelling w) are; stands = refl; others = refl; fits = λ h a. h a }
 more_formals (f ∷ xs) is ts are rest w =
@@ -82,7 +83,8 @@ record FormalsBuilt (f : tree.Formal) (xs : List tree.Formal) (ts : List Lexeme)
   others : (values written).1.1 ≡ values w
   fits : ((a : ℕ) → Fits w a) → (a : ℕ) → Fits written a
 
-listed_formals : (f : tree.Formal) (xs : List tree.Formal) → AllByRecursion IsShortFormal (f ∷ xs) → (ts : List Lexeme) → Are ts (listed_tokens formal_tokens (f ∷ xs)) → (rest : List Need) (w : Written rest) → FormalsBuilt f xs ts rest w
+listed_formals : (f : tree.Formal) (xs : List tree.Formal) → AllByRecursion IsShortFormal (f ∷ xs) →
+    (ts : List Lexeme) → Are ts (listed_tokens formal_tokens (f ∷ xs)) → (rest : List Need) (w : Written rest) → FormalsBuilt f xs ts rest w
 listed_formals f xs is ts are rest w =
     let two = parts ts (formal_tokens f) (flat_map (λ x. comma ++ formal_tokens x) xs) are in
     let m = more_formals xs is.1 two.second two.back rest w in
@@ -95,12 +97,14 @@ listed_formals f xs is ts are rest w =
       fits = λ h a. b.fits (λ d. m.fits h d) a;
     }
 
-some_formals : (f : tree.Formal) (xs : List tree.Formal) → AllByRecursion IsShortFormal (f ∷ xs) → (ts : List Lexeme) → Are ts (listed_tokens formal_tokens (f ∷ xs)) → (rest : List Need) (w : Written rest) → GroupBuilt SomeFormals (λ v. v.items ≡ f ∷ xs) ts rest w
+some_formals : (f : tree.Formal) (xs : List tree.Formal) → AllByRecursion IsShortFormal (f ∷ xs) → (ts : List Lexeme) →
+    Are ts (listed_tokens formal_tokens (f ∷ xs)) → (rest : List Need) (w : Written rest) → GroupBuilt SomeFormals (λ v. v.items ≡ f ∷ xs) ts rest w
 some_formals f xs is ts are rest w =
     let b = listed_formals f xs is ts are rest w in
     record { written = grouped b.written; spelled = b.spelled; stands = b.stands; others = b.others; fits = b.fits }
 
-pub all_formals : (xs : List tree.Formal) → AllByRecursion IsShortFormal xs → (ts : List Lexeme) → Are ts (listed_tokens formal_tokens xs) → (rest : List Need) (w : Written rest) → GroupBuilt Formals (λ v. v.items ≡ xs) ts rest w
+pub all_formals : (xs : List tree.Formal) → AllByRecursion IsShortFormal xs → (ts : List Lexeme) →
+    Are ts (listed_tokens formal_tokens xs) → (rest : List Need) (w : Written rest) → GroupBuilt Formals (λ v. v.items ≡ xs) ts rest w
 all_formals [] is ts are rest w = record { written = lacking no_items refl w; spelled = nothing_spelled ts (spelling w) are; stands = refl; others = refl; fits = λ h a. h a }
 all_formals (f ∷ xs) is ts are rest w =
     let b = listed_formals f xs is ts are rest w in
@@ -108,7 +112,8 @@ all_formals (f ∷ xs) is ts are rest w =
 
 -- ---- outputs
 
-pub formal_outputs_built : (xs : List tree.Formal) → AllByRecursion IsShortFormal xs → (ts : List Lexeme) → Are ts (outputs_tokens formal_tokens xs) → (rest : List Need) (w : Written rest) → PartBuilt FormalOutputs (λ v. v.items ≡ xs) ts rest w
+pub formal_outputs_built : (xs : List tree.Formal) → AllByRecursion IsShortFormal xs → (ts : List Lexeme) →
+    Are ts (outputs_tokens formal_tokens xs) → (rest : List Need) (w : Written rest) → PartBuilt FormalOutputs (λ v. v.items ≡ xs) ts rest w
 unfolding symbol_terminal
 formal_outputs_built [] is ts are rest w = record { written = left_out no_items refl w; spelled = nothing_spelled ts (spelling w) are; stands = refl; others = refl; fits = λ h a. h a }
 formal_outputs_built (x ∷ xs) is ts are rest w =
@@ -124,7 +129,8 @@ formal_outputs_built (x ∷ xs) is ts are rest w =
     let b = some_formals x xs is one.second one.back (mark CloseParenthesis ∷ rest) (marked u.token closes w) in
     record {
       written = chosen g.formal_outputs t.token opens (marked v.token next b.written);
-      spelled = ap (λ (us : List Lexeme). t.token ∷ v.token ∷ us) b.spelled ∙ outputs_spelled ts one.first one.second two.first two.second begin.first begin.second t.token v.token u.token (spelling w) two.whole one.whole begin.whole t.whole v.whole u.whole;
+      spelled = ap (λ (us : List Lexeme). t.token ∷ v.token ∷ us) b.spelled ∙ outputs_spelled ts one.first one.second
+          two.first two.second begin.first begin.second t.token v.token u.token (spelling w) two.whole one.whole begin.whole t.whole v.whole u.whole;
       stands = b.stands;
       others = b.others;
       fits = λ h a. (omega arith, (omega arith, b.fits (λ k. (omega arith, h k)) a));

@@ -30,7 +30,8 @@ pub record BodyBuilt (ss : tree.Statements) (ts : List Lexeme) (rest : List Need
   pub others : (values written).1 ≡ values w
   pub fits : ((a : ℕ) → Fits w a) → (a : ℕ) → Fits written a
 
-body_spelled : (ts before last first second : List Lexeme) (t u : Lexeme) (rest : List Lexeme) → ts ≡ before ++ last → last ≡ first ++ second → first ≡ t ∷ [] → second ≡ u ∷ [] → before ++ t ∷ u ∷ rest ≡ ts ++ rest
+body_spelled : (ts before last first second : List Lexeme) (t u : Lexeme) (rest : List Lexeme) →
+    ts ≡ before ++ last → last ≡ first ++ second → first ≡ t ∷ [] → second ≡ u ∷ [] → before ++ t ∷ u ∷ rest ≡ ts ++ rest
 body_spelled ts before last first second t u rest a b c d = rw (a, b, c, d) (sym (append_assoc before (t ∷ u ∷ []) rest))
 
 pub body_built : (ss : tree.Statements) → AreShort 0 ss → (ts : List Lexeme) → Are ts (body_tokens ss) → (rest : List Need) (w : Written rest) → BodyBuilt ss ts rest w
@@ -91,10 +92,13 @@ pub record IsShortMacro (m : tree.Macro) : Type 0 where
 abbrev pub IsMacro : tree.Macro → HeadedMacro → Type 0
 IsMacro m v = unplaced_macro v.macro ≡ unplaced_macro m
 
-macro_stands : (m : tree.Macro) (name : Lexeme) (params : PlacedList tree.Assignment) (ins outs : PlacedList tree.Formal) (body : tree.Statements) → name.text ≡ m.name → params.items ≡ m.params → ins.items ≡ m.ins → outs.items ≡ m.outs → unplaced_statements body ≡ unplaced_statements m.body → IsMacro m (headed_macro name params ins outs body)
+macro_stands : (m : tree.Macro) (name : Lexeme) (params : PlacedList tree.Assignment) (ins outs : PlacedList tree.Formal) (body : tree.Statements) →
+    name.text ≡ m.name → params.items ≡ m.params → ins.items ≡ m.ins → outs.items ≡ m.outs →
+    unplaced_statements body ≡ unplaced_statements m.body → IsMacro m (headed_macro name params ins outs body)
 macro_stands m name params ins outs body a b c d e = rw (a, b, c, d, e) refl
 
-macro_spelled : (ts head body z0 semi z1 outs z2 ins z3 params begin name : List Lexeme) (t n s : Lexeme) (rest : List Lexeme) → ts ≡ head ++ body → head ≡ z0 ++ semi → z0 ≡ z1 ++ outs → z1 ≡ z2 ++ ins → z2 ≡ z3 ++ params → z3 ≡ begin ++ name → begin ≡ t ∷ [] → name ≡ n ∷ [] → semi ≡ s ∷ [] →
+macro_spelled : (ts head body z0 semi z1 outs z2 ins z3 params begin name : List Lexeme) (t n s : Lexeme) (rest : List Lexeme) → ts ≡ head ++ body →
+    head ≡ z0 ++ semi → z0 ≡ z1 ++ outs → z1 ≡ z2 ++ ins → z2 ≡ z3 ++ params → z3 ≡ begin ++ name → begin ≡ t ∷ [] → name ≡ n ∷ [] → semi ≡ s ∷ [] →
     t ∷ n ∷ (params ++ (ins ++ (outs ++ s ∷ (body ++ rest)))) ≡ ts ++ rest
 macro_spelled ts head body z0 semi z1 outs z2 ins z3 params begin name t n s rest a b c d e f h i j =
     rw (a, b, c, d, e, f, h, i, j) (ap (λ (us : List Lexeme). t ∷ n ∷ us) (sym (append_assoc (params ++ ins ++ outs ++ s ∷ []) body rest
@@ -124,10 +128,13 @@ macro_built m is ts are rest w =
     let body = body_built m.body is.body a.second a.back rest w in
     let outs = formal_outputs_built m.outs is.outs a1.second a1.back (mark Semicolon ∷ group Statements 0 ∷ mark End ∷ mark Semicolon ∷ rest) (marked s.token ends body.written) in
     let ins = ins_built m.ins is.ins a2.second a2.back (part FormalOutputs 0 ∷ mark Semicolon ∷ group Statements 0 ∷ mark End ∷ mark Semicolon ∷ rest) outs.written in
-    let params = params_built m.params is.params a3.second a3.back (mark OpenParenthesis ∷ group Formals 0 ∷ mark CloseParenthesis ∷ part FormalOutputs 0 ∷ mark Semicolon ∷ group Statements 0 ∷ mark End ∷ mark Semicolon ∷ rest) ins.written in
+    let params = params_built m.params is.params a3.second a3.back (mark OpenParenthesis ∷ group Formals
+    0 ∷ mark CloseParenthesis ∷ part FormalOutputs 0 ∷ mark Semicolon ∷ group Statements 0 ∷ mark End ∷ mark Semicolon ∷ rest) ins.written in
     let v = values params.written in
     let e1 : v.1 ≡ values ins.written = params.others in
-    let e2 : v.1.1 ≡ values outs.written = ap (λ (y : Values (group Formals 0 ∷ mark CloseParenthesis ∷ part FormalOutputs 0 ∷ mark Semicolon ∷ group Statements 0 ∷ mark End ∷ mark Semicolon ∷ rest)). y.1) e1 ∙ ins.others in
+    let e2 : v.1.1 ≡ values outs.written =
+    ap (λ (y : Values (group Formals 0 ∷ mark CloseParenthesis ∷ part FormalOutputs
+    0 ∷ mark Semicolon ∷ group Statements 0 ∷ mark End ∷ mark Semicolon ∷ rest)). y.1) e1 ∙ ins.others in
     let e3 : v.1.1.1 ≡ values body.written = ap (λ (y : Values (part FormalOutputs 0 ∷ mark Semicolon ∷ group Statements 0 ∷ mark End ∷ mark Semicolon ∷ rest)). y.1) e2 ∙ outs.others in
     record {
       written = chosen g.macro t.token opens (token n.token (word_is_free n.token m.name n.is is.name) params.written);
@@ -155,8 +162,16 @@ AreMacros ms v = map unplaced_macro v.macros ≡ map unplaced_macro ms
 macros_stand : (m : tree.Macro) (ms : List tree.Macro) (first : HeadedMacro) (more : HeadedMacros) → IsMacro m first → AreMacros ms more → AreMacros (m ∷ ms) (with_macro first more)
 macros_stand m ms first more a b = rw (a, b) refl
 
-pub macros_built : (ms : List tree.Macro) → AllByRecursion IsShortMacro ms → (ts : List Lexeme) → Are ts (flat_map macro_tokens ms) → (rest : List Need) (w : Written rest) → GroupBuilt Macros (AreMacros ms) ts rest w
-macros_built [] is ts are rest w = record { written = lacking (record { macros = []; heads = [] }) refl w; spelled = nothing_spelled ts (spelling w) are; stands = refl; others = refl; fits = λ f a. f a }
+pub macros_built : (ms : List tree.Macro) → AllByRecursion IsShortMacro ms → (ts : List Lexeme) →
+    Are ts (flat_map macro_tokens ms) → (rest : List Need) (w : Written rest) → GroupBuilt Macros (AreMacros ms) ts rest w
+macros_built [] is ts are rest w = record {
+  written = lacking (record { macros = []; heads = [] }) refl w;
+  spelled =
+      nothing_spelled ts (spelling w) are;
+  stands = refl;
+  others = refl;
+  fits = λ f a. f a;
+}
 macros_built (m ∷ ms) is ts are rest w =
     let two = parts ts (macro_tokens m) (flat_map macro_tokens ms) are in
     let more = macros_built ms is.1 two.second two.back rest w in

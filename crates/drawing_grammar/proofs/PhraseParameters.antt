@@ -40,7 +40,8 @@ assign_built a is ts are rest w =
     let s = own_sum a.value is.value two.second two.back rest w in
     record {
       written = chosen g.assign t.token (word_is_free t.token a.name t.is is.name) (marked u.token next s.written);
-      spelled = ap (λ (us : List Lexeme). t.token ∷ u.token ∷ us) s.spelled ∙ spelled_pair ts one.first one.second two.first two.second t.token u.token (spelling w) two.whole one.whole t.whole u.whole;
+      spelled = ap (λ (us : List Lexeme). t.token ∷ u.token ∷ us) s.spelled
+          ∙ spelled_pair ts one.first one.second two.first two.second t.token u.token (spelling w) two.whole one.whole t.whole u.whole;
       stands = assigned a t.token.text (values s.written).0 (text_is t.token (leaf.word a.name) t.is) s.stands;
       others = s.others;
       fits = λ f c. (omega arith, (omega arith, s.fits f c));
@@ -48,7 +49,8 @@ assign_built a is ts are rest w =
 
 -- ---- several
 
-more_assigns : (xs : List tree.Assignment) → AllByRecursion IsShortAssignment xs → (ts : List Lexeme) → Are ts (flat_map (λ a. comma ++ assignment_tokens a) xs) → (rest : List Need) (w : Written rest) → PartBuilt MoreAssigns (λ v. v.items ≡ xs) ts rest w
+more_assigns : (xs : List tree.Assignment) → AllByRecursion IsShortAssignment xs → (ts : List Lexeme) → Are ts
+    (flat_map (λ a. comma ++ assignment_tokens a) xs) → (rest : List Need) (w : Written rest) → PartBuilt MoreAssigns (λ v. v.items ≡ xs) ts rest w
 unfolding symbol_terminal
 more_assigns [] is ts are rest w = record { written = left_out no_items refl w; spelled = nothing_spelled ts (spelling w) are; stands = refl; others = refl; fits = λ f c. f c }
 more_assigns (a ∷ xs) is ts are rest w =
@@ -69,7 +71,8 @@ more_assigns (a ∷ xs) is ts are rest w =
 
 -- ---- in braces
 
-pub params_built : (xs : List tree.Assignment) → AllByRecursion IsShortAssignment xs → (ts : List Lexeme) → Are ts (params_tokens xs) → (rest : List Need) (w : Written rest) → PartBuilt Parameters (λ v. v.items ≡ xs) ts rest w
+pub params_built : (xs : List tree.Assignment) → AllByRecursion IsShortAssignment xs → (ts : List Lexeme) →
+    Are ts (params_tokens xs) → (rest : List Need) (w : Written rest) → PartBuilt Parameters (λ v. v.items ≡ xs) ts rest w
 unfolding symbol_terminal
 params_built [] is ts are rest w = record { written = left_out no_items refl w; spelled = nothing_spelled ts (spelling w) are; stands = refl; others = refl; fits = λ f c. f c }
 params_built (a ∷ xs) is ts are rest w =
@@ -84,7 +87,8 @@ params_built (a ∷ xs) is ts are rest w =
     let b = assign_built a is.0 inner.first inner.front (part MoreAssigns 0 ∷ mark CloseBrace ∷ rest) m.written in
     record {
       written = chosen g.parameters t.token opens (grouped b.written);
-      spelled = ap (λ (us : List Lexeme). t.token ∷ us) (b.spelled ∙ (ap (λ (us : List Lexeme). inner.first ++ us) m.spelled ∙ spelled_two one.second inner.first inner.second (u.token ∷ spelling w) inner.whole))
+      spelled = ap (λ (us : List Lexeme). t.token ∷ us) (b.spelled ∙ (ap (λ (us : List Lexeme). inner.first ++ us) m.spelled
+          ∙ spelled_two one.second inner.first inner.second (u.token ∷ spelling w) inner.whole))
           ∙ spelled_between ts one.first one.second two.first two.second t.token u.token (spelling w) two.whole one.whole t.whole u.whole;
       stands = items_stand a xs (values b.written).0 (values b.written).1.0 b.stands (ap (λ (v : Values (part MoreAssigns 0 ∷ mark CloseBrace ∷ rest)). v.0.items) b.others ∙ m.stands);
       others = ap (λ (v : Values (part MoreAssigns 0 ∷ mark CloseBrace ∷ rest)). v.1) b.others ∙ m.others;
@@ -96,10 +100,12 @@ params_built (a ∷ xs) is ts are rest w =
 abbrev pub arrow_bare : Bare
 arrow_bare = record { kind = kind.Arrow; text = codes "->" }
 
-pub outputs_spelled : (ts first second before last one two : List Lexeme) (t v u : Lexeme) (rest : List Lexeme) → ts ≡ before ++ last → before ≡ first ++ second → first ≡ one ++ two → one ≡ t ∷ [] → two ≡ v ∷ [] → last ≡ u ∷ [] → t ∷ v ∷ (second ++ u ∷ rest) ≡ ts ++ rest
+pub outputs_spelled : (ts first second before last one two : List Lexeme) (t v u : Lexeme) (rest : List Lexeme) → ts ≡ before ++ last →
+    before ≡ first ++ second → first ≡ one ++ two → one ≡ t ∷ [] → two ≡ v ∷ [] → last ≡ u ∷ [] → t ∷ v ∷ (second ++ u ∷ rest) ≡ ts ++ rest
 outputs_spelled ts first second before last one two t v u rest a b c d e f = rw (a, b, c, d, e, f) (ap (λ (us : List Lexeme). t ∷ v ∷ us) (sym (append_assoc second (u ∷ []) rest)))
 
-pub outputs_built : (cs : List tree.Connection) → AllByRecursion IsShortConnection cs → (ts : List Lexeme) → Are ts (outputs_tokens connection_tokens cs) → (rest : List Need) (w : Written rest) → PartBuilt Outputs (AreConnections cs) ts rest w
+pub outputs_built : (cs : List tree.Connection) → AllByRecursion IsShortConnection cs → (ts : List Lexeme) →
+    Are ts (outputs_tokens connection_tokens cs) → (rest : List Need) (w : Written rest) → PartBuilt Outputs (AreConnections cs) ts rest w
 unfolding symbol_terminal
 outputs_built [] is ts are rest w = record { written = left_out [] refl w; spelled = nothing_spelled ts (spelling w) are; stands = refl; others = refl; fits = λ f c. f c }
 outputs_built (x ∷ cs) is ts are rest w =
@@ -115,7 +121,8 @@ outputs_built (x ∷ cs) is ts are rest w =
     let b = some_connections x cs is one.second one.back (mark CloseParenthesis ∷ rest) (marked u.token closes w) in
     record {
       written = chosen g.outputs t.token opens (marked v.token next b.written);
-      spelled = ap (λ (us : List Lexeme). t.token ∷ v.token ∷ us) b.spelled ∙ outputs_spelled ts one.first one.second two.first two.second begin.first begin.second t.token v.token u.token (spelling w) two.whole one.whole begin.whole t.whole v.whole u.whole;
+      spelled = ap (λ (us : List Lexeme). t.token ∷ v.token ∷ us) b.spelled ∙ outputs_spelled ts one.first one.second
+          two.first two.second begin.first begin.second t.token v.token u.token (spelling w) two.whole one.whole begin.whole t.whole v.whole u.whole;
       stands = b.stands;
       others = b.others;
       fits = λ f c. (omega arith, (omega arith, b.fits (λ k. (omega arith, f k)) c));

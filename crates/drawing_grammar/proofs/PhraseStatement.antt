@@ -86,13 +86,18 @@ pub record OtherwiseBuilt (other : tree.Otherwise) (n : ℕ) (ts : List Lexeme) 
   pub others : (values written).1 ≡ values w
   pub fits : ((a : ℕ) → Fits w a) → (a : ℕ) → Fits written a
 
-if_stands : (x y : Expression) (ss us : tree.Statements) (o p : tree.Otherwise) (here there : Place) → y ≡ x → unplaced_statements us ≡ unplaced_statements ss → unplaced_otherwise p ≡ unplaced_otherwise o → unplaced_statement (tree.If y us p there) ≡ unplaced_statement (tree.If x ss o here)
+if_stands : (x y : Expression) (ss us : tree.Statements) (o p : tree.Otherwise) (here there : Place) → y ≡ x →
+    unplaced_statements us ≡ unplaced_statements ss → unplaced_otherwise p ≡ unplaced_otherwise o →
+    unplaced_statement (tree.If y us p there) ≡ unplaced_statement (tree.If x ss o here)
 if_stands x y ss us o p here there a b c = rw (a, b, c) refl
 
-cons_stands : (s v : tree.Statement) (ss vs : tree.Statements) → unplaced_statement v ≡ unplaced_statement s → unplaced_statements vs ≡ unplaced_statements ss → unplaced_statements (tree.cons v vs) ≡ unplaced_statements (tree.cons s ss)
+cons_stands : (s v : tree.Statement) (ss vs : tree.Statements) → unplaced_statement v ≡ unplaced_statement s →
+    unplaced_statements vs ≡ unplaced_statements ss → unplaced_statements (tree.cons v vs) ≡ unplaced_statements (tree.cons s ss)
 cons_stands s v ss vs a b = rw (a, b) refl
 
-if_spelled : (ts z0 ends z1 other z2 inside z3 then_ if_ test end semi : List Lexeme) (t h k s : Lexeme) (rest : List Lexeme) → ts ≡ z0 ++ ends → z0 ≡ z1 ++ other → z1 ≡ z2 ++ inside → z2 ≡ z3 ++ then_ → z3 ≡ if_ ++ test → ends ≡ end ++ semi → if_ ≡ t ∷ [] → then_ ≡ h ∷ [] → end ≡ k ∷ [] → semi ≡ s ∷ [] →
+if_spelled : (ts z0 ends z1 other z2 inside z3 then_ if_ test end semi : List Lexeme) (t h k s : Lexeme) (rest : List Lexeme) → ts ≡ z0 ++ ends →
+    z0 ≡ z1 ++ other → z1 ≡ z2 ++ inside → z2 ≡ z3 ++ then_ → z3 ≡ if_ ++ test →
+    ends ≡ end ++ semi → if_ ≡ t ∷ [] → then_ ≡ h ∷ [] → end ≡ k ∷ [] → semi ≡ s ∷ [] →
     t ∷ (test ++ h ∷ (inside ++ (other ++ k ∷ s ∷ rest))) ≡ ts ++ rest
 if_spelled ts z0 ends z1 other z2 inside z3 then_ if_ test end semi t h k s rest a b c d e f i j l m =
     rw (a, b, c, d, e, f, i, j, l, m) (ap (λ (us : List Lexeme). t ∷ us) (sym (append_assoc (test ++ h ∷ [] ++ inside ++ other) (k ∷ s ∷ []) rest
@@ -103,7 +108,9 @@ if_spelled ts z0 ends z1 other z2 inside z3 then_ if_ test end semi t h k s rest
 wire_stands : (x v : tree.WireStatement) → v.name ≡ x.name → v.range ≡ x.range → v.min ≡ x.min → v.max ≡ x.max → unplaced_wire v ≡ unplaced_wire x
 wire_stands x v a b c d = rw (a, b, c, d) refl
 
-wire_spelled : (ts z0 semi z1 bounds z2 max min colons wire signal n range : List Lexeme) (t m c s : Lexeme) (rest : List Lexeme) → ts ≡ z0 ++ semi → z0 ≡ z1 ++ bounds → bounds ≡ z2 ++ max → z2 ≡ min ++ colons → z1 ≡ wire ++ signal → signal ≡ n ++ range → wire ≡ t ∷ [] → n ≡ m ∷ [] → colons ≡ c ∷ [] → semi ≡ s ∷ [] →
+wire_spelled : (ts z0 semi z1 bounds z2 max min colons wire signal n range : List Lexeme) (t m c s : Lexeme) (rest : List Lexeme) → ts ≡ z0 ++ semi →
+    z0 ≡ z1 ++ bounds → bounds ≡ z2 ++ max → z2 ≡ min ++ colons → z1 ≡ wire ++ signal →
+    signal ≡ n ++ range → wire ≡ t ∷ [] → n ≡ m ∷ [] → colons ≡ c ∷ [] → semi ≡ s ∷ [] →
     t ∷ m ∷ (range ++ (min ++ c ∷ (max ++ s ∷ rest))) ≡ ts ++ rest
 wire_spelled ts z0 semi z1 bounds z2 max min colons wire signal n range t m c s rest a b d e f h i j k l =
     rw (a, b, d, e, f, h, i, j, k, l) (ap (λ (us : List Lexeme). t ∷ m ∷ us) (sym (append_assoc (range ++ (min ++ c ∷ [] ++ max)) (s ∷ []) rest
@@ -138,8 +145,10 @@ wire_built x is n ts are rest w =
     let found : tree.WireStatement = record { name = signal_of m.token; range = v.0; min = v.1.0; max = v.1.1.0; place = t.token.place } in
     record {
       written = chosen g.wire t.token opens (token m.token names range.written);
-      spelled = ap (λ (us : List Lexeme). t.token ∷ m.token ∷ us) (range.spelled ∙ ap (λ (us : List Lexeme). a5.second ++ us) (low.spelled ∙ ap (λ (us : List Lexeme). a3.first ++ c.token ∷ us) high.spelled))
-          ∙ wire_spelled ts a0.first a0.second a1.first a1.second a2.first a2.second a3.first a3.second a4.first a4.second a5.first a5.second t.token m.token c.token s.token (spelling w) a0.whole a1.whole a2.whole a3.whole a4.whole a5.whole t.whole m.whole c.whole s.whole;
+      spelled = ap (λ (us : List Lexeme). t.token ∷ m.token ∷ us) (range.spelled
+          ∙ ap (λ (us : List Lexeme). a5.second ++ us) (low.spelled ∙ ap (λ (us : List Lexeme). a3.first ++ c.token ∷ us) high.spelled))
+          ∙ wire_spelled ts a0.first a0.second a1.first a1.second a2.first a2.second a3.first a3.second a4.first a4.second a5.first a5.second
+          t.token m.token c.token s.token (spelling w) a0.whole a1.whole a2.whole a3.whole a4.whole a5.whole t.whole m.whole c.whole s.whole;
       stands = ap (λ (y : tree.WireStatement). tree.Wire y) (wire_stands x found (signal_again m.token x.name is.name m.is) range.stands
           (ap (λ (y : Values (fresh ∷ group Sum 0 ∷ mark Colon ∷ fresh ∷ group Sum 0 ∷ mark Semicolon ∷ rest)). y.0) e1 ∙ low.stands)
           (ap (λ (y : Values (fresh ∷ group Sum 0 ∷ mark Semicolon ∷ rest)). y.0) e2 ∙ high.stands));
@@ -183,7 +192,8 @@ mutual
       record {
         written = chosen g.if_ t.token opens c.written;
         spelled = ap (λ (us : List Lexeme). t.token ∷ us) (c.spelled ∙ ap (λ (us : List Lexeme). a4.second ++ h.token ∷ us) (b.spelled ∙ ap (λ (us : List Lexeme). a2.second ++ us) o.spelled))
-            ∙ if_spelled ts a0.first a0.second a1.first a1.second a2.first a2.second a3.first a3.second a4.first a4.second a5.first a5.second t.token h.token k.token s.token (spelling w) a0.whole a1.whole a2.whole a3.whole a4.whole a5.whole t.whole h.whole k.whole s.whole;
+            ∙ if_spelled ts a0.first a0.second a1.first a1.second a2.first a2.second a3.first a3.second a4.first a4.second a5.first a5.second
+            t.token h.token k.token s.token (spelling w) a0.whole a1.whole a2.whole a3.whole a4.whole a5.whole t.whole h.whole k.whole s.whole;
         stands = if_stands test v.0 ss v.1.0 other v.1.1.0 place t.token.place c.stands
             (ap (λ (y : Values (group Statements (suc n) ∷ part Otherwise (suc n) ∷ mark End ∷ mark Semicolon ∷ rest)). unplaced_statements y.0) e1 ∙ b.stands)
             (ap (λ (y : Values (part Otherwise (suc n) ∷ mark End ∷ mark Semicolon ∷ rest)). unplaced_otherwise y.0) e2 ∙ o.stands);
@@ -205,7 +215,8 @@ mutual
         fits = λ f a. b.fits (λ c. m.fits f c) a;
       }
 
-  pub otherwise_built : (other : tree.Otherwise) (n : ℕ) → IsShortOtherwise n other → (ts : List Lexeme) → Are ts (else_tokens other) → (rest : List Need) (w : Written rest) → OtherwiseBuilt other n ts rest w
+  pub otherwise_built : (other : tree.Otherwise) (n : ℕ) → IsShortOtherwise n other → (ts : List Lexeme) →
+      Are ts (else_tokens other) → (rest : List Need) (w : Written rest) → OtherwiseBuilt other n ts rest w
   otherwise_built tree.no_else n is ts are rest w = record { written = left_out tree.no_else refl w; spelled = nothing_spelled ts (spelling w) are; stands = refl; others = refl; fits = λ f a. f a }
   otherwise_built (tree.else_ ss) n is ts are rest w =
       let two = parts ts (word (codes "ELSE")) (statements_tokens ss) are in

@@ -15,7 +15,8 @@ Fits w a = Within (spelling w) (weights w a)
 abbrev pub bare_symbol : ℕ → Bare
 bare_symbol byte = record { kind = kind.Symbol byte; text = byte ∷ [] }
 
-pub spelled_between : (ts first inner before last : List Lexeme) (t u : Lexeme) (rest : List Lexeme) → ts ≡ before ++ last → before ≡ first ++ inner → first ≡ t ∷ [] → last ≡ u ∷ [] → t ∷ (inner ++ u ∷ rest) ≡ ts ++ rest
+pub spelled_between : (ts first inner before last : List Lexeme) (t u : Lexeme) (rest : List Lexeme) →
+    ts ≡ before ++ last → before ≡ first ++ inner → first ≡ t ∷ [] → last ≡ u ∷ [] → t ∷ (inner ++ u ∷ rest) ≡ ts ++ rest
 spelled_between ts first inner before last t u rest a b c d = rw (a, b, c, d) (ap (λ (us : List Lexeme). t ∷ us) (sym (append_assoc inner (u ∷ []) rest)))
 
 pub spelled_single : (ts : List Lexeme) (t : Lexeme) (rest : List Lexeme) → ts ≡ t ∷ [] → t ∷ rest ≡ ts ++ rest
@@ -24,22 +25,26 @@ spelled_single ts t rest a = rw a refl
 pub spelled_one : (ts first second : List Lexeme) (t : Lexeme) (rest : List Lexeme) → ts ≡ first ++ second → first ≡ t ∷ [] → t ∷ (second ++ rest) ≡ ts ++ rest
 spelled_one ts first second t rest a b = rw (a, b) refl
 
-pub spelled_pair : (ts first second before last : List Lexeme) (t u : Lexeme) (rest : List Lexeme) → ts ≡ before ++ last → before ≡ first ++ second → first ≡ t ∷ [] → second ≡ u ∷ [] → t ∷ u ∷ (last ++ rest) ≡ ts ++ rest
+pub spelled_pair : (ts first second before last : List Lexeme) (t u : Lexeme) (rest : List Lexeme) →
+    ts ≡ before ++ last → before ≡ first ++ second → first ≡ t ∷ [] → second ≡ u ∷ [] → t ∷ u ∷ (last ++ rest) ≡ ts ++ rest
 spelled_pair ts first second before last t u rest a b c d = rw (a, b, c, d) refl
 
 pub spelled_two : (ts first second rest : List Lexeme) → ts ≡ first ++ second → first ++ (second ++ rest) ≡ ts ++ rest
 spelled_two ts first second rest a = rw a (sym (append_assoc first second rest))
 
-pub spelled_middle : (ts first before middle last : List Lexeme) (t : Lexeme) (rest : List Lexeme) → ts ≡ before ++ last → before ≡ first ++ middle → middle ≡ t ∷ [] → first ++ t ∷ (last ++ rest) ≡ ts ++ rest
+pub spelled_middle : (ts first before middle last : List Lexeme) (t : Lexeme) (rest : List Lexeme) →
+    ts ≡ before ++ last → before ≡ first ++ middle → middle ≡ t ∷ [] → first ++ t ∷ (last ++ rest) ≡ ts ++ rest
 spelled_middle ts first before middle last t rest a b c = rw (a, b, c) (sym (append_assoc (first ++ t ∷ []) last rest ∙ append_assoc first (t ∷ []) (last ++ rest)))
 
 -- two parts between a first token and a last one
-pub spelled_around : (ts a b c before first last : List Lexeme) (t u : Lexeme) (rest : List Lexeme) → ts ≡ before ++ last → before ≡ a ++ b → a ≡ first ++ c → first ≡ t ∷ [] → last ≡ u ∷ [] → t ∷ (c ++ (b ++ u ∷ rest)) ≡ ts ++ rest
+pub spelled_around : (ts a b c before first last : List Lexeme) (t u : Lexeme) (rest : List Lexeme) →
+    ts ≡ before ++ last → before ≡ a ++ b → a ≡ first ++ c → first ≡ t ∷ [] → last ≡ u ∷ [] → t ∷ (c ++ (b ++ u ∷ rest)) ≡ ts ++ rest
 spelled_around ts a b c before first last t u rest e f h i j =
     rw (e, f, h, i, j) (ap (λ (us : List Lexeme). t ∷ us) (sym (append_assoc (c ++ b) (u ∷ []) rest ∙ append_assoc c b (u ∷ rest))))
 
 -- a mark, an item and what follows it
-pub spelled_item : (ts first second before last : List Lexeme) (t : Lexeme) (rest : List Lexeme) → ts ≡ before ++ last → before ≡ first ++ second → first ≡ t ∷ [] → t ∷ (second ++ (last ++ rest)) ≡ ts ++ rest
+pub spelled_item : (ts first second before last : List Lexeme) (t : Lexeme) (rest : List Lexeme) →
+    ts ≡ before ++ last → before ≡ first ++ second → first ≡ t ∷ [] → t ∷ (second ++ (last ++ rest)) ≡ ts ++ rest
 spelled_item ts first second before last t rest e f h = rw (e, f, h) (ap (λ (us : List Lexeme). t ∷ us) (sym (append_assoc second last rest)))
 
 -- ---- what lists of items stand for

@@ -130,10 +130,13 @@ record Front (version units ticks : ℕ) (ts : List Lexeme) : Type 0 where
   is_ticks : bare ticks_ ≡ leaf.number ticks
   is_end : bare end ≡ bare_symbol 59
 
-all_joined : (ts r0 r1 r2 r3 r4 r5 r6 r7 : List Lexeme) (t0 t1 t2 t3 t4 t5 t6 t7 : Lexeme) → ts ≡ t0 ∷ r0 → r0 ≡ t1 ∷ r1 → r1 ≡ t2 ∷ r2 → r2 ≡ t3 ∷ r3 → r3 ≡ t4 ∷ r4 → r4 ≡ t5 ∷ r5 → r5 ≡ t6 ∷ r6 → r6 ≡ t7 ∷ r7 → r7 ≡ [] → ts ≡ t0 ∷ t1 ∷ t2 ∷ t3 ∷ t4 ∷ t5 ∷ t6 ∷ t7 ∷ []
+all_joined : (ts r0 r1 r2 r3 r4 r5 r6 r7 : List Lexeme) (t0 t1 t2 t3 t4 t5 t6 t7 : Lexeme) → ts ≡ t0 ∷ r0 → r0 ≡ t1 ∷ r1 → r1 ≡ t2 ∷ r2 →
+    r2 ≡ t3 ∷ r3 → r3 ≡ t4 ∷ r4 → r4 ≡ t5 ∷ r5 → r5 ≡ t6 ∷ r6 → r6 ≡ t7 ∷ r7 → r7 ≡ [] → ts ≡ t0 ∷ t1 ∷ t2 ∷ t3 ∷ t4 ∷ t5 ∷ t6 ∷ t7 ∷ []
 all_joined ts r0 r1 r2 r3 r4 r5 r6 r7 t0 t1 t2 t3 t4 t5 t6 t7 a b c d e f h i j = rw (a, b, c, d, e, f, h, i, j) refl
 
-front : (version units ticks : ℕ) (ts : List Lexeme) → Are ts ((word (codes "SCALD") ++ number version ++ semicolon) ++ (word (codes "CLOCK") ++ number units ++ word (codes "x") ++ number ticks ++ semicolon)) → Front version units ticks ts
+front : (version units ticks : ℕ) (ts : List Lexeme) →
+    Are ts ((word (codes "SCALD") ++ number version ++ semicolon) ++ (word (codes "CLOCK")
+    ++ number units ++ word (codes "x") ++ number ticks ++ semicolon)) → Front version units ticks ts
 front version units ticks ts are =
     let b7 = bare_symbol 59 ∷ [] in
     let b6 = leaf.number ticks ∷ b7 in
@@ -159,7 +162,8 @@ front version units ticks ts are =
       by = n5.token;
       ticks_ = n6.token;
       end = n7.token;
-      whole = all_joined ts n0.rest n1.rest n2.rest n3.rest n4.rest n5.rest n6.rest n7.rest n0.token n1.token n2.token n3.token n4.token n5.token n6.token n7.token n0.whole n1.whole n2.whole n3.whole n4.whole n5.whole n6.whole n7.whole (none_left n7.rest n7.behind);
+      whole = all_joined ts n0.rest n1.rest n2.rest n3.rest n4.rest n5.rest n6.rest n7.rest n0.token n1.token n2.token n3.token
+          n4.token n5.token n6.token n7.token n0.whole n1.whole n2.whole n3.whole n4.whole n5.whole n6.whole n7.whole (none_left n7.rest n7.behind);
       is_scald = n0.is;
       is_version = n1.is;
       is_stop = n2.is;
@@ -228,10 +232,12 @@ title name ts are =
     }
 
 text_spelled : (ts z0 end z1 cases z2 body z3 title z4 macros z5 clocks z6 precisions begin wires : List Lexeme) (t0 t1 t2 t3 t4 t5 t6 t7 k n s z : Lexeme) →
-    ts ≡ z0 ++ end → z0 ≡ z1 ++ cases → z1 ≡ z2 ++ body → z2 ≡ z3 ++ title → z3 ≡ z4 ++ macros → z4 ≡ z5 ++ clocks → z5 ≡ z6 ++ precisions → z6 ≡ begin ++ wires → title ≡ k ∷ n ∷ s ∷ [] → end ≡ z ∷ [] → begin ≡ t0 ∷ t1 ∷ t2 ∷ t3 ∷ t4 ∷ t5 ∷ t6 ∷ t7 ∷ [] →
+    ts ≡ z0 ++ end → z0 ≡ z1 ++ cases → z1 ≡ z2 ++ body → z2 ≡ z3 ++ title → z3 ≡ z4 ++ macros → z4 ≡ z5 ++ clocks →
+    z5 ≡ z6 ++ precisions → z6 ≡ begin ++ wires → title ≡ k ∷ n ∷ s ∷ [] → end ≡ z ∷ [] → begin ≡ t0 ∷ t1 ∷ t2 ∷ t3 ∷ t4 ∷ t5 ∷ t6 ∷ t7 ∷ [] →
     t0 ∷ t1 ∷ t2 ∷ t3 ∷ t4 ∷ t5 ∷ t6 ∷ t7 ∷ (wires ++ (precisions ++ (clocks ++ (macros ++ k ∷ n ∷ s ∷ (body ++ (cases ++ z ∷ [])))))) ≡ ts
 text_spelled ts z0 end z1 cases z2 body z3 title z4 macros z5 clocks z6 precisions begin wires t0 t1 t2 t3 t4 t5 t6 t7 k n s z a b c d e f h i j l m =
-    rw (a, b, c, d, e, f, h, i, j, l, m) (ap (λ (us : List Lexeme). t0 ∷ t1 ∷ t2 ∷ t3 ∷ t4 ∷ t5 ∷ t6 ∷ t7 ∷ us) (sym (append_assoc (wires ++ precisions ++ clocks ++ macros ++ k ∷ n ∷ s ∷ [] ++ body) cases (z ∷ [])
+    rw (a, b, c, d, e, f, h, i, j, l, m) (ap (λ (us : List Lexeme). t0 ∷ t1 ∷ t2 ∷ t3 ∷ t4 ∷ t5 ∷ t6 ∷ t7 ∷ us)
+    (sym (append_assoc (wires ++ precisions ++ clocks ++ macros ++ k ∷ n ∷ s ∷ [] ++ body) cases (z ∷ [])
     ∙ (append_assoc (wires ++ precisions ++ clocks ++ macros ++ k ∷ n ∷ s ∷ []) body (cases ++ z ∷ [])
     ∙ (append_assoc (wires ++ precisions ++ clocks ++ macros) (k ∷ n ∷ s ∷ []) (body ++ (cases ++ z ∷ []))
     ∙ (append_assoc (wires ++ precisions ++ clocks) macros (k ∷ n ∷ s ∷ (body ++ (cases ++ z ∷ [])))
@@ -306,7 +312,10 @@ text_built d short ts are =
     let e4 : (values wire.written).1.1.1.1 ≡ values titled = ap (λ (v : Values macros_needs). v.1) e3 ∙ macros.others in
     let e5 : (values wire.written).1.1.1.1.1.1 ≡ values cases.written = ap (λ (v : Values title_needs). v.1.1) e4 ∙ body.others in
     record {
-      written = chosen g.text f.scald f_scald (token f.version_ f_version (marked f.stop f_stop (token f.clock f_clock (token f.units_ f_units (lettered f.by f_by (text_is f.by (leaf.word (codes "x")) f.is_by) (token f.ticks_ f_ticks (marked f.end f_end wire.written)))))));
+      written = chosen g.text f.scald f_scald
+          (token f.version_ f_version
+          (marked f.stop f_stop (token f.clock f_clock (token f.units_ f_units
+          (lettered f.by f_by (text_is f.by (leaf.word (codes "x")) f.is_by) (token f.ticks_ f_ticks (marked f.end f_end wire.written)))))));
       spelled =
           ap (λ (us : List Lexeme). f.scald ∷ f.version_ ∷ f.stop ∷ f.clock ∷ f.units_ ∷ f.by ∷ f.ticks_ ∷ f.end ∷ us)
           (wire.spelled ∙ ap (λ (us : List Lexeme). a7.second ++ us)
@@ -314,7 +323,8 @@ text_built d short ts are =
           (cskew.spelled ∙ ap (λ (us : List Lexeme). a5.second ++ us)
           (macros.spelled ∙ ap (λ (us : List Lexeme). a4.second ++ t.begin ∷ t.named ∷ t.end ∷ us)
           (body.spelled ∙ ap (λ (us : List Lexeme). a2.second ++ us) cases.spelled)))))
-          ∙ text_spelled ts a0.first a0.second a1.first a1.second a2.first a2.second a3.first a3.second a4.first a4.second a5.first a5.second a6.first a6.second a7.first a7.second f.scald f.version_ f.stop f.clock f.units_ f.by f.ticks_ f.end t.begin t.named t.end z.token
+          ∙ text_spelled ts a0.first a0.second a1.first a1.second a2.first a2.second a3.first a3.second a4.first a4.second a5.first a5.second
+          a6.first a6.second a7.first a7.second f.scald f.version_ f.stop f.clock f.units_ f.by f.ticks_ f.end t.begin t.named t.end z.token
           a0.whole a1.whole a2.whole a3.whole a4.whole a5.whole a6.whole a7.whole t.whole z.whole f.whole;
       again = record {
         version = number_is f.version_ d.version f.is_version;
@@ -344,7 +354,9 @@ text_built d short ts are =
                     omega arith,
                     (
                       omega arith,
-                      wire.fits (λ i. pskew.fits (λ j. cskew.fits (λ k. macros.fits (λ l. (omega arith, (omega arith, (omega arith, body.fits (λ m. cases.fits (λ n. (omega arith, tt)) m) l)))) k) j) i) 0,
+                      wire.fits (λ i. pskew.fits
+                          (λ j. cskew.fits (λ k. macros.fits
+                          (λ l. (omega arith, (omega arith, (omega arith, body.fits (λ m. cases.fits (λ n. (omega arith, tt)) m) l)))) k) j) i) 0,
                     ),
                   ),
                 ),

@@ -54,7 +54,8 @@ both_built x y p q ts are rest w =
 both_stand : (x y a b : Expression) → x ≡ a → y ≡ b → (let p : Option (Expression × Expression) = Some (x, y) in p) ≡ Some (a, b)
 both_stand x y a b e f = rw (e, f) refl
 
-fall_built : (fall : Option (Expression × Expression)) → IfSome fall (λ d. IsShort d.0 × IsShort d.1) → (ts : List Lexeme) → Are ts (fall_tokens fall) → (rest : List Need) (w : Written rest) → PartBuilt Fall (λ v. v ≡ fall) ts rest w
+fall_built : (fall : Option (Expression × Expression)) → IfSome fall (λ d. IsShort d.0 × IsShort d.1) →
+    (ts : List Lexeme) → Are ts (fall_tokens fall) → (rest : List Need) (w : Written rest) → PartBuilt Fall (λ v. v ≡ fall) ts rest w
 unfolding symbol_terminal
 fall_built None is ts are rest w = record { written = left_out None refl w; spelled = nothing_spelled ts (spelling w) are; stands = refl; others = refl; fits = λ f c. f c }
 fall_built (Some fall) is ts are rest w =
@@ -73,9 +74,17 @@ fall_built (Some fall) is ts are rest w =
 abbrev pub AreDelays : Option (Expression × Expression) → Option (Expression × Expression) → Delays → Type 0
 AreDelays delay fall v = (v.delay ≡ delay) × (v.fall ≡ fall)
 
-delay_built : (delay fall : Option (Expression × Expression)) → tree.EachDelay IsShort delay fall → IsBeside delay fall → (ts : List Lexeme) → Are ts (delay_tokens delay fall) → (rest : List Need) (w : Written rest) → PartBuilt Delay (AreDelays delay fall) ts rest w
+delay_built : (delay fall : Option (Expression × Expression)) → tree.EachDelay IsShort delay fall → IsBeside delay fall →
+    (ts : List Lexeme) → Are ts (delay_tokens delay fall) → (rest : List Need) (w : Written rest) → PartBuilt Delay (AreDelays delay fall) ts rest w
 unfolding symbol_terminal
-delay_built None fall is beside ts are rest w = record { written = left_out no_delays refl w; spelled = nothing_spelled ts (spelling w) are; stands = (refl, sym beside); others = refl; fits = λ f c. f c }
+delay_built None fall is beside ts are rest w = record {
+  written = left_out no_delays refl w;
+  spelled =
+      nothing_spelled ts (spelling w) are;
+  stands = (refl, sym beside);
+  others = refl;
+  fits = λ f c. f c;
+}
 delay_built (Some delay) fall is beside ts are rest w =
     let all = parts ts (open_bracket ++ bounds_tokens delay.0 delay.1 ++ fall_tokens fall) close_bracket are in
     let two = parts all.first (open_bracket ++ bounds_tokens delay.0 delay.1) (fall_tokens fall) all.front in
@@ -109,10 +118,14 @@ pub record IsShortUse (u : tree.UseStatement) : Type 0 where
   pub ins : AllByRecursion IsShortConnection u.ins
   pub outs : AllByRecursion IsShortConnection u.outs
 
-use_stands : (u v : tree.UseStatement) → v.label ≡ u.label → v.kind ≡ u.kind → v.delay ≡ u.delay → v.fall ≡ u.fall → v.params ≡ u.params → map unplaced_connection v.ins ≡ map unplaced_connection u.ins → map unplaced_connection v.outs ≡ map unplaced_connection u.outs → unplaced_use v ≡ unplaced_use u
+use_stands : (u v : tree.UseStatement) → v.label ≡ u.label → v.kind ≡ u.kind → v.delay ≡ u.delay → v.fall ≡ u.fall → v.params ≡ u.params →
+    map unplaced_connection v.ins ≡ map unplaced_connection u.ins →
+    map unplaced_connection v.outs ≡ map unplaced_connection u.outs → unplaced_use v ≡ unplaced_use u
 use_stands u v a b c d e f h = rw (a, b, c, d, e, f, h) refl
 
-use_spelled : (ts z0 semi z1 outs z2 ins z3 params z4 delay z5 kind label colons : List Lexeme) (t c k s : Lexeme) (rest : List Lexeme) → ts ≡ z0 ++ semi → z0 ≡ z1 ++ outs → z1 ≡ z2 ++ ins → z2 ≡ z3 ++ params → z3 ≡ z4 ++ delay → z4 ≡ z5 ++ kind → z5 ≡ label ++ colons → label ≡ t ∷ [] → colons ≡ c ∷ [] → kind ≡ k ∷ [] → semi ≡ s ∷ [] →
+use_spelled : (ts z0 semi z1 outs z2 ins z3 params z4 delay z5 kind label colons : List Lexeme) (t c k s : Lexeme) (rest : List Lexeme) →
+    ts ≡ z0 ++ semi → z0 ≡ z1 ++ outs → z1 ≡ z2 ++ ins → z2 ≡ z3 ++ params → z3 ≡ z4 ++ delay →
+    z4 ≡ z5 ++ kind → z5 ≡ label ++ colons → label ≡ t ∷ [] → colons ≡ c ∷ [] → kind ≡ k ∷ [] → semi ≡ s ∷ [] →
     t ∷ c ∷ k ∷ (delay ++ (params ++ (ins ++ (outs ++ s ∷ rest)))) ≡ ts ++ rest
 use_spelled ts z0 semi z1 outs z2 ins z3 params z4 delay z5 kind label colons t c k s rest a b d e f gg h i j l m =
     rw (a, b, d, e, f, gg, h, i, j, l, m) (ap (λ (us : List Lexeme). t ∷ c ∷ k ∷ us) (sym (append_assoc (delay ++ params ++ ins ++ outs) (s ∷ []) rest
@@ -161,14 +174,28 @@ use_built u is n ts are rest w =
     let ends : terminal s.token ≡ Semicolon = terminal_is s.token (bare_symbol 59) s.is in
     let outs = outputs_built u.outs is.outs a1.second a1.back (mark Semicolon ∷ rest) (marked s.token ends w) in
     let ins = all_connections u.ins is.ins b1.second b1.back (mark CloseParenthesis ∷ part Outputs 0 ∷ mark Semicolon ∷ rest) (marked x.token closes outs.written) in
-    let params = params_built u.params is.params a3.second a3.back (mark OpenParenthesis ∷ group Conns 0 ∷ mark CloseParenthesis ∷ part Outputs 0 ∷ mark Semicolon ∷ rest) (marked o.token opens ins.written) in
-    let delay = delay_built u.delay u.fall is.delays is.beside a4.second a4.back (part Parameters 0 ∷ mark OpenParenthesis ∷ group Conns 0 ∷ mark CloseParenthesis ∷ part Outputs 0 ∷ mark Semicolon ∷ rest) params.written in
+    let params = params_built u.params is.params a3.second a3.back
+    (mark OpenParenthesis ∷ group Conns 0 ∷ mark CloseParenthesis ∷ part Outputs 0 ∷ mark Semicolon ∷ rest) (marked o.token opens ins.written) in
+    let delay = delay_built u.delay u.fall is.delays is.beside a4.second a4.back
+    (part Parameters 0 ∷ mark OpenParenthesis ∷ group Conns 0 ∷ mark CloseParenthesis ∷ part Outputs 0 ∷ mark Semicolon ∷ rest) params.written in
     let v = values delay.written in
     let e1 : v.1 ≡ values params.written = delay.others in
-    let e2 : v.1.1 ≡ values ins.written = ap (λ (y : Values (part Parameters 0 ∷ mark OpenParenthesis ∷ group Conns 0 ∷ mark CloseParenthesis ∷ part Outputs 0 ∷ mark Semicolon ∷ rest)). y.1) e1 ∙ params.others in
+    let e2 : v.1.1 ≡ values ins.written =
+    ap (λ (y : Values (part Parameters 0 ∷ mark OpenParenthesis ∷ group
+    Conns 0 ∷ mark CloseParenthesis ∷ part Outputs 0 ∷ mark Semicolon ∷ rest)). y.1) e1 ∙ params.others in
     let e3 : v.1.1.1 ≡ values outs.written = ap (λ (y : Values (group Conns 0 ∷ mark CloseParenthesis ∷ part Outputs 0 ∷ mark Semicolon ∷ rest)). y.1) e2 ∙ ins.others in
     let e4 : v.1.1.1.1 ≡ values w = ap (λ (y : Values (part Outputs 0 ∷ mark Semicolon ∷ rest)). y.1) e3 ∙ outs.others in
-    let found : tree.UseStatement = record { label = t.token.text; kind = k.token.text; delay = v.0.delay; fall = v.0.fall; params = v.1.0.items; ins = v.1.1.0; outs = v.1.1.1.0; place = t.token.place } in
+    let found : tree.UseStatement = record {
+      label = t.token.text;
+      kind = k.token.text;
+      delay =
+          v.0.delay;
+      fall = v.0.fall;
+      params = v.1.0.items;
+      ins = v.1.1.0;
+      outs = v.1.1.1.0;
+      place = t.token.place;
+    } in
     record {
       written = chosen g.use_ t.token (word_is_free t.token u.label t.is is.label) (marked c.token colons (token k.token (word_is_free k.token u.kind k.is is.kind) delay.written));
       spelled =
@@ -177,7 +204,8 @@ use_built u is n ts are rest w =
           (params.spelled ∙ ap (λ (us : List Lexeme). a3.second ++ us)
           (ap (λ (us : List Lexeme). o.token ∷ us) (ins.spelled ∙ ap (λ (us : List Lexeme). b1.second ++ x.token ∷ us) outs.spelled)
           ∙ spelled_between a2.second b1.first b1.second b0.first b0.second o.token x.token (a1.second ++ s.token ∷ spelling w) b0.whole b1.whole o.whole x.whole)))
-          ∙ use_spelled ts a0.first a0.second a1.first a1.second a2.first a2.second a3.first a3.second a4.first a4.second a5.first a5.second a6.first a6.second t.token c.token k.token s.token (spelling w)
+          ∙ use_spelled ts a0.first a0.second a1.first a1.second a2.first a2.second a3.first
+          a3.second a4.first a4.second a5.first a5.second a6.first a6.second t.token c.token k.token s.token (spelling w)
           a0.whole a1.whole a2.whole a3.whole a4.whole a5.whole a6.whole t.whole c.whole k.whole s.whole;
       found = found;
       is = refl;

@@ -28,11 +28,13 @@ use Rattle.drawing_grammar.proofs.PlacedValues.{IsPairAt, IsHeaderAt, IsHeadAt, 
 
 -- ---- the header
 
-statement_at : {A : Type 0} (P : Place → Type 0) (good : Bool) (place : Place) (said : Result A Refusal) (r : Refusal) → P place → (said ≡ Err r → P r.place) → judged_statement good place said ≡ Err r → P r.place
+statement_at : {A : Type 0} (P : Place → Type 0) (good : Bool) (place : Place) (said : Result A Refusal) (r : Refusal) →
+    P place → (said ≡ Err r → P r.place) → judged_statement good place said ≡ Err r → P r.place
 statement_at P true place said r p more e = more e
 statement_at P false place said r p more e = let same : refused_at place ≡ r = cc in subst (λ (x : Refusal). P x.place) same p
 
-pair_at : {A : Type 0} (P : Place → Type 0) (test : ℤ → ℤ → Bool) (written : Option NumberPair) (said : Result A Refusal) (r : Refusal) → IfSome written (IsPairAt P) → (said ≡ Err r → P r.place) → judged_pair test written said ≡ Err r → P r.place
+pair_at : {A : Type 0} (P : Place → Type 0) (test : ℤ → ℤ → Bool) (written : Option NumberPair) (said : Result A Refusal) (r : Refusal) →
+    IfSome written (IsPairAt P) → (said ≡ Err r → P r.place) → judged_pair test written said ≡ Err r → P r.place
 pair_at P test None said r p more e = more e
 pair_at P test (Some pair) said r p more e = statement_at P (test pair.first pair.second) pair.place said r p more e
 
@@ -88,7 +90,8 @@ mutual
   statement_labels_at : (P : Place → Type 0) (scope : ℕ) (s : tree.Statement) → IsStatementAt P s → AllByRecursion (IsDeclarationAt P) (statement_labels scope s)
   statement_labels_at P scope (tree.Use u) a = (a.place, tt)
   statement_labels_at P scope (tree.Wire w) a = tt
-  statement_labels_at P scope (tree.If test ss other place) a = every_append (IsDeclarationAt P) (labels scope ss) (else_labels scope other) (labels_at P scope ss a.1) (else_labels_at P scope other a.2)
+  statement_labels_at P scope (tree.If test ss other place) a =
+      every_append (IsDeclarationAt P) (labels scope ss) (else_labels scope other) (labels_at P scope ss a.1) (else_labels_at P scope other a.2)
 
   labels_at : (P : Place → Type 0) (scope : ℕ) (ss : tree.Statements) → AreStatementsAt P ss → AllByRecursion (IsDeclarationAt P) (labels scope ss)
   labels_at P scope tree.nil a = tt
@@ -107,7 +110,8 @@ head_at P scope m h a b =
           (every_append D (formals scope m.ins h.ins) (formals scope m.outs h.outs) (formals_at P scope m.ins h.ins b.ins) (formals_at P scope m.outs h.outs b.outs)),
     )
 
-macros_at : (P : Place → Type 0) (scope : ℕ) (ms : List tree.Macro) (hs : List Head) → AllByRecursion (IsMacroAt P) ms → AllByRecursion (IsHeadAt P) hs → AllByRecursion (IsDeclarationAt P) (macros_declared scope ms hs)
+macros_at : (P : Place → Type 0) (scope : ℕ) (ms : List tree.Macro) (hs : List Head) → AllByRecursion (IsMacroAt P) ms →
+    AllByRecursion (IsHeadAt P) hs → AllByRecursion (IsDeclarationAt P) (macros_declared scope ms hs)
 macros_at P scope [] hs a b = tt
 macros_at P scope (m ∷ ms) [] a b = tt
 macros_at P scope (m ∷ ms) (h ∷ hs) a b =

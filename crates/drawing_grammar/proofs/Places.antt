@@ -34,7 +34,10 @@ found [] needs a v e = done (finish needs) (finished needs) e
     done (Refused r) d e = absurd cc
 found (t ∷ ts) needs a v e = one (λ later b y f. found ts later b y f) (step needs a t) (undo needs a t) e
   where
-    go : ((later : List Need) (b : ℕ) (y : Values later) → verdict ts later b ≡ Complete y → Found ts later b y) → (later : List Need) (b m : ℕ) (build : Values later → Values needs) → ((ws : Written later) → Before needs a t later b m build ws) → (q : Bool) → nat_le m limit ≡ q → (if q then given {needs = needs} build (verdict ts later b) else Refused (refusal TooDeep t.place)) ≡ Complete v → Found (t ∷ ts) needs a v
+    go : ((later : List Need) (b : ℕ) (y : Values later) → verdict ts later b ≡ Complete y → Found ts later b y) →
+        (later : List Need) (b m : ℕ) (build : Values later → Values needs) → ((ws : Written later) → Before needs a t later b m build ws) →
+        (q : Bool) → nat_le m limit ≡ q →
+        (if q then given {needs = needs} build (verdict ts later b) else Refused (refusal TooDeep t.place)) ≡ Complete v → Found (t ∷ ts) needs a v
     go again later b m build u true f e = inside (verdict ts later b) refl e
       where
         inside : (x : Verdict later) → verdict ts later b ≡ x → given {needs = needs} build x ≡ Complete v → Found (t ∷ ts) needs a v
@@ -47,7 +50,8 @@ found (t ∷ ts) needs a v e = one (λ later b y f. found ts later b y f) (step 
         inside (Refused r) g e = absurd cc
     go again later b m build u false f e = absurd cc
 
-    one : ((later : List Need) (b : ℕ) (y : Values later) → verdict ts later b ≡ Complete y → Found ts later b y) → (x : Step needs) → Undone needs a t x → go_on x (verdict ts) t.place ≡ Complete v → Found (t ∷ ts) needs a v
+    one : ((later : List Need) (b : ℕ) (y : Values later) → verdict ts later b ≡ Complete y → Found ts later b y) →
+        (x : Step needs) → Undone needs a t x → go_on x (verdict ts) t.place ≡ Complete v → Found (t ∷ ts) needs a v
     one again (Next later b m build) u e = go again later b m build u (nat_le m limit) refl e
     one again Stuck u e = absurd cc
 
@@ -62,11 +66,17 @@ unfolding verdict
 complete [] needs a w c e h = empty w e
 complete (t ∷ ts) needs a w c e h = one (λ later b x d f i. complete ts later b x d f i) (step needs a t) (forced w a t ts c e)
   where
-    go : ((later : List Need) (b : ℕ) (w : Written later) → Chained later → spelling w ≡ ts → Within ts (weights w b) → verdict ts later b ≡ Complete (values w)) → (later : List Need) (b m : ℕ) (build : Values later → Values needs) → After w a ts later b m build → (q : Bool) → q ≡ true → (if q then given {needs = needs} build (verdict ts later b) else Refused (refusal TooDeep t.place)) ≡ Complete (values w)
-    go again later b m build f true g = let k = within_parts ts t m (weights f.rest b) (weights w a) f.weighed h in ap (λ (x : Verdict later). given build x) (again later b f.rest f.chained f.spelled k.1) ∙ ap (λ (v : Values needs). Complete v) (sym f.valued)
+    go : ((later : List Need) (b : ℕ) (w : Written later) → Chained later → spelling w ≡ ts → Within ts (weights w b) →
+        verdict ts later b ≡ Complete (values w)) → (later : List Need) (b m : ℕ) (build : Values later → Values needs) →
+        After w a ts later b m build → (q : Bool) → q ≡ true →
+        (if q then given {needs = needs} build (verdict ts later b) else Refused (refusal TooDeep t.place)) ≡ Complete (values w)
+    go again later b m build f true g =
+        let k = within_parts ts t m (weights f.rest b) (weights w a) f.weighed h in ap (λ (x : Verdict later). given build x)
+        (again later b f.rest f.chained f.spelled k.1) ∙ ap (λ (v : Values needs). Complete v) (sym f.valued)
     go again later b m build f false g = absurd cc
 
-    one : ((later : List Need) (b : ℕ) (w : Written later) → Chained later → spelling w ≡ ts → Within ts (weights w b) → verdict ts later b ≡ Complete (values w)) → (x : Step needs) → Forces w a ts x → go_on x (verdict ts) t.place ≡ Complete (values w)
+    one : ((later : List Need) (b : ℕ) (w : Written later) → Chained later → spelling w ≡ ts → Within ts (weights w b) →
+        verdict ts later b ≡ Complete (values w)) → (x : Step needs) → Forces w a ts x → go_on x (verdict ts) t.place ≡ Complete (values w)
     one again (Next later b m build) f = go again later b m build f (nat_le m limit) (le-leb m limit (within_parts ts t m (weights f.rest b) (weights w a) f.weighed h).0)
     one again Stuck f = absurd f
 
@@ -93,7 +103,8 @@ pub record Short (ts : List Lexeme) (needs : List Need) : Type 0 where
   pub spelled : spelling written ≡ ts ++ next ∷ rest
 
 pub data Placed (ts : List Lexeme) (needs : List Need) (a : ℕ) (r : Refusal) : Type 0 where
-  at_syntax : (before : List Lexeme) (t : Lexeme) (after : List Lexeme) → ts ≡ before ++ t ∷ after → Front before needs a → ((w : Written needs) (z : List Lexeme) → spelling w ≡ before ++ t ∷ z → ⊥) → r ≡ refusal Syntax t.place → Placed ts needs a r
+  at_syntax : (before : List Lexeme) (t : Lexeme) (after : List Lexeme) → ts ≡ before ++ t ∷ after → Front before needs a →
+      ((w : Written needs) (z : List Lexeme) → spelling w ≡ before ++ t ∷ z → ⊥) → r ≡ refusal Syntax t.place → Placed ts needs a r
   at_limit : (before : List Lexeme) (t : Lexeme) (after : List Lexeme) → ts ≡ before ++ t ∷ after → Front before needs a → Far before t needs a → r ≡ refusal TooDeep t.place → Placed ts needs a r
   at_end : Short ts needs → Placed ts needs a r
 
@@ -106,14 +117,38 @@ beyond_here m xs [] e h = absurd cc
 beyond_here m xs (y ∷ ys) e h = let j : y ≡ m = cc in rw j h
 
 -- a step further
-one_more : (ts : List Lexeme) (needs : List Need) (a : ℕ) (t : Lexeme) (r : Refusal) (later : List Need) (b m : ℕ) (build : Values later → Values needs) → ((ws : Written later) → Before needs a t later b m build ws) → ((w : Written needs) (zs : List Lexeme) → spelling w ≡ t ∷ zs → After w a zs later b m build) → m ≤ limit → Placed ts later b r → Placed (t ∷ ts) needs a r
+one_more : (ts : List Lexeme) (needs : List Need) (a : ℕ) (t : Lexeme) (r : Refusal) (later : List Need) (b m : ℕ)
+    (build : Values later → Values needs) → ((ws : Written later) → Before needs a t later b m build ws) → ((w : Written needs) (zs : List Lexeme) →
+    spelling w ≡ t ∷ zs → After w a zs later b m build) → m ≤ limit → Placed ts later b r → Placed (t ∷ ts) needs a r
 one_more ts needs a t r later b m build u f h (at_syntax before x after e front none q) = at_syntax (t ∷ before) x after (ap (λ (y : List Lexeme). t ∷ y) e)
-    (let z = u front.written in record { written = z.written; rest = front.rest; spelled = z.spelled ∙ ap (λ (y : List Lexeme). t ∷ y) front.spelled; within = within_from before t m (weights front.written b) (weights z.written a) z.weighed h front.within })
+    (let z = u front.written in
+    record {
+      written = z.written;
+      rest = front.rest;
+      spelled = z.spelled ∙ ap (λ (y : List Lexeme). t ∷ y) front.spelled;
+      within =
+          within_from before t m (weights front.written b) (weights z.written a) z.weighed h front.within;
+    })
     (λ w zs s. let k = f w (before ++ x ∷ zs) s in none k.rest zs k.spelled) q
 one_more ts needs a t r later b m build u f h (at_limit before x after e front far q) = at_limit (t ∷ before) x after (ap (λ (y : List Lexeme). t ∷ y) e)
-    (let z = u front.written in record { written = z.written; rest = front.rest; spelled = z.spelled ∙ ap (λ (y : List Lexeme). t ∷ y) front.spelled; within = within_from before t m (weights front.written b) (weights z.written a) z.weighed h front.within })
-    (let z = u far.written in record { written = z.written; rest = far.rest; spelled = z.spelled ∙ ap (λ (y : List Lexeme). t ∷ y) far.spelled; beyond = beyond_from before t m (weights far.written b) (weights z.written a) z.weighed far.beyond }) q
-one_more ts needs a t r later b m build u f h (at_end s) = at_end (let z = u s.written in record { written = z.written; next = s.next; rest = s.rest; spelled = z.spelled ∙ ap (λ (y : List Lexeme). t ∷ y) s.spelled })
+    (let z = u front.written in
+    record {
+      written = z.written;
+      rest = front.rest;
+      spelled = z.spelled ∙ ap (λ (y : List Lexeme). t ∷ y) front.spelled;
+      within =
+          within_from before t m (weights front.written b) (weights z.written a) z.weighed h front.within;
+    })
+    (let z = u far.written in
+    record {
+      written = z.written;
+      rest = far.rest;
+      spelled = z.spelled ∙ ap (λ (y : List Lexeme). t ∷ y) far.spelled;
+      beyond =
+          beyond_from before t m (weights far.written b) (weights z.written a) z.weighed far.beyond;
+    }) q
+one_more ts needs a t r later b m build u f h (at_end s) = at_end (let z =
+    u s.written in record { written = z.written; next = s.next; rest = s.rest; spelled = z.spelled ∙ ap (λ (y : List Lexeme). t ∷ y) s.spelled })
 
 pub placed : (ts : List Lexeme) (needs : List Need) (a : ℕ) (r : Refusal) → Chained needs → verdict ts needs a ≡ Refused r → Placed ts needs a r
 unfolding verdict
@@ -127,14 +162,27 @@ placed (t ∷ ts) needs a r c e = one (λ later b d f. placed ts later b r d f) 
     here : Front [] needs a
     here = record { written = least needs; rest = spelling (least needs); spelled = refl; within = tt }
 
-    go : ((later : List Need) (b : ℕ) → Chained later → verdict ts later b ≡ Refused r → Placed ts later b r) → (later : List Need) (b m : ℕ) (build : Values later → Values needs) → ((ws : Written later) → Before needs a t later b m build ws) → ((w : Written needs) (zs : List Lexeme) → spelling w ≡ t ∷ zs → After w a zs later b m build) → (q : Bool) → nat_le m limit ≡ q → (if q then given {needs = needs} build (verdict ts later b) else Refused (refusal TooDeep t.place)) ≡ Refused r → Placed (t ∷ ts) needs a r
-    go again later b m build u f true g e = one_more ts needs a t r later b m build u f (leb-true m limit g) (again later b (f (u (least later)).written (spelling (least later)) (u (least later)).spelled).chained (inside (verdict ts later b) e))
+    go : ((later : List Need) (b : ℕ) → Chained later → verdict ts later b ≡ Refused r → Placed ts later b r) →
+        (later : List Need) (b m : ℕ) (build : Values later → Values needs) → ((ws : Written later) → Before needs a t later b m build ws) →
+        ((w : Written needs) (zs : List Lexeme) → spelling w ≡ t ∷ zs → After w a zs later b m build) → (q : Bool) → nat_le m limit ≡ q →
+        (if q then given {needs = needs} build (verdict ts later b) else Refused (refusal TooDeep t.place)) ≡ Refused r → Placed (t ∷ ts) needs a r
+    go again later b m build u f true g e = one_more ts needs a t r later b m build u f (leb-true m limit g)
+        (again later b (f (u (least later)).written (spelling (least later)) (u (least later)).spelled).chained (inside (verdict ts later b) e))
       where
         inside : (x : Verdict later) → given {needs = needs} build x ≡ Refused r → x ≡ Refused r
         inside (Complete v) e = absurd cc
         inside (Refused s) e = let k : s ≡ r = cc in ap (λ (y : Refusal). Refused y) k
-    go again later b m build u f false g e = let k : refusal TooDeep t.place ≡ r = cc in let z = u (least later) in at_limit [] t ts refl here (record { written = z.written; rest = spelling (least later); spelled = z.spelled; beyond = beyond_here m (weights (least later) b) (weights z.written a) z.weighed (leb-false m limit g) }) (sym k)
+    go again later b m build u f false g e = let k : refusal TooDeep t.place ≡ r = cc in let z =
+        u (least later) in at_limit [] t ts refl here (record {
+          written = z.written;
+          rest = spelling (least later);
+          spelled =
+              z.spelled;
+          beyond = beyond_here m (weights (least later) b) (weights z.written a) z.weighed (leb-false m limit g);
+        }) (sym k)
 
-    one : ((later : List Need) (b : ℕ) → Chained later → verdict ts later b ≡ Refused r → Placed ts later b r) → (x : Step needs) → Undone needs a t x → ((w : Written needs) (zs : List Lexeme) → spelling w ≡ t ∷ zs → Forces w a zs x) → go_on x (verdict ts) t.place ≡ Refused r → Placed (t ∷ ts) needs a r
+    one : ((later : List Need) (b : ℕ) → Chained later → verdict ts later b ≡ Refused r → Placed ts later b r) → (x : Step needs) →
+        Undone needs a t x → ((w : Written needs) (zs : List Lexeme) → spelling w ≡ t ∷ zs → Forces w a zs x) →
+        go_on x (verdict ts) t.place ≡ Refused r → Placed (t ∷ ts) needs a r
     one again (Next later b m build) u f e = go again later b m build u f (nat_le m limit) refl e
     one again Stuck u f e = let k : refusal Syntax t.place ≡ r = cc in at_syntax [] t ts refl here (λ w z s. f w z s) (sym k)

@@ -211,7 +211,8 @@ capped_fits t = omega arith
 with_item_of : {A : Type 0} (P : A → Type 0) (x : Placed A) (xs : PlacedList A) → P x.item → AllPlaced P xs → AllPlaced P (record { items = x.item ∷ xs.items; places = x.place ∷ xs.places })
 with_item_of P x xs p ps = record { items = (p, ps.items); places = ap suc ps.places }
 
-choice_of : (G : SignalName → Type 0) → ((name : SignalName) → G name → IsName name) → {p : Part} (c : Choice p) (n : ℕ) (t : Lexeme) (v : Values (following c n)) → IsProper G t → terminal t ≡ opening c → AreOf G (following c n) v → IsPartOf G p (choice_value c n t v)
+choice_of : (G : SignalName → Type 0) → ((name : SignalName) → G name → IsName name) → {p : Part} (c : Choice p) (n : ℕ) (t : Lexeme)
+    (v : Values (following c n)) → IsProper G t → terminal t ≡ opening c → AreOf G (following c n) v → IsPartOf G p (choice_value c n t v)
 choice_of G k g.number n t v p e a = p.number e
 choice_of G k g.parameter n t v p e a = p.word e
 choice_of G k g.negated n t v p e a = a.0
@@ -250,7 +251,18 @@ choice_of G k g.use_ n t v p e a = record { label = p.word e; kind = a.0.proper.
 choice_of G k g.wire n t v p e a = record { name = a.0.proper.name a.0.is; range = a.1.0; min = a.1.1.0; max = a.1.1.1.0 }
 choice_of G k g.if_ n t v p e a = (a.0, a.1.0, a.1.1.0)
 choice_of G k g.else_ n t v p e a = a.0
-choice_of G k g.macro n t v p e a = record { macro = record { name = a.0.proper.word a.0.is; params = a.1.0.items; ins = a.1.1.0.items; outs = a.1.1.1.0.items; body = a.1.1.1.1.0 }; head = record { parameters = a.1.0.places; ins = a.1.1.0.places; outs = a.1.1.1.0.places } }
+choice_of G k g.macro n t v p e a =
+    record {
+      macro = record {
+        name = a.0.proper.word a.0.is;
+        params = a.1.0.items;
+        ins = a.1.1.0.items;
+        outs =
+            a.1.1.1.0.items;
+        body = a.1.1.1.1.0;
+      };
+      head = record { parameters = a.1.0.places; ins = a.1.1.0.places; outs = a.1.1.1.0.places };
+    }
 choice_of G k g.index n t v p e a = capped_fits v.0
 choice_of G k g.entry n t v p e a = record { name = p.name e; bit = a.0; value = capped_fits v.1.0 }
 choice_of G k g.next_entry n t v p e a = (a.0, a.1.0)
@@ -262,7 +274,8 @@ choice_of G k g.text n t v p e a = record { macros = a.1.1.1.1.1.1.1.0; name = a
 
 -- ---- each group
 
-group_of : (G : SignalName → Type 0) (h : Group) (n : ℕ) (first : Meaning (lead h)) (v : Values (others h n)) → IsPartOf G (lead h) first → AreOf G (others h n) v → IsGroupOf G h (group_value h n first v)
+group_of : (G : SignalName → Type 0) (h : Group) (n : ℕ) (first : Meaning (lead h)) (v : Values (others h n)) →
+    IsPartOf G (lead h) first → AreOf G (others h n) v → IsGroupOf G h (group_value h n first v)
 group_of G g.Product n first v p a = a.0 _ p
 group_of G g.Sum n first v p a = a.1.0 _ (a.0 _ p)
 group_of G g.Expr n first v p a = a.1.1.0 _ (a.1.0 _ (a.0 _ p))

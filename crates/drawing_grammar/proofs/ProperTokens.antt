@@ -51,7 +51,8 @@ all_lexical text (t ∷ ts) from s = (lexical_of t.kind (slice_range text t.star
 
 -- ---- names
 
-pub first_good : (h : Header) (l : Terminal) (in_head : Bool) (t : Lexeme) (more : List Naming) → AreGood h (names_at in_head l t ++ more) → (l ≡ is.Name → IsGood h (naming in_head t)) × AreGood h more
+pub first_good : (h : Header) (l : Terminal) (in_head : Bool) (t : Lexeme) (more : List Naming) →
+    AreGood h (names_at in_head l t ++ more) → (l ≡ is.Name → IsGood h (naming in_head t)) × AreGood h more
 first_good h is.Scald in_head t more a = (λ e. absurd cc, a)
 first_good h is.Clock in_head t more a = (λ e. absurd cc, a)
 first_good h is.Wire in_head t more a = (λ e. absurd cc, a)
@@ -102,7 +103,8 @@ all_proper h (t ∷ ts) in_head ls gs =
     let split = first_good h (terminal t) in_head t (names_from (head_behind in_head (terminal t)) ts) gs in
     (record { word = ls.0.word; number = ls.0.number; name = λ e. signal_good h in_head t (split.0 e) }, all_proper h ts (head_behind in_head (terminal t)) ls.1 split.1)
 
-pub tokens_proper : (h : Header) (text : List ℕ) (tokens : List lex.Token) → AreTokens text tokens → AreGood h (names_from false (lexemes text tokens)) → AreProper (λ n. IsGoodName h n) (lexemes text tokens)
+pub tokens_proper : (h : Header) (text : List ℕ) (tokens : List lex.Token) → AreTokens text tokens →
+    AreGood h (names_from false (lexemes text tokens)) → AreProper (λ n. IsGoodName h n) (lexemes text tokens)
 tokens_proper h text tokens are good =
     let stand = tokens_stand text tokens are in
     let F : List lex.Token → Type 0 = λ ts. AreLexical (lexemes text ts) in

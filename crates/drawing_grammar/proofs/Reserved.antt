@@ -5,7 +5,8 @@ use Rattle.std.proofs.lemmas.Bool.{or_parts}
 use Rattle.drawing_grammar.specs.declared.terminal.Terminal.TheVariants.{Word}
 use Rattle.drawing_grammar.specs.Lexeme.{begins_reserved, word_terminal}
 
-other_first : (b : ℕ) (bs : List ℕ) → (b == 67) ≡ false → (b == 68) ≡ false → (b == 69) ≡ false → (b == 73) ≡ false → (b == 77) ≡ false → (b == 79) ≡ false → (b == 80) ≡ false → (b == 83) ≡ false → (b == 84) ≡ false → (b == 87) ≡ false → (b == 90) ≡ false → word_terminal (b ∷ bs) ≡ Word
+other_first : (b : ℕ) (bs : List ℕ) → (b == 67) ≡ false → (b == 68) ≡ false → (b == 69) ≡ false → (b == 73) ≡ false → (b == 77) ≡ false → (b == 79)
+    ≡ false → (b == 80) ≡ false → (b == 83) ≡ false → (b == 84) ≡ false → (b == 87) ≡ false → (b == 90) ≡ false → word_terminal (b ∷ bs) ≡ Word
 unfolding word_terminal
 other_first b bs c d e i m o p s t w z = rw (c, d, e, i, m, o, p, s, t, w, z) refl
 

@@ -23,11 +23,13 @@ mutual
   statement_again : (scope : ℕ) (s : tree.Statement) → keys_of (statement_labels scope (unplaced_statement s)) ≡ keys_of (statement_labels scope s)
   statement_again scope (tree.Use u) = refl
   statement_again scope (tree.Wire w) = refl
-  statement_again scope (tree.If test ss other place) = both (labels scope (unplaced_statements ss)) (else_labels scope (unplaced_otherwise other)) (labels scope ss) (else_labels scope other) (statements_again scope ss) (otherwise_again scope other)
+  statement_again scope (tree.If test ss other place) = both (labels scope (unplaced_statements ss)) (else_labels scope (unplaced_otherwise other))
+      (labels scope ss) (else_labels scope other) (statements_again scope ss) (otherwise_again scope other)
 
   statements_again : (scope : ℕ) (ss : tree.Statements) → keys_of (labels scope (unplaced_statements ss)) ≡ keys_of (labels scope ss)
   statements_again scope tree.nil = refl
-  statements_again scope (tree.cons s ss) = both (statement_labels scope (unplaced_statement s)) (labels scope (unplaced_statements ss)) (statement_labels scope s) (labels scope ss) (statement_again scope s) (statements_again scope ss)
+  statements_again scope (tree.cons s ss) = both (statement_labels scope (unplaced_statement s)) (labels scope (unplaced_statements ss))
+      (statement_labels scope s) (labels scope ss) (statement_again scope s) (statements_again scope ss)
 
   otherwise_again : (scope : ℕ) (o : tree.Otherwise) → keys_of (else_labels scope (unplaced_otherwise o)) ≡ keys_of (else_labels scope o)
   otherwise_again scope tree.no_else = refl
@@ -56,10 +58,13 @@ abbrev pub macro_keys : ℕ → tree.Macro → List Key
 macro_keys scope m = (key 0 Macro m.name ∷ (parameter_keys scope m.params ++ (formal_keys scope m.ins ++ formal_keys scope m.outs))) ++ keys_of (labels scope m.body)
 
 three : (a b c : List Declaration) (x y z : List Key) → keys_of a ≡ x → keys_of b ≡ y → keys_of c ≡ z → keys_of (a ++ (b ++ c)) ≡ x ++ (y ++ z)
-three a b c x y z e f h = map-append the_key a (b ++ c) ∙ (ap (λ (k : List Key). k ++ keys_of (b ++ c)) e ∙ ap (λ (k : List Key). x ++ k) (map-append the_key b c ∙ (ap (λ (k : List Key). k ++ keys_of c) f ∙ ap (λ (k : List Key). y ++ k) h)))
+three a b c x y z e f h = map-append the_key a (b ++ c) ∙ (ap (λ (k : List Key). k ++ keys_of (b ++ c)) e
+    ∙ ap (λ (k : List Key). x ++ k) (map-append the_key b c ∙ (ap (λ (k : List Key). k ++ keys_of c) f ∙ ap (λ (k : List Key). y ++ k) h)))
 
-head_is : (scope : ℕ) (m : tree.Macro) (h : Head) → IsHeadOf m h → keys_of (head_declared scope m h) ≡ key 0 Macro m.name ∷ (parameter_keys scope m.params ++ (formal_keys scope m.ins ++ formal_keys scope m.outs))
-head_is scope m h is = ap (λ (ks : List Key). key 0 Macro m.name ∷ ks) (three (parameters scope m.params h.parameters) (formals scope m.ins h.ins) (formals scope m.outs h.outs) (parameter_keys scope m.params) (formal_keys scope m.ins) (formal_keys scope m.outs)
+head_is : (scope : ℕ) (m : tree.Macro) (h : Head) → IsHeadOf m h →
+    keys_of (head_declared scope m h) ≡ key 0 Macro m.name ∷ (parameter_keys scope m.params ++ (formal_keys scope m.ins ++ formal_keys scope m.outs))
+head_is scope m h is = ap (λ (ks : List Key). key 0 Macro m.name ∷ ks) (three (parameters scope m.params h.parameters)
+    (formals scope m.ins h.ins) (formals scope m.outs h.outs) (parameter_keys scope m.params) (formal_keys scope m.ins) (formal_keys scope m.outs)
     (parameters_are scope m.params h.parameters is.parameters) (formals_are scope m.ins h.ins is.ins) (formals_are scope m.outs h.outs is.outs))
 
 macro_is : (scope : ℕ) (m : tree.Macro) (h : Head) → IsHeadOf m h → keys_of (head_declared scope m h ++ labels scope m.body) ≡ macro_keys scope (unplaced_macro m)
@@ -85,14 +90,17 @@ macros_are scope (m ∷ ms) (h ∷ hs) is =
 same_labels : (scope : ℕ) (ss us : tree.Statements) → unplaced_statements us ≡ unplaced_statements ss → keys_of (labels scope us) ≡ keys_of (labels scope ss)
 same_labels scope ss us e = sym (statements_again scope us) ∙ (ap (λ (x : tree.Statements). keys_of (labels scope x)) e ∙ statements_again scope ss)
 
-same_keys : (ms us : List tree.Macro) (hs ks : List Head) (body again : tree.Statements) → AreHeads ms hs → AreHeads us ks → map unplaced_macro us ≡ map unplaced_macro ms → unplaced_statements again ≡ unplaced_statements body → keys_of (declared us ks again) ≡ keys_of (declared ms hs body)
+same_keys : (ms us : List tree.Macro) (hs ks : List Head) (body again : tree.Statements) → AreHeads ms hs → AreHeads us ks → map unplaced_macro
+    us ≡ map unplaced_macro ms → unplaced_statements again ≡ unplaced_statements body → keys_of (declared us ks again) ≡ keys_of (declared ms hs body)
 same_keys ms us hs ks body again h k e f =
     let count : length us ≡ length ms = sym (length-map us unplaced_macro) ∙ (ap length e ∙ length-map ms unplaced_macro) in
     both (macros_declared 0 us ks) (labels (length us) again) (macros_declared 0 ms hs) (labels (length ms) body)
     (macros_are 0 us ks k ∙ (ap (λ (xs : List tree.Macro). all_keys 0 xs) e ∙ sym (macros_are 0 ms hs h)))
     (ap (λ (n : ℕ). keys_of (labels n again)) count ∙ same_labels (length ms) body again f)
 
-pub distinct_again : (ms us : List tree.Macro) (hs ks : List Head) (body again : tree.Statements) → AreHeads ms hs → AreHeads us ks → map unplaced_macro us ≡ map unplaced_macro ms → unplaced_statements again ≡ unplaced_statements body → IsDistinct (declared ms hs body) → IsDistinct (declared us ks again)
+pub distinct_again : (ms us : List tree.Macro) (hs ks : List Head) (body again : tree.Statements) → AreHeads ms hs → AreHeads us ks →
+    map unplaced_macro us ≡ map unplaced_macro ms → unplaced_statements again ≡ unplaced_statements body →
+    IsDistinct (declared ms hs body) → IsDistinct (declared us ks again)
 distinct_again ms us hs ks body again h k e f is =
     let F : List Key → Type 0 = λ keys. AreDifferent (primitives ++ keys) in
     subst F (sym (same_keys ms us hs ks body again h k e f)) is

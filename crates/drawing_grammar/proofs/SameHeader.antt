@@ -64,7 +64,8 @@ passes : {A : Type 0} (b : Bool) (place : Place) (said : Result A Refusal) (x : 
 passes true place said x e h = h
 passes false place said x e h = absurd cc
 
-passes_pair : {A : Type 0} (test : ℤ → ℤ → Bool) (a b : ℕ) (o : Option NumberPair) (said : Result A Refusal) (x : Result A Refusal) → IsPair a b o → test (pos a) (pos b) ≡ true → said ≡ x → judged_pair test o said ≡ x
+passes_pair : {A : Type 0} (test : ℤ → ℤ → Bool) (a b : ℕ) (o : Option NumberPair) (said : Result A Refusal) (x : Result A Refusal) →
+    IsPair a b o → test (pos a) (pos b) ≡ true → said ≡ x → judged_pair test o said ≡ x
 passes_pair test a b None said x h e k = absurd h
 passes_pair test a b (Some p) said x h e k = passes (test p.first p.second) p.place said x (ap (λ (m : ℤ). test m p.second) h.0 ∙ (ap (λ (n : ℤ). test (pos a) n) h.1 ∙ e)) k
 
@@ -72,17 +73,23 @@ pair_is : (a b : ℕ) (o : Option NumberPair) → IsPair a b o → ((pair_of o).
 pair_is a b None h = absurd h
 pair_is a b (Some p) h = (ap natural h.0, ap natural h.1)
 
-header_same : (h : Header) (u t wa wb pa pb ca cb : ℕ) → u ≡ h.units → t ≡ h.ticks → wa ≡ h.wire.min → wb ≡ h.wire.max → pa ≡ h.pskew.0 → pb ≡ h.pskew.1 → ca ≡ h.cskew.0 → cb ≡ h.cskew.1 → (let x : Header = record { units = u; ticks = t; wire = record { min = wa; max = wb }; pskew = (pa, pb); cskew = (ca, cb) } in x) ≡ h
+header_same : (h : Header) (u t wa wb pa pb ca cb : ℕ) → u ≡ h.units → t ≡ h.ticks → wa ≡ h.wire.min → wb ≡ h.wire.max → pa ≡ h.pskew.0 →
+    pb ≡ h.pskew.1 → ca ≡ h.cskew.0 → cb ≡ h.cskew.1 →
+    (let x : Header = record { units = u; ticks = t; wire = record { min = wa; max = wb }; pskew = (pa, pb); cskew = (ca, cb) } in x) ≡ h
 header_same h u t wa wb pa pb ca cb a b c d e f i j = rw (a, b, c, d, e, f, i, j) refl
 
-pub judged_again : (w : WrittenHeader) (version : ℕ) (h : Header) → IsHeader h → version ≡ 1 → w.version ≡ pos version → w.clock.first ≡ pos h.units → w.clock.second ≡ pos h.ticks → IsPair h.wire.min h.wire.max w.wire → IsPair h.pskew.0 h.pskew.1 w.pskew → IsPair h.cskew.0 h.cskew.1 w.cskew → judged w ≡ Ok h
+pub judged_again : (w : WrittenHeader) (version : ℕ) (h : Header) → IsHeader h → version ≡ 1 → w.version ≡ pos version → w.clock.first ≡ pos h.units →
+    w.clock.second ≡ pos h.ticks → IsPair h.wire.min h.wire.max w.wire →
+    IsPair h.pskew.0 h.pskew.1 w.pskew → IsPair h.cskew.0 h.cskew.1 w.cskew → judged w ≡ Ok h
 judged_again w version h is one v u t wire pskew cskew =
     let W = pair_is h.wire.min h.wire.max w.wire wire in
     let P = pair_is h.pskew.0 h.pskew.1 w.pskew pskew in
     let C = pair_is h.cskew.0 h.cskew.1 w.cskew cskew in
-    let same : header_of w ≡ h = header_same h (natural w.clock.first) (natural w.clock.second) (pair_of w.wire).0 (pair_of w.wire).1 (pair_of w.pskew).0 (pair_of w.pskew).1 (pair_of w.cskew).0 (pair_of w.cskew).1 (ap natural u) (ap natural t) W.0 W.1 P.0 P.1 C.0 C.1 in
+    let same : header_of w ≡ h = header_same h (natural w.clock.first) (natural w.clock.second) (pair_of w.wire).0 (pair_of w.wire).1
+    (pair_of w.pskew).0 (pair_of w.pskew).1 (pair_of w.cskew).0 (pair_of w.cskew).1 (ap natural u) (ap natural t) W.0 W.1 P.0 P.1 C.0 C.1 in
     let versions : is_version w.version ≡ true = ap is_version (v ∙ ap (λ (n : ℕ). pos n) one) in
-    let clocks : is_clock w.clock.first w.clock.second ≡ true = ap (λ (m : ℤ). is_clock m w.clock.second) u ∙ (ap (λ (n : ℤ). is_clock (pos h.units) n) t ∙ good_clock h.units h.ticks is.shortest is.longest) in
+    let clocks : is_clock w.clock.first w.clock.second ≡ true = ap (λ (m : ℤ). is_clock m w.clock.second) u
+    ∙ (ap (λ (n : ℤ). is_clock (pos h.units) n) t ∙ good_clock h.units h.ticks is.shortest is.longest) in
     passes (is_version w.version) w.place _ (Ok h) versions
     (passes (is_clock w.clock.first w.clock.second) w.clock.place _ (Ok h) clocks
     (passes_pair is_bounds h.wire.min h.wire.max w.wire _ (Ok h) wire (good_bounds h.wire.min h.wire.max is.wire.ordered is.wire.bounded)
@@ -90,9 +97,11 @@ judged_again w version h is one v u t wire pskew cskew =
     (passes_pair is_skew h.cskew.0 h.cskew.1 w.cskew _ (Ok h) cskew (good_skew h.cskew.0 h.cskew.1 is.cskew.early is.cskew.late)
     (ap (λ (x : Header). Ok x) same)))))
 
-pub header_again : (w : WrittenHeader) (h : Header) → IsHeader h → w.clock.first ≡ pos h.units → w.clock.second ≡ pos h.ticks → IsPair h.wire.min h.wire.max w.wire → IsPair h.pskew.0 h.pskew.1 w.pskew → IsPair h.cskew.0 h.cskew.1 w.cskew → header_of w ≡ h
+pub header_again : (w : WrittenHeader) (h : Header) → IsHeader h → w.clock.first ≡ pos h.units → w.clock.second ≡ pos h.ticks →
+    IsPair h.wire.min h.wire.max w.wire → IsPair h.pskew.0 h.pskew.1 w.pskew → IsPair h.cskew.0 h.cskew.1 w.cskew → header_of w ≡ h
 header_again w h is u t wire pskew cskew =
     let W = pair_is h.wire.min h.wire.max w.wire wire in
     let P = pair_is h.pskew.0 h.pskew.1 w.pskew pskew in
     let C = pair_is h.cskew.0 h.cskew.1 w.cskew cskew in
-    header_same h (natural w.clock.first) (natural w.clock.second) (pair_of w.wire).0 (pair_of w.wire).1 (pair_of w.pskew).0 (pair_of w.pskew).1 (pair_of w.cskew).0 (pair_of w.cskew).1 (ap natural u) (ap natural t) W.0 W.1 P.0 P.1 C.0 C.1
+    header_same h (natural w.clock.first) (natural w.clock.second) (pair_of w.wire).0 (pair_of w.wire).1
+    (pair_of w.pskew).0 (pair_of w.pskew).1 (pair_of w.cskew).0 (pair_of w.cskew).1 (ap natural u) (ap natural t) W.0 W.1 P.0 P.1 C.0 C.1

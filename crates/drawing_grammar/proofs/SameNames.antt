@@ -110,9 +110,11 @@ module _ (h : Header) where
   one_by b P tokens f [] ps = tt
   one_by b P tokens f (x ∷ xs) ps = joined b (tokens x) (flat_map tokens xs) (f x ps.0) (one_by b P tokens f xs ps.1)
 
-  between : {A : Type 0} (b : Bool) (P : A → Type 0) (tokens : A → List Bare) (mark : List Bare) → AreCalm h b mark → ((x : A) → P x → AreCalm h b (tokens x)) → (xs : List A) → AllByRecursion P xs → AreCalm h b (join_by tokens mark xs)
+  between : {A : Type 0} (b : Bool) (P : A → Type 0) (tokens : A → List Bare) (mark : List Bare) → AreCalm h b mark →
+      ((x : A) → P x → AreCalm h b (tokens x)) → (xs : List A) → AllByRecursion P xs → AreCalm h b (join_by tokens mark xs)
   between b P tokens mark m f [] ps = tt
-  between b P tokens mark m f (x ∷ xs) ps = joined b (tokens x) (flat_map (λ y. mark ++ tokens y) xs) (f x ps.0) (one_by b P (λ y. mark ++ tokens y) (λ y p. joined b mark (tokens y) m (f y p)) xs ps.1)
+  between b P tokens mark m f (x ∷ xs) ps = joined b (tokens x) (flat_map (λ y. mark ++ tokens y) xs)
+      (f x ps.0) (one_by b P (λ y. mark ++ tokens y) (λ y p. joined b mark (tokens y) m (f y p)) xs ps.1)
 
   -- ---- expressions
 
@@ -284,7 +286,8 @@ module _ (h : Header) where
         joined false (first ++ statements_tokens ss ++ else_tokens o) end_tokens
         (joined false (first ++ statements_tokens ss) (else_tokens o)
         (joined false first (statements_tokens ss)
-        (joined false (word (codes "IF") ++ condition_tokens test) (word (codes "THEN")) (other false _ terminal.If refl refl refl, condition false test p.0) (other false _ terminal.Then refl refl refl, tt))
+        (joined false (word (codes "IF") ++ condition_tokens test) (word (codes "THEN"))
+        (other false _ terminal.If refl refl refl, condition false test p.0) (other false _ terminal.Then refl refl refl, tt))
         (statements ss p.1)) (otherwise o p.2)) ends
 
     statements : (ss : tree.Statements) → AreStatementsOf Good ss → AreCalm h false (statements_tokens ss)
@@ -347,11 +350,23 @@ module _ (h : Header) where
 
   entry : (x : CaseEntry) → IsEntryOf Good x → AreCalm h false (entry_tokens x)
   unfolding symbol_terminal
-  entry x p = (of_name x.name p.name, (other false _ terminal.Less refl refl refl, (of_number false x.bit, (other false _ terminal.Greater refl refl refl, (other false _ terminal.Equals refl refl refl, (of_number false x.value, tt))))))
+  entry x p = (
+    of_name x.name
+        p.name,
+    (
+      other false _ terminal.Less refl refl refl,
+      (
+        of_number false
+            x.bit,
+        (other false _ terminal.Greater refl refl refl, (other false _ terminal.Equals refl refl refl, (of_number false x.value, tt))),
+      ),
+    ),
+  )
 
   case_ : (c : CaseStmt) → IsCaseOf Good c → AreCalm h false (case_tokens c)
   unfolding word_terminal
-  case_ c p = joined false (word (codes "CASE") ++ listed_tokens entry_tokens c.entries) semicolon (other false _ terminal.Case refl refl refl, between false (IsEntryOf Good) entry_tokens comma (commas false) entry c.entries p.entries) stop
+  case_ c p = joined false (word (codes "CASE") ++ listed_tokens entry_tokens c.entries) semicolon
+      (other false _ terminal.Case refl refl refl, between false (IsEntryOf Good) entry_tokens comma (commas false) entry c.entries p.entries) stop
 
   pub cases : (cs : List CaseStmt) → AllByRecursion (IsCaseOf Good) cs → AreCalm h false (flat_map case_tokens cs)
   cases cs p = one_by false (IsCaseOf Good) case_tokens case_ cs p

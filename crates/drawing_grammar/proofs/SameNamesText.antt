@@ -53,7 +53,10 @@ module _ (h : Header) where
       let behind : AreGoodFrom false (a.second ++ us) = calm_over false a.second us (body_tokens m.body) a.back (body h m.body p.body) good in
       let stop : AreGoodFrom true (s.token ∷ (a.second ++ us)) = step true s.token (a.second ++ us) is.Semicolon is_stop behind in
       let inside : AreGoodFrom true (c.first ++ (s.token ∷ (a.second ++ us))) = calm_over true c.first (s.token ∷ (a.second ++ us)) (head_tokens h m) c.front (head h m p) stop in
-      let joined : AreGoodFrom true (a.first ++ (a.second ++ us)) = subst (AreGoodFrom true) (sym (ap (λ (xs : List Lexeme). xs ++ (a.second ++ us)) (c.whole ∙ ap (λ (xs : List Lexeme). c.first ++ xs) s.whole) ∙ append_assoc c.first (s.token ∷ []) (a.second ++ us))) inside in
+      let joined : AreGoodFrom true (a.first ++ (a.second ++ us)) =
+      subst (AreGoodFrom true)
+      (sym (ap (λ (xs : List Lexeme). xs ++ (a.second ++ us)) (c.whole ∙ ap (λ (xs : List Lexeme). c.first ++ xs) s.whole)
+      ∙ append_assoc c.first (s.token ∷ []) (a.second ++ us))) inside in
       step false t (ts ++ us) is.Macro is_macro (over_two true ts a.first a.second us a.whole joined)
     where
       first_of : List Bare → Bare
@@ -71,7 +74,8 @@ module _ (h : Header) where
       let a = parts ts (macro_tokens m) (flat_map macro_tokens ms) are in
       over_two false ts a.first a.second us a.whole (macro_over m p.0 a.first (a.second ++ us) a.front (macros_over ms p.1 a.second us a.back good))
 
-  pub text_names : (d : tree.Drawing) → IsFreeWord d.name → AllByRecursion (IsMacroOf Good) d.macros → AreStatementsOf Good d.body → AllByRecursion (IsCaseOf Good) d.cases → (ts : List Lexeme) → Are ts (drawing_tokens d ++ end_of_text) → AreGood h (names_from false ts)
+  pub text_names : (d : tree.Drawing) → IsFreeWord d.name → AllByRecursion (IsMacroOf Good) d.macros → AreStatementsOf Good d.body →
+      AllByRecursion (IsCaseOf Good) d.cases → (ts : List Lexeme) → Are ts (drawing_tokens d ++ end_of_text) → AreGood h (names_from false ts)
   unfolding names_from
   text_names d named macros inside listed ts are =
       let cut = drawing_parts d ts are in
@@ -83,9 +87,13 @@ module _ (h : Header) where
       let g0 : AreGoodFrom false (a0.second ++ []) = calm_over false a0.second [] end_of_text a0.back (end h) tt in
       let g1 : AreGoodFrom false (a1.second ++ (a0.second ++ [])) = calm_over false a1.second (a0.second ++ []) (flat_map case_tokens d.cases) a1.back (cases h d.cases listed) g0 in
       let g2 : AreGoodFrom false (a2.second ++ (a1.second ++ (a0.second ++ []))) = calm_over false a2.second (a1.second ++ (a0.second ++ [])) (body_tokens d.body) a2.back (body h d.body inside) g1 in
-      let g3 : AreGoodFrom false (a3.second ++ (a2.second ++ (a1.second ++ (a0.second ++ [])))) = calm_over false a3.second (a2.second ++ (a1.second ++ (a0.second ++ []))) (title_tokens d) a3.back (title h d.name named) g2 in
-      let g4 : AreGoodFrom false (a4.second ++ (a3.second ++ (a2.second ++ (a1.second ++ (a0.second ++ []))))) = macros_over d.macros macros a4.second (a3.second ++ (a2.second ++ (a1.second ++ (a0.second ++ [])))) a4.back g3 in
-      let g5 : AreGoodFrom false (a4.first ++ (a4.second ++ (a3.second ++ (a2.second ++ (a1.second ++ (a0.second ++ [])))))) = calm_over false a4.first (a4.second ++ (a3.second ++ (a2.second ++ (a1.second ++ (a0.second ++ []))))) (header_tokens d.version d.header) a4.front (header h d.version d.header) g4 in
+      let g3 : AreGoodFrom false (a3.second ++ (a2.second ++ (a1.second ++ (a0.second ++ [])))) =
+      calm_over false a3.second (a2.second ++ (a1.second ++ (a0.second ++ []))) (title_tokens d) a3.back (title h d.name named) g2 in
+      let g4 : AreGoodFrom false (a4.second ++ (a3.second ++ (a2.second ++ (a1.second ++ (a0.second ++ []))))) =
+      macros_over d.macros macros a4.second (a3.second ++ (a2.second ++ (a1.second ++ (a0.second ++ [])))) a4.back g3 in
+      let g5 : AreGoodFrom false (a4.first ++ (a4.second ++ (a3.second ++ (a2.second ++ (a1.second ++ (a0.second ++ [])))))) =
+      calm_over false a4.first (a4.second ++ (a3.second ++ (a2.second ++ (a1.second ++ (a0.second ++ []))))) (header_tokens d.version d.header)
+      a4.front (header h d.version d.header) g4 in
       let k3 = over_two false a3.first a4.first a4.second (a3.second ++ (a2.second ++ (a1.second ++ (a0.second ++ [])))) a4.whole g5 in
       let k2 = over_two false a2.first a3.first a3.second (a2.second ++ (a1.second ++ (a0.second ++ []))) a3.whole k3 in
       let k1 = over_two false a1.first a2.first a2.second (a1.second ++ (a0.second ++ [])) a2.whole k2 in

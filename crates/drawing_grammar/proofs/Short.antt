@@ -40,16 +40,23 @@ item_short tree.One p q r = tt
 item_short (tree.Named n range) p q r = (p.0, range_short range p.1 q r)
 
 connection_short : (c : tree.Connection) → IsDrawnConnection c → IsShallowConnection c → IsFewConnection c → IsShortConnection c
-connection_short c p q r = record { some = p.some; terms = three IsDrawnTerm (λ t. IsShallowItem t.item) (λ t. IsFewItem t.item) (λ t. IsShortItem t.item) (λ t u v w. item_short t.item u v w) c.terms p.terms q r }
+connection_short c p q r =
+    record {
+      some = p.some;
+      terms = three IsDrawnTerm (λ t. IsShallowItem t.item)
+          (λ t. IsFewItem t.item) (λ t. IsShortItem t.item) (λ t u v w. item_short t.item u v w) c.terms p.terms q r;
+    }
 
 assignment_short : (a : tree.Assignment) → IsDrawnAssignment a → IsShallowAssignment a → IsFewAssignment a → IsShortAssignment a
 assignment_short a p q r = record { name = p.name; value = short a.value p.value q r }
 
-fall_short : (o : Option (Expression × Expression)) → IfSome o (λ d. IsDrawn d.0 × IsDrawn d.1) → IfSome o (λ d. IsShallow d.0 × IsShallow d.1) → IfSome o (λ d. IsFew d.0 × IsFew d.1) → IfSome o (λ d. IsShort d.0 × IsShort d.1)
+fall_short : (o : Option (Expression × Expression)) → IfSome o (λ d. IsDrawn d.0 × IsDrawn d.1) →
+    IfSome o (λ d. IsShallow d.0 × IsShallow d.1) → IfSome o (λ d. IsFew d.0 × IsFew d.1) → IfSome o (λ d. IsShort d.0 × IsShort d.1)
 fall_short None p q r = tt
 fall_short (Some d) p q r = (short d.0 p.0 q.0 r.0, short d.1 p.1 q.1 r.1)
 
-delays_short : (delay fall : Option (Expression × Expression)) → tree.EachDelay IsDrawn delay fall → tree.EachDelay IsShallow delay fall → tree.EachDelay IsFew delay fall → tree.EachDelay IsShort delay fall
+delays_short : (delay fall : Option (Expression × Expression)) → tree.EachDelay IsDrawn delay fall →
+    tree.EachDelay IsShallow delay fall → tree.EachDelay IsFew delay fall → tree.EachDelay IsShort delay fall
 delays_short None fall p q r = tt
 delays_short (Some d) fall p q r = ((short d.0 p.0.0 q.0.0 r.0.0, short d.1 p.0.1 q.0.1 r.0.1), fall_short fall p.1 q.1 r.1)
 

@@ -48,7 +48,8 @@ item_is_plain Zero = refl
 item_is_plain One = refl
 item_is_plain (Named n range) = refl
 
-complemented_spells : (complemented : Bool) (item : Item) → Spells (item_text item) (item_tokens item) → Spells (minus_text complemented ++ item_text item) (minus_tokens complemented ++ item_tokens item)
+complemented_spells : (complemented : Bool) (item : Item) → Spells (item_text item) (item_tokens item) →
+    Spells (minus_text complemented ++ item_text item) (minus_tokens complemented ++ item_tokens item)
 complemented_spells true item is = minus_before (item_text item) (item_tokens item) is (item_is_plain item)
 complemented_spells false item is = is
 

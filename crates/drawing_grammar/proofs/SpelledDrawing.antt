@@ -35,7 +35,8 @@ pair_spells front first a b f h k =
     (before (decimal a ++ codes ":") (decimal b) (number a ++ colon) (number b)
     (then_closed (decimal a) (codes ":") (number a) colon (number_spells a h) colon_closes refl) (number_spells b k))
 
-clock_spells : (units ticks : ℕ) → units ≤ greatest_number → ticks ≤ greatest_number → Spells (codes "CLOCK " ++ decimal units ++ codes " x " ++ decimal ticks) (word (codes "CLOCK") ++ number units ++ word (codes "x") ++ number ticks)
+clock_spells : (units ticks : ℕ) → units ≤ greatest_number → ticks ≤ greatest_number → Spells (codes "CLOCK "
+    ++ decimal units ++ codes " x " ++ decimal ticks) (word (codes "CLOCK") ++ number units ++ word (codes "x") ++ number ticks)
 clock_spells units ticks h k =
     before (codes "CLOCK " ++ decimal units ++ codes " x ") (decimal ticks) (word (codes "CLOCK") ++ number units ++ word (codes "x")) (number ticks)
     (then_closed (codes "CLOCK " ++ decimal units) (codes " x ") (word (codes "CLOCK") ++ number units) (word (codes "x"))
@@ -69,7 +70,8 @@ header_closes version h v is =
     (before_closed (scald ++ clock ++ wire) pskew (scalds ++ clocks ++ wires) pskews
     (before_closed (scald ++ clock) wire (scalds ++ clocks) wires
     (before_closed scald clock scalds clocks
-    (ended (codes "SCALD " ++ decimal version) (word (codes "SCALD") ++ number version) (before (codes "SCALD ") (decimal version) (word (codes "SCALD")) (number version) scald_closes (number_spells version v)))
+    (ended (codes "SCALD " ++ decimal version) (word (codes "SCALD") ++ number version)
+    (before (codes "SCALD ") (decimal version) (word (codes "SCALD")) (number version) scald_closes (number_spells version v)))
     (ended (codes "CLOCK " ++ decimal h.units ++ codes " x " ++ decimal h.ticks) (word (codes "CLOCK") ++ number h.units ++ word (codes "x") ++ number h.ticks)
     (clock_spells h.units h.ticks (omega arith) (omega arith))))
     (ended (codes "WIRE " ++ pair_text h.wire.min h.wire.max) (word (codes "WIRE") ++ pair_tokens h.wire.min h.wire.max)
@@ -151,6 +153,7 @@ canonical_closes d is =
     (before_closed (header ++ macros) title (headers ++ macro_words) titles
     (before_closed header macros headers macro_words (header_closes d.version d.header (omega (arith, is.version)) is.header)
     (each_closes macro_lines macro_tokens d.macros (all_map IsDrawnMacro (λ m. Closes (macro_lines m) (macro_tokens m)) macro_lines_close d.macros is.macros)))
-    (ended (codes "DRAWING " ++ d.name) (word (codes "DRAWING") ++ word d.name) (before (codes "DRAWING ") d.name (word (codes "DRAWING")) (word d.name) drawing_closes (word_spells d.name is.name.is_word))))
+    (ended (codes "DRAWING " ++ d.name) (word (codes "DRAWING") ++ word d.name)
+    (before (codes "DRAWING ") d.name (word (codes "DRAWING")) (word d.name) drawing_closes (word_spells d.name is.name.is_word))))
     (body_closes d.body is.body))
     (each_closes case_lines case_tokens d.cases (all_map IsDrawnCase (λ c. Closes (case_lines c) (case_tokens c)) case_lines_close d.cases is.cases))

@@ -21,13 +21,15 @@ more_stop sep text h (x ∷ xs) =
     subst (λ (s : List ℕ). stops s ≡ true) (sym (append_assoc sep (text x) (flat_map (λ y. sep ++ text y) xs)))
     (breaks_on sep (text x ++ flat_map (λ y. sep ++ text y) xs) h)
 
-more_spell : {A : Type 0} (sep : List ℕ) (mark : List Bare) (text : A → List ℕ) (tokens : A → List Bare) → Closes sep mark → breaks sep ≡ true → (xs : List A) → Each text tokens xs → Spells (flat_map (λ x. sep ++ text x) xs) (flat_map (λ x. mark ++ tokens x) xs)
+more_spell : {A : Type 0} (sep : List ℕ) (mark : List Bare) (text : A → List ℕ) (tokens : A → List Bare) → Closes sep mark →
+    breaks sep ≡ true → (xs : List A) → Each text tokens xs → Spells (flat_map (λ x. sep ++ text x) xs) (flat_map (λ x. mark ++ tokens x) xs)
 more_spell sep mark text tokens c h [] is = closed [] [] nothing_closes
 more_spell sep mark text tokens c h (x ∷ xs) is =
     then_ (sep ++ text x) (flat_map (λ y. sep ++ text y) xs) (mark ++ tokens x) (flat_map (λ y. mark ++ tokens y) xs)
     (before sep (text x) mark (tokens x) c is.0) (more_spell sep mark text tokens c h xs is.1) (more_stop sep text h xs)
 
-pub joined_spells : {A : Type 0} (sep : List ℕ) (mark : List Bare) (text : A → List ℕ) (tokens : A → List Bare) → Closes sep mark → breaks sep ≡ true → (xs : List A) → Each text tokens xs → Spells (join_by text sep xs) (join_by tokens mark xs)
+pub joined_spells : {A : Type 0} (sep : List ℕ) (mark : List Bare) (text : A → List ℕ) (tokens : A → List Bare) →
+    Closes sep mark → breaks sep ≡ true → (xs : List A) → Each text tokens xs → Spells (join_by text sep xs) (join_by tokens mark xs)
 joined_spells sep mark text tokens c h [] is = closed [] [] nothing_closes
 joined_spells sep mark text tokens c h (x ∷ xs) is =
     then_ (text x) (flat_map (λ y. sep ++ text y) xs) (tokens x) (flat_map (λ y. mark ++ tokens y) xs)
@@ -36,13 +38,17 @@ joined_spells sep mark text tokens c h (x ∷ xs) is =
 pub listed_spells : {A : Type 0} (text : A → List ℕ) (tokens : A → List Bare) (xs : List A) → Each text tokens xs → Spells (listed_text text xs) (listed_tokens tokens xs)
 listed_spells text tokens xs is = joined_spells (codes ", ") comma text tokens comma_closes refl xs is
 
-pub bracketed_closes : {A : Type 0} (front back : List ℕ) (first last : List Bare) (text : A → List ℕ) (tokens : A → List Bare) → Closes front first → Closes back last → breaks back ≡ true → (xs : List A) → Each text tokens xs → Closes (bracketed front back text xs) (bracketed_tokens first last tokens xs)
+pub bracketed_closes : {A : Type 0} (front back : List ℕ) (first last : List Bare) (text : A → List ℕ) (tokens : A → List Bare) → Closes front first →
+    Closes back last → breaks back ≡ true → (xs : List A) → Each text tokens xs →
+    Closes (bracketed front back text xs) (bracketed_tokens first last tokens xs)
 unfolding bracketed
 bracketed_closes front back first last text tokens f b h xs is =
     then_closed (front ++ listed_text text xs) back (first ++ listed_tokens tokens xs) last
     (before front (listed_text text xs) first (listed_tokens tokens xs) f (listed_spells text tokens xs is)) b h
 
-pub bracketed_if_some_closes : {A : Type 0} (front back : List ℕ) (first last : List Bare) (text : A → List ℕ) (tokens : A → List Bare) → Closes front first → Closes back last → breaks back ≡ true → (xs : List A) → Each text tokens xs → Closes (bracketed_if_some front back text xs) (bracketed_tokens_if_some first last tokens xs)
+pub bracketed_if_some_closes : {A : Type 0} (front back : List ℕ) (first last : List Bare) (text : A → List ℕ) (tokens : A → List Bare) →
+    Closes front first → Closes back last → breaks back ≡ true → (xs : List A) → Each text tokens xs →
+    Closes (bracketed_if_some front back text xs) (bracketed_tokens_if_some first last tokens xs)
 unfolding bracketed_if_some
 bracketed_if_some_closes front back first last text tokens f b h [] is = nothing_closes
 bracketed_if_some_closes front back first last text tokens f b h (x ∷ xs) is = bracketed_closes front back first last text tokens f b h (x ∷ xs) is

@@ -30,8 +30,15 @@ item_undone : (l : Terminal) (rest : List Need) (a : ℕ) (t : Lexeme) (b : Bool
 item_undone l rest a t true e = λ ws. record { written = token t (same_is (terminal t) l e) ws; spelled = refl; weighed = refl; valued = refl }
 item_undone l rest a t false e = tt
 
-letter_undone : (x : Letter) (rest : List Need) (a : ℕ) (t : Lexeme) (b c : Bool) → same (terminal t) is.Word ≡ b → bytes_eq t.text (letter_text x) ≡ c → Undone (letter x ∷ rest) a t (if b && c then Next rest a 0 (λ v. v) else Stuck)
-letter_undone x rest a t true true e f = λ ws. record { written = lettered t (same_is (terminal t) is.Word e) ((bytes_eq-Decides t.text (letter_text x)).0 f) ws; spelled = refl; weighed = refl; valued = refl }
+letter_undone : (x : Letter) (rest : List Need) (a : ℕ) (t : Lexeme) (b c : Bool) → same (terminal t) is.Word ≡ b →
+    bytes_eq t.text (letter_text x) ≡ c → Undone (letter x ∷ rest) a t (if b && c then Next rest a 0 (λ v. v) else Stuck)
+letter_undone x rest a t true true e f = λ ws. record {
+  written =
+      lettered t (same_is (terminal t) is.Word e) ((bytes_eq-Decides t.text (letter_text x)).0 f) ws;
+  spelled = refl;
+  weighed = refl;
+  valued = refl;
+}
 letter_undone x rest a t true false e f = tt
 letter_undone x rest a t false c e f = tt
 
@@ -39,15 +46,20 @@ fresh_undone : (rest : List Need) (a : ℕ) (t : Lexeme) (s : Step rest) → Und
 fresh_undone rest a t (Next later b m build) u = λ ws. let x = u ws in record { written = begun x.written; spelled = x.spelled; weighed = x.weighed; valued = x.valued }
 fresh_undone rest a t Stuck u = tt
 
-part_undone : (p : Part) (n : ℕ) (rest : List Need) (a : ℕ) (t : Lexeme) (o : Option (Choice p)) (absent : Option (Meaning p)) (s : Step rest) → choice p (terminal t) ≡ o → absent_value p ≡ absent → Undone rest a t s → Undone (part p n ∷ rest) a t (entered p n rest a t o absent s)
+part_undone : (p : Part) (n : ℕ) (rest : List Need) (a : ℕ) (t : Lexeme) (o : Option (Choice p)) (absent : Option (Meaning p)) (s : Step rest) →
+    choice p (terminal t) ≡ o → absent_value p ≡ absent → Undone rest a t s → Undone (part p n ∷ rest) a t (entered p n rest a t o absent s)
 part_undone p n rest a t (Some c) absent s e f u = λ ws. record { written = chosen c t (opens_with p (terminal t) c e) ws; spelled = refl; weighed = refl; valued = refl }
-part_undone p n rest a t None (Some v) (Next later b m build) e f u = λ ws. let x = u ws in record { written = left_out v f x.written; spelled = x.spelled; weighed = x.weighed; valued = ap (λ (w : Values rest). (v, w)) x.valued }
+part_undone p n rest a t None (Some v) (Next later b m build) e f u = λ ws. let x =
+    u ws in record { written = left_out v f x.written; spelled = x.spelled; weighed = x.weighed; valued = ap (λ (w : Values rest). (v, w)) x.valued }
 part_undone p n rest a t None (Some v) Stuck e f u = tt
 part_undone p n rest a t None None s e f u = tt
 
-group_undone : (h : Group) (n : ℕ) (rest : List Need) (a : ℕ) (t : Lexeme) (o : Option (Choice (lead h))) (absent : Option (GroupMeaning h)) (s : Step rest) → choice (lead h) (terminal t) ≡ o → absent_group h ≡ absent → Undone rest a t s → Undone (group h n ∷ rest) a t (group_entered h n rest a t o absent s)
+group_undone : (h : Group) (n : ℕ) (rest : List Need) (a : ℕ) (t : Lexeme) (o : Option (Choice (lead h))) (absent : Option (GroupMeaning h))
+    (s : Step rest) → choice (lead h) (terminal t) ≡ o → absent_group h ≡ absent →
+    Undone rest a t s → Undone (group h n ∷ rest) a t (group_entered h n rest a t o absent s)
 group_undone h n rest a t (Some c) absent s e f u = λ ws. record { written = grouped (chosen c t (opens_with (lead h) (terminal t) c e) ws); spelled = refl; weighed = refl; valued = refl }
-group_undone h n rest a t None (Some v) (Next later b m build) e f u = λ ws. let x = u ws in record { written = lacking v f x.written; spelled = x.spelled; weighed = x.weighed; valued = ap (λ (w : Values rest). (v, w)) x.valued }
+group_undone h n rest a t None (Some v) (Next later b m build) e f u = λ ws. let x =
+    u ws in record { written = lacking v f x.written; spelled = x.spelled; weighed = x.weighed; valued = ap (λ (w : Values rest). (v, w)) x.valued }
 group_undone h n rest a t None (Some v) Stuck e f u = tt
 group_undone h n rest a t None None s e f u = tt
 

@@ -43,8 +43,10 @@ pub record BeginsBeyond (before : List Lexeme) (t : Lexeme) : Type 0 where
 -- Syntax at the first token such that the tokens up to it and with it begin no text, and TooDeep at the first token
 -- beyond a limit; whichever comes first, and Syntax where both hold.
 pub data IsRefused (ts : List Lexeme) (r : Refusal) : Type 0 where
-  syntax : (before : List Lexeme) (t : Lexeme) (after : List Lexeme) → ts ≡ before ++ t ∷ after → BeginsWithin before → (Begins (before ++ t ∷ []) → ⊥) → r ≡ record { kind = kind.Syntax; place = t.place } → IsRefused ts r
-  too_deep : (before : List Lexeme) (t : Lexeme) (after : List Lexeme) → ts ≡ before ++ t ∷ after → BeginsWithin before → BeginsBeyond before t → r ≡ record { kind = kind.TooDeep; place = t.place } → IsRefused ts r
+  syntax : (before : List Lexeme) (t : Lexeme) (after : List Lexeme) → ts ≡ before ++ t ∷ after →
+      BeginsWithin before → (Begins (before ++ t ∷ []) → ⊥) → r ≡ record { kind = kind.Syntax; place = t.place } → IsRefused ts r
+  too_deep : (before : List Lexeme) (t : Lexeme) (after : List Lexeme) → ts ≡ before ++ t ∷ after →
+      BeginsWithin before → BeginsBeyond before t → r ≡ record { kind = kind.TooDeep; place = t.place } → IsRefused ts r
 
 -- Reading stops because the tokens are refused so, or memory ran out.
 abbrev pub IsStop : List Lexeme → Stop → Type 0

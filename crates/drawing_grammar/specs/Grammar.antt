@@ -220,7 +220,8 @@ following use_ n = mark Colon ∷ item Word ∷ part Delay 0 ∷ part Parameters
 following wire n = item Name ∷ part Range 0 ∷ own_sum (mark Colon ∷ own_sum (mark Semicolon ∷ []))
 following if_ n = fresh ∷ group Expr 0 ∷ mark Then ∷ group Statements (suc n) ∷ part Otherwise (suc n) ∷ mark End ∷ mark Semicolon ∷ []
 following else_ n = group Statements n ∷ []
-following macro n = item Word ∷ part Parameters 0 ∷ mark OpenParenthesis ∷ group Formals 0 ∷ mark CloseParenthesis ∷ part FormalOutputs 0 ∷ mark Semicolon ∷ group Statements 0 ∷ mark End ∷ mark Semicolon ∷ []
+following macro n = item Word ∷ part Parameters 0 ∷ mark OpenParenthesis ∷ group Formals
+    0 ∷ mark CloseParenthesis ∷ part FormalOutputs 0 ∷ mark Semicolon ∷ group Statements 0 ∷ mark End ∷ mark Semicolon ∷ []
 following index n = item Number ∷ mark Greater ∷ []
 following entry n = part Index 0 ∷ mark Equals ∷ item Number ∷ []
 following next_entry n = part Entry 0 ∷ part MoreEntries 0 ∷ []

@@ -121,12 +121,19 @@ passed Stuck f = Stuck
 
 -- a part, where the choice that begins so is this
 abbrev pub entered : (p : Part) (n : ℕ) (rest : List Need) → ℕ → Lexeme → Option (Choice p) → Option (Meaning p) → Step rest → Step (part p n ∷ rest)
-entered p n rest a t (Some c) absent skip = Next (following c n ++ rest) (counted (cost c) a) (weight (cost c) n a) (λ v. (choice_value c n t (front (following c n) rest v), behind (following c n) rest v))
+entered p n rest a t (Some c) absent skip = Next (following c n ++ rest) (counted (cost c) a)
+    (weight (cost c) n a) (λ v. (choice_value c n t (front (following c n) rest v), behind (following c n) rest v))
 entered p n rest a t None (Some v) skip = passed skip (λ w. (v, w))
 entered p n rest a t None None skip = Stuck
 
 abbrev pub group_entered : (h : Group) (n : ℕ) (rest : List Need) → ℕ → Lexeme → Option (Choice (lead h)) → Option (GroupMeaning h) → Step rest → Step (group h n ∷ rest)
-group_entered h n rest a t (Some c) absent skip = Next (following c n ++ (others h n ++ rest)) (counted (cost c) a) (weight (cost c) n a) (λ v. (group_value h n (choice_value c n t (front (following c n) (others h n ++ rest) v)) (front (others h n) rest (behind (following c n) (others h n ++ rest) v)), behind (others h n) rest (behind (following c n) (others h n ++ rest) v)))
+group_entered h n rest a t (Some c) absent skip =
+    Next (following c n ++ (others h n ++ rest)) (counted (cost c) a) (weight (cost c) n a)
+    (λ v. (
+      group_value h n (choice_value c n t (front (following c n) (others h n ++ rest) v)) (front (others h n)
+          rest (behind (following c n) (others h n ++ rest) v)),
+      behind (others h n) rest (behind (following c n) (others h n ++ rest) v),
+    ))
 group_entered h n rest a t None (Some v) skip = passed skip (λ w. (v, w))
 group_entered h n rest a t None None skip = Stuck
 

@@ -57,7 +57,8 @@ only_refusal ts x h r i = one x h (refused_so ts r i)
 pub answers_stop : (old : Cursor) (e : Stop) → old.operators ≡ 0 → Fails (ahead old whole) e → Says (verdict (tokens_at old) whole 0) e
 answers_stop old e z f = subst (λ (a : ℕ). Says (verdict (tokens_at old) whole a) e) z f.is
 
-pub answers_end : (old end : Cursor) {f : Values (mark is.EndOfText ∷ []) → Values whole} → old.operators ≡ 0 → Moves (ahead old whole) (ahead end (mark is.EndOfText ∷ [])) f → ahead end (mark is.EndOfText ∷ []) ≡ Complete tt → verdict (tokens_at old) whole 0 ≡ Complete (f tt)
+pub answers_end : (old end : Cursor) {f : Values (mark is.EndOfText ∷ []) → Values whole} → old.operators ≡ 0 → Moves (ahead old whole)
+    (ahead end (mark is.EndOfText ∷ [])) f → ahead end (mark is.EndOfText ∷ []) ≡ Complete tt → verdict (tokens_at old) whole 0 ≡ Complete (f tt)
 answers_end old end {f} z m e = ap (λ (a : ℕ). verdict (tokens_at old) whole a) (sym z) ∙ (m.is ∙ ap (λ (v : Verdict (mark is.EndOfText ∷ [])). given {needs = whole} f v) e)
 
 pub none_left : (text : List ℕ) (ts : List lex.Token) → first_token ts ≡ None → lexemes text ts ≡ []
@@ -73,15 +74,21 @@ unfolding verdict
 end_missing [] a e = refl
 end_missing (t ∷ ts) a e = absurd cc
 
-behind_end : (text : List ℕ) (ts us : List lex.Token) (a : ℕ) → us ≡ other_tokens ts → lexemes text ts ≢ [] → first_terminal (lexemes text ts) ≡ is.EndOfText → verdict (lexemes text ts) (mark is.EndOfText ∷ []) a ≡ given {needs = mark is.EndOfText ∷ []} (λ v. v) (verdict (lexemes text us) [] a)
+behind_end : (text : List ℕ) (ts us : List lex.Token) (a : ℕ) → us ≡ other_tokens ts → lexemes text ts ≢ [] →
+    first_terminal (lexemes text ts) ≡ is.EndOfText →
+    verdict (lexemes text ts) (mark is.EndOfText ∷ []) a ≡ given {needs = mark is.EndOfText ∷ []} (λ v. v) (verdict (lexemes text us) [] a)
 behind_end text [] us a e h i = absurd (h refl)
-behind_end text (t ∷ ts) us a e h i = mark_moves is.EndOfText a (lexemes text (t ∷ ts)) (lexemes text us) (lexeme_of text t) (ap (λ (xs : List lex.Token). lexeme_of text t ∷ lexemes text xs) (sym e)) i []
+behind_end text (t ∷ ts) us a e h i = mark_moves is.EndOfText a (lexemes text (t ∷ ts))
+    (lexemes text us) (lexeme_of text t) (ap (λ (xs : List lex.Token). lexeme_of text t ∷ lexemes text xs) (sym e)) i []
 
-pub end_there : (text : List ℕ) (ts us : List lex.Token) (a : ℕ) → us ≡ other_tokens ts → lexemes text ts ≢ [] → first_terminal (lexemes text ts) ≡ is.EndOfText → lexemes text us ≡ [] → verdict (lexemes text ts) (mark is.EndOfText ∷ []) a ≡ Complete tt
+pub end_there : (text : List ℕ) (ts us : List lex.Token) (a : ℕ) → us ≡ other_tokens ts → lexemes text ts ≢ [] →
+    first_terminal (lexemes text ts) ≡ is.EndOfText → lexemes text us ≡ [] → verdict (lexemes text ts) (mark is.EndOfText ∷ []) a ≡ Complete tt
 unfolding verdict
 end_there text ts us a e h i k = behind_end text ts us a e h i ∙ ap (λ (xs : List Lexeme). given {needs = mark is.EndOfText ∷ []} (λ v. v) (verdict xs [] a)) k
 
-pub more_there : (text : List ℕ) (ts us : List lex.Token) (a : ℕ) → us ≡ other_tokens ts → lexemes text ts ≢ [] → first_terminal (lexemes text ts) ≡ is.EndOfText → lexemes text us ≢ [] → verdict (lexemes text ts) (mark is.EndOfText ∷ []) a ≡ Refused (refusal Syntax (first_place (lexemes text us)))
+pub more_there : (text : List ℕ) (ts us : List lex.Token) (a : ℕ) → us ≡ other_tokens ts → lexemes text ts ≢ [] →
+    first_terminal (lexemes text ts) ≡ is.EndOfText → lexemes text us ≢ [] →
+    verdict (lexemes text ts) (mark is.EndOfText ∷ []) a ≡ Refused (refusal Syntax (first_place (lexemes text us)))
 unfolding verdict
 more_there text ts [] a e h i k = absurd (k refl)
 more_there text ts (u ∷ us) a e h i k = behind_end text ts (u ∷ us) a e h i

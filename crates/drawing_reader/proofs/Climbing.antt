@@ -91,9 +91,11 @@ mutual
   unfolding labels statement_labels else_labels
 
   no_statement_label : (scope n : ℕ) (name : List ℕ) → (scope ≡ n → ⊥) → (s : Statement) → Lacks (key n Label name) (statement_labels scope s)
-  no_statement_label scope n name other (tree.Use u) = lacks_more (key n Label name) (declaration scope Label u.label u.place) [] (λ e. other (ap (λ (k : Key). k.scope) e)) (lacks_none (key n Label name))
+  no_statement_label scope n name other (tree.Use u) = lacks_more (key n Label name)
+      (declaration scope Label u.label u.place) [] (λ e. other (ap (λ (k : Key). k.scope) e)) (lacks_none (key n Label name))
   no_statement_label scope n name other (tree.Wire w) = lacks_none (key n Label name)
-  no_statement_label scope n name other (tree.If test behind_then behind_else place) = lacks_both (key n Label name) (labels scope behind_then) (else_labels scope behind_else) (no_label scope n name other behind_then) (no_else_label scope n name other behind_else)
+  no_statement_label scope n name other (tree.If test behind_then behind_else place) = lacks_both (key n Label name) (labels scope behind_then)
+      (else_labels scope behind_else) (no_label scope n name other behind_then) (no_else_label scope n name other behind_else)
 
   no_label : (scope n : ℕ) (name : List ℕ) → (scope ≡ n → ⊥) → (ss : Statements) → Lacks (key n Label name) (labels scope ss)
   no_label scope n name other nil = lacks_none (key n Label name)
@@ -129,7 +131,9 @@ unfolding primitives
 no_primitive n name found = let kinds = (taken_key primitive_names n Label name found).1 in cc
 
 -- The body of a drawing declares nothing again, where its labels are in their order.
-pub body_fresh : (ms : List tree.Macro) (hs : List Head) (ss : Statements) (now : List Key) → AreFresh (length ms) (labels (length ms) ss) → Declares primitives now (macros_declared 0 ms hs) → Declares primitives (now ++ keys_of (labels (length ms) ss)) (macros_declared 0 ms hs ++ labels (length ms) ss)
+pub body_fresh : (ms : List tree.Macro) (hs : List Head) (ss : Statements) (now : List Key) → AreFresh (length ms) (labels (length ms) ss) →
+    Declares primitives now (macros_declared 0 ms hs) →
+    Declares primitives (now ++ keys_of (labels (length ms) ss)) (macros_declared 0 ms hs ++ labels (length ms) ss)
 body_fresh ms hs ss now is first =
     let before = macros_declared 0 ms hs in
     let body = labels (length ms) ss in

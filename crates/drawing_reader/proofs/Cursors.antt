@@ -22,15 +22,35 @@ use Rattle.drawing_grammar.proofs.Moves as m
 no_end : {p : Part} (c : Choice p) (l : Terminal) → l ≡ opening c → l ≢ EndOfText
 no_end c l e h = let k = opens_no_end c in let i = is_same (opening c) EndOfText (sym e ∙ h) in absurd cc
 
-pub marks : (l : Terminal) (old new : Cursor) (t : lex.Token) → l ≢ EndOfText → first_terminal (tokens_at old) ≡ l → (first_terminal (tokens_at old) ≢ EndOfText → tokens_at old ≡ at old t ∷ tokens_at new) → new.operators ≡ old.operators → (rest : List Need) → Moves (ahead old (mark l ∷ rest)) (ahead new rest) (λ v. v)
-marks l old new t n e f o rest = record { is = let k : tokens_at old ≡ at old t ∷ tokens_at new = f (λ h. n (sym e ∙ h)) in m.mark_moves l old.operators (tokens_at old) (tokens_at new) (at old t) k (ap first_terminal (sym k) ∙ e) rest ∙ ap (λ (a : ℕ). given {needs = mark l ∷ rest} (λ v. v) (verdict (tokens_at new) rest a)) (sym o) }
+pub marks : (l : Terminal) (old new : Cursor) (t : lex.Token) → l ≢ EndOfText → first_terminal (tokens_at old) ≡ l →
+    (first_terminal (tokens_at old) ≢ EndOfText → tokens_at old ≡ at old t ∷ tokens_at new) →
+    new.operators ≡ old.operators → (rest : List Need) → Moves (ahead old (mark l ∷ rest)) (ahead new rest) (λ v. v)
+marks l old new t n e f o rest =
+    record {
+      is = let k : tokens_at old ≡ at old t ∷ tokens_at new =
+          f (λ h. n (sym e ∙ h)) in m.mark_moves l old.operators (tokens_at old) (tokens_at new) (at old t) k (ap first_terminal (sym k) ∙ e) rest
+          ∙ ap (λ (a : ℕ). given {needs = mark l ∷ rest} (λ v. v) (verdict (tokens_at new) rest a)) (sym o);
+    }
 
-pub items : (l : Terminal) (old new : Cursor) (t : lex.Token) → l ≢ EndOfText → first_terminal (tokens_at old) ≡ l → (first_terminal (tokens_at old) ≢ EndOfText → tokens_at old ≡ at old t ∷ tokens_at new) → new.operators ≡ old.operators → (rest : List Need) → Moves (ahead old (item l ∷ rest)) (ahead new rest) (λ v. (at old t, v))
-items l old new t n e f o rest = record { is = let k : tokens_at old ≡ at old t ∷ tokens_at new = f (λ h. n (sym e ∙ h)) in m.item_moves l old.operators (tokens_at old) (tokens_at new) (at old t) k (ap first_terminal (sym k) ∙ e) rest ∙ ap (λ (a : ℕ). given {needs = item l ∷ rest} (λ v. (at old t, v)) (verdict (tokens_at new) rest a)) (sym o) }
+pub items : (l : Terminal) (old new : Cursor) (t : lex.Token) → l ≢ EndOfText → first_terminal (tokens_at old) ≡ l →
+    (first_terminal (tokens_at old) ≢ EndOfText → tokens_at old ≡ at old t ∷ tokens_at new) →
+    new.operators ≡ old.operators → (rest : List Need) → Moves (ahead old (item l ∷ rest)) (ahead new rest) (λ v. (at old t, v))
+items l old new t n e f o rest =
+    record {
+      is = let k : tokens_at old ≡ at old t ∷ tokens_at new =
+          f (λ h. n (sym e ∙ h)) in m.item_moves l old.operators (tokens_at old) (tokens_at new) (at old t) k (ap first_terminal (sym k) ∙ e) rest
+          ∙ ap (λ (a : ℕ). given {needs = item l ∷ rest} (λ v. (at old t, v)) (verdict (tokens_at new) rest a)) (sym o);
+    }
 
 -- a part that is known by its first token
-known : {p : Part} (c : Choice p) (n : ℕ) (old new : Cursor) (t : Lexeme) → first_terminal (tokens_at old) ≡ opening c → tokens_at old ≡ t ∷ tokens_at new → new.operators ≡ counted (cost c) old.operators → weight (cost c) n old.operators ≤ limit → (rest : List Need) → ahead old (part p n ∷ rest) ≡ given (λ v. (choice_value c n t (front (following c n) rest v), behind (following c n) rest v)) (ahead new (following c n ++ rest))
-known {p} c n old new t e k o w rest = m.enters c n old.operators (tokens_at old) (tokens_at new) t k (ap first_terminal (sym k) ∙ e) w rest ∙ ap (λ (a : ℕ). given {needs = part p n ∷ rest} (λ v. (choice_value c n t (front (following c n) rest v), behind (following c n) rest v)) (verdict (tokens_at new) (following c n ++ rest) a)) (sym o)
+known : {p : Part} (c : Choice p) (n : ℕ) (old new : Cursor) (t : Lexeme) → first_terminal (tokens_at old) ≡ opening c →
+    tokens_at old ≡ t ∷ tokens_at new → new.operators ≡ counted (cost c) old.operators → weight (cost c) n old.operators ≤ limit →
+    (rest : List Need) → ahead old (part p n ∷ rest) ≡ given (λ v. (choice_value c n t (front (following c n) rest v), behind (following c n) rest v))
+    (ahead new (following c n ++ rest))
+known {p} c n old new t e k o w rest =
+    m.enters c n old.operators (tokens_at old) (tokens_at new) t k (ap first_terminal (sym k) ∙ e) w rest
+    ∙ ap (λ (a : ℕ). given {needs = part p n ∷ rest} (λ v. (choice_value c n t (front (following c n) rest v), behind (following c n) rest v))
+    (verdict (tokens_at new) (following c n ++ rest) a)) (sym o)
 
 none_weighs : (x : Cost) (n a : ℕ) → x ≡ plain → weight x n a ≤ limit
 none_weighs plain n a e = omega arith
@@ -42,8 +62,15 @@ none_counts plain a b e h = h
 none_counts opens a b e h = absurd cc
 none_counts operator a b e h = absurd cc
 
-pub plainly : {p : Part} (c : Choice p) (n : ℕ) (old new : Cursor) (t : lex.Token) → cost c ≡ plain → first_terminal (tokens_at old) ≡ opening c → (first_terminal (tokens_at old) ≢ EndOfText → tokens_at old ≡ at old t ∷ tokens_at new) → new.operators ≡ old.operators → (rest : List Need) → Moves (ahead old (part p n ∷ rest)) (ahead new (following c n ++ rest)) (λ v. (choice_value c n (at old t) (front (following c n) rest v), behind (following c n) rest v))
-plainly c n old new t q e f o rest = record { is = known c n old new (at old t) e (f (no_end c (first_terminal (tokens_at old)) e)) (none_counts (cost c) new.operators old.operators q o) (none_weighs (cost c) n old.operators q) rest }
+pub plainly : {p : Part} (c : Choice p) (n : ℕ) (old new : Cursor) (t : lex.Token) → cost c ≡ plain → first_terminal (tokens_at old) ≡ opening c →
+    (first_terminal (tokens_at old) ≢ EndOfText → tokens_at old ≡ at old t ∷ tokens_at new) → new.operators ≡ old.operators → (rest : List Need) →
+    Moves (ahead old (part p n ∷ rest))
+    (ahead new (following c n ++ rest)) (λ v. (choice_value c n (at old t) (front (following c n) rest v), behind (following c n) rest v))
+plainly c n old new t q e f o rest =
+    record {
+      is = known c n old new (at old t) e (f (no_end c (first_terminal (tokens_at old)) e))
+          (none_counts (cost c) new.operators old.operators q o) (none_weighs (cost c) n old.operators q) rest;
+    }
 
 opens_weighs : (x : Cost) (n a : ℕ) → x ≡ opens → n < limit → weight x n a ≤ limit
 opens_weighs opens n a e h = omega arith
@@ -55,8 +82,15 @@ opens_counts opens a b e h = h
 opens_counts plain a b e h = absurd cc
 opens_counts operator a b e h = absurd cc
 
-pub deeper : {p : Part} (c : Choice p) (n : ℕ) (old new : Cursor) (t : lex.Token) → cost c ≡ opens → n < limit → first_terminal (tokens_at old) ≡ opening c → (first_terminal (tokens_at old) ≢ EndOfText → tokens_at old ≡ at old t ∷ tokens_at new) → new.operators ≡ old.operators → (rest : List Need) → Moves (ahead old (part p n ∷ rest)) (ahead new (following c n ++ rest)) (λ v. (choice_value c n (at old t) (front (following c n) rest v), behind (following c n) rest v))
-deeper c n old new t q h e f o rest = record { is = known c n old new (at old t) e (f (no_end c (first_terminal (tokens_at old)) e)) (opens_counts (cost c) new.operators old.operators q o) (opens_weighs (cost c) n old.operators q h) rest }
+pub deeper : {p : Part} (c : Choice p) (n : ℕ) (old new : Cursor) (t : lex.Token) → cost c ≡ opens →
+    n < limit → first_terminal (tokens_at old) ≡ opening c → (first_terminal (tokens_at old) ≢ EndOfText → tokens_at old ≡ at old t ∷ tokens_at new) →
+    new.operators ≡ old.operators → (rest : List Need) → Moves (ahead old (part p n ∷ rest))
+    (ahead new (following c n ++ rest)) (λ v. (choice_value c n (at old t) (front (following c n) rest v), behind (following c n) rest v))
+deeper c n old new t q h e f o rest =
+    record {
+      is = known c n old new (at old t) e (f (no_end c (first_terminal (tokens_at old)) e))
+          (opens_counts (cost c) new.operators old.operators q o) (opens_weighs (cost c) n old.operators q h) rest;
+    }
 
 operator_weighs : (x : Cost) (n a : ℕ) → x ≡ operator → a < limit → weight x n a ≤ limit
 operator_weighs operator n a e h = omega arith
@@ -68,7 +102,10 @@ operator_counts operator a b e h = h
 operator_counts opens a b e h = absurd cc
 operator_counts plain a b e h = absurd cc
 
-pub operates : {p : Part} (c : Choice p) (n : ℕ) (old new : Cursor) (t : Lexeme) → cost c ≡ operator → old.operators < limit → first_terminal (tokens_at old) ≡ opening c → tokens_at old ≡ t ∷ tokens_at new → new.operators ≡ suc old.operators → (rest : List Need) → Moves (ahead old (part p n ∷ rest)) (ahead new (following c n ++ rest)) (λ v. (choice_value c n t (front (following c n) rest v), behind (following c n) rest v))
+pub operates : {p : Part} (c : Choice p) (n : ℕ) (old new : Cursor) (t : Lexeme) → cost c ≡ operator → old.operators < limit →
+    first_terminal (tokens_at old) ≡ opening c → tokens_at old ≡ t ∷ tokens_at new → new.operators ≡ suc old.operators → (rest : List Need) →
+    Moves (ahead old (part p n ∷ rest))
+    (ahead new (following c n ++ rest)) (λ v. (choice_value c n t (front (following c n) rest v), behind (following c n) rest v))
 operates c n old new t q h e k o rest = record { is = known c n old new t e k (operator_counts (cost c) new.operators old.operators q o) (operator_weighs (cost c) n old.operators q h) rest }
 
 -- its token is not the end
@@ -81,15 +118,19 @@ first_of : (ts : List Lexeme) → first_terminal ts ≢ EndOfText → (t : Lexem
 first_of [] h = absurd (h refl)
 first_of (t ∷ us) h = (t, us, refl)
 
-beyond : {p : Part} (c : Choice p) (n : ℕ) (old : Cursor) → limit < weight (cost c) n old.operators → first_terminal (tokens_at old) ≡ opening c → (rest : List Need) → ahead old (part p n ∷ rest) ≡ Refused (refusal TooDeep (first_place (tokens_at old)))
-beyond c n old w e rest = let k = first_of (tokens_at old) (no_end c (first_terminal (tokens_at old)) e) in m.too_deep c n old.operators (tokens_at old) k.1 k.0 k.2 (ap first_terminal (sym k.2) ∙ e) w rest ∙ ap (λ (ts : List Lexeme). Refused (refusal TooDeep (first_place ts))) (sym k.2)
+beyond : {p : Part} (c : Choice p) (n : ℕ) (old : Cursor) → limit < weight (cost c) n old.operators → first_terminal (tokens_at old) ≡ opening c →
+    (rest : List Need) → ahead old (part p n ∷ rest) ≡ Refused (refusal TooDeep (first_place (tokens_at old)))
+beyond c n old w e rest =
+    let k = first_of (tokens_at old) (no_end c (first_terminal (tokens_at old)) e) in m.too_deep c n old.operators (tokens_at old)
+    k.1 k.0 k.2 (ap first_terminal (sym k.2) ∙ e) w rest ∙ ap (λ (ts : List Lexeme). Refused (refusal TooDeep (first_place ts))) (sym k.2)
 
 deep_weighs : (x : Cost) (n a : ℕ) → x ≡ opens → limit ≤ n → limit < weight x n a
 deep_weighs opens n a e h = omega arith
 deep_weighs plain n a e h = absurd cc
 deep_weighs operator n a e h = absurd cc
 
-pub too_deep : {p : Part} (c : Choice p) (n : ℕ) (old : Cursor) → cost c ≡ opens → limit ≤ n → first_terminal (tokens_at old) ≡ opening c → (rest : List Need) → Fails (ahead old (part p n ∷ rest)) (stop.Refused (refusal TooDeep (first_place (tokens_at old))))
+pub too_deep : {p : Part} (c : Choice p) (n : ℕ) (old : Cursor) → cost c ≡ opens → limit ≤ n → first_terminal (tokens_at old) ≡ opening c →
+    (rest : List Need) → Fails (ahead old (part p n ∷ rest)) (stop.Refused (refusal TooDeep (first_place (tokens_at old))))
 too_deep c n old q h e rest = record { is = beyond c n old (deep_weighs (cost c) n old.operators q h) e rest }
 
 many_weighs : (x : Cost) (n a : ℕ) → x ≡ operator → limit ≤ a → limit < weight x n a
@@ -97,31 +138,45 @@ many_weighs operator n a e h = omega arith
 many_weighs plain n a e h = absurd cc
 many_weighs opens n a e h = absurd cc
 
-pub too_many : {p : Part} (c : Choice p) (n : ℕ) (old : Cursor) → cost c ≡ operator → limit ≤ old.operators → first_terminal (tokens_at old) ≡ opening c → (rest : List Need) → Fails (ahead old (part p n ∷ rest)) (stop.Refused (refusal TooDeep (first_place (tokens_at old))))
+pub too_many : {p : Part} (c : Choice p) (n : ℕ) (old : Cursor) → cost c ≡ operator → limit ≤ old.operators → first_terminal (tokens_at old)
+    ≡ opening c → (rest : List Need) → Fails (ahead old (part p n ∷ rest)) (stop.Refused (refusal TooDeep (first_place (tokens_at old))))
 too_many c n old q h e rest = record { is = beyond c n old (many_weighs (cost c) n old.operators q h) e rest }
 
 -- ---- parts and groups that are left out, or that no token begins
 
-pub left_out : (p : Part) (n : ℕ) (old : Cursor) (v : Meaning p) → choice p (first_terminal (tokens_at old)) ≡ None → absent_value p ≡ Some v → (rest : List Need) → Moves (ahead old (part p n ∷ rest)) (ahead old rest) (λ w. (v, w))
+pub left_out : (p : Part) (n : ℕ) (old : Cursor) (v : Meaning p) → choice p (first_terminal (tokens_at old)) ≡ None →
+    absent_value p ≡ Some v → (rest : List Need) → Moves (ahead old (part p n ∷ rest)) (ahead old rest) (λ w. (v, w))
 left_out p n old v e h rest = record { is = m.skips p n old.operators (tokens_at old) v e h rest }
 
-pub stuck : (p : Part) (n : ℕ) (old : Cursor) → choice p (first_terminal (tokens_at old)) ≡ None → absent_value p ≡ None → (rest : List Need) → Fails (ahead old (part p n ∷ rest)) (stop.Refused (refusal Syntax (first_place (tokens_at old))))
+pub stuck : (p : Part) (n : ℕ) (old : Cursor) → choice p (first_terminal (tokens_at old)) ≡ None → absent_value p ≡ None →
+    (rest : List Need) → Fails (ahead old (part p n ∷ rest)) (stop.Refused (refusal Syntax (first_place (tokens_at old))))
 stuck p n old e h rest = record { is = m.stuck p n old.operators (tokens_at old) e h rest }
 
 -- an expression of its own
 pub begins : (old new : Cursor) → tokens_at new ≡ tokens_at old → new.operators ≡ 0 → (rest : List Need) → Moves (ahead old (fresh ∷ rest)) (ahead new rest) (λ v. v)
-begins old new e h rest = record { is = m.begins old.operators (tokens_at old) rest ∙ (ap (λ (a : ℕ). given {needs = fresh ∷ rest} (λ v. v) (verdict (tokens_at old) rest a)) (sym h) ∙ ap (λ (ts : List Lexeme). given {needs = fresh ∷ rest} (λ v. v) (verdict ts rest new.operators)) (sym e)) }
+begins old new e h rest =
+    record {
+      is = m.begins old.operators (tokens_at old) rest
+          ∙ (ap (λ (a : ℕ). given {needs = fresh ∷ rest} (λ v. v) (verdict (tokens_at old) rest a)) (sym h)
+          ∙ ap (λ (ts : List Lexeme). given {needs = fresh ∷ rest} (λ v. v) (verdict ts rest new.operators)) (sym e));
+    }
 
-pub leads_on : (h : Group) (n : ℕ) (old : Cursor) (c : Choice (lead h)) → first_terminal (tokens_at old) ≡ opening c → (rest : List Need) → Moves (ahead old (group h n ∷ rest)) (ahead old (part (lead h) n ∷ (others h n ++ rest))) (λ v. (group_value h n v.0 (front (others h n) rest v.1), behind (others h n) rest v.1))
+pub leads_on : (h : Group) (n : ℕ) (old : Cursor) (c : Choice (lead h)) → first_terminal (tokens_at old) ≡ opening c → (rest : List Need) →
+    Moves (ahead old (group h n ∷ rest))
+    (ahead old (part (lead h) n ∷ (others h n ++ rest))) (λ v. (group_value h n v.0 (front (others h n) rest v.1), behind (others h n) rest v.1))
 leads_on h n old c e rest = record { is = m.leads_on h n old.operators (tokens_at old) (ap is_some (chooses c (first_terminal (tokens_at old)) e)) rest }
 
-pub always : (h : Group) (n : ℕ) (old : Cursor) → absent_group h ≡ None → (rest : List Need) → Moves (ahead old (group h n ∷ rest)) (ahead old (part (lead h) n ∷ (others h n ++ rest))) (λ v. (group_value h n v.0 (front (others h n) rest v.1), behind (others h n) rest v.1))
+pub always : (h : Group) (n : ℕ) (old : Cursor) → absent_group h ≡ None → (rest : List Need) → Moves (ahead old (group h n ∷ rest))
+    (ahead old (part (lead h) n ∷ (others h n ++ rest))) (λ v. (group_value h n v.0 (front (others h n) rest v.1), behind (others h n) rest v.1))
 always h n old e rest = record { is = m.always h n old.operators (tokens_at old) e rest }
 
-pub lacking : (h : Group) (n : ℕ) (old : Cursor) (v : GroupMeaning h) → choice (lead h) (first_terminal (tokens_at old)) ≡ None → absent_group h ≡ Some v → (rest : List Need) → Moves (ahead old (group h n ∷ rest)) (ahead old rest) (λ w. (v, w))
+pub lacking : (h : Group) (n : ℕ) (old : Cursor) (v : GroupMeaning h) → choice (lead h) (first_terminal (tokens_at old)) ≡ None →
+    absent_group h ≡ Some v → (rest : List Need) → Moves (ahead old (group h n ∷ rest)) (ahead old rest) (λ w. (v, w))
 lacking h n old v e i rest = record { is = m.skips_group h n old.operators (tokens_at old) v e i rest }
 
-pub leads_some : (h : Group) (n : ℕ) (old : Cursor) → is_some (choice (lead h) (first_terminal (tokens_at old))) ≡ true → (rest : List Need) → Moves (ahead old (group h n ∷ rest)) (ahead old (part (lead h) n ∷ (others h n ++ rest))) (λ v. (group_value h n v.0 (front (others h n) rest v.1), behind (others h n) rest v.1))
+pub leads_some : (h : Group) (n : ℕ) (old : Cursor) → is_some (choice (lead h) (first_terminal (tokens_at old))) ≡ true → (rest : List Need) →
+    Moves (ahead old (group h n ∷ rest))
+    (ahead old (part (lead h) n ∷ (others h n ++ rest))) (λ v. (group_value h n v.0 (front (others h n) rest v.1), behind (others h n) rest v.1))
 leads_some h n old e rest = record { is = m.leads_on h n old.operators (tokens_at old) e rest }
 
 -- ---- groups that begin with a smaller one
@@ -135,14 +190,23 @@ expr_sum n old rest = m.through (λ v. (v.1.0 v.0, v.1.1)) (always Expr n old re
 pub some_conn : (old : Cursor) (rest : List Need) → Moves (ahead old (group SomeConns 0 ∷ rest)) (ahead old (group Conn 0 ∷ part MoreConns 0 ∷ rest)) (λ v. (v.0 ∷ v.1.0, v.1.1))
 some_conn old rest = m.through (λ v. (v.0 ∷ v.1.0, v.1.1)) (always SomeConns 0 old refl rest) (always Conn 0 old refl (part MoreConns 0 ∷ rest)) (λ v. refl)
 
-pub conns_some : (old : Cursor) → is_some (choice Term (first_terminal (tokens_at old))) ≡ true → (rest : List Need) → Moves (ahead old (group Conns 0 ∷ rest)) (ahead old (group SomeConns 0 ∷ rest)) (λ v. v)
+pub conns_some : (old : Cursor) → is_some (choice Term (first_terminal (tokens_at old))) ≡ true →
+    (rest : List Need) → Moves (ahead old (group Conns 0 ∷ rest)) (ahead old (group SomeConns 0 ∷ rest)) (λ v. v)
 conns_some old e rest = m.through (λ v. v) (leads_some Conns 0 old e rest) (always SomeConns 0 old refl rest) (λ v. refl)
 
-pub formals_some : (old : Cursor) → is_some (choice Formal (first_terminal (tokens_at old))) ≡ true → (rest : List Need) → Moves (ahead old (group Formals 0 ∷ rest)) (ahead old (group SomeFormals 0 ∷ rest)) (λ v. v)
+pub formals_some : (old : Cursor) → is_some (choice Formal (first_terminal (tokens_at old))) ≡ true →
+    (rest : List Need) → Moves (ahead old (group Formals 0 ∷ rest)) (ahead old (group SomeFormals 0 ∷ rest)) (λ v. v)
 formals_some old e rest = m.through (λ v. v) (leads_some Formals 0 old e rest) (always SomeFormals 0 old refl rest) (λ v. refl)
 
-pub letters : (x : Letter) (old new : Cursor) (t : lex.Token) → Lettered x (tokens_at old) → (first_terminal (tokens_at old) ≢ EndOfText → tokens_at old ≡ at old t ∷ tokens_at new) → new.operators ≡ old.operators → (rest : List Need) → Moves (ahead old (letter x ∷ rest)) (ahead new rest) (λ v. v)
-letters x old new t e f o rest = let k : tokens_at old ≡ at old t ∷ tokens_at new = f (λ h. let z : Word ≡ EndOfText = sym e.0 ∙ h in cc) in record { is = m.letter_moves x old.operators (tokens_at old) (tokens_at new) (at old t) k (ap first_terminal (sym k) ∙ e.0) (ap first_text (sym k) ∙ e.1) rest ∙ ap (λ (a : ℕ). given {needs = letter x ∷ rest} (λ v. v) (verdict (tokens_at new) rest a)) (sym o) }
+pub letters : (x : Letter) (old new : Cursor) (t : lex.Token) → Lettered x (tokens_at old) →
+    (first_terminal (tokens_at old) ≢ EndOfText → tokens_at old ≡ at old t ∷ tokens_at new) →
+    new.operators ≡ old.operators → (rest : List Need) → Moves (ahead old (letter x ∷ rest)) (ahead new rest) (λ v. v)
+letters x old new t e f o rest = let k : tokens_at old ≡ at old t ∷ tokens_at new =
+    f (λ h. let z : Word ≡ EndOfText = sym e.0 ∙ h in cc) in
+    record {
+      is = m.letter_moves x old.operators (tokens_at old) (tokens_at new) (at old t) k (ap first_terminal (sym k)
+          ∙ e.0) (ap first_text (sym k) ∙ e.1) rest ∙ ap (λ (a : ℕ). given {needs = letter x ∷ rest} (λ v. v) (verdict (tokens_at new) rest a)) (sym o);
+    }
 
 pub none_some : {A : Type 0} (o : Option A) → is_some o ≡ false → o ≡ None
 none_some None e = refl

@@ -26,7 +26,8 @@ key_same : (a b : Declared) → key_of a ≡ key_of b → eq-value.it a b ≡ tr
 key_same a b h = parts_same a.scope b.scope a.kind b.kind a.name.now b.name.now (ap (λ (k : Key). k.scope) h) (ap (λ (k : Key). k.kind) h) (ap (λ (k : Key). k.name) h)
 
 -- the first is the key, or else it is among the others
-found_by : (d x : Declared) (xs : List Declared) (b : Bool) → eq-value.it d x ≡ b → (list_any (eq-value.it d) xs ≡ true → Contains (map key_of xs) (key_of d)) → (b || list_any (eq-value.it d) xs) ≡ true → Contains (key_of x ∷ map key_of xs) (key_of d)
+found_by : (d x : Declared) (xs : List Declared) (b : Bool) → eq-value.it d x ≡ b → (list_any (eq-value.it d) xs ≡ true →
+    Contains (map key_of xs) (key_of d)) → (b || list_any (eq-value.it d) xs) ≡ true → Contains (key_of x ∷ map key_of xs) (key_of d)
 found_by d x xs true e rest h = (0, omega arith, sym (same_key d x e))
 found_by d x xs false e rest h = later (map key_of xs) (key_of x) (key_of d) (rest h)
 
@@ -61,7 +62,8 @@ neither_has front more k f g found = elim (either_has front more k found) [ inl 
 
 -- ---- the primitives
 
-pub taken_key : (names : List (List ℕ)) (scope : ℕ) (kind : Kind) (name : List ℕ) → Contains (map (key 0 Macro) names) (key scope kind name) → (0 ≡ scope) × (Macro ≡ kind) × (list_any (bytes_eq name) names ≡ true)
+pub taken_key : (names : List (List ℕ)) (scope : ℕ) (kind : Kind) (name : List ℕ) →
+    Contains (map (key 0 Macro) names) (key scope kind name) → (0 ≡ scope) × (Macro ≡ kind) × (list_any (bytes_eq name) names ≡ true)
 taken_key [] scope kind name found = absurd (omega (arith, found.1))
 taken_key (x ∷ xs) scope kind name (zero, below, e) =
     let same : x ≡ name = ap (λ (k : Key). k.name) e in
@@ -71,7 +73,9 @@ taken_key (x ∷ xs) scope kind name (suc n, below, e) =
     let rest = taken_key xs scope kind name (n, omega arith, e) in
     (rest.0, rest.1, ap (λ (b : Bool). bytes_eq name x || b) rest.2 ∙ or-true (bytes_eq name x))
 
-key_taken_by : (name x : List ℕ) (xs : List (List ℕ)) (b : Bool) → bytes_eq name x ≡ b → (list_any (bytes_eq name) xs ≡ true → Contains (map (key 0 Macro) xs) (key 0 Macro name)) → (b || list_any (bytes_eq name) xs) ≡ true → Contains (key 0 Macro x ∷ map (key 0 Macro) xs) (key 0 Macro name)
+key_taken_by : (name x : List ℕ) (xs : List (List ℕ)) (b : Bool) → bytes_eq name x ≡ b →
+    (list_any (bytes_eq name) xs ≡ true → Contains (map (key 0 Macro) xs) (key 0 Macro name)) →
+    (b || list_any (bytes_eq name) xs) ≡ true → Contains (key 0 Macro x ∷ map (key 0 Macro) xs) (key 0 Macro name)
 key_taken_by name x xs true e rest h = let same : x ≡ name = grind (arith, bytes_eq-Decides) in (0, omega arith, ap (key 0 Macro) same)
 key_taken_by name x xs false e rest h = later (map (key 0 Macro) xs) (key 0 Macro x) (key 0 Macro name) (rest h)
 
@@ -87,7 +91,8 @@ pub not_kind : (scope : ℕ) (kind : Kind) (name : List ℕ) → (kind ≡ Macro
 unfolding primitives
 not_kind scope kind name other = (λ h. absurd cc, λ found. absurd (other (sym (taken_key primitive_names scope kind name found).1)))
 
-pub taken_test : (scope : ℕ) (kind : Kind) (name : List ℕ) (taken : Bool) → scope ≡ 0 → kind ≡ Macro → taken ≡ list_any (bytes_eq name) primitive_names → (IsTrue taken → Contains primitives (key scope kind name)) × (Contains primitives (key scope kind name) → IsTrue taken)
+pub taken_test : (scope : ℕ) (kind : Kind) (name : List ℕ) (taken : Bool) → scope ≡ 0 → kind ≡ Macro → taken ≡ list_any (bytes_eq name)
+    primitive_names → (IsTrue taken → Contains primitives (key scope kind name)) × (Contains primitives (key scope kind name) → IsTrue taken)
 unfolding primitives
 taken_test scope kind name taken e f g =
     let same : key 0 Macro name ≡ key scope kind name = cc in
@@ -96,7 +101,8 @@ taken_test scope kind name taken e f g =
 
 -- ---- a declaration that is put into a set
 
-pub taken_again : (front : List Key) (seen : List Declared) (d : Declared) (place : Place) (new : Bool) → new ≡ not (list_any (eq-value.it d) seen) → new ≡ false → Repeats (front ++ map key_of seen) (declaration d.scope d.kind d.name.now place ∷ []) (double_at place)
+pub taken_again : (front : List Key) (seen : List Declared) (d : Declared) (place : Place) (new : Bool) → new ≡ not (list_any (eq-value.it d) seen) →
+    new ≡ false → Repeats (front ++ map key_of seen) (declaration d.scope d.kind d.name.now place ∷ []) (double_at place)
 taken_again front seen d place new e f =
     repeats_one (front ++ map key_of seen) (declaration d.scope d.kind d.name.now place)
     (more_has front (map key_of seen) (key_of d) (found_key d seen (not-false (list_any (eq-value.it d) seen) (sym e ∙ f))))
@@ -108,7 +114,9 @@ pushed : (seen keys : List Declared) (d : Declared) (b : Bool) → keys ≡ (if 
 pushed seen keys d true e f = absurd cc
 pushed seen keys d false e f = ap (map key_of) e ∙ map_push key_of seen d
 
-pub taken_new : (front : List Key) (seen keys : List Declared) (d : Declared) (place : Place) (new : Bool) → (Contains front (key_of d) → ⊥) → new ≡ not (list_any (eq-value.it d) seen) → new ≡ true → keys ≡ (if list_any (eq-value.it d) seen then seen else seen ++ d ∷ []) → Declares (front ++ map key_of seen) (front ++ map key_of keys) (declaration d.scope d.kind d.name.now place ∷ [])
+pub taken_new : (front : List Key) (seen keys : List Declared) (d : Declared) (place : Place) (new : Bool) → (Contains front (key_of d) → ⊥) →
+    new ≡ not (list_any (eq-value.it d) seen) → new ≡ true → keys ≡ (if list_any (eq-value.it d) seen then seen else seen ++ d ∷ []) →
+    Declares (front ++ map key_of seen) (front ++ map key_of keys) (declaration d.scope d.kind d.name.now place ∷ [])
 taken_new front seen keys d place new free e f g =
     let none = not-true (list_any (eq-value.it d) seen) (sym e ∙ f) in
     let one = declaration d.scope d.kind d.name.now place in

@@ -21,21 +21,26 @@ use Rattle.drawing_grammar.specs.DoubleNames.{declaration, parameters, formals, 
 pub dropped : {A : Type 0} (xs : List A) (i : ℕ) (x : A) → i < length xs → x ≡ get_or xs i x → drop i xs ≡ x ∷ drop (i + 1) xs
 dropped {A = A} xs i x below is = drop-cons xs i x below ∙ (ap (λ (y : A). y ∷ drop (suc i) xs) (sym is) ∙ ap (λ (n : ℕ). x ∷ drop n xs) (sym (add-one i)))
 
-pub next_parameter : (scope : ℕ) (xs : List Assign) (i : ℕ) (x : Assign) (name : List ℕ) (places : List Place) (place : Place) (more : List Place) → i < length xs → x ≡ get_or xs i x → name ≡ x.name → places ≡ place ∷ more → parameters scope (map assignment_of (drop i xs)) places ≡ (declaration scope Parameter name place ∷ []) ++ parameters scope (map assignment_of (drop (i + 1) xs)) more
+pub next_parameter : (scope : ℕ) (xs : List Assign) (i : ℕ) (x : Assign) (name : List ℕ) (places : List Place) (place : Place) (more : List Place) →
+    i < length xs → x ≡ get_or xs i x → name ≡ x.name → places ≡ place ∷ more → parameters scope (map assignment_of (drop i xs))
+    places ≡ (declaration scope Parameter name place ∷ []) ++ parameters scope (map assignment_of (drop (i + 1) xs)) more
 next_parameter scope xs i x name places place more below is named split =
     let behind = parameters scope (map assignment_of (drop (i + 1) xs)) more in
     ap (λ (ps : List Place). parameters scope (map assignment_of (drop i xs)) ps) split
     ∙ (ap (λ (ys : List Assign). parameters scope (map assignment_of ys) (place ∷ more)) (dropped xs i x below is)
     ∙ ap (λ (n : List ℕ). declaration scope Parameter n place ∷ behind) (sym named))
 
-pub next_formal : (scope : ℕ) (xs : List written.Formal) (i : ℕ) (x : written.Formal) (name : List ℕ) (places : List Place) (place : Place) (more : List Place) → i < length xs → x ≡ get_or xs i x → name ≡ x.base → places ≡ place ∷ more → formals scope (map formal_of (drop i xs)) places ≡ (declaration scope Formal name place ∷ []) ++ formals scope (map formal_of (drop (i + 1) xs)) more
+pub next_formal : (scope : ℕ) (xs : List written.Formal) (i : ℕ) (x : written.Formal) (name : List ℕ) (places : List Place) (place : Place)
+    (more : List Place) → i < length xs → x ≡ get_or xs i x → name ≡ x.base → places ≡ place ∷ more → formals scope
+    (map formal_of (drop i xs)) places ≡ (declaration scope Formal name place ∷ []) ++ formals scope (map formal_of (drop (i + 1) xs)) more
 next_formal scope xs i x name places place more below is named split =
     let behind = formals scope (map formal_of (drop (i + 1) xs)) more in
     ap (λ (ps : List Place). formals scope (map formal_of (drop i xs)) ps) split
     ∙ (ap (λ (ys : List written.Formal). formals scope (map formal_of ys) (place ∷ more)) (dropped xs i x below is)
     ∙ ap (λ (n : List ℕ). declaration scope Formal n place ∷ behind) (sym named))
 
-pub next_statement : (scope : ℕ) (ss : List Stmt) (i : ℕ) (s : Stmt) → i < length ss → s ≡ get_or ss i s → labels scope (statements_of (drop i ss)) ≡ statement_labels scope (statement_of s) ++ labels scope (statements_of (drop (i + 1) ss))
+pub next_statement : (scope : ℕ) (ss : List Stmt) (i : ℕ) (s : Stmt) → i < length ss → s ≡ get_or ss i s →
+    labels scope (statements_of (drop i ss)) ≡ statement_labels scope (statement_of s) ++ labels scope (statements_of (drop (i + 1) ss))
 unfolding labels
 next_statement scope ss i s below is = ap (λ (xs : List Stmt). labels scope (statements_of xs)) (dropped ss i s below is)
 
@@ -62,7 +67,9 @@ then_labels scope s ss none e =
     ∙ (ap (λ (o : Option (Vec Stmt)). labels scope (statements_of s.yes.items) ++ else_labels scope (else_of o)) none
     ∙ (append-nil (labels scope (statements_of s.yes.items)) ∙ ap (λ (xs : List Stmt). labels scope (statements_of xs)) (sym e)))
 
-pub both_labels : (scope : ℕ) (s : IfStmt) (other : Vec Stmt) (behind_then behind_else : List Stmt) → s.no ≡ Some other → behind_then ≡ s.yes.items → behind_else ≡ other.items → statement_labels scope (if_of s) ≡ labels scope (statements_of behind_then) ++ labels scope (statements_of behind_else)
+pub both_labels : (scope : ℕ) (s : IfStmt) (other : Vec Stmt) (behind_then behind_else : List Stmt) → s.no ≡ Some other → behind_then ≡ s.yes.items →
+    behind_else ≡ other.items →
+    statement_labels scope (if_of s) ≡ labels scope (statements_of behind_then) ++ labels scope (statements_of behind_else)
 unfolding else_labels
 both_labels scope s other ss es some e f =
     if_labels scope s
@@ -81,7 +88,9 @@ pub no_labels : (scope : ℕ) (ss : List Stmt) (i : ℕ) → length ss ≤ i →
 unfolding labels
 no_labels scope ss i past = ap (λ (xs : List Stmt). labels scope (statements_of xs)) (drop_all i ss past)
 
-pub next_macro : (xs : List MacroDef) (i : ℕ) (x : MacroDef) (heads : List Head) (head : Head) (more : List Head) → i < length xs → x ≡ get_or xs i x → heads ≡ head ∷ more → macros_declared i (map macro_of (drop i xs)) heads ≡ (head_declared i (macro_of x) head ++ labels i (macro_of x).body) ++ macros_declared (i + 1) (map macro_of (drop (i + 1) xs)) more
+pub next_macro : (xs : List MacroDef) (i : ℕ) (x : MacroDef) (heads : List Head) (head : Head) (more : List Head) → i < length xs →
+    x ≡ get_or xs i x → heads ≡ head ∷ more → macros_declared i (map macro_of (drop i xs))
+    heads ≡ (head_declared i (macro_of x) head ++ labels i (macro_of x).body) ++ macros_declared (i + 1) (map macro_of (drop (i + 1) xs)) more
 next_macro xs i x heads head more below is split =
     ap (λ (hs : List Head). macros_declared i (map macro_of (drop i xs)) hs) split
     ∙ (ap (λ (ys : List MacroDef). macros_declared i (map macro_of ys) (head ∷ more)) (dropped xs i x below is)

@@ -13,22 +13,28 @@ pub more_mapped : {A B : Type 0} (f : A → B) (xs : List A) (x : A) (ys : List 
 more_mapped f [] x ys = refl
 more_mapped f (y ∷ xs) x ys = ap (λ zs. f y ∷ zs) (more_mapped f xs x ys)
 
-pub joined_terms : (hold : Bool) (place : Place) {xs ys : List tree.Term} → xs ≡ ys → ◌≡◌ {A = tree.Connection} (record { terms = xs; hold = hold; place = place }) (record { terms = ys; hold = hold; place = place })
+pub joined_terms : (hold : Bool) (place : Place) {xs ys : List tree.Term} →
+    xs ≡ ys → ◌≡◌ {A = tree.Connection} (record { terms = xs; hold = hold; place = place }) (record { terms = ys; hold = hold; place = place })
 joined_terms hold place e = ap (λ (ts : List tree.Term). let c : tree.Connection = record { terms = ts; hold = hold; place = place } in c) e
 
-pub placed_more : {A B : Type 0} (f : A → B) (xs : List A) (x : A) (ps : List Place) (p : Place) (more : s.PlacedList B) → ◌≡◌ {A = s.PlacedList B} (record { items = map f xs ++ f x ∷ more.items; places = ps ++ p ∷ more.places }) (record { items = map f (xs ++ x ∷ []) ++ more.items; places = (ps ++ p ∷ []) ++ more.places })
+pub placed_more : {A B : Type 0} (f : A → B) (xs : List A) (x : A) (ps : List Place) (p : Place) (more : s.PlacedList B) →
+    ◌≡◌ {A = s.PlacedList B} (record { items = map f xs ++ f x ∷ more.items; places = ps ++ p ∷ more.places })
+    (record { items = map f (xs ++ x ∷ []) ++ more.items; places = (ps ++ p ∷ []) ++ more.places })
 placed_more f xs x ps p more = rw (more_mapped f xs x more.items, append_assoc) refl
 
 pub placed_all : {B : Type 0} (xs : List B) (ps : List Place) → ◌≡◌ {A = s.PlacedList B} (record { items = xs ++ []; places = ps ++ [] }) (record { items = xs; places = ps })
 placed_all xs ps = rw (append-nil xs, append-nil ps) refl
 
-pub macros_more : (xs : List MacroDef) (x : MacroDef) (hs : List Head) (h : Head) (more : s.HeadedMacros) → ◌≡◌ {A = s.HeadedMacros} (record { macros = map tree.macro_of xs ++ tree.macro_of x ∷ more.macros; heads = hs ++ h ∷ more.heads }) (record { macros = map tree.macro_of (xs ++ x ∷ []) ++ more.macros; heads = (hs ++ h ∷ []) ++ more.heads })
+pub macros_more : (xs : List MacroDef) (x : MacroDef) (hs : List Head) (h : Head) (more : s.HeadedMacros) →
+    ◌≡◌ {A = s.HeadedMacros} (record { macros = map tree.macro_of xs ++ tree.macro_of x ∷ more.macros; heads = hs ++ h ∷ more.heads })
+    (record { macros = map tree.macro_of (xs ++ x ∷ []) ++ more.macros; heads = (hs ++ h ∷ []) ++ more.heads })
 macros_more xs x hs h more = rw (more_mapped tree.macro_of xs x more.macros, append_assoc) refl
 
 pub macros_all : (xs : List tree.Macro) (hs : List Head) → ◌≡◌ {A = s.HeadedMacros} (record { macros = xs ++ []; heads = hs ++ [] }) (record { macros = xs; heads = hs })
 macros_all xs hs = rw (append-nil xs, append-nil hs) refl
 
-pub statements_more : (xs : List Stmt) (x : Stmt) (more : tree.Statements) → followed (map tree.statement_of xs) (tree.cons (tree.statement_of x) more) ≡ followed (map tree.statement_of (xs ++ x ∷ [])) more
+pub statements_more : (xs : List Stmt) (x : Stmt) (more : tree.Statements) →
+    followed (map tree.statement_of xs) (tree.cons (tree.statement_of x) more) ≡ followed (map tree.statement_of (xs ++ x ∷ [])) more
 statements_more [] x more = refl
 statements_more (y ∷ xs) x more = ap (λ (ss : tree.Statements). tree.cons (tree.statement_of y) ss) (statements_more xs x more)
 

@@ -12,7 +12,10 @@ use Rattle.drawing_grammar.specs.Front.{first_terminal}
 use Rattle.drawing_grammar.proofs.Moves.{moves}
 use Rattle.drawing_reader.proofs.Cursors.{always, plainly, left_out}
 
-pub lone : (old new : Cursor) (t : lex.Token) → first_terminal (tokens_at old) ≡ is.Number → (first_terminal (tokens_at old) ≢ is.EndOfText → tokens_at old ≡ at old t ∷ tokens_at new) → new.operators ≡ old.operators → choice Factors (first_terminal (tokens_at new)) ≡ None → choice Terms (first_terminal (tokens_at new)) ≡ None → (rest : List Need) → Moves (ahead old (group Sum 0 ∷ rest)) (ahead new rest) (λ v. (Number (kind_number t.kind), v))
+pub lone : (old new : Cursor) (t : lex.Token) → first_terminal (tokens_at old) ≡ is.Number →
+    (first_terminal (tokens_at old) ≢ is.EndOfText → tokens_at old ≡ at old t ∷ tokens_at new) → new.operators ≡ old.operators →
+    choice Factors (first_terminal (tokens_at new)) ≡ None → choice Terms (first_terminal (tokens_at new)) ≡ None →
+    (rest : List Need) → Moves (ahead old (group Sum 0 ∷ rest)) (ahead new rest) (λ v. (Number (kind_number t.kind), v))
 lone old new t e f o no_factor no_term rest =
     moves (always Sum 0 old refl rest)
     (moves (plainly number 0 old new t refl e f o (part Factors 0 ∷ part Terms 0 ∷ rest))

@@ -52,7 +52,10 @@ abbrev pub blank_token : lex.Token
 blank_token = record { kind = Word; place = record { line = 0; col = 0 }; start = 0; end = 0 }
 
 -- the names of the token at a place, and of those behind it
-pub next_names : (text : List ℕ) (tokens : List lex.Token) (i : ℕ) (in_head next : Bool) → i < length tokens → next ≡ head_behind in_head (terminal (lexeme_of text (get_or tokens i blank_token))) → names_from in_head (lexemes text (drop i tokens)) ≡ names_at in_head (terminal (lexeme_of text (get_or tokens i blank_token))) (lexeme_of text (get_or tokens i blank_token)) ++ names_from next (lexemes text (drop (i + 1) tokens))
+pub next_names : (text : List ℕ) (tokens : List lex.Token) (i : ℕ) (in_head next : Bool) → i < length tokens →
+    next ≡ head_behind in_head (terminal (lexeme_of text (get_or tokens i blank_token))) →
+    names_from in_head (lexemes text (drop i tokens)) ≡ names_at in_head (terminal (lexeme_of text (get_or tokens i blank_token)))
+    (lexeme_of text (get_or tokens i blank_token)) ++ names_from next (lexemes text (drop (i + 1) tokens))
 unfolding names_from
 next_names text tokens i in_head next below e =
     let t = get_or tokens i blank_token in

@@ -10,11 +10,13 @@ use Rattle.drawing_grammar.specs.DoubleNames.{Declaration, declared, IsDistinct,
 use Rattle.drawing_grammar.specs.declared.head.Head.{Head}
 use Rattle.drawing_tree.specs.declared.statement.Stmt.{Stmt}
 
-pub names_of_slice : (h : Header) (text : List ℕ) (slice tokens : List lex.Token) (stop : Stop) → slice ≡ tokens → IsNameStop h (names_from false (lexemes text slice)) stop → IsNameStop h (names_from false (lexemes text tokens)) stop
+pub names_of_slice : (h : Header) (text : List ℕ) (slice tokens : List lex.Token) (stop : Stop) →
+    slice ≡ tokens → IsNameStop h (names_from false (lexemes text slice)) stop → IsNameStop h (names_from false (lexemes text tokens)) stop
 names_of_slice h text slice tokens stop same found =
     let F : List lex.Token → Type 0 = λ ts. IsNameStop h (names_from false (lexemes text ts)) stop in subst F same found
 
-pub good_of_slice : (h : Header) (text : List ℕ) (slice tokens : List lex.Token) → slice ≡ tokens → AreGood h (names_from false (lexemes text slice)) → AreGood h (names_from false (lexemes text tokens))
+pub good_of_slice : (h : Header) (text : List ℕ) (slice tokens : List lex.Token) →
+    slice ≡ tokens → AreGood h (names_from false (lexemes text slice)) → AreGood h (names_from false (lexemes text tokens))
 good_of_slice h text slice tokens same good =
     let F : List lex.Token → Type 0 = λ ts. AreGood h (names_from false (lexemes text ts)) in subst F same good
 

@@ -45,7 +45,8 @@ pub record Taken (old new : Cursor) : Type 0 where
 
 -- Two numbers with a colon between them and a semicolon after them, in a statement that begins at this place.
 abbrev pub PairAt : Result NumberPair Stop → Place → Cursor → Cursor → Type 0
-PairAt (Ok x) place old new = (a : Lexeme) × (b : Lexeme) × (x ≡ record { first = number_of a; second = number_of b; place = place }) × ((rest : List Need) → Moves (ahead old (bounds rest)) (ahead new rest) (λ v. (a, (b, v))))
+PairAt (Ok x) place old new = (a : Lexeme) × (b : Lexeme) × (x ≡ record { first = number_of a; second = number_of b; place = place })
+    × ((rest : List Need) → Moves (ahead old (bounds rest)) (ahead new rest) (λ v. (a, (b, v))))
 PairAt (Err s) place old new = (rest : List Need) → Fails (ahead old (bounds rest)) s
 
 -- The units and ticks of the clock.
@@ -66,7 +67,13 @@ abbrev pub details : List Need → List Need
 details rest = part Delay 0 ∷ part Parameters 0 ∷ mark OpenParenthesis ∷ group Conns 0 ∷ mark CloseParenthesis ∷ part Outputs 0 ∷ mark Semicolon ∷ rest
 
 abbrev pub DetailsAt : Result Details Stop → Cursor → Cursor → Type 0
-DetailsAt (Ok x) old new = (places : List Place) × ((rest : List Need) → Moves (ahead old (details rest)) (ahead new rest) (λ v. (record { delay = option_map both_of x.delay; fall = option_map both_of x.fall }, (record { items = map assignment_of x.params; places = places }, (map connection_of x.ins, (map connection_of x.outs, v))))))
+DetailsAt (Ok x) old new =
+    (places : List Place) × ((rest : List Need) →
+    Moves (ahead old (details rest))
+    (ahead new rest) (λ v. (
+      record { delay = option_map both_of x.delay; fall = option_map both_of x.fall },
+      (record { items = map assignment_of x.params; places = places }, (map connection_of x.ins, (map connection_of x.outs, v))),
+    )))
 DetailsAt (Err s) old new = (rest : List Need) → Fails (ahead old (details rest)) s
 
 -- The statements of a macro or of a drawing, from the semicolon in front of them to the END after them.

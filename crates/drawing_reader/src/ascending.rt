@@ -29,7 +29,8 @@ fn is_behind(last: &[u8], label: &[u8]) -> bool
 /// The label of a statement, where it comes after the last one; of a statement without labels the last one again.
 /// An IF has no answer.
 fn climbed<'a>(last: &'a [u8], statement: &'a Stmt) -> Option<&'a [u8]>
-    ensures { IfSome result (λ next. (scope : ℕ) → Climbs scope last.now next.now (statement_labels scope (statement_of statement.now))) }
+    ensures { IfSome result (λ next.
+        (scope : ℕ) → Climbs scope last.now next.now (statement_labels scope (statement_of statement.now))) }
 {
     match statement {
         Stmt::Use(u) => {

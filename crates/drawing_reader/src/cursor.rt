@@ -105,9 +105,11 @@ impl<'a> Cursor<'a> {
 
     /// Takes the next token, where one is left.
     pub fn bump(&mut self) -> Token
-        ensures shorter { first_terminal (tokens_at self.old) ≢ EndOfText → length self.new.rest.now < length self.old.rest.now }
+        ensures shorter { first_terminal (tokens_at self.old) ≢ EndOfText →
+            length self.new.rest.now < length self.old.rest.now }
         ensures no_longer { length self.new.rest.now ≤ length self.old.rest.now }
-        ensures taken { first_terminal (tokens_at self.old) ≢ EndOfText → tokens_at self.old ≡ at self.old result ∷ tokens_at self.new }
+        ensures taken { first_terminal (tokens_at self.old) ≢ EndOfText →
+            tokens_at self.old ≡ at self.old result ∷ tokens_at self.new }
         ensures text { self.new.text.now ≡ self.old.text.now }
         ensures operators { self.new.operators ≡ self.old.operators }
     {
@@ -126,7 +128,8 @@ impl<'a> Cursor<'a> {
     /// Takes a token that has to stand here; where the next is another, `Syntax` comes at its place.
     pub fn mark(&mut self, terminal: Terminal) -> Result<(), Stop>
         requires { terminal ≢ EndOfText }
-        ensures reads { (rest : List Need) → Gives result (λ _ v. v) (ahead self.old (mark terminal ∷ rest)) (ahead self.new rest) }
+        ensures reads { (rest : List Need) →
+            Gives result (λ _ v. v) (ahead self.old (mark terminal ∷ rest)) (ahead self.new rest) }
         ensures shorter { OnOk result (length self.new.rest.now < length self.old.rest.now) }
         ensures no_longer { length self.new.rest.now ≤ length self.old.rest.now }
     {
@@ -140,7 +143,8 @@ impl<'a> Cursor<'a> {
     /// Takes a token that has to stand here, and whose text counts; `Syntax` comes as of `mark`.
     pub fn item(&mut self, terminal: Terminal) -> Result<Token, Stop>
         requires { terminal ≢ EndOfText }
-        ensures reads { (rest : List Need) → Gives result (λ t v. (at self.old t, v)) (ahead self.old (item terminal ∷ rest)) (ahead self.new rest) }
+        ensures reads { (rest : List Need) →
+            Gives result (λ t v. (at self.old t, v)) (ahead self.old (item terminal ∷ rest)) (ahead self.new rest) }
         ensures shorter { OnOk result (length self.new.rest.now < length self.old.rest.now) }
         ensures no_longer { length self.new.rest.now ≤ length self.old.rest.now }
         ensures text { self.new.text.now ≡ self.old.text.now }
@@ -172,7 +176,8 @@ impl<'a> Cursor<'a> {
 
     /// Takes a word that has to be this letter; where the next token is not, `Syntax` comes at its place.
     pub fn letter(&mut self, letter: Letter) -> Result<(), Stop>
-        ensures reads { (rest : List Need) → Gives result (λ _ v. v) (ahead self.old (letter_need letter ∷ rest)) (ahead self.new rest) }
+        ensures reads { (rest : List Need) →
+            Gives result (λ _ v. v) (ahead self.old (letter_need letter ∷ rest)) (ahead self.new rest) }
         ensures no_longer { length self.new.rest.now ≤ length self.old.rest.now }
     {
         if !self.at_letter(letter) {

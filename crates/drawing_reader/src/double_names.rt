@@ -70,7 +70,8 @@ impl<'a> Declarations<'a> {
         name: &'a [u8],
         place: Place,
     ) -> Result<(), Stop>
-        ensures { MatchResult result (λ _. Declares self.old self.new (declaration scope kind name.now place ∷ [])) (IsStopAt self.old (declaration scope kind name.now place ∷ [])) }
+        ensures { MatchResult result (λ _. Declares self.old self.new (declaration scope kind name.now place ∷ []))
+            (IsStopAt self.old (declaration scope kind name.now place ∷ [])) }
     {
         let seen = &mut self.seen;
         if is_taken(scope, kind, name) {
@@ -92,7 +93,9 @@ impl<'a> Declarations<'a> {
         params: &'a [Assign],
         places: &[Place],
     ) -> Result<(), Stop>
-        ensures { MatchResult result (λ _. Declares self.old self.new (parameters scope (map assignment_of params.now) places.now)) (IsStopAt self.old (parameters scope (map assignment_of params.now) places.now)) }
+        ensures { MatchResult result (λ _.
+            Declares self.old self.new (parameters scope (map assignment_of params.now) places.now))
+            (IsStopAt self.old (parameters scope (map assignment_of params.now) places.now)) }
     {
         let mut rest = places;
         'params: for param in params {
@@ -107,7 +110,9 @@ impl<'a> Declarations<'a> {
 
     /// Takes formals, each at the place beside it.
     fn formals(&mut self, scope: usize, signals: &'a [Formal], places: &[Place]) -> Result<(), Stop>
-        ensures { MatchResult result (λ _. Declares self.old self.new (formals scope (map formal_of signals.now) places.now)) (IsStopAt self.old (formals scope (map formal_of signals.now) places.now)) }
+        ensures { MatchResult result (λ _.
+            Declares self.old self.new (formals scope (map formal_of signals.now) places.now))
+            (IsStopAt self.old (formals scope (map formal_of signals.now) places.now)) }
     {
         let mut rest = places;
         'signals: for signal in signals {
@@ -124,7 +129,9 @@ impl<'a> Declarations<'a> {
     #[cycle(labels)]
     #[tactic(auto, using(crate::proofs::Labels::use_labels, crate::proofs::Labels::wire_labels, crate::proofs::Labels::choice_labels))]
     fn statement(&mut self, scope: usize, statement: &'a Stmt) -> Result<(), Stop>
-        ensures { MatchResult result (λ _. Declares self.old self.new (statement_labels scope (statement_of statement.now))) (IsStopAt self.old (statement_labels scope (statement_of statement.now))) }
+        ensures { MatchResult result (λ _.
+            Declares self.old self.new (statement_labels scope (statement_of statement.now)))
+            (IsStopAt self.old (statement_labels scope (statement_of statement.now))) }
     {
         match statement {
             Stmt::Use(u) => self.declare(scope, Kind::Label, u.label.as_slice(), u.place),
@@ -136,7 +143,8 @@ impl<'a> Declarations<'a> {
     /// Takes the labels inside of an IF.
     #[cycle(labels)]
     fn choice(&mut self, scope: usize, choice: &'a IfStmt) -> Result<(), Stop>
-        ensures { MatchResult result (λ _. Declares self.old self.new (statement_labels scope (if_of choice.now))) (IsStopAt self.old (statement_labels scope (if_of choice.now))) }
+        ensures { MatchResult result (λ _. Declares self.old self.new (statement_labels scope (if_of choice.now)))
+            (IsStopAt self.old (statement_labels scope (if_of choice.now))) }
     {
         self.statements(scope, choice.yes.as_slice())?;
         match &choice.no {
@@ -148,7 +156,8 @@ impl<'a> Declarations<'a> {
     /// Takes the labels of statements.
     #[cycle(labels)]
     fn statements(&mut self, scope: usize, statements: &'a [Stmt]) -> Result<(), Stop>
-        ensures { MatchResult result (λ _. Declares self.old self.new (labels scope (statements_of statements.now))) (IsStopAt self.old (labels scope (statements_of statements.now))) }
+        ensures { MatchResult result (λ _. Declares self.old self.new (labels scope (statements_of statements.now)))
+            (IsStopAt self.old (labels scope (statements_of statements.now))) }
     {
         'statements: for statement in statements {
             self.statement(scope, statement)?;
@@ -158,7 +167,9 @@ impl<'a> Declarations<'a> {
 
     /// Takes a macro, and what its head declares.
     fn head(&mut self, scope: usize, definition: &'a MacroDef, head: &Head) -> Result<(), Stop>
-        ensures { MatchResult result (λ _. Declares self.old self.new (head_declared scope (macro_of definition.now) head.now)) (IsStopAt self.old (head_declared scope (macro_of definition.now) head.now)) }
+        ensures { MatchResult result (λ _.
+            Declares self.old self.new (head_declared scope (macro_of definition.now) head.now))
+            (IsStopAt self.old (head_declared scope (macro_of definition.now) head.now)) }
     {
         self.declare(0, Kind::Macro, definition.name.as_slice(), definition.place)?;
         self.parameters(
@@ -177,7 +188,10 @@ impl<'a> Declarations<'a> {
         definition: &'a MacroDef,
         head: &Head,
     ) -> Result<(), Stop>
-        ensures { MatchResult result (λ _. Declares self.old self.new (head_declared scope (macro_of definition.now) head.now ++ labels scope (macro_of definition.now).body)) (IsStopAt self.old (head_declared scope (macro_of definition.now) head.now ++ labels scope (macro_of definition.now).body)) }
+        ensures { MatchResult result (λ _.
+            Declares self.old self.new (head_declared scope (macro_of definition.now) head.now
+            ++ labels scope (macro_of definition.now).body)) (IsStopAt self.old
+            (head_declared scope (macro_of definition.now) head.now ++ labels scope (macro_of definition.now).body)) }
     {
         self.head(scope, definition, head)?;
         self.statements(scope, definition.body.as_slice())
@@ -185,7 +199,9 @@ impl<'a> Declarations<'a> {
 
     /// Takes all macros, each with the places of its head.
     fn definitions(&mut self, definitions: &'a [MacroDef], heads: &[Head]) -> Result<(), Stop>
-        ensures { MatchResult result (λ _. Declares self.old self.new (macros_declared 0 (map macro_of definitions.now) heads.now)) (IsStopAt self.old (macros_declared 0 (map macro_of definitions.now) heads.now)) }
+        ensures { MatchResult result (λ _.
+            Declares self.old self.new (macros_declared 0 (map macro_of definitions.now) heads.now))
+            (IsStopAt self.old (macros_declared 0 (map macro_of definitions.now) heads.now)) }
     {
         let mut rest = heads;
         let mut scope = 0;
@@ -210,7 +226,9 @@ pub fn distinct_names(
     heads: &[Head],
     body: &[Stmt],
 ) -> Result<(), Stop>
-    ensures { MatchResult result (λ _. IsDistinct (declared (map macro_of macros.now) heads.now (statements_of body.now))) (IsDoubleStop (declared (map macro_of macros.now) heads.now (statements_of body.now))) }
+    ensures { MatchResult result (λ _.
+        IsDistinct (declared (map macro_of macros.now) heads.now (statements_of body.now)))
+        (IsDoubleStop (declared (map macro_of macros.now) heads.now (statements_of body.now))) }
 {
     let mut declarations = Declarations::new(alloc);
     declarations.definitions(macros.as_slice(), heads)?;

@@ -29,7 +29,8 @@ pub fn read_drawing(alloc: Global, text: &[u8], tokens: &TokenList) -> Result<Dr
     requires { AreTokens text.now tokens.now }
     ensures drawn { IfOk result (λ d. Draws (lexemes text.now tokens.now) (drawing_of d)) }
     ensures formed { IfOk result (λ d. IsWellFormed (drawing_of d)) }
-    ensures again { IfOk result (λ d. IsShallowDrawing (drawing_of d) → DrawsAgain (canonical (drawing_of d)) (drawing_of d)) }
+    ensures again { IfOk result (λ d.
+        IsShallowDrawing (drawing_of d) → DrawsAgain (canonical (drawing_of d)) (drawing_of d)) }
     ensures refused { IfErr result (λ stop. IsWrongStop (lexemes text.now tokens.now) stop) }
     ensures at_token { IfErr result (λ stop. IsStopAt (lexemes text.now tokens.now) stop) }
     ensures placed { IfErr result (λ stop. IsPlacedStop text.now stop) }

@@ -62,7 +62,8 @@ impl<'a> Cursor<'a> {
     pub fn deeper(&self, depth: usize) -> Result<usize, Stop>
         ensures ok { IfOk result (λ n. n ≡ suc depth) }
         ensures room { OnOk result (depth < 64) }
-        ensures err { IfErr result (λ s. (s ≡ Stop.Refused (refusal RefusalKind.TooDeep (first_place (tokens_at self.now)))) × (64 ≤ depth)) }
+        ensures err { IfErr result (λ s.
+            (s ≡ Stop.Refused (refusal RefusalKind.TooDeep (first_place (tokens_at self.now)))) × (64 ≤ depth)) }
     {
         if depth >= LIMIT {
             return Err(self.refused(RefusalKind::TooDeep));
@@ -75,8 +76,11 @@ impl<'a> Cursor<'a> {
         ensures taken { OnOk result (first_terminal (tokens_at self.old) ≢ EndOfText → Taken self.old self.new) }
         ensures counted { OnOk result (self.new.operators ≡ suc self.old.operators) }
         ensures room { OnOk result (self.old.operators < 64) }
-        ensures err { IfErr result (λ s. (s ≡ Stop.Refused (refusal RefusalKind.TooDeep (first_place (tokens_at self.old)))) × (64 ≤ self.old.operators)) }
-        ensures shorter { OnOk result (first_terminal (tokens_at self.old) ≢ EndOfText → length self.new.rest.now < length self.old.rest.now) }
+        ensures err { IfErr result (λ s.
+            (s ≡ Stop.Refused (refusal RefusalKind.TooDeep (first_place (tokens_at self.old))))
+            × (64 ≤ self.old.operators)) }
+        ensures shorter { OnOk result
+            (first_terminal (tokens_at self.old) ≢ EndOfText → length self.new.rest.now < length self.old.rest.now) }
         ensures no_longer { length self.new.rest.now ≤ length self.old.rest.now }
     {
         if self.operators >= LIMIT {
@@ -125,7 +129,8 @@ impl<'a> Cursor<'a> {
 
     /// Takes an equals sign that may stand here.
     fn or_equal(&mut self) -> bool
-        ensures reads { (n : ℕ) (rest : List Need) → Moves (ahead self.old (part OrEqual n ∷ rest)) (ahead self.new rest) (λ v. (result, v)) }
+        ensures reads { (n : ℕ) (rest : List Need) →
+            Moves (ahead self.old (part OrEqual n ∷ rest)) (ahead self.new rest) (λ v. (result, v)) }
         ensures no_longer { length self.new.rest.now ≤ length self.old.rest.now }
     {
         if !self.starts(Terminal::Equals) {
@@ -165,7 +170,8 @@ impl<'a> Cursor<'a> {
 
     #[cycle(expression)]
     fn unary(&mut self, alloc: Global, depth: usize) -> Result<Expr, Stop>
-        ensures reads { (rest : List Need) → Gives result (λ e v. (expression_of e, v)) (ahead self.old (part Unary depth ∷ rest)) (ahead self.new rest) }
+        ensures reads { (rest : List Need) → Gives result (λ e v.
+            (expression_of e, v)) (ahead self.old (part Unary depth ∷ rest)) (ahead self.new rest) }
         ensures no_longer { length self.new.rest.now ≤ length self.old.rest.now }
     {
         match self.look() {
@@ -197,7 +203,8 @@ impl<'a> Cursor<'a> {
 
     #[cycle(expression)]
     fn product(&mut self, alloc: Global, depth: usize) -> Result<Expr, Stop>
-        ensures reads { (rest : List Need) → Gives result (λ e v. (expression_of e, v)) (ahead self.old (group Product depth ∷ rest)) (ahead self.new rest) }
+        ensures reads { (rest : List Need) → Gives result (λ e v.
+            (expression_of e, v)) (ahead self.old (group Product depth ∷ rest)) (ahead self.new rest) }
         ensures no_longer { length self.new.rest.now ≤ length self.old.rest.now }
     {
         let mut left = self.unary(alloc, depth)?;
@@ -210,7 +217,8 @@ impl<'a> Cursor<'a> {
 
     #[cycle(expression)]
     fn sum(&mut self, alloc: Global, depth: usize) -> Result<Expr, Stop>
-        ensures reads { (rest : List Need) → Gives result (λ e v. (expression_of e, v)) (ahead self.old (group Sum depth ∷ rest)) (ahead self.new rest) }
+        ensures reads { (rest : List Need) → Gives result (λ e v.
+            (expression_of e, v)) (ahead self.old (group Sum depth ∷ rest)) (ahead self.new rest) }
         ensures no_longer { length self.new.rest.now ≤ length self.old.rest.now }
     {
         let mut left = self.product(alloc, depth)?;
@@ -223,7 +231,8 @@ impl<'a> Cursor<'a> {
 
     #[cycle(expression)]
     fn whole(&mut self, alloc: Global, depth: usize) -> Result<Expr, Stop>
-        ensures reads { (rest : List Need) → Gives result (λ e v. (expression_of e, v)) (ahead self.old (group Whole depth ∷ rest)) (ahead self.new rest) }
+        ensures reads { (rest : List Need) → Gives result (λ e v.
+            (expression_of e, v)) (ahead self.old (group Whole depth ∷ rest)) (ahead self.new rest) }
         ensures no_longer { length self.new.rest.now ≤ length self.old.rest.now }
     {
         let left = self.sum(alloc, depth)?;
@@ -252,8 +261,10 @@ impl<'a> Cursor<'a> {
 
     /// Takes a number that is all of a sum, as it is of most.
     fn lone_number(&mut self) -> Option<Token>
-        ensures found { IfSome result (λ t. (rest : List Need) → Moves (ahead self.old (group Sum 0 ∷ rest)) (ahead self.new rest) (λ v. (Expression.Number (kind_number t.kind), v))) }
-        ensures none { IfNone result ((rest : List Need) → Moves (ahead self.old (group Sum 0 ∷ rest)) (ahead self.new (group Sum 0 ∷ rest)) (λ v. v)) }
+        ensures found { IfSome result (λ t. (rest : List Need) → Moves (ahead self.old (group Sum 0 ∷ rest))
+            (ahead self.new rest) (λ v. (Expression.Number (kind_number t.kind), v))) }
+        ensures none { IfNone result ((rest : List Need) →
+            Moves (ahead self.old (group Sum 0 ∷ rest)) (ahead self.new (group Sum 0 ∷ rest)) (λ v. v)) }
         ensures no_longer { length self.new.rest.now ≤ length self.old.rest.now }
     {
         if !self.starts(Terminal::Number) {
@@ -270,7 +281,8 @@ impl<'a> Cursor<'a> {
 
     /// A sum that is an expression of its own.
     pub fn own_sum(&mut self, alloc: Global) -> Result<Expr, Stop>
-        ensures reads { (rest : List Need) → Gives result (λ e v. (expression_of e, v)) (ahead self.old (fresh ∷ group Sum 0 ∷ rest)) (ahead self.new rest) }
+        ensures reads { (rest : List Need) → Gives result (λ e v.
+            (expression_of e, v)) (ahead self.old (fresh ∷ group Sum 0 ∷ rest)) (ahead self.new rest) }
         ensures no_longer { length self.new.rest.now ≤ length self.old.rest.now }
     {
         self.operators = 0;
@@ -283,7 +295,8 @@ impl<'a> Cursor<'a> {
 
     /// An expression, which may be a comparison.
     pub fn own_expression(&mut self, alloc: Global) -> Result<Expr, Stop>
-        ensures reads { (rest : List Need) → Gives result (λ e v. (expression_of e, v)) (ahead self.old (fresh ∷ group Whole 0 ∷ rest)) (ahead self.new rest) }
+        ensures reads { (rest : List Need) → Gives result (λ e v.
+            (expression_of e, v)) (ahead self.old (fresh ∷ group Whole 0 ∷ rest)) (ahead self.new rest) }
         ensures no_longer { length self.new.rest.now ≤ length self.old.rest.now }
     {
         self.operators = 0;

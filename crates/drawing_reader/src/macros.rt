@@ -24,7 +24,8 @@ struct Declares {
 impl<'a> Cursor<'a> {
     /// A formal, and the place of its name.
     fn formal(&mut self, alloc: Global) -> Result<(Formal, Place), Stop>
-        ensures reads { (rest : List Need) → Gives result (λ x v. (record { item = formal_of x.0; place = x.1 }, v)) (ahead self.old (part FormalPart 0 ∷ rest)) (ahead self.new rest) }
+        ensures reads { (rest : List Need) → Gives result (λ x v. (record { item = formal_of x.0; place = x.1 }, v))
+            (ahead self.old (part FormalPart 0 ∷ rest)) (ahead self.new rest) }
         ensures no_longer { length self.new.rest.now ≤ length self.old.rest.now }
     {
         if !self.starts(Terminal::Name) {
@@ -42,7 +43,9 @@ impl<'a> Cursor<'a> {
     }
 
     fn some_formals(&mut self, alloc: Global) -> Result<(Formals, Places), Stop>
-        ensures reads { (rest : List Need) → Gives result (λ x v. (record { items = map formal_of x.0; places = x.1 }, v)) (ahead self.old (group SomeFormals 0 ∷ rest)) (ahead self.new rest) }
+        ensures reads { (rest : List Need) →
+            Gives result (λ x v. (record { items = map formal_of x.0; places = x.1 }, v))
+            (ahead self.old (group SomeFormals 0 ∷ rest)) (ahead self.new rest) }
         ensures no_longer { length self.new.rest.now ≤ length self.old.rest.now }
     {
         let (first, place) = self.formal(alloc)?;
@@ -60,7 +63,9 @@ impl<'a> Cursor<'a> {
     }
 
     fn formals(&mut self, alloc: Global) -> Result<(Formals, Places), Stop>
-        ensures reads { (rest : List Need) → Gives result (λ x v. (record { items = map formal_of x.0; places = x.1 }, v)) (ahead self.old (group FormalsGroup 0 ∷ rest)) (ahead self.new rest) }
+        ensures reads { (rest : List Need) →
+            Gives result (λ x v. (record { items = map formal_of x.0; places = x.1 }, v))
+            (ahead self.old (group FormalsGroup 0 ∷ rest)) (ahead self.new rest) }
         ensures no_longer { length self.new.rest.now ≤ length self.old.rest.now }
     {
         if !self.starts(Terminal::Name) {
@@ -72,7 +77,11 @@ impl<'a> Cursor<'a> {
 
     /// The inputs of a macro, in parentheses.
     fn formal_inputs(&mut self, alloc: Global) -> Result<(Formals, Places), Stop>
-        ensures reads { (rest : List Need) → Gives result (λ x v. (record { items = map formal_of x.0; places = x.1 }, v)) (ahead self.old (mark Terminal.OpenParenthesis ∷ group FormalsGroup 0 ∷ mark Terminal.CloseParenthesis ∷ rest)) (ahead self.new rest) }
+        ensures reads { (rest : List Need) →
+            Gives result (λ x v.
+            (record { items = map formal_of x.0; places = x.1 }, v))
+            (ahead self.old (mark Terminal.OpenParenthesis ∷
+            group FormalsGroup 0 ∷ mark Terminal.CloseParenthesis ∷ rest)) (ahead self.new rest) }
         ensures no_longer { length self.new.rest.now ≤ length self.old.rest.now }
     {
         self.mark(Terminal::OpenParenthesis)?;
@@ -82,7 +91,9 @@ impl<'a> Cursor<'a> {
     }
 
     fn formal_outputs(&mut self, alloc: Global) -> Result<(Formals, Places), Stop>
-        ensures reads { (rest : List Need) → Gives result (λ x v. (record { items = map formal_of x.0; places = x.1 }, v)) (ahead self.old (part FormalOutputs 0 ∷ rest)) (ahead self.new rest) }
+        ensures reads { (rest : List Need) →
+            Gives result (λ x v. (record { items = map formal_of x.0; places = x.1 }, v))
+            (ahead self.old (part FormalOutputs 0 ∷ rest)) (ahead self.new rest) }
         ensures no_longer { length self.new.rest.now ≤ length self.old.rest.now }
     {
         if !self.starts(Terminal::Arrow) {
@@ -97,7 +108,16 @@ impl<'a> Cursor<'a> {
 
     /// What stands between the name of a macro and its statements, and where it names what it declares.
     fn head(&mut self, alloc: Global) -> Result<(Declares, Head), Stop>
-        ensures reads { (rest : List Need) → Gives result (λ x v. (record { items = map assignment_of x.0.params; places = x.1.parameters }, (record { items = map formal_of x.0.ins; places = x.1.ins }, (record { items = map formal_of x.0.outs; places = x.1.outs }, v)))) (ahead self.old (part Parameters 0 ∷ mark Terminal.OpenParenthesis ∷ group FormalsGroup 0 ∷ mark Terminal.CloseParenthesis ∷ part FormalOutputs 0 ∷ rest)) (ahead self.new rest) }
+        ensures reads { (rest : List Need) →
+            Gives result (λ x v. (
+              record { items = map assignment_of x.0.params; places = x.1.parameters },
+              (
+                record { items = map formal_of x.0.ins; places = x.1.ins },
+                (record { items = map formal_of x.0.outs; places = x.1.outs }, v),
+              ),
+            ))
+            (ahead self.old (part Parameters 0 ∷ mark Terminal.OpenParenthesis ∷ group
+            FormalsGroup 0 ∷ mark Terminal.CloseParenthesis ∷ part FormalOutputs 0 ∷ rest)) (ahead self.new rest) }
         ensures no_longer { length self.new.rest.now ≤ length self.old.rest.now }
     {
         let (params, parameters) = self.parameters(alloc)?;
@@ -112,7 +132,8 @@ impl<'a> Cursor<'a> {
     }
 
     fn definition(&mut self, alloc: Global) -> Result<(MacroDef, Head), Stop>
-        ensures reads { (rest : List Need) → Gives result (λ x v. (record { macro = macro_of x.0; head = x.1 }, v)) (ahead self.old (part MacroPart 0 ∷ rest)) (ahead self.new rest) }
+        ensures reads { (rest : List Need) → Gives result (λ x v. (record { macro = macro_of x.0; head = x.1 }, v))
+            (ahead self.old (part MacroPart 0 ∷ rest)) (ahead self.new rest) }
         ensures shorter { OnOk result (length self.new.rest.now < length self.old.rest.now) }
         ensures no_longer { length self.new.rest.now ≤ length self.old.rest.now }
     {
@@ -136,7 +157,9 @@ impl<'a> Cursor<'a> {
 
     /// The macros, and where their heads name what they declare.
     pub fn definitions(&mut self, alloc: Global) -> Result<(MacroDefs, List<Head>), Stop>
-        ensures reads { (rest : List Need) → Gives result (λ x v. (record { macros = map macro_of x.0; heads = x.1 }, v)) (ahead self.old (group MacrosGroup 0 ∷ rest)) (ahead self.new rest) }
+        ensures reads { (rest : List Need) →
+            Gives result (λ x v. (record { macros = map macro_of x.0; heads = x.1 }, v))
+            (ahead self.old (group MacrosGroup 0 ∷ rest)) (ahead self.new rest) }
         ensures no_longer { length self.new.rest.now ≤ length self.old.rest.now }
     {
         let mut all = MacroDefs::new(alloc);

@@ -37,7 +37,8 @@ fn may_stand(name: &SignalName, of_formal: bool) -> bool
 
 /// Why a name is refused, if it is.
 fn fault(name: &SignalName, of_formal: bool, header: &Header) -> Option<RefusalKind>
-    ensures { MatchOption result (MayStand of_formal name.now × Fits header.now name.now.spec) (IsNameFault header.now of_formal name.now) }
+    ensures { MatchOption result (MayStand of_formal name.now × Fits header.now name.now.spec)
+        (IsNameFault header.now of_formal name.now) }
 {
     if !may_stand(name, of_formal) {
         return Some(RefusalKind::BadName);
@@ -96,7 +97,8 @@ fn judge<'a>(
     header: &Header,
 ) -> Result<&'a [u8], Stop>
     requires { IsKnown header.now known.now }
-    ensures good { MatchResult result (λ _. IsGood header.now (named text.now of_formal place)) (IsNameStop header.now (named text.now of_formal place ∷ [])) }
+    ensures good { MatchResult result (λ _. IsGood header.now (named text.now of_formal place))
+        (IsNameStop header.now (named text.now of_formal place ∷ [])) }
     ensures known { IfOk result (λ now. IsKnown header.now now.now) }
 {
     // No memory is taken for a name that is seen to be good by its bytes alone, nor for a clock that stands again.
@@ -128,8 +130,10 @@ fn judge_token<'a>(
     requires { IsKnown header.now known.now }
     ensures next { IfOk result (λ next. next.0 ≡ head_behind in_head (terminal (lexeme_of text.now token))) }
     ensures known { IfOk result (λ next. IsKnown header.now next.1.now) }
-    ensures good { IfOk result (λ _. AreGood header.now (names_at in_head (terminal (lexeme_of text.now token)) (lexeme_of text.now token))) }
-    ensures refused { IfErr result (IsNameStop header.now (names_at in_head (terminal (lexeme_of text.now token)) (lexeme_of text.now token))) }
+    ensures good { IfOk result (λ _.
+        AreGood header.now (names_at in_head (terminal (lexeme_of text.now token)) (lexeme_of text.now token))) }
+    ensures refused { IfErr result
+        (IsNameStop header.now (names_at in_head (terminal (lexeme_of text.now token)) (lexeme_of text.now token))) }
 {
     match terminal_of(text, token) {
         Terminal::Macro => Ok((true, known)),
@@ -152,7 +156,8 @@ pub fn judged_names(
     tokens: &[Token],
     header: &Header,
 ) -> Result<(), Stop>
-    ensures { MatchResult result (λ _. AreGood header.now (names_from false (lexemes text.now tokens.now))) (IsNameStop header.now (names_from false (lexemes text.now tokens.now))) }
+    ensures { MatchResult result (λ _. AreGood header.now (names_from false (lexemes text.now tokens.now)))
+        (IsNameStop header.now (names_from false (lexemes text.now tokens.now))) }
 {
     let mut in_head = false;
     // A base alone is a name that may stand anywhere.

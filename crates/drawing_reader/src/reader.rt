@@ -59,7 +59,14 @@ fn written(
     pskew: Option<NumberPair>,
     cskew: Option<NumberPair>,
 ) -> WrittenHeader
-    ensures { result ≡ record { version = kind_number version; place = place; clock = clock; wire = wire; pskew = pskew; cskew = cskew } }
+    ensures { result ≡ record {
+      version = kind_number version;
+      place = place;
+      clock = clock;
+      wire = wire;
+      pskew = pskew;
+      cskew = cskew;
+    } }
 {
     WrittenHeader {
         version: value_of(version),
@@ -84,7 +91,8 @@ impl<'a> Cursor<'a> {
     }
 
     fn wire_bounds(&mut self) -> Result<Option<NumberPair>, Stop>
-        ensures reads { (rest : List Need) → Gives result (λ x v. (x, v)) (ahead self.old (part WireBounds 0 ∷ rest)) (ahead self.new rest) }
+        ensures reads { (rest : List Need) →
+            Gives result (λ x v. (x, v)) (ahead self.old (part WireBounds 0 ∷ rest)) (ahead self.new rest) }
     {
         if !self.starts(Terminal::Wire) {
             return Ok(None);
@@ -95,7 +103,8 @@ impl<'a> Cursor<'a> {
     }
 
     fn precision_skew(&mut self) -> Result<Option<NumberPair>, Stop>
-        ensures reads { (rest : List Need) → Gives result (λ x v. (x, v)) (ahead self.old (part PrecisionSkew 0 ∷ rest)) (ahead self.new rest) }
+        ensures reads { (rest : List Need) →
+            Gives result (λ x v. (x, v)) (ahead self.old (part PrecisionSkew 0 ∷ rest)) (ahead self.new rest) }
     {
         if !self.starts(Terminal::Pskew) {
             return Ok(None);
@@ -106,7 +115,8 @@ impl<'a> Cursor<'a> {
     }
 
     fn clock_skew(&mut self) -> Result<Option<NumberPair>, Stop>
-        ensures reads { (rest : List Need) → Gives result (λ x v. (x, v)) (ahead self.old (part ClockSkew 0 ∷ rest)) (ahead self.new rest) }
+        ensures reads { (rest : List Need) →
+            Gives result (λ x v. (x, v)) (ahead self.old (part ClockSkew 0 ∷ rest)) (ahead self.new rest) }
     {
         if !self.starts(Terminal::Cskew) {
             return Ok(None);
@@ -158,7 +168,8 @@ impl<'a> Cursor<'a> {
     }
 
     fn header(&mut self) -> Result<WrittenHeader, Stop>
-        ensures reads { (rest : List Need) → Gives result (λ x v. headed rest x v) (ahead self.old (part Text 0 ∷ rest)) (ahead self.new (behind_header rest)) }
+        ensures reads { (rest : List Need) → Gives result (λ x v.
+            headed rest x v) (ahead self.old (part Text 0 ∷ rest)) (ahead self.new (behind_header rest)) }
     {
         if !self.starts(Terminal::Scald) {
             return Err(self.refused(RefusalKind::Syntax));
@@ -185,7 +196,8 @@ impl<'a> Cursor<'a> {
 
     /// All but the end of the text.
     fn sketch(&mut self, alloc: Global) -> Result<Sketch, Stop>
-        ensures reads { (rest : List Need) → Gives result (λ x v. (sketch_of x, v)) (ahead self.old (part Text 0 ∷ rest)) (ahead self.new (mark EndOfText ∷ rest)) }
+        ensures reads { (rest : List Need) → Gives result (λ x v.
+            (sketch_of x, v)) (ahead self.old (part Text 0 ∷ rest)) (ahead self.new (mark EndOfText ∷ rest)) }
     {
         let header = self.header()?;
         let (macros, heads) = self.definitions(alloc)?;

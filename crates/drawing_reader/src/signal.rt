@@ -56,7 +56,8 @@ impl<'a> Cursor<'a> {
 
     /// Takes a word that has to stand here, and its bytes.
     pub fn next_word(&mut self, alloc: Global) -> Result<(Token, Bytes), Stop>
-        ensures reads { (rest : List Need) → Gives result (λ x v. (at self.old x.0, v)) (ahead self.old (item Terminal.Word ∷ rest)) (ahead self.new rest) }
+        ensures reads { (rest : List Need) → Gives result (λ x v.
+            (at self.old x.0, v)) (ahead self.old (item Terminal.Word ∷ rest)) (ahead self.new rest) }
         ensures text { IfOk result (λ x. x.1 ≡ (at self.old x.0).text) }
         ensures shorter { OnOk result (length self.new.rest.now < length self.old.rest.now) }
         ensures no_longer { length self.new.rest.now ≤ length self.old.rest.now }

@@ -45,7 +45,9 @@ struct Details {
 impl<'a> Cursor<'a> {
     /// A parameter and its value, and the place of its name.
     fn assign(&mut self, alloc: Global) -> Result<(Assign, Place), Stop>
-        ensures reads { (rest : List Need) → Gives result (λ x v. (record { item = assignment_of x.0; place = x.1 }, v)) (ahead self.old (part AssignPart 0 ∷ rest)) (ahead self.new rest) }
+        ensures reads { (rest : List Need) →
+            Gives result (λ x v. (record { item = assignment_of x.0; place = x.1 }, v))
+            (ahead self.old (part AssignPart 0 ∷ rest)) (ahead self.new rest) }
         ensures no_longer { length self.new.rest.now ≤ length self.old.rest.now }
     {
         if !self.starts(Terminal::Word) {
@@ -59,7 +61,9 @@ impl<'a> Cursor<'a> {
     }
 
     fn assigns(&mut self, alloc: Global) -> Result<(Assigns, Places), Stop>
-        ensures reads { (rest : List Need) → Gives result (λ x v. (record { items = map assignment_of x.0; places = x.1 }, v)) (ahead self.old (group AssignsGroup 0 ∷ rest)) (ahead self.new rest) }
+        ensures reads { (rest : List Need) →
+            Gives result (λ x v. (record { items = map assignment_of x.0; places = x.1 }, v))
+            (ahead self.old (group AssignsGroup 0 ∷ rest)) (ahead self.new rest) }
         ensures no_longer { length self.new.rest.now ≤ length self.old.rest.now }
     {
         let (first, place) = self.assign(alloc)?;
@@ -78,7 +82,9 @@ impl<'a> Cursor<'a> {
 
     /// Parameters in braces, or none, and the places of their names.
     pub fn parameters(&mut self, alloc: Global) -> Result<(Assigns, Places), Stop>
-        ensures reads { (rest : List Need) → Gives result (λ x v. (record { items = map assignment_of x.0; places = x.1 }, v)) (ahead self.old (part Parameters 0 ∷ rest)) (ahead self.new rest) }
+        ensures reads { (rest : List Need) →
+            Gives result (λ x v. (record { items = map assignment_of x.0; places = x.1 }, v))
+            (ahead self.old (part Parameters 0 ∷ rest)) (ahead self.new rest) }
         ensures no_longer { length self.new.rest.now ≤ length self.old.rest.now }
     {
         if !self.starts(Terminal::OpenBrace) {
@@ -92,7 +98,8 @@ impl<'a> Cursor<'a> {
 
     /// Two sums with a colon between them.
     fn two_sums(&mut self, alloc: Global) -> Result<(Expr, Expr), Stop>
-        ensures reads { (rest : List Need) → Gives result (λ x v. (expression_of x.0, (expression_of x.1, v))) (ahead self.old (own_sum (mark Terminal.Colon ∷ own_sum rest))) (ahead self.new rest) }
+        ensures reads { (rest : List Need) → Gives result (λ x v. (expression_of x.0, (expression_of x.1, v)))
+            (ahead self.old (own_sum (mark Terminal.Colon ∷ own_sum rest))) (ahead self.new rest) }
         ensures no_longer { length self.new.rest.now ≤ length self.old.rest.now }
     {
         let min = self.own_sum(alloc)?;
@@ -104,7 +111,8 @@ impl<'a> Cursor<'a> {
     /// Two sums with a colon between them, and what closes them.
     fn sums(&mut self, alloc: Global, close: Terminal) -> Result<(Expr, Expr), Stop>
         requires { close ≢ EndOfText }
-        ensures reads { (rest : List Need) → Gives result (λ x v. (expression_of x.0, (expression_of x.1, v))) (ahead self.old (own_sum (mark Terminal.Colon ∷ own_sum (mark close ∷ rest)))) (ahead self.new rest) }
+        ensures reads { (rest : List Need) → Gives result (λ x v. (expression_of x.0, (expression_of x.1, v)))
+            (ahead self.old (own_sum (mark Terminal.Colon ∷ own_sum (mark close ∷ rest)))) (ahead self.new rest) }
         ensures no_longer { length self.new.rest.now ≤ length self.old.rest.now }
     {
         let both = self.two_sums(alloc)?;
@@ -114,7 +122,8 @@ impl<'a> Cursor<'a> {
 
     /// A comma and the delay of falls, or nothing.
     fn fall(&mut self, alloc: Global) -> Result<Option<(Expr, Expr)>, Stop>
-        ensures reads { (rest : List Need) → Gives result (λ x v. (option_map both_of x, v)) (ahead self.old (part FallPart 0 ∷ rest)) (ahead self.new rest) }
+        ensures reads { (rest : List Need) → Gives result (λ x v.
+            (option_map both_of x, v)) (ahead self.old (part FallPart 0 ∷ rest)) (ahead self.new rest) }
         ensures no_longer { length self.new.rest.now ≤ length self.old.rest.now }
     {
         if !self.starts(Terminal::Comma) {
@@ -127,7 +136,9 @@ impl<'a> Cursor<'a> {
 
     /// The delay of a use in brackets, with that of falls where two are written, or nothing.
     fn delays(&mut self, alloc: Global) -> Result<Delays, Stop>
-        ensures reads { (rest : List Need) → Gives result (λ x v. (record { delay = option_map both_of x.delay; fall = option_map both_of x.fall }, v)) (ahead self.old (part DelayPart 0 ∷ rest)) (ahead self.new rest) }
+        ensures reads { (rest : List Need) →
+            Gives result (λ x v. (record { delay = option_map both_of x.delay; fall = option_map both_of x.fall }, v))
+            (ahead self.old (part DelayPart 0 ∷ rest)) (ahead self.new rest) }
         ensures no_longer { length self.new.rest.now ≤ length self.old.rest.now }
     {
         if !self.starts(Terminal::OpenBracket) {
@@ -148,7 +159,11 @@ impl<'a> Cursor<'a> {
 
     /// The pins of a use, inputs before outputs, and the semicolon after them.
     fn pins(&mut self, alloc: Global) -> Result<(Conns, Conns), Stop>
-        ensures reads { (rest : List Need) → Gives result (λ x v. (map connection_of x.0, (map connection_of x.1, v))) (ahead self.old (mark Terminal.OpenParenthesis ∷ group ConnsGroup 0 ∷ mark Terminal.CloseParenthesis ∷ part Outputs 0 ∷ mark Terminal.Semicolon ∷ rest)) (ahead self.new rest) }
+        ensures reads { (rest : List Need) →
+            Gives result (λ x v.
+            (map connection_of x.0, (map connection_of x.1, v)))
+            (ahead self.old (mark Terminal.OpenParenthesis ∷ group ConnsGroup 0 ∷
+            mark Terminal.CloseParenthesis ∷ part Outputs 0 ∷ mark Terminal.Semicolon ∷ rest)) (ahead self.new rest) }
         ensures no_longer { length self.new.rest.now ≤ length self.old.rest.now }
     {
         self.mark(Terminal::OpenParenthesis)?;
@@ -177,7 +192,8 @@ impl<'a> Cursor<'a> {
 
     fn use_statement(&mut self, alloc: Global) -> Result<UseStmt, Stop>
         requires { first_terminal (tokens_at self.old) ≡ Terminal.Word }
-        ensures reads { (n : ℕ) (rest : List Need) → Gives result (λ x v. (tree.Use (use_of x), v)) (ahead self.old (part StatementPart n ∷ rest)) (ahead self.new rest) }
+        ensures reads { (n : ℕ) (rest : List Need) → Gives result (λ x v.
+            (tree.Use (use_of x), v)) (ahead self.old (part StatementPart n ∷ rest)) (ahead self.new rest) }
         ensures shorter { OnOk result (length self.new.rest.now < length self.old.rest.now) }
         ensures no_longer { length self.new.rest.now ≤ length self.old.rest.now }
     {
@@ -200,7 +216,8 @@ impl<'a> Cursor<'a> {
 
     fn wire_statement(&mut self, alloc: Global) -> Result<WireStmt, Stop>
         requires { first_terminal (tokens_at self.old) ≡ Terminal.Wire }
-        ensures reads { (n : ℕ) (rest : List Need) → Gives result (λ x v. (tree.Wire (wire_of x), v)) (ahead self.old (part StatementPart n ∷ rest)) (ahead self.new rest) }
+        ensures reads { (n : ℕ) (rest : List Need) → Gives result (λ x v.
+            (tree.Wire (wire_of x), v)) (ahead self.old (part StatementPart n ∷ rest)) (ahead self.new rest) }
         ensures shorter { OnOk result (length self.new.rest.now < length self.old.rest.now) }
         ensures no_longer { length self.new.rest.now ≤ length self.old.rest.now }
     {
@@ -219,7 +236,8 @@ impl<'a> Cursor<'a> {
 
     /// The condition of an IF, and the word THEN after it.
     fn condition(&mut self, alloc: Global) -> Result<Expr, Stop>
-        ensures reads { (rest : List Need) → Gives result (λ x v. (expression_of x, v)) (ahead self.old (fresh ∷ group Whole 0 ∷ mark Terminal.Then ∷ rest)) (ahead self.new rest) }
+        ensures reads { (rest : List Need) → Gives result (λ x v. (expression_of x, v))
+            (ahead self.old (fresh ∷ group Whole 0 ∷ mark Terminal.Then ∷ rest)) (ahead self.new rest) }
         ensures no_longer { length self.new.rest.now ≤ length self.old.rest.now }
     {
         let test = self.own_expression(alloc)?;
@@ -229,7 +247,8 @@ impl<'a> Cursor<'a> {
 
     /// The word END, and the semicolon after it.
     fn end(&mut self) -> Result<(), Stop>
-        ensures reads { (rest : List Need) → Gives result (λ _ v. v) (ahead self.old (mark Terminal.End ∷ mark Terminal.Semicolon ∷ rest)) (ahead self.new rest) }
+        ensures reads { (rest : List Need) → Gives result (λ _ v.
+            v) (ahead self.old (mark Terminal.End ∷ mark Terminal.Semicolon ∷ rest)) (ahead self.new rest) }
         ensures no_longer { length self.new.rest.now ≤ length self.old.rest.now }
     {
         self.mark(Terminal::End)?;
@@ -240,7 +259,8 @@ impl<'a> Cursor<'a> {
     #[cycle(statement)]
     fn if_statement(&mut self, alloc: Global, depth: usize) -> Result<Stmt, Stop>
         requires { first_terminal (tokens_at self.old) ≡ Terminal.If }
-        ensures reads { (rest : List Need) → Gives result (λ x v. (statement_of x, v)) (ahead self.old (part StatementPart depth ∷ rest)) (ahead self.new rest) }
+        ensures reads { (rest : List Need) → Gives result (λ x v.
+            (statement_of x, v)) (ahead self.old (part StatementPart depth ∷ rest)) (ahead self.new rest) }
         ensures shorter { OnOk result (length self.new.rest.now < length self.old.rest.now) }
         ensures no_longer { length self.new.rest.now ≤ length self.old.rest.now }
     {
@@ -260,7 +280,8 @@ impl<'a> Cursor<'a> {
 
     #[cycle(statement)]
     fn statement(&mut self, alloc: Global, depth: usize) -> Result<Stmt, Stop>
-        ensures reads { (rest : List Need) → Gives result (λ x v. (statement_of x, v)) (ahead self.old (part StatementPart depth ∷ rest)) (ahead self.new rest) }
+        ensures reads { (rest : List Need) → Gives result (λ x v.
+            (statement_of x, v)) (ahead self.old (part StatementPart depth ∷ rest)) (ahead self.new rest) }
         ensures shorter { OnOk result (length self.new.rest.now < length self.old.rest.now) }
         ensures no_longer { length self.new.rest.now ≤ length self.old.rest.now }
     {
@@ -290,7 +311,8 @@ impl<'a> Cursor<'a> {
 
     /// The statements of a macro or of a drawing, from the semicolon in front of them to the END after them.
     pub fn body(&mut self, alloc: Global) -> Result<Stmts, Stop>
-        ensures reads { (rest : List Need) → Gives result (λ x v. (statements_of x.items, v)) (ahead self.old (body rest)) (ahead self.new rest) }
+        ensures reads { (rest : List Need) →
+            Gives result (λ x v. (statements_of x.items, v)) (ahead self.old (body rest)) (ahead self.new rest) }
         ensures no_longer { length self.new.rest.now ≤ length self.old.rest.now }
     {
         self.mark(Terminal::Semicolon)?;
@@ -302,7 +324,8 @@ impl<'a> Cursor<'a> {
     /// Statements, as many as stand here.
     #[cycle(statement)]
     fn statements(&mut self, alloc: Global, depth: usize) -> Result<Stmts, Stop>
-        ensures reads { (rest : List Need) → Gives result (λ x v. (statements_of x.items, v)) (ahead self.old (group StatementsGroup depth ∷ rest)) (ahead self.new rest) }
+        ensures reads { (rest : List Need) → Gives result (λ x v.
+            (statements_of x.items, v)) (ahead self.old (group StatementsGroup depth ∷ rest)) (ahead self.new rest) }
         ensures no_longer { length self.new.rest.now ≤ length self.old.rest.now }
     {
         let mut all = Stmts::new(alloc);
@@ -315,7 +338,8 @@ impl<'a> Cursor<'a> {
 
     #[cycle(statement)]
     fn otherwise(&mut self, alloc: Global, depth: usize) -> Result<Option<Stmts>, Stop>
-        ensures reads { (rest : List Need) → Gives result (λ x v. (else_of x, v)) (ahead self.old (part OtherwisePart depth ∷ rest)) (ahead self.new rest) }
+        ensures reads { (rest : List Need) → Gives result (λ x v.
+            (else_of x, v)) (ahead self.old (part OtherwisePart depth ∷ rest)) (ahead self.new rest) }
         ensures no_longer { length self.new.rest.now ≤ length self.old.rest.now }
     {
         if !self.starts(Terminal::Else) {

@@ -84,7 +84,14 @@ named base = Named (plain base) None
 abbrev bits : Expression → Option Expression → Option Range
 bits first last = Some (record { first = first; last = last })
 
-terms_and_hold : connection_text (record { terms = term true (named (codes "A")) ∷ term false Zero ∷ term true One ∷ term false (Named (record { base = codes "CK"; global = true; spec = Unasserted }) (bits (num 0) (Some (Binary Sub a (num 1))))) ∷ []; hold = true; place = here }) ≡ codes "-\"A\" & ZERO & -ONE & \"/CK\"<0:A - 1> !H"
+terms_and_hold : connection_text
+    (record {
+      terms = term true (named (codes "A")) ∷ term false Zero ∷ term true One ∷ term false
+          (Named (record { base = codes "CK"; global = true; spec = Unasserted }) (bits (num 0) (Some (Binary Sub a (num 1))))) ∷ [];
+      hold =
+          true;
+      place = here;
+    }) ≡ codes "-\"A\" & ZERO & -ONE & \"/CK\"<0:A - 1> !H"
 unfolding digits condition_text
 terms_and_hold = refl
 
@@ -139,7 +146,9 @@ wire : wire_text (record { name = plain (codes "D"); range = bits (num 0) (Some 
 unfolding digits condition_text wire_text
 wire = refl
 
-choices : statement_lines (codes "  ") (If (Binary Eq a (num 1)) (cons (If b nil no_else here) nil) (else_ (cons (Use (record checker { params = [] })) nil)) here) ≡ codes "  IF A = 1 THEN\n    IF B THEN\n    END;\n  ELSE\n    c : CHK (\"CK\", \"D\");\n  END;\n"
+choices : statement_lines (codes "  ")
+    (If (Binary Eq a (num 1)) (cons (If b nil no_else here) nil) (else_ (cons (Use (record checker { params = [] })) nil)) here)
+    ≡ codes "  IF A = 1 THEN\n    IF B THEN\n    END;\n  ELSE\n    c : CHK (\"CK\", \"D\");\n  END;\n"
 unfolding digits condition_text bracketed bracketed_if_some use_head use_text statement_lines
 choices = refl
 
@@ -170,14 +179,42 @@ falls_alone = tt
 
 -- ---- drawings
 
-a_macro : macro_lines (record { name = codes "M"; params = record { name = codes "A"; value = num 8 } ∷ []; ins = record { base = codes "D"; range = bits (num 0) (Some a) } ∷ []; outs = record { base = codes "Q"; range = None } ∷ []; body = nil; place = here }) ≡ codes "MACRO M {A=8} (\"D\"<0:A>) -> (\"Q\");\nEND;\n"
+a_macro : macro_lines (record {
+  name = codes "M";
+  params = record { name = codes "A"; value = num 8 } ∷ [];
+  ins =
+      record { base = codes "D"; range = bits (num 0) (Some a) } ∷ [];
+  outs =
+      record { base = codes "Q"; range = None } ∷ [];
+  body = nil;
+  place = here;
+}) ≡ codes "MACRO M {A=8} (\"D\"<0:A>) -> (\"Q\");\nEND;\n"
 unfolding digits condition_text bracketed bracketed_if_some macro_head macro_lines body_lines statements_lines
 a_macro = refl
 
-a_case : case_lines (record { entries = record { name = plain (codes "A"); bit = 0; value = 0; place = here } ∷ record { name = plain (codes "B"); bit = 1; value = 1; place = here } ∷ []; place = here }) ≡ codes "CASE \"A\"<0>=0, \"B\"<1>=1;\n"
+a_case : case_lines (record {
+  entries = record { name = plain (codes "A"); bit = 0; value = 0; place = here } ∷ record {
+    name =
+        plain (codes "B");
+    bit = 1;
+    value = 1;
+    place = here;
+  } ∷ [];
+  place = here;
+}) ≡ codes "CASE \"A\"<0>=0, \"B\"<1>=1;\n"
 unfolding digits
 a_case = refl
 
-whole : canonical (record { version = 1; header = record { units = 8; ticks = 50; wire = record { min = 0; max = 0 }; pskew = (0, 0); cskew = (0, 0) }; macros = []; name = codes "T"; body = cons (Use buffer) nil; cases = [] }) ≡ codes "SCALD 1;\nCLOCK 8 x 50;\nWIRE 0:0;\nPSKEW 0:0;\nCSKEW 0:0;\nDRAWING T;\n  b1 : BUF [0:0] (-\"A\") -> (\"B\");\nEND;\n"
+whole : canonical (record {
+  version = 1;
+  header =
+      record { units = 8; ticks = 50; wire = record { min = 0; max = 0 }; pskew = (0, 0); cskew = (0, 0) };
+  macros = [];
+  name = codes "T";
+  body =
+      cons (Use buffer) nil;
+  cases =
+      [];
+}) ≡ codes "SCALD 1;\nCLOCK 8 x 50;\nWIRE 0:0;\nPSKEW 0:0;\nCSKEW 0:0;\nDRAWING T;\n  b1 : BUF [0:0] (-\"A\") -> (\"B\");\nEND;\n"
 unfolding digits condition_text bracketed bracketed_if_some use_head use_text statement_lines statements_lines else_lines header_lines body_lines
 whole = refl

@@ -13,7 +13,8 @@ pub bracketed_map : {A B : Type 0} (before behind : List ℕ) (f : B → List �
 unfolding bracketed
 bracketed_map before behind f v xs = ap (λ t. before ++ t ++ behind) (join_by_map f v (codes ", ") xs)
 
-pub bracketed_if_some_map : {A B : Type 0} (before behind : List ℕ) (f : B → List ℕ) (v : A → B) (xs : List A) → bracketed_if_some before behind f (map v xs) ≡ bracketed_if_some before behind (λ x. f (v x)) xs
+pub bracketed_if_some_map : {A B : Type 0} (before behind : List ℕ) (f : B → List ℕ) (v : A → B) (xs : List A) →
+    bracketed_if_some before behind f (map v xs) ≡ bracketed_if_some before behind (λ x. f (v x)) xs
 unfolding bracketed_if_some
 bracketed_if_some_map before behind f v [] = refl
 bracketed_if_some_map before behind f v (x ∷ xs) = bracketed_map before behind f v (x ∷ xs)

@@ -20,7 +20,13 @@ view_use u = ap statement_of (sym (rolls-Use u)) ∙ fold-roll-Stmt Statement St
 pub view_wire : (w : WireStmt) → statement_of (stmt.Wire w) ≡ Wire (wire_of w)
 view_wire w = ap statement_of (sym (rolls-Wire w)) ∙ fold-roll-Stmt Statement Statement statement_layer if_layer (layer.Wire w)
 
-pub view_if_parts : (test : Expr) (behind_then : Vec Stmt) (behind_else : Option (Vec Stmt)) (place : Place) → if_of (record { test = test; yes = behind_then; no = behind_else; place = place }) ≡ If (expression_of test) (statements_of behind_then.items) (else_of behind_else) place
+pub view_if_parts : (test : Expr) (behind_then : Vec Stmt) (behind_else : Option (Vec Stmt)) (place : Place) → if_of (record {
+  test = test;
+  yes =
+      behind_then;
+  no = behind_else;
+  place = place;
+}) ≡ If (expression_of test) (statements_of behind_then.items) (else_of behind_else) place
 view_if_parts test ss None place = fold-roll-IfStmt Statement Statement statement_layer if_layer (record { test = test; yes = ss; no = None; place = place })
 view_if_parts test ss (Some v) place = fold-roll-IfStmt Statement Statement statement_layer if_layer (record { test = test; yes = ss; no = Some v; place = place })
 

@@ -30,7 +30,8 @@ fn add_pair(
     between: &[u8],
     second: u16,
 ) -> Result<(), NoMemory>
-    ensures { OnOk result (out.new ≡ out.old ++ line [] (before.now ++ decimal first ++ between.now ++ decimal second ++ codes ";")) }
+    ensures { OnOk result
+        (out.new ≡ out.old ++ line [] (before.now ++ decimal first ++ between.now ++ decimal second ++ codes ";")) }
 {
     add_number(out, before, u32::from(first))?;
     add_number(out, between, u32::from(second))?;

@@ -50,7 +50,8 @@ fn add_delay(
     delay: &Option<(Expr, Expr)>,
     fall: &Option<(Expr, Expr)>,
 ) -> Result<(), NoMemory>
-    ensures { OnOk result (out.new ≡ out.old ++ delay_text (option_map both_of delay.now) (option_map both_of fall.now)) }
+    ensures { OnOk result
+        (out.new ≡ out.old ++ delay_text (option_map both_of delay.now) (option_map both_of fall.now)) }
 {
     let Some(delay) = delay else {
         return Ok(());
@@ -142,7 +143,8 @@ fn add_wire_line(
 
 /// Puts the first line of an IF at the end.
 fn add_if_line(out: &mut Bytes, margin: &[u8], test: &Expr) -> Result<(), NoMemory>
-    ensures { OnOk result (out.new ≡ out.old ++ line margin.now (codes "IF " ++ condition_text (expression_of test.now) ++ codes " THEN")) }
+    ensures { OnOk result (out.new ≡ out.old ++ line margin.now
+        (codes "IF " ++ condition_text (expression_of test.now) ++ codes " THEN")) }
 {
     out.extend(margin)?;
     out.extend(b"IF ")?;

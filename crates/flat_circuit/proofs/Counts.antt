@@ -41,7 +41,8 @@ length-counts (j ∷ js) =
 pub length-few : (js : List Instance) → AreFew js → length js ≤ 131072
 length-few js h = let a = h.of_outputs in let b = h.of_checkers in omega (arith, length-counts js)
 
-pub counts-push : (js : List Instance) (j : Instance) (o k p : ℕ) → AreCounts js o k p → AreCounts (js ++ j ∷ []) (o + of_bool (has_output j.kind)) (k + of_bool (not (has_output j.kind))) (p + length j.pins)
+pub counts-push : (js : List Instance) (j : Instance) (o k p : ℕ) → AreCounts js o k p →
+    AreCounts (js ++ j ∷ []) (o + of_bool (has_output j.kind)) (k + of_bool (not (has_output j.kind))) (p + length j.pins)
 counts-push js j o k p h =
     let a = h.outputs_are in let b = h.checkers_are in let d = h.pins_are in
     record {
@@ -62,7 +63,8 @@ few-alike n c h = step (nat_le most_bits n) refl h where
 
 pub few-push : (js : List Instance) (j : Instance) → AreFew js → is_one_too_many js j ≡ false → AreFew (js ++ j ∷ [])
 few-push js j h r = step (has_output j.kind) refl r where
-  step : (b : Bool) → has_output j.kind ≡ b → (cond b (nat_le most_bits (outputs js)) (nat_le most_bits (checkers js)) || nat_lt most_pins (all_pins js + length j.pins)) ≡ false → AreFew (js ++ j ∷ [])
+  step : (b : Bool) → has_output j.kind ≡ b → (cond b (nat_le most_bits (outputs js)) (nat_le most_bits (checkers js))
+      || nat_lt most_pins (all_pins js + length j.pins)) ≡ false → AreFew (js ++ j ∷ [])
   step true e q =
       let o = count-push (λ (x : Instance). has_output x.kind) js j in
       let k = count-push (λ (x : Instance). not (has_output x.kind)) js j in
@@ -104,7 +106,8 @@ fits-more h n m j l f = record { pins = f.pins; has_out = f.has_out; lim = f.lim
 
 -- ---- what holds of a builder goes on
 
-pub built-instance : (h : Header) (t : Nets) (given : List Asserted) (js : List Instance) (j : Instance) → IsBuilt (built h t given js) → InstanceFits h (length t.names) j → is_one_too_many js j ≡ false → IsBuilt (built h t given (js ++ j ∷ []))
+pub built-instance : (h : Header) (t : Nets) (given : List Asserted) (js : List Instance) (j : Instance) →
+    IsBuilt (built h t given js) → InstanceFits h (length t.names) j → is_one_too_many js j ≡ false → IsBuilt (built h t given (js ++ j ∷ []))
 built-instance h t given js j b f r = record {
   few_nets = b.few_nets;
   few = few-push js j b.few r;
@@ -115,7 +118,9 @@ built-instance h t given js j b f r = record {
   each = All-push (InstanceFits h (length t.names)) js j b.each f;
 }
 
-pub built-net : (h : Header) (t t' : Nets) (given : List Asserted) (js : List Instance) (name : Name) (w : Bounds) → IsBuilt (built h t given js) → length t.names < most_bits → has_name t.names name ≡ false → t'.names ≡ t.names ++ name ∷ [] → t'.wires ≡ t.wires ++ w ∷ [] → IsBuilt (built h t' given js)
+pub built-net : (h : Header) (t t' : Nets) (given : List Asserted) (js : List Instance) (name : Name) (w : Bounds) → IsBuilt (built h t given js) →
+    length t.names < most_bits → has_name t.names name ≡ false →
+    t'.names ≡ t.names ++ name ∷ [] → t'.wires ≡ t.wires ++ w ∷ [] → IsBuilt (built h t' given js)
 built-net h t t' given js name w b l n en ew =
     let a : length t'.names ≡ length t.names + 1 = ap length en ∙ length_push t.names name in
     let d : length t'.wires ≡ length t.wires + 1 = ap length ew ∙ length_push t.wires w in
@@ -130,7 +135,8 @@ built-net h t t' given js name w b l n en ew =
       each = All-weaker (InstanceFits h (length t.names)) (InstanceFits h (length t'.names)) (λ j f. fits-more h (length t.names) (length t'.names) j (omega arith) f) js b.each;
     }
 
-pub built-asserted : (h : Header) (t : Nets) (given : List Asserted) (js : List Instance) (text : List ℕ) (spec : AssertSpec) → IsBuilt (built h t given js) → Fits h spec → IsBuilt (built h t (with_asserted given text spec) js)
+pub built-asserted : (h : Header) (t : Nets) (given : List Asserted) (js : List Instance) (text : List ℕ) (spec : AssertSpec) →
+    IsBuilt (built h t given js) → Fits h spec → IsBuilt (built h t (with_asserted given text spec) js)
 built-asserted h t given js text spec b f = step (is_asserted spec) refl (has_text given text) where
   step : (a : Bool) → is_asserted spec ≡ a → (k : Bool) → IsBuilt (built h t (cond (a && not k) (given ++ record { text = text; spec = spec } ∷ []) given) js)
   step true e false = record {

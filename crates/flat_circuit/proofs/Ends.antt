@@ -21,14 +21,17 @@ use Rattle.flat_circuit.proofs.Loops.{none_looped_by}
 
 -- ---- the nets, one after another
 
-map-step : {B : Type 0} (f : Net → B) (nets : List Net) (n : Net) (xs : List B) (i : ℕ) (d : B) → i < length xs → map f nets ≡ take i xs → f n ≡ get_or xs i d → map f (nets ++ n ∷ []) ≡ take (i + 1) xs
+map-step : {B : Type 0} (f : Net → B) (nets : List Net) (n : Net) (xs : List B) (i : ℕ) (d : B) →
+    i < length xs → map f nets ≡ take i xs → f n ≡ get_or xs i d → map f (nets ++ n ∷ []) ≡ take (i + 1) xs
 map-step {B} f nets n xs i d l e g = map_push f nets n ∙ ap (λ (x : List B). x ++ f n ∷ []) e ∙ ap (λ (x : B). take i xs ++ x ∷ []) g ∙ sym (take_more xs i d l)
 
 pub nets-step : (names : List Name) (ws : List Bounds) (given : List Asserted) (ds : List (Option ℕ)) (nets : List Net) (n : Net) (i : ℕ) (d : Option ℕ) →
     i < length names → length ws ≡ length names → length ds ≡ length names → IsNet names ws given (get_or ds i d) i n →
-    AreNets (take i names) (take i ws) (take i (specs_of given names)) (take i ds) nets → AreNets (take (i + 1) names) (take (i + 1) ws) (take (i + 1) (specs_of given names)) (take (i + 1) ds) (nets ++ n ∷ [])
+    AreNets (take i names) (take i ws) (take i (specs_of given names)) (take i ds) nets →
+    AreNets (take (i + 1) names) (take (i + 1) ws) (take (i + 1) (specs_of given names)) (take (i + 1) ds) (nets ++ n ∷ [])
 nets-step names ws given ds nets n i d l lw ld h a =
-    let s : n.spec ≡ get_or (specs_of given names) i (spec_of given nameless.text) = h.spec_is ∙ ap (λ (x : Name). spec_of given x.text) h.name_is ∙ sym (get_or-map (λ (x : Name). spec_of given x.text) names i nameless) in
+    let s : n.spec ≡ get_or (specs_of given names) i (spec_of given nameless.text) =
+    h.spec_is ∙ ap (λ (x : Name). spec_of given x.text) h.name_is ∙ sym (get_or-map (λ (x : Name). spec_of given x.text) names i nameless) in
     record {
       names_are = map-step net_name nets n names i nameless l a.names_are h.name_is;
       wires_are = map-step (λ (x : Net). x.wire) nets n ws i (record { min = 0; max = 0 }) (omega arith) a.wires_are h.wire_is;

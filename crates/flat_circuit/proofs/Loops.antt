@@ -74,10 +74,13 @@ record Found (ws : List Bounds) (ds : List (Option ℕ)) (js : List Instance) (p
 later : (ws : List Bounds) (ds : List (Option ℕ)) (js : List Instance) (p : Pin) (ps : List Pin) (d : ℕ) → Found ws ds js ps d → Found ws ds js (p ∷ ps) d
 later ws ds js p ps d f = record { pin = f.pin; has = (suc f.has.0, (let b = f.has.1 in omega arith), f.has.2); behind = f.behind }
 
-quick_has : (ws : List Bounds) (ds : List (Option ℕ)) (js : List Instance) (ps : List Pin) (at d : ℕ) → at < length (quick_list ws ds js ps) → get_or (quick_list ws ds js ps) at 0 ≡ d → Found ws ds js ps d
+quick_has : (ws : List Bounds) (ds : List (Option ℕ)) (js : List Instance) (ps : List Pin) (at d : ℕ) →
+    at < length (quick_list ws ds js ps) → get_or (quick_list ws ds js ps) at 0 ≡ d → Found ws ds js ps d
 quick_has ws ds js [] at d l e = absurd (omega arith)
 quick_has ws ds js (p ∷ ps) at d l e = step (quick_driver ws ds js p.target) at refl l e (λ i m q. quick_has ws ds js ps i d m q) where
-  step : (v : Option ℕ) (at : ℕ) → quick_driver ws ds js p.target ≡ v → at < length (option_to_list v ++ quick_list ws ds js ps) → get_or (option_to_list v ++ quick_list ws ds js ps) at 0 ≡ d → ((i : ℕ) → i < length (quick_list ws ds js ps) → get_or (quick_list ws ds js ps) i 0 ≡ d → Found ws ds js ps d) → Found ws ds js (p ∷ ps) d
+  step : (v : Option ℕ) (at : ℕ) → quick_driver ws ds js p.target ≡ v → at < length (option_to_list v ++ quick_list ws ds js ps) →
+      get_or (option_to_list v ++ quick_list ws ds js ps) at 0 ≡ d →
+      ((i : ℕ) → i < length (quick_list ws ds js ps) → get_or (quick_list ws ds js ps) i 0 ≡ d → Found ws ds js ps d) → Found ws ds js (p ∷ ps) d
   step None at q l e more = later ws ds js p ps d (more at l e)
   step (Some x) zero q l e more = record { pin = p; has = (0, omega arith, refl); behind = q ∙ ap Some e }
   step (Some x) (suc at) q l e more = later ws ds js p ps d (more at (omega arith) e)
@@ -91,7 +94,8 @@ after_option : (v : Option ℕ) (xs : List ℕ) (d : ℕ) → IsAt xs d → IsAt
 after_option None xs d h = h
 after_option (Some x) xs d h = record { at = suc h.at; below = (let b = h.below in omega arith); is = h.is }
 
-quick_gets : (ws : List Bounds) (ds : List (Option ℕ)) (js : List Instance) (ps : List Pin) (pin : Pin) (d k : ℕ) → k < length ps → get_or ps k pin ≡ pin → quick_driver ws ds js pin.target ≡ Some d → IsAt (quick_list ws ds js ps) d
+quick_gets : (ws : List Bounds) (ds : List (Option ℕ)) (js : List Instance) (ps : List Pin) (pin : Pin) (d k : ℕ) →
+    k < length ps → get_or ps k pin ≡ pin → quick_driver ws ds js pin.target ≡ Some d → IsAt (quick_list ws ds js ps) d
 quick_gets ws ds js [] pin d k l e q = absurd (omega arith)
 quick_gets ws ds js (p ∷ ps) pin d zero l e q =
     let z : quick_driver ws ds js p.target ≡ Some d = ap (λ (x : Pin). quick_driver ws ds js x.target) e ∙ q in
@@ -99,7 +103,8 @@ quick_gets ws ds js (p ∷ ps) pin d zero l e q =
 quick_gets ws ds js (p ∷ ps) pin d (suc k) l e q = after_option (quick_driver ws ds js p.target) (quick_list ws ds js ps) d (quick_gets ws ds js ps pin d k (omega arith) e q)
 
 -- a node's pins
-pins_are : (nodes : List Node) (f : ℕ → List ℕ) (a n : ℕ) → map node_feeders nodes ≡ map f (range_with_len a n) → ((j : ℕ) → a + n ≤ j → f j ≡ []) → (j i : ℕ) → a + j ≡ i → search_of.feeders_of nodes j ≡ f i
+pins_are : (nodes : List Node) (f : ℕ → List ℕ) (a n : ℕ) → map node_feeders nodes ≡ map f (range_with_len a n) →
+    ((j : ℕ) → a + n ≤ j → f j ≡ []) → (j i : ℕ) → a + j ≡ i → search_of.feeders_of nodes j ≡ f i
 pins_are [] f a zero e h j i q = sym (h i (omega arith))
 pins_are [] f a (suc n) e h j i q = absurd (cc)
 pins_are (x ∷ xs) f a zero e h j i q = absurd (cc)
@@ -109,7 +114,8 @@ pins_are (x ∷ xs) f a (suc n) e h (suc j) i q = pins_are xs f (a + 1) n (cc) (
 nothing_out : (js : List Instance) (k : ℕ) → length js ≤ k → out_at js k ≡ None
 nothing_out js k h = rw (get_none js k h) refl
 
-pub node_is : (ws : List Bounds) (ds : List (Option ℕ)) (js : List Instance) (nodes : List Node) → map node_feeders nodes ≡ map (quick_feeders ws ds js) (range_with_len 0 (length js)) → (k : ℕ) → search_of.feeders_of nodes k ≡ quick_feeders ws ds js k
+pub node_is : (ws : List Bounds) (ds : List (Option ℕ)) (js : List Instance) (nodes : List Node) → map node_feeders
+    nodes ≡ map (quick_feeders ws ds js) (range_with_len 0 (length js)) → (k : ℕ) → search_of.feeders_of nodes k ≡ quick_feeders ws ds js k
 node_is ws ds js nodes e k = pins_are nodes (quick_feeders ws ds js) 0 (length js) e (λ j l. rw (nothing_out js j (omega arith)) refl) k k (omega arith)
 
 has_out : (o : Option Target) (xs : List ℕ) (at : ℕ) → at < length (cond (is_some o) xs []) → is_some o ≡ true
@@ -117,7 +123,8 @@ has_out None xs at h = absurd (omega arith)
 has_out (Some t) xs at h = refl
 
 -- the two meanings agree
-feeds_passes : (ws : List Bounds) (ds : List (Option ℕ)) (js : List Instance) (n : ℕ) → DrivenTo js n (length js) ds → (d k : ℕ) → search_of.Feeds (quick_feeders ws ds js) d k → PassesOn (bounds_at ws) js d k
+feeds_passes : (ws : List Bounds) (ds : List (Option ℕ)) (js : List Instance) (n : ℕ) →
+    DrivenTo js n (length js) ds → (d k : ℕ) → search_of.Feeds (quick_feeders ws ds js) d k → PassesOn (bounds_at ws) js d k
 feeds_passes ws ds js n h d k f =
     let o = has_out (out_at js k) (quick_list ws ds js (pins_at js k)) f.at f.below in
     let b : f.at < length (quick_list ws ds js (pins_at js k)) = rw o at f.below in
@@ -126,7 +133,8 @@ feeds_passes ws ds js n h d k f =
     let z = behind_is ws ds js q.pin.target d q.behind in
     record { net = z.net; drives = (h.is z.net d z.driver).1; at_once = z.at_once; wire_at_once = z.wire; has_out = o; pin = q.pin; reads = q.has; on_net = z.on_net }
 
-passes_feeds : (ws : List Bounds) (ds : List (Option ℕ)) (js : List Instance) (n : ℕ) → DrivenTo js n (length js) ds → (d k : ℕ) → PassesOn (bounds_at ws) js d k → search_of.Feeds (quick_feeders ws ds js) d k
+passes_feeds : (ws : List Bounds) (ds : List (Option ℕ)) (js : List Instance) (n : ℕ) →
+    DrivenTo js n (length js) ds → (d k : ℕ) → PassesOn (bounds_at ws) js d k → search_of.Feeds (quick_feeders ws ds js) d k
 passes_feeds ws ds js n h d k p =
     let dr = h.of p.net d (out_below js d p.net p.drives) p.drives in
     let b = behind_to ws ds js p.pin.target d (record { net = p.net; on_net = p.on_net; wire = p.wire_at_once; driver = dr; at_once = p.at_once }) in
@@ -134,14 +142,20 @@ passes_feeds ws ds js n h d k p =
     let o = p.has_out in
     record { at = g.at; below = rw o g.below; is = rw o g.is }
 
-pub loop_is : (ws : List Bounds) (ds : List (Option ℕ)) (js : List Instance) (n : ℕ) (nodes : List Node) → DrivenTo js n (length js) ds → map node_feeders nodes ≡ map (quick_feeders ws ds js) (range_with_len 0 (length js)) → (k : ℕ) → search_of.IsFedByLoop (search_of.feeders_of nodes) k → IsLooped (bounds_at ws) js k
+pub loop_is : (ws : List Bounds) (ds : List (Option ℕ)) (js : List Instance) (n : ℕ) (nodes : List Node) → DrivenTo js n (length js) ds →
+    map node_feeders nodes ≡ map (quick_feeders ws ds js) (range_with_len 0 (length js)) →
+    (k : ℕ) → search_of.IsFedByLoop (search_of.feeders_of nodes) k → IsLooped (bounds_at ws) js k
 loop_is ws ds js n nodes h e k l =
-    let f : (i j : ℕ) → search_of.Feeds (search_of.feeders_of nodes) i j → PassesOn (bounds_at ws) js i j = λ i j g. feeds_passes ws ds js n h i j (record { at = g.at; below = rw (sym (node_is ws ds js nodes e j)) g.below; is = rw (sym (node_is ws ds js nodes e j)) g.is }) in
+    let f : (i j : ℕ) → search_of.Feeds (search_of.feeders_of nodes) i j → PassesOn (bounds_at ws) js i j = λ i j g. feeds_passes ws ds
+    js n h i j (record { at = g.at; below = rw (sym (node_is ws ds js nodes e j)) g.below; is = rw (sym (node_is ws ds js nodes e j)) g.is }) in
     from_loop_map f k l
 
-pub loop_to : (ws : List Bounds) (ds : List (Option ℕ)) (js : List Instance) (n : ℕ) (nodes : List Node) → DrivenTo js n (length js) ds → map node_feeders nodes ≡ map (quick_feeders ws ds js) (range_with_len 0 (length js)) → (k : ℕ) → IsLooped (bounds_at ws) js k → search_of.IsFedByLoop (search_of.feeders_of nodes) k
+pub loop_to : (ws : List Bounds) (ds : List (Option ℕ)) (js : List Instance) (n : ℕ) (nodes : List Node) → DrivenTo js n (length js) ds →
+    map node_feeders nodes ≡ map (quick_feeders ws ds js) (range_with_len 0 (length js)) →
+    (k : ℕ) → IsLooped (bounds_at ws) js k → search_of.IsFedByLoop (search_of.feeders_of nodes) k
 loop_to ws ds js n nodes h e k l =
-    let f : (i j : ℕ) → PassesOn (bounds_at ws) js i j → search_of.Feeds (search_of.feeders_of nodes) i j = λ i j p. let g = passes_feeds ws ds js n h i j p in record { at = g.at; below = rw (node_is ws ds js nodes e j) g.below; is = rw (node_is ws ds js nodes e j) g.is } in
+    let f : (i j : ℕ) → PassesOn (bounds_at ws) js i j → search_of.Feeds (search_of.feeders_of nodes) i j = λ i j p. let g = passes_feeds ws
+    ds js n h i j p in record { at = g.at; below = rw (node_is ws ds js nodes e j) g.below; is = rw (node_is ws ds js nodes e j) g.is } in
     from_loop_map f k l
 
 -- bounds that agree give the same passages
@@ -155,7 +169,8 @@ none_looped_by w w' js e h k l x = h k l (from_loop_map (passes_same w' w js (λ
 nodes_long : (nodes : List Node) (f : ℕ → List ℕ) (n : ℕ) → map node_feeders nodes ≡ map f (range_with_len 0 n) → length nodes ≡ n
 nodes_long nodes f n e = sym (length-map nodes node_feeders) ∙ ap length e ∙ length-map-range_with_len f 0 n
 
-pub nodes_in : (ws : List Bounds) (ds : List (Option ℕ)) (js : List Instance) (n : ℕ) (nodes : List Node) → DrivenTo js n (length js) ds → map node_feeders nodes ≡ map (quick_feeders ws ds js) (range_with_len 0 (length js)) → search_of.AreInRange nodes
+pub nodes_in : (ws : List Bounds) (ds : List (Option ℕ)) (js : List Instance) (n : ℕ) (nodes : List Node) →
+    DrivenTo js n (length js) ds → map node_feeders nodes ≡ map (quick_feeders ws ds js) (range_with_len 0 (length js)) → search_of.AreInRange nodes
 nodes_in ws ds js n nodes h e j =
     let m = nodes_long nodes (quick_feeders ws ds js) (length js) e in
     All-from_get_or (λ i. i < length nodes) (search_of.feeders_of nodes j) 0 (λ i l.
@@ -164,7 +179,9 @@ nodes_in ws ds js n nodes h e j =
     let b = out_below js (get_or (search_of.feeders_of nodes j) i 0) p.net p.drives in
     omega arith)
 
-pub none_looped : (ws : List Bounds) (ds : List (Option ℕ)) (js : List Instance) (n : ℕ) (nodes : List Node) → DrivenTo js n (length js) ds → map node_feeders nodes ≡ map (quick_feeders ws ds js) (range_with_len 0 (length js)) → ((i : ℕ) → i < length nodes → search_of.IsFedByLoop (search_of.feeders_of nodes) i → ⊥) → HoldsOfNone (IsLooped (bounds_at ws) js) js
+pub none_looped : (ws : List Bounds) (ds : List (Option ℕ)) (js : List Instance) (n : ℕ) (nodes : List Node) → DrivenTo js n (length js) ds →
+    map node_feeders nodes ≡ map (quick_feeders ws ds js) (range_with_len 0 (length js)) →
+    ((i : ℕ) → i < length nodes → search_of.IsFedByLoop (search_of.feeders_of nodes) i → ⊥) → HoldsOfNone (IsLooped (bounds_at ws) js) js
 none_looped ws ds js n nodes h e none k l x = let m = nodes_long nodes (quick_feeders ws ds js) (length js) e in none k (omega arith) (loop_to ws ds js n nodes h e k x)
 
 loop_below : (ws : List Bounds) (js : List Instance) (k : ℕ) → IsLooped (bounds_at ws) js k → k < length js
@@ -176,11 +193,15 @@ loop_below ws js k l = reached l.reaches where
   reached (By_one {j = j} r) = outs j r.has_out
   reached (And_then r q) = reached q
 
-pub first_looped : (ws : List Bounds) (ds : List (Option ℕ)) (js : List Instance) (n k : ℕ) (nodes : List Node) (place : Place) → StandsAt (slice_get js k) place → DrivenTo js n (length js) ds → map node_feeders nodes ≡ map (quick_feeders ws ds js) (range_with_len 0 (length js)) → search_of.IsFirstFed (search_of.feeders_of nodes) k → IsFirst (IsLooped (bounds_at ws) js) js place
+pub first_looped : (ws : List Bounds) (ds : List (Option ℕ)) (js : List Instance) (n k : ℕ) (nodes : List Node) (place : Place) →
+    StandsAt (slice_get js k) place → DrivenTo js n (length js) ds → map node_feeders nodes ≡ map (quick_feeders ws ds js)
+    (range_with_len 0 (length js)) → search_of.IsFirstFed (search_of.feeders_of nodes) k → IsFirst (IsLooped (bounds_at ws) js) js place
 first_looped ws ds js n k nodes place s h e f =
     let l = loop_is ws ds js n nodes h e k f.is in
     let b = loop_below ws js k l in
     record { k = k; below = b; is = l; first = λ m t x. f.first m t (loop_to ws ds js n nodes h e m x); stands = s }
 
-pub looped_in : (ws : List Bounds) (ds : List (Option ℕ)) (js : List Instance) (n k : ℕ) (nodes : List Node) → DrivenTo js n (length js) ds → map node_feeders nodes ≡ map (quick_feeders ws ds js) (range_with_len 0 (length js)) → search_of.IsFirstFed (search_of.feeders_of nodes) k → k < length js
+pub looped_in : (ws : List Bounds) (ds : List (Option ℕ)) (js : List Instance) (n k : ℕ) (nodes : List Node) → DrivenTo js n (length js) ds →
+    map node_feeders nodes ≡ map (quick_feeders ws ds js) (range_with_len 0 (length js)) →
+    search_of.IsFirstFed (search_of.feeders_of nodes) k → k < length js
 looped_in ws ds js n k nodes h e f = loop_below ws js k (loop_is ws ds js n nodes h e k f.is)

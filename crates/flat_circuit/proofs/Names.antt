@@ -46,7 +46,11 @@ name_is a b h =
 
 -- each number stands somewhere in the order
 pub order_in : (ns : List Name) (order : List ℕ) (at d : ℕ) → IsNameOrder ns order → at < length order → get_or order at d < length ns
-order_in ns order at d o l = All-get_or (λ i. i < length ns) order at d l (All-permutation (λ i. i < length ns) (range_with_len 0 (length ns)) order o.each (All-from_get_or (λ i. i < length ns) (range_with_len 0 (length ns)) 0 (λ i h. let m = length-range_with_len 0 (length ns) in let b : i < length ns = omega arith in rw (get_or-range_with_len 0 (length ns) i 0 b) (omega arith))))
+order_in ns order at d o l =
+    All-get_or (λ i. i < length ns) order at
+    d l (All-permutation (λ i. i < length ns) (range_with_len 0 (length ns)) order
+    o.each (All-from_get_or (λ i. i < length ns) (range_with_len 0 (length ns)) 0 (λ i h. let m =
+    length-range_with_len 0 (length ns) in let b : i < length ns = omega arith in rw (get_or-range_with_len 0 (length ns) i 0 b) (omega arith))))
 
 pub order_has : (ns : List Name) (order : List ℕ) (i : ℕ) → IsNameOrder ns order → i < length ns → Contains order i
 order_has ns order i o h = Contains-permutation (range_with_len 0 (length ns)) order i o.each (i, rw (length-range_with_len 0 (length ns)) h, get_or-range_with_len 0 (length ns) i i h ∙ omega arith)
@@ -59,7 +63,8 @@ below a zero = inr (omega arith)
 below zero (suc b) = inl (omega arith)
 below (suc a) (suc b) = elim (below a b) as (λ _. (suc a < suc b) ⊎ (suc b ≤ suc a)) [ inl l ↦ inl (omega arith) | inr l ↦ inr (omega arith) ]
 
-pub not_there : (ns : List Name) (order : List ℕ) (want : Name) (at : ℕ) → IsNameOrder ns order → IsPartitionPoint (λ i. name_cmp (name_at ns i) want ≡ Less) (λ i. name_cmp (name_at ns i) want ≡ Greater) order at → (i : ℕ) → i < length ns → name_at ns i ≡ want → ⊥
+pub not_there : (ns : List Name) (order : List ℕ) (want : Name) (at : ℕ) → IsNameOrder ns order → IsPartitionPoint (λ i. name_cmp (name_at ns i) want
+    ≡ Less) (λ i. name_cmp (name_at ns i) want ≡ Greater) order at → (i : ℕ) → i < length ns → name_at ns i ≡ want → ⊥
 not_there ns order want at o p i h e =
     let c = order_has ns order i o h in
     let t : name_cmp (name_at ns i) want ≡ Equal = rw e (tied_itself name_cmp_total want) in

@@ -45,7 +45,8 @@ again kind i k t (p ∷ ps) row = rw (step (listens kind t && is_on i p.target))
 told_is : (kind : Kind) (i k t : ℕ) (ps : List Pin) (row : Row) → All (λ r. r < k) row → row_told kind i k t ps row ≡ cond (any_listens kind i t ps) (row ++ k ∷ []) row
 told_is kind i k t [] row a = refl
 told_is kind i k t (p ∷ ps) row a = step (listens kind t && is_on i p.target) (told_is kind i k (t + 1) ps row a) where
-  step : (b : Bool) → row_told kind i k (t + 1) ps row ≡ cond (any_listens kind i (t + 1) ps) (row ++ k ∷ []) row → row_told kind i k (t + 1) ps (cond b (row_noted row k) row) ≡ cond (b || any_listens kind i (t + 1) ps) (row ++ k ∷ []) row
+  step : (b : Bool) → row_told kind i k (t + 1) ps row ≡ cond (any_listens kind i (t + 1) ps) (row ++ k ∷ []) row →
+      row_told kind i k (t + 1) ps (cond b (row_noted row k) row) ≡ cond (b || any_listens kind i (t + 1) ps) (row ++ k ∷ []) row
   step true more = rw (noted_new row k a) (again kind i k (t + 1) ps row)
   step false more = more
 
@@ -71,11 +72,13 @@ rows_start js n rows e = subst (RowsTo js n 0) (sym e) (record {
   told = λ i h. rw (none_at n i 0) refl;
 })
 
-pub rows_step : (js : List Instance) (n k : ℕ) (rows rows' : List Row) (j : Instance) → k < length js → j ≡ get_or js k j → length rows' ≡ length rows → ((i : ℕ) → row_at rows' i ≡ told_by j i k (row_at rows i)) → RowsTo js n k rows → RowsTo js n (k + 1) rows'
+pub rows_step : (js : List Instance) (n k : ℕ) (rows rows' : List Row) (j : Instance) → k < length js → j ≡ get_or js k j →
+    length rows' ≡ length rows → ((i : ℕ) → row_at rows' i ≡ told_by j i k (row_at rows i)) → RowsTo js n k rows → RowsTo js n (k + 1) rows'
 rows_step js n k rows rows' j l e long told h = record {
   long = long ∙ h.long;
   below = λ i. rw (told i ∙ told_by_is j i k (row_at rows i) (h.below i)) (below_step (reads i j) (row_at rows i) (h.below i));
-  told = λ i b. rw (told i ∙ told_by_is j i k (row_at rows i) (h.below i)) (told_step (reads i j) (row_at rows i) k (numbers_from (reads i) (k + 1) (drop (k + 1) js)) ∙ ap (λ x. row_at rows i ++ numbers_from (reads i) k x) (sym rest) ∙ h.told i b);
+  told = λ i b. rw (told i ∙ told_by_is j i k (row_at rows i) (h.below i)) (told_step (reads i j) (row_at rows i)
+      k (numbers_from (reads i) (k + 1) (drop (k + 1) js)) ∙ ap (λ x. row_at rows i ++ numbers_from (reads i) k x) (sym rest) ∙ h.told i b);
 } where
   below_step : (b : Bool) (row : Row) → All (λ r. r < k) row → All (λ r. r < k + 1) (cond b (row ++ k ∷ []) row)
   below_step true row a = All-push (λ r. r < k + 1) row k (All-weaker (λ r. r < k) (λ r. r < k + 1) (λ x y. omega arith) row a) (omega arith)
@@ -105,8 +108,11 @@ eq_cases : (i x : ℕ) (b : Bool) (p q r : Row) → nat_eq i x ≡ b → (i ≡ 
 eq_cases i x true p q r e f = f (grind (arith, nat_tests))
 eq_cases i x false p q r e f = refl
 
-pub row_written : (rows : List (Vec ℕ)) (i k : ℕ) (v w : Vec ℕ) → i < length rows → v ≡ get_or rows i v → w.items ≡ row_noted v.items k → (x : ℕ) → row_at (rows_of (set rows i w)) x ≡ cond (nat_eq i x) (row_noted (row_at (rows_of rows) x) k) (row_at (rows_of rows) x)
-row_written rows i k v w l e h x = rows_set rows i x w l ∙ eq_cases i x (nat_eq i x) w.items (row_noted (row_at (rows_of rows) x) k) (row_at (rows_of rows) x) refl (λ q. h ∙ ap (λ r. row_noted r k) (sym (rows_get rows i v l e)) ∙ ap (λ y. row_noted (row_at (rows_of rows) y) k) q)
+pub row_written : (rows : List (Vec ℕ)) (i k : ℕ) (v w : Vec ℕ) → i < length rows → v ≡ get_or rows i v → w.items ≡ row_noted v.items k →
+    (x : ℕ) → row_at (rows_of (set rows i w)) x ≡ cond (nat_eq i x) (row_noted (row_at (rows_of rows) x) k) (row_at (rows_of rows) x)
+row_written rows i k v w l e h x =
+    rows_set rows i x w l ∙ eq_cases i x (nat_eq i x) w.items (row_noted (row_at (rows_of rows) x) k) (row_at (rows_of rows) x)
+    refl (λ q. h ∙ ap (λ r. row_noted r k) (sym (rows_get rows i v l e)) ∙ ap (λ y. row_noted (row_at (rows_of rows) y) k) q)
 
 found_from : (f : ℕ → Row) (rows : List (Vec ℕ)) (a n i : ℕ) (r : Vec ℕ) → map (λ (y : Vec ℕ). y.items) rows ≡ map f (range_with_len a n) → slice_get rows i ≡ Some r → (i < n) × (r.items ≡ f (a + i))
 found_from f [] a n i r e h = absurd (cc)
@@ -114,7 +120,8 @@ found_from f (x ∷ xs) a zero i r e h = absurd (cc)
 found_from f (x ∷ xs) a (suc n) zero r e h = let z : x ≡ r = cc in let y : x.items ≡ f a = cc in let q : a + 0 ≡ a = omega arith in (omega arith, rw q (ap (λ (v : Vec ℕ). v.items) (sym z) ∙ y))
 found_from f (x ∷ xs) a (suc n) (suc i) r e h = let p = found_from f xs (a + 1) n i r (cc) h in let b = p.0 in let q : a + 1 + i ≡ a + suc i = omega arith in (omega arith, p.1 ∙ ap f q)
 
-pub row_found : (js : List Instance) (rows : List (Vec ℕ)) (n i : ℕ) (r : Vec ℕ) → map (λ (y : Vec ℕ). y.items) rows ≡ map (readers_of js) (range_with_len 0 n) → slice_get rows i ≡ Some r → (i < n) × (r.items ≡ readers_of js i)
+pub row_found : (js : List Instance) (rows : List (Vec ℕ)) (n i : ℕ) (r : Vec ℕ) →
+    map (λ (y : Vec ℕ). y.items) rows ≡ map (readers_of js) (range_with_len 0 n) → slice_get rows i ≡ Some r → (i < n) × (r.items ≡ readers_of js i)
 row_found js rows n i r e h = let p = found_from (readers_of js) rows 0 n i r e h in let z : 0 + i ≡ i = omega arith in (p.0, p.1 ∙ ap (readers_of js) z)
 
 missing_from : (f : ℕ → Row) (rows : List (Vec ℕ)) (a n i : ℕ) → map (λ (y : Vec ℕ). y.items) rows ≡ map f (range_with_len a n) → slice_get rows i ≡ None → n ≤ i

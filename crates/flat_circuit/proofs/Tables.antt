@@ -110,7 +110,8 @@ number-is es k (Some i) e =
 pub entry-new : (es : List Entry) (k : NetName) (w : Bounds) → has_name (names es) (name_of_key k) ≡ false → insert_entry key_test es k w ≡ es ++ (k, w) ∷ []
 entry-new [] k w h = refl
 entry-new (e ∷ es) k w h = step (key_test k e.0) h (entry-new es k w) where
-  step : (b : Bool) → (b || has_name (names es) (name_of_key k)) ≡ false → (has_name (names es) (name_of_key k) ≡ false → insert_entry key_test es k w ≡ es ++ (k, w) ∷ []) → cond b ((e.0, w) ∷ es) (e ∷ insert_entry key_test es k w) ≡ e ∷ (es ++ (k, w) ∷ [])
+  step : (b : Bool) → (b || has_name (names es) (name_of_key k)) ≡ false → (has_name (names es) (name_of_key k) ≡ false →
+      insert_entry key_test es k w ≡ es ++ (k, w) ∷ []) → cond b ((e.0, w) ∷ es) (e ∷ insert_entry key_test es k w) ≡ e ∷ (es ++ (k, w) ∷ [])
   step true q more = absurd (cc)
   step false q more = ap (λ x. e ∷ x) (more q)
 
@@ -148,14 +149,16 @@ text_test text k = bytes_eq text k.items
 pub spec-some : (es : List Told) (text : List ℕ) (spec : AssertSpec) → Some spec ≡ lookup (text_test text) es → spec_of (asserted_entries es) text ≡ spec
 spec-some [] text spec h = absurd (cc)
 spec-some (e ∷ es) text spec h = step (text_test text e.0) h (spec-some es text spec) where
-  step : (b : Bool) → Some spec ≡ cond b (Some e.1) (lookup (text_test text) es) → (Some spec ≡ lookup (text_test text) es → spec_of (asserted_entries es) text ≡ spec) → cond b e.1 (spec_of (asserted_entries es) text) ≡ spec
+  step : (b : Bool) → Some spec ≡ cond b (Some e.1) (lookup (text_test text) es) →
+      (Some spec ≡ lookup (text_test text) es → spec_of (asserted_entries es) text ≡ spec) → cond b e.1 (spec_of (asserted_entries es) text) ≡ spec
   step true q more = cc
   step false q more = more q
 
 pub spec-none : (es : List Told) (text : List ℕ) → None ≡ lookup (text_test text) es → spec_of (asserted_entries es) text ≡ Unasserted
 spec-none [] text h = refl
 spec-none (e ∷ es) text h = step (text_test text e.0) h (spec-none es text) where
-  step : (b : Bool) → None ≡ cond b (Some e.1) (lookup (text_test text) es) → (None ≡ lookup (text_test text) es → spec_of (asserted_entries es) text ≡ Unasserted) → cond b e.1 (spec_of (asserted_entries es) text) ≡ Unasserted
+  step : (b : Bool) → None ≡ cond b (Some e.1) (lookup (text_test text) es) → (None ≡ lookup (text_test text) es →
+      spec_of (asserted_entries es) text ≡ Unasserted) → cond b e.1 (spec_of (asserted_entries es) text) ≡ Unasserted
   step true q more = absurd (cc)
   step false q more = more q
 
@@ -166,17 +169,21 @@ has-told (e ∷ es) text = step (text_test text e.0) (has-told es text) where
   step true h = refl
   step false h = h
 
-pub told-new : (es : List Told) (k : Vec ℕ) (spec : AssertSpec) → has_text (asserted_entries es) k.items ≡ false → insert_entry (λ (x y : Vec ℕ). bytes_eq x.items y.items) es k spec ≡ es ++ (k, spec) ∷ []
+pub told-new : (es : List Told) (k : Vec ℕ) (spec : AssertSpec) → has_text (asserted_entries es) k.items ≡ false →
+    insert_entry (λ (x y : Vec ℕ). bytes_eq x.items y.items) es k spec ≡ es ++ (k, spec) ∷ []
 told-new [] k spec h = refl
 told-new (e ∷ es) k spec h = step (text_test k.items e.0) h (told-new es k spec) where
-  step : (b : Bool) → (b || has_text (asserted_entries es) k.items) ≡ false → (has_text (asserted_entries es) k.items ≡ false → insert_entry (λ (x y : Vec ℕ). bytes_eq x.items y.items) es k spec ≡ es ++ (k, spec) ∷ []) → cond b ((e.0, spec) ∷ es) (e ∷ insert_entry (λ (x y : Vec ℕ). bytes_eq x.items y.items) es k spec) ≡ e ∷ (es ++ (k, spec) ∷ [])
+  step : (b : Bool) → (b || has_text (asserted_entries es) k.items) ≡ false →
+      (has_text (asserted_entries es) k.items ≡ false → insert_entry (λ (x y : Vec ℕ). bytes_eq x.items y.items) es k spec ≡ es ++ (k, spec) ∷ []) →
+      cond b ((e.0, spec) ∷ es) (e ∷ insert_entry (λ (x y : Vec ℕ). bytes_eq x.items y.items) es k spec) ≡ e ∷ (es ++ (k, spec) ∷ [])
   step true q more = absurd (cc)
   step false q more = ap (λ x. e ∷ x) (more q)
 
 pub asserted-push : (es : List Told) (k : Vec ℕ) (spec : AssertSpec) → asserted_entries (es ++ (k, spec) ∷ []) ≡ asserted_entries es ++ record { text = k.items; spec = spec } ∷ []
 asserted-push es k spec = map_push (λ (p : Told). let a : Asserted = record { text = p.0.items; spec = p.1 } in a) es (k, spec)
 
-pub with-new : (given : List Asserted) (text : List ℕ) (spec : AssertSpec) → is_asserted spec ≡ true → has_text given text ≡ false → with_asserted given text spec ≡ given ++ record { text = text; spec = spec } ∷ []
+pub with-new : (given : List Asserted) (text : List ℕ) (spec : AssertSpec) → is_asserted spec ≡ true →
+    has_text given text ≡ false → with_asserted given text spec ≡ given ++ record { text = text; spec = spec } ∷ []
 with-new given text spec a h = rw (a, h) refl
 
 pub none-differs : (spec before : AssertSpec) → before ≡ Unasserted → Differ spec before → ⊥

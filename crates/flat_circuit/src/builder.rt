@@ -82,8 +82,10 @@ impl Builder {
         place: Place,
     ) -> Result<u32, Stop>
         requires { Fits self.old.header spec.now }
-        ensures given { let name : Name = record { text = path.now ++ base.now; bit = bit } in IfOk result (GivesNet self.old self.new name spec.now) }
-        ensures refused { let name : Name = record { text = path.now ++ base.now; bit = bit } in IfErr result (λ stop. (self.new ≡ self.old) × IsNetRefusal self.old name spec.now place stop) }
+        ensures given { let name : Name = record { text = path.now ++ base.now; bit = bit } in
+            IfOk result (GivesNet self.old self.new name spec.now) }
+        ensures refused { let name : Name = record { text = path.now ++ base.now; bit = bit } in
+            IfErr result (λ stop. (self.new ≡ self.old) × IsNetRefusal self.old name spec.now place stop) }
     {
         let name = NetName {
             text: joined(self.alloc, path, base)?,
@@ -130,7 +132,8 @@ impl Builder {
     /// The number of the net of this name, which a new one gets now.
     fn number(&mut self, name: NetName, place: Place) -> Result<u32, Stop>
         ensures given { IfOk result (GivesNumber self.old self.new (name_of_key name)) }
-        ensures refused { IfErr result (λ stop. (self.new ≡ self.old) × IsNumberRefusal self.old (name_of_key name) place stop) }
+        ensures refused { IfErr result (λ stop.
+            (self.new ≡ self.old) × IsNumberRefusal self.old (name_of_key name) place stop) }
     {
         if let Some(number) = self.nets.number_of(&name) {
             return Ok(number as u32);

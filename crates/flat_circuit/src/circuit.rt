@@ -86,7 +86,8 @@ impl Circuit {
     /// The instances with an output that have a listening pin on the net, each once, in ascending order,
     /// and no checkers; or `None` exactly where there is no such net.
     pub fn readers(&self, net: u32) -> Option<&[u32]>
-        ensures { MatchOption result (length self.now.nets ≤ net) (λ readers. (net < length self.now.nets) × (readers.now ≡ readers_of self.now.instances net)) }
+        ensures { MatchOption result (length self.now.nets ≤ net) (λ readers.
+            (net < length self.now.nets) × (readers.now ≡ readers_of self.now.instances net)) }
     {
         match self.readers.get(net as usize) {
             Some(row) => Some(row.as_slice()),
@@ -104,7 +105,8 @@ impl Circuit {
     /// The number of the net of this whole name, path and base, and this bit, or `None` exactly where
     /// there is none.
     pub fn find(&self, name: &[u8], bit: u16) -> Option<u32>
-        ensures { let wanted : Name = record { text = name.now; bit = bit } in MatchOption result ((i : ℕ) → ¬ (IsNumber (net_names self.now.nets) wanted i)) (IsNumber (net_names self.now.nets) wanted) }
+        ensures { let wanted : Name = record { text = name.now; bit = bit } in MatchOption result
+            ((i : ℕ) → ¬ (IsNumber (net_names self.now.nets) wanted i)) (IsNumber (net_names self.now.nets) wanted) }
     {
         let nets = self.nets.as_slice();
         match self

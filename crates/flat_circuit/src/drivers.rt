@@ -19,7 +19,8 @@ pub(crate) fn drivers(
 ) -> Result<Vec<Option<u32>>, Stop>
     requires within { All (InstanceExists nets) instances.now }
     requires few { length instances.now < 2 ^ 32 }
-    ensures { MatchResult result (λ drivers. DrivenTo instances.now nets (length instances.now) drivers.items) (StopsAtTaken instances.now) }
+    ensures { MatchResult result (λ drivers.
+        DrivenTo instances.now nets (length instances.now) drivers.items) (StopsAtTaken instances.now) }
 {
     let mut drivers = undriven(alloc, nets)?;
     for k in 0..instances.len() {

@@ -55,7 +55,8 @@ fn nets(
     drivers: &[Option<u32>],
 ) -> Result<List<Net>, NoMemory>
     requires { length drivers.now ≡ length table.now.names }
-    ensures { IfOk result (AreNets table.now.names table.now.wires (specs_of assertions.now table.now.names) drivers.now) }
+    ensures { IfOk result
+        (AreNets table.now.names table.now.wires (specs_of assertions.now table.now.names) drivers.now) }
 {
     let mut nets = List::new(alloc);
     for i in 0..table.len() {

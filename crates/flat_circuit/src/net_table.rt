@@ -51,7 +51,9 @@ impl NetTable {
 
     /// The number of a name.
     pub(crate) fn number_of(&self, name: &NetName) -> Option<usize>
-        ensures { MatchOption result (has_name self.now.names (name_of_key name.now) ≡ false) (λ i. (has_name self.now.names (name_of_key name.now) ≡ true) × IsNumber self.now.names (name_of_key name.now) i) }
+        ensures { MatchOption result (has_name self.now.names (name_of_key name.now) ≡ false) (λ i.
+            (has_name self.now.names (name_of_key name.now) ≡ true) × IsNumber self.now.names
+            (name_of_key name.now) i) }
     {
         self.nets.get_index_of(name)
     }

@@ -23,7 +23,8 @@ pub(crate) fn no_loop(
     instances: &[Instance],
 ) -> Result<(), Stop>
     requires { DrivenTo instances.now (length drivers.now) (length instances.now) drivers.now }
-    ensures { MatchResult result (λ _. HoldsOfNone (IsLooped (bounds_at nets.now.wires) instances.now) instances.now) (StopsAtLoop nets.now.wires instances.now) }
+    ensures { MatchResult result (λ _. HoldsOfNone (IsLooped (bounds_at nets.now.wires) instances.now) instances.now)
+        (StopsAtLoop nets.now.wires instances.now) }
 {
     let nodes = nodes(alloc, nets, drivers, instances)?;
     match first_from_loop(alloc, &nodes)? {
@@ -45,7 +46,8 @@ fn nodes(
     drivers: &[Option<u32>],
     instances: &[Instance],
 ) -> Result<Vec<Node>, NoMemory>
-    ensures { IfOk result (λ nodes. map node_feeders nodes.items ≡ map (quick_feeders nets.now.wires drivers.now instances.now) (range_with_len 0 (length instances.now))) }
+    ensures { IfOk result (λ nodes. map node_feeders nodes.items
+        ≡ map (quick_feeders nets.now.wires drivers.now instances.now) (range_with_len 0 (length instances.now))) }
 {
     let mut nodes = Vec::new(alloc);
     for k in 0..instances.len() {

@@ -43,7 +43,8 @@ fn empty_rows(alloc: Global, count: usize) -> Result<Vec<Vec<u32>>, NoMemory>
 fn note_instance(rows: &mut Vec<Vec<u32>>, instance: &Instance, k: u32) -> Result<(), NoMemory>
     requires { InstanceExists (length rows.old.items) instance.now }
     ensures long { OnOk result (length rows.new.items ≡ length rows.old.items) }
-    ensures told { OnOk result ((i : ℕ) → row_at (rows_of rows.new.items) i ≡ told_by instance.now i k (row_at (rows_of rows.old.items) i)) }
+    ensures told { OnOk result
+        ((i : ℕ) → row_at (rows_of rows.new.items) i ≡ told_by instance.now i k (row_at (rows_of rows.old.items) i)) }
 {
     if instance.out.is_some() {
         note_pins(rows, instance.kind, instance.pins.as_slice(), k)
@@ -55,7 +56,8 @@ fn note_instance(rows: &mut Vec<Vec<u32>>, instance: &Instance, k: u32) -> Resul
 fn note_pins(rows: &mut Vec<Vec<u32>>, kind: Kind, pins: &[Pin], k: u32) -> Result<(), NoMemory>
     requires { All (PinExists (length rows.old.items)) pins.now }
     ensures long { OnOk result (length rows.new.items ≡ length rows.old.items) }
-    ensures told { OnOk result ((i : ℕ) → row_at (rows_of rows.new.items) i ≡ row_told kind i k 0 pins.now (row_at (rows_of rows.old.items) i)) }
+    ensures told { OnOk result ((i : ℕ) →
+        row_at (rows_of rows.new.items) i ≡ row_told kind i k 0 pins.now (row_at (rows_of rows.old.items) i)) }
 {
     for t in 0..pins.len() {
         note_pin(rows, kind, t, pins[t].target, k)?;
@@ -73,7 +75,9 @@ fn note_pin(
 ) -> Result<(), NoMemory>
     requires { TargetExists (length rows.old.items) target }
     ensures long { OnOk result (length rows.new.items ≡ length rows.old.items) }
-    ensures told { OnOk result ((i : ℕ) → row_at (rows_of rows.new.items) i ≡ (if listens kind place && is_on i target then row_noted (row_at (rows_of rows.old.items) i) k else row_at (rows_of rows.old.items) i)) }
+    ensures told { OnOk result
+        ((i : ℕ) → row_at (rows_of rows.new.items) i ≡ (if listens kind place && is_on i
+        target then row_noted (row_at (rows_of rows.old.items) i) k else row_at (rows_of rows.old.items) i)) }
 {
     if !kind.listens(place) {
         return Ok(());
@@ -90,7 +94,8 @@ fn note_pin(
 fn note_at(rows: &mut Vec<Vec<u32>>, i: u32, k: u32) -> Result<(), NoMemory>
     requires { i < length rows.old.items }
     ensures long { OnOk result (length rows.new.items ≡ length rows.old.items) }
-    ensures told { OnOk result ((x : ℕ) → row_at (rows_of rows.new.items) x ≡ (if i == x then row_noted (row_at (rows_of rows.old.items) x) k else row_at (rows_of rows.old.items) x)) }
+    ensures told { OnOk result ((x : ℕ) → row_at (rows_of rows.new.items)
+        x ≡ (if i == x then row_noted (row_at (rows_of rows.old.items) x) k else row_at (rows_of rows.old.items) x)) }
 {
     note_row(&mut rows[i as usize], k)?;
     Ok(())

@@ -36,7 +36,9 @@ pub struct Frame {
 /// The first node that can be reached from a loop. Each feeder is looked at once.
 pub(crate) fn first_from_loop(alloc: Global, nodes: &[Node]) -> Result<Option<usize>, NoMemory>
     requires { AreInRange nodes.now }
-    ensures { IfOk result (λ first. MatchOption first ((i : ℕ) → i < length nodes.now → ¬ (IsFedByLoop (feeders_of nodes.now) i)) (IsFirstFed (feeders_of nodes.now))) }
+    ensures { IfOk result (λ first.
+        MatchOption first ((i : ℕ) → i < length nodes.now → ¬ (IsFedByLoop (feeders_of nodes.now) i))
+        (IsFirstFed (feeders_of nodes.now))) }
 {
     let mut marks = vec![in alloc; Mark::Fresh; nodes.len()]?;
     for root in 0..nodes.len() {
@@ -114,7 +116,8 @@ fn is_looped(mark: Mark) -> bool
 
 // The first node that a loop reaches, by the marks.
 fn first_looped(marks: &[Mark]) -> Option<usize>
-    ensures { MatchOption result ((i : ℕ) → i < length marks.now → mark_at marks.now i ≢ Looped) (IsFirstLooped marks.now) }
+    ensures { MatchOption result
+        ((i : ℕ) → i < length marks.now → mark_at marks.now i ≢ Looped) (IsFirstLooped marks.now) }
 {
     for i in 0..marks.len() {
         if is_looped(marks[i]) {

@@ -45,12 +45,16 @@ same_pins names a (j ∷ js) = rw (length-map j.pins (pin_of names)) (same_pins 
 room : (names : List Name) (js : List Instance) (j : Instance) → AreFew js → are_few (map (instance_of names) js ++ instance_of names j ∷ []) ≡ not (is_one_too_many js j)
 room names js j few =
     let gates : count_by is_gate (map (instance_of names) js ++ instance_of names j ∷ []) ≡ outputs js + cond (has_output j.kind) 1 0 =
-    sum_by_push (λ (x : NamedInstance). cond (is_gate x) 1 0) (map (instance_of names) js) (instance_of names j) ∙ ap (λ n. n + cond (has_output j.kind) 1 0) (count_by-map is_gate (instance_of names) js) in
+    sum_by_push (λ (x : NamedInstance). cond (is_gate x) 1 0) (map (instance_of names) js) (instance_of names j)
+    ∙ ap (λ n. n + cond (has_output j.kind) 1 0) (count_by-map is_gate (instance_of names) js) in
     let checks : count_by is_checker (map (instance_of names) js ++ instance_of names j ∷ []) ≡ checkers js + cond (not (has_output j.kind)) 1 0 =
-    sum_by_push (λ (x : NamedInstance). cond (is_checker x) 1 0) (map (instance_of names) js) (instance_of names j) ∙ ap (λ n. n + cond (not (has_output j.kind)) 1 0) (count_by-map is_checker (instance_of names) js) in
+    sum_by_push (λ (x : NamedInstance). cond (is_checker x) 1 0) (map (instance_of names) js) (instance_of names j)
+    ∙ ap (λ n. n + cond (not (has_output j.kind)) 1 0) (count_by-map is_checker (instance_of names) js) in
     let counted : sum_by (λ (x : Instance). length (map (pin_of names) x.pins)) js ≡ all_pins js = same_pins names 0 js in
     let pins : sum_by pin_count (map (instance_of names) js ++ instance_of names j ∷ []) ≡ all_pins js + length j.pins =
-    sum_by_push pin_count (map (instance_of names) js) (instance_of names j) ∙ (ap (λ n. n + length (map (pin_of names) j.pins)) (sum_by-map pin_count (instance_of names) js ∙ counted) ∙ ap (λ n. all_pins js + n) (length-map j.pins (pin_of names))) in
+    sum_by_push pin_count (map (instance_of names) js) (instance_of names j)
+    ∙ (ap (λ n. n + length (map (pin_of names) j.pins))
+    (sum_by-map pin_count (instance_of names) js ∙ counted) ∙ ap (λ n. all_pins js + n) (length-map j.pins (pin_of names))) in
     rw (gates, checks, pins) (few_by (has_output j.kind) (outputs js) (checkers js) (all_pins js) (length j.pins) few.of_outputs few.of_checkers)
 
 -- ---- one bit more
@@ -148,12 +152,14 @@ module _ (start : Expansion) (path : List ℕ) (u : UseStmt) (kind : Kind) (plan
     pub bits_more : (f : Expansion) → k < n → GivesDone e f (adding (instance_of (names_in e) (instance_ref path u kind plan ins outs k)) (state_of e)) → SameNets e f →
         WentOn bit_step start all_bits (drop (k + 1) (range_with_len 0 n)) f
     bits_more f h g same = record {
-      went = went_more bit_step start all_bits (drop k (range_with_len 0 n)) (drop (k + 1) (range_with_len 0 n)) k e (range_next n k h) f (subst (λ (j : NamedInstance). GivesDone e f (adding j (state_of e))) as_named g) w.went;
+      went = went_more bit_step start all_bits (drop k (range_with_len 0 n)) (drop (k + 1) (range_with_len 0 n))
+          k e (range_next n k h) f (subst (λ (j : NamedInstance). GivesDone e f (adding j (state_of e))) as_named g) w.went;
       same = record { names = same.names ∙ w.same.names; header = same.header ∙ w.same.header };
     }
 
     pub bits_failed : (stop : Stop) → k < n → Failed stop (adding (instance_of (names_in e) (instance_ref path u kind plan ins outs k)) (state_of e)) → Failed stop all_bits
-    bits_failed stop h g = went_failed bit_step start all_bits (drop k (range_with_len 0 n)) (drop (k + 1) (range_with_len 0 n)) k e (range_next n k h) stop (subst (λ (j : NamedInstance). Failed stop (adding j (state_of e))) as_named g) w.went
+    bits_failed stop h g = went_failed bit_step start all_bits (drop k (range_with_len 0 n)) (drop (k + 1) (range_with_len 0 n))
+        k e (range_next n k h) stop (subst (λ (j : NamedInstance). Failed stop (adding j (state_of e))) as_named g) w.went
 
     pub bits_all : n ≤ k → GivesDone start e all_bits
     bits_all h = went_all bit_step start all_bits (drop k (range_with_len 0 n)) e (drop_all k (range_with_len 0 n) (rw (length-range_with_len 0 n) h)) w.went

@@ -108,7 +108,8 @@ module _ {X Y : Type 0} (step : X → Judged Y) where
       behind-step a b xs (step x) (λ y. ap (λ so_far. collected step so_far xs) (append_assoc a b (y ∷ [])) ∙ collected-behind a (b ++ y ∷ []) xs)
 
 module _ {X X' Y Y' : Type 0} (g : X → X') (f : Y → Y') (step : X → Judged Y) (step' : X' → Judged Y') (same : (x : X) → step' (g x) ≡ jmap f (step x)) where
-  mapped-step : (j : Judged Y) (j' : Judged Y') (next : Y → Judged (List Y)) (next' : Y' → Judged (List Y')) → j' ≡ jmap f j → ((y : Y) → next' (f y) ≡ jmap (map f) (next y)) → judging j' next' ≡ jmap (map f) (judging j next)
+  mapped-step : (j : Judged Y) (j' : Judged Y') (next : Y → Judged (List Y)) (next' : Y' → Judged (List Y')) →
+      j' ≡ jmap f j → ((y : Y) → next' (f y) ≡ jmap (map f) (next y)) → judging j' next' ≡ jmap (map f) (judging j next)
   mapped-step (Ok y) j' next next' e h = rw e (h y)
   mapped-step (Err kind) j' next next' e h = rw e refl
 
@@ -176,16 +177,23 @@ module _ (names : List Name) where
   output_bound-map : (p : Shape × numbered_joined.Joined) → output_bound (p.0, joined_of names p.1) ≡ jmap (bound_of names) (output_bound_ref p)
   output_bound-map p = bound-map p.0 (output_bits p.0 p.1.bits) (output_bits p.0 (map (bit_of names) p.1.bits)) (output-map (bit_of names) p.0 p.1.bits)
 
-  inputs-map : (shapes : List Shape) (ins : List numbered_joined.Joined) → collected input_bound [] (zip shapes (map (joined_of names) ins)) ≡ jmap (map (bound_of names)) (collected input_bound_ref [] (zip shapes ins))
-  inputs-map shapes ins = rw (zip-map (joined_of names) shapes ins) (collected-map (λ (p : Shape × numbered_joined.Joined). (p.0, joined_of names p.1)) (bound_of names) input_bound_ref input_bound input_bound-map [] (zip shapes ins))
+  inputs-map : (shapes : List Shape) (ins : List numbered_joined.Joined) →
+      collected input_bound [] (zip shapes (map (joined_of names) ins)) ≡ jmap (map (bound_of names)) (collected input_bound_ref [] (zip shapes ins))
+  inputs-map shapes ins = rw (zip-map (joined_of names) shapes ins)
+      (collected-map (λ (p : Shape × numbered_joined.Joined). (p.0, joined_of names p.1))
+      (bound_of names) input_bound_ref input_bound input_bound-map [] (zip shapes ins))
 
-  outputs-map : (shapes : List Shape) (outs : List numbered_joined.Joined) → collected output_bound [] (zip shapes (map (joined_of names) outs)) ≡ jmap (map (bound_of names)) (collected output_bound_ref [] (zip shapes outs))
-  outputs-map shapes outs = rw (zip-map (joined_of names) shapes outs) (collected-map (λ (p : Shape × numbered_joined.Joined). (p.0, joined_of names p.1)) (bound_of names) output_bound_ref output_bound output_bound-map [] (zip shapes outs))
+  outputs-map : (shapes : List Shape) (outs : List numbered_joined.Joined) → collected output_bound
+      [] (zip shapes (map (joined_of names) outs)) ≡ jmap (map (bound_of names)) (collected output_bound_ref [] (zip shapes outs))
+  outputs-map shapes outs =
+      rw (zip-map (joined_of names) shapes outs) (collected-map (λ (p : Shape × numbered_joined.Joined). (p.0, joined_of names p.1))
+      (bound_of names) output_bound_ref output_bound output_bound-map [] (zip shapes outs))
 
   abbrev scope_with : List ℕ → List Binding → List numbered_bound.Bound → Scope
   scope_with path env fs = record { path = path; env = env; formals = map (bound_of names) fs }
 
-  outputs-then : (path : List ℕ) (env : List Binding) (inputs : List numbered_bound.Bound) (j k : Judged (List numbered_bound.Bound)) (j' : Judged (List Bound)) → j' ≡ jmap (map (bound_of names)) j → k ≡ jmap (λ fs. inputs ++ fs) j →
+  outputs-then : (path : List ℕ) (env : List Binding) (inputs : List numbered_bound.Bound) (j k : Judged (List numbered_bound.Bound))
+      (j' : Judged (List Bound)) → j' ≡ jmap (map (bound_of names)) j → k ≡ jmap (λ fs. inputs ++ fs) j →
       judging j' (λ outputs. Ok (record { path = path; env = env; formals = map (bound_of names) inputs ++ outputs })) ≡ jmap (scope_with path env) k
   outputs-then path env inputs (Ok fs) k j' e q = rw (e, q) (rw (map-append (bound_of names) inputs fs) refl)
   outputs-then path env inputs (Err kind) k j' e q = rw (e, q) refl
@@ -195,19 +203,23 @@ module _ (names : List Name) where
       ≡ jmap (scope_with path inside.env) (judging j (λ inputs. collected output_bound_ref inputs (zip inside.outs outs)))
   inputs-then path inside outs (Ok inputs) j' e =
       rw e
-      (outputs-then path inside.env inputs (collected output_bound_ref [] (zip inside.outs outs)) (collected output_bound_ref inputs (zip inside.outs outs)) (collected output_bound [] (zip inside.outs (map (joined_of names) outs)))
+      (outputs-then path inside.env inputs (collected output_bound_ref [] (zip inside.outs outs))
+      (collected output_bound_ref inputs (zip inside.outs outs)) (collected output_bound [] (zip inside.outs (map (joined_of names) outs)))
       (outputs-map inside.outs outs)
       (ap (λ so_far. collected output_bound_ref so_far (zip inside.outs outs)) (sym (append-nil inputs)) ∙ collected-behind output_bound_ref inputs [] (zip inside.outs outs)))
   inputs-then path inside outs (Err kind) j' e = rw e refl
 
-  pub bound_scope-map : (path : List ℕ) (inside : Inside) (w : numbered_wires.Wires) → bound_scope path inside (map (joined_of names) w.ins) (map (joined_of names) w.outs) ≡ jmap (scope_with path inside.env) (bound_formals_ref inside w)
+  pub bound_scope-map : (path : List ℕ) (inside : Inside) (w : numbered_wires.Wires) → bound_scope path
+      inside (map (joined_of names) w.ins) (map (joined_of names) w.outs) ≡ jmap (scope_with path inside.env) (bound_formals_ref inside w)
   unfolding bound_scope
-  bound_scope-map path inside w = inputs-then path inside w.outs (collected input_bound_ref [] (zip inside.ins w.ins)) (collected input_bound [] (zip inside.ins (map (joined_of names) w.ins))) (inputs-map inside.ins w.ins)
+  bound_scope-map path inside w = inputs-then path inside w.outs (collected input_bound_ref [] (zip inside.ins w.ins))
+      (collected input_bound [] (zip inside.ins (map (joined_of names) w.ins))) (inputs-map inside.ins w.ins)
 
 -- ---- the nets of the formals exist
 
 module _ (nets : ℕ) where
-  bound-are : (shape : Shape) (j : Judged (List BitRef)) (f : numbered_bound.Bound) → ((bits : List BitRef) → j ≡ Ok bits → All (BitExists nets) bits) → judging j (λ bits. Ok (bound_ref shape bits)) ≡ Ok f → BoundExists nets f
+  bound-are : (shape : Shape) (j : Judged (List BitRef)) (f : numbered_bound.Bound) →
+      ((bits : List BitRef) → j ≡ Ok bits → All (BitExists nets) bits) → judging j (λ bits. Ok (bound_ref shape bits)) ≡ Ok f → BoundExists nets f
   bound-are shape (Ok bits) f h e = let s : bound_ref shape bits ≡ f = cc in subst (BoundExists nets) s (record { bits = h bits refl })
   bound-are shape (Err kind) f h e = absurd (cc)
 
@@ -220,15 +232,19 @@ module _ (nets : ℕ) where
   output-exists : (p : Shape × numbered_joined.Joined) (f : numbered_bound.Bound) → JoinedExists nets p.1 → output_bound_ref p ≡ Ok f → BoundExists nets f
   output-exists p f h e = bound-are p.0 (output_bits p.0 p.1.bits) f (λ bits q. output-are (BitExists nets) p.0 p.1.bits bits h.bits q) e
 
-  inputs-exist : (inside : Inside) (w : numbered_wires.Wires) (j : Judged (List numbered_bound.Bound)) (fs : List numbered_bound.Bound) → All (JoinedExists nets) w.outs → ((inputs : List numbered_bound.Bound) → j ≡ Ok inputs → All (BoundExists nets) inputs) →
+  inputs-exist : (inside : Inside) (w : numbered_wires.Wires) (j : Judged (List numbered_bound.Bound)) (fs : List numbered_bound.Bound) →
+      All (JoinedExists nets) w.outs → ((inputs : List numbered_bound.Bound) → j ≡ Ok inputs → All (BoundExists nets) inputs) →
       judging j (λ inputs. collected output_bound_ref inputs (zip inside.outs w.outs)) ≡ Ok fs → All (BoundExists nets) fs
-  inputs-exist inside w (Ok inputs) fs o h e = collected-are PairExists (BoundExists nets) output_bound_ref output-exists inputs (zip inside.outs w.outs) fs (h inputs refl) (zip-are (JoinedExists nets) inside.outs w.outs o) e
+  inputs-exist inside w (Ok inputs) fs o h e = collected-are PairExists (BoundExists nets) output_bound_ref
+      output-exists inputs (zip inside.outs w.outs) fs (h inputs refl) (zip-are (JoinedExists nets) inside.outs w.outs o) e
   inputs-exist inside w (Err kind) fs o h e = absurd (cc)
 
-  pub formals-exist : (inside : Inside) (w : numbered_wires.Wires) (fs : List numbered_bound.Bound) → All (JoinedExists nets) w.ins → All (JoinedExists nets) w.outs → bound_formals_ref inside w ≡ Ok fs → All (BoundExists nets) fs
+  pub formals-exist : (inside : Inside) (w : numbered_wires.Wires) (fs : List numbered_bound.Bound) →
+      All (JoinedExists nets) w.ins → All (JoinedExists nets) w.outs → bound_formals_ref inside w ≡ Ok fs → All (BoundExists nets) fs
   formals-exist inside w fs i o e =
       inputs-exist inside w (collected input_bound_ref [] (zip inside.ins w.ins)) fs o
-      (λ inputs q. collected-are PairExists (BoundExists nets) input_bound_ref input-exists [] (zip inside.ins w.ins) inputs (All-nil (BoundExists nets)) (zip-are (JoinedExists nets) inside.ins w.ins i) q) e
+      (λ inputs q. collected-are PairExists (BoundExists nets) input_bound_ref input-exists
+      [] (zip inside.ins w.ins) inputs (All-nil (BoundExists nets)) (zip-are (JoinedExists nets) inside.ins w.ins i) q) e
 
 -- ---- the scope of a body
 
@@ -247,7 +263,8 @@ module _ (m : Macro) (given : List Binding) (s : numbered_scope.Scope) (u : UseS
       unfolding inner_scope
       formals_failed stop h = record { told = λ r is. rw (inside_is, g.is, bound_scope-map (names_in f) (inner_path s.path u.label) inside w, h.told r is, sym (h.here r is)) refl }
 
-      pub scope_given : (fs : List numbered_bound.Bound) → bound_formals_ref inside w ≡ Ok fs → GivesScope e f (record { path = inner_path s.path u.label; env = inside.env; formals = fs }) (inner_scope m given (scope_of (names_in e) s) u (state_of e))
+      pub scope_given : (fs : List numbered_bound.Bound) → bound_formals_ref inside w ≡ Ok fs → GivesScope e f
+          (record { path = inner_path s.path u.label; env = inside.env; formals = fs }) (inner_scope m given (scope_of (names_in e) s) u (state_of e))
       unfolding inner_scope
       scope_given fs h = record {
         is = rw (inside_is, g.is, bound_scope-map (names_in f) (inner_path s.path u.label) inside w, h) refl;

@@ -67,7 +67,8 @@ loopy = record {
 }
 
 too_deep : flat (drawing (loopy ∷ []) (cons (simple (codes "u") (codes "LOOPY") None (alone (codes "A") ∷ []) (alone (codes "Z") ∷ []) 6) nil)) ≡ Fails TooDeep (at 4)
-unfolding flat use_act wire_act body_at primitive_use plan_of all_added given_to inside_of bound_scope inner_scope named_bits formal_term bit_numbered term_bits joined all_joined wires_of loopy drawing simple alone one term signal formal at header
+unfolding flat use_act wire_act body_at primitive_use plan_of all_added given_to inside_of bound_scope inner_scope
+    named_bits formal_term bit_numbered term_bits joined all_joined wires_of loopy drawing simple alone one term signal formal at header
 too_deep = refl
 
 -- a drawing without statements
@@ -117,7 +118,9 @@ clock = Precision (record { spans = (record { lo = 2; hi = 3 }) ∷ []; skew = N
 input : AssertSpec
 input = Stable ((record { lo = 1; hi = 4 }) ∷ [])
 
-macro_checks : flat (drawing (checks ∷ []) (cons (simple (codes "u1") (codes "CHK2") None (one (term (signal (codes "CK") clock) None) ∷ one (term (signal (codes "D") input) (range (number 0) (number 1))) ∷ []) [] 7) nil))
+macro_checks : flat (drawing (checks ∷ [])
+    (cons (simple (codes "u1") (codes "CHK2")
+    None (one (term (signal (codes "CK") clock) None) ∷ one (term (signal (codes "D") input) (range (number 0) (number 1))) ∷ []) [] 7) nil))
     ≡ Gives tt (record {
       header = header;
       statements = 2;
@@ -126,18 +129,26 @@ macro_checks : flat (drawing (checks ∷ []) (cons (simple (codes "u1") (codes "
       wires = header.wire ∷ header.wire ∷ header.wire ∷ [];
       instances = checked_bit 0 ∷ checked_bit 1 ∷ [];
     })
-unfolding flat use_act wire_act body_at primitive_use plan_of all_added given_to inside_of bound_scope inner_scope named_bits formal_term bit_numbered term_bits joined all_joined wires_of checks checked_bit drawing simple alone one term signal formal at header number range clock input
+unfolding flat use_act wire_act body_at primitive_use plan_of all_added given_to inside_of bound_scope inner_scope named_bits formal_term bit_numbered
+    term_bits joined all_joined wires_of checks checked_bit drawing simple alone one term signal formal at header number range clock input
 macro_checks = refl
 
 -- the widths of a buffer's connections differ, and none is 1
-narrow : flat (drawing [] (cons (simple (codes "b1") (codes "BUF") zero_delay (one (term (signal (codes "A") Unasserted) (range (number 0) (number 2))) ∷ []) (one (term (signal (codes "X") Unasserted) (range (number 0) (number 3))) ∷ []) 4) nil)) ≡ Fails Width (at 4)
-unfolding flat use_act wire_act body_at primitive_use plan_of all_added given_to inside_of bound_scope inner_scope named_bits formal_term bit_numbered term_bits joined all_joined wires_of drawing simple alone one term signal at header number range zero_delay
+narrow : flat (drawing []
+    (cons (simple (codes "b1") (codes "BUF") zero_delay (one (term (signal (codes "A") Unasserted) (range (number 0) (number 2))) ∷ [])
+    (one (term (signal (codes "X") Unasserted) (range (number 0) (number 3))) ∷ []) 4) nil)) ≡ Fails Width (at 4)
+unfolding flat use_act wire_act body_at primitive_use plan_of all_added given_to inside_of bound_scope inner_scope
+    named_bits formal_term bit_numbered term_bits joined all_joined wires_of drawing simple alone one term signal at header number range zero_delay
 narrow = refl
 
-divided : flat (drawing [] (cons (simple (codes "b1") (codes "BUF") (Some (number 0, Binary Div (number 1) (number 0))) (alone (codes "A") ∷ []) (alone (codes "X") ∷ []) 4) nil)) ≡ Fails ZeroDivisor (at 4)
-unfolding flat use_act wire_act body_at primitive_use plan_of all_added given_to inside_of bound_scope inner_scope named_bits formal_term bit_numbered term_bits joined all_joined wires_of drawing simple alone one term signal at header number
+divided : flat (drawing []
+    (cons (simple (codes "b1") (codes "BUF") (Some (number 0, Binary Div (number 1) (number 0))) (alone (codes "A") ∷ []) (alone (codes "X") ∷ []) 4)
+    nil)) ≡ Fails ZeroDivisor (at 4)
+unfolding flat use_act wire_act body_at primitive_use plan_of all_added given_to inside_of bound_scope
+    inner_scope named_bits formal_term bit_numbered term_bits joined all_joined wires_of drawing simple alone one term signal at header number
 divided = refl
 
 unknown_kind : flat (drawing [] (cons (simple (codes "b1") (codes "BUFF") zero_delay (alone (codes "A") ∷ []) (alone (codes "X") ∷ []) 4) nil)) ≡ Fails UnknownKind (at 4)
-unfolding flat use_act wire_act body_at primitive_use plan_of all_added given_to inside_of bound_scope inner_scope named_bits formal_term bit_numbered term_bits joined all_joined wires_of drawing simple alone one term signal at header number zero_delay
+unfolding flat use_act wire_act body_at primitive_use plan_of all_added given_to inside_of bound_scope inner_scope
+    named_bits formal_term bit_numbered term_bits joined all_joined wires_of drawing simple alone one term signal at header number zero_delay
 unknown_kind = refl

@@ -111,7 +111,8 @@ spread_exists nets (b ∷ []) k h = All-head (BitExists nets) b [] h
 spread_exists nets (b ∷ c ∷ bits) k h = bit_at_exists nets (b ∷ c ∷ bits) k h
 
 columns_exist : (nets k : ℕ) (ins : List numbered_joined.Joined) → All (JoinedExists nets) ins → All (PinExists nets) (map (column_ref k) ins)
-columns_exist nets k ins h = All-map (PinExists nets) (column_ref k) ins (All-weaker (JoinedExists nets) (λ c. PinExists nets (column_ref k c)) (λ c x. (spread_exists nets c.bits k x.bits).target) ins h)
+columns_exist nets k ins h = All-map (PinExists nets) (column_ref k)
+    ins (All-weaker (JoinedExists nets) (λ c. PinExists nets (column_ref k c)) (λ c x. (spread_exists nets c.bits k x.bits).target) ins h)
 
 refs_exist : (nets : ℕ) (c : numbered_joined.Joined) → All (BitExists nets) c.bits → All (PinExists nets) (all_refs c)
 refs_exist nets c h = All-map (PinExists nets) (pin_ref c.hold) c.bits (All-weaker (BitExists nets) (λ b. PinExists nets (pin_ref c.hold b)) (λ b x. x.target) c.bits h)
@@ -190,7 +191,12 @@ named_wide : (names : List Name) (ins : List numbered_joined.Joined) → All Has
 named_wide names [] h = All-nil Wide
 named_wide names (c ∷ ins) h =
     let w = All-head HasWidth (joined_of names c) (map (joined_of names) ins) h in
-    All-cons Wide c ins (record { some = omega (arith, w.some, length-map c.bits (bit_of names)); few = omega (arith, w.few, length-map c.bits (bit_of names)) }) (named_wide names ins (All-tail HasWidth (joined_of names c) (map (joined_of names) ins) h))
+    All-cons Wide c ins (record {
+      some = omega (arith, w.some, length-map c.bits (bit_of names));
+      few =
+          omega (arith, w.few, length-map c.bits (bit_of names));
+    })
+    (named_wide names ins (All-tail HasWidth (joined_of names c) (map (joined_of names) ins) h))
 
 some_out : (kind : Kind) (outs : List numbered_joined.Joined) (k : ℕ) (b : Bool) → length outs ≡ cond b 1 0 → is_some (target_ref (output_ref outs k)) ≡ b
 some_out kind [] k true h = absurd (omega arith)
@@ -202,7 +208,8 @@ module _ (h : Header) (names : List Name) (kind : Kind) (u : UseStatement) (plan
     (ins_are : AreJoined u.ins (map (joined_of names) ins)) (outs_are : AreJoined u.outs (map (joined_of names) outs)) where
   pub counted : Counted kind ins
   counted =
-      let a = and_parts (nat_le (fewest_inputs kind) (length u.ins) && nat_le (length u.ins) (most_inputs kind)) ((length u.outs == outputs kind) && (nat_le (marks u.ins) (most_marks kind) && (marks u.outs == 0))) fits.connected in
+      let a = and_parts (nat_le (fewest_inputs kind) (length u.ins) && nat_le (length u.ins) (most_inputs kind))
+      ((length u.outs == outputs kind) && (nat_le (marks u.ins) (most_marks kind) && (marks u.outs == 0))) fits.connected in
       let b = and_parts (nat_le (fewest_inputs kind) (length u.ins)) (nat_le (length u.ins) (most_inputs kind)) a.0 in
       let c = and_parts (length u.outs == outputs kind) (nat_le (marks u.ins) (most_marks kind) && (marks u.outs == 0)) a.1 in
       let d = and_parts (nat_le (marks u.ins) (most_marks kind)) (marks u.outs == 0) c.1 in
@@ -215,7 +222,8 @@ module _ (h : Header) (names : List Name) (kind : Kind) (u : UseStatement) (plan
 
   pub one_out : length outs ≡ outputs kind
   one_out =
-      let a = and_parts (nat_le (fewest_inputs kind) (length u.ins) && nat_le (length u.ins) (most_inputs kind)) ((length u.outs == outputs kind) && (nat_le (marks u.ins) (most_marks kind) && (marks u.outs == 0))) fits.connected in
+      let a = and_parts (nat_le (fewest_inputs kind) (length u.ins) && nat_le (length u.ins) (most_inputs kind))
+      ((length u.outs == outputs kind) && (nat_le (marks u.ins) (most_marks kind) && (marks u.outs == 0))) fits.connected in
       let c = and_parts (length u.outs == outputs kind) (nat_le (marks u.ins) (most_marks kind) && (marks u.outs == 0)) a.1 in
       sym (length-map outs (joined_of names)) ∙ (outs_are.count ∙ eqb-true (length u.outs) (outputs kind) c.0)
 

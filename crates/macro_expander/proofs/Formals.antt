@@ -48,17 +48,21 @@ module _ {A B : Type 0} (f : A → B) where
   outer_bit-map : (numbers : List ℕ) (bits : List A) (i : ℕ) → outer_bit numbers (map f bits) i ≡ jmap f (outer_bit numbers bits i)
   outer_bit-map numbers bits i = ap (λ o. or_refuse o BadRange) (numbered-map numbers bits i) ∙ or_refuse-map (bit_numbered numbers bits i) BadRange
 
-  step-map : (j : Judged A) (j' : Judged B) (next : A → Judged (List A)) (next' : B → Judged (List B)) → j' ≡ jmap f j → ((a : A) → next' (f a) ≡ jmap (map f) (next a)) → judging j' next' ≡ jmap (map f) (judging j next)
+  step-map : (j : Judged A) (j' : Judged B) (next : A → Judged (List A)) (next' : B → Judged (List B)) →
+      j' ≡ jmap f j → ((a : A) → next' (f a) ≡ jmap (map f) (next a)) → judging j' next' ≡ jmap (map f) (judging j next)
   step-map (Ok a) j' next next' e h = rw e (h a)
   step-map (Err kind) j' next next' e h = rw e refl
 
-  outer_bits-map : (numbers : List ℕ) (bits got : List A) (chosen : List ℕ) → collected (outer_bit numbers (map f bits)) (map f got) chosen ≡ jmap (map f) (collected (outer_bit numbers bits) got chosen)
+  outer_bits-map : (numbers : List ℕ) (bits got : List A) (chosen : List ℕ) →
+      collected (outer_bit numbers (map f bits)) (map f got) chosen ≡ jmap (map f) (collected (outer_bit numbers bits) got chosen)
   outer_bits-map numbers bits got [] = refl
   outer_bits-map numbers bits got (i ∷ chosen) =
-      step-map (outer_bit numbers bits i) (outer_bit numbers (map f bits) i) (λ a. collected (outer_bit numbers bits) (got ++ a ∷ []) chosen) (λ b. collected (outer_bit numbers (map f bits)) (map f got ++ b ∷ []) chosen) (outer_bit-map numbers bits i)
+      step-map (outer_bit numbers bits i) (outer_bit numbers (map f bits) i) (λ a. collected (outer_bit numbers bits) (got ++ a ∷ []) chosen)
+      (λ b. collected (outer_bit numbers (map f bits)) (map f got ++ b ∷ []) chosen) (outer_bit-map numbers bits i)
       (λ a. ap (λ so_far. collected (outer_bit numbers (map f bits)) so_far chosen) (sym (map_push f got a)) ∙ outer_bits-map numbers bits (got ++ a ∷ []) chosen)
 
-  chosen-map : (numbers : List ℕ) (bits : List A) (j : Judged (List ℕ)) → judging j (λ chosen. outer_bits numbers (map f bits) chosen) ≡ jmap (map f) (judging j (λ chosen. outer_bits numbers bits chosen))
+  chosen-map : (numbers : List ℕ) (bits : List A) (j : Judged (List ℕ)) →
+      judging j (λ chosen. outer_bits numbers (map f bits) chosen) ≡ jmap (map f) (judging j (λ chosen. outer_bits numbers bits chosen))
   chosen-map numbers bits (Ok chosen) = outer_bits-map numbers bits [] chosen
   chosen-map numbers bits (Err kind) = refl
 
@@ -72,7 +76,8 @@ module _ {A B : Type 0} (f : A → B) where
   unasserted-map (Clock c) bits = refl
   unasserted-map (Stable c) bits = refl
 
-  term-map : (spec : AssertSpec) (j : Judged (List A)) (j' : Judged (List B)) → j' ≡ jmap (map f) j → judging j' (λ chosen. if_unasserted spec chosen) ≡ jmap (map f) (judging j (λ chosen. if_unasserted spec chosen))
+  term-map : (spec : AssertSpec) (j : Judged (List A)) (j' : Judged (List B)) → j' ≡ jmap (map f) j →
+      judging j' (λ chosen. if_unasserted spec chosen) ≡ jmap (map f) (judging j (λ chosen. if_unasserted spec chosen))
   term-map spec (Ok bits) j' e = rw e (unasserted-map spec bits)
   term-map spec (Err kind) j' e = rw e refl
 
@@ -136,10 +141,12 @@ module _ {A : Type 0} (P : A → Type 0) (numbers : List ℕ) (bits : List A) (h
 abbrev pub numbered_formal : List numbered_bound.Bound → SignalName → Option numbered_bound.Bound
 numbered_formal formals name = if name.global then None else find (λ f. bytes_eq f.base name.base) formals
 
-formal_of-map : (names : List Name) (formals : List numbered_bound.Bound) (name : SignalName) → formal_of (map (bound_of names) formals) name ≡ option_map (bound_of names) (numbered_formal formals name)
+formal_of-map : (names : List Name) (formals : List numbered_bound.Bound) (name : SignalName) →
+    formal_of (map (bound_of names) formals) name ≡ option_map (bound_of names) (numbered_formal formals name)
 formal_of-map names formals name = by name.global
   where
-    by : (g : Bool) → (if g then None else find (λ f. bytes_eq f.base name.base) (map (bound_of names) formals)) ≡ option_map (bound_of names) (if g then None else find (λ f. bytes_eq f.base name.base) formals)
+    by : (g : Bool) → (if g then None else find (λ f. bytes_eq f.base name.base) (map (bound_of names) formals)) ≡ option_map (bound_of names)
+        (if g then None else find (λ f. bytes_eq f.base name.base) formals)
     by true = refl
     by false = find-map (λ f. bytes_eq f.base name.base) (bound_of names) formals
 
@@ -166,7 +173,8 @@ module _ (e : Expansion) (s : numbered_scope.Scope) (name : SignalName) (ends : 
         rw (formal_term-map (bit_of (names_in e)) f.numbers f.bits name.spec ends, kind, sym place_is) refl;
   }
 
-  pub named_formal : (f : numbered_bound.Bound) (r : Result (List BitRef) Stop) → ScopeExists (nets_in e) s → numbered_formal s.formals name ≡ Some f → JudgedAt place r (formal_term f.numbers f.bits name.spec ends) →
+  pub named_formal : (f : numbered_bound.Bound) (r : Result (List BitRef) Stop) → ScopeExists (nets_in e) s →
+      numbered_formal s.formals name ≡ Some f → JudgedAt place r (formal_term f.numbers f.bits name.spec ends) →
       BitsAt e e r (named_bits (scope_of (names_in e) s) name ends place (state_of e))
   unfolding named_bits
   named_formal f r h found j =

@@ -26,8 +26,10 @@ keeps_by false kept all more e k =
 keeps_more : {B : Type 0} (kept all more : List B) → Keeps kept all → Keeps (kept_with kept more) (all ++ more)
 keeps_more kept all more k = keeps_by (leb (length kept) widest) kept all more refl k
 
-module _ {X : Type 0} (step : X → State → Outcome (List Bit)) (start : Expansion) (want : Outcome (List Bit)) (rest others : List X) (x : X) (kept : List BitRef) (e : Expansion) (split : rest ≡ x ∷ others) where
-  pub front_more : (more : List BitRef) (f : Expansion) → GivesBits e f more (step x (state_of e)) → GatheredFront step start want rest kept e → GatheredFront step start want others (kept_with kept more) f
+module _ {X : Type 0} (step : X → State → Outcome (List Bit)) (start : Expansion) (want : Outcome (List Bit))
+    (rest others : List X) (x : X) (kept : List BitRef) (e : Expansion) (split : rest ≡ x ∷ others) where
+  pub front_more : (more : List BitRef) (f : Expansion) → GivesBits e f more (step x (state_of e)) →
+      GatheredFront step start want rest kept e → GatheredFront step start want others (kept_with kept more) f
   front_more more f g w = record {
     all = w.all ++ more;
     keeps = keeps_more kept w.all more w.keeps;

@@ -78,7 +78,8 @@ at_of P f xs i x all h is =
 
 -- ---- loops that gather bits
 
-module _ {X : Type 0} (step : X → State → Outcome (List Bit)) (start : Expansion) (want : Outcome (List Bit)) (rest others : List X) (x : X) (bits : List BitRef) (e : Expansion) (split : rest ≡ x ∷ others) where
+module _ {X : Type 0} (step : X → State → Outcome (List Bit)) (start : Expansion) (want : Outcome (List Bit))
+    (rest others : List X) (x : X) (bits : List BitRef) (e : Expansion) (split : rest ≡ x ∷ others) where
   pub gathered_more : (more : List BitRef) (f : Expansion) → GivesBits e f more (step x (state_of e)) → Gathered step start want rest bits e → Gathered step start want others (bits ++ more) f
   gathered_more more f g w =
       let next : gathered step (map (bit_of (names_in f)) (bits ++ more)) others (state_of f) ≡ gathered step (map (bit_of (names_in e)) bits) rest (state_of e) =
@@ -98,8 +99,10 @@ module _ {X : Type 0} (step : X → State → Outcome (List Bit)) (start : Expan
 
 -- ---- loops that gather connections
 
-module _ {X : Type 0} (step : X → State → Outcome (List Joined)) (start : Expansion) (want : Outcome (List Joined)) (rest others : List X) (x : X) (cs : List numbered_joined.Joined) (e : Expansion) (split : rest ≡ x ∷ others) where
-  pub joined_more : (c : numbered_joined.Joined) (f : Expansion) → GivesJoined e f c (step x (state_of e)) → GatheredJoined step start want rest cs e → GatheredJoined step start want others (cs ++ c ∷ []) f
+module _ {X : Type 0} (step : X → State → Outcome (List Joined)) (start : Expansion) (want : Outcome (List Joined))
+    (rest others : List X) (x : X) (cs : List numbered_joined.Joined) (e : Expansion) (split : rest ≡ x ∷ others) where
+  pub joined_more : (c : numbered_joined.Joined) (f : Expansion) → GivesJoined e f c (step x (state_of e)) →
+      GatheredJoined step start want rest cs e → GatheredJoined step start want others (cs ++ c ∷ []) f
   joined_more c f g w =
       let next : gathered step (map (joined_of (names_in f)) (cs ++ c ∷ [])) others (state_of f) ≡ gathered step (map (joined_of (names_in e)) cs) rest (state_of e) =
       rw (map-append (joined_of (names_in f)) cs (c ∷ []), joined_stays e f cs g.grows w.exist, split, g.is) refl in
@@ -134,7 +137,8 @@ module _ {X : Type 0} (step : X → State → Outcome (Unit {0})) (start : Expan
         sym w.told ∙ failed;
   }
 
-pub went_all : {X : Type 0} (step : X → State → Outcome (Unit {0})) (start : Expansion) (want : Outcome (Unit {0})) (rest : List X) (e : Expansion) → rest ≡ [] → Went step start want rest e → GivesDone start e want
+pub went_all : {X : Type 0} (step : X → State → Outcome (Unit {0})) (start : Expansion) (want : Outcome (Unit {0})) (rest : List X) (e : Expansion) →
+    rest ≡ [] → Went step start want rest e → GivesDone start e want
 went_all step start want rest e none w =
     let done : each step rest (state_of e) ≡ Gives tt (state_of e) = rw none refl in
     record { is = sym w.told ∙ done; grows = w.grows }
@@ -148,7 +152,8 @@ turned_map names minus (b ∷ bits) = ap (λ rest. bit_of names (turned_ref minu
 turned_exist : (nets : ℕ) (minus : Bool) (bits : List BitRef) → All (BitExists nets) bits → All (BitExists nets) (map (turned_ref minus) bits)
 turned_exist nets minus bits h = All-map (BitExists nets) (turned_ref minus) bits (All-weaker (BitExists nets) (λ b. BitExists nets (turned_ref minus b)) (λ b x. record { target = x.target }) bits h)
 
-pub turned_term : (e f : Expansion) (s : Scope) (place : Place) (t : Term) (bits turned : List BitRef) → turned ≡ map (turned_ref t.minus) bits → GivesBits e f bits (item_bits s t.item place (state_of e)) → GivesBits e f turned (term_bits s place t (state_of e))
+pub turned_term : (e f : Expansion) (s : Scope) (place : Place) (t : Term) (bits turned : List BitRef) → turned ≡ map (turned_ref t.minus) bits →
+    GivesBits e f bits (item_bits s t.item place (state_of e)) → GivesBits e f turned (term_bits s place t (state_of e))
 unfolding term_bits
 turned_term e f s place t bits turned is g = record {
   is = rw (g.is, is) (rw (turned_map (names_in f) t.minus bits) refl);

@@ -29,14 +29,16 @@ pub record IsJoined (c : Connection) (ys : List Joined) : Type 0 where
   pub held : joint.hold ≡ c.hold
   pub wide : HasWidth joint
 
-width_by : (b : Bool) (c : Connection) (bits : List Bit) (place : Place) (s t : State) (ys : List Joined) → has_width bits ≡ b → cond b (Gives ((record { bits = bits; hold = c.hold }) ∷ []) s) (Fails Width place) ≡ Gives ys t → IsJoined c ys
+width_by : (b : Bool) (c : Connection) (bits : List Bit) (place : Place) (s t : State) (ys : List Joined) →
+    has_width bits ≡ b → cond b (Gives ((record { bits = bits; hold = c.hold }) ∷ []) s) (Fails Width place) ≡ Gives ys t → IsJoined c ys
 width_by true c bits place s t ys h e =
     let w = and_parts (nat_le 1 (length bits)) (nat_le (length bits) widest) h in
     let j : Joined = record { bits = bits; hold = c.hold } in
     record { joint = j; only = cc; held = refl; wide = record { some = leb-true 1 (length bits) w.0; few = leb-true (length bits) widest w.1 } }
 width_by false c bits place s t ys h e = absurd (cc)
 
-after_terms : (o : Outcome (List Bit)) (c : Connection) (place : Place) (t : State) (ys : List Joined) → after o (λ bits s1. cond (has_width bits) (Gives ((record { bits = bits; hold = c.hold }) ∷ []) s1) (Fails Width place)) ≡ Gives ys t → IsJoined c ys
+after_terms : (o : Outcome (List Bit)) (c : Connection) (place : Place) (t : State) (ys : List Joined) → after o
+    (λ bits s1. cond (has_width bits) (Gives ((record { bits = bits; hold = c.hold }) ∷ []) s1) (Fails Width place)) ≡ Gives ys t → IsJoined c ys
 after_terms (Gives bits s) c place t ys e = width_by (has_width bits) c bits place s t ys refl e
 after_terms (Fails kind at) c place t ys e = absurd (cc)
 
@@ -60,8 +62,10 @@ behind_cons c cs got ys js i b = record {
   };
 }
 
-step_joined : (scope : Scope) (place : Place) (c : Connection) (cs : List Connection) (got js : List Joined) (o : Outcome (List Joined)) (t : State) → ((ys : List Joined) (s : State) → o ≡ Gives ys s → IsJoined c ys) →
-    ((ys : List Joined) (s : State) → gathered (joined scope place) (got ++ ys) cs s ≡ Gives js t → Behind cs (got ++ ys) js) → after o (λ ys s1. gathered (joined scope place) (got ++ ys) cs s1) ≡ Gives js t → Behind (c ∷ cs) got js
+step_joined : (scope : Scope) (place : Place) (c : Connection) (cs : List Connection) (got js : List Joined) (o : Outcome (List Joined)) (t : State) →
+    ((ys : List Joined) (s : State) → o ≡ Gives ys s → IsJoined c ys) →
+    ((ys : List Joined) (s : State) → gathered (joined scope place) (got ++ ys) cs s ≡ Gives js t → Behind cs (got ++ ys) js) →
+    after o (λ ys s1. gathered (joined scope place) (got ++ ys) cs s1) ≡ Gives js t → Behind (c ∷ cs) got js
 step_joined scope place c cs got js (Gives ys s) t one rest e = behind_cons c cs got ys js (one ys s refl) (rest ys s e)
 step_joined scope place c cs got js (Fails kind at) t one rest e = absurd (cc)
 
@@ -82,7 +86,8 @@ pub record AreWires (u : UseStatement) (w : Wires) : Type 0 where
   pub ins : AreJoined u.ins w.ins
   pub outs : AreJoined u.outs w.outs
 
-outs_by : (scope : Scope) (u : UseStatement) (ins : List Joined) (o : Outcome (List Joined)) (w : Wires) (t : State) → AreJoined u.ins ins → ((ys : List Joined) (s : State) → o ≡ Gives ys s → AreJoined u.outs ys) →
+outs_by : (scope : Scope) (u : UseStatement) (ins : List Joined) (o : Outcome (List Joined)) (w : Wires) (t : State) →
+    AreJoined u.ins ins → ((ys : List Joined) (s : State) → o ≡ Gives ys s → AreJoined u.outs ys) →
     after o (λ outs s2. Gives (record { ins = ins; outs = outs }) s2) ≡ Gives w t → AreWires u w
 outs_by scope u ins (Gives outs s) w t i h e =
     let made : Wires = record { ins = ins; outs = outs } in

@@ -61,11 +61,18 @@ all_exist b h = All-weaker (InstanceFits b.header (length b.names)) (Exists (len
 -- ---- clashes
 
 module _ (given : List Asserted) (text : List ℕ) (spec : AssertSpec) where
-  clash_cases : (a b c : Bool) → is_asserted spec ≡ a → is_asserted (spec_of given text) ≡ b → same_assertion spec (spec_of given text) ≡ c → (Clashes given text spec → ⊥) → (a && (b && not c)) ≡ false
+  clash_cases : (a b c : Bool) → is_asserted spec ≡ a → is_asserted (spec_of given text) ≡ b →
+      same_assertion spec (spec_of given text) ≡ c → (Clashes given text spec → ⊥) → (a && (b && not c)) ≡ false
   clash_cases false b c e f g h = refl
   clash_cases true false c e f g h = refl
   clash_cases true true true e f g h = refl
-  clash_cases true true false e f g h = absurd (h (record { is_one = e; was_one = f; differs = λ same. let t : same_assertion spec spec ≡ false = subst (λ (x : AssertSpec). same_assertion spec x ≡ false) (sym same) g in absurd (cc (assertion_self spec)) }))
+  clash_cases true true false e f g h =
+      absurd (h (record {
+        is_one = e;
+        was_one = f;
+        differs = λ same. let t : same_assertion spec spec ≡ false =
+            subst (λ (x : AssertSpec). same_assertion spec x ≡ false) (sym same) g in absurd (cc (assertion_self spec));
+      }))
 
   pub agrees : (Clashes given text spec → ⊥) → clashes given text spec ≡ false
   agrees h = clash_cases (is_asserted spec) (is_asserted (spec_of given text)) (same_assertion spec (spec_of given text)) refl refl refl h
@@ -114,7 +121,8 @@ module _ (e : Expansion) (text : List ℕ) (bit : ℕ) (spec : AssertSpec) (plac
     exist = All-cons (BitExists (length e.builder.names)) (the_bit i) [] (record { target = number.below }) (All-nil (BitExists (length e.builder.names)));
   }
 
-  given_new : (i : ℕ) → IsBuilt e.builder → length e.builder.names < most_bits → (Clashes e.builder.asserted text spec → ⊥) → has_name e.builder.names the_name ≡ false → IsNumber (e.builder.names ++ the_name ∷ []) the_name i →
+  given_new : (i : ℕ) → IsBuilt e.builder → length e.builder.names < most_bits → (Clashes e.builder.asserted text spec → ⊥) →
+      has_name e.builder.names the_name ≡ false → IsNumber (e.builder.names ++ the_name ∷ []) the_name i →
       GivesBits e (with_builder growing) (the_bit i ∷ []) (net_bit text spec place bit (state_of e))
   given_new i built room free h number =
       let fits : nat_lt (length e.builder.names) most_bits ≡ true = grind (arith, nat_tests) in

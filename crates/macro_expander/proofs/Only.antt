@@ -55,7 +55,8 @@ module _ (names : List Name) (distinct : AreDistinct names) where
   same_out (Some t) None a b e = absurd (cc)
   same_out (Some t) (Some u) a b e = let target : where_of names t ≡ where_of names u = cc in ap Some (same_target t u a b target)
 
-  instance_by : (j k : Instance) → j.path ≡ k.path → j.bit ≡ k.bit → j.kind ≡ k.kind → j.delay ≡ k.delay → j.limits ≡ k.limits → j.pins ≡ k.pins → j.out ≡ k.out → j.out_inverted ≡ k.out_inverted → j.place ≡ k.place → j ≡ k
+  instance_by : (j k : Instance) → j.path ≡ k.path → j.bit ≡ k.bit → j.kind ≡ k.kind → j.delay ≡ k.delay →
+      j.limits ≡ k.limits → j.pins ≡ k.pins → j.out ≡ k.out → j.out_inverted ≡ k.out_inverted → j.place ≡ k.place → j ≡ k
   instance_by j k a b c d e f g h i =
       ap (λ (x : List ℕ). record j { path = x }) a
       ∙ (ap (λ (x : ℕ). record j { path = k.path; bit = x }) b
@@ -70,7 +71,8 @@ module _ (names : List Name) (distinct : AreDistinct names) where
   same_instance : (j k : Instance) → Exists (length names) j → Exists (length names) k → instance_of names j ≡ instance_of names k → j ≡ k
   same_instance j k a b e =
       instance_by j k
-      (ap (λ (x : NamedInstance). x.path) e) (ap (λ (x : NamedInstance). x.bit) e) (ap (λ (x : NamedInstance). x.kind) e) (ap (λ (x : NamedInstance). x.delay) e) (ap (λ (x : NamedInstance). x.limits) e)
+      (ap (λ (x : NamedInstance). x.path) e) (ap (λ (x : NamedInstance). x.bit) e) (ap (λ (x : NamedInstance). x.kind) e)
+      (ap (λ (x : NamedInstance). x.delay) e) (ap (λ (x : NamedInstance). x.limits) e)
       (same_by (PinExists (length names)) (pin_of names) same_pin j.pins k.pins a.reads b.reads (ap (λ (x : NamedInstance). x.pins) e))
       (same_out j.out k.out a.drives b.drives (ap (λ (x : NamedInstance). x.out) e))
       (ap (λ (x : NamedInstance). x.out_inverted) e) (ap (λ (x : NamedInstance). x.place) e)
@@ -121,7 +123,8 @@ pub record Same (c d : Circuit) : Type 0 where
 pub exist_in : (c : Circuit) → IsCircuit c → All (Exists (length (net_names c.nets))) c.instances
 exist_in c h =
     let n = length-map c.nets net_name in
-    subst (λ (k : ℕ). All (Exists k) c.instances) (sym n) (All-weaker (InstanceFits c.header (length c.nets)) (Exists (length c.nets)) (λ j f. record { reads = f.exists.reads; drives = f.exists.drives }) c.instances h.each)
+    subst (λ (k : ℕ). All (Exists k) c.instances) (sym n) (All-weaker (InstanceFits c.header (length c.nets))
+    (Exists (length c.nets)) (λ j f. record { reads = f.exists.reads; drives = f.exists.drives }) c.instances h.each)
 
 stand_alike : (s : State) (c d : Circuit) → IsCircuit c → IsCircuit d → Stands s c → Stands s d → Same c d
 stand_alike s c d h i a b =

@@ -22,7 +22,8 @@ any-map name [] = refl
 any-map name (x ∷ xs) = ap (λ b. bytes_eq x.name name || b) (any-map name xs)
 
 -- whether a look-up finds one is whether one has the name
-pub found_given : (name : List ℕ) (xs : List Assign) (r : Option (Bor Assign)) → option_copied r ≡ find (λ x. bytes_eq (assigned_name x) name) xs → is_some r ≡ list_any (assigns name) (map assignment_of xs)
+pub found_given : (name : List ℕ) (xs : List Assign) (r : Option (Bor Assign)) →
+    option_copied r ≡ find (λ x. bytes_eq (assigned_name x) name) xs → is_some r ≡ list_any (assigns name) (map assignment_of xs)
 found_given name xs r e = copied r ∙ ap is_some e ∙ found_any (λ x. bytes_eq (assigned_name x) name) xs ∙ any-map name xs
   where
     copied : (o : Option (Bor Assign)) → is_some o ≡ is_some (option_copied o)
@@ -46,7 +47,8 @@ module _ (known : List ℕ → Bool) (params : List Assign) (i : ℕ) (x : Assig
   split : drop i params ≡ x ∷ drop (i + 1) params
   split = rw (drop_more params i x below, sym is) refl
 
-  pub stays_known : (es : List Place) (k : Vec ℕ) → known x.name ≡ true → list_any (assigns x.name) (map assignment_of (drop (i + 1) params)) ≡ false → k.items ≡ x.name → KnownBehind known params es (i + 1) →
+  pub stays_known : (es : List Place) (k : Vec ℕ) → known x.name ≡ true →
+      list_any (assigns x.name) (map assignment_of (drop (i + 1) params)) ≡ false → k.items ≡ x.name → KnownBehind known params es (i + 1) →
       KnownBehind known params (insert_entry (λ (a b : Vec ℕ). bytes_eq a.items b.items) es k i) i
   stays_known es k h alone name_is b = record {
     within = omega arith;
@@ -60,7 +62,9 @@ module _ (known : List ℕ → Bool) (params : List Assign) (i : ℕ) (x : Assig
       not_all known i params (ap (λ (xs : List Assign). are_of known (map assignment_of xs)) split ∙ rw unknown refl)
 
   -- whether the look-up of its name finds one is whether one behind it has the name
-  pub found_behind : (es : List Place) (place : ℕ) (name : List ℕ) (r : Option (Bor Assign)) (found : Bool) → place ≡ i + 1 → name ≡ x.name → LeadTo assigned_name es params (drop place params) → option_copied r ≡ bit_at_place params (lookup (λ (k : Vec ℕ). bytes_eq name k.items) es) → found ≡ is_some r →
+  pub found_behind : (es : List Place) (place : ℕ) (name : List ℕ) (r : Option (Bor Assign)) (found : Bool) → place ≡ i + 1 → name ≡ x.name →
+      LeadTo assigned_name es params (drop place params) →
+      option_copied r ≡ bit_at_place params (lookup (λ (k : Vec ℕ). bytes_eq name k.items) es) → found ≡ is_some r →
       found ≡ list_any (assigns x.name) (map assignment_of (drop (i + 1) params))
   found_behind es place name r found next name_is l h f =
       f

@@ -83,7 +83,8 @@ module _ (e : Expansion) (ticks : ℕ) (kind : Kind) (s : numbered_scope.Scope) 
           DoneAt e1 e2 r (all_added path (use_of u) kind plan n (map (joined_of (names_in e1)) i3) (map (joined_of (names_in e1)) o3) (state_of e1)) → DoneAt e e2 r the_use
       unfolding primitive_use
       use_done e2 r path i3 o3 p q t fits h =
-          let is : the_use ≡ all_added path (use_of u) kind plan n (map (joined_of (names_in e1)) i3) (map (joined_of (names_in e1)) o3) (state_of e1) = rw (was, g.is, width_is, widths_are, fits, p, q, t) refl in
+          let is : the_use ≡ all_added path (use_of u) kind plan n (map (joined_of (names_in e1)) i3)
+          (map (joined_of (names_in e1)) o3) (state_of e1) = rw (was, g.is, width_is, widths_are, fits, p, q, t) refl in
           done_later e e1 e2 r (all_added path (use_of u) kind plan n (map (joined_of (names_in e1)) i3) (map (joined_of (names_in e1)) o3) (state_of e1)) the_use g.grows is h
 
       are : AreWires (use_of u) wires
@@ -95,7 +96,8 @@ module _ (e : Expansion) (ticks : ℕ) (kind : Kind) (s : numbered_scope.Scope) 
       pub use_fits : (k : ℕ) (path : List ℕ) (i3 o3 : List numbered_joined.Joined) → i3 ≡ w.ins → o3 ≡ w.outs → ticks ≡ period e.builder.header → InstanceFits e1.builder.header (nets_in e1) (instance_ref path u kind plan i3 o3 k)
       use_fits k path i3 o3 q t p =
           let was' : plan_of (period e.builder.header) kind s.env (use_of u) ≡ Ok plan = subst (λ (x : ℕ). plan_of x kind s.env (use_of u) ≡ Ok plan) p was in
-          rw (q, t, g.grows.header) (bit_fits e.builder.header (names_in e1) kind (use_of u) plan w.ins w.outs (plan_fits e.builder.header kind s.env (use_of u) plan was') are.ins are.outs (nets_in e1) k path u g.ins g.outs)
+          rw (q, t, g.grows.header) (bit_fits e.builder.header (names_in e1) kind (use_of u) plan w.ins
+          w.outs (plan_fits e.builder.header kind s.env (use_of u) plan was') are.ins are.outs (nets_in e1) k path u g.ins g.outs)
 
 -- a refusal that a call makes
 pub failed_so : {A : Type 0} (stop : Stop) (o : Outcome A) (kind : RefusalKind) (place : Place) → stop ≡ Refused (record { kind = kind; place = place }) → o ≡ Fails kind place → Failed stop o

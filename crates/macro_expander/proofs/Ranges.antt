@@ -101,7 +101,8 @@ all_ranges env got (f ∷ formals) out g e =
 pub shapes_are : (m : Macro) (given : List Binding) (inside : Inside) → inside_of m given ≡ Ok inside → All IsRange inside.ins × All IsRange inside.outs
 unfolding inside_of
 shapes_are m given inside e =
-    let env = both_give (parameters_of given m.params) (λ env. judging (shapes_of env m.ins) (λ ins. judging (shapes_of env m.outs) (λ outs. Ok (record { env = env; ins = ins; outs = outs })))) inside e in
+    let env = both_give (parameters_of given m.params) (λ env. judging (shapes_of env m.ins)
+    (λ ins. judging (shapes_of env m.outs) (λ outs. Ok (record { env = env; ins = ins; outs = outs })))) inside e in
     let ins = both_give (shapes_of env.0 m.ins) (λ ins. judging (shapes_of env.0 m.outs) (λ outs. Ok (record { env = env.0; ins = ins; outs = outs }))) inside env.2 in
     let outs = both_give (shapes_of env.0 m.outs) (λ outs. Ok (record { env = env.0; ins = ins.0; outs = outs })) inside ins.2 in
     let made : Inside = record { env = env.0; ins = ins.0; outs = outs.0 } in
@@ -122,10 +123,12 @@ zip_firsts {A = A} {B = B} P [] ys h = All-nil (λ (p : A × B). P p.0)
 zip_firsts {A = A} {B = B} P (x ∷ xs) [] h = All-nil (λ (p : A × B). P p.0)
 zip_firsts {A = A} {B = B} P (x ∷ xs) (y ∷ ys) h = All-cons (λ (p : A × B). P p.0) (x, y) (zip xs ys) (All-head P x xs h) (zip_firsts P xs ys (All-tail P x xs h))
 
-pub inputs_have_runs : (shapes : List Shape) (ins : List numbered_joined.Joined) (out : List numbered_bound.Bound) → All IsRange shapes → collected input_bound_ref [] (zip shapes ins) ≡ Ok out → All HasRun out
+pub inputs_have_runs : (shapes : List Shape) (ins : List numbered_joined.Joined) (out : List numbered_bound.Bound) →
+    All IsRange shapes → collected input_bound_ref [] (zip shapes ins) ≡ Ok out → All HasRun out
 inputs_have_runs shapes ins out h e =
     collected-are PairRange HasRun input_bound_ref (λ p f r q. bound_has_run p.0 (input_bits p.0 p.1.bits) f r q) [] (zip shapes ins) out (All-nil HasRun) (zip_firsts IsRange shapes ins h) e
 
-pub outputs_have_runs : (inputs : List numbered_bound.Bound) (shapes : List Shape) (outs : List numbered_joined.Joined) (out : List numbered_bound.Bound) → All HasRun inputs → All IsRange shapes → collected output_bound_ref inputs (zip shapes outs) ≡ Ok out → All HasRun out
+pub outputs_have_runs : (inputs : List numbered_bound.Bound) (shapes : List Shape) (outs : List numbered_joined.Joined) (out : List
+    numbered_bound.Bound) → All HasRun inputs → All IsRange shapes → collected output_bound_ref inputs (zip shapes outs) ≡ Ok out → All HasRun out
 outputs_have_runs inputs shapes outs out g h e =
     collected-are PairRange HasRun output_bound_ref (λ p f r q. bound_has_run p.0 (output_bits p.0 p.1.bits) f r q) inputs (zip shapes outs) out g (zip_firsts IsRange shapes outs h) e

@@ -67,11 +67,13 @@ module _ (P : Place → Type 0) where
   either_at true x y h k = h
   either_at false x y h k = k
 
-  gathered_at : {X Y : Type 0} (step : X → State → Outcome (List Y)) → ((x : X) (s : State) → IsStateAt P s → IsOutcomeAt P (step x s)) → (ys : List Y) (xs : List X) (s : State) → IsStateAt P s → IsOutcomeAt P (gathered step ys xs s)
+  gathered_at : {X Y : Type 0} (step : X → State → Outcome (List Y)) → ((x : X) (s : State) → IsStateAt P s → IsOutcomeAt P (step x s)) →
+      (ys : List Y) (xs : List X) (s : State) → IsStateAt P s → IsOutcomeAt P (gathered step ys xs s)
   gathered_at step k ys [] s h = h
   gathered_at step k ys (x ∷ xs) s h = after_at (step x s) (λ more s'. gathered step (ys ++ more) xs s') (k x s h) (λ more s' h'. gathered_at step k (ys ++ more) xs s' h')
 
-  each_at : {X : Type 0} (step : X → State → Outcome (Unit {0})) → ((x : X) (s : State) → IsStateAt P s → IsOutcomeAt P (step x s)) → (xs : List X) (s : State) → IsStateAt P s → IsOutcomeAt P (each step xs s)
+  each_at : {X : Type 0} (step : X → State → Outcome (Unit {0})) →
+      ((x : X) (s : State) → IsStateAt P s → IsOutcomeAt P (step x s)) → (xs : List X) (s : State) → IsStateAt P s → IsOutcomeAt P (each step xs s)
   each_at step k [] s h = h
   each_at step k (x ∷ xs) s h = after_at (step x s) (λ _ s'. each step xs s') (k x s h) (λ _ s' h'. each_at step k xs s' h')
 
@@ -131,7 +133,8 @@ module _ (P : Place → Type 0) where
       either_at (are_few (s.instances ++ j ∷ [])) (Gives tt (with_instance s j)) (Fails TooMany j.place)
       (every_append (IsInstanceAt P) s.instances (j ∷ []) h (p, tt)) p
 
-  all_added_at : (path : List ℕ) (u : UseStatement) (kind : Kind) (plan : Plan) (n : ℕ) (ins outs : List Joined) (s : State) → P u.place → IsStateAt P s → IsOutcomeAt P (all_added path u kind plan n ins outs s)
+  all_added_at : (path : List ℕ) (u : UseStatement) (kind : Kind) (plan : Plan) (n : ℕ) (ins outs : List Joined) (s : State) →
+      P u.place → IsStateAt P s → IsOutcomeAt P (all_added path u kind plan n ins outs s)
   unfolding all_added
   all_added_at path u kind plan n ins outs s p h =
       each_at (λ k. adding (instance_at path u kind plan ins outs k)) (λ k s' h'. adding_at (instance_at path u kind plan ins outs k) s' p h') (range_with_len 0 n) s h
@@ -247,7 +250,8 @@ module _ (P : Place → Type 0) where
   breaks_at : (d : Drawing) (r : Refusal) → EachPlace P d → BreaksRule d (Refused r) → P r.place
   breaks_at d r a breaks =
       let named : IsStateAt P breaks.state = subst (IsOutcomeAt P) breaks.expanded (flat_at d a) in
-      let numbered : AllByRecursion (IsInstanceAt P) (map (instance_of breaks.numbered.names) breaks.numbered.instances) = subst (AllByRecursion (IsInstanceAt P)) (sym breaks.is_numbered.instances) named in
+      let numbered : AllByRecursion (IsInstanceAt P) (map (instance_of breaks.numbered.names) breaks.numbered.instances) =
+      subst (AllByRecursion (IsInstanceAt P)) (sym breaks.is_numbered.instances) named in
       rule_at breaks.numbered r.place r.kind (every_mapped (IsInstanceAt P) (instance_of breaks.numbered.names) breaks.numbered.instances numbered) breaks.broken
 
   -- Where expansion is refused, or a rule is broken, something of the drawing stands.
@@ -269,7 +273,8 @@ module _ (P : Place → Type 0) where
   case_bits_at s before [] a = tt
   case_bits_at s before (e ∷ es) a = one_result_at (may_set s before e) _ _ (case_bits_at s (before ++ entry_bit e ∷ []) es a.1) a.0
 
-  with_case_at : (bits : Result (List CaseBit) Refusal) (next : List CaseBit → Result (List (List CaseBit)) Refusal) → IsResultAt bits → ((found : List CaseBit) → IsResultAt (next found)) → IsResultAt (with_case bits next)
+  with_case_at : (bits : Result (List CaseBit) Refusal) (next : List CaseBit → Result (List (List CaseBit)) Refusal) →
+      IsResultAt bits → ((found : List CaseBit) → IsResultAt (next found)) → IsResultAt (with_case bits next)
   with_case_at (Ok bits) next h k = k bits
   with_case_at (Err r) next h k = h
 

@@ -43,7 +43,8 @@ module _ (ticks : ℕ) (macros : List Macro) (below : Option (Macro → Act)) (s
       split : statements_of (drop i all) ≡ cons (statement_of x) (statements_of (drop (i + 1) all))
       split = ap listed (next_of statement_of all i x h is)
 
-      pub through_more : (f : Expansion) → GivesDone e f (statement_act ticks macros below (statement_of x) scope (state_of e)) → WentThrough act start want (drop i all) e → WentThrough act start want (drop (i + 1) all) f
+      pub through_more : (f : Expansion) → GivesDone e f (statement_act ticks macros below (statement_of x) scope (state_of e)) →
+          WentThrough act start want (drop i all) e → WentThrough act start want (drop (i + 1) all) f
       through_more f g w =
           let next : act (statements_of (drop (i + 1) all)) (state_of f) ≡ act (statements_of (drop i all)) (state_of e) = rw (split, g.is) refl in
           record { told = next ∙ w.told; grows = grows_trans start e f w.grows g.grows }
@@ -108,7 +109,8 @@ module _ (ticks : ℕ) (macros : List Macro) (levels : ℕ) (e : Expansion) (s :
       pub macro_done : (e1 e2 : Expansion) (inner : numbered_scope.Scope) (r : Result (Unit {0}) Stop) → GivesScope e e1 inner (inner_scope m given (scope_of (names_in e) s) u (state_of e)) →
           DoneAt e1 e2 r (statements_act ticks macros (body_at ticks macros (levels - 1)) m.body (scope_of (names_in e1) inner) (state_of e1)) → DoneAt e e2 r the_use
       macro_done e1 e2 inner r g h =
-          let is : the_use ≡ statements_act ticks macros (body_at ticks macros (levels - 1)) m.body (scope_of (names_in e1) inner) (state_of e1) = rw (was, body_below ticks macros levels deep, g.is) refl in
+          let is : the_use ≡ statements_act ticks macros (body_at ticks macros (levels - 1)) m.body (scope_of (names_in e1) inner) (state_of e1) =
+          rw (was, body_below ticks macros levels deep, g.is) refl in
           done_later e e1 e2 r (statements_act ticks macros (body_at ticks macros (levels - 1)) m.body (scope_of (names_in e1) inner) (state_of e1)) the_use g.grows is h
 
 -- ---- libraries

@@ -117,6 +117,7 @@ module _ (d : written_drawing.Drawing) (ticks : ℕ) (l : Library) (ticks_are : 
   pub body_stops : (stop : Stop) → Failed stop the_act → IsStopOf (drawing_of d) stop
   body_stops stop h = expansion_stops (drawing_of d) stop (subst (λ (o : Outcome (Unit {0})). Failed stop o) act_is h)
 
-  pub ends : (e : Expansion) → GivesDone begun e the_act → IsBuilt e.builder → (r : Result Circuit Stop) → MatchResult r (Finished e.builder) (IsRefusal e.builder) → MatchResult r (IsCircuitOf (drawing_of d)) (IsStopOf (drawing_of d))
+  pub ends : (e : Expansion) → GivesDone begun e the_act → IsBuilt e.builder → (r : Result Circuit Stop) →
+      MatchResult r (Finished e.builder) (IsRefusal e.builder) → MatchResult r (IsCircuitOf (drawing_of d)) (IsStopOf (drawing_of d))
   ends e g built (Ok c) h = circuit_is (drawing_of d) e (sym act_is ∙ g.is) c h
   ends e g built (Err stop) h = rule_stops (drawing_of d) e (sym act_is ∙ g.is) built stop h

@@ -19,7 +19,8 @@ other_by true a n names i e d h is =
     let q : 0 ≡ suc i = d 0 (suc i) (omega arith) (omega arith) same in
     absurd (omega arith)
 
-pub set_by_name : (names : List Name) (wires : List Bounds) (i : ℕ) (w : Bounds) → AreDistinct names → i < length names → length wires ≡ length names → set_wire names wires (name_at names i) w ≡ set wires i w
+pub set_by_name : (names : List Name) (wires : List Bounds) (i : ℕ) (w : Bounds) → AreDistinct names →
+    i < length names → length wires ≡ length names → set_wire names wires (name_at names i) w ≡ set wires i w
 set_by_name [] wires i w d h l = absurd (omega arith)
 set_by_name (n ∷ names) [] i w d h l = absurd (omega arith)
 set_by_name (n ∷ names) (v ∷ wires) zero w d h l = rw (same_name-refl n) refl

@@ -297,7 +297,8 @@ pub record GatheredFront {X : Type 0} (step : X → State → Outcome (List Bit)
   pub gathered : Gathered step start want rest all e
 
 -- the same, of connections
-pub record GatheredJoined {X : Type 0} (step : X → State → Outcome (List Joined)) (start : Expansion) (want : Outcome (List Joined)) (rest : List X) (cs : List numbered_joined.Joined) (e : Expansion) : Type 0 where
+pub record GatheredJoined {X : Type 0} (step : X → State → Outcome (List Joined)) (start : Expansion)
+    (want : Outcome (List Joined)) (rest : List X) (cs : List numbered_joined.Joined) (e : Expansion) : Type 0 where
   pub told : gathered step (map (joined_of (names_in e)) cs) rest (state_of e) ≡ want
   pub grows : Grows start e
   pub exist : All (JoinedExists (nets_in e)) cs

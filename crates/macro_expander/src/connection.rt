@@ -55,7 +55,8 @@ fn item_bits(
 ) -> Result<Bits, Stop>
     requires fits { ItemFits expansion.old.builder.header (item_of item.now) }
     requires exists { ScopeExists (nets_in expansion.old) scope.now }
-    ensures { BitsAt expansion.old expansion.new result (spec_item_bits (scope_of (names_in expansion.old) scope.now) (item_of item.now) place (state_of expansion.old)) }
+    ensures { BitsAt expansion.old expansion.new result (spec_item_bits (scope_of (names_in expansion.old) scope.now)
+        (item_of item.now) place (state_of expansion.old)) }
 {
     match item {
         Item::Zero => Ok(constant(alloc, false)?),
@@ -87,7 +88,8 @@ fn term_bits(
 ) -> Result<Bits, Stop>
     requires fits { TermFits expansion.old.builder.header (term_of term.now) }
     requires exists { ScopeExists (nets_in expansion.old) scope.now }
-    ensures { BitsAt expansion.old expansion.new result (spec_term_bits (scope_of (names_in expansion.old) scope.now) place (term_of term.now) (state_of expansion.old)) }
+    ensures { BitsAt expansion.old expansion.new result (spec_term_bits (scope_of (names_in expansion.old) scope.now)
+        place (term_of term.now) (state_of expansion.old)) }
 {
     let bits = item_bits(expansion, alloc, scope, &term.item, place)?;
     Ok(turned(bits, term.minus))
@@ -119,7 +121,9 @@ fn terms_bits(
 ) -> Result<Bits, Stop>
     requires fits { All (TermFits expansion.old.builder.header) (map term_of terms.now) }
     requires exists { ScopeExists (nets_in expansion.old) scope.now }
-    ensures { FrontAt expansion.old expansion.new result (spec_terms_bits (scope_of (names_in expansion.old) scope.now) place (map term_of terms.now) (state_of expansion.old)) }
+    ensures { FrontAt expansion.old expansion.new result
+        (spec_terms_bits (scope_of (names_in expansion.old) scope.now)
+        place (map term_of terms.now) (state_of expansion.old)) }
 {
     if let [only] = terms {
         let bits = term_bits(expansion, alloc, scope, only, place)?;
@@ -143,7 +147,8 @@ fn join(
 ) -> Result<Joined, Stop>
     requires fits { ConnectionFits expansion.old.builder.header (connection_of connection.now) }
     requires exists { ScopeExists (nets_in expansion.old) scope.now }
-    ensures { JoinedAt expansion.old expansion.new result (spec_joined (scope_of (names_in expansion.old) scope.now) place (connection_of connection.now) (state_of expansion.old)) }
+    ensures { JoinedAt expansion.old expansion.new result (spec_joined (scope_of (names_in expansion.old) scope.now)
+        place (connection_of connection.now) (state_of expansion.old)) }
 {
     let bits = terms_bits(expansion, alloc, scope, connection.terms.as_slice(), place)?;
     if bits.len() == 0 || bits.len() > WIDEST {
@@ -165,7 +170,9 @@ fn all_joined(
 ) -> Result<Row<Joined>, Stop>
     requires fits { All (ConnectionFits expansion.old.builder.header) (map connection_of connections.now) }
     requires exists { ScopeExists (nets_in expansion.old) scope.now }
-    ensures { AllJoinedAt expansion.old expansion.new result (spec_all_joined (scope_of (names_in expansion.old) scope.now) place (map connection_of connections.now) (state_of expansion.old)) }
+    ensures { AllJoinedAt expansion.old expansion.new result
+        (spec_all_joined (scope_of (names_in expansion.old) scope.now)
+        place (map connection_of connections.now) (state_of expansion.old)) }
 {
     let mut all = Row::with_room(alloc, connections.len())?;
     for connection in connections {
@@ -184,7 +191,8 @@ pub(crate) fn all_wires(
 ) -> Result<Wires, Stop>
     requires fits { UseFits expansion.old.builder.header (use_of statement.now) }
     requires exists { ScopeExists (nets_in expansion.old) scope.now }
-    ensures { WiresAt expansion.old expansion.new result (wires_of (scope_of (names_in expansion.old) scope.now) (use_of statement.now) (state_of expansion.old)) }
+    ensures { WiresAt expansion.old expansion.new result
+        (wires_of (scope_of (names_in expansion.old) scope.now) (use_of statement.now) (state_of expansion.old)) }
 {
     let place = statement.place;
     let ins = all_joined(expansion, alloc, scope, statement.ins.as_slice(), place)?;

@@ -164,7 +164,8 @@ fn are_many_parameters(
     definition: &MacroDef,
     params: &Assigns,
 ) -> Result<bool, NoMemory>
-    ensures { IfOk result (λ are. are ≡ are_of (has_parameter (macro_of definition.now)) (map assignment_of params.now)) }
+    ensures { IfOk result (λ are.
+        are ≡ are_of (has_parameter (macro_of definition.now)) (map assignment_of params.now)) }
 {
     let known = places(alloc, definition.params.as_slice())?;
     let params = params.as_slice();
@@ -186,7 +187,8 @@ fn are_many_parameters(
 }
 
 fn are_parameters(alloc: Global, definition: &MacroDef, params: &Assigns) -> Result<bool, NoMemory>
-    ensures { IfOk result (λ are. are ≡ are_of (has_parameter (macro_of definition.now)) (map assignment_of params.now)) }
+    ensures { IfOk result (λ are.
+        are ≡ are_of (has_parameter (macro_of definition.now)) (map assignment_of params.now)) }
 {
     if params.len() <= FEW {
         return Ok(are_few_parameters(definition, params));
@@ -212,7 +214,8 @@ pub(crate) fn given_to(
     env: &Env,
     statement: &UseStmt,
 ) -> Result<Env, Stop>
-    ensures { JudgedAt statement.now.place result (spec_given_to (macro_of definition.now) env.now (use_of statement.now)) }
+    ensures { JudgedAt statement.now.place result
+        (spec_given_to (macro_of definition.now) env.now (use_of statement.now)) }
 {
     let place = statement.place;
     if statement.delay.is_some() {

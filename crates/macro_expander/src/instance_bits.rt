@@ -177,7 +177,8 @@ fn path_of(alloc: Global, path: &[u8], label: &[u8]) -> Result<Bytes, NoMemory>
 
 /// Bit k of a use.
 fn instance(alloc: Global, wiring: &Wiring, k: u16) -> Result<Instance, NoMemory>
-    ensures { IfOk result (λ j. j ≡ instance_ref wiring.now.path.now wiring.now.statement.now wiring.now.kind wiring.now.plan wiring.now.ins.now wiring.now.outs.now k) }
+    ensures { IfOk result (λ j. j ≡ instance_ref wiring.now.path.now
+        wiring.now.statement.now wiring.now.kind wiring.now.plan wiring.now.ins.now wiring.now.outs.now k) }
 {
     let output = output(wiring.outs, k as usize);
     Ok(Instance {
@@ -195,8 +196,11 @@ fn instance(alloc: Global, wiring: &Wiring, k: u16) -> Result<Instance, NoMemory
 
 /// Adds bit k of a use.
 fn add_bit(expansion: &mut Expansion, alloc: Global, wiring: &Wiring, k: u16) -> Result<(), Stop>
-    requires { InstanceFits expansion.old.builder.header (nets_in expansion.old) (instance_ref wiring.now.path.now wiring.now.statement.now wiring.now.kind wiring.now.plan wiring.now.ins.now wiring.now.outs.now k) }
-    ensures done { DoneAt expansion.old expansion.new result (adding (instance_of (names_in expansion.old) (instance_ref wiring.now.path.now wiring.now.statement.now wiring.now.kind wiring.now.plan wiring.now.ins.now wiring.now.outs.now k)) (state_of expansion.old)) }
+    requires { InstanceFits expansion.old.builder.header (nets_in expansion.old) (instance_ref wiring.now.path.now
+        wiring.now.statement.now wiring.now.kind wiring.now.plan wiring.now.ins.now wiring.now.outs.now k) }
+    ensures done { DoneAt expansion.old expansion.new result
+        (adding (instance_of (names_in expansion.old) (instance_ref wiring.now.path.now wiring.now.statement.now
+        wiring.now.kind wiring.now.plan wiring.now.ins.now wiring.now.outs.now k)) (state_of expansion.old)) }
     ensures same { OnOk result (SameNets expansion.old expansion.new) }
 {
     let instance = instance(alloc, wiring, k)?;
@@ -212,9 +216,15 @@ pub(crate) fn add_bits(
     wiring: &Wiring,
     width: usize,
 ) -> Result<(), Stop>
-    requires fits { (k : ℕ) → k < width → InstanceFits expansion.old.builder.header (nets_in expansion.old) (instance_ref wiring.now.path.now wiring.now.statement.now wiring.now.kind wiring.now.plan wiring.now.ins.now wiring.now.outs.now k) }
+    requires fits { (k : ℕ) →
+        k < width → InstanceFits expansion.old.builder.header (nets_in expansion.old)
+        (instance_ref wiring.now.path.now wiring.now.statement.now
+        wiring.now.kind wiring.now.plan wiring.now.ins.now wiring.now.outs.now k) }
     requires few { width ≤ 256 }
-    ensures { DoneAt expansion.old expansion.new result (all_added wiring.now.path.now (use_of wiring.now.statement.now) wiring.now.kind wiring.now.plan width (map (joined_of (names_in expansion.old)) wiring.now.ins.now) (map (joined_of (names_in expansion.old)) wiring.now.outs.now) (state_of expansion.old)) }
+    ensures { DoneAt expansion.old expansion.new
+        result (all_added wiring.now.path.now (use_of wiring.now.statement.now) wiring.now.kind wiring.now.plan
+        width (map (joined_of (names_in expansion.old)) wiring.now.ins.now)
+        (map (joined_of (names_in expansion.old)) wiring.now.outs.now) (state_of expansion.old)) }
 {
     for k in 0..width {
         add_bit(expansion, alloc, wiring, k as u16)?;

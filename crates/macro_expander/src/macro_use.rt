@@ -139,7 +139,8 @@ pub(crate) fn inner_scope(
 ) -> Result<Scope, Stop>
     requires fits { UseFits expansion.old.builder.header (use_of statement.now) }
     requires exists { ScopeExists (nets_in expansion.old) scope.now }
-    ensures { ScopeAt expansion.old expansion.new result (spec_inner_scope (macro_of definition.now) given.now (scope_of (names_in expansion.old) scope.now) (use_of statement.now) (state_of expansion.old)) }
+    ensures { ScopeAt expansion.old expansion.new result (spec_inner_scope (macro_of definition.now)
+        given.now (scope_of (names_in expansion.old) scope.now) (use_of statement.now) (state_of expansion.old)) }
 {
     let place = statement.place;
     let inside = inside_of(alloc, definition, given, place)?;

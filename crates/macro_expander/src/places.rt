@@ -68,7 +68,8 @@ pub(crate) fn led<'a, T>(
     items: &'a [T],
     name: &[u8],
 ) -> Option<&'a T>
-    ensures { option_copied result ≡ bit_at_place items.now (lookup (λ k. bytes_eq name.now k.items) places.now.entries) }
+    ensures { option_copied result
+        ≡ bit_at_place items.now (lookup (λ k. bytes_eq name.now k.items) places.now.entries) }
 {
     match places.get(name) {
         Some(place) => items.get(*place),

@@ -29,7 +29,8 @@ pub(crate) fn primitive_use(
     requires ticks { ticks ≡ period expansion.old.builder.header }
     requires fits { UseFits expansion.old.builder.header (use_of statement.now) }
     requires exists { ScopeExists (nets_in expansion.old) scope.now }
-    ensures { DoneAt expansion.old expansion.new result (spec_primitive_use ticks kind (scope_of (names_in expansion.old) scope.now) (use_of statement.now) (state_of expansion.old)) }
+    ensures { DoneAt expansion.old expansion.new result (spec_primitive_use ticks
+        kind (scope_of (names_in expansion.old) scope.now) (use_of statement.now) (state_of expansion.old)) }
 {
     let plan = planned(alloc, ticks, kind, statement, &scope.env)?;
     let wires = all_wires(expansion, alloc, scope, statement)?;

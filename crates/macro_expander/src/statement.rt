@@ -50,7 +50,8 @@ fn place_of(statement: &Stmt) -> Place
 
 /// The statements of an IF that its test chooses.
 fn chosen<'a>(choice: &'a IfStmt, env: &Env) -> Result<&'a [Stmt], Stop>
-    ensures { MatchResult result (λ statements. Chooses env.now choice.now statements.now) (IsUnchosen env.now choice.now) }
+    ensures { MatchResult result (λ statements.
+        Chooses env.now choice.now statements.now) (IsUnchosen env.now choice.now) }
 {
     let test = at(choice.place, value(&choice.test, env))?;
     if test != 0 {
@@ -75,7 +76,8 @@ pub(crate) fn body(
     requires library { IsLibrary expansion.old.builder.header library.now }
     requires fits { StatementsFit expansion.old.builder.header (statements_of statements.now) }
     requires exists { ScopeExists (nets_in expansion.old) scope.now }
-    ensures { DoneAt expansion.old expansion.new result (statements_in library.now levels (statements_of statements.now) (scope_of (names_in expansion.old) scope.now) (state_of expansion.old)) }
+    ensures { DoneAt expansion.old expansion.new result (statements_in library.now levels
+        (statements_of statements.now) (scope_of (names_in expansion.old) scope.now) (state_of expansion.old)) }
 {
     'statements: for statement in statements {
         one(expansion, alloc, library, statement, scope, levels)?;
@@ -95,7 +97,8 @@ fn one(
     requires library { IsLibrary expansion.old.builder.header library.now }
     requires fits { StatementFits expansion.old.builder.header (statement_of statement.now) }
     requires exists { ScopeExists (nets_in expansion.old) scope.now }
-    ensures { DoneAt expansion.old expansion.new result (statement_in library.now levels (statement_of statement.now) (scope_of (names_in expansion.old) scope.now) (state_of expansion.old)) }
+    ensures { DoneAt expansion.old expansion.new result (statement_in library.now
+        levels (statement_of statement.now) (scope_of (names_in expansion.old) scope.now) (state_of expansion.old)) }
 {
     count(expansion, place_of(statement))?;
     match statement {
@@ -118,7 +121,8 @@ fn expand_if(
     requires library { IsLibrary expansion.old.builder.header library.now }
     requires fits { StatementFits expansion.old.builder.header (if_of choice.now) }
     requires exists { ScopeExists (nets_in expansion.old) scope.now }
-    ensures { DoneAt expansion.old expansion.new result (uncounted_in library.now levels (if_of choice.now) (scope_of (names_in expansion.old) scope.now) (state_of expansion.old)) }
+    ensures { DoneAt expansion.old expansion.new result (uncounted_in library.now
+        levels (if_of choice.now) (scope_of (names_in expansion.old) scope.now) (state_of expansion.old)) }
 {
     let statements = chosen(choice, &scope.env)?;
     body(expansion, alloc, library, statements, scope, levels)
@@ -137,7 +141,9 @@ fn expand_use(
     requires library { IsLibrary expansion.old.builder.header library.now }
     requires fits { UseFits expansion.old.builder.header (use_of used.now) }
     requires exists { ScopeExists (nets_in expansion.old) scope.now }
-    ensures { DoneAt expansion.old expansion.new result (use_act library.now.ticks (macros_in library.now) (bodies_in library.now levels) (use_of used.now) (scope_of (names_in expansion.old) scope.now) (state_of expansion.old)) }
+    ensures { DoneAt expansion.old expansion.new
+        result (use_act library.now.ticks (macros_in library.now) (bodies_in library.now levels)
+        (use_of used.now) (scope_of (names_in expansion.old) scope.now) (state_of expansion.old)) }
 {
     if let Some(kind) = primitive(used.kind.as_slice()) {
         return primitive_use(expansion, alloc, library.ticks, kind, scope, used);
@@ -165,7 +171,9 @@ fn expand_macro(
     requires body { MacroFits expansion.old.builder.header (macro_of definition.now) }
     requires fits { UseFits expansion.old.builder.header (use_of used.now) }
     requires exists { ScopeExists (nets_in expansion.old) scope.now }
-    ensures { DoneAt expansion.old expansion.new result (macro_use (bodies_in library.now levels) (Some (macro_of definition.now)) (use_of used.now) (scope_of (names_in expansion.old) scope.now) (state_of expansion.old)) }
+    ensures { DoneAt expansion.old expansion.new result
+        (macro_use (bodies_in library.now levels) (Some (macro_of definition.now))
+        (use_of used.now) (scope_of (names_in expansion.old) scope.now) (state_of expansion.old)) }
 {
     let given = given_to(alloc, definition, &scope.env, used)?;
     if levels == 0 {

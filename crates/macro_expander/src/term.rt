@@ -27,7 +27,8 @@ fn net(
     place: Place,
 ) -> Result<BitRef, Stop>
     requires { Fits expansion.old.builder.header spec.now }
-    ensures { BitAt expansion.old expansion.new result (net_bit (path.now ++ base.now) spec.now place bit (state_of expansion.old)) }
+    ensures { BitAt expansion.old expansion.new result
+        (net_bit (path.now ++ base.now) spec.now place bit (state_of expansion.old)) }
 {
     expansion.builder.known();
     let number = expansion.builder.net(path, base, bit, spec, place)?;
@@ -49,7 +50,8 @@ fn net_bits(
     numbers: &[u16],
 ) -> Result<Bits, Stop>
     requires { Fits expansion.old.builder.header spec.now }
-    ensures { BitsAt expansion.old expansion.new result (spec_net_bits (path.now ++ base.now) spec.now place numbers.now (state_of expansion.old)) }
+    ensures { BitsAt expansion.old expansion.new
+        result (spec_net_bits (path.now ++ base.now) spec.now place numbers.now (state_of expansion.old)) }
 {
     let mut bits = List::new(alloc);
     for number in numbers {
@@ -77,7 +79,8 @@ fn numbered_bits(
     place: Place,
 ) -> Result<Bits, Stop>
     requires { Fits expansion.old.builder.header name.now.spec }
-    ensures { BitsAt expansion.old expansion.new result (spec_net_bits (net_text path.now name.now) name.now.spec place numbers.now (state_of expansion.old)) }
+    ensures { BitsAt expansion.old expansion.new
+        result (spec_net_bits (net_text path.now name.now) name.now.spec place numbers.now (state_of expansion.old)) }
 {
     let base = name.base.as_slice();
     if !name.global {
@@ -105,7 +108,8 @@ fn fresh_bits(
     place: Place,
 ) -> Result<Bits, Stop>
     requires { Fits expansion.old.builder.header name.now.spec }
-    ensures { BitsAt expansion.old expansion.new result (meant None (net_text path.now name.now) name.now.spec ends place (state_of expansion.old)) }
+    ensures { BitsAt expansion.old expansion.new
+        result (meant None (net_text path.now name.now) name.now.spec ends place (state_of expansion.old)) }
 {
     if ends.is_none() {
         return numbered_bits(expansion, alloc, path, name, &[0], place);
@@ -115,7 +119,8 @@ fn fresh_bits(
 }
 
 fn local_formal<'a>(scope: &'a Scope, name: &SignalName) -> Option<&'a Bound>
-    ensures first { option_copied result ≡ (if name.now.global then None else find (λ f. bytes_eq f.base name.now.base) scope.now.formals) }
+    ensures first { option_copied result
+        ≡ (if name.now.global then None else find (λ f. bytes_eq f.base name.now.base) scope.now.formals) }
     ensures run { IfSome result (λ f. HasRun f.now) }
 {
     if name.global {
@@ -135,7 +140,8 @@ pub(crate) fn named_bits(
 ) -> Result<Bits, Stop>
     requires fits { Fits expansion.old.builder.header name.now.spec }
     requires exists { ScopeExists (nets_in expansion.old) scope.now }
-    ensures { BitsAt expansion.old expansion.new result (spec_named_bits (scope_of (names_in expansion.old) scope.now) name.now ends place (state_of expansion.old)) }
+    ensures { BitsAt expansion.old expansion.new result
+        (spec_named_bits (scope_of (names_in expansion.old) scope.now) name.now ends place (state_of expansion.old)) }
 {
     match local_formal(scope, name) {
         Some(bound) => formal_term(alloc, bound, &name.spec, ends, place),

@@ -158,7 +158,8 @@ fn window_by<W: CyclicWave<Item = Value>>(
 ) -> Option<Window>
     requires edge { edge < length (W.cells clock.now) }
     requires limits { limits.0 + limits.1 ≤ length (W.cells clock.now) }
-    ensures window { result ≡ window_by_check check (length (W.cells clock.now)) (read (W.cells clock.now)) limits edge }
+    ensures window { result ≡ window_by_check check
+        (length (W.cells clock.now)) (read (W.cells clock.now)) limits edge }
     ensures fits { IfSome result (WindowFits (length (W.cells clock.now))) }
 {
     match check {

@@ -42,7 +42,8 @@ pub fn main_call<P: Program, S: Source, K: Sink>(
     // Whatever the devices did, an outcome that speaks of the text comes only where it is the text's
     // own, all of the text was read, and all of the answer was written, where the sink tells what it
     // took. Of what a source tells no more than one byte past the limit is read.
-    ensures truthful { (text : List ℕ) → AreTold P.meaning words.now (S.left source.old) text → speaks P.meaning result ≡ true →
+    ensures truthful { (text : List ℕ) →
+        AreTold P.meaning words.now (S.left source.old) text → speaks P.meaning result ≡ true →
         IsAnswered P.meaning words.now text result (K.taken sink.old) (K.taken sink.new) }
     ensures front { ReadsFront (S.left source.old) (S.left source.new) (most_for P.meaning words.now) }
     ensures to_end { IfSome (S.left source.old) (λ text. asks P.meaning words.now ≡ true →
@@ -61,7 +62,8 @@ pub fn main_call<P: Program, S: Source, K: Sink>(
     ensures read_first { has_read P.meaning result ≡ true → asks P.meaning words.now ≡ true }
     ensures read_fault { result ≡ P.meaning.ended CallEnd.ReadFault → Rose (S.faults source.old) (S.faults source.new) }
     ensures write_fault { result ≡ P.meaning.ended CallEnd.WriteFault → Rose (K.faults sink.old) (K.faults sink.new) }
-    ensures cut_short { (text : List ℕ) → AreTold P.meaning words.now (S.left source.old) text → result ≡ P.meaning.ended CallEnd.WriteFault →
+    ensures cut_short { (text : List ℕ) →
+        AreTold P.meaning words.now (S.left source.old) text → result ≡ P.meaning.ended CallEnd.WriteFault →
         IsCutShort P.meaning words.now text (K.taken sink.old) (K.taken sink.new) }
     ensures too_long { result ≡ P.meaning.ended CallEnd.TooLong →
         ReadsPast (S.left source.old) (S.left source.new) (most_for P.meaning words.now) }

@@ -122,7 +122,8 @@ impl<T: Cell + Drop> RunList<T> {
     /// Appends the slots of another list, from one of them on.
     pub fn push_from(&mut self, other: &RunList<T>, start: u16) -> Result<(), NoMemory>
         requires { self.old.slots + (other.now.slots - start) < 2 ^ 16 }
-        ensures { OnOk result (cells_of self.new.runs.items ≡ cells_of self.old.runs.items ++ drop start (cells_of other.now.runs.items)) }
+        ensures { OnOk result (cells_of self.new.runs.items
+            ≡ cells_of self.old.runs.items ++ drop start (cells_of other.now.runs.items)) }
     {
         let mut skipped = start;
         for run in &other.runs {
@@ -136,7 +137,8 @@ impl<T: Cell + Drop> RunList<T> {
     /// Appends the first slots of another list, up to one of them.
     pub fn push_until(&mut self, other: &RunList<T>, end: u16) -> Result<(), NoMemory>
         requires { self.old.slots + end < 2 ^ 16 }
-        ensures { OnOk result (cells_of self.new.runs.items ≡ cells_of self.old.runs.items ++ take end (cells_of other.now.runs.items)) }
+        ensures { OnOk result (cells_of self.new.runs.items
+            ≡ cells_of self.old.runs.items ++ take end (cells_of other.now.runs.items)) }
     {
         let mut kept = end;
         for run in &other.runs {
@@ -226,8 +228,10 @@ impl<T: Cell + Drop> RunList<T> {
     /// What is to come after `width` slots of the run that comes next.
     pub fn after(&self, rest: &Rest<T>, width: u16) -> Rest<T>
         requires { width ≤ rest.now.run.width }
-        ensures cells { cells_of (rest.now.run ∷ drop rest.now.next self.now.runs.items) ≡ replicate width rest.now.run.cell ++ cells_of (result.run ∷ drop result.next self.now.runs.items) }
-        ensures some { 0 < length (cells_of (result.run ∷ drop result.next self.now.runs.items)) → 0 < result.run.width }
+        ensures cells { cells_of (rest.now.run ∷ drop rest.now.next self.now.runs.items)
+            ≡ replicate width rest.now.run.cell ++ cells_of (result.run ∷ drop result.next self.now.runs.items) }
+        ensures some { 0 < length (cells_of (result.run ∷ drop result.next self.now.runs.items)) →
+            0 < result.run.width }
     {
         let left = rest.run.width - width;
         if left == 0 && rest.next < self.runs.len() {

@@ -52,7 +52,8 @@ ends_within text at count is =
     omega (arith, prefix_len-le-length is_comment_byte (drop at text), length-drop at text)
 
 -- The numbers of a place here and behind a piece on the line fit.
-pub on_line_fits : (text : List ℕ) (s : Scan) (count : ℕ) → IsRead text s → length text < 4294967295 → IsOnLine count (drop s.at text) → (s.at + count < 4294967296) × (s.place.col + count < 4294967296)
+pub on_line_fits : (text : List ℕ) (s : Scan) (count : ℕ) → IsRead text s → length text < 4294967295 →
+    IsOnLine count (drop s.at text) → (s.at + count < 4294967296) × (s.place.col + count < 4294967296)
 on_line_fits text s count read short is =
     let ends = ends_within text s.at count is in
     let near = (place_near text s.at read.within).col in

@@ -32,7 +32,8 @@ passes_one q b (x ∷ xs) h k = let e : x ≡ b = eqb-true x b k in let t : q x 
 drop_one : (m x : ℕ) (xs : List ℕ) → drop m xs ≡ drop (1 + m) (x ∷ xs)
 drop_one m x xs = ap (λ (n : ℕ). drop n (x ∷ xs)) (let e : suc m ≡ 1 + m = omega arith in e)
 
-past_step : (b c : Bool) (a x : ℕ) (xs : List ℕ) (m n : ℕ) → (b ≡ true → c ≡ true) → (x ≡ a → c ≡ true) → (begins_with a (drop m xs) ≡ true → m < n) → begins_with a (drop (cond b (1 + m) 0) (x ∷ xs)) ≡ true → cond b (1 + m) 0 < cond c (1 + n) 0
+past_step : (b c : Bool) (a x : ℕ) (xs : List ℕ) (m n : ℕ) → (b ≡ true → c ≡ true) → (x ≡ a → c ≡ true) →
+    (begins_with a (drop m xs) ≡ true → m < n) → begins_with a (drop (cond b (1 + m) 0) (x ∷ xs)) ≡ true → cond b (1 + m) 0 < cond c (1 + n) 0
 past_step true true a x xs m n h e k t = let l : m < n = k (ap (begins_with a) (drop_one m x xs) ∙ t) in omega arith
 past_step true false a x xs m n h e k t = absurd (let f : false ≡ true = h refl in cc)
 past_step false true a x xs m n h e k t = omega arith

@@ -52,4 +52,5 @@ near p n (x ∷ xs) is =
     subst (λ (m : ℕ). IsNear (place_behind (next_place p x) xs) m) e (near (next_place p x) (n + 1) xs (near_step (x == line_end) p n is))
 
 pub place_near : (text : List ℕ) (i : ℕ) → i ≤ length text → IsNear (place_at text i) i
-place_near text i h = subst (λ (m : ℕ). IsNear (place_at text i) m) (let e : 0 + length (take i text) ≡ i = omega (arith, length-take-le i text h) in e) (near first_place 0 (take i text) (record { line = omega arith; col = omega arith }))
+place_near text i h = subst (λ (m : ℕ). IsNear (place_at text i) m) (let e : 0 + length (take i text) ≡ i =
+    omega (arith, length-take-le i text h) in e) (near first_place 0 (take i text) (record { line = omega arith; col = omega arith }))

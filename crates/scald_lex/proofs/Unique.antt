@@ -67,12 +67,14 @@ one_refusal text r s (bad_token a is e) (bad_token b is' f) =
     e ∙ ap (λ (i : ℕ). record { kind = BadToken; place = place_at text i }) (one_cut text 0 is.pieces a is'.pieces b is.before is.bad is'.before is'.bad).to ∙ sym f
 
 -- So the answer is what the text is.
-pub only_list : (text : List ℕ) (result : Result (List Token) Stop) → IfOk result (λ list. AreTokens text list) → IfErr result (λ stop. IsStop text stop) → (list : List Token) → AreTokens text list → GivesList list result
+pub only_list : (text : List ℕ) (result : Result (List Token) Stop) → IfOk result (λ list. AreTokens text list) →
+    IfErr result (λ stop. IsStop text stop) → (list : List Token) → AreTokens text list → GivesList list result
 only_list text (Ok found) is stops list are = one_list text found list is are
 only_list text (Err (Refused r)) is stops list are = absurd (not_both text list r are stops)
 only_list text (Err NoMemory) is stops list are = refl
 
-pub only_refusal : (text : List ℕ) (result : Result (List Token) Stop) → IfOk result (λ list. AreTokens text list) → IfErr result (λ stop. IsStop text stop) → (r : Refusal) → IsRefused text r → GivesRefusal r result
+pub only_refusal : (text : List ℕ) (result : Result (List Token) Stop) → IfOk result (λ list. AreTokens text list) →
+    IfErr result (λ stop. IsStop text stop) → (r : Refusal) → IsRefused text r → GivesRefusal r result
 only_refusal text (Ok found) is stops r refused = not_both text found r is refused
 only_refusal text (Err (Refused s)) is stops r refused = inl (ap (λ (x : Refusal). Refused x) (one_refusal text s r stops refused))
 only_refusal text (Err NoMemory) is stops r refused = inr refl

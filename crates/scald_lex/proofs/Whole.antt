@@ -24,7 +24,9 @@ record HasBadByte (text : List ℕ) : Type 0 where
   bad : IsBadByte text at
 
 looked_at : (text : List ℕ) (n : ℕ) (b : Bool) → n < length text → AllowedBelow text n → is_allowed (get_or text n 0) ≡ b → AllowedBelow text (suc n) ⊎ HasBadByte text
-looked_at text n true h before here = inl (let all : AllowedBelow text (n + 1) = below_more (λ (k : ℕ). is_allowed (get_or text k 0) ≡ true) n before here in subst (AllowedBelow text) (let e : n + 1 ≡ suc n = omega arith in e) all)
+looked_at text n true h before here =
+    inl (let all : AllowedBelow text (n + 1) = below_more (λ (k : ℕ). is_allowed (get_or text k 0) ≡ true) n before here in
+    subst (AllowedBelow text) (let e : n + 1 ≡ suc n = omega arith in e) all)
 looked_at text n false h before here = inr (record { at = n; bad = record { within = h; before = before; bad = here } })
 
 one_further : (text : List ℕ) (n : ℕ) → n < length text → AllowedBelow text n ⊎ HasBadByte text → AllowedBelow text (suc n) ⊎ HasBadByte text
@@ -62,16 +64,23 @@ record HasBadToken (text : List ℕ) : Type 0 where
 abbrev GoesOn : List ℕ → ℕ → Type 0
 GoesOn text at = (ps : List Piece) (to : ℕ) → at < to → to ≤ length text → IsCut text 0 ps to → IsWhole text ⊎ HasBadToken text
 
-by_piece : (text : List ℕ) (ps : List Piece) (at : ℕ) → GoesOn text at → IsAllowed text → IsCut text 0 ps at → at < length text → (o : Option Piece) → piece_at (drop at text) ≡ o → IsWhole text ⊎ HasBadToken text
+by_piece : (text : List ℕ) (ps : List Piece) (at : ℕ) → GoesOn text at → IsAllowed text →
+    IsCut text 0 ps at → at < length text → (o : Option Piece) → piece_at (drop at text) ≡ o → IsWhole text ⊎ HasBadToken text
 by_piece text ps at on allowed cut h None e = inr (record { at = at; bad = record { allowed = allowed; within = h; pieces = ps; before = cut; bad = e } })
 by_piece text ps at on allowed cut h (Some p) e =
     let is = advance text at p h e in
     let some = is.some in
     on (ps ++ p ∷ []) (at + size p) (omega arith) is.within (cut_more text 0 ps at p cut e)
 
-by_end : (text : List ℕ) (ps : List Piece) (at : ℕ) → GoesOn text at → IsAllowed text → IsCut text 0 ps at → at ≤ length text → (b : Bool) → nat_lt at (length text) ≡ b → IsWhole text ⊎ HasBadToken text
+by_end : (text : List ℕ) (ps : List Piece) (at : ℕ) → GoesOn text at → IsAllowed text →
+    IsCut text 0 ps at → at ≤ length text → (b : Bool) → nat_lt at (length text) ≡ b → IsWhole text ⊎ HasBadToken text
 by_end text ps at on allowed cut h true e = by_piece text ps at on allowed cut (ltb-true at (length text) e) (piece_at (drop at text)) refl
-by_end text ps at on allowed cut h false e = inl (record { pieces = ps; cut = subst (IsCut text 0 ps) (let k : length text ≤ at = ltb-false at (length text) e in let f : at ≡ length text = omega arith in f) cut })
+by_end text ps at on allowed cut h false e =
+    inl (record {
+      pieces = ps;
+      cut =
+          subst (IsCut text 0 ps) (let k : length text ≤ at = ltb-false at (length text) e in let f : at ≡ length text = omega arith in f) cut;
+    })
 
 -- Pieces up to here go on to the end, or up to where none begins. No more than so many bytes are left.
 goes_on : (text : List ℕ) (left : ℕ) (ps : List Piece) (at : ℕ) → IsAllowed text → IsCut text 0 ps at → at ≤ length text → length text ≤ at + left → IsWhole text ⊎ HasBadToken text
@@ -82,7 +91,12 @@ goes_on text (suc left) ps at allowed cut h far =
 -- ---- so each text has one of both
 
 with_tokens : (text : List ℕ) → IsAllowed text → IsWhole text ⊎ HasBadToken text → HasTokens text ⊎ HasRefusal text
-with_tokens text allowed (inl whole) = inl (record { tokens = tokens_of text 0 whole.pieces ++ end_token text ∷ []; are = record { allowed = allowed; pieces = whole.pieces; whole = whole.cut; are = refl } })
+with_tokens text allowed (inl whole) =
+    inl (record {
+      tokens = tokens_of text 0 whole.pieces ++ end_token text ∷ [];
+      are =
+          record { allowed = allowed; pieces = whole.pieces; whole = whole.cut; are = refl };
+    })
 with_tokens text allowed (inr bad) = inr (record { refusal = record { kind = BadToken; place = place_at text bad.at }; refused = bad_token bad.at bad.bad refl })
 
 with_bytes : (text : List ℕ) → AllowedBelow text (length text) ⊎ HasBadByte text → HasTokens text ⊎ HasRefusal text

@@ -162,7 +162,12 @@ impl Scan {
     fn move_on(&mut self, count: usize)
         requires at { self.old.at + count < 2 ^ 32 }
         requires col { self.old.place.col + count < 2 ^ 32 }
-        ensures { self.new ≡ record { at = self.old.at + count; place = record { line = self.old.place.line; col = self.old.place.col + count }; list = self.old.list } }
+        ensures { self.new ≡ record {
+          at = self.old.at + count;
+          place =
+              record { line = self.old.place.line; col = self.old.place.col + count };
+          list = self.old.list;
+        } }
     {
         self.at += count;
         self.place.col += count as u32;
@@ -172,7 +177,11 @@ impl Scan {
     fn end_line(&mut self)
         requires at { self.old.at + 1 < 2 ^ 32 }
         requires line { self.old.place.line + 1 < 2 ^ 32 }
-        ensures { self.new ≡ record { at = self.old.at + 1; place = record { line = self.old.place.line + 1; col = 1 }; list = self.old.list } }
+        ensures { self.new ≡ record {
+          at = self.old.at + 1;
+          place = record { line = self.old.place.line + 1; col = 1 };
+          list = self.old.list;
+        } }
     {
         self.at += 1;
         self.place = Place {
@@ -201,7 +210,8 @@ impl Scan {
     /// The whole list, with the end.
     fn finish(mut self) -> Result<TokenList, Stop>
         requires { self.at < 2 ^ 32 }
-        ensures found { IfOk result (λ list. list ≡ self.list ++ record { kind = End; place = self.place; start = self.at; end = self.at } ∷ []) }
+        ensures found { IfOk result (λ list.
+            list ≡ self.list ++ record { kind = End; place = self.place; start = self.at; end = self.at } ∷ []) }
         ensures refused { IfErr result (λ stop. stop ≡ OutOfMemory) }
     {
         self.push(TokenKind::End, 0)?;

@@ -158,7 +158,8 @@ fn mux2_with_input(wanted: bool, a: Step, select: Step, b: Value) -> StepSet
 
 /// That of one step of each.
 fn mux2_step(wanted: bool, b: Step, select: Step, a: Step) -> StepSet
-    ensures { IsSet result (λ before after. wanted && mux2_step select.before select.after a.before a.after b.before b.after before after) }
+    ensures { IsSet result (λ before after.
+        wanted && mux2_step select.before select.after a.before a.after b.before b.after before after) }
 {
     let from = if select.before { b.before } else { a.before };
     let to = if select.after { b.after } else { a.after };

@@ -108,7 +108,8 @@ fn reg_rs_with_set(wanted: bool, set: Step, clock: Step, reset: Value) -> StepSe
 
 /// Those of one step of each.
 fn reg_rs_step(wanted: bool, reset: Step, clock: Step, set: Step) -> StepSet
-    ensures { IsSet result (only_if wanted (reg_rs_step clock.before clock.after set.before set.after reset.before reset.after)) }
+    ensures { IsSet result
+        (only_if wanted (reg_rs_step clock.before clock.after set.before set.after reset.before reset.after)) }
 {
     let earlier = earlier_reg_rs_steps(clock.before, set.before, reset.before);
     earlier
@@ -155,7 +156,8 @@ fn latch_rs_with_enable(
 /// Those of one step of the enable and of the input.
 #[tactic(auto, unfolding(crate::specs::Image::image2))]
 fn latch_rs_with_input(wanted: bool, input: Step, enable: Step, set: Value, reset: Value) -> StepSet
-    ensures { IsSet result (only_if wanted (image2 (latch_rs_step enable.before enable.after input.before input.after) set reset)) }
+    ensures { IsSet result
+        (only_if wanted (image2 (latch_rs_step enable.before enable.after input.before input.after) set reset)) }
 {
     if wanted {
         each_step!(set, latch_rs_with_set(enable, input, reset))
@@ -167,7 +169,8 @@ fn latch_rs_with_input(wanted: bool, input: Step, enable: Step, set: Value, rese
 /// Those of one step of the enable, of the input and of set.
 #[tactic(auto, unfolding(crate::specs::Image::image1))]
 fn latch_rs_with_set(wanted: bool, set: Step, enable: Step, input: Step, reset: Value) -> StepSet
-    ensures { IsSet result (only_if wanted (image1 (latch_rs_step enable.before enable.after input.before input.after set.before set.after) reset)) }
+    ensures { IsSet result (only_if wanted
+        (image1 (latch_rs_step enable.before enable.after input.before input.after set.before set.after) reset)) }
 {
     if wanted {
         each_step!(reset, latch_rs_step(enable, input, set))
@@ -178,7 +181,9 @@ fn latch_rs_with_set(wanted: bool, set: Step, enable: Step, input: Step, reset: 
 
 /// Those of one step of each.
 fn latch_rs_step(wanted: bool, reset: Step, enable: Step, input: Step, set: Step) -> StepSet
-    ensures { IsSet result (only_if wanted (latch_rs_step enable.before enable.after input.before input.after set.before set.after reset.before reset.after)) }
+    ensures { IsSet result
+        (only_if wanted (latch_rs_step enable.before enable.after
+        input.before input.after set.before set.after reset.before reset.after)) }
 {
     let earlier = latch_rs_steps(enable.before, input.before, set.before, reset.before);
     let now = latch_rs_steps(enable.after, input.after, set.after, reset.after);

@@ -34,7 +34,8 @@ fn bit_number(value: i64) -> Option<u16>
 
 /// The numbers from one to another, if they are not too many.
 fn numbers(alloc: Global, first: u16, last: u16) -> Result<Indices, VectorFault>
-    ensures { MatchResult result (λ numbers. range_of (Some first) (Some last) ≡ Some numbers) (IsFaultOf (range_of (Some first) (Some last))) }
+    ensures { MatchResult result (λ numbers.
+        range_of (Some first) (Some last) ≡ Some numbers) (IsFaultOf (range_of (Some first) (Some last))) }
 {
     if first.abs_diff(last) as usize >= WIDEST {
         return Err(VectorFault::BadRange);

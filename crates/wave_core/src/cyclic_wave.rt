@@ -72,7 +72,8 @@ pub trait CyclicWave: Sized + Drop {
     ) -> Result<Self, NoMemory>
         requires callable { F.IsAlwaysCallable f }
         requires periods { length (cells self.now) ≡ length (cells other.now) }
-        ensures { IfOk result (λ w. AllZip (λ p d. F.post f p.0 p.1 d) (zip (cells self.now) (cells other.now)) (cells w)) };
+        ensures { IfOk result (λ w.
+            AllZip (λ p d. F.post f p.0 p.1 d) (zip (cells self.now) (cells other.now)) (cells w)) };
 
     /// The wave whose slot p has the join of the cells at the slots p - back to p.
     fn fold(&self, alloc: Global, back: u16) -> Result<Self, NoMemory>

@@ -104,7 +104,9 @@ impl<T: Cell + Drop> SlotWave<T> {
         requires within { back < length self.now.cells.items }
         requires so_far { cells.old.items ≡ slots (length cells.old.items) (fold_at T.kind self.now.cells.items back) }
         requires tails { tails.now ≡ tails_of T.kind self.now.cells.items back (length cells.old.items) }
-        ensures { OnOk result (cells.new.items ≡ slots (min (length cells.old.items + (back + 1)) (length self.now.cells.items)) (fold_at T.kind self.now.cells.items back)) }
+        ensures { OnOk result
+            (cells.new.items ≡ slots (min (length cells.old.items + (back + 1)) (length self.now.cells.items))
+            (fold_at T.kind self.now.cells.items back)) }
     {
         let from = cells.len();
         let end = min(from + (back + 1), self.cells.len());

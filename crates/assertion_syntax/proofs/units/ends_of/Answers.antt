@@ -9,5 +9,6 @@ spans-init c = record { size = length-replicate {A = ℕ} 4096 0; are = no_ends 
 pub spans-preserved : goal.spans-preserved
 spans-preserved c = record {
   size = c.type_inv.ends;
-  are = rw c.add.ensures (ends_more c.args.units c.spans.ends c.args.spans.now c.spans.span-index (record { lo = 0; hi = 0 }) c.spans.invariant.size c.requires.few c.requires.fit c.spans-test.true c.spans.invariant.are);
+  are = rw c.add.ensures (ends_more c.args.units c.spans.ends c.args.spans.now c.spans.span-index
+      (record { lo = 0; hi = 0 }) c.spans.invariant.size c.requires.few c.requires.fit c.spans-test.true c.spans.invariant.are);
 }

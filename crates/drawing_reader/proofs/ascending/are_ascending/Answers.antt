@@ -22,4 +22,6 @@ pub returns : goal.returns
 returns c = λ is scope.
     let i = c.statements.statement-index in
     let ss = c.args.statements.now in
-    fresh scope c.statements.last.now (labels scope (statements_of ss)) (c.statements.invariant scope c.statements.last.now (climbs_as scope c.statements.last.now c.statements.last.now [] (labels scope (statements_of (drop i ss))) (no_labels scope ss i c.statements-test.false) (climbs_none scope c.statements.last.now)))
+    fresh scope c.statements.last.now (labels scope (statements_of ss))
+    (c.statements.invariant scope c.statements.last.now (climbs_as scope c.statements.last.now c.statements.last.now
+    [] (labels scope (statements_of (drop i ss))) (no_labels scope ss i c.statements-test.false) (climbs_none scope c.statements.last.now)))

@@ -6,4 +6,5 @@ use Rattle.drawing_reader.proofs.ascending.are_ascending.Given as goal
 
 -- whatever climbs behind the last label makes all climb
 abbrev pub invariant-statements : goal.invariant-statements
-invariant-statements l = (scope : ℕ) (end : List ℕ) → Climbs scope l.last end (labels scope (statements_of (drop l.statement-index l.statements))) → Climbs scope [] end (labels scope (statements_of l.statements))
+invariant-statements l = (scope : ℕ) (end : List ℕ) → Climbs scope l.last end (labels scope (statements_of (drop l.statement-index l.statements))) →
+    Climbs scope [] end (labels scope (statements_of l.statements))

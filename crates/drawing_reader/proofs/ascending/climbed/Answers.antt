@@ -14,4 +14,5 @@ returns-else-not-is_behind c = λ scope.
 
 pub returns-in-Wire : goal.returns-in-Wire
 returns-in-Wire c = λ scope.
-    climbs_as scope c.args.last.now c.args.last.now [] (statement_labels scope (statement_of c.args.statement.now)) (no_label scope c.in-Wire.field-0 c.args.statement.now c.in-Wire.is) (climbs_none scope c.args.last.now)
+    climbs_as scope c.args.last.now c.args.last.now [] (statement_labels scope (statement_of c.args.statement.now))
+    (no_label scope c.in-Wire.field-0 c.args.statement.now c.in-Wire.is) (climbs_none scope c.args.last.now)

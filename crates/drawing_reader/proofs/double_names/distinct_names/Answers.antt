@@ -41,5 +41,6 @@ returns-then-are_ascending c =
     let n = length (map macro_of ms) in
     let F : List MacroDef → Type 0 = λ xs. Declares c.new-declarations.result now (macros_declared 0 (map macro_of xs) c.args.heads.now) in
     let G : List Key → Type 0 = λ ks. Declares ks now first in
-    let made = body_fresh (map macro_of ms) c.args.heads.now body now (c.are_ascending.ensures c.if-are_ascending.true n) (subst G c.new-declarations.ensures (subst F c.as_slice.ensures c.in_ok-definitions.ensures)) in
+    let made = body_fresh (map macro_of ms) c.args.heads.now body now (c.are_ascending.ensures c.if-are_ascending.true n)
+    (subst G c.new-declarations.ensures (subst F c.as_slice.ensures c.in_ok-definitions.ensures)) in
     distinct_made (now ++ keys_of (labels n body)) (first ++ labels n body) made

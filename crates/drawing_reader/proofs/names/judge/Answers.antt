@@ -13,7 +13,8 @@ returns-in-Ok-clause-good c =
 
 pub returns-in-Err-BadName-clause-good : goal.returns-in-Err-BadName-clause-good
 returns-in-Err-BadName-clause-good c =
-    fault_stop c.args.header.now (named c.args.text.now c.args.of_formal c.args.place) BadName c.refused-in-Err-BadName.result c.refused-in-Err-BadName.ensures (no_name (c.in-Err-BadName.ensures.none c.in-Err-BadName.field-0-is))
+    fault_stop c.args.header.now (named c.args.text.now c.args.of_formal c.args.place) BadName c.refused-in-Err-BadName.result
+    c.refused-in-Err-BadName.ensures (no_name (c.in-Err-BadName.ensures.none c.in-Err-BadName.field-0-is))
 
 pub returns-then-is_again-clause-good : goal.returns-then-is_again-clause-good
 returns-then-is_again-clause-good c = known_good c.args.header.now c.args.text.now c.args.known.now c.args.of_formal c.args.place c.requires (c.is_again.ensures c.if-is_again.true)

@@ -11,7 +11,8 @@ returns-in_err-next c =
     let p = err_from_is_err_and c.from_residual.result c.from_residual.ensures.1 in
     let text = c.args.text.now in let ts = c.args.tokens.now in let i = c.tokens.token-index in let head = c.tokens.in_head in
     let t = lexeme_of text (get_or ts i blank_token) in
-    rw (p.1, p.2) (judged_stop c.args.header.now (names_from false (lexemes text ts)) (names_from head (lexemes text (drop i ts))) (names_at head (terminal t) t) (names_from (head_behind head (terminal t)) (lexemes text (drop (i + 1) ts)))
+    rw (p.1, p.2) (judged_stop c.args.header.now (names_from false (lexemes text ts)) (names_from head (lexemes text (drop i ts)))
+    (names_at head (terminal t) t) (names_from (head_behind head (terminal t)) (lexemes text (drop (i + 1) ts)))
     c.in_err-next.field-0.0 c.tokens.invariant.0 (next_names text ts i head (head_behind head (terminal t)) c.tokens-test.true refl) c.in_err-next.ensures.refused)
 
 pub tokens-init : goal.tokens-init
@@ -21,7 +22,8 @@ pub tokens-preserved : goal.tokens-preserved
 tokens-preserved c =
     let text = c.args.text.now in let ts = c.args.tokens.now in let i = c.tokens.token-index in let head = c.tokens.in_head in
     let t = lexeme_of text (get_or ts i blank_token) in (
-      judged_on c.args.header.now (names_from false (lexemes text ts)) (names_from head (lexemes text (drop i ts))) (names_at head (terminal t) t) (names_from c.in_ok-next.next (lexemes text (drop (i + 1) ts)))
+      judged_on c.args.header.now (names_from false (lexemes text ts)) (names_from head (lexemes text (drop i ts)))
+          (names_at head (terminal t) t) (names_from c.in_ok-next.next (lexemes text (drop (i + 1) ts)))
           c.tokens.invariant.0 (next_names text ts i head c.in_ok-next.next c.tokens-test.true c.in_ok-next.ensures.next) c.in_ok-next.ensures.good,
       c.in_ok-next.ensures.known,
     )

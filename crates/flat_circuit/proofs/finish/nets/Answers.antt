@@ -7,4 +7,5 @@ loop-i-preserved c =
     let t = c.args.table.now in
     let n = c.len-i-end.ensures.names in
     let w = c.len-i-end.ensures.wires in
-    rw c.in_ok-push.ensures.ok (nets-step t.names t.wires c.args.assertions.now c.args.drivers.now c.loop-i.nets c.in_ok-net.field-0 c.loop-i.i _ (omega arith) (sym w ∙ n) c.requires c.in_ok-net.ensures c.loop-i.invariant)
+    rw c.in_ok-push.ensures.ok (nets-step t.names t.wires c.args.assertions.now c.args.drivers.now
+    c.loop-i.nets c.in_ok-net.field-0 c.loop-i.i _ (omega arith) (sym w ∙ n) c.requires c.in_ok-net.ensures c.loop-i.invariant)

@@ -16,5 +16,7 @@ returns c =
     let e : c.in_ok-order.order.items ≡ range_with_len 0 (length ns) = rw (length-map c.args.nets.now net_name) c.in_ok-order.ensures in
     record {
       each = subst (λ x. IsPermutation x c.sort_by.new.self.items) e c.sort_by.ensures.permutation;
-      sorted = c.in_ok-sort_by.ensures.sorted (λ x y. is_lt (name_cmp (name_at ns x) (name_at ns y))) (ranks_by name_cmp_total (name_at ns)) (always_returns_same _ _ _ (λ a r f' q. let e : r ≡ name_cmp (name_at ns a.0.now) (name_at ns a.1.0.now) = search rules in (ap is_lt e, search rules)));
+      sorted = c.in_ok-sort_by.ensures.sorted (λ x y. is_lt (name_cmp (name_at ns x) (name_at ns y))) (ranks_by name_cmp_total (name_at ns))
+          (always_returns_same _ _ _ (λ a r f' q. let e : r ≡ name_cmp (name_at ns a.0.now) (name_at ns a.1.0.now) =
+          search rules in (ap is_lt e, search rules)));
     }

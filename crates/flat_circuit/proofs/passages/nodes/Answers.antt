@@ -9,4 +9,6 @@ pub loop-k-preserved : goal.loop-k-preserved
 loop-k-preserved c =
     let f = quick_feeders c.args.nets.now.wires c.args.drivers.now c.args.instances.now in
     let node : Node = record { feeders = c.in_ok-quick_to.field-0 } in
-    ap (map node_feeders) c.in_ok-push.ensures.items ∙ map_push node_feeders c.loop-k.nodes.items node ∙ ap (λ (x : List (List ℕ)). x ++ node_feeders node ∷ []) c.loop-k.invariant ∙ rw c.in_ok-quick_to.ensures (sym (map-range_with_len_more f 0 c.loop-k.k c.loop-k.k (omega arith)))
+    ap (map node_feeders) c.in_ok-push.ensures.items ∙ map_push node_feeders c.loop-k.nodes.items node
+    ∙ ap (λ (x : List (List ℕ)). x ++ node_feeders node ∷ []) c.loop-k.invariant
+    ∙ rw c.in_ok-quick_to.ensures (sym (map-range_with_len_more f 0 c.loop-k.k c.loop-k.k (omega arith)))

@@ -3,4 +3,5 @@ use Rattle.flat_circuit.specs.Steps.{row_told, row_at, rows_of}
 use Rattle.flat_circuit.proofs.readers.note_pins.Given as goal
 
 abbrev pub invariant-loop-t : goal.invariant-loop-t
-invariant-loop-t l = (length l.rows.items ≡ length l.fn.rows.items) × ((i : ℕ) → row_told l.kind i l.k l.t (drop l.t l.pins) (row_at (rows_of l.rows.items) i) ≡ row_told l.kind i l.k 0 l.pins (row_at (rows_of l.fn.rows.items) i))
+invariant-loop-t l = (length l.rows.items ≡ length l.fn.rows.items) × ((i : ℕ) → row_told l.kind
+    i l.k l.t (drop l.t l.pins) (row_at (rows_of l.rows.items) i) ≡ row_told l.kind i l.k 0 l.pins (row_at (rows_of l.fn.rows.items) i))

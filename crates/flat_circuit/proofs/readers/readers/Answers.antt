@@ -9,7 +9,10 @@ pub loop-k-init : goal.loop-k-init
 loop-k-init c = rows_start c.args.instances.now c.args.nets (rows_of c.in_ok-rows.rows.items) c.in_ok-rows.ensures
 
 pub loop-k-preserved : goal.loop-k-preserved
-loop-k-preserved c = rows_step c.args.instances.now c.args.nets c.loop-k.k (rows_of c.loop-k.rows.items) (rows_of c.note_instance.new.rows.items) c.index-instances-k.result c.loop-k-test.true c.index-instances-k.is (length-map c.note_instance.new.rows.items (λ (v : Vec ℕ). v.items) ∙ c.in_ok-note_instance.ensures.long ∙ sym (length-map c.loop-k.rows.items (λ (v : Vec ℕ). v.items))) c.in_ok-note_instance.ensures.told c.loop-k.invariant
+loop-k-preserved c = rows_step c.args.instances.now c.args.nets c.loop-k.k (rows_of c.loop-k.rows.items) (rows_of c.note_instance.new.rows.items)
+    c.index-instances-k.result c.loop-k-test.true c.index-instances-k.is
+    (length-map c.note_instance.new.rows.items (λ (v : Vec ℕ). v.items) ∙ c.in_ok-note_instance.ensures.long
+    ∙ sym (length-map c.loop-k.rows.items (λ (v : Vec ℕ). v.items))) c.in_ok-note_instance.ensures.told c.loop-k.invariant
 
 pub returns : goal.returns
 returns c = rows_done c.args.instances.now c.args.nets c.loop-k.k (rows_of c.loop-k.rows.items) c.loop-k-test.false c.loop-k.invariant

@@ -6,13 +6,17 @@ use Rattle.flat_circuit.proofs.Walk.{pushed, push_smaller, popped, pop_smaller, 
 use Rattle.flat_circuit.proofs.search.search.Goals as goal
 
 pub walk-preserved-then-is_fresh : goal.walk-preserved-then-is_fresh
-walk-preserved-then-is_fresh c = pushed c.args.nodes.now (set c.args.marks.now c.args.root Open) c.walk.marks c.walk.path.items c.push.new.self.items c.walk.node c.walk.at c.in-Some.pin c.requires.nodes c.in-Some.ensures c.if-is_fresh.ensures c.in_ok-push-in-Some.ensures.items c.walk.invariant
+walk-preserved-then-is_fresh c = pushed c.args.nodes.now (set c.args.marks.now c.args.root Open) c.walk.marks c.walk.path.items c.push.new.self.items
+    c.walk.node c.walk.at c.in-Some.pin c.requires.nodes c.in-Some.ensures c.if-is_fresh.ensures c.in_ok-push-in-Some.ensures.items c.walk.invariant
 
 pub walk-smaller-then-is_fresh : goal.walk-smaller-then-is_fresh
-walk-smaller-then-is_fresh c = push_smaller c.args.nodes.now (set c.args.marks.now c.args.root Open) c.walk.marks c.walk.path.items c.push.new.self.items c.walk.node c.walk.at c.in-Some.pin c.in-Some.ensures c.if-is_fresh.ensures c.in_ok-push-in-Some.ensures.items c.walk.invariant
+walk-smaller-then-is_fresh c =
+    push_smaller c.args.nodes.now (set c.args.marks.now c.args.root Open) c.walk.marks c.walk.path.items c.push.new.self.items
+    c.walk.node c.walk.at c.in-Some.pin c.in-Some.ensures c.if-is_fresh.ensures c.in_ok-push-in-Some.ensures.items c.walk.invariant
 
 pub walk-preserved : goal.walk-preserved
-walk-preserved c = popped c.args.nodes.now (set c.args.marks.now c.args.root Open) c.walk.marks c.walk.path.items c.pop.new.self.items c.in-Some-pop.frame c.walk.node c.walk.at c.in-Some-pop.ensures.items c.in-None.ensures c.walk.invariant
+walk-preserved c = popped c.args.nodes.now (set c.args.marks.now c.args.root Open) c.walk.marks c.walk.path.items
+    c.pop.new.self.items c.in-Some-pop.frame c.walk.node c.walk.at c.in-Some-pop.ensures.items c.in-None.ensures c.walk.invariant
 
 pub walk-smaller : goal.walk-smaller
 walk-smaller c = pop_smaller c.args.nodes.now c.walk.marks c.walk.path.items c.pop.new.self.items c.in-Some-pop.frame c.walk.node c.walk.at c.in-Some-pop.ensures.items
@@ -24,28 +28,32 @@ close-requires c =
 
 pub returns-else-is_clear-clause-marks : goal.returns-else-is_clear-clause-marks
 returns-else-is_clear-clause-marks c =
-    let f = step_loop c.args.nodes.now (set c.args.marks.now c.args.root Open) c.walk.marks c.walk.path.items c.walk.node c.walk.at c.in-Some.pin c.in-Some.ensures.below c.in-Some.ensures.is c.if-is_fresh.ensures c.if-is_clear.ensures c.walk.invariant in
+    let f = step_loop c.args.nodes.now (set c.args.marks.now c.args.root Open) c.walk.marks c.walk.path.items c.walk.node
+    c.walk.at c.in-Some.pin c.in-Some.ensures.below c.in-Some.ensures.is c.if-is_fresh.ensures c.if-is_clear.ensures c.walk.invariant in
     let e : c.close.new.marks ≡ closed (set c.walk.marks c.walk.node Looped) c.walk.path.items = c.close.ensures ∙ ap (closed (set c.walk.marks c.walk.node Looped)) c.deref.ensures.value in
     let g = subst (Found c.args.nodes.now (set c.args.marks.now c.args.root Open)) (sym e) f in
     g.marks_are
 
 pub returns-else-is_clear-clause-closed : goal.returns-else-is_clear-clause-closed
 returns-else-is_clear-clause-closed c =
-    let f = step_loop c.args.nodes.now (set c.args.marks.now c.args.root Open) c.walk.marks c.walk.path.items c.walk.node c.walk.at c.in-Some.pin c.in-Some.ensures.below c.in-Some.ensures.is c.if-is_fresh.ensures c.if-is_clear.ensures c.walk.invariant in
+    let f = step_loop c.args.nodes.now (set c.args.marks.now c.args.root Open) c.walk.marks c.walk.path.items c.walk.node
+    c.walk.at c.in-Some.pin c.in-Some.ensures.below c.in-Some.ensures.is c.if-is_fresh.ensures c.if-is_clear.ensures c.walk.invariant in
     let e : c.close.new.marks ≡ closed (set c.walk.marks c.walk.node Looped) c.walk.path.items = c.close.ensures ∙ ap (closed (set c.walk.marks c.walk.node Looped)) c.deref.ensures.value in
     let g = subst (Found c.args.nodes.now (set c.args.marks.now c.args.root Open)) (sym e) f in
     g.none
 
 pub returns-else-is_clear-clause-stays : goal.returns-else-is_clear-clause-stays
 returns-else-is_clear-clause-stays c =
-    let f = step_loop c.args.nodes.now (set c.args.marks.now c.args.root Open) c.walk.marks c.walk.path.items c.walk.node c.walk.at c.in-Some.pin c.in-Some.ensures.below c.in-Some.ensures.is c.if-is_fresh.ensures c.if-is_clear.ensures c.walk.invariant in
+    let f = step_loop c.args.nodes.now (set c.args.marks.now c.args.root Open) c.walk.marks c.walk.path.items c.walk.node
+    c.walk.at c.in-Some.pin c.in-Some.ensures.below c.in-Some.ensures.is c.if-is_fresh.ensures c.if-is_clear.ensures c.walk.invariant in
     let e : c.close.new.marks ≡ closed (set c.walk.marks c.walk.node Looped) c.walk.path.items = c.close.ensures ∙ ap (closed (set c.walk.marks c.walk.node Looped)) c.deref.ensures.value in
     let g = subst (Found c.args.nodes.now (set c.args.marks.now c.args.root Open)) (sym e) f in
     stays_before c.args.marks.now c.close.new.marks c.args.root (omega (arith, c.requires.root, c.requires.marks.length_marks)) g.stays
 
 pub returns-else-is_clear-clause-root : goal.returns-else-is_clear-clause-root
 returns-else-is_clear-clause-root c =
-    let f = step_loop c.args.nodes.now (set c.args.marks.now c.args.root Open) c.walk.marks c.walk.path.items c.walk.node c.walk.at c.in-Some.pin c.in-Some.ensures.below c.in-Some.ensures.is c.if-is_fresh.ensures c.if-is_clear.ensures c.walk.invariant in
+    let f = step_loop c.args.nodes.now (set c.args.marks.now c.args.root Open) c.walk.marks c.walk.path.items c.walk.node
+    c.walk.at c.in-Some.pin c.in-Some.ensures.below c.in-Some.ensures.is c.if-is_fresh.ensures c.if-is_clear.ensures c.walk.invariant in
     let e : c.close.new.marks ≡ closed (set c.walk.marks c.walk.node Looped) c.walk.path.items = c.close.ensures ∙ ap (closed (set c.walk.marks c.walk.node Looped)) c.deref.ensures.value in
     let g = subst (Found c.args.nodes.now (set c.args.marks.now c.args.root Open)) (sym e) f in
     root_marked c.args.marks.now c.close.new.marks c.args.root (omega (arith, c.requires.root, c.requires.marks.length_marks)) g.stays

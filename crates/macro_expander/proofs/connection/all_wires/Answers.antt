@@ -23,7 +23,10 @@ all_joined-requires-2-clause-exists c = scope_exists_stays c.args.expansion.now 
 pub returns-in_err-outs : goal.returns-in_err-outs
 returns-in_err-outs c =
     let p = err_from_is_err_and c.from_residual-in_err-outs.result c.from_residual-in_err-outs.ensures.1 in
-    rw (p.1, p.2) (wires_failed c.args.expansion.now c.all_joined.new.expansion c.args.scope.now (use_of c.args.statement.now) c.in_ok-ins.ins c.requires.exists (rw c.as_slice.ensures at c.in_ok-ins.ensures) c.in_err-outs.field-0.0 (rw c.as_slice-2.ensures at c.in_err-outs.ensures))
+    rw (p.1, p.2) (wires_failed c.args.expansion.now c.all_joined.new.expansion c.args.scope.now (use_of c.args.statement.now) c.in_ok-ins.ins
+    c.requires.exists (rw c.as_slice.ensures at c.in_ok-ins.ensures) c.in_err-outs.field-0.0 (rw c.as_slice-2.ensures at c.in_err-outs.ensures))
 
 pub returns : goal.returns
-returns c = wires_given c.args.expansion.now c.all_joined.new.expansion c.args.scope.now (use_of c.args.statement.now) c.in_ok-ins.ins c.requires.exists (rw c.as_slice.ensures at c.in_ok-ins.ensures) c.all_joined-2.new.expansion c.in_ok-outs.outs (rw c.as_slice-2.ensures at c.in_ok-outs.ensures)
+returns c = wires_given c.args.expansion.now c.all_joined.new.expansion c.args.scope.now (use_of c.args.statement.now) c.in_ok-ins.ins
+    c.requires.exists (rw c.as_slice.ensures at c.in_ok-ins.ensures)
+    c.all_joined-2.new.expansion c.in_ok-outs.outs (rw c.as_slice-2.ensures at c.in_ok-outs.ensures)

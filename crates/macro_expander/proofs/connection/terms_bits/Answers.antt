@@ -29,9 +29,12 @@ returns-in_err-more c =
     let want = terms_bits scope c.args.place (map term_of c.args.terms.now) (state_of c.args.expansion.now) in
     let i = c.loop-term.term-index in
     let x = c.term-item.result in
-    rw (p.1, p.2) (front_failed (term_bits scope c.args.place) c.args.expansion.now want (map term_of (drop i c.args.terms.now)) (map term_of (drop (i + 1) c.args.terms.now)) (term_of x) c.loop-term.bits c.loop-term.expansion
+    rw (p.1, p.2) (front_failed (term_bits scope c.args.place) c.args.expansion.now want (map term_of (drop i c.args.terms.now))
+    (map term_of (drop (i + 1) c.args.terms.now)) (term_of x) c.loop-term.bits c.loop-term.expansion
     (next_of term_of c.args.terms.now i x c.loop-term-test.true c.term-item.is) c.in_err-more.field-0.0
-    (subst (λ (z : Scope). Failed c.in_err-more.field-0.0 (term_bits z c.args.place (term_of x) (state_of c.loop-term.expansion))) (scope_stays c.args.expansion.now c.loop-term.expansion c.args.scope.now c.loop-term.invariant.gathered.grows c.requires.exists) c.in_err-more.ensures)
+    (subst (λ (z : Scope). Failed c.in_err-more.field-0.0 (term_bits z c.args.place (term_of x) (state_of c.loop-term.expansion)))
+    (scope_stays c.args.expansion.now c.loop-term.expansion c.args.scope.now c.loop-term.invariant.gathered.grows c.requires.exists)
+    c.in_err-more.ensures)
     c.loop-term.invariant)
 
 pub loop-term-preserved : goal.loop-term-preserved
@@ -41,8 +44,12 @@ loop-term-preserved c =
     let i = c.loop-term.term-index in
     let x = c.term-item.result in
     let items : c.keep.new.bits ≡ kept_with c.loop-term.bits c.in_ok-more.more = c.in_ok-keep.ensures ∙ ap (λ (more : List BitRef). kept_with c.loop-term.bits more) c.as_slice.ensures in
-    subst (λ (bits : List BitRef). GatheredFront (term_bits scope c.args.place) c.args.expansion.now want (map term_of (drop (i + 1) c.args.terms.now)) bits c.term_bits-in-loop-term.new.expansion) (sym items)
-    (front_more (term_bits scope c.args.place) c.args.expansion.now want (map term_of (drop i c.args.terms.now)) (map term_of (drop (i + 1) c.args.terms.now)) (term_of x) c.loop-term.bits c.loop-term.expansion
+    subst (λ (bits : List BitRef). GatheredFront (term_bits scope c.args.place) c.args.expansion.now
+    want (map term_of (drop (i + 1) c.args.terms.now)) bits c.term_bits-in-loop-term.new.expansion) (sym items)
+    (front_more (term_bits scope c.args.place) c.args.expansion.now want (map term_of (drop i c.args.terms.now))
+    (map term_of (drop (i + 1) c.args.terms.now)) (term_of x) c.loop-term.bits c.loop-term.expansion
     (next_of term_of c.args.terms.now i x c.loop-term-test.true c.term-item.is) c.in_ok-more.more c.term_bits-in-loop-term.new.expansion
-    (subst (λ (z : Scope). GivesBits c.loop-term.expansion c.term_bits-in-loop-term.new.expansion c.in_ok-more.more (term_bits z c.args.place (term_of x) (state_of c.loop-term.expansion))) (scope_stays c.args.expansion.now c.loop-term.expansion c.args.scope.now c.loop-term.invariant.gathered.grows c.requires.exists) c.in_ok-more.ensures)
+    (subst (λ (z : Scope). GivesBits c.loop-term.expansion c.term_bits-in-loop-term.new.expansion c.in_ok-more.more
+    (term_bits z c.args.place (term_of x) (state_of c.loop-term.expansion))) (scope_stays c.args.expansion.now
+    c.loop-term.expansion c.args.scope.now c.loop-term.invariant.gathered.grows c.requires.exists) c.in_ok-more.ensures)
     c.loop-term.invariant)

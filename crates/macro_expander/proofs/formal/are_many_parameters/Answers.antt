@@ -27,7 +27,8 @@ returns-then-is_some c =
     let i = c.loop-place.place - 1 in
     let below : i < length params = omega arith in
     let next : c.loop-place.place ≡ i + 1 = omega arith in
-    let found = found_behind known params i x below c.index-params-place.is c.loop-place.behind.entries c.loop-place.place c.name-name.result.now c.led.result c.is_some.result next c.name-name.ensures c.loop-place.invariant.leads c.led.ensures c.is_some.ensures in
+    let found = found_behind known params i x below c.index-params-place.is c.loop-place.behind.entries c.loop-place.place
+    c.name-name.result.now c.led.result c.is_some.result next c.name-name.ensures c.loop-place.invariant.leads c.led.ensures c.is_some.ensures in
     sym (
     subst (λ (xs : List Assign). are_of known (map assignment_of xs) ≡ false) c.as_slice-params.ensures
     (comes_twice known params i x below c.index-params-place.is (sym found ∙ c.if-is_some.true)))
@@ -40,7 +41,8 @@ loop-place-preserved c =
     let i = c.loop-place.place - 1 in
     let below : i < length params = omega arith in
     let next : c.loop-place.place ≡ i + 1 = omega arith in
-    let found = found_behind known params i x below c.index-params-place.is c.loop-place.behind.entries c.loop-place.place c.name-name.result.now c.led.result c.is_some.result next c.name-name.ensures c.loop-place.invariant.leads c.led.ensures c.is_some.ensures in
+    let found = found_behind known params i x below c.index-params-place.is c.loop-place.behind.entries c.loop-place.place
+    c.name-name.result.now c.led.result c.is_some.result next c.name-name.ensures c.loop-place.invariant.leads c.led.ensures c.is_some.ensures in
     let on : c.is_known.result ≡ true = search rules in
     let is_one : known x.name ≡ true = sym (subst (λ (n : List ℕ). c.is_known.result ≡ known n) c.name-name.ensures c.is_known.ensures) ∙ on in
     subst (λ (es : List Place). KnownBehind known params es i) (sym c.in_ok-insert.ensures.entries)

@@ -15,5 +15,6 @@ returns-in_err-instance-2-clause-done c =
 
 pub returns-clause-done : goal.returns-clause-done
 returns-clause-done c =
-    subst (λ (j : Instance). GivesDone c.args.expansion.now (record { statements = c.args.expansion.now.statements; builder = c.instance-2.new.self }) (adding (instance_of (names_in c.args.expansion.now) j) (state_of c.args.expansion.now))) c.in_ok-instance.ensures
+    subst (λ (j : Instance). GivesDone c.args.expansion.now (record { statements = c.args.expansion.now.statements; builder = c.instance-2.new.self })
+    (adding (instance_of (names_in c.args.expansion.now) j) (state_of c.args.expansion.now))) c.in_ok-instance.ensures
     (bit_added c.args.expansion.now c.in_ok-instance.instance c.known.ensures c.instance-2.new.self c.in_ok-instance-2.field-0 c.in_ok-instance-2.ensures.given)

@@ -10,4 +10,5 @@ invariant-loop-k l =
     let w = l.wiring in
     let ins = map (joined_of (names_in l.fn.expansion)) w.ins.now in
     let outs = map (joined_of (names_in l.fn.expansion)) w.outs.now in
-    WentOn (λ k. adding (instance_at w.path.now (use_of w.statement.now) w.kind w.plan ins outs k)) l.fn.expansion (all_added w.path.now (use_of w.statement.now) w.kind w.plan l.width ins outs (state_of l.fn.expansion)) (drop l.k (range_with_len 0 l.width)) l.expansion
+    WentOn (λ k. adding (instance_at w.path.now (use_of w.statement.now) w.kind w.plan ins outs k)) l.fn.expansion (all_added w.path.now
+    (use_of w.statement.now) w.kind w.plan l.width ins outs (state_of l.fn.expansion)) (drop l.k (range_with_len 0 l.width)) l.expansion

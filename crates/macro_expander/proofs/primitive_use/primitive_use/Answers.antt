@@ -19,23 +19,28 @@ pub returns-then-not-inputs_fit : goal.returns-then-not-inputs_fit
 returns-then-not-inputs_fit c =
     let narrow : inputs_fit c.args.kind c.width_of-width.result (map bits_in c.as_slice-3.result.now) ≡ false = sym c.inputs_fit.ensures ∙ c.if-not-inputs_fit.true in
     failed_so c.refused.result _ _ c.args.statement.now.place c.refused.ensures
-    (use_narrow c.args.expansion.now c.args.ticks c.args.kind c.args.scope.now c.args.statement.now c.in_ok-plan.plan c.in_ok-plan.ensures c.all_wires.new.expansion c.in_ok-wires.wires c.in_ok-wires.ensures
+    (use_narrow c.args.expansion.now c.args.ticks c.args.kind c.args.scope.now c.args.statement.now
+    c.in_ok-plan.plan c.in_ok-plan.ensures c.all_wires.new.expansion c.in_ok-wires.wires c.in_ok-wires.ensures
     c.as_slice.result.now c.as_slice-2.result.now c.as_slice-3.result.now c.width_of-width.result c.as_slice.ensures c.as_slice-2.ensures c.as_slice-3.ensures c.width_of-width.ensures narrow)
 
 pub add_bits-requires-clause-fits : goal.add_bits-requires-clause-fits
 add_bits-requires-clause-fits c = λ k below.
-    use_fits c.args.expansion.now c.args.ticks c.args.kind c.args.scope.now c.args.statement.now c.in_ok-plan.plan c.in_ok-plan.ensures c.all_wires.new.expansion c.in_ok-wires.wires c.in_ok-wires.ensures
+    use_fits c.args.expansion.now c.args.ticks c.args.kind c.args.scope.now c.args.statement.now
+    c.in_ok-plan.plan c.in_ok-plan.ensures c.all_wires.new.expansion c.in_ok-wires.wires c.in_ok-wires.ensures
     c.as_slice.result.now c.as_slice-2.result.now c.as_slice-3.result.now c.width_of-width.result c.as_slice.ensures c.as_slice-2.ensures c.as_slice-3.ensures c.width_of-width.ensures
     k c.as_slice-4.result.now c.as_slice-5.result.now c.as_slice-6.result.now c.as_slice-5.ensures c.as_slice-6.ensures c.requires.ticks
 
 pub add_bits-requires-clause-few : goal.add_bits-requires-clause-few
 add_bits-requires-clause-few c =
-    use_few c.args.expansion.now c.args.ticks c.args.kind c.args.scope.now c.args.statement.now c.in_ok-plan.plan c.in_ok-plan.ensures c.all_wires.new.expansion c.in_ok-wires.wires c.in_ok-wires.ensures
+    use_few c.args.expansion.now c.args.ticks c.args.kind c.args.scope.now c.args.statement.now
+    c.in_ok-plan.plan c.in_ok-plan.ensures c.all_wires.new.expansion c.in_ok-wires.wires c.in_ok-wires.ensures
     c.as_slice.result.now c.as_slice-2.result.now c.as_slice-3.result.now c.width_of-width.result c.as_slice.ensures c.as_slice-2.ensures c.as_slice-3.ensures c.width_of-width.ensures
 
 pub returns : goal.returns
 returns c =
     let wide : inputs_fit c.args.kind c.width_of-width.result (map bits_in c.as_slice-3.result.now) ≡ true = sym c.inputs_fit.ensures ∙ c.if-not-inputs_fit.false in
-    use_done c.args.expansion.now c.args.ticks c.args.kind c.args.scope.now c.args.statement.now c.in_ok-plan.plan c.in_ok-plan.ensures c.all_wires.new.expansion c.in_ok-wires.wires c.in_ok-wires.ensures
+    use_done c.args.expansion.now c.args.ticks c.args.kind c.args.scope.now c.args.statement.now
+    c.in_ok-plan.plan c.in_ok-plan.ensures c.all_wires.new.expansion c.in_ok-wires.wires c.in_ok-wires.ensures
     c.as_slice.result.now c.as_slice-2.result.now c.as_slice-3.result.now c.width_of-width.result c.as_slice.ensures c.as_slice-2.ensures c.as_slice-3.ensures c.width_of-width.ensures
-    c.add_bits.new.expansion c.add_bits.result c.as_slice-4.result.now c.as_slice-5.result.now c.as_slice-6.result.now c.as_slice-4.ensures c.as_slice-5.ensures c.as_slice-6.ensures wide c.add_bits.ensures
+    c.add_bits.new.expansion c.add_bits.result c.as_slice-4.result.now c.as_slice-5.result.now
+    c.as_slice-6.result.now c.as_slice-4.ensures c.as_slice-5.ensures c.as_slice-6.ensures wide c.add_bits.ensures

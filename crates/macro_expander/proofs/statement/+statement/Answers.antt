@@ -28,7 +28,8 @@ body-one-requires t c =
       (
         library_stays start.builder.header c.statements.expansion.builder.header c.args.library.now grows.header c.requires.library,
         (
-          subst (λ (h : Header). StatementFits h (statement_of c.statement-item.result)) (sym grows.header) (item_fits start.builder.header c.args.statements.now c.statements.statement-index c.statement-item.result c.requires.fits c.statements-test.true c.statement-item.is),
+          subst (λ (h : Header). StatementFits h (statement_of c.statement-item.result)) (sym grows.header) (item_fits start.builder.header
+              c.args.statements.now c.statements.statement-index c.statement-item.result c.requires.fits c.statements-test.true c.statement-item.is),
           scope_exists_stays start c.statements.expansion c.args.scope.now grows c.requires.exists,
         ),
       ),
@@ -43,8 +44,10 @@ body-returns-in_err-one t c =
     let x = c.statement-item.result in
     let scope = scope_of (names_in start) c.args.scope.now in
     let p = err_from_is_err_and c.from_residual.result c.from_residual.ensures.1 in
-    rw (p.1, p.2) (through_failed l.ticks (macros_in l) (bodies_in l c.args.levels) scope start (statements_in l c.args.levels (statements_of all) scope (state_of start)) all c.statements.statement-index e x c.statements-test.true c.statement-item.is c.in_err-one.field-0.0
-    (subst (λ (z : Scope). Failed c.in_err-one.field-0.0 (statement_in l c.args.levels (statement_of x) z (state_of e))) (scope_stays start e c.args.scope.now c.statements.invariant.grows c.requires.exists) c.in_err-one.ensures)
+    rw (p.1, p.2) (through_failed l.ticks (macros_in l) (bodies_in l c.args.levels) scope start (statements_in l c.args.levels (statements_of all)
+    scope (state_of start)) all c.statements.statement-index e x c.statements-test.true c.statement-item.is c.in_err-one.field-0.0
+    (subst (λ (z : Scope). Failed c.in_err-one.field-0.0 (statement_in l c.args.levels (statement_of x) z (state_of e)))
+    (scope_stays start e c.args.scope.now c.statements.invariant.grows c.requires.exists) c.in_err-one.ensures)
     c.statements.invariant)
 
 pub body-statements-preserved : goal.body-statements-preserved
@@ -55,29 +58,35 @@ body-statements-preserved t c =
     let all = c.args.statements.now in
     let x = c.statement-item.result in
     let scope = scope_of (names_in start) c.args.scope.now in
-    through_more l.ticks (macros_in l) (bodies_in l c.args.levels) scope start (statements_in l c.args.levels (statements_of all) scope (state_of start)) all c.statements.statement-index e x c.statements-test.true c.statement-item.is c.one.new.expansion
-    (subst (λ (z : Scope). GivesDone e c.one.new.expansion (statement_in l c.args.levels (statement_of x) z (state_of e))) (scope_stays start e c.args.scope.now c.statements.invariant.grows c.requires.exists) c.in_ok-one.ensures)
+    through_more l.ticks (macros_in l) (bodies_in l c.args.levels) scope start (statements_in l c.args.levels (statements_of all)
+    scope (state_of start)) all c.statements.statement-index e x c.statements-test.true c.statement-item.is c.one.new.expansion
+    (subst (λ (z : Scope). GivesDone e c.one.new.expansion (statement_in l c.args.levels (statement_of x) z (state_of e)))
+    (scope_stays start e c.args.scope.now c.statements.invariant.grows c.requires.exists) c.in_ok-one.ensures)
     c.statements.invariant
 
 pub expand_macro-returns-then-levels-eq0 : goal.expand_macro-returns-then-levels-eq0
 expand_macro-returns-then-levels-eq0 t c =
     let l = c.args.library.now in
     failed_so c.refused.result _ TooDeep c.args.used.now.place c.refused.ensures
-    (macro_too_deep l.ticks (macros_in l) c.args.levels c.args.expansion.now c.args.scope.now (macro_of c.args.definition.now) (use_of c.args.used.now) c.in_ok-given.given c.in_ok-given.ensures c.if-levels-eq0.true)
+    (macro_too_deep l.ticks (macros_in l) c.args.levels c.args.expansion.now c.args.scope.now
+    (macro_of c.args.definition.now) (use_of c.args.used.now) c.in_ok-given.given c.in_ok-given.ensures c.if-levels-eq0.true)
 
 pub expand_macro-returns-in_err-inner : goal.expand_macro-returns-in_err-inner
 expand_macro-returns-in_err-inner t c =
     let l = c.args.library.now in
     let deep : c.args.levels ≢ 0 = omega arith in
     let p = err_from_is_err_and c.from_residual-in_err-inner.result c.from_residual-in_err-inner.ensures.1 in
-    rw (p.1, p.2) (macro_cut l.ticks (macros_in l) c.args.levels c.args.expansion.now c.args.scope.now (macro_of c.args.definition.now) (use_of c.args.used.now) c.in_ok-given.given c.in_ok-given.ensures deep c.in_err-inner.field-0.0 c.in_err-inner.ensures)
+    rw (p.1, p.2) (macro_cut l.ticks (macros_in l) c.args.levels c.args.expansion.now c.args.scope.now (macro_of c.args.definition.now)
+    (use_of c.args.used.now) c.in_ok-given.given c.in_ok-given.ensures deep c.in_err-inner.field-0.0 c.in_err-inner.ensures)
 
 pub expand_macro-returns : goal.expand_macro-returns
 expand_macro-returns t c =
     let l = c.args.library.now in
     let deep : c.args.levels ≢ 0 = omega arith in
     let done = rw c.deref.ensures.value at c.body.ensures in
-    macro_done l.ticks (macros_in l) c.args.levels c.args.expansion.now c.args.scope.now (macro_of c.args.definition.now) (use_of c.args.used.now) c.in_ok-given.given c.in_ok-given.ensures deep c.inner_scope.new.expansion c.body.new.expansion c.in_ok-inner.inner c.body.result c.in_ok-inner.ensures done
+    macro_done l.ticks (macros_in l) c.args.levels c.args.expansion.now c.args.scope.now (macro_of c.args.definition.now) (use_of c.args.used.now)
+    c.in_ok-given.given c.in_ok-given.ensures deep c.inner_scope.new.expansion
+    c.body.new.expansion c.in_ok-inner.inner c.body.result c.in_ok-inner.ensures done
 
 pub expand_use-returns-in-Some : goal.expand_use-returns-in-Some
 expand_use-returns-in-Some t c =
@@ -87,7 +96,8 @@ expand_use-returns-in-Some t c =
     let scope = scope_of (names_in e) c.args.scope.now in
     let u = use_of c.args.used.now in
     let known = subst (λ (name : List ℕ). Some c.in-Some.kind ≡ kind_of name) c.as_slice.ensures c.in-Some.ensures in
-    done_later e e c.primitive_use.new.expansion c.primitive_use.result (primitive_use l.ticks c.in-Some.kind scope u (state_of e)) (use_act l.ticks (macros_in l) below u scope (state_of e)) (grows_refl e)
+    done_later e e c.primitive_use.new.expansion c.primitive_use.result
+    (primitive_use l.ticks c.in-Some.kind scope u (state_of e)) (use_act l.ticks (macros_in l) below u scope (state_of e)) (grows_refl e)
     (primitive_act l.ticks (macros_in l) below u scope (state_of e) c.in-Some.kind known) c.primitive_use.ensures
 
 pub expand_use-expand_macro-requires : goal.expand_use-expand_macro-requires
@@ -98,7 +108,8 @@ expand_use-expand_macro-requires t c =
       (
         c.requires.library,
         (
-          found_is (MacroFits c.args.expansion.now.builder.header) (λ (m : Macro). bytes_eq m.name c.args.used.now.kind) (macros_in l) (macro_of c.in-Some-find.definition.now) c.requires.library.fit first,
+          found_is (MacroFits c.args.expansion.now.builder.header) (λ (m : Macro). bytes_eq m.name c.args.used.now.kind)
+              (macros_in l) (macro_of c.in-Some-find.definition.now) c.requires.library.fit first,
           (c.requires.fits, c.requires.exists),
         ),
       ),

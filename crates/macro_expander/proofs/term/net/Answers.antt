@@ -9,4 +9,5 @@ returns-in_err-number c =
     rw (p.1, p.2) (net_refused c.args.expansion.now (c.args.path.now ++ c.args.base.now) c.args.bit c.args.spec.now c.args.place c.in_err-number.field-0.0 c.in_err-number.ensures.refused.1)
 
 pub returns : goal.returns
-returns c = net_given c.args.expansion.now (c.args.path.now ++ c.args.base.now) c.args.bit c.args.spec.now c.args.place c.net.new.self c.in_ok-number.number c.known.ensures c.known-2.ensures c.in_ok-number.ensures.given
+returns c = net_given c.args.expansion.now (c.args.path.now ++ c.args.base.now) c.args.bit
+    c.args.spec.now c.args.place c.net.new.self c.in_ok-number.number c.known.ensures c.known-2.ensures c.in_ok-number.ensures.given

@@ -13,5 +13,6 @@ loop-number-preserved c =
     let i = c.loop-number.number-index in
     let x = get_or c.args.numbers.now i 0 in
     subst (λ (bits : List BitRef). Gathered step c.args.expansion.now want (drop (i + 1) c.args.numbers.now) bits c.net.new.expansion) (sym c.in_ok-push.ensures.ok)
-    (gathered_more step c.args.expansion.now want (drop i c.args.numbers.now) (drop (i + 1) c.args.numbers.now) x c.loop-number.bits c.loop-number.expansion (drop_more c.args.numbers.now i 0 c.loop-number-test.true) (c.in_ok-net.field-0 ∷ []) c.net.new.expansion
+    (gathered_more step c.args.expansion.now want (drop i c.args.numbers.now) (drop (i + 1) c.args.numbers.now) x c.loop-number.bits
+    c.loop-number.expansion (drop_more c.args.numbers.now i 0 c.loop-number-test.true) (c.in_ok-net.field-0 ∷ []) c.net.new.expansion
     c.in_ok-net.ensures c.loop-number.invariant)

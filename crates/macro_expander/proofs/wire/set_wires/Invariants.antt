@@ -6,4 +6,5 @@ use Rattle.macro_expander.proofs.wire.set_wires.Given as goal
 abbrev pub invariant-loop-bit : goal.invariant-loop-bit
 invariant-loop-bit l =
     let names = names_in l.fn.expansion in
-    WiredSoFar l.fn.expansion l.expansion (with_wires l.wire (map (bit_of names) (drop l.bit-index l.bits)) (state_of l.expansion)) (with_wires l.wire (map (bit_of names) l.bits) (state_of l.fn.expansion))
+    WiredSoFar l.fn.expansion l.expansion (with_wires l.wire (map (bit_of names) (drop l.bit-index l.bits)) (state_of l.expansion))
+    (with_wires l.wire (map (bit_of names) l.bits) (state_of l.fn.expansion))

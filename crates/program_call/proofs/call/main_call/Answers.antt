@@ -11,7 +11,8 @@ returns-clause-bad_words g c i none = end_gives g.P.Program.meaning c.laws.ensur
 
 pub returns-clause-bad_words_only : goal.returns-clause-bad_words_only
 returns-clause-bad_words_only g c i e =
-    c.replied.ensures.bad_words_only i (end_is g.P.Program.meaning c.laws.ensures c.args.words.now _ _ _ _ _ c.replied.result c.outcome.result (BadWords i) c.replied.ensures.replied c.outcome.ensures e)
+    c.replied.ensures.bad_words_only i (end_is g.P.Program.meaning c.laws.ensures c.args.words.now
+    _ _ _ _ _ c.replied.result c.outcome.result (BadWords i) c.replied.ensures.replied c.outcome.ensures e)
 
 pub returns-clause-unwritten : goal.returns-clause-unwritten
 returns-clause-unwritten g c silent =
@@ -48,7 +49,8 @@ returns-clause-sink_steady g c other = c.replied.ensures.sink_steady (other_end 
 
 pub returns-clause-read_first : goal.returns-clause-read_first
 returns-clause-read_first g c reading =
-    at_end g.P.Program.meaning c.laws.ensures c.args.words.now _ _ _ _ _ c.replied.result c.outcome.result ends_reading _ c.replied.ensures.replied c.outcome.ensures c.replied.ensures.read_first reading
+    at_end g.P.Program.meaning c.laws.ensures c.args.words.now _ _ _ _ _ c.replied.result
+    c.outcome.result ends_reading _ c.replied.ensures.replied c.outcome.ensures c.replied.ensures.read_first reading
 
 pub returns-clause-read_fault : goal.returns-clause-read_fault
 returns-clause-read_fault g c e =

@@ -14,4 +14,5 @@ loop-i-preserved c =
     let old = c.args.a.now in
     let n : c.loop-i.i < length c.loop-i.a = grind (arith, common_steps) in
     let x = get_or c.loop-i.a c.loop-i.i none in
-    c.set.ensures ∙ ap (set c.loop-i.a c.loop-i.i) (c.flipped.ensures ∙ rw c.as_slice.ensures refl) ∙ map_over_more complemented old c.loop-i.a c.loop-i.i x (omega arith) c.loop-i.invariant (get_or_default c.loop-i.a c.loop-i.i none x n)
+    c.set.ensures ∙ ap (set c.loop-i.a c.loop-i.i) (c.flipped.ensures ∙ rw c.as_slice.ensures refl)
+    ∙ map_over_more complemented old c.loop-i.a c.loop-i.i x (omega arith) c.loop-i.invariant (get_or_default c.loop-i.a c.loop-i.i none x n)

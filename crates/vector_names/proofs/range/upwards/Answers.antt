@@ -4,7 +4,8 @@ use Rattle.vector_names.proofs.range.upwards.Goals as goal
 
 pub loop-further-preserved : goal.loop-further-preserved
 loop-further-preserved c =
-    c.in_ok-push.ensures.ok ∙ ap (λ (xs : List ℕ). xs ++ (c.args.first + c.loop-further.further) ∷ []) c.loop-further.invariant ∙ sym (range-more c.args.first c.loop-further.further (c.args.first + c.loop-further.further) (omega arith))
+    c.in_ok-push.ensures.ok ∙ ap (λ (xs : List ℕ). xs ++ (c.args.first + c.loop-further.further) ∷ []) c.loop-further.invariant
+    ∙ sym (range-more c.args.first c.loop-further.further (c.args.first + c.loop-further.further) (omega arith))
 
 pub returns : goal.returns
 returns c =

@@ -15,7 +15,8 @@ use Rattle.drawing_reader.proofs.Lists.{more_mapped, joined_terms}
 use Rattle.drawing_reader.proofs.cursor.Cursor.connection.Goals as goal
 
 pub returns-in_err-first-clause-reads : goal.returns-in_err-first-clause-reads
-returns-in_err-first-clause-reads c = let p = err_from_is_err_and c.from_residual.result c.from_residual.ensures.1 in rw (p.1, p.2) (λ rest. stops (always g.Conn 0 c.args.self.now refl rest) (c.in_err-first.ensures.reads _))
+returns-in_err-first-clause-reads c = let p = err_from_is_err_and c.from_residual.result c.from_residual.ensures.1 in
+    rw (p.1, p.2) (λ rest. stops (always g.Conn 0 c.args.self.now refl rest) (c.in_err-first.ensures.reads _))
 
 pub terms-init : goal.terms-init
 terms-init c = record { reads = rw (c.in_ok-push.ensures.ok, c.new-terms.ensures) (λ rest. moves (always g.Conn 0 c.args.self.now refl rest) (c.in_ok-first.ensures.reads _)); no_longer = omega arith }
@@ -24,13 +25,28 @@ pub terms-smaller : goal.terms-smaller
 terms-smaller c = let h = c.bump.ensures.shorter (is_token g.next_term c.terms.self (c.starts.ensures.yes (cc))) in omega arith
 
 pub returns-in_err-next-clause-reads : goal.returns-in_err-next-clause-reads
-returns-in_err-next-clause-reads c = let p = err_from_is_err_and c.from_residual-in_err-next.result c.from_residual-in_err-next.ensures.1 in rw (p.1, p.2) (λ rest. stops (moves (c.terms.invariant.reads rest) (plainly g.next_term 0 c.terms.self c.bump.new.self c.bump.result refl (c.starts.ensures.yes (cc)) c.bump.ensures.taken c.bump.ensures.operators _)) (c.in_err-next.ensures.reads _))
+returns-in_err-next-clause-reads c = let p = err_from_is_err_and c.from_residual-in_err-next.result c.from_residual-in_err-next.ensures.1 in
+    rw (p.1, p.2) (λ rest. stops (moves (c.terms.invariant.reads rest) (plainly g.next_term 0 c.terms.self c.bump.new.self
+    c.bump.result refl (c.starts.ensures.yes (cc)) c.bump.ensures.taken c.bump.ensures.operators _)) (c.in_err-next.ensures.reads _))
 
 pub terms-preserved : goal.terms-preserved
-terms-preserved c = record { reads = rw c.in_ok-push-2.ensures.ok (λ rest. reshaped _ (moves (moves (c.terms.invariant.reads rest) (plainly g.next_term 0 c.terms.self c.bump.new.self c.bump.result refl (c.starts.ensures.yes (cc)) c.bump.ensures.taken c.bump.ensures.operators _)) (c.in_ok-next.ensures.reads _)) (λ v. ap (λ x. (x, v.1.1)) (joined_terms v.1.0 _ (sym (more_mapped tree.term_of c.terms.terms _ v.0))))); no_longer = omega arith }
+terms-preserved c = record {
+  reads =
+      rw c.in_ok-push-2.ensures.ok
+      (λ rest. reshaped _ (moves (moves (c.terms.invariant.reads rest)
+      (plainly g.next_term 0 c.terms.self c.bump.new.self c.bump.result refl (c.starts.ensures.yes (cc)) c.bump.ensures.taken c.bump.ensures.operators
+      _)) (c.in_ok-next.ensures.reads _))
+      (λ v. ap (λ x. (x, v.1.1)) (joined_terms v.1.0 _ (sym (more_mapped tree.term_of c.terms.terms _ v.0)))));
+  no_longer = omega arith;
+}
 
 pub returns-in_err-hold-clause-reads : goal.returns-in_err-hold-clause-reads
-returns-in_err-hold-clause-reads c = let p = err_from_is_err_and c.from_residual-in_err-hold.result c.from_residual-in_err-hold.ensures.1 in rw (p.1, p.2) (λ rest. stops (moves (c.terms.invariant.reads rest) (left_out g.MoreTerms 0 c.terms.self [] (none.no_more_terms (first_terminal (tokens_at c.terms.self)) (c.starts.ensures.no (cc))) refl _)) (c.in_err-hold.ensures.reads _))
+returns-in_err-hold-clause-reads c = let p = err_from_is_err_and c.from_residual-in_err-hold.result c.from_residual-in_err-hold.ensures.1 in
+    rw (p.1, p.2) (λ rest. stops (moves (c.terms.invariant.reads rest) (left_out g.MoreTerms 0 c.terms.self
+    [] (none.no_more_terms (first_terminal (tokens_at c.terms.self)) (c.starts.ensures.no (cc))) refl _)) (c.in_err-hold.ensures.reads _))
 
 pub returns-clause-reads : goal.returns-clause-reads
-returns-clause-reads c = λ rest. reshaped _ (moves (moves (c.terms.invariant.reads rest) (left_out g.MoreTerms 0 c.terms.self [] (none.no_more_terms (first_terminal (tokens_at c.terms.self)) (c.starts.ensures.no (cc))) refl _)) (c.in_ok-hold.ensures.reads _)) (λ v. ap (λ x. (x, v)) (joined_terms c.in_ok-hold.hold _ (append-nil (map tree.term_of c.terms.terms))))
+returns-clause-reads c = λ rest. reshaped _
+    (moves (moves (c.terms.invariant.reads rest)
+    (left_out g.MoreTerms 0 c.terms.self [] (none.no_more_terms (first_terminal (tokens_at c.terms.self)) (c.starts.ensures.no (cc))) refl _))
+    (c.in_ok-hold.ensures.reads _)) (λ v. ap (λ x. (x, v)) (joined_terms c.in_ok-hold.hold _ (append-nil (map tree.term_of c.terms.terms))))

@@ -13,13 +13,23 @@ pub returns-then-not-starts-clause-reads : goal.returns-then-not-starts-clause-r
 returns-then-not-starts-clause-reads c = λ rest. left_out g.Delay 0 c.args.self.now no_delays (none.no_delay (first_terminal (tokens_at c.args.self.now)) (c.starts.ensures.no (cc))) refl rest
 
 pub returns-in_err-bounds-clause-reads : goal.returns-in_err-bounds-clause-reads
-returns-in_err-bounds-clause-reads c = let p = err_from_is_err_and c.from_residual.result c.from_residual.ensures.1 in rw (p.1, p.2) (λ rest. stops (plainly g.delay 0 c.args.self.now c.bump.new.self c.bump.result refl (c.starts.ensures.yes (cc)) c.bump.ensures.taken c.bump.ensures.operators rest) (c.in_err-bounds.ensures.reads _))
+returns-in_err-bounds-clause-reads c =
+    let p = err_from_is_err_and c.from_residual.result c.from_residual.ensures.1 in
+    rw (p.1, p.2) (λ rest. stops (plainly g.delay 0 c.args.self.now c.bump.new.self c.bump.result
+    refl (c.starts.ensures.yes (cc)) c.bump.ensures.taken c.bump.ensures.operators rest) (c.in_err-bounds.ensures.reads _))
 
 pub returns-in_err-fall-clause-reads : goal.returns-in_err-fall-clause-reads
-returns-in_err-fall-clause-reads c = let p = err_from_is_err_and c.from_residual-in_err-fall.result c.from_residual-in_err-fall.ensures.1 in rw (p.1, p.2) (λ rest. stops (moves (plainly g.delay 0 c.args.self.now c.bump.new.self c.bump.result refl (c.starts.ensures.yes (cc)) c.bump.ensures.taken c.bump.ensures.operators rest) (c.in_ok-bounds.ensures.reads _)) (c.in_err-fall.ensures.reads _))
+returns-in_err-fall-clause-reads c = let p = err_from_is_err_and c.from_residual-in_err-fall.result c.from_residual-in_err-fall.ensures.1 in
+    rw (p.1, p.2) (λ rest. stops (moves (plainly g.delay 0 c.args.self.now c.bump.new.self c.bump.result refl
+    (c.starts.ensures.yes (cc)) c.bump.ensures.taken c.bump.ensures.operators rest) (c.in_ok-bounds.ensures.reads _)) (c.in_err-fall.ensures.reads _))
 
 pub returns-in_err-mark-clause-reads : goal.returns-in_err-mark-clause-reads
-returns-in_err-mark-clause-reads c = let p = err_from_is_err_and c.from_residual-in_err-mark.result c.from_residual-in_err-mark.ensures.1 in rw (p.1, p.2) (λ rest. stops (moves (moves (plainly g.delay 0 c.args.self.now c.bump.new.self c.bump.result refl (c.starts.ensures.yes (cc)) c.bump.ensures.taken c.bump.ensures.operators rest) (c.in_ok-bounds.ensures.reads _)) (c.in_ok-fall.ensures.reads _)) (c.in_err-mark.ensures.reads _))
+returns-in_err-mark-clause-reads c = let p = err_from_is_err_and c.from_residual-in_err-mark.result c.from_residual-in_err-mark.ensures.1 in
+    rw (p.1, p.2) (λ rest. stops
+    (moves (moves (plainly g.delay 0 c.args.self.now c.bump.new.self c.bump.result refl (c.starts.ensures.yes (cc)) c.bump.ensures.taken
+    c.bump.ensures.operators rest) (c.in_ok-bounds.ensures.reads _)) (c.in_ok-fall.ensures.reads _)) (c.in_err-mark.ensures.reads _))
 
 pub returns-clause-reads : goal.returns-clause-reads
-returns-clause-reads c = λ rest. moves (moves (moves (plainly g.delay 0 c.args.self.now c.bump.new.self c.bump.result refl (c.starts.ensures.yes (cc)) c.bump.ensures.taken c.bump.ensures.operators rest) (c.in_ok-bounds.ensures.reads _)) (c.in_ok-fall.ensures.reads _)) (c.in_ok-mark.ensures.reads _)
+returns-clause-reads c = λ rest.
+    moves (moves (moves (plainly g.delay 0 c.args.self.now c.bump.new.self c.bump.result refl (c.starts.ensures.yes (cc)) c.bump.ensures.taken
+    c.bump.ensures.operators rest) (c.in_ok-bounds.ensures.reads _)) (c.in_ok-fall.ensures.reads _)) (c.in_ok-mark.ensures.reads _)

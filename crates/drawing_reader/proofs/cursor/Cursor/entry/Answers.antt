@@ -11,16 +11,33 @@ use Rattle.drawing_grammar.proofs.None as none
 use Rattle.drawing_reader.proofs.cursor.Cursor.entry.Goals as goal
 
 pub returns-then-not-starts-clause-reads : goal.returns-then-not-starts-clause-reads
-returns-then-not-starts-clause-reads c = rw c.refused.ensures (λ rest. stuck g.Entry 0 c.args.self.now (none.no_entry (first_terminal (tokens_at c.args.self.now)) (c.starts.ensures.no (cc))) refl rest)
+returns-then-not-starts-clause-reads c = rw c.refused.ensures
+    (λ rest. stuck g.Entry 0 c.args.self.now (none.no_entry (first_terminal (tokens_at c.args.self.now)) (c.starts.ensures.no (cc))) refl rest)
 
 pub returns-in_err-bit-clause-reads : goal.returns-in_err-bit-clause-reads
-returns-in_err-bit-clause-reads c = let p = err_from_is_err_and c.from_residual.result c.from_residual.ensures.1 in rw (p.1, p.2) (λ rest. stops (plainly g.entry 0 c.args.self.now c.bump-token.new.self c.bump-token.result refl (c.starts.ensures.yes (cc)) c.bump-token.ensures.taken c.bump-token.ensures.operators rest) (c.in_err-bit.ensures.reads _))
+returns-in_err-bit-clause-reads c = let p =
+    err_from_is_err_and c.from_residual.result c.from_residual.ensures.1 in
+    rw (p.1, p.2) (λ rest. stops (plainly g.entry 0 c.args.self.now c.bump-token.new.self c.bump-token.result
+    refl (c.starts.ensures.yes (cc)) c.bump-token.ensures.taken c.bump-token.ensures.operators rest) (c.in_err-bit.ensures.reads _))
 
 pub returns-in_err-mark-clause-reads : goal.returns-in_err-mark-clause-reads
-returns-in_err-mark-clause-reads c = let p = err_from_is_err_and c.from_residual-in_err-mark.result c.from_residual-in_err-mark.ensures.1 in rw (p.1, p.2) (λ rest. stops (moves (plainly g.entry 0 c.args.self.now c.bump-token.new.self c.bump-token.result refl (c.starts.ensures.yes (cc)) c.bump-token.ensures.taken c.bump-token.ensures.operators rest) (c.in_ok-bit.ensures.reads _)) (c.in_err-mark.ensures.reads _))
+returns-in_err-mark-clause-reads c = let p = err_from_is_err_and c.from_residual-in_err-mark.result c.from_residual-in_err-mark.ensures.1 in
+    rw (p.1, p.2) (λ rest. stops
+    (moves (plainly g.entry 0 c.args.self.now c.bump-token.new.self c.bump-token.result refl (c.starts.ensures.yes (cc)) c.bump-token.ensures.taken
+    c.bump-token.ensures.operators rest) (c.in_ok-bit.ensures.reads _)) (c.in_err-mark.ensures.reads _))
 
 pub returns-in_err-number-clause-reads : goal.returns-in_err-number-clause-reads
-returns-in_err-number-clause-reads c = let p = err_from_is_err_and c.from_residual-in_err-number.result c.from_residual-in_err-number.ensures.1 in rw (p.1, p.2) (λ rest. stops (moves (moves (plainly g.entry 0 c.args.self.now c.bump-token.new.self c.bump-token.result refl (c.starts.ensures.yes (cc)) c.bump-token.ensures.taken c.bump-token.ensures.operators rest) (c.in_ok-bit.ensures.reads _)) (c.in_ok-mark.ensures.reads _)) (c.in_err-number.ensures.reads _))
+returns-in_err-number-clause-reads c = let p = err_from_is_err_and c.from_residual-in_err-number.result c.from_residual-in_err-number.ensures.1 in
+    rw (p.1, p.2) (λ rest. stops
+    (moves (moves (plainly g.entry 0 c.args.self.now c.bump-token.new.self c.bump-token.result
+    refl (c.starts.ensures.yes (cc)) c.bump-token.ensures.taken c.bump-token.ensures.operators
+    rest) (c.in_ok-bit.ensures.reads _)) (c.in_ok-mark.ensures.reads _)) (c.in_err-number.ensures.reads _))
 
 pub returns-clause-reads : goal.returns-clause-reads
-returns-clause-reads c = let q : c.in_ok-name.name ≡ s.signal_of (at c.args.self.now c.bump-token.result) = c.in_ok-name.ensures.is ∙ ap s.signal_named (c.text_of-text.ensures ∙ ap (λ (x : List ℕ). slice_range x c.bump-token.result.start c.bump-token.result.end) c.bump-token.ensures.text) in rw (q, c.capped.ensures) (λ rest. moves (moves (moves (plainly g.entry 0 c.args.self.now c.bump-token.new.self c.bump-token.result refl (c.starts.ensures.yes (cc)) c.bump-token.ensures.taken c.bump-token.ensures.operators rest) (c.in_ok-bit.ensures.reads _)) (c.in_ok-mark.ensures.reads _)) (c.in_ok-number.ensures.reads _))
+returns-clause-reads c = let q : c.in_ok-name.name ≡ s.signal_of (at c.args.self.now c.bump-token.result) =
+    c.in_ok-name.ensures.is ∙ ap s.signal_named
+    (c.text_of-text.ensures ∙ ap (λ (x : List ℕ). slice_range x c.bump-token.result.start c.bump-token.result.end) c.bump-token.ensures.text) in
+    rw (q, c.capped.ensures)
+    (λ rest. moves (moves (moves (plainly g.entry 0 c.args.self.now c.bump-token.new.self c.bump-token.result refl
+    (c.starts.ensures.yes (cc)) c.bump-token.ensures.taken c.bump-token.ensures.operators
+    rest) (c.in_ok-bit.ensures.reads _)) (c.in_ok-mark.ensures.reads _)) (c.in_ok-number.ensures.reads _))

@@ -13,10 +13,16 @@ pub returns-then-not-starts-clause-reads : goal.returns-then-not-starts-clause-r
 returns-then-not-starts-clause-reads c = λ rest. left_out g.Index 0 c.args.self.now 0 (none.no_index (first_terminal (tokens_at c.args.self.now)) (c.starts.ensures.no (cc))) refl rest
 
 pub returns-in_err-token-clause-reads : goal.returns-in_err-token-clause-reads
-returns-in_err-token-clause-reads c = let p = err_from_is_err_and c.from_residual.result c.from_residual.ensures.1 in rw (p.1, p.2) (λ rest. stops (plainly g.index 0 c.args.self.now c.bump.new.self c.bump.result refl (c.starts.ensures.yes (cc)) c.bump.ensures.taken c.bump.ensures.operators rest) (c.in_err-token.ensures.reads _))
+returns-in_err-token-clause-reads c =
+    let p = err_from_is_err_and c.from_residual.result c.from_residual.ensures.1 in
+    rw (p.1, p.2) (λ rest. stops (plainly g.index 0 c.args.self.now c.bump.new.self c.bump.result
+    refl (c.starts.ensures.yes (cc)) c.bump.ensures.taken c.bump.ensures.operators rest) (c.in_err-token.ensures.reads _))
 
 pub returns-in_err-mark-clause-reads : goal.returns-in_err-mark-clause-reads
-returns-in_err-mark-clause-reads c = let p = err_from_is_err_and c.from_residual-in_err-mark.result c.from_residual-in_err-mark.ensures.1 in rw (p.1, p.2) (λ rest. stops (moves (plainly g.index 0 c.args.self.now c.bump.new.self c.bump.result refl (c.starts.ensures.yes (cc)) c.bump.ensures.taken c.bump.ensures.operators rest) (c.in_ok-token.ensures.reads _)) (c.in_err-mark.ensures.reads _))
+returns-in_err-mark-clause-reads c = let p = err_from_is_err_and c.from_residual-in_err-mark.result c.from_residual-in_err-mark.ensures.1 in
+    rw (p.1, p.2) (λ rest. stops (moves (plainly g.index 0 c.args.self.now c.bump.new.self c.bump.result refl
+    (c.starts.ensures.yes (cc)) c.bump.ensures.taken c.bump.ensures.operators rest) (c.in_ok-token.ensures.reads _)) (c.in_err-mark.ensures.reads _))
 
 pub returns-clause-reads : goal.returns-clause-reads
-returns-clause-reads c = rw (c.capped.ensures) (λ rest. moves (moves (plainly g.index 0 c.args.self.now c.bump.new.self c.bump.result refl (c.starts.ensures.yes (cc)) c.bump.ensures.taken c.bump.ensures.operators rest) (c.in_ok-token.ensures.reads _)) (c.in_ok-mark.ensures.reads _))
+returns-clause-reads c = rw (c.capped.ensures) (λ rest. moves (moves (plainly g.index 0 c.args.self.now c.bump.new.self c.bump.result refl
+    (c.starts.ensures.yes (cc)) c.bump.ensures.taken c.bump.ensures.operators rest) (c.in_ok-token.ensures.reads _)) (c.in_ok-mark.ensures.reads _))

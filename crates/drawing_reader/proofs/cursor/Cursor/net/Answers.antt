@@ -10,7 +10,14 @@ pub returns-in_err-token-clause-reads : goal.returns-in_err-token-clause-reads
 returns-in_err-token-clause-reads c = let p = err_from_is_err_and c.from_residual.result c.from_residual.ensures.1 in rw (p.1, p.2) (λ rest. c.in_err-token.ensures.reads _)
 
 pub returns-in_err-range-clause-reads : goal.returns-in_err-range-clause-reads
-returns-in_err-range-clause-reads c = let p = err_from_is_err_and c.from_residual-in_err-range.result c.from_residual-in_err-range.ensures.1 in rw (p.1, p.2) (λ rest. stops (c.in_ok-token.ensures.reads _) (c.in_err-range.ensures.reads _))
+returns-in_err-range-clause-reads c = let p = err_from_is_err_and c.from_residual-in_err-range.result c.from_residual-in_err-range.ensures.1 in
+    rw (p.1, p.2) (λ rest. stops (c.in_ok-token.ensures.reads _) (c.in_err-range.ensures.reads _))
 
 pub returns-clause-reads : goal.returns-clause-reads
-returns-clause-reads c = (at c.args.self.now c.in_ok-token.token, c.in_ok-name.ensures.is ∙ ap (λ (x : List ℕ). s.signal_named (slice_range x c.in_ok-token.token.start c.in_ok-token.token.end)) c.in_ok-token.ensures.text, λ rest. moves (c.in_ok-token.ensures.reads _) (c.in_ok-range.ensures.reads _))
+returns-clause-reads c = (
+  at c.args.self.now c.in_ok-token.token,
+  c.in_ok-name.ensures.is
+      ∙ ap (λ (x : List ℕ). s.signal_named (slice_range x c.in_ok-token.token.start c.in_ok-token.token.end))
+      c.in_ok-token.ensures.text,
+  λ rest. moves (c.in_ok-token.ensures.reads _) (c.in_ok-range.ensures.reads _),
+)

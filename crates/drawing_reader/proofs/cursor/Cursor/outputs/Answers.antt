@@ -10,16 +10,28 @@ use Rattle.drawing_grammar.proofs.None as none
 use Rattle.drawing_reader.proofs.cursor.Cursor.outputs.Goals as goal
 
 pub returns-then-not-starts-clause-reads : goal.returns-then-not-starts-clause-reads
-returns-then-not-starts-clause-reads c = rw c.new.ensures (λ rest. left_out g.Outputs 0 c.args.self.now [] (none.no_outputs (first_terminal (tokens_at c.args.self.now)) (c.starts.ensures.no (cc))) refl rest)
+returns-then-not-starts-clause-reads c =
+    rw c.new.ensures (λ rest. left_out g.Outputs 0 c.args.self.now []
+    (none.no_outputs (first_terminal (tokens_at c.args.self.now)) (c.starts.ensures.no (cc))) refl rest)
 
 pub returns-in_err-mark-clause-reads : goal.returns-in_err-mark-clause-reads
-returns-in_err-mark-clause-reads c = let p = err_from_is_err_and c.from_residual.result c.from_residual.ensures.1 in rw (p.1, p.2) (λ rest. stops (plainly g.outputs 0 c.args.self.now c.bump.new.self c.bump.result refl (c.starts.ensures.yes (cc)) c.bump.ensures.taken c.bump.ensures.operators rest) (c.in_err-mark.ensures.reads _))
+returns-in_err-mark-clause-reads c =
+    let p = err_from_is_err_and c.from_residual.result c.from_residual.ensures.1 in
+    rw (p.1, p.2) (λ rest. stops (plainly g.outputs 0 c.args.self.now c.bump.new.self c.bump.result
+    refl (c.starts.ensures.yes (cc)) c.bump.ensures.taken c.bump.ensures.operators rest) (c.in_err-mark.ensures.reads _))
 
 pub returns-in_err-all-clause-reads : goal.returns-in_err-all-clause-reads
-returns-in_err-all-clause-reads c = let p = err_from_is_err_and c.from_residual-in_err-all.result c.from_residual-in_err-all.ensures.1 in rw (p.1, p.2) (λ rest. stops (moves (plainly g.outputs 0 c.args.self.now c.bump.new.self c.bump.result refl (c.starts.ensures.yes (cc)) c.bump.ensures.taken c.bump.ensures.operators rest) (c.in_ok-mark.ensures.reads _)) (c.in_err-all.ensures.reads _))
+returns-in_err-all-clause-reads c = let p = err_from_is_err_and c.from_residual-in_err-all.result c.from_residual-in_err-all.ensures.1 in
+    rw (p.1, p.2) (λ rest. stops (moves (plainly g.outputs 0 c.args.self.now c.bump.new.self c.bump.result refl
+    (c.starts.ensures.yes (cc)) c.bump.ensures.taken c.bump.ensures.operators rest) (c.in_ok-mark.ensures.reads _)) (c.in_err-all.ensures.reads _))
 
 pub returns-in_err-mark-2-clause-reads : goal.returns-in_err-mark-2-clause-reads
-returns-in_err-mark-2-clause-reads c = let p = err_from_is_err_and c.from_residual-in_err-mark-2.result c.from_residual-in_err-mark-2.ensures.1 in rw (p.1, p.2) (λ rest. stops (moves (moves (plainly g.outputs 0 c.args.self.now c.bump.new.self c.bump.result refl (c.starts.ensures.yes (cc)) c.bump.ensures.taken c.bump.ensures.operators rest) (c.in_ok-mark.ensures.reads _)) (c.in_ok-all.ensures.reads _)) (c.in_err-mark-2.ensures.reads _))
+returns-in_err-mark-2-clause-reads c = let p = err_from_is_err_and c.from_residual-in_err-mark-2.result c.from_residual-in_err-mark-2.ensures.1 in
+    rw (p.1, p.2) (λ rest. stops
+    (moves (moves (plainly g.outputs 0 c.args.self.now c.bump.new.self c.bump.result refl (c.starts.ensures.yes (cc)) c.bump.ensures.taken
+    c.bump.ensures.operators rest) (c.in_ok-mark.ensures.reads _)) (c.in_ok-all.ensures.reads _)) (c.in_err-mark-2.ensures.reads _))
 
 pub returns-clause-reads : goal.returns-clause-reads
-returns-clause-reads c = λ rest. moves (moves (moves (plainly g.outputs 0 c.args.self.now c.bump.new.self c.bump.result refl (c.starts.ensures.yes (cc)) c.bump.ensures.taken c.bump.ensures.operators rest) (c.in_ok-mark.ensures.reads _)) (c.in_ok-all.ensures.reads _)) (c.in_ok-mark-2.ensures.reads _)
+returns-clause-reads c = λ rest.
+    moves (moves (moves (plainly g.outputs 0 c.args.self.now c.bump.new.self c.bump.result refl (c.starts.ensures.yes (cc)) c.bump.ensures.taken
+    c.bump.ensures.operators rest) (c.in_ok-mark.ensures.reads _)) (c.in_ok-all.ensures.reads _)) (c.in_ok-mark-2.ensures.reads _)

@@ -7,7 +7,10 @@ use Rattle.drawing_reader.proofs.Cursors.{begins}
 use Rattle.drawing_reader.proofs.cursor.Cursor.own_expression.Goals as goal
 
 pub returns-in_err-whole-clause-reads : goal.returns-in_err-whole-clause-reads
-returns-in_err-whole-clause-reads c = let p = err_from_is_err_and c.from_residual.result c.from_residual.ensures.1 in rw (p.1, p.2) (λ rest. stops (begins c.args.self.now (record c.args.self.now { operators = 0 }) refl refl (group g.Expr 0 ∷ rest)) (c.in_err-whole.ensures.reads rest))
+returns-in_err-whole-clause-reads c = let p =
+    err_from_is_err_and c.from_residual.result c.from_residual.ensures.1 in
+    rw (p.1, p.2) (λ rest. stops (begins c.args.self.now (record c.args.self.now { operators = 0 }) refl refl (group g.Expr 0 ∷ rest))
+    (c.in_err-whole.ensures.reads rest))
 
 pub returns-clause-reads : goal.returns-clause-reads
 returns-clause-reads c = λ rest. moves (begins c.args.self.now (record c.args.self.now { operators = 0 }) refl refl (group g.Expr 0 ∷ rest)) (c.in_ok-whole.ensures.reads rest)

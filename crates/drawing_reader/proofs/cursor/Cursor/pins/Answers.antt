@@ -6,16 +6,24 @@ pub returns-in_err-mark-clause-reads : goal.returns-in_err-mark-clause-reads
 returns-in_err-mark-clause-reads c = let p = err_from_is_err_and c.from_residual.result c.from_residual.ensures.1 in rw (p.1, p.2) (λ rest. c.in_err-mark.ensures.reads _)
 
 pub returns-in_err-ins-clause-reads : goal.returns-in_err-ins-clause-reads
-returns-in_err-ins-clause-reads c = let p = err_from_is_err_and c.from_residual-in_err-ins.result c.from_residual-in_err-ins.ensures.1 in rw (p.1, p.2) (λ rest. stops (c.in_ok-mark.ensures.reads _) (c.in_err-ins.ensures.reads _))
+returns-in_err-ins-clause-reads c = let p = err_from_is_err_and c.from_residual-in_err-ins.result c.from_residual-in_err-ins.ensures.1 in
+    rw (p.1, p.2) (λ rest. stops (c.in_ok-mark.ensures.reads _) (c.in_err-ins.ensures.reads _))
 
 pub returns-in_err-mark-2-clause-reads : goal.returns-in_err-mark-2-clause-reads
-returns-in_err-mark-2-clause-reads c = let p = err_from_is_err_and c.from_residual-in_err-mark-2.result c.from_residual-in_err-mark-2.ensures.1 in rw (p.1, p.2) (λ rest. stops (moves (c.in_ok-mark.ensures.reads _) (c.in_ok-ins.ensures.reads _)) (c.in_err-mark-2.ensures.reads _))
+returns-in_err-mark-2-clause-reads c = let p = err_from_is_err_and c.from_residual-in_err-mark-2.result c.from_residual-in_err-mark-2.ensures.1 in
+    rw (p.1, p.2) (λ rest. stops (moves (c.in_ok-mark.ensures.reads _) (c.in_ok-ins.ensures.reads _)) (c.in_err-mark-2.ensures.reads _))
 
 pub returns-in_err-outs-clause-reads : goal.returns-in_err-outs-clause-reads
-returns-in_err-outs-clause-reads c = let p = err_from_is_err_and c.from_residual-in_err-outs.result c.from_residual-in_err-outs.ensures.1 in rw (p.1, p.2) (λ rest. stops (moves (moves (c.in_ok-mark.ensures.reads _) (c.in_ok-ins.ensures.reads _)) (c.in_ok-mark-2.ensures.reads _)) (c.in_err-outs.ensures.reads _))
+returns-in_err-outs-clause-reads c = let p = err_from_is_err_and c.from_residual-in_err-outs.result c.from_residual-in_err-outs.ensures.1 in
+    rw (p.1, p.2) (λ rest. stops (moves (moves (c.in_ok-mark.ensures.reads _) (c.in_ok-ins.ensures.reads _)) (c.in_ok-mark-2.ensures.reads _))
+    (c.in_err-outs.ensures.reads _))
 
 pub returns-in_err-mark-3-clause-reads : goal.returns-in_err-mark-3-clause-reads
-returns-in_err-mark-3-clause-reads c = let p = err_from_is_err_and c.from_residual-in_err-mark-3.result c.from_residual-in_err-mark-3.ensures.1 in rw (p.1, p.2) (λ rest. stops (moves (moves (moves (c.in_ok-mark.ensures.reads _) (c.in_ok-ins.ensures.reads _)) (c.in_ok-mark-2.ensures.reads _)) (c.in_ok-outs.ensures.reads _)) (c.in_err-mark-3.ensures.reads _))
+returns-in_err-mark-3-clause-reads c = let p = err_from_is_err_and c.from_residual-in_err-mark-3.result c.from_residual-in_err-mark-3.ensures.1 in
+    rw (p.1, p.2) (λ rest. stops (moves (moves (moves (c.in_ok-mark.ensures.reads _) (c.in_ok-ins.ensures.reads _)) (c.in_ok-mark-2.ensures.reads _))
+    (c.in_ok-outs.ensures.reads _)) (c.in_err-mark-3.ensures.reads _))
 
 pub returns-clause-reads : goal.returns-clause-reads
-returns-clause-reads c = λ rest. moves (moves (moves (moves (c.in_ok-mark.ensures.reads _) (c.in_ok-ins.ensures.reads _)) (c.in_ok-mark-2.ensures.reads _)) (c.in_ok-outs.ensures.reads _)) (c.in_ok-mark-3.ensures.reads _)
+returns-clause-reads c = λ rest.
+    moves (moves (moves (moves (c.in_ok-mark.ensures.reads _) (c.in_ok-ins.ensures.reads _)) (c.in_ok-mark-2.ensures.reads _))
+    (c.in_ok-outs.ensures.reads _)) (c.in_ok-mark-3.ensures.reads _)

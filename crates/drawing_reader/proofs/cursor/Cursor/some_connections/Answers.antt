@@ -16,7 +16,8 @@ use Rattle.drawing_reader.proofs.Cursors.{some_conn}
 use Rattle.drawing_reader.proofs.cursor.Cursor.some_connections.Goals as goal
 
 pub returns-in_err-first-clause-reads : goal.returns-in_err-first-clause-reads
-returns-in_err-first-clause-reads c = let p = err_from_is_err_and c.from_residual.result c.from_residual.ensures.1 in rw (p.1, p.2) (λ rest. stops (some_conn c.args.self.now rest) (c.in_err-first.ensures.reads _))
+returns-in_err-first-clause-reads c = let p = err_from_is_err_and c.from_residual.result c.from_residual.ensures.1 in
+    rw (p.1, p.2) (λ rest. stops (some_conn c.args.self.now rest) (c.in_err-first.ensures.reads _))
 
 pub more-init : goal.more-init
 more-init c = record { reads = rw (c.in_ok-push.ensures.ok, c.new-all.ensures) (λ rest. moves (some_conn c.args.self.now rest) (c.in_ok-first.ensures.reads _)); no_longer = omega arith }
@@ -25,10 +26,23 @@ pub more-smaller : goal.more-smaller
 more-smaller c = let h = c.bump.ensures.shorter (is_token g.next_conn c.more.self (c.starts.ensures.yes (cc))) in omega arith
 
 pub returns-in_err-next-clause-reads : goal.returns-in_err-next-clause-reads
-returns-in_err-next-clause-reads c = let p = err_from_is_err_and c.from_residual-in_err-next.result c.from_residual-in_err-next.ensures.1 in rw (p.1, p.2) (λ rest. stops (moves (c.more.invariant.reads rest) (plainly g.next_conn 0 c.more.self c.bump.new.self c.bump.result refl (c.starts.ensures.yes (cc)) c.bump.ensures.taken c.bump.ensures.operators _)) (c.in_err-next.ensures.reads _))
+returns-in_err-next-clause-reads c = let p = err_from_is_err_and c.from_residual-in_err-next.result c.from_residual-in_err-next.ensures.1 in
+    rw (p.1, p.2) (λ rest. stops (moves (c.more.invariant.reads rest) (plainly g.next_conn 0 c.more.self c.bump.new.self
+    c.bump.result refl (c.starts.ensures.yes (cc)) c.bump.ensures.taken c.bump.ensures.operators _)) (c.in_err-next.ensures.reads _))
 
 pub more-preserved : goal.more-preserved
-more-preserved c = record { reads = rw c.in_ok-push-2.ensures.ok (λ rest. reshaped _ (moves (moves (c.more.invariant.reads rest) (plainly g.next_conn 0 c.more.self c.bump.new.self c.bump.result refl (c.starts.ensures.yes (cc)) c.bump.ensures.taken c.bump.ensures.operators _)) (c.in_ok-next.ensures.reads _)) (λ v. ap (λ xs. (xs, v.1)) (sym (more_mapped tree.connection_of c.more.all _ v.0)))); no_longer = omega arith }
+more-preserved c = record {
+  reads =
+      rw c.in_ok-push-2.ensures.ok
+      (λ rest. reshaped _ (moves (moves (c.more.invariant.reads rest)
+      (plainly g.next_conn 0 c.more.self c.bump.new.self c.bump.result refl (c.starts.ensures.yes (cc)) c.bump.ensures.taken c.bump.ensures.operators
+      _)) (c.in_ok-next.ensures.reads _)) (λ v. ap (λ xs. (xs, v.1)) (sym (more_mapped tree.connection_of c.more.all _ v.0))));
+  no_longer =
+      omega arith;
+}
 
 pub returns-clause-reads : goal.returns-clause-reads
-returns-clause-reads c = λ rest. reshaped _ (moves (c.more.invariant.reads rest) (left_out g.MoreConns 0 c.more.self [] (none.no_more_conns (first_terminal (tokens_at c.more.self)) (c.starts.ensures.no (cc))) refl rest)) (λ v. ap (λ xs. (xs, v)) (append-nil (map tree.connection_of c.more.all)))
+returns-clause-reads c = λ rest.
+    reshaped _ (moves (c.more.invariant.reads rest)
+    (left_out g.MoreConns 0 c.more.self [] (none.no_more_conns (first_terminal (tokens_at c.more.self)) (c.starts.ensures.no (cc))) refl rest))
+    (λ v. ap (λ xs. (xs, v)) (append-nil (map tree.connection_of c.more.all)))

@@ -6,7 +6,8 @@ pub returns-in_err-both-clause-reads : goal.returns-in_err-both-clause-reads
 returns-in_err-both-clause-reads c = let p = err_from_is_err_and c.from_residual.result c.from_residual.ensures.1 in rw (p.1, p.2) (λ rest. c.in_err-both.ensures.reads _)
 
 pub returns-in_err-mark-clause-reads : goal.returns-in_err-mark-clause-reads
-returns-in_err-mark-clause-reads c = let p = err_from_is_err_and c.from_residual-in_err-mark.result c.from_residual-in_err-mark.ensures.1 in rw (p.1, p.2) (λ rest. stops (c.in_ok-both.ensures.reads _) (c.in_err-mark.ensures.reads _))
+returns-in_err-mark-clause-reads c = let p = err_from_is_err_and c.from_residual-in_err-mark.result c.from_residual-in_err-mark.ensures.1 in
+    rw (p.1, p.2) (λ rest. stops (c.in_ok-both.ensures.reads _) (c.in_err-mark.ensures.reads _))
 
 pub returns-clause-reads : goal.returns-clause-reads
 returns-clause-reads c = λ rest. moves (c.in_ok-both.ensures.reads _) (c.in_ok-mark.ensures.reads _)

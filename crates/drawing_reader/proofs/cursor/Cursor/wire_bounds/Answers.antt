@@ -11,10 +11,24 @@ use Rattle.drawing_grammar.proofs.Moves.{reshaped}
 use Rattle.drawing_reader.proofs.cursor.Cursor.wire_bounds.Goals as goal
 
 pub returns-then-not-starts : goal.returns-then-not-starts
-returns-then-not-starts c = record { reads = λ rest. left_out g.WireBounds 0 c.args.self.now None (none.no_wire_bounds (first_terminal (tokens_at c.args.self.now)) (c.starts.ensures.no (cc))) refl rest }
+returns-then-not-starts c =
+    record {
+      reads = λ rest. left_out g.WireBounds 0 c.args.self.now None
+          (none.no_wire_bounds (first_terminal (tokens_at c.args.self.now)) (c.starts.ensures.no (cc))) refl rest;
+    }
 
 pub returns-in_err-pair : goal.returns-in_err-pair
-returns-in_err-pair c = record { reads = let p = err_from_is_err_and c.from_residual.result c.from_residual.ensures.1 in rw (p.1, p.2) (λ rest. stops (plainly g.wire_bounds 0 c.args.self.now c.bump-token.new.self c.bump-token.result refl (c.starts.ensures.yes (cc)) c.bump-token.ensures.taken c.bump-token.ensures.operators rest) (c.in_err-pair.ensures.reads rest)) }
+returns-in_err-pair c = record {
+  reads = let p =
+      err_from_is_err_and c.from_residual.result c.from_residual.ensures.1 in
+      rw (p.1, p.2) (λ rest. stops (plainly g.wire_bounds 0 c.args.self.now c.bump-token.new.self c.bump-token.result
+      refl (c.starts.ensures.yes (cc)) c.bump-token.ensures.taken c.bump-token.ensures.operators rest) (c.in_err-pair.ensures.reads rest));
+}
 
 pub returns : goal.returns
-returns c = let k = c.in_ok-pair.ensures.reads in record { reads = λ rest. reshaped _ (moves (plainly g.wire_bounds 0 c.args.self.now c.bump-token.new.self c.bump-token.result refl (c.starts.ensures.yes (cc)) c.bump-token.ensures.taken c.bump-token.ensures.operators rest) (k.3 rest)) (λ v. ap (λ x. (Some x, v)) (sym k.2)) }
+returns c = let k = c.in_ok-pair.ensures.reads in
+    record {
+      reads = λ rest.
+          reshaped _ (moves (plainly g.wire_bounds 0 c.args.self.now c.bump-token.new.self c.bump-token.result refl
+          (c.starts.ensures.yes (cc)) c.bump-token.ensures.taken c.bump-token.ensures.operators rest) (k.3 rest)) (λ v. ap (λ x. (Some x, v)) (sym k.2));
+    }

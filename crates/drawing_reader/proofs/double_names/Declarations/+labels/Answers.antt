@@ -28,7 +28,8 @@ pub statements-returns : goal.statements-returns
 statements-returns t c =
     let i = c.statements.statement-index in
     let ss = c.args.statements.now in
-    goes_end c.args.self.now c.statements.self (labels c.args.scope (statements_of ss)) (labels c.args.scope (statements_of (drop i ss))) c.statements.invariant (no_labels c.args.scope ss i c.statements-test.false)
+    goes_end c.args.self.now c.statements.self (labels c.args.scope (statements_of ss))
+    (labels c.args.scope (statements_of (drop i ss))) c.statements.invariant (no_labels c.args.scope ss i c.statements-test.false)
 
 pub choice-returns-in_err-statements : goal.choice-returns-in_err-statements
 choice-returns-in_err-statements t c =
@@ -54,9 +55,11 @@ choice-returns-in-Some t c =
 
 pub statement-returns-in-Use : goal.statement-returns-in-Use
 statement-returns-in-Use t c =
-    given_as c.declare.result c.args.self.now c.declare.new.self (declaration c.args.scope Label c.as_slice.result.now c.in-Use.u.place ∷ []) (statement_labels c.args.scope (statement_of c.args.statement.now))
+    given_as c.declare.result c.args.self.now c.declare.new.self (declaration c.args.scope Label c.as_slice.result.now c.in-Use.u.place ∷ [])
+    (statement_labels c.args.scope (statement_of c.args.statement.now))
     (label_of c.args.scope c.in-Use.u c.args.statement.now c.as_slice.result.now c.in-Use.is c.as_slice.ensures) c.declare.ensures
 
 pub statement-returns-in-Wire : goal.statement-returns-in-Wire
 statement-returns-in-Wire t c =
-    declared_as c.args.self.now c.args.self.now [] (statement_labels c.args.scope (statement_of c.args.statement.now)) (no_label c.args.scope c.in-Wire.field-0 c.args.statement.now c.in-Wire.is) (declares_none c.args.self.now)
+    declared_as c.args.self.now c.args.self.now [] (statement_labels c.args.scope (statement_of c.args.statement.now))
+    (no_label c.args.scope c.in-Wire.field-0 c.args.statement.now c.in-Wire.is) (declares_none c.args.self.now)

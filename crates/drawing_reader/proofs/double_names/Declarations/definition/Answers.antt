@@ -13,4 +13,5 @@ returns-in_err-head c =
 pub returns : goal.returns
 returns c =
     let m = macro_of c.args.definition.now in
-    given_later c.statements.result c.args.self.now c.head.new.self c.statements.new.self (head_declared c.args.scope m c.args.head.now) (labels c.args.scope m.body) c.in_ok-head.ensures (rw c.as_slice.ensures.value at c.statements.ensures)
+    given_later c.statements.result c.args.self.now c.head.new.self c.statements.new.self (head_declared c.args.scope m c.args.head.now)
+    (labels c.args.scope m.body) c.in_ok-head.ensures (rw c.as_slice.ensures.value at c.statements.ensures)

@@ -14,7 +14,8 @@ returns-in_err-declare c =
     let xs = c.args.signals.now in
     rw (p.1, p.2) (stop_there c.args.self.now c.signals.self (formals c.args.scope (map formal_of xs) c.args.places.now) (formals c.args.scope (map formal_of (drop i xs)) c.signals.rest.now)
     (declaration c.args.scope Formal c.as_slice.result.now c.in-Some.place.now ∷ []) (formals c.args.scope (map formal_of (drop (i + 1) xs)) c.in-Some.more.now) c.in_err-declare.field-0.0
-    c.signals.invariant (next_formal c.args.scope xs i c.signal-item.result c.as_slice.result.now c.signals.rest.now c.in-Some.place.now c.in-Some.more.now c.signals-test.true c.signal-item.is c.as_slice.ensures c.in-Some.ensures.cases.0) c.in_err-declare.ensures)
+    c.signals.invariant (next_formal c.args.scope xs i c.signal-item.result c.as_slice.result.now c.signals.rest.now c.in-Some.place.now
+    c.in-Some.more.now c.signals-test.true c.signal-item.is c.as_slice.ensures c.in-Some.ensures.cases.0) c.in_err-declare.ensures)
 
 pub signals-preserved : goal.signals-preserved
 signals-preserved c =
@@ -22,4 +23,5 @@ signals-preserved c =
     let xs = c.args.signals.now in
     goes_on c.args.self.now c.signals.self c.declare.new.self (formals c.args.scope (map formal_of xs) c.args.places.now) (formals c.args.scope (map formal_of (drop i xs)) c.signals.rest.now)
     (declaration c.args.scope Formal c.as_slice.result.now c.in-Some.place.now ∷ []) (formals c.args.scope (map formal_of (drop (i + 1) xs)) c.in-Some.more.now)
-    c.signals.invariant (next_formal c.args.scope xs i c.signal-item.result c.as_slice.result.now c.signals.rest.now c.in-Some.place.now c.in-Some.more.now c.signals-test.true c.signal-item.is c.as_slice.ensures c.in-Some.ensures.cases.0) c.in_ok-declare.ensures
+    c.signals.invariant (next_formal c.args.scope xs i c.signal-item.result c.as_slice.result.now c.signals.rest.now c.in-Some.place.now
+    c.in-Some.more.now c.signals-test.true c.signal-item.is c.as_slice.ensures c.in-Some.ensures.cases.0) c.in_ok-declare.ensures

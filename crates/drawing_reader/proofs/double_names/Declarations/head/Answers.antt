@@ -41,4 +41,5 @@ returns c =
     let outs = formals scope (map formal_of m.outs) h.outs in
     given_later r c.args.self.now c.declare.new.self last (declaration 0 Macro m.name m.place ∷ []) (params ++ (ins ++ outs)) (rw c.as_slice.ensures at c.in_ok-declare.ensures)
     (given_later r c.declare.new.self c.parameters.new.self last params (ins ++ outs) (rw (c.as_slice-2.ensures, c.as_slice-3.ensures) at c.in_ok-parameters.ensures)
-    (given_later r c.parameters.new.self c.formals.new.self last ins outs (rw (c.as_slice-4.ensures, c.as_slice-5.ensures) at c.in_ok-formals.ensures) (rw (c.as_slice-6.ensures, c.as_slice-7.ensures) at c.formals-2.ensures)))
+    (given_later r c.parameters.new.self c.formals.new.self last ins outs (rw (c.as_slice-4.ensures, c.as_slice-5.ensures) at c.in_ok-formals.ensures)
+    (rw (c.as_slice-6.ensures, c.as_slice-7.ensures) at c.formals-2.ensures)))

@@ -5,7 +5,9 @@ use Rattle.flat_circuit.proofs.assertions.Assertions.of.Goals as goal
 
 pub returns-in-Some : goal.returns-in-Some
 returns-in-Some c =
-    let e : c.in-Some.spec.now ≡ spec_of c.args.self.now c.args.text.now = sym (spec-some c.self.inside.by_text.entries c.args.text.now c.in-Some.spec.now c.in-Some.ensures.value) ∙ ap (λ (given : List Asserted). spec_of given c.args.text.now) c.self.view_is in
+    let e : c.in-Some.spec.now ≡ spec_of c.args.self.now c.args.text.now =
+    sym (spec-some c.self.inside.by_text.entries c.args.text.now c.in-Some.spec.now c.in-Some.ensures.value)
+    ∙ ap (λ (given : List Asserted). spec_of given c.args.text.now) c.self.view_is in
     rw e at c.copied.ensures
 
 pub returns-in-None : goal.returns-in-None

@@ -6,4 +6,5 @@ use Rattle.flat_circuit.proofs.assertions.Assertions.truncate.Goals as goal
 
 pub returns : goal.returns
 returns c =
-    ap asserted_entries c.truncate.ensures.entries ∙ sym (take-map (λ (p : Told). let a : Asserted = record { text = p.0.items; spec = p.1 } in a) c.args.count c.self.inside.by_text.entries) ∙ ap (take c.args.count) c.self.view_is
+    ap asserted_entries c.truncate.ensures.entries ∙ sym (take-map (λ (p : Told). let a : Asserted =
+    record { text = p.0.items; spec = p.1 } in a) c.args.count c.self.inside.by_text.entries) ∙ ap (take c.args.count) c.self.view_is

@@ -7,4 +7,8 @@ use Rattle.flat_circuit.proofs.builder.Builder.assert.Goals as goal
 pub invariant_of-self-2 : goal.invariant_of-self-2
 invariant_of-self-2 c =
     let i = c.self.inside in
-    rw c.in_ok-add.ensures.ok (built-asserted i.header i.nets i.assertions i.instances c.args.text.now c.args.spec.now c.self.invariant.0 (subst (λ (b : Built). Fits b.header c.args.spec.now) (sym c.self.view_is) c.requires), c.self.invariant.1)
+    rw c.in_ok-add.ensures.ok (
+      built-asserted i.header i.nets i.assertions i.instances c.args.text.now c.args.spec.now
+          c.self.invariant.0 (subst (λ (b : Built). Fits b.header c.args.spec.now) (sym c.self.view_is) c.requires),
+      c.self.invariant.1,
+    )

@@ -26,4 +26,5 @@ returns-in-Err c =
     let want : Name = record { text = c.args.name.now; bit = c.args.bit } in
     let p = c.in-Err.ensures.position (λ i. name_cmp (name_at ns i) want) (always_returns_same _ _ _ (λ a r f' q. search rules)) in
     let u = p (rw c.deref.ensures.value (rises ns c.self.inside.order.items want c.self.invariant.0.by_name)) in
-    subst (λ (f : Circuit). (i : ℕ) → ¬ (IsNumber (net_names f.nets) want i)) c.self.view_is (λ i n. not_there ns c.self.inside.order.items want c.in-Err.field-0 c.self.invariant.0.by_name (rw c.deref.ensures.value at u) i n.below n.is)
+    subst (λ (f : Circuit). (i : ℕ) → ¬ (IsNumber (net_names f.nets) want i)) c.self.view_is (λ i n. not_there ns
+    c.self.inside.order.items want c.in-Err.field-0 c.self.invariant.0.by_name (rw c.deref.ensures.value at u) i n.below n.is)

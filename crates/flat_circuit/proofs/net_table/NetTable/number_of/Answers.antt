@@ -8,5 +8,6 @@ use Rattle.flat_circuit.proofs.net_table.NetTable.number_of.Goals as goal
 pub returns : goal.returns
 returns c =
     let k = c.args.name.now in
-    subst (λ (t : Nets). MatchOption c.get_index_of.result (has_name t.names (name_of_key k) ≡ false) (λ i. (has_name t.names (name_of_key k) ≡ true) × IsNumber t.names (name_of_key k) i)) c.self.view_is
+    subst (λ (t : Nets). MatchOption c.get_index_of.result (has_name t.names (name_of_key k)
+    ≡ false) (λ i. (has_name t.names (name_of_key k) ≡ true) × IsNumber t.names (name_of_key k) i)) c.self.view_is
     (number-is c.self.inside.nets.entries k c.get_index_of.result c.get_index_of.ensures.index)

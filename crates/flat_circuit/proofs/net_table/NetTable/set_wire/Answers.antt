@@ -7,13 +7,26 @@ use Rattle.flat_circuit.proofs.net_table.NetTable.set_wire.Goals.{in-Some, in_de
 
 -- the net of a number below the count is there
 none : (c : goal.Joined-get_index_mut) → (c.args.net < length c.self.inside.nets.entries → false ≡ true) → false ≡ true
-none c f = f (let l = length-map c.self.inside.nets.entries (λ (p : Entry). name_of_key p.0) in let r = subst (λ (t : Nets). c.args.net < length t.names) (sym c.self.view_is) c.requires in omega arith)
+none c f = f (let l = length-map c.self.inside.nets.entries (λ (p : Entry). name_of_key p.0) in let r =
+    subst (λ (t : Nets). c.args.net < length t.names) (sym c.self.view_is) c.requires in omega arith)
 
 pub invariant_of-self : goal.invariant_of-self
-invariant_of-self c = elim c.match-get_index_mut.branch [ in-Some w ↦ rw w.self-inside-is (nets-set c.self.inside.nets.entries c.args.net c.args.wire c.self.invariant) | in_default w ↦ let f = none c w.in_default.ensures.found.1 in absurd (cc) ]
+invariant_of-self c = elim c.match-get_index_mut.branch [
+  | in-Some w ↦ rw w.self-inside-is (nets-set c.self.inside.nets.entries c.args.net c.args.wire c.self.invariant)
+  | in_default w ↦ let f =
+      none c w.in_default.ensures.found.1 in absurd (cc)
+]
 
 pub returns-clause-names : goal.returns-clause-names
-returns-clause-names c = elim c.match-get_index_mut.branch [ in-Some w ↦ rw w.self-inside-is (names-set c.self.inside.nets.entries c.args.net c.args.wire ∙ ap (λ (t : Nets). t.names) c.self.view_is) | in_default w ↦ let f = none c w.in_default.ensures.found.1 in absurd (cc) ]
+returns-clause-names c = elim c.match-get_index_mut.branch [
+  | in-Some w ↦ rw w.self-inside-is (names-set c.self.inside.nets.entries c.args.net c.args.wire ∙ ap (λ (t : Nets). t.names) c.self.view_is)
+  | in_default w ↦ let f = none c w.in_default.ensures.found.1 in absurd (cc)
+]
 
 pub returns-clause-wires : goal.returns-clause-wires
-returns-clause-wires c = elim c.match-get_index_mut.branch [ in-Some w ↦ rw w.self-inside-is (wires-set c.self.inside.nets.entries c.args.net c.args.wire ∙ ap (λ (t : Nets). set t.wires c.args.net c.args.wire) c.self.view_is) | in_default w ↦ let f = none c w.in_default.ensures.found.1 in absurd (cc) ]
+returns-clause-wires c = elim c.match-get_index_mut.branch [
+  | in-Some w ↦ rw w.self-inside-is (wires-set c.self.inside.nets.entries c.args.net c.args.wire
+      ∙ ap (λ (t : Nets). set t.wires c.args.net c.args.wire) c.self.view_is)
+  | in_default w ↦ let f =
+      none c w.in_default.ensures.found.1 in absurd (cc)
+]

@@ -86,7 +86,8 @@ returns-in_ok-push-in-Lexeme-clause-read c =
     let s = c.args.self.now in
     let piece = Lexeme c.in-Lexeme.kind c.in-Lexeme.count in
     let stands = stands_here c.args.text.now s.at c.front.result c.in-Some.piece piece c.front.ensures c.in-Some.is c.in-Lexeme.is in
-    rw (c.move_on-in-Lexeme.ensures, c.in_ok-push-in-Lexeme.ensures) (takes_on_line c.args.text.now s _ piece c.requires.read stands (advances _ piece stands) refl (listed c.args.text.now s c.in-Lexeme.kind c.in-Lexeme.count c.requires.read) refl)
+    rw (c.move_on-in-Lexeme.ensures, c.in_ok-push-in-Lexeme.ensures) (takes_on_line c.args.text.now s _ piece
+    c.requires.read stands (advances _ piece stands) refl (listed c.args.text.now s c.in-Lexeme.kind c.in-Lexeme.count c.requires.read) refl)
 
 pub returns-in_ok-push-in-Lexeme-clause-further : goal.returns-in_ok-push-in-Lexeme-clause-further
 returns-in_ok-push-in-Lexeme-clause-further c =
