@@ -5,9 +5,9 @@ use Rattle.scald_base.specs.Time.{period}
 use Rattle.flat_circuit.specs.declared.case.CaseValue.{CaseValue}
 use Rattle.flat_circuit.specs.Instances.{outputs}
 use Rattle.flat_circuit.specs.Circuit.{Circuit, IsCircuit}
+use Rattle.net_waves.specs.Waves.{Waves}
 use Rattle.fixpoint_engine.specs.declared.rounds.EngineEnd.{EngineEnd}
 use Rattle.fixpoint_engine.specs.declared.rounds.EngineEnd.TheVariants.{NoMemory}
-use Rattle.fixpoint_engine.specs.Value.{Waves}
 use Rattle.fixpoint_engine.specs.Rounds.{round}
 use Rattle.fixpoint_engine.specs.Start.{base_start}
 use Rattle.fixpoint_engine.specs.Settled.{AreAtRest, KeepRuns}

@@ -19,12 +19,12 @@ use Rattle.flat_circuit.specs.Run.{Run, net_signal}
 use Rattle.pin_waves.specs.Interface.{constant_wave}
 use Rattle.pin_waves.proofs.CodeSlots.{Permits-constant}
 use Rattle.class_table.specs.Alike.{value_after, value_in}
-use Rattle.fixpoint_engine.specs.Value.{Waves}
+use Rattle.net_waves.specs.Waves.{Waves, waves_of, FitWaves}
+use Rattle.net_waves.specs.Interface.{PermitRun}
+use Rattle.net_waves.proofs.WavesOf.{set-at}
 use Rattle.fixpoint_engine.specs.Reach.{reach}
 use Rattle.fixpoint_engine.specs.Start.{is_driven}
-use Rattle.fixpoint_engine.specs.Settled.{waves_of, FitWaves, KeepRuns}
-use Rattle.fixpoint_engine.specs.Interface.{PermitRun}
-use Rattle.fixpoint_engine.proofs.Changing.{set-at}
+use Rattle.fixpoint_engine.specs.Settled.{KeepRuns}
 use Rattle.case_analysis.specs.Base.{PermitInputs}
 use Rattle.fixpoint_engine.specs.declared.rounds.EngineEnd.{EngineEnd}
 use Rattle.fixpoint_engine.specs.declared.rounds.EngineEnd.TheVariants.{Unsettled, NoMemory}

@@ -22,11 +22,10 @@ use Rattle.flat_circuit.specs.Run.{Run, net_signal}
 use Rattle.pin_waves.specs.Meets.{Meets}
 use Rattle.pin_waves.specs.Interface.{interface_wave}
 use Rattle.pin_waves.proofs.Asserted.{length-interface, Permits-interface}
-use Rattle.fixpoint_engine.specs.Value.{Waves}
+use Rattle.net_waves.specs.Waves.{Waves, waves_of, FitWaves}
+use Rattle.net_waves.specs.Interface.{MeetsInterface, PermitRun}
+use Rattle.net_waves.proofs.WavesOf.{wave-found}
 use Rattle.fixpoint_engine.specs.Start.{unknown_wave, start_in, base_start}
-use Rattle.fixpoint_engine.specs.Interface.{MeetsInterface, PermitRun}
-use Rattle.fixpoint_engine.specs.Settled.{waves_of, FitWaves}
-use Rattle.fixpoint_engine.proofs.Changing.{wave-found}
 use Rattle.case_analysis.specs.Base.{AreAssertedAlike}
 
 -- ---- one net

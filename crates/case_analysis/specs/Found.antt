@@ -1,6 +1,6 @@
 -- The nets that a search has found, in the order in which it found them.
 use Rattle.std.specs.Prelude.{◌≡◌, ℕ, ◌<◌, ◌≤◌, Bool, length}
-use Rattle.fixpoint_engine.specs.Rounds.{net_at}
+use Rattle.flat_circuit.specs.Name.{net_at}
 use Rattle.fixpoint_engine.specs.Worklist.{Queue, Adds}
 
 -- The nets of a set follow those that were found before.

@@ -3,16 +3,18 @@
 ghost use Rattle.std.specs.Prelude.{◌≡◌, ◌≤◌, ◌+◌, ℕ, ◌<◌, IfErr, IfOk, MatchBool, MatchResult, length, map};
 ghost use Rattle.std.specs.List.{range_with_len};
 ghost use Rattle.flat_circuit.specs.Instances.{outputs};
+ghost use Rattle.net_waves.specs.Waves.{FitWaves, waves_of};
 ghost use Rattle.fixpoint_engine.specs.End.{EndsFor};
 ghost use Rattle.fixpoint_engine.specs.Loops.{HasNoLoop};
-ghost use Rattle.fixpoint_engine.specs.Settled.{FitWaves, marked_in, waves_of};
+ghost use Rattle.fixpoint_engine.specs.Settled.{marked_in};
 ghost use Rattle.fixpoint_engine.specs.Start.{base_start, default_limit, is_driven, start_in, unknown_wave};
 ghost use Rattle.fixpoint_engine.specs.Work.{work_to};
 ghost use Rattle.case_analysis.specs.Base.{AreAssertedAlike, IsBase, PermitInputs, base_round};
 
 use crate::parts::{instance_of, net_of};
-use fixpoint_engine::{EngineEnd, NetSet, Settled, Waves, settle};
+use fixpoint_engine::{EngineEnd, NetSet, Settled, settle};
 use flat_circuit::{Circuit, Net, is_same_assertion};
+use net_waves::Waves;
 use pin_waves::interface_wave;
 use scald_base::{Header, List, NoMemory};
 use skew_algebra::Skewed;

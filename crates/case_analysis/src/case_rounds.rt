@@ -2,9 +2,10 @@
 
 ghost use Rattle.std.specs.Prelude.{◌≡◌, ◌≤◌, ◌+◌, ℕ, Bool, IfErr, IfOk, MatchResult, [], length};
 ghost use Rattle.flat_circuit.specs.Instances.{outputs};
+ghost use Rattle.net_waves.specs.Waves.{FitWaves, waves_of};
 ghost use Rattle.fixpoint_engine.specs.End.{EndsFor};
 ghost use Rattle.fixpoint_engine.specs.Loops.{HasNoLoop};
-ghost use Rattle.fixpoint_engine.specs.Settled.{FitWaves, marked_in, waves_of};
+ghost use Rattle.fixpoint_engine.specs.Settled.{marked_in};
 ghost use Rattle.fixpoint_engine.specs.Work.{work_to};
 ghost use Rattle.case_analysis.specs.Base.{IsBase};
 ghost use Rattle.case_analysis.specs.Case.{EndsInCone, HasCone, IsCase, IsCone, NetsExist, PermitCase, case_active, case_round, case_start, case_wave};
@@ -12,8 +13,9 @@ ghost use Rattle.case_analysis.specs.Case.{EndsInCone, HasCone, IsCase, IsCone, 
 use crate::base_rounds::unknown_wave;
 use crate::cones::cone;
 use crate::parts::net_of;
-use fixpoint_engine::{EngineEnd, NetSet, Settled, Waves, settle};
+use fixpoint_engine::{EngineEnd, NetSet, Settled, settle};
 use flat_circuit::{Case, Circuit};
+use net_waves::Waves;
 use pin_waves::constant_wave;
 use scald_base::{Header, List, NoMemory};
 use skew_algebra::Skewed;

@@ -1,8 +1,8 @@
 //! The printed tick.
 
 ghost use Rattle.std.specs.Prelude.{◌≡◌, ◌+◌, ◌≤◌};
+ghost use Rattle.net_waves.specs.Waves.{target_wire};
 ghost use Rattle.fixpoint_engine.specs.Reach.{farthest, greatest_delay, greatest_wire, reach};
-ghost use Rattle.fixpoint_engine.specs.Value.{target_wire};
 ghost use Rattle.case_analysis.specs.Tick.{tick};
 
 use crate::parts::instance_of;

@@ -2,14 +2,14 @@
 
 ghost use Rattle.std.specs.Prelude.{◌≡◌, ◌==◌, IfOk, IsTrue, length};
 ghost use Rattle.std.specs.List.{All, list_all};
-ghost use Rattle.fixpoint_engine.specs.Settled.{FitWaves};
+ghost use Rattle.net_waves.specs.Waves.{FitWaves};
 ghost use Rattle.case_analysis.specs.Listed.{IsListed};
 
 use case_analysis::check_cases;
 use drawing_reader::read_drawing;
-use fixpoint_engine::Waves;
 use flat_circuit::{CaseList, Circuit};
 use macro_expander::expand;
+use net_waves::Waves;
 use scald_base::{Bytes, NoMemory, Stop};
 use scald_lex::tokens;
 use skew_algebra::Skewed;

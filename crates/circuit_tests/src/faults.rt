@@ -1,13 +1,13 @@
 //! That the public calls of the checks give answers where there is memory. What the answers are the contracts
 //! say.
 
-ghost use Rattle.fixpoint_engine.specs.Settled.{FitWaves};
+ghost use Rattle.net_waves.specs.Waves.{FitWaves};
 
 use crate::drawings::{HEAD, read_circuit};
 use crate::rows::expect_eq;
 use case_analysis::base;
-use fixpoint_engine::Waves;
 use flat_circuit::{Circuit, Fault, Kind, PointKind};
+use net_waves::Waves;
 use point_check::{check_points, point_fault};
 use pulse_check::{check_pulses, width_fault};
 use scald_base::NoMemory;

@@ -2,15 +2,16 @@
 
 ghost use Rattle.std.specs.Prelude.{map};
 ghost use Rattle.skew_algebra.specs.Wave.{skewed};
-ghost use Rattle.fixpoint_engine.specs.Settled.{FitWaves};
+ghost use Rattle.net_waves.specs.Waves.{FitWaves};
 
 use crate::drawings::{are_fit, read_circuit};
 use crate::rows::expect_bytes;
-use fixpoint_engine::{Settled, Waves};
 use flat_circuit::{Circuit, Fault, Faults};
 use listing::{
-    Mode, begin_report, end_report, write_case, write_refusal, write_summary, write_unsettled,
+    CaseHead, Mode, begin_report, end_report, write_case, write_refusal, write_summary,
+    write_unsettled,
 };
+use net_waves::Waves;
 use scald_base::{Bytes, NoMemory, Place, Refusal, RefusalKind};
 use skew_algebra::Skewed;
 use std::alloc::Global;
@@ -50,6 +51,16 @@ fn one_fault(alloc: Global) -> Result<Faults, NoMemory> {
     Ok(faults)
 }
 
+/// The head of a case: base 4, 3 rounds, tick 408.
+fn head_of(number: u32) -> CaseHead {
+    CaseHead {
+        number,
+        base: 4,
+        rounds: 3,
+        tick: 408,
+    }
+}
+
 /// A report of three cases, one in each mode.
 fn three_cases<W: CyclicWave<Item = Value>>(
     rt: &impl Abort,
@@ -58,17 +69,12 @@ fn three_cases<W: CyclicWave<Item = Value>>(
     waves: Waves<W>,
 ) -> Result<Bytes, NoMemory> {
     assert!(rt; are_fit(c, &waves));
-    let settled = Settled {
-        waves,
-        rounds: 3,
-        evals: 0,
-    };
     let faults = one_fault(alloc)?;
     let mut out = Bytes::new(alloc);
     begin_report(c, &mut out)?;
-    write_case(c, 1, 4, &settled, 408, &faults, Mode::Full, &mut out)?;
-    write_case(c, 2, 4, &settled, 408, &faults, Mode::Waves, &mut out)?;
-    write_case(c, 3, 4, &settled, 408, &faults, Mode::Faults, &mut out)?;
+    write_case(c, head_of(1), &waves, &faults, Mode::Full, &mut out)?;
+    write_case(c, head_of(2), &waves, &faults, Mode::Waves, &mut out)?;
+    write_case(c, head_of(3), &waves, &faults, Mode::Faults, &mut out)?;
     end_report(3, &mut out)?;
     Ok(out)
 }

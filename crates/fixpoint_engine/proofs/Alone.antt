@@ -7,7 +7,8 @@ use Rattle.std.proofs.lemmas.List.Elements.{All-head, All-tail}
 use Rattle.std.proofs.lemmas.List.FromFn.{fill_by_all, length-range_with_len, get_or-range_with_len, length-map-range_with_len, get_or-map-range_with_len}
 use Rattle.flat_circuit.specs.Circuit.{Circuit}
 use Rattle.class_table.specs.Alike.{class_of}
-use Rattle.fixpoint_engine.specs.Value.{Waves}
+use Rattle.net_waves.specs.Waves.{Waves}
+use Rattle.net_waves.proofs.Marks.{count-marks}
 use Rattle.fixpoint_engine.specs.Rounds.{round}
 use Rattle.fixpoint_engine.specs.Settled.{marked_in, FitActive}
 use Rattle.fixpoint_engine.specs.Work.{is_due, work_to}
@@ -15,7 +16,6 @@ use Rattle.fixpoint_engine.specs.Worklist.{Change}
 use Rattle.fixpoint_engine.specs.Classes.{OneStandsForAll, is_first, class_work_to}
 use Rattle.fixpoint_engine.specs.Members.{last_below, members_below, for_classes, numbers_in, leads_in, is_evaluated, for_all}
 use Rattle.fixpoint_engine.proofs.Drivers.{active-past}
-use Rattle.fixpoint_engine.proofs.Marks.{count-marks}
 use Rattle.fixpoint_engine.proofs.Members.{above, members-above, first-is}
 
 module _ (n : ℕ) where

@@ -1,31 +1,20 @@
 -- Where an equation is asked: as far behind a tick as its delay and wires reach, and one tick more.
-use Rattle.std.proofs.Common.{◌≡◌, ℕ, ◌+◌, ◌≤◌, max, true, List, [], ◌∷◌, get_or, arith, All, slice_get, Option, Some, None}
+use Rattle.std.proofs.Common.{◌≡◌, ℕ, ◌+◌, ◌≤◌, max, true, List, [], ◌∷◌, get_or, arith, All}
 use Rattle.std.proofs.lemmas.List.Elements.{All-nil, All-cons}
 use Rattle.scald_base.specs.Time.{Bounds}
-use Rattle.vector_names.specs.declared.bits.Target.{Target}
-use Rattle.vector_names.specs.declared.bits.Target.TheVariants.{Net as OnNet, Constant}
 use Rattle.element_kinds.specs.declared.kind.Kind.{Kind}
 use Rattle.element_kinds.specs.declared.kind.Kind.TheVariants.{Chg, Reg, RegRs, Latch, LatchRs, SetupHold, RiseFall, MinPulse}
 use Rattle.flat_circuit.specs.declared.instance.Pin.{Pin}
 use Rattle.flat_circuit.specs.declared.net.Net.{Net}
 use Rattle.element_kinds.specs.Equation.{pins_before, IsAsked}
-use Rattle.flat_circuit.specs.Run.{DelayFits, net_wire_fits, WireFits, WiresFit}
+use Rattle.flat_circuit.specs.Run.{DelayFits, WiresFit}
+use Rattle.net_waves.proofs.Permitted.{wire-within}
 use Rattle.element_kinds.specs.Kinds.{has_output}
-use Rattle.flat_circuit.specs.Circuit.{wire_in}
-use Rattle.fixpoint_engine.specs.Value.{target_wire}
 use Rattle.fixpoint_engine.specs.Reach.{greatest_wire}
 
 abbrev pub longest : List ℕ → ℕ
 longest [] = 0
 longest (w ∷ ws) = max w (longest ws)
-
-wire-found : (found : Option Net) (w : ℕ) → net_wire_fits found w → ((wire_in found).min ≤ w) × (w ≤ (wire_in found).max)
-wire-found None w fits = absurd fits
-wire-found (Some net) w fits = fits
-
-pub wire-within : (nets : List Net) (t : Target) (w : ℕ) → WireFits nets t w → ((target_wire nets t).min ≤ w) × (w ≤ (target_wire nets t).max)
-wire-within nets (OnNet i) w fits = wire-found (slice_get nets i) w fits
-wire-within nets (Constant one) w fits = (omega arith, omega arith)
 
 pub wires-within : (nets : List Net) (ps : List Pin) (wires : List ℕ) → WiresFit nets ps wires → longest wires ≤ greatest_wire nets ps
 wires-within nets [] [] fits = omega arith

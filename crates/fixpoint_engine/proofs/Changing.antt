@@ -1,18 +1,17 @@
 -- What evaluating one net after another changes.
-use Rattle.std.proofs.Common.{◌≡◌, ◌≢◌, ℕ, zero, suc, ◌<◌, ◌==◌, Bool, true, false, not, ◌&&◌, ◌||◌, cond, All, List, [], ◌∷◌, ◌++◌, length, append-nil, map, get_or, refl, sym, ap, subst, ◌∙◌, arith}
+use Rattle.std.proofs.Common.{◌≡◌, ◌≢◌, ℕ, ◌<◌, ◌==◌, Bool, true, false, not, ◌&&◌, ◌||◌, cond, All, List, [], ◌∷◌, ◌++◌, length, append-nil, map, refl, sym, ap, subst, ◌∙◌, arith}
 use Rattle.std.proofs.lemmas.List.Sums.{fold_push}
-use Rattle.std.proofs.lemmas.List.{map-append, length-map, length-set, get_or-set_same, get_or-set_other}
+use Rattle.std.proofs.lemmas.List.{map-append, length-map, length-set}
 use Rattle.std.proofs.lemmas.List.Elements.{All-nil, All-cons, All-filter, All-map, All-head, All-tail}
 use Rattle.std.proofs.lemmas.Bool.{eqb-true, eqb-false}
 use Rattle.std.proofs.Math.Bool.{and-false}
 use Rattle.std.proofs.Math.ListN.{set}
 use Rattle.step_values.specs.declared.value.Value.{Value}
-use Rattle.skew_algebra.specs.Wave.{Wave, skewed}
+use Rattle.skew_algebra.specs.Wave.{Wave}
 use Rattle.flat_circuit.specs.Circuit.{Circuit}
-use Rattle.fixpoint_engine.specs.Value.{Waves}
+use Rattle.net_waves.specs.Waves.{Waves}
 use Rattle.fixpoint_engine.specs.Rounds.{evaluated}
 use Rattle.fixpoint_engine.specs.Work.{same_wave}
-use Rattle.fixpoint_engine.specs.Settled.{waves_of}
 use Rattle.fixpoint_engine.specs.Worklist.{Change, changes_of, changed, among}
 use Rattle.fixpoint_engine.proofs.Same.{same_wave-is, same_wave-self}
 
@@ -27,12 +26,6 @@ one-change c ws i differs = ap (λ b. cond (not b) ((i, evaluated c ws i) ∷ []
     by : (b : Bool) → same_wave (evaluated c ws i) (ws i) ≡ b → same_wave (evaluated c ws i) (ws i) ≡ false
     by true e = absurd (differs (same_wave-is (evaluated c ws i) (ws i) e))
     by false e = e
-
--- the wave of a net, where code reads it
-pub wave-found : (xs : List (Wave Value)) (i n : ℕ) (x : Wave Value) → i < n → length xs ≡ n → x ≡ get_or xs i x → x ≡ waves_of xs i
-wave-found [] i n x below long is = absurd (omega arith)
-wave-found (y ∷ xs) zero n x below long is = is
-wave-found (y ∷ xs) (suc i) n x below long is = wave-found xs i (length xs) x (omega arith) refl is
 
 -- the list of changes with one more
 pub change-added : {A : Type 0} (pair : A → Change) (old new : List A) (one : A) (c : Circuit) (ws : Waves) (i : ℕ) (w : Wave Value) → new ≡ old ++ one ∷ [] → pair one ≡ (i, w) →
@@ -66,13 +59,6 @@ changed-nets c ws (net ∷ nets) i = by (net == i) refl (moves c ws net) refl (c
     by true e false m rest =
         let still : moves c ws i ≡ false = ap (moves c ws) (sym (eqb-true net i e)) ∙ m in
         rest ∙ (λ k. among nets i && still k) ∙ and-false (among nets i) ∙ sym still
-
-pub set-at : (waves : List (Wave Value)) (net i : ℕ) (w : Wave Value) → net < length waves → waves_of (set waves net w) i ≡ cond (net == i) w (waves_of waves i)
-set-at waves net i w below = by (net == i) refl
-  where
-    by : (here : Bool) → (net == i) ≡ here → waves_of (set waves net w) i ≡ cond here w (waves_of waves i)
-    by true e = ap (waves_of (set waves net w)) (sym (eqb-true net i e)) ∙ get_or-set_same waves net w (skewed [] 0) below
-    by false e = get_or-set_other waves net i w (skewed [] 0) (λ same. eqb-false net i e (sym same))
 
 pub changes-exist : (c : Circuit) (ws : Waves) (nets : List ℕ) (n : ℕ) → All (λ net. net < n) nets → All (λ (ch : Change). ch.0 < n) (changes_of c ws nets)
 changes-exist c ws nets n exist =

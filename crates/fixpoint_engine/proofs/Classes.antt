@@ -20,11 +20,13 @@ use Rattle.pin_waves.specs.Interface.{constant_wave}
 use Rattle.pin_waves.specs.Pin.{pin_wave as wave_behind}
 use Rattle.class_table.specs.Alike.{class_of, TargetsAlike, PinsAlike, InstancesAlike, DriversAlike, instance_of}
 use Rattle.class_table.specs.Stable.{IsStable}
-use Rattle.fixpoint_engine.specs.Value.{Waves, target_wave, target_wire, pin_wave, marked_pin, made_by, turned_wave, instance_wave}
+use Rattle.net_waves.specs.Waves.{Waves, target_wave, target_wire, pin_wave, marked_pin}
+use Rattle.flat_circuit.proofs.Numbered.{fits-of}
+use Rattle.fixpoint_engine.specs.Value.{made_by, turned_wave, instance_wave}
 use Rattle.fixpoint_engine.specs.Rounds.{instance_in, driver, wave_from, evaluated, next, round}
 use Rattle.fixpoint_engine.specs.Work.{same_wave, differs, is_on_any, hears_from, hears_in, is_due}
 use Rattle.fixpoint_engine.specs.Classes.{HaveOneWave, AreTogether, GoTogether}
-use Rattle.fixpoint_engine.proofs.Drivers.{fits-of, driver-fits}
+use Rattle.fixpoint_engine.proofs.Drivers.{driver-fits}
 
 -- marks at the same places
 marks-same : (k : List ℕ) (ps qs : List Pin) → AllZip (PinsAlike k) ps qs → prefix_len (λ (p : Pin). not p.hold) ps ≡ prefix_len (λ (p : Pin). not p.hold) qs

@@ -1,24 +1,16 @@
 -- The instances that drive nets.
-use Rattle.std.proofs.Common.{◌≡◌, ℕ, zero, suc, ◌<◌, ◌≤◌, Bool, true, false, List, [], ◌∷◌, length, refl, sym, ap, subst, ◌∙◌, arith, All, slice_get, Option, Some, None, is_some}
+use Rattle.std.proofs.Common.{◌≡◌, ℕ, zero, suc, ◌<◌, ◌≤◌, Bool, true, false, List, [], ◌∷◌, length, refl, sym, ap, ◌∙◌, arith, slice_get, Option, Some, None, is_some}
 use Rattle.std.proofs.lemmas.Bool.{and_parts, false_from_ne_true}
-use Rattle.std.proofs.lemmas.List.Elements.{All-head, All-tail}
 use Rattle.vector_names.specs.declared.bits.Target.TheVariants.{Net as OnNet}
 use Rattle.flat_circuit.specs.declared.instance.Instance.{Instance}
 use Rattle.flat_circuit.specs.declared.net.Net.{Net}
 use Rattle.element_kinds.specs.Kinds.{has_output}
 use Rattle.flat_circuit.specs.Instances.{InstanceFits, out_of}
 use Rattle.flat_circuit.specs.Circuit.{Circuit, IsCircuit, driver_at}
+use Rattle.flat_circuit.proofs.Numbered.{fits-of}
 use Rattle.fixpoint_engine.specs.Rounds.{instance_in, driver}
 use Rattle.fixpoint_engine.specs.Settled.{marked_in, FitActive}
 use Rattle.fixpoint_engine.specs.Members.{leads_in, is_evaluated}
-
-pub fits-of : (c : Circuit) (k : ℕ) (j : Instance) → IsCircuit c → slice_get c.instances k ≡ Some j → InstanceFits c.header (length c.nets) j
-fits-of c k j known is = at-place c.instances k j known.each is
-  where
-    at-place : (js : List Instance) (k : ℕ) (j : Instance) → All (InstanceFits c.header (length c.nets)) js → slice_get js k ≡ Some j → InstanceFits c.header (length c.nets) j
-    at-place [] k j each is = cc
-    at-place (first ∷ js) zero j each is = let same : first ≡ j = cc in subst (InstanceFits c.header (length c.nets)) same (All-head (InstanceFits c.header (length c.nets)) first js each)
-    at-place (first ∷ js) (suc k) j each is = at-place js k j (All-tail (InstanceFits c.header (length c.nets)) first js each) is
 
 pub makes-of : (c : Circuit) (k i : ℕ) (j : Instance) → IsCircuit c → slice_get c.instances k ≡ Some j → j.out ≡ Some (OnNet i) → has_output j.kind ≡ true
 makes-of c k i j known is out = sym (fits-of c k j known is).has_out ∙ ap is_some out

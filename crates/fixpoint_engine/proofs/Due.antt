@@ -9,13 +9,13 @@ use Rattle.std.proofs.lemmas.List.Folds.{Any-from_list_any, list_any-from_Any}
 use Rattle.step_values.specs.declared.value.Value.{Value}
 use Rattle.skew_algebra.specs.Wave.{Wave}
 use Rattle.flat_circuit.specs.Circuit.{Circuit}
-use Rattle.fixpoint_engine.specs.Value.{Waves}
+use Rattle.net_waves.specs.Waves.{Waves}
+use Rattle.net_waves.proofs.Marks.{count-marks}
 use Rattle.fixpoint_engine.specs.Rounds.{driver, evaluated, round}
 use Rattle.fixpoint_engine.specs.Work.{same_wave, differs, hears_in, is_due}
 use Rattle.fixpoint_engine.specs.Settled.{marked_in}
 use Rattle.fixpoint_engine.specs.Worklist.{Queue, IsQueue, among}
 use Rattle.fixpoint_engine.proofs.Same.{same_wave-is, same_wave-self}
-use Rattle.fixpoint_engine.proofs.Marks.{count-marks}
 use Rattle.fixpoint_engine.proofs.Changing.{moves}
 use Rattle.fixpoint_engine.proofs.Reached.{undue-stays, due-takes}
 

@@ -10,10 +10,10 @@ use Rattle.skew_algebra.specs.Wave.{Wave, skewed, normal}
 use Rattle.element_kinds.specs.declared.kind.Kind.TheVariants.{Buf, And, Or, Xor, Mux2, Mux4, Mux8, Chg, Reg, RegRs, Latch, LatchRs, SetupHold, RiseFall, MinPulse}
 use Rattle.flat_circuit.specs.declared.instance.Pin.{Pin}
 use Rattle.flat_circuit.specs.declared.net.Net.{Net}
+use Rattle.net_waves.proofs.ExamplesInterface.{bounds, net, element, on, circuit, small}
 use Rattle.fixpoint_engine.specs.Rounds.{RestsAt, IsUnsettled}
 use Rattle.fixpoint_engine.specs.Start.{base_start, is_driven}
 use Rattle.fixpoint_engine.specs.Reach.{reach, greatest_delay}
-use Rattle.fixpoint_engine.proofs.ExamplesInterface.{bounds, net, element, on, circuit, small}
 
 -- ---- the reach
 

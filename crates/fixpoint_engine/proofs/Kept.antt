@@ -19,21 +19,22 @@ use Rattle.flat_circuit.specs.Circuit.{Circuit, IsCircuit}
 use Rattle.flat_circuit.specs.Run.{net_signal}
 use Rattle.class_table.specs.Alike.{class_of}
 use Rattle.class_table.specs.Stable.{IsStable}
+use Rattle.net_waves.specs.Waves.{Waves, waves_of, FitWaves}
+use Rattle.net_waves.proofs.Fits.{AreLong}
+use Rattle.net_waves.proofs.WavesOf.{set-at}
 use Rattle.fixpoint_engine.specs.declared.rounds.EngineEnd.{EngineEnd}
-use Rattle.fixpoint_engine.specs.Value.{Waves}
 use Rattle.fixpoint_engine.specs.Reach.{reach}
 use Rattle.fixpoint_engine.specs.Rounds.{driver, evaluated, round, AreSame}
 use Rattle.fixpoint_engine.specs.Work.{same_wave, differs, hears_in, is_due}
-use Rattle.fixpoint_engine.specs.Settled.{waves_of, marked_in, FitWaves, FitActive, AreAtRest, KeepRuns}
+use Rattle.fixpoint_engine.specs.Settled.{marked_in, FitActive, AreAtRest, KeepRuns}
 use Rattle.fixpoint_engine.specs.End.{EndsAt, EndsFor}
 use Rattle.fixpoint_engine.specs.Worklist.{Queue, IsQueue, Change, changes_of, changed, among}
 use Rattle.fixpoint_engine.specs.Classes.{HaveOneWave, AreTogether, OneStandsForAll, is_first, due_classes, class_work_to}
 use Rattle.fixpoint_engine.specs.Members.{for_classes, numbers_in, for_all}
 use Rattle.fixpoint_engine.proofs.Same.{same_wave-is, same_wave-self}
 use Rattle.fixpoint_engine.proofs.Drivers.{active-past}
-use Rattle.fixpoint_engine.proofs.Fits.{AreLong}
 use Rattle.fixpoint_engine.proofs.Listening.{hears-same}
-use Rattle.fixpoint_engine.proofs.Changing.{moves, changed-nets, changes-exist, set-at, nets-made}
+use Rattle.fixpoint_engine.proofs.Changing.{moves, changed-nets, changes-exist, nets-made}
 use Rattle.fixpoint_engine.proofs.Waiting.{waiting-below, waiting-few}
 use Rattle.fixpoint_engine.proofs.Reached.{Reached, reached-start, undue-stays, due-takes}
 use Rattle.fixpoint_engine.proofs.Due.{among-waiting, waiting-count, changes-is, first-due, later-due}

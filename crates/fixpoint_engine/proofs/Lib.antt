@@ -1,14 +1,9 @@
 pub mod Same
 pub mod Hearing
-pub mod Fits
-pub mod ReadSlots
-pub mod SameWaves
-pub mod ByNumber
 pub mod Asked
 pub mod Made
 pub mod Drivers
 pub mod Sound
-pub mod Marks
 pub mod Normal
 pub mod Places
 pub mod Reached
@@ -25,8 +20,4 @@ pub mod Alone
 pub mod Kept
 pub mod ExamplesWork
 pub mod ExamplesClasses
-pub mod Tables
-pub mod WrittenRuns
-pub mod ExamplesInterface
-pub mod ExamplesPins
 pub mod ExamplesReach

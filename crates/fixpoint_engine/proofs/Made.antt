@@ -1,7 +1,6 @@
 -- What each kind makes is sound, and has the period of its pins' waves.
-use Rattle.std.proofs.Common.{◌≡◌, ℕ, ◌<◌, ◌≤◌, true, List, [], ◌∷◌, length, refl, sym, subst, ◌∙◌, arith, All, Option, Some, None}
+use Rattle.std.proofs.Common.{◌≡◌, ℕ, ◌<◌, ◌≤◌, true, List, [], ◌∷◌, length, refl, sym, subst, ◌∙◌, arith, Option, Some, None}
 use Rattle.std.proofs.lemmas.List.{length-map}
-use Rattle.std.proofs.lemmas.List.Elements.{All-nil, All-cons}
 use Rattle.scald_base.specs.Time.{Bounds, period}
 use Rattle.step_values.specs.declared.value.Value.{Value}
 use Rattle.step_values.specs.declared.value.Value.TheVariants.{S}
@@ -17,25 +16,23 @@ use Rattle.flat_circuit.specs.Kind.{pin_counts}
 use Rattle.flat_circuit.specs.Instances.{InstanceFits}
 use Rattle.flat_circuit.specs.Circuit.{Circuit}
 use Rattle.pin_waves.proofs.Pins.{length-moved}
-use Rattle.gate_eval.specs.Meeting.{period_of, HaveOnePeriod}
+use Rattle.gate_eval.specs.Meeting.{period_of}
 use Rattle.gate_eval.specs.Gates.{gate_value}
 use Rattle.gate_eval.specs.Hold.{hazard}
 use Rattle.gate_eval.specs.Instance.{wave_of_pin, image_by, gate_image, gate_wave, MarkFits, IsSound}
 use Rattle.gate_eval.proofs.Fitting.{Fits, AllFit}
 use Rattle.gate_eval.proofs.Meets.{length-meeting}
-use Rattle.gate_eval.proofs.Chosen.{mark-fits, some-pins}
+use Rattle.gate_eval.proofs.Chosen.{mark-fits}
 use Rattle.gate_eval.proofs.Sound.{fit-at, gate-sound, length-change, mark-below}
 use Rattle.gate_eval.specs.Change.{change_wave}
 use Rattle.storage_eval.proofs.Sounds.{storage-sound}
 use Rattle.storage_eval.proofs.Dependence.{length-storage_wave}
-use Rattle.fixpoint_engine.specs.Value.{Waves, pin_wave, pin_waves, marked_pin, made_by, turned_wave, instance_wave}
-use Rattle.fixpoint_engine.proofs.Fits.{AreLong, length-turned, normal-fits, pins-fit}
+use Rattle.net_waves.specs.Waves.{Waves, pin_waves, marked_pin}
+use Rattle.net_waves.proofs.Fits.{AreLong, normal-fits}
+use Rattle.net_waves.proofs.OnePeriod.{length_pins, period_of_pins, pins_fit_period}
+use Rattle.fixpoint_engine.specs.Value.{made_by, turned_wave, instance_wave}
 
 -- ---- the period
-
-pub period-is : (p : ℕ) (waves : List (Wave Value)) → AllFit values p waves → 0 < length waves → period_of waves ≡ p
-period-is p [] fits some = absurd (omega arith)
-period-is p (w ∷ waves) fits some = fits.0.long
 
 length-image : (kind : Kind) (waves : List (Wave Value)) (marked : Option ℕ) (h : Option (ℕ × ℕ)) → AllFit values (period_of waves) waves → MarkFits kind marked (length waves) →
     length (image_by (gate_value kind) waves marked h).cells ≡ period_of waves
@@ -75,36 +72,28 @@ kind-sound kind waves marked d makes least most mark some fits = gate-sound kind
 
 -- ---- an instance of a circuit
 
-length-pins : (c : Circuit) (ws : Waves) (j : Instance) → length (pin_waves c ws j) ≡ length j.pins
-length-pins c ws j = length-map j.pins (pin_wave c ws)
-
-made-period : (c : Circuit) (ws : Waves) (j : Instance) → 0 < period c.header → AreLong c ws → InstanceFits c.header (length c.nets) j → period_of (pin_waves c ws j) ≡ period c.header
-made-period c ws j some fit fits =
-    let pins : 0 < length j.pins = some-pins j.kind (length j.pins) fits.pins.least in
-    period-is (period c.header) (pin_waves c ws j) (pins-fit c ws j.pins some fit fits.exists.reads) (let long = length-pins c ws j in omega (arith, long))
-
-made-fit : (c : Circuit) (ws : Waves) (j : Instance) → 0 < period c.header → AreLong c ws → InstanceFits c.header (length c.nets) j → AllFit values (period_of (pin_waves c ws j)) (pin_waves c ws j)
-made-fit c ws j some fit fits =
-    subst (λ (p : ℕ). AllFit values p (pin_waves c ws j)) (sym (made-period c ws j some fit fits)) (pins-fit c ws j.pins some fit fits.exists.reads)
+pub length-turned : (inverted : Bool) (w : Wave Value) → length (turned_wave inverted w).cells ≡ length w.cells
+length-turned true w = length-map w.cells flip
+length-turned false w = refl
 
 made-mark : (c : Circuit) (ws : Waves) (j : Instance) → InstanceFits c.header (length c.nets) j → MarkFits j.kind (marked_pin j) (length (pin_waves c ws j))
 made-mark c ws j fits =
-    subst (λ (n : ℕ). MarkFits j.kind (marked_pin j) n) (sym (length-pins c ws j)) (mark-fits j.kind (λ (p : Pin). p.hold) j.pins fits.pins.marks)
+    subst (λ (n : ℕ). MarkFits j.kind (marked_pin j) n) (sym (length_pins c ws j)) (mark-fits j.kind (λ (p : Pin). p.hold) j.pins fits.pins.marks)
 
 pub made-long : (c : Circuit) (ws : Waves) (j : Instance) → 0 < period c.header → AreLong c ws → InstanceFits c.header (length c.nets) j →
     length (made_by j.kind (pin_waves c ws j) (marked_pin j) j.delay).cells ≡ period c.header
 made-long c ws j some fit fits =
-    length-made j.kind (pin_waves c ws j) (marked_pin j) j.delay (made-fit c ws j some fit fits) (made-mark c ws j fits) ∙ made-period c ws j some fit fits
+    length-made j.kind (pin_waves c ws j) (marked_pin j) j.delay (pins_fit_period c ws j some fit fits) (made-mark c ws j fits) ∙ period_of_pins c ws j some fit fits
 
 pub made-sound : (c : Circuit) (ws : Waves) (j : Instance) → 0 < period c.header → AreLong c ws → InstanceFits c.header (length c.nets) j → has_output j.kind ≡ true →
     IsSound j.kind j.delay (pin_waves c ws j) (made_by j.kind (pin_waves c ws j) (marked_pin j) j.delay)
 made-sound c ws j some fit fits makes =
-    let long = length-pins c ws j in
+    let long = length_pins c ws j in
     let least = fits.pins.least in
     let most = fits.pins.most in
-    let one = made-period c ws j some fit fits in
+    let one = period_of_pins c ws j some fit fits in
     kind-sound j.kind (pin_waves c ws j) (marked_pin j) j.delay makes (omega (arith, long, least)) (omega (arith, long, most)) (made-mark c ws j fits) (omega (arith, one, some))
-    (made-fit c ws j some fit fits)
+    (pins_fit_period c ws j some fit fits)
 
 pub instance-fits : (c : Circuit) (ws : Waves) (j : Instance) → 0 < period c.header → AreLong c ws → InstanceFits c.header (length c.nets) j →
     Fits values (period c.header) (instance_wave c ws j)
@@ -112,12 +101,3 @@ unfolding instance_wave
 instance-fits c ws j some fit fits =
     let w : Wave Value = made_by j.kind (pin_waves c ws j) (marked_pin j) j.delay in
     normal-fits (period c.header) (turned_wave j.out_inverted w) some (length-turned j.out_inverted w ∙ made-long c ws j some fit fits)
-
--- ---- by what code knows
-
-all-long : (p : ℕ) (waves : List (Wave Value)) → AllFit values p waves → All (λ w. length w.cells ≡ p) waves
-all-long p [] fits = All-nil (λ (w : Wave Value). length w.cells ≡ p)
-all-long p (w ∷ waves) fits = All-cons (λ (v : Wave Value). length v.cells ≡ p) w waves fits.0.long (all-long p waves fits.1)
-
-pub made-one-period : (c : Circuit) (ws : Waves) (j : Instance) → 0 < period c.header → AreLong c ws → InstanceFits c.header (length c.nets) j → HaveOnePeriod (pin_waves c ws j)
-made-one-period c ws j some fit fits = all-long (period_of (pin_waves c ws j)) (pin_waves c ws j) (made-fit c ws j some fit fits)

@@ -14,7 +14,7 @@ use Rattle.step_values.specs.declared.value.Value.{Value}
 use Rattle.skew_algebra.specs.Wave.{Wave}
 use Rattle.vector_names.proofs.Ranges.{range-more}
 use Rattle.class_table.specs.Alike.{class_of}
-use Rattle.fixpoint_engine.specs.Value.{Waves}
+use Rattle.net_waves.specs.Waves.{Waves}
 use Rattle.fixpoint_engine.specs.Worklist.{Change, among}
 use Rattle.fixpoint_engine.specs.Classes.{is_first}
 use Rattle.fixpoint_engine.specs.Members.{AreLast, last_below, members_below, for_class, for_classes, leads_in}

@@ -12,7 +12,8 @@ use Rattle.skew_algebra.proofs.Cells.{equal-at, same-list}
 use Rattle.skew_algebra.proofs.Normal.{normal-steady, normal-moving}
 use Rattle.flat_circuit.specs.declared.instance.Instance.{Instance}
 use Rattle.flat_circuit.specs.Circuit.{Circuit}
-use Rattle.fixpoint_engine.specs.Value.{Waves, pin_waves, marked_pin, made_by, turned_wave, instance_wave}
+use Rattle.net_waves.specs.Waves.{Waves, pin_waves, marked_pin}
+use Rattle.fixpoint_engine.specs.Value.{made_by, turned_wave, instance_wave}
 
 join-same : (f : ℕ → Value) (v : Value) (n : ℕ) → ((i : ℕ) → i ≤ n → f i ≡ v) → join_to values f n ≡ v
 join-same f v zero all = all 0 (omega arith)

@@ -5,7 +5,7 @@ use Rattle.std.proofs.lemmas.List.Elements.{All-head, All-tail}
 use Rattle.scald_base.specs.Time.{period}
 use Rattle.scald_base.specs.Signal.{Signal, turned}
 use Rattle.vector_names.specs.declared.bits.Target.{Target}
-use Rattle.vector_names.specs.declared.bits.Target.TheVariants.{Net as OnNet, Constant}
+use Rattle.vector_names.specs.declared.bits.Target.TheVariants.{Net as OnNet}
 use Rattle.step_values.specs.declared.value.Value.{Value}
 use Rattle.step_values.specs.Cell.{values}
 use Rattle.step_values.specs.Lawful.{values_lawful}
@@ -16,49 +16,24 @@ use Rattle.flat_circuit.specs.declared.instance.Pin.{Pin}
 use Rattle.flat_circuit.specs.declared.instance.Instance.{Instance}
 use Rattle.flat_circuit.specs.declared.net.Net.{Net}
 use Rattle.element_kinds.specs.Kinds.{has_output}
-use Rattle.flat_circuit.specs.Instances.{InstanceFits, PinExists, TargetExists, out_of}
+use Rattle.flat_circuit.specs.Instances.{InstanceFits, PinExists, out_of}
 use Rattle.flat_circuit.specs.Circuit.{Circuit, IsCircuit, driver_at}
-use Rattle.flat_circuit.specs.Run.{Choice, Run, IsRun, IsRunAt, net_signal, target_signal, pin_signal, pin_signals, out_signal, WireFits, WiresFit}
+use Rattle.flat_circuit.specs.Run.{Choice, Run, IsRun, IsRunAt, net_signal, pin_signals, out_signal, WiresFit}
 use Rattle.gate_eval.specs.Permitted.{AllPermit}
-use Rattle.pin_waves.proofs.Pins.{Permits-pin}
-use Rattle.pin_waves.proofs.CodeSlots.{Permits-constant}
-use Rattle.fixpoint_engine.specs.Value.{Waves, target_wave, target_wire, pin_wave, pin_waves, marked_pin, made_by, turned_wave, instance_wave}
+use Rattle.net_waves.specs.Waves.{Waves, pin_wave, pin_waves, marked_pin}
+use Rattle.net_waves.specs.Interface.{PermitRun}
+use Rattle.net_waves.proofs.Fits.{AreLong}
+use Rattle.net_waves.proofs.Permitted.{pin-permits}
+use Rattle.flat_circuit.proofs.Numbered.{fits-of}
+use Rattle.fixpoint_engine.specs.Value.{made_by, turned_wave, instance_wave}
 use Rattle.fixpoint_engine.specs.Rounds.{instance_in, wave_from, evaluated, next, round}
 use Rattle.fixpoint_engine.specs.Reach.{greatest_wire, greatest_delay, farthest, reach}
-use Rattle.fixpoint_engine.specs.Interface.{PermitRun}
-use Rattle.fixpoint_engine.proofs.Fits.{AreLong, length-turned, long-target}
-use Rattle.fixpoint_engine.proofs.Asked.{wire-within, wires-within, asked}
-use Rattle.fixpoint_engine.proofs.Drivers.{fits-of, makes-of}
+use Rattle.fixpoint_engine.proofs.Made.{length-turned}
+use Rattle.fixpoint_engine.proofs.Asked.{wires-within, asked}
+use Rattle.fixpoint_engine.proofs.Drivers.{makes-of}
 use Rattle.fixpoint_engine.proofs.Made.{made-sound, made-long, instance-fits}
 
 -- ---- pins
-
-pub target-permits : (c : Circuit) (run : Run) (ws : Waves) (t : Target) (v : ℕ) → 0 < period c.header → TargetExists (length c.nets) t → PermitRun c run ws v →
-    Permits values (target_wave c.header ws t) run.ticks (target_signal run t 0) v
-target-permits c run ws (OnNet i) v some exists permits =
-    let same : net_signal run i ≡ (λ s. net_signal run i (s - 0)) = λ k s. net_signal run i (minus-zero s k) in
-    subst (λ (x : Signal). Permits values (ws i) run.ticks x v) same (permits i exists)
-  where
-    minus-zero : (s : ℕ) → s ≡ s - 0
-    minus-zero s = omega arith
-target-permits c run ws (Constant one) v some exists permits = Permits-constant c.header one run.ticks v some
-
-pub shown : (run : Run) (t : Target) (w s : ℕ) → target_signal run t w s ≡ target_signal run t 0 (s - w)
-shown run (OnNet i) w s = ap (net_signal run i) (omega arith)
-shown run (Constant one) w s = refl
-
-pub pin-permits : (c : Circuit) (run : Run) (ws : Waves) (p : Pin) (w v u : ℕ) → 0 < period c.header → AreLong c ws → PinExists (length c.nets) p → PermitRun c run ws v → 1 ≤ v →
-    WireFits c.nets p.target w → v + (target_wire c.nets p.target).max ≤ u →
-    Permits values (pin_wave c ws p) run.ticks (pin_signal run p w) u
-pin-permits c run ws p w v u some long exists permits v1 wire far =
-    let within = wire-within c.nets p.target w wire in
-    let low : (target_wire c.nets p.target).min ≤ w = within.0 in
-    let high : w ≤ (target_wire c.nets p.target).max = within.1 in
-    let size = long-target c ws p.target long exists in
-    Permits-pin (target_wave c.header ws p.target) (target_wire c.nets p.target) p.inverted (omega (arith, size))
-    run.ticks run.ticks v u w (target_signal run p.target 0) (pin_signal run p w)
-    (target-permits c run ws p.target v some exists permits) low high v1 (omega (arith, high, far)) (omega arith)
-    (λ t tu tm. ap (turned p.inverted) (shown run p.target w t))
 
 pins-permit : (c : Circuit) (run : Run) (ws : Waves) (ps : List Pin) (wires : List ℕ) (v u : ℕ) →
     0 < period c.header → AreLong c ws → All (PinExists (length c.nets)) ps → PermitRun c run ws v → 1 ≤ v →

@@ -5,16 +5,17 @@ use Rattle.scald_base.specs.Time.{period}
 use Rattle.step_values.specs.declared.value.Value.{Value}
 use Rattle.skew_algebra.specs.Wave.{Wave}
 use Rattle.flat_circuit.specs.Circuit.{Circuit, IsCircuit}
+use Rattle.net_waves.specs.Waves.{Waves, waves_of, FitWaves}
+use Rattle.flat_circuit.specs.Name.{net_at}
+use Rattle.net_waves.proofs.Fits.{AreLong}
 use Rattle.fixpoint_engine.specs.declared.rounds.EngineEnd.{EngineEnd}
 use Rattle.fixpoint_engine.specs.declared.rounds.EngineEnd.TheVariants.{Unsettled, NoMemory}
-use Rattle.fixpoint_engine.specs.Value.{Waves}
-use Rattle.fixpoint_engine.specs.Rounds.{net_at, round, AreSame}
+use Rattle.fixpoint_engine.specs.Rounds.{round, AreSame}
 use Rattle.fixpoint_engine.specs.Work.{same_wave, differs}
-use Rattle.fixpoint_engine.specs.Settled.{waves_of, FitWaves, AreAtRest}
+use Rattle.fixpoint_engine.specs.Settled.{AreAtRest}
 use Rattle.fixpoint_engine.specs.End.{EndsAt, EndsFor}
 use Rattle.fixpoint_engine.specs.Worklist.{Change, changed, among}
 use Rattle.fixpoint_engine.proofs.Same.{same_wave-is, same_wave-self}
-use Rattle.fixpoint_engine.proofs.Fits.{AreLong}
 use Rattle.fixpoint_engine.proofs.Changing.{length-changed}
 use Rattle.fixpoint_engine.proofs.Reached.{Reached, reached-more, at-rest, not-at-rest}
 use Rattle.fixpoint_engine.proofs.Sound.{round-long}

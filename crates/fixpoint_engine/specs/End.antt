@@ -1,9 +1,10 @@
 -- Why rounds gave no waves.
 use Rattle.std.specs.Prelude.{◌≡◌, ℕ, ◌<◌, Bool, true, false, List, length, ⊤}
+use Rattle.net_waves.specs.Waves.{Waves}
+use Rattle.flat_circuit.specs.Name.{net_at}
 use Rattle.fixpoint_engine.specs.declared.rounds.EngineEnd.{EngineEnd}
 use Rattle.fixpoint_engine.specs.declared.rounds.EngineEnd.TheVariants.{Unsettled, NoMemory}
-use Rattle.fixpoint_engine.specs.Value.{Waves}
-use Rattle.fixpoint_engine.specs.Rounds.{net_at, IsUnsettled}
+use Rattle.fixpoint_engine.specs.Rounds.{IsUnsettled}
 
 -- Rounds end without rest at the limit, by a net that still differs there. Memory may run out at any time.
 abbrev pub EndsFor : List ℕ → (ℕ → Waves) → ℕ → EngineEnd → Type 0

@@ -4,10 +4,7 @@ pub mod Start
 pub mod Work
 pub mod Reach
 pub mod Loops
-pub mod Interface
-pub mod Pins
 pub mod Settled
-pub mod SameWaves
 pub mod End
 pub mod Worklist
 pub mod Classes

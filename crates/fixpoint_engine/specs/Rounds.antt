@@ -1,10 +1,12 @@
 -- Rounds: from given waves, each of some nets takes what its driver makes of the waves of the round before, all at once.
-use Rattle.std.specs.Prelude.{◌≡◌, ◌≢◌, ℕ, zero, suc, ◌<◌, ◌≤◌, Bool, if◌then◌else◌, List, length, slice_get, slice_index_or, Option, Some, None}
+use Rattle.std.specs.Prelude.{◌≡◌, ◌≢◌, ℕ, zero, suc, ◌<◌, ◌≤◌, Bool, if◌then◌else◌, List, length, slice_get, Option, Some, None}
 use Rattle.step_values.specs.declared.value.Value.{Value}
 use Rattle.skew_algebra.specs.Wave.{Wave}
 use Rattle.flat_circuit.specs.declared.instance.Instance.{Instance}
+use Rattle.flat_circuit.specs.Name.{net_at}
 use Rattle.flat_circuit.specs.Circuit.{Circuit, driver_at}
-use Rattle.fixpoint_engine.specs.Value.{Waves, instance_wave}
+use Rattle.net_waves.specs.Waves.{Waves}
+use Rattle.fixpoint_engine.specs.Value.{instance_wave}
 
 -- the instance that drives a net
 abbrev pub instance_in : Circuit → Option ℕ → Option Instance
@@ -41,10 +43,6 @@ pub record RestsAt (rounds : ℕ → Waves) (limit r : ℕ) : Type 0 where
   pub still : AreSame (rounds (suc r)) (rounds r)
   pub first : (s : ℕ) → s < r → ¬ AreSame (rounds (suc s)) (rounds s)
   pub within : r ≤ limit
-
--- the number of the net at a place in an order of the nets
-abbrev pub net_at : List ℕ → ℕ → ℕ
-net_at order place = slice_index_or order place 0
 
 -- of the nets in this order, the one at this place is the first whose waves differ
 pub record DiffersFirst (order : List ℕ) (ws vs : Waves) (place : ℕ) : Type 0 where

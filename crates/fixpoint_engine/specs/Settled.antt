@@ -1,27 +1,15 @@
 -- What it means that rounds have settled: the next round is the same, and the waves permit every run that those at the start do.
-use Rattle.std.specs.Prelude.{◌≡◌, ℕ, ◌+◌, ◌*◌, ◌<◌, ◌≤◌, Bool, true, false, List, [], length, slice_index_or, is_some}
-use Rattle.step_values.specs.declared.value.Value.{Value}
-use Rattle.skew_algebra.specs.Wave.{Wave, skewed}
-use Rattle.scald_base.specs.Time.{period}
+use Rattle.std.specs.Prelude.{◌≡◌, ℕ, ◌+◌, ◌*◌, ◌≤◌, Bool, true, false, List, slice_index_or, is_some}
 use Rattle.flat_circuit.specs.Circuit.{Circuit, driver_at}
 use Rattle.flat_circuit.specs.Run.{Run, IsRun}
-use Rattle.fixpoint_engine.specs.Value.{Waves}
+use Rattle.net_waves.specs.Waves.{Waves}
+use Rattle.net_waves.specs.Interface.{PermitRun}
 use Rattle.fixpoint_engine.specs.Rounds.{round, RestsAt, AreSame}
 use Rattle.fixpoint_engine.specs.Reach.{reach}
-use Rattle.fixpoint_engine.specs.Interface.{PermitRun}
-
--- the waves of a list, by number
-abbrev pub waves_of : List (Wave Value) → Waves
-waves_of waves i = slice_index_or waves i (skewed [] 0)
 
 -- the nets of a set that is kept as a mark for each net
 abbrev pub marked_in : List Bool → ℕ → Bool
 marked_in marks i = slice_index_or marks i false
-
--- one wave for each net, of one slot for each tick of the period
-pub record FitWaves (c : Circuit) (waves : List (Wave Value)) : Type 0 where
-  pub each_net : length waves ≡ length c.nets
-  pub each_slot : (i : ℕ) → i < length c.nets → length (waves_of waves i).cells ≡ period c.header
 
 -- a set of driven nets, whatever room it has
 abbrev pub FitActive : Circuit → List Bool → Type 0

@@ -2,12 +2,12 @@
 
 ghost use Rattle.std.specs.Prelude.{◌≡◌, ◌<◌, ◌++◌, ◌∷◌, [], IfOk, OnOk, length, map};
 ghost use Rattle.std.specs.List.{All};
-ghost use Rattle.fixpoint_engine.specs.Settled.{FitWaves, waves_of};
+ghost use Rattle.net_waves.specs.Waves.{FitWaves, waves_of};
 ghost use Rattle.fixpoint_engine.specs.Worklist.{changed, changes_of};
 
 use crate::value::evaluated;
-use crate::waves::Waves;
 use flat_circuit::Circuit;
+use net_waves::Waves;
 use scald_base::NoMemory;
 use skew_algebra::Skewed;
 use std::alloc::Global;

@@ -3,14 +3,14 @@
 ghost use Rattle.std.specs.Prelude.{◌≡◌, ◌<◌, ◌++◌, IfOk, IfSome, OnOk, length, map};
 ghost use Rattle.std.specs.List.{All};
 ghost use Rattle.std.specs.Option.{option_copied};
-ghost use Rattle.fixpoint_engine.specs.Settled.{FitWaves, waves_of};
+ghost use Rattle.net_waves.specs.Waves.{FitWaves, waves_of};
 ghost use Rattle.fixpoint_engine.specs.Members.{for_all, for_class, for_classes};
 ghost use Rattle.fixpoint_engine.specs.Worklist.{changes_of};
 
 use crate::changes::{Change, changes};
 use crate::class_nets::ClassNets;
-use crate::waves::Waves;
 use flat_circuit::Circuit;
+use net_waves::Waves;
 use scald_base::NoMemory;
 use std::alloc::Global;
 use step_values::Value;

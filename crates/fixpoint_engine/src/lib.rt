@@ -3,18 +3,15 @@
 //!
 //! The layer above calls [`settle`], which answers the settled waves, or the net that still changes at
 //! the limit, or [`settle_classes`], which answers the same where one net of each class may stand for
-//! all. [`has_one_wave`] tells the layers above where two answers do not differ. `specs/Value` says what
-//! an instance makes of all waves, `specs/Rounds` what a round is, when rounds settle, `specs/Work` and
-//! `specs/Classes` what is evaluated, and `specs/Settled` which runs the waves permit.
+//! all. `specs/Value` says what an instance makes of all waves, `specs/Rounds` what a round is and when
+//! rounds settle, `specs/Work` and `specs/Classes` what is evaluated, and `specs/Settled` which runs the
+//! waves permit.
 #![tactic(auto)]
 
-// sets of nets, the waves of all nets, and where two of them are the same
+// sets of nets
 mod net_set;
-mod same_waves;
-mod waves;
 
 // one instance
-mod pins;
 mod value;
 
 // one round
@@ -33,8 +30,5 @@ mod rounds;
 pub use class_table::ClassMap;
 pub use laws::stable_classes_go_together;
 pub use net_set::NetSet;
-pub use pins::{pin_wave, waves_at_pins};
 pub use readers::{output_of, readers_of};
 pub use rounds::{EngineEnd, Settled, settle, settle_classes};
-pub use same_waves::{has_one_wave, has_one_wave_at};
-pub use waves::Waves;

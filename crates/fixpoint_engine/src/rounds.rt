@@ -4,8 +4,10 @@ ghost use Rattle.std.specs.Prelude.{◌≡◌, ◌+◌, ◌<◌, ℕ, IfErr, IfO
 ghost use Rattle.std.specs.List.{All};
 ghost use Rattle.std.specs.Option.{option_copied};
 ghost use Rattle.class_table.specs.Stable.{IsStable};
-ghost use Rattle.fixpoint_engine.specs.Rounds.{net_at, round};
-ghost use Rattle.fixpoint_engine.specs.Settled.{AreAtRest, FitActive, FitWaves, KeepRuns, marked_in, waves_of};
+ghost use Rattle.flat_circuit.specs.Name.{net_at};
+ghost use Rattle.net_waves.specs.Waves.{FitWaves, waves_of};
+ghost use Rattle.fixpoint_engine.specs.Rounds.{round};
+ghost use Rattle.fixpoint_engine.specs.Settled.{AreAtRest, FitActive, KeepRuns, marked_in};
 ghost use Rattle.fixpoint_engine.specs.Work.{work_to};
 ghost use Rattle.fixpoint_engine.specs.Classes.{OneStandsForAll, AreTogether, GoTogether, HaveOneWave, class_work_to};
 ghost use Rattle.fixpoint_engine.specs.Members.{numbers_in};
@@ -17,9 +19,9 @@ use crate::class_changes::class_changes;
 use crate::class_nets::ClassNets;
 use crate::net_set::NetSet;
 use crate::queue::Queue;
-use crate::waves::Waves;
 use class_table::ClassMap;
 use flat_circuit::{CaseList, Circuit};
+use net_waves::Waves;
 use scald_base::{List, NoMemory};
 use skew_algebra::Skewed;
 use std::alloc::Global;
@@ -89,7 +91,7 @@ fn changed_nets<W: CyclicWave>(
 }
 
 /// The number of the net at a place in name order; past the last, 0.
-#[tactic(auto, using(crate::proofs::Places::past_last, crate::proofs::Places::at_place))]
+#[tactic(auto, using(flat_circuit::proofs::Numbered::past_last, flat_circuit::proofs::Numbered::at_place))]
 fn net_named(c: &Circuit, place: u32) -> u32
     ensures { result ≡ net_at c.now.order place }
 {

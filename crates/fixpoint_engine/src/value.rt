@@ -7,14 +7,13 @@ ghost use Rattle.element_kinds.specs.Kinds.{has_output};
 ghost use Rattle.flat_circuit.specs.Instances.{InstanceFits};
 ghost use Rattle.gate_eval.specs.Instance.{CountsFit, IsSound};
 ghost use Rattle.gate_eval.specs.Meeting.{HaveOnePeriod};
+ghost use Rattle.net_waves.specs.Waves.{FitWaves, waves_of};
 ghost use Rattle.fixpoint_engine.specs.Value.{instance_wave, made_by};
 ghost use Rattle.fixpoint_engine.specs.Rounds.{driver, evaluated};
-ghost use Rattle.fixpoint_engine.specs.Settled.{FitWaves, waves_of};
 
-use crate::pins::waves_at_pins;
-use crate::waves::Waves;
 use flat_circuit::{Circuit, Instance, Kind};
 use gate_eval::{PinWaves, eval_gate};
+use net_waves::{Waves, waves_at_pins};
 use scald_base::{Delay, NoMemory};
 use skew_algebra::Skewed;
 use std::alloc::Global;

@@ -13,6 +13,7 @@ pub mod Examples
 pub mod Walk
 pub mod Driven
 pub mod Names
+pub mod Numbered
 pub mod Loops
 pub mod Rows
 pub mod Tables

@@ -13,8 +13,7 @@ use Rattle.std.proofs.lemmas.Bool.Decides.{nat_tests}
 use Rattle.std.proofs.lemmas.List.FromFn.{length-range_with_len, get_or-range_with_len}
 use Rattle.std.proofs.lemmas.List.Sorted.{All-permutation, Contains-permutation, searchable_from_sorted}
 use Rattle.std.proofs.lemmas.List.Elements.{All-from_get_or, All-get_or}
-use Rattle.flat_circuit.specs.Name.{Name, name_cmp, name_at}
-use Rattle.flat_circuit.specs.Name.{IsNameOrder}
+use Rattle.flat_circuit.specs.Name.{Name, name_cmp, name_at, IsNameOrder}
 
 pub name_cmp_total : IsTotalOrder name_cmp
 name_cmp_total = then_total (on_total (λ (n : Name). n.text) nat_list_cmp_total) (on_total (λ (n : Name). n.bit) nat_cmp_total)

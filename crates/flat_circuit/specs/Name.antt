@@ -34,3 +34,7 @@ name_cmp a b = ordering_then (slice_cmp nat_cmp a.text b.text) (nat_cmp a.bit b.
 pub record IsNameOrder (names : List Name) (order : List ℕ) : Type 0 where
   pub each : IsPermutation (range_with_len 0 (length names)) order
   pub sorted : IsSortedByKey (name_at names) name_cmp order
+
+-- the number of the net at a place in the order; past the last place, 0
+abbrev pub net_at : List ℕ → ℕ → ℕ
+net_at order place = slice_index_or order place 0

@@ -4,11 +4,10 @@ use Rattle.std.proofs.lemmas.List.{length-map}
 use Rattle.step_values.specs.declared.value.Value.{Value}
 use Rattle.skew_algebra.specs.Wave.{Wave, skewed}
 use Rattle.flat_circuit.specs.Circuit.{Circuit, net_name, net_names}
-use Rattle.flat_circuit.specs.Name.{IsNameOrder}
+use Rattle.flat_circuit.specs.Name.{IsNameOrder, net_at}
 use Rattle.flat_circuit.proofs.Names.{order_in}
-use Rattle.fixpoint_engine.specs.Settled.{waves_of}
-use Rattle.fixpoint_engine.specs.Rounds.{net_at}
-use Rattle.fixpoint_engine.proofs.Changing.{wave-found}
+use Rattle.net_waves.specs.Waves.{waves_of}
+use Rattle.net_waves.proofs.WavesOf.{wave-found}
 use Rattle.listing.specs.Text.{line}
 use Rattle.listing.specs.Names.{net_text}
 use Rattle.listing.specs.Run.{runs_text}

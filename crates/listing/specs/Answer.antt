@@ -4,7 +4,7 @@ use Rattle.scald_base.specs.Refusal.{number_of, name_of}
 use Rattle.scald_base.specs.declared.refusal.Refusal.{Refusal}
 use Rattle.flat_circuit.specs.Instances.{outputs, checkers}
 use Rattle.flat_circuit.specs.Circuit.{Circuit}
-use Rattle.fixpoint_engine.specs.Rounds.{net_at}
+use Rattle.flat_circuit.specs.Name.{net_at}
 use Rattle.listing.specs.Text.{line}
 use Rattle.listing.specs.Names.{net_text}
 

@@ -1,15 +1,15 @@
 //! The lines of one case.
 
 ghost use Rattle.std.specs.Prelude.{◌≡◌, ◌++◌, OnErr, OnOk};
-ghost use Rattle.fixpoint_engine.specs.Settled.{FitWaves, waves_of};
+ghost use Rattle.net_waves.specs.Waves.{FitWaves, waves_of};
 ghost use Rattle.listing.specs.Case.{case_line, case_lines, shown_faults, shown_waves, shows_faults, shows_waves};
 ghost use Rattle.listing.specs.Text.{HasPart};
 
 use crate::fault::add_faults;
 use crate::piece::{Piece, add_line};
 use crate::wave::add_waves;
-use fixpoint_engine::{Settled, Waves};
 use flat_circuit::{Circuit, Fault, Faults};
+use net_waves::Waves;
 use scald_base::{Bytes, NoMemory};
 use step_values::Value;
 use wave_core::CyclicWave;
@@ -41,23 +41,36 @@ impl Mode {
     }
 }
 
+/// What the case's own line says.
+#[derive(Clone, Copy, PartialEq, Eq, Debug)]
+pub struct CaseHead {
+    /// The case's number; the cases of a drawing count from 1.
+    pub number: u32,
+    /// The rounds of the base.
+    pub base: u32,
+    /// The case's own rounds.
+    pub rounds: u32,
+    /// The tick from which on its waves hold.
+    pub tick: u64,
+}
+
 /// The case's own line.
 #[tactic(auto, unfolding(crate::specs::Case::case_line))]
-fn add_case(out: &mut Bytes, number: u32, base: u32, rounds: u32, tick: u64) -> Result<(), NoMemory>
-    ensures ok { OnOk result (out.new ≡ out.old ++ case_line number base rounds tick) }
-    ensures err { OnErr result (HasPart out.old out.new (case_line number base rounds tick)) }
+fn add_case(out: &mut Bytes, head: CaseHead) -> Result<(), NoMemory>
+    ensures ok { OnOk result (out.new ≡ out.old ++ case_line head.number head.base head.rounds head.tick) }
+    ensures err { OnErr result (HasPart out.old out.new (case_line head.number head.base head.rounds head.tick)) }
 {
     add_line(
         out,
         &[
             Piece::Text(b"CASE "),
-            Piece::Number(u64::from(number)),
+            Piece::Number(u64::from(head.number)),
             Piece::Text(b" BASE "),
-            Piece::Number(u64::from(base)),
+            Piece::Number(u64::from(head.base)),
             Piece::Text(b" ROUNDS "),
-            Piece::Number(u64::from(rounds)),
+            Piece::Number(u64::from(head.rounds)),
             Piece::Text(b" T "),
-            Piece::Number(tick),
+            Piece::Number(head.tick),
         ],
     )
 }
@@ -97,28 +110,24 @@ fn add_shown_faults(
     }
 }
 
-/// Puts the lines of one case at the end of `out`: its own line, with its number, the rounds of the
-/// base, its own rounds and the tick from which on its waves hold; then, as the mode says, a line for
+/// Puts the lines of one case at the end of `out`: its own line; then, as the mode says, a line for
 /// the wave of each net, in name order, and a line for each fault, in the order of `faults`. Where
 /// memory runs out, a part of these lines may stand there.
 pub fn write_case<W: CyclicWave<Item = Value>>(
     c: &Circuit,
-    number: u32,
-    base: u32,
-    settled: &Settled<W>,
-    tick: u64,
+    head: CaseHead,
+    waves: &Waves<W>,
     faults: &Faults,
     mode: Mode,
     out: &mut Bytes,
 ) -> Result<(), NoMemory>
-    requires { FitWaves c.now settled.now.waves }
-    ensures ok { let waves = waves_of settled.now.waves in
-        OnOk result (out.new ≡ out.old ++ case_lines c.now mode number base settled.now.rounds tick waves faults.now) }
-    ensures err { let waves = waves_of settled.now.waves in
-        OnErr result (HasPart out.old
-        out.new (case_lines c.now mode number base settled.now.rounds tick waves faults.now)) }
+    requires { FitWaves c.now waves.now }
+    ensures ok { let all = waves_of waves.now in OnOk result (out.new
+        ≡ out.old ++ case_lines c.now mode head.number head.base head.rounds head.tick all faults.now) }
+    ensures err { let all = waves_of waves.now in OnErr result (HasPart out.old out.new
+        (case_lines c.now mode head.number head.base head.rounds head.tick all faults.now)) }
 {
-    add_case(out, number, base, settled.rounds, tick)?;
-    add_shown_waves(out, c, &settled.waves, mode)?;
+    add_case(out, head)?;
+    add_shown_waves(out, c, waves, mode)?;
     add_shown_faults(out, c, faults.as_slice(), mode)
 }

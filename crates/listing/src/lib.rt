@@ -25,6 +25,6 @@ mod wave;
 mod answer;
 
 pub use answer::{write_refusal, write_summary, write_unsettled};
-pub use case::{Mode, write_case};
+pub use case::{CaseHead, Mode, write_case};
 pub use end::end_report;
 pub use head::begin_report;

@@ -1,7 +1,7 @@
 //! How the report names nets and instances.
 
 ghost use Rattle.std.specs.Prelude.{◌≡◌, ◌<◌, length};
-ghost use Rattle.fixpoint_engine.specs.Rounds.{net_at};
+ghost use Rattle.flat_circuit.specs.Name.{net_at};
 ghost use Rattle.listing.specs.Names.{instance_text, net_text};
 ghost use Rattle.listing.specs.Piece.{piece_text};
 

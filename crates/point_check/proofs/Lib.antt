@@ -12,7 +12,6 @@ pub mod Whose
 pub mod Gathered
 pub mod Kept
 pub mod AsBefore
-pub mod Reached
 pub mod Literal
 pub mod Broken
 mod Examples

@@ -3,9 +3,8 @@
 ghost use Rattle.std.specs.Prelude.{◌≡◌, ◌||◌, ◌↔◌, IsTrue, IfSome, is_some, length};
 ghost use Rattle.std.specs.List.{All};
 ghost use Rattle.flat_circuit.specs.Instances.{PinExists};
-ghost use Rattle.fixpoint_engine.specs.Value.{marked_pin as marked};
-ghost use Rattle.fixpoint_engine.specs.SameWaves.{IsSameAt};
-ghost use Rattle.fixpoint_engine.specs.Settled.{FitWaves, waves_of};
+ghost use Rattle.net_waves.specs.Waves.{marked_pin as marked, FitWaves, waves_of};
+ghost use Rattle.net_waves.specs.SameWaves.{IsSameAt};
 ghost use Rattle.element_kinds.specs.Kinds.{checks_points};
 ghost use Rattle.point_check.specs.Faults.{instance_fault as fault_of_instance, net_fault as fault_of_net};
 ghost use Rattle.point_check.specs.Known.{AreChecked};
@@ -13,8 +12,8 @@ ghost use Rattle.point_check.specs.Known.{AreChecked};
 use crate::assertion::is_held;
 use crate::known::PointFaults;
 use crate::mark::marked_pin;
-use fixpoint_engine::{Waves, has_one_wave, has_one_wave_at};
 use flat_circuit::{Circuit, Fault, Instance, Pin};
+use net_waves::{Waves, has_one_wave, has_one_wave_at};
 use step_values::Value;
 use wave_core::CyclicWave;
 

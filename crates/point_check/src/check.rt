@@ -4,8 +4,8 @@ ghost use Rattle.std.specs.Prelude.{◌≡◌, ◌++◌, IfOk, IfSome, OnOk, len
 ghost use Rattle.std.specs.List.{range_with_len};
 ghost use Rattle.std.specs.Option.{option_to_list};
 ghost use Rattle.flat_circuit.specs.Instances.{InstanceFits};
-ghost use Rattle.fixpoint_engine.specs.Settled.{FitWaves, waves_of};
-ghost use Rattle.fixpoint_engine.specs.Rounds.{net_at};
+ghost use Rattle.net_waves.specs.Waves.{FitWaves, waves_of};
+ghost use Rattle.flat_circuit.specs.Name.{net_at};
 ghost use Rattle.point_check.specs.Faults.{fault_by_kind, instance_fault as fault_of_instance, net_fault as fault_of_net, point_faults};
 ghost use Rattle.point_check.specs.Known.{AreChecked, AreKnown};
 ghost use Rattle.point_check.specs.Sound.{KeepsConstraints};
@@ -16,8 +16,8 @@ use crate::checker::limited_fault;
 use crate::folds::Folds;
 use crate::known::PointFaults;
 use crate::mark::mark_fault;
-use fixpoint_engine::Waves;
 use flat_circuit::{Circuit, Fault, Faults, Instance};
+use net_waves::Waves;
 use scald_base::NoMemory;
 use std::alloc::Global;
 use step_values::Value;
@@ -120,7 +120,7 @@ fn add(faults: &mut Faults, found: Option<Fault>) -> Result<(), NoMemory>
 }
 
 /// The number of the net at a place in name order; past the last, 0.
-#[tactic(auto, using(fixpoint_engine::proofs::Places::past_last, fixpoint_engine::proofs::Places::at_place))]
+#[tactic(auto, using(flat_circuit::proofs::Numbered::past_last, flat_circuit::proofs::Numbered::at_place))]
 fn net_named(c: &Circuit, place: u32) -> u32
     ensures { result ≡ net_at c.now.order place }
 {

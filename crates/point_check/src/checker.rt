@@ -3,16 +3,15 @@
 ghost use Rattle.std.specs.Prelude.{◌≡◌, ◌+◌, ◌≤◌, IfOk, length, slice_get, true};
 ghost use Rattle.scald_base.specs.Time.{period};
 ghost use Rattle.flat_circuit.specs.Instances.{InstanceFits, PinExists};
-ghost use Rattle.fixpoint_engine.specs.Settled.{FitWaves, waves_of};
-ghost use Rattle.fixpoint_engine.specs.Value.{pin_wave as wave_shown};
+ghost use Rattle.net_waves.specs.Waves.{FitWaves, waves_of, pin_wave as wave_shown};
 ghost use Rattle.point_check.specs.Point.{checker_fault as fault_of_checker};
 ghost use Rattle.element_kinds.specs.Kinds.{checks_points};
 ghost use Rattle.point_check.specs.Faults.{IsPointChecker, limited_fault as fault_with, limited_fault_at};
 
 use crate::edges::first_fault;
 use crate::folds::Folds;
-use fixpoint_engine::{Waves, pin_wave};
 use flat_circuit::{Circuit, Fault, Instance, Kind, Pin};
+use net_waves::{Waves, pin_wave};
 use scald_base::NoMemory;
 use skew_algebra::Skewed;
 use std::alloc::Global;

@@ -11,7 +11,7 @@ use Rattle.step_values.specs.declared.value.Value.{Value}
 use Rattle.skew_algebra.specs.Wave.{Wave}
 use Rattle.flat_circuit.specs.declared.fault.Fault.{Fault}
 use Rattle.flat_circuit.specs.Circuit.{Circuit}
-use Rattle.fixpoint_engine.specs.Settled.{waves_of}
+use Rattle.net_waves.specs.Waves.{waves_of}
 use Rattle.listing.specs.declared.case.Mode.{Mode}
 use Rattle.listing.specs.Head.{head}
 use Rattle.listing.specs.Case.{case_lines}

@@ -1,14 +1,14 @@
 //! A report while it is written, case by case.
 
 ghost use Rattle.std.specs.Prelude.{◌≡◌, ◌+◌, ◌++◌, ◌≤◌, ◌<◌, ◌^◌, IfOk, OnOk, length};
-ghost use Rattle.fixpoint_engine.specs.Settled.{FitWaves, waves_of};
+ghost use Rattle.net_waves.specs.Waves.{FitWaves, waves_of};
 ghost use Rattle.listing.specs.Head.{head};
 ghost use Rattle.listing.specs.Case.{case_lines};
 ghost use Rattle.listing.specs.End.{last_line};
 ghost use Rattle.scald_tool.specs.Report.{verdict_of};
 
 use flat_circuit::Circuit;
-use listing::{Mode, begin_report, end_report, write_case};
+use listing::{CaseHead, Mode, begin_report, end_report, write_case};
 use program_call::Reply;
 use scald_base::{Bytes, NoMemory, Outcome};
 use std::alloc::Global;
@@ -50,12 +50,16 @@ impl Report {
             mode case.now.number base case.now.settled.rounds case.now.tick waves case.now.faults) }
         ensures counted { OnOk result (self.new.total ≡ self.old.total + length case.now.faults) }
     {
+        let head = CaseHead {
+            number: case.number,
+            base,
+            rounds: case.settled.rounds,
+            tick: case.tick,
+        };
         write_case(
             circuit,
-            case.number,
-            base,
-            &case.settled,
-            case.tick,
+            head,
+            &case.settled.waves,
             &case.faults,
             mode,
             &mut self.bytes,

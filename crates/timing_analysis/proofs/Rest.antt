@@ -5,13 +5,12 @@ use Rattle.skew_algebra.specs.Wave.{Wave}
 use Rattle.flat_circuit.specs.declared.case.CaseValue.{CaseValue}
 use Rattle.flat_circuit.specs.declared.fault.Fault.{Fault}
 use Rattle.flat_circuit.specs.Circuit.{Circuit}
+use Rattle.net_waves.specs.Waves.{Waves, FitWaves, waves_of}
 use Rattle.fixpoint_engine.specs.declared.rounds.EngineEnd.{EngineEnd}
 use Rattle.fixpoint_engine.specs.declared.rounds.EngineEnd.TheVariants.{Unsettled, NoMemory}
-use Rattle.fixpoint_engine.specs.Value.{Waves}
 use Rattle.fixpoint_engine.specs.Reach.{reach}
 use Rattle.fixpoint_engine.specs.Rounds.{round, AreSame}
 use Rattle.fixpoint_engine.specs.End.{EndsFor}
-use Rattle.fixpoint_engine.specs.Settled.{FitWaves, waves_of}
 use Rattle.fixpoint_engine.proofs.Reached.{round-next, inactive-stays}
 use Rattle.case_analysis.specs.Base.{base_round, IsBase, PermitInputs}
 use Rattle.case_analysis.specs.Case.{InCone, Is_set, Hears_one, IsCone, IsCase, HasCone, EndsInCone, PermitCase, case_active, case_start, case_round}

@@ -6,7 +6,7 @@ use Rattle.flat_circuit.specs.declared.case.CaseValue.{CaseValue}
 use Rattle.flat_circuit.specs.declared.fault.Fault.{Fault}
 use Rattle.flat_circuit.specs.Circuit.{Circuit}
 use Rattle.flat_circuit.specs.Run.{Run, IsRun}
-use Rattle.fixpoint_engine.specs.Interface.{MeetsInterface}
+use Rattle.net_waves.specs.Interface.{MeetsInterface}
 use Rattle.fixpoint_engine.specs.Rounds.{RestsAt}
 use Rattle.case_analysis.specs.Base.{base_round}
 use Rattle.case_analysis.specs.Case.{IsInCase}

@@ -1,8 +1,9 @@
 use Rattle.std.proofs.Common.{◌≡◌, ◌<◌, ◌+◌, subst, arith}
 use Rattle.scald_base.specs.Time.{period}
+use Rattle.net_waves.specs.Waves.{waves_of}
 use Rattle.fixpoint_engine.specs.End.{EndsFor}
 use Rattle.fixpoint_engine.specs.Rounds.{round}
-use Rattle.fixpoint_engine.specs.Settled.{AreAtRest, marked_in, waves_of}
+use Rattle.fixpoint_engine.specs.Settled.{AreAtRest, marked_in}
 use Rattle.fixpoint_engine.specs.Work.{work_to}
 use Rattle.case_analysis.proofs.Inputs.{base-permits}
 use Rattle.case_analysis.proofs.Cases.{in-cone}

@@ -1,5 +1,6 @@
 use Rattle.std.proofs.Common.{length, take}
-use Rattle.fixpoint_engine.specs.Settled.{marked_in, waves_of}
+use Rattle.net_waves.specs.Waves.{waves_of}
+use Rattle.fixpoint_engine.specs.Settled.{marked_in}
 use Rattle.case_analysis.proofs.Cases.{case-fits, case-more, long-more}
 use Rattle.case_analysis.proofs.case_rounds.start_waves.Goals as goal
 

@@ -1,5 +1,6 @@
 use Rattle.std.proofs.Common.{◌≡◌, ℕ, length, take}
-use Rattle.fixpoint_engine.specs.Settled.{marked_in, waves_of}
+use Rattle.net_waves.specs.Waves.{waves_of}
+use Rattle.fixpoint_engine.specs.Settled.{marked_in}
 use Rattle.case_analysis.specs.Case.{case_start}
 use Rattle.case_analysis.proofs.case_rounds.start_waves.Given as goal
 

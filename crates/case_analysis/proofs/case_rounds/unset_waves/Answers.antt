@@ -1,8 +1,9 @@
 use Rattle.std.proofs.Common.{◌≡◌, ◌<◌, ◌++◌, [], ◌∷◌, length, map, ◌∙◌, sym, ap, arith, None}
 use Rattle.std.specs.List.{range_with_len}
 use Rattle.std.proofs.lemmas.List.FromFn.{map-range_with_len_more, length-map-range_with_len}
-use Rattle.fixpoint_engine.specs.Settled.{marked_in, waves_of}
-use Rattle.fixpoint_engine.proofs.Changing.{wave-found}
+use Rattle.net_waves.specs.Waves.{waves_of}
+use Rattle.net_waves.proofs.WavesOf.{wave-found}
+use Rattle.fixpoint_engine.specs.Settled.{marked_in}
 use Rattle.case_analysis.specs.Case.{case_wave, case_start}
 use Rattle.case_analysis.proofs.Start.{listed-is}
 use Rattle.case_analysis.proofs.Cases.{past-set}

@@ -1,6 +1,7 @@
 use Rattle.std.proofs.Common.{◌≡◌, [], map}
 use Rattle.std.specs.List.{range_with_len}
-use Rattle.fixpoint_engine.specs.Settled.{marked_in, waves_of}
+use Rattle.net_waves.specs.Waves.{waves_of}
+use Rattle.fixpoint_engine.specs.Settled.{marked_in}
 use Rattle.case_analysis.specs.Case.{case_start}
 use Rattle.case_analysis.proofs.case_rounds.unset_waves.Given as goal
 

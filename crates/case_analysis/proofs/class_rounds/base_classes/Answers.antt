@@ -1,9 +1,10 @@
 use Rattle.std.proofs.Common.{◌≡◌, ◌<◌, ◌+◌, IfErr, IfOk, subst, arith}
 use Rattle.scald_base.specs.Time.{period}
+use Rattle.net_waves.specs.Waves.{waves_of}
 use Rattle.fixpoint_engine.specs.Classes.{class_work_to}
 use Rattle.fixpoint_engine.specs.End.{EndsFor}
 use Rattle.fixpoint_engine.specs.Rounds.{round}
-use Rattle.fixpoint_engine.specs.Settled.{AreAtRest, marked_in, waves_of}
+use Rattle.fixpoint_engine.specs.Settled.{AreAtRest, marked_in}
 use Rattle.fixpoint_engine.specs.Start.{base_start, is_driven}
 use Rattle.case_analysis.proofs.Inputs.{as-base}
 use Rattle.case_analysis.proofs.Answered.{base-keeps, in-time, soon}

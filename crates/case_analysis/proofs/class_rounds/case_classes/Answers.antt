@@ -1,10 +1,11 @@
 use Rattle.std.proofs.Common.{◌≡◌, ◌<◌, ◌+◌, ◌∙◌, List, ap, subst, arith}
 use Rattle.scald_base.specs.Time.{period}
 use Rattle.flat_circuit.specs.declared.case.CaseValue.{CaseValue}
+use Rattle.net_waves.specs.Waves.{waves_of}
 use Rattle.fixpoint_engine.specs.Classes.{class_work_to}
 use Rattle.fixpoint_engine.specs.End.{EndsFor}
 use Rattle.fixpoint_engine.specs.Rounds.{round}
-use Rattle.fixpoint_engine.specs.Settled.{AreAtRest, marked_in, waves_of}
+use Rattle.fixpoint_engine.specs.Settled.{AreAtRest, marked_in}
 use Rattle.case_analysis.specs.Case.{IsCone, NetsExist, case_active, case_at, case_start}
 use Rattle.case_analysis.proofs.Inputs.{base-permits}
 use Rattle.case_analysis.proofs.Cases.{in-cone}

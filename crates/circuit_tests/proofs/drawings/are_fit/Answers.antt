@@ -4,7 +4,7 @@ use Rattle.scald_base.specs.Time.{period}
 use Rattle.step_values.specs.declared.value.Value.{Value}
 use Rattle.skew_algebra.specs.Wave.{Wave}
 use Rattle.flat_circuit.specs.Circuit.{Circuit}
-use Rattle.fixpoint_engine.specs.Settled.{waves_of, FitWaves}
+use Rattle.net_waves.specs.Waves.{waves_of, FitWaves}
 use Rattle.circuit_tests.proofs.drawings.are_fit.Goals as goal
 
 slots-at : (p : ℕ) (xs : List (Wave Value)) (i : ℕ) → list_all (λ x. length x.cells == p) xs ≡ true → i < length xs →

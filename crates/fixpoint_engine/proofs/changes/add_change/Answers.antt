@@ -1,7 +1,8 @@
 use Rattle.std.proofs.Common.{◌∙◌, length, sym, ap, refl, false, IsTrue, slice_index_or}
 use Rattle.std.proofs.lemmas.Bool.{true≢false}
-use Rattle.fixpoint_engine.specs.Settled.{waves_of}
-use Rattle.fixpoint_engine.proofs.Changing.{wave-found, change-added, nothing-added}
+use Rattle.net_waves.specs.Waves.{waves_of}
+use Rattle.net_waves.proofs.WavesOf.{wave-found}
+use Rattle.fixpoint_engine.proofs.Changing.{change-added, nothing-added}
 use Rattle.fixpoint_engine.proofs.changes.add_change.Goals as goal
 
 pub returns-in_ok-push : goal.returns-in_ok-push

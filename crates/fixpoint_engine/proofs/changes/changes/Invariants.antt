@@ -1,5 +1,5 @@
 use Rattle.std.proofs.Common.{◌≡◌, map, take}
-use Rattle.fixpoint_engine.specs.Settled.{waves_of}
+use Rattle.net_waves.specs.Waves.{waves_of}
 use Rattle.fixpoint_engine.specs.Worklist.{changes_of}
 use Rattle.fixpoint_engine.proofs.changes.changes.Given as goal
 

@@ -2,7 +2,7 @@ use Rattle.std.proofs.Common.{◌≡◌, ◌∙◌, ◌<◌, ℕ, All, List, Opt
 use Rattle.std.specs.Option.{option_copied}
 use Rattle.std.proofs.lemmas.List.Elements.{All-same}
 use Rattle.std.proofs.lemmas.Result.{IfOk-weaker}
-use Rattle.fixpoint_engine.specs.Settled.{waves_of}
+use Rattle.net_waves.specs.Waves.{waves_of}
 use Rattle.fixpoint_engine.specs.Members.{for_all, for_classes}
 use Rattle.fixpoint_engine.specs.Worklist.{Change, changes_of}
 use Rattle.fixpoint_engine.proofs.Changing.{all-read, changes-exist}

@@ -1,7 +1,7 @@
 use Rattle.std.proofs.Common.{◌≡◌, ◌∙◌, sym, ap, arith}
-use Rattle.fixpoint_engine.specs.Rounds.{net_at}
+use Rattle.flat_circuit.specs.Name.{net_at}
+use Rattle.flat_circuit.proofs.Numbered.{order_long}
 use Rattle.fixpoint_engine.specs.Settled.{marked_in}
-use Rattle.fixpoint_engine.proofs.Places.{order_long}
 use Rattle.fixpoint_engine.proofs.rounds.first_named.Goals as goal
 
 pub returns-then-has : goal.returns-then-has

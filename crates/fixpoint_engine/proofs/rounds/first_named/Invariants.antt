@@ -1,5 +1,5 @@
 use Rattle.std.proofs.Common.{◌≡◌, ◌<◌, ℕ, false}
-use Rattle.fixpoint_engine.specs.Rounds.{net_at}
+use Rattle.flat_circuit.specs.Name.{net_at}
 use Rattle.fixpoint_engine.specs.Settled.{marked_in}
 use Rattle.fixpoint_engine.proofs.rounds.first_named.Given as goal
 

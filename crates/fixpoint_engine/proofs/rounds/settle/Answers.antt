@@ -1,8 +1,9 @@
 use Rattle.std.proofs.Common.{◌≡◌, ◌∙◌, ◌+◌, length}
 use Rattle.std.specs.List.{range_with_len}
 use Rattle.std.proofs.lemmas.Result.{IfOk-weaker}
+use Rattle.net_waves.specs.Waves.{waves_of}
 use Rattle.fixpoint_engine.specs.Rounds.{round}
-use Rattle.fixpoint_engine.specs.Settled.{waves_of, marked_in}
+use Rattle.fixpoint_engine.specs.Settled.{marked_in}
 use Rattle.fixpoint_engine.specs.Work.{work_to}
 use Rattle.fixpoint_engine.specs.Classes.{class_work_to}
 use Rattle.fixpoint_engine.proofs.Alone.{own-classes, own-work}

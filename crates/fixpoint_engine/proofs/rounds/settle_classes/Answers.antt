@@ -1,7 +1,8 @@
 use Rattle.std.proofs.Common.{◌≡◌, ◌∙◌, ◌+◌, ℕ, List, sym, subst}
 use Rattle.std.proofs.lemmas.Result.{IfOk-weaker}
+use Rattle.net_waves.specs.Waves.{waves_of}
 use Rattle.fixpoint_engine.specs.Rounds.{round}
-use Rattle.fixpoint_engine.specs.Settled.{waves_of, marked_in}
+use Rattle.fixpoint_engine.specs.Settled.{marked_in}
 use Rattle.fixpoint_engine.specs.Classes.{OneStandsForAll, GoTogether, class_work_to}
 use Rattle.fixpoint_engine.proofs.Classes.{go-together}
 use Rattle.fixpoint_engine.proofs.Kept.{classes-are}

@@ -1,6 +1,7 @@
 use Rattle.std.proofs.Common.{◌-◌, ◌≤◌, length}
 use Rattle.std.specs.Option.{option_copied}
-use Rattle.fixpoint_engine.specs.Settled.{waves_of, marked_in}
+use Rattle.net_waves.specs.Waves.{waves_of}
+use Rattle.fixpoint_engine.specs.Settled.{marked_in}
 use Rattle.fixpoint_engine.specs.Members.{numbers_in}
 use Rattle.fixpoint_engine.proofs.Kept.{Kept}
 use Rattle.fixpoint_engine.proofs.rounds.settle_firsts.Given as goal

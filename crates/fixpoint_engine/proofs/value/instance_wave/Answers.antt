@@ -4,10 +4,9 @@ use Rattle.scald_base.specs.Time.{period}
 use Rattle.step_values.specs.declared.value.Value.{Value}
 use Rattle.skew_algebra.specs.Wave.{Wave}
 use Rattle.gate_eval.specs.Meeting.{HaveOnePeriod}
-use Rattle.fixpoint_engine.specs.Value.{pin_wave}
-use Rattle.fixpoint_engine.specs.Settled.{waves_of}
-use Rattle.fixpoint_engine.proofs.Made.{made-one-period}
-use Rattle.fixpoint_engine.proofs.Marks.{count-marks, position-marks, length-marks}
+use Rattle.net_waves.specs.Waves.{pin_wave, waves_of}
+use Rattle.net_waves.proofs.OnePeriod.{pins_have_one_period}
+use Rattle.net_waves.proofs.Marks.{count-marks, position-marks, length-marks}
 use Rattle.fixpoint_engine.proofs.Normal.{instance-is}
 use Rattle.fixpoint_engine.proofs.value.instance_wave.Goals as goal
 
@@ -32,7 +31,7 @@ made_by-requires-clause-periods g c =
     let some : 0 < period c.args.c.now.header = subst (λ h. 0 < period h) head (let two = h.shortest in omega (arith, two)) in
     subst (λ (ws : List (Wave Value)). HaveOnePeriod ws)
     (sym (c.in_ok-pins.ensures.waves ∙ ap (map (pin_wave c.args.c.now (waves_of c.args.waves.now))) c.as_slice.ensures))
-    (made-one-period c.args.c.now (waves_of c.args.waves.now) c.args.instance.now some
+    (pins_have_one_period c.args.c.now (waves_of c.args.waves.now) c.args.instance.now some
     c.requires.fit.each_slot c.requires.fits)
 
 pub returns-then-instance : goal.returns-then-instance

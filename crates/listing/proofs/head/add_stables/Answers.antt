@@ -2,7 +2,7 @@ use Rattle.std.proofs.Common.{ℕ, List, ◌∙◌, ◌<◌, ◌++◌, length, a
 use Rattle.std.specs.List.{flat_map}
 use Rattle.std.proofs.lemmas.List.{take_all}
 use Rattle.scald_base.proofs.Device.{at_err}
-use Rattle.fixpoint_engine.proofs.Places.{order_long}
+use Rattle.flat_circuit.proofs.Numbered.{order_long}
 use Rattle.listing.specs.Head.{stable_line}
 use Rattle.listing.specs.Text.{HasPart}
 use Rattle.listing.proofs.Parts.{item-added, part-of-item}

@@ -1,6 +1,6 @@
 use Rattle.std.proofs.Common.{◌∙◌, ◌∷◌, [], get_or, refl, ap}
 use Rattle.scald_base.proofs.Device.{at_err}
-use Rattle.fixpoint_engine.specs.Settled.{waves_of}
+use Rattle.net_waves.specs.Waves.{waves_of}
 use Rattle.listing.specs.Piece.{piece_text}
 use Rattle.listing.specs.Run.{runs_text}
 use Rattle.listing.specs.Wave.{wave_line}

@@ -1,6 +1,6 @@
 use Rattle.std.proofs.Common.{sym}
-use Rattle.fixpoint_engine.specs.Settled.{waves_of}
-use Rattle.fixpoint_engine.proofs.Drivers.{fits-of}
+use Rattle.net_waves.specs.Waves.{waves_of}
+use Rattle.flat_circuit.proofs.Numbered.{fits-of}
 use Rattle.point_check.proofs.Gathered.{instance-is, instance-not}
 use Rattle.point_check.proofs.check.instance_fault.Goals as goal
 

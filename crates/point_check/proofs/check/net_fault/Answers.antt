@@ -1,7 +1,7 @@
 use Rattle.std.proofs.Common.{sym, ap, subst, ◌∙◌, arith, refl, true, false, None}
 use Rattle.scald_base.specs.Time.{Header, period}
 use Rattle.scald_base.specs.Fitting.{Fits}
-use Rattle.fixpoint_engine.specs.Settled.{waves_of}
+use Rattle.net_waves.specs.Waves.{waves_of}
 use Rattle.point_check.specs.Assertion.{assertion_fault}
 use Rattle.point_check.proofs.Gathered.{net-is, net-not, net-below, net-long, net-wave, fits-at}
 use Rattle.point_check.proofs.check.net_fault.Goals as goal

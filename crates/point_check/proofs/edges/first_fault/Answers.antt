@@ -1,5 +1,5 @@
 use Rattle.std.proofs.Common.{length, arith, rules}
-use Rattle.fixpoint_engine.specs.Pins.{read}
+use Rattle.net_waves.specs.Pins.{read}
 use Rattle.point_check.proofs.Found.{first_fault-here, first_fault-nowhere}
 use Rattle.point_check.proofs.Where.{past-edges}
 use Rattle.point_check.proofs.edges.first_fault.Goals as goal

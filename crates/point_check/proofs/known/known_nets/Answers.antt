@@ -1,8 +1,8 @@
 use Rattle.std.proofs.Common.{◌≡◌, ℕ, length, map, ap, ◌∙◌, arith}
 use Rattle.std.specs.List.{range_with_len}
-use Rattle.fixpoint_engine.specs.Settled.{waves_of}
+use Rattle.net_waves.specs.Waves.{waves_of}
+use Rattle.net_waves.proofs.ByNumber.{known-more}
 use Rattle.point_check.specs.Faults.{net_fault}
-use Rattle.fixpoint_engine.proofs.ByNumber.{known-more}
 use Rattle.point_check.proofs.known.known_nets.Goals as goal
 
 pub loop-number-preserved : goal.loop-number-preserved

@@ -7,10 +7,9 @@ use Rattle.skew_algebra.specs.Wave.{Wave}
 use Rattle.flat_circuit.specs.declared.fault.Fault.TheVariants.{Hazard}
 use Rattle.gate_eval.specs.Meeting.{HaveOnePeriod}
 use Rattle.gate_eval.proofs.Found.{none-is, hazard-unmarked}
-use Rattle.fixpoint_engine.specs.Value.{pin_wave, pin_waves, marked_pin}
-use Rattle.fixpoint_engine.specs.Settled.{waves_of}
-use Rattle.fixpoint_engine.proofs.Made.{made-one-period}
-use Rattle.fixpoint_engine.proofs.Marks.{count-marks, position-marks, length-marks}
+use Rattle.net_waves.specs.Waves.{pin_wave, pin_waves, marked_pin, waves_of}
+use Rattle.net_waves.proofs.OnePeriod.{pins_have_one_period}
+use Rattle.net_waves.proofs.Marks.{count-marks, position-marks, length-marks}
 use Rattle.point_check.specs.Faults.{hazard_at}
 use Rattle.point_check.proofs.Gathered.{mark-is}
 use Rattle.point_check.proofs.mark.mark_fault.Goals as goal
@@ -42,7 +41,7 @@ hold_fault-requires-clause-periods g c =
     let some : 0 < period c.args.c.now.header = subst (λ h. 0 < period h) head (let two = h.shortest in omega (arith, two)) in
     subst (λ (ws : List (Wave Value)). HaveOnePeriod ws)
     (sym (c.in_ok-pins.ensures.waves ∙ ap (map (pin_wave c.args.c.now (waves_of c.args.waves.now))) c.as_slice.ensures))
-    (made-one-period c.args.c.now (waves_of c.args.waves.now) c.args.gate.now some
+    (pins_have_one_period c.args.c.now (waves_of c.args.waves.now) c.args.gate.now some
     c.requires.fit.each_slot c.requires.fits)
 
 pub returns-in-None : goal.returns-in-None

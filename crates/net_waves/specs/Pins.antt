@@ -10,7 +10,7 @@ use Rattle.flat_circuit.specs.Circuit.{Circuit}
 use Rattle.element_kinds.specs.Equation.{nth_signal}
 use Rattle.flat_circuit.specs.Run.{Run, Choice, pin_signals}
 use Rattle.gate_eval.specs.Instance.{wave_of_pin}
-use Rattle.fixpoint_engine.specs.Value.{Waves, pin_waves}
+use Rattle.net_waves.specs.Waves.{Waves, pin_waves}
 
 -- ---- steps of pins
 

@@ -17,9 +17,8 @@ use Rattle.flat_circuit.specs.declared.instance.Instance.{Instance}
 use Rattle.flat_circuit.specs.declared.net.Net.{Net}
 use Rattle.flat_circuit.specs.Circuit.{Circuit}
 use Rattle.pin_waves.proofs.Tests.{shown}
-use Rattle.fixpoint_engine.specs.Value.{Waves}
-use Rattle.fixpoint_engine.specs.Settled.{waves_of}
-use Rattle.fixpoint_engine.proofs.Tables.{Inputs, table, run_of, run_permitted}
+use Rattle.net_waves.specs.Waves.{Waves, waves_of}
+use Rattle.net_waves.proofs.Tables.{Inputs, table, run_of, run_permitted}
 
 abbrev pub bounds : ℕ → ℕ → Bounds
 bounds min max = record { min = min; max = max }

@@ -14,10 +14,10 @@ use Rattle.flat_circuit.specs.declared.instance.Instance.{Instance}
 use Rattle.flat_circuit.specs.Circuit.{Circuit}
 use Rattle.flat_circuit.specs.Run.{Run, Choice}
 use Rattle.pin_waves.proofs.Tests.{shown}
-use Rattle.fixpoint_engine.specs.Settled.{waves_of}
-use Rattle.fixpoint_engine.specs.Pins.{pin_at}
-use Rattle.fixpoint_engine.proofs.Tables.{run_of, steps_from, pins_permitted}
-use Rattle.fixpoint_engine.proofs.ExamplesInterface.{bounds, net, element, on, circuit}
+use Rattle.net_waves.specs.Waves.{waves_of}
+use Rattle.net_waves.specs.Pins.{pin_at}
+use Rattle.net_waves.proofs.Tables.{run_of, steps_from, pins_permitted}
+use Rattle.net_waves.proofs.ExamplesInterface.{bounds, net, element, on, circuit}
 
 abbrev not_on : ℕ → Pin
 not_on i = record { target = OnNet i; inverted = true; hold = false }

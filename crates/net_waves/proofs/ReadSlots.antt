@@ -8,7 +8,7 @@ use Rattle.wave_core.proofs.Slots.{length-slots}
 use Rattle.skew_algebra.specs.Wave.{Wave, fold, folded}
 use Rattle.skew_algebra.proofs.Moves.{here-cell, earlier-folded}
 pub use Rattle.gate_eval.proofs.Found.{below_run}
-use Rattle.fixpoint_engine.specs.Pins.{read}
+use Rattle.net_waves.specs.Pins.{read}
 
 -- what stands in a slot of the period
 pub read-at : (cells : List Value) (slot s : ℕ) (v : Value) → slot ≡ s → slot < length cells → slice_get cells slot ≡ Some v → read cells s ≡ v

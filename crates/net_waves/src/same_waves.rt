@@ -2,8 +2,8 @@
 
 ghost use Rattle.std.specs.Prelude.{◌≡◌, ◌<◌, ◌↔◌, IsTrue, length};
 ghost use Rattle.flat_circuit.specs.Instances.{PinExists};
-ghost use Rattle.fixpoint_engine.specs.SameWaves.{IsSameAt};
-ghost use Rattle.fixpoint_engine.specs.Settled.{FitWaves, waves_of};
+ghost use Rattle.net_waves.specs.SameWaves.{IsSameAt};
+ghost use Rattle.net_waves.specs.Waves.{FitWaves, waves_of};
 
 use crate::waves::Waves;
 use flat_circuit::{Circuit, Pin, Target};

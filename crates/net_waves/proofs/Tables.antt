@@ -21,9 +21,9 @@ use Rattle.gate_eval.specs.Instance.{wave_of_pin}
 use Rattle.pin_waves.specs.Meets.{Meets}
 use Rattle.pin_waves.proofs.Tests.{implies, implies_is, implies_from, not_true, all_below, any_below, each_passes, all_pass, some_passes, any_passes}
 use Rattle.pin_waves.proofs.Kept.{keeps, meets_is, meets_from}
-use Rattle.fixpoint_engine.specs.Value.{Waves, pin_waves}
-use Rattle.fixpoint_engine.specs.Interface.{MeetsInterface, PermitRun}
-use Rattle.fixpoint_engine.specs.Pins.{wire_to, pin_at, StepsFrom, PinsPermit}
+use Rattle.net_waves.specs.Waves.{Waves, pin_waves}
+use Rattle.net_waves.specs.Interface.{MeetsInterface, PermitRun}
+use Rattle.net_waves.specs.Pins.{wire_to, pin_at, StepsFrom, PinsPermit}
 
 -- a run of so many ticks, with these bits of each net as texts of `0` and `1`
 abbrev pub run_of : ℕ → List Choice → List String → Run

@@ -4,8 +4,7 @@ ghost use Rattle.std.specs.Prelude.{◌≡◌, ◌<◌, IfOk, length, map};
 ghost use Rattle.std.specs.List.{All};
 ghost use Rattle.flat_circuit.specs.Circuit.{wire_at};
 ghost use Rattle.flat_circuit.specs.Instances.{PinExists};
-ghost use Rattle.fixpoint_engine.specs.Value.{pin_wave as wave_shown};
-ghost use Rattle.fixpoint_engine.specs.Settled.{FitWaves, waves_of};
+ghost use Rattle.net_waves.specs.Waves.{pin_wave as wave_shown, FitWaves, waves_of};
 
 use crate::waves::Waves;
 use flat_circuit::{Circuit, Pin, Target};

@@ -12,7 +12,7 @@ use Rattle.step_values.specs.Cell.{values}
 use Rattle.step_values.specs.Lawful.{values_lawful}
 use Rattle.wave_core.specs.Slots.{later}
 use Rattle.wave_core.proofs.Slots.{length-slots}
-use Rattle.skew_algebra.specs.Wave.{Wave, skewed, is_steady, joined, normal, moved, IsNormal}
+use Rattle.skew_algebra.specs.Wave.{Wave, skewed, is_steady, joined, flipped, normal, moved, IsNormal}
 use Rattle.skew_algebra.proofs.Normal.{normal-steady, normal-moving, uniform-normal, moving-normal, flipped-normal, length-normal}
 use Rattle.skew_algebra.proofs.Moves.{length-later}
 use Rattle.flat_circuit.specs.declared.instance.Pin.{Pin}
@@ -22,7 +22,7 @@ use Rattle.gate_eval.specs.Instance.{wave_of_pin}
 use Rattle.gate_eval.proofs.Fitting.{Fits, AllFit}
 use Rattle.pin_waves.specs.Pin.{pin_wave as wave_behind}
 use Rattle.pin_waves.proofs.Pins.{length-pin}
-use Rattle.fixpoint_engine.specs.Value.{Waves, target_wave, target_wire, pin_wave, turned_wave}
+use Rattle.net_waves.specs.Waves.{Waves, target_wave, target_wire, pin_wave}
 
 pub normal-is : (w : Wave Value) → 0 < length w.cells → IsNormal values (normal values w)
 normal-is w some = by (is_steady values w.cells) refl
@@ -34,20 +34,15 @@ normal-is w some = by (is_steady values w.cells) refl
 pub normal-fits : (p : ℕ) (w : Wave Value) → 0 < p → length w.cells ≡ p → Fits values p (normal values w)
 normal-fits p w some long = record { long = length-normal values w ∙ long; normal = normal-is w (omega arith) }
 
-pub length-turned : (inverted : Bool) (w : Wave Value) → length (turned_wave inverted w).cells ≡ length w.cells
-length-turned true w = length-map w.cells flip
-length-turned false w = refl
-
-pub flipped-fits : (p : ℕ) (inverted : Bool) (w : Wave Value) → Fits values p w → Fits values p (turned_wave inverted w)
-flipped-fits p true w fits = record { long = length-map w.cells flip ∙ fits.long; normal = flipped-normal values values_lawful w fits.normal }
-flipped-fits p false w fits = fits
+flipped-fits : (p : ℕ) (w : Wave Value) → Fits values p w → Fits values p (flipped values w)
+flipped-fits p w fits = record { long = length-map w.cells flip ∙ fits.long; normal = flipped-normal values values_lawful w fits.normal }
 
 moved-fits : (p : ℕ) (w : Wave Value) (d : Bounds) → 0 < p → length w.cells ≡ p → Fits values p (moved values w d)
 unfolding moved
 moved-fits p w d some long = normal-fits p (skewed (later values w.cells d.min) (w.skew + (d.max - d.min))) some (length-later values w.cells d.min ∙ long)
 
 behind-fits : (p : ℕ) (w : Wave Value) (wire : Bounds) (inverted : Bool) → 0 < p → length w.cells ≡ p → Fits values p (wave_behind w wire inverted)
-behind-fits p w wire true some long = flipped-fits p true (moved values w wire) (moved-fits p w wire some long)
+behind-fits p w wire true some long = flipped-fits p (moved values w wire) (moved-fits p w wire some long)
 behind-fits p w wire false some long = moved-fits p w wire some long
 
 -- each net's wave has the circuit's period
@@ -79,5 +74,3 @@ pins-fit c ws (p ∷ ps) some fit exist = (
   pin-fits c ws p some fit (All-head (PinExists (length c.nets)) p ps exist),
   pins-fit c ws ps some fit (All-tail (PinExists (length c.nets)) p ps exist),
 )
-
--- ---- waves that code has, each as long as the period

@@ -7,8 +7,8 @@ use Rattle.vector_names.specs.declared.bits.Target.TheVariants.{Net as OnNet, Co
 use Rattle.pin_waves.specs.Pin.{pin_wave as wave_behind}
 use Rattle.flat_circuit.specs.declared.instance.Pin.{Pin}
 use Rattle.flat_circuit.specs.Circuit.{Circuit}
-use Rattle.fixpoint_engine.specs.Value.{Waves, target_wave, target_wire, pin_wave}
-use Rattle.fixpoint_engine.specs.SameWaves.{IsSameOn, IsSameAt}
+use Rattle.net_waves.specs.Waves.{Waves, target_wave, target_wire, pin_wave}
+use Rattle.net_waves.specs.SameWaves.{IsSameOn, IsSameAt}
 
 same-target : (h : Header) (ws vs : Waves) (t : Target) → IsSameOn ws vs t → target_wave h ws t ≡ target_wave h vs t
 same-target h ws vs (OnNet i) same = same

@@ -6,7 +6,7 @@ use Rattle.flat_circuit.specs.declared.net.Net.{Net}
 use Rattle.flat_circuit.specs.Circuit.{Circuit}
 use Rattle.flat_circuit.specs.Run.{Run, net_signal}
 use Rattle.pin_waves.specs.Meets.{Meets}
-use Rattle.fixpoint_engine.specs.Value.{Waves}
+use Rattle.net_waves.specs.Waves.{Waves}
 
 -- each undriven net keeps its assertion at all of its ticks
 abbrev pub MeetsInterface : Circuit → Run → Type 0

@@ -1,7 +1,6 @@
 use Rattle.std.proofs.Common.{◌≡◌, map, take}
-use Rattle.fixpoint_engine.specs.Value.{pin_wave}
-use Rattle.fixpoint_engine.specs.Settled.{waves_of}
-use Rattle.fixpoint_engine.proofs.pins.waves_at_pins.Given as goal
+use Rattle.net_waves.specs.Waves.{pin_wave, waves_of}
+use Rattle.net_waves.proofs.pins.waves_at_pins.Given as goal
 
 abbrev pub invariant-loop-pin : goal.invariant-loop-pin
 invariant-loop-pin g l = record {

@@ -3,7 +3,7 @@ use Rattle.std.specs.Prelude.{◌≡◌}
 use Rattle.vector_names.specs.declared.bits.Target.{Target}
 use Rattle.vector_names.specs.declared.bits.Target.TheVariants.{Net as OnNet, Constant}
 use Rattle.flat_circuit.specs.declared.instance.Pin.{Pin}
-use Rattle.fixpoint_engine.specs.Value.{Waves}
+use Rattle.net_waves.specs.Waves.{Waves}
 
 -- a net has one wave in both; a constant has
 abbrev pub IsSameOn : Waves → Waves → Target → Type 0

@@ -1,0 +1,12 @@
+pub mod WavesOf
+pub mod Fits
+pub mod OnePeriod
+pub mod Permitted
+pub mod ReadSlots
+pub mod SameWaves
+pub mod Marks
+pub mod ByNumber
+pub mod Tables
+pub mod WrittenRuns
+pub mod ExamplesInterface
+pub mod ExamplesPins

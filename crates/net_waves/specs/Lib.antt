@@ -1,0 +1,4 @@
+pub mod Waves
+pub mod Pins
+pub mod SameWaves
+pub mod Interface
