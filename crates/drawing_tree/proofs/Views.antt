@@ -35,3 +35,6 @@ view_if s = view_if_parts s.test s.yes s.no s.place
 
 pub view_choice : (s : IfStmt) → statement_of (stmt.If s) ≡ if_of s
 view_choice s = ap statement_of (sym (rolls-If s)) ∙ fold-roll-Stmt Statement Statement statement_layer if_layer (layer.If s)
+
+-- the tree of a statement, by its kind
+pub ruleset views = (view_use, view_wire, view_choice)

@@ -164,7 +164,7 @@ fn deeper(alloc: Global, margin: &[u8]) -> Result<Bytes, NoMemory>
 
 /// Appends the lines of a statement, each after the margin.
 #[cycle(statement)]
-#[tactic(auto, using(crate::proofs::Views::view_use, crate::proofs::Views::view_wire, crate::proofs::Views::view_choice), unfolding(crate::specs::Canonical::statement_lines))]
+#[tactic(auto, using(crate::proofs::Views::views), unfolding(crate::specs::Canonical::statement_lines))]
 fn add_statement(
     alloc: Global,
     out: &mut Bytes,

@@ -196,7 +196,12 @@ impl Scan {
         ensures { OnOk result (self.new ≡ record {
           at = self.old.at;
           place = self.old.place;
-          list = self.old.list ++ record { kind = kind; place = self.old.place; start = self.old.at; end = self.old.at + count } ∷ [];
+          list = self.old.list ++ record {
+            kind = kind;
+            place = self.old.place;
+            start = self.old.at;
+            end = self.old.at + count;
+          } ∷ [];
         }) }
     {
         self.list.push(Token {
