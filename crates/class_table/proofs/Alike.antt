@@ -64,7 +64,13 @@ module _ (k : List ℕ) where
 
   drivers-self : (a : Option Instance) → DriversAlike k a a
   drivers-self None = tt
-  drivers-self (Some a) = record { kind = refl; delay = refl; complement = refl; pins = zip-self (PinsAlike k) pins-self a.pins }
+  drivers-self (Some a) = record {
+    kind = refl;
+    delay = refl;
+    split = refl;
+    complement = refl;
+    pins = zip-self (PinsAlike k) pins-self a.pins;
+  }
 
   drivers-back : (a b : Option Instance) → DriversAlike k a b → DriversAlike k b a
   drivers-back None None h = h
@@ -73,6 +79,7 @@ module _ (k : List ℕ) where
   drivers-back (Some a) (Some b) h = record {
     kind = sym h.kind;
     delay = sym h.delay;
+    split = sym h.split;
     complement = sym h.complement;
     pins = zip-back (PinsAlike k) pins-back a.pins b.pins h.pins;
   }
@@ -87,6 +94,7 @@ module _ (k : List ℕ) where
   drivers-both (Some a) (Some b) (Some d) h h' = record {
     kind = h.kind ∙ sym h'.kind;
     delay = h.delay ∙ sym h'.delay;
+    split = h.split ∙ sym h'.split;
     complement = h.complement ∙ sym h'.complement;
     pins = zip-both (PinsAlike k) pins-both a.pins b.pins d.pins h.pins h'.pins;
   }

@@ -12,6 +12,7 @@ use Rattle.element_kinds.specs.declared.kind.Kind.TheVariants.{Buf, And, Or}
 use Rattle.flat_circuit.specs.declared.instance.Pin.{Pin}
 use Rattle.flat_circuit.specs.declared.instance.Instance.{Instance}
 use Rattle.flat_circuit.specs.declared.net.Net.{Net}
+use Rattle.flat_circuit.specs.declared.split.Split.{Split}
 use Rattle.flat_circuit.specs.Circuit.{Circuit}
 use Rattle.class_table.specs.Alike.{class_of, TargetsAlike, PinsAlike, InstancesAlike, CasesAlike, NetsAlike, value_in}
 use Rattle.class_table.specs.Stable.{AreAlikeAt, IsStable, AreNumbersOfNets, IsAsNumbersIn}
@@ -33,6 +34,7 @@ element kind delay inverted pins out = record {
   bit = 0;
   kind = kind;
   delay = delay;
+  split = None;
   limits = (0, 0);
   pins = pins;
   out = Some (OnNet out);
@@ -90,6 +92,7 @@ buffers_of_one_class : InstancesAlike classes (buffer (bounds 1 2) 1) (element B
 buffers_of_one_class = record {
   kind = refl;
   delay = refl;
+  split = refl;
   complement = refl;
   pins = (record { target = refl; complement = refl; mark = refl }, tt);
 }
@@ -103,6 +106,43 @@ least_delay_tells_apart : ¬ InstancesAlike classes (buffer (bounds 0 2) 1) (buf
 least_delay_tells_apart h =
     let clash : 0 ≡ 1 = ap (λ (d : Bounds). d.min) h.delay in
     omega (arith, clash)
+
+-- the same buffer with two delays
+abbrev two : ℕ → ℕ → ℕ → ℕ → Split
+two r R f F = record { rise = bounds r R; fall = bounds f F }
+
+abbrev split_buffer : Split → ℕ → Instance
+split_buffer s from = record (buffer (bounds 1 4) from) { split = Some s }
+
+split_buffers_of_one_class : InstancesAlike classes (split_buffer (two 1 2 3 4) 1)
+    (split_buffer (two 1 2 3 4) 2)
+split_buffers_of_one_class = record {
+  kind = refl;
+  delay = refl;
+  split = refl;
+  complement = refl;
+  pins = (record { target = refl; complement = refl; mark = refl }, tt);
+}
+
+-- both go from 1 to 4
+rise_and_fall_tell_apart : ¬ InstancesAlike classes (split_buffer (two 1 2 3 4) 1)
+    (split_buffer (two 3 4 1 2) 1)
+rise_and_fall_tell_apart h =
+    let clash : Some (two 1 2 3 4) ≡ Some (two 3 4 1 2) = h.split in
+    cc
+
+greatest_fall_tells_apart : ¬ InstancesAlike classes (split_buffer (two 1 4 1 2) 1)
+    (split_buffer (two 1 4 1 3) 1)
+greatest_fall_tells_apart h =
+    let clash : Some (two 1 4 1 2) ≡ Some (two 1 4 1 3) = h.split in
+    cc
+
+-- Two equal delays mean what one means, and yet they are not written alike.
+two_equal_delays_tell_apart : ¬ InstancesAlike classes (split_buffer (two 1 4 1 4) 1)
+    (buffer (bounds 1 4) 1)
+two_equal_delays_tell_apart h =
+    let clash : Some (two 1 4 1 4) ≡ None = h.split in
+    cc
 
 kind_tells_apart : ¬ InstancesAlike classes (element And (bounds 1 2) false (on (OnNet 1) ∷ []) 3) (element Or (bounds 1 2) false (on (OnNet 1) ∷ []) 3)
 kind_tells_apart h =
@@ -215,6 +255,7 @@ equal_buffers = stable-by-numbers here [] classes refl first_nets each
       drivers = record {
         kind = refl;
         delay = refl;
+        split = refl;
         complement = refl;
         pins = (record { target = refl; complement = refl; mark = refl }, tt);
       };
@@ -226,6 +267,17 @@ equal_buffers = stable-by-numbers here [] classes refl first_nets each
     each (suc (suc zero)) below m n is_m is_n =
         subst (λ (o : Net). NetsAlike here [] classes 2 1 o n) (some-same (output 1) m is_m) (subst (NetsAlike here [] classes 2 1 (output 1)) (some-same (output 0) n is_n) second)
     each (suc (suc (suc i))) below m n is_m is_n = absurd (omega (arith, below))
+
+-- one of them has two delays, each of them that of the other
+abbrev one_split : Circuit
+one_split = circuit (input Unasserted ∷ output 0 ∷ output 1 ∷ [])
+    (buffer (bounds 1 4) 0 ∷ split_buffer (two 1 4 1 4) 0 ∷ [])
+
+split_beside_unsplit : ¬ IsStable one_split [] classes
+split_beside_unsplit h =
+    let alike = h 1 2 refl (output 0) (output 1) refl refl in
+    let clash : ◌≡◌ {A = Option Split} None (Some (two 1 4 1 4)) = alike.drivers.split in
+    cc
 
 -- one of them takes a tick longer
 unequal_buffers : ¬ IsStable (pair (bounds 1 2) (bounds 1 3)) [] classes

@@ -33,6 +33,7 @@ pub record PinsAlike (classes : List ℕ) (p q : Pin) : Type 0 where
 pub record InstancesAlike (classes : List ℕ) (a b : Instance) : Type 0 where
   pub kind : a.kind ≡ b.kind
   pub delay : a.delay ≡ b.delay
+  pub split : a.split ≡ b.split
   pub complement : a.out_inverted ≡ b.out_inverted
   pub pins : AllZip (PinsAlike classes) a.pins b.pins
 

@@ -1,7 +1,7 @@
 //! Numbers of what nets have in common: nets of different keys are different, and different nets hardly
 //! ever have one key.
 
-use flat_circuit::{Circuit, Instance, Net, Pin, Target};
+use flat_circuit::{Circuit, Instance, Net, Pin, Split, Target};
 use scald_base::{AssertSpec, ClockSpec, Delay, Span};
 
 /// By how many places a key is rotated before the next part, and by what it is multiplied after it.
@@ -58,6 +58,13 @@ fn and_delay(key: Key, delay: Delay) -> Key {
         .followed_by(u64::from(delay.max))
 }
 
+fn and_split(key: Key, split: Option<Split>) -> Key {
+    match split {
+        Some(s) => and_delay(and_delay(key.followed_by(1), s.rise), s.fall),
+        None => key.followed_by(0),
+    }
+}
+
 fn and_spec(key: Key, spec: &AssertSpec) -> Key {
     match spec {
         AssertSpec::None => key.followed_by(0),
@@ -95,6 +102,7 @@ fn and_driver(key: Key, driver: Option<&Instance>) -> Key {
 
 fn and_instance(key: Key, instance: &Instance) -> Key {
     let key = and_delay(key.followed_by(instance.kind as u64), instance.delay);
+    let key = and_split(key, instance.split);
     and_pins(
         key.followed_by(u64::from(instance.out_inverted)),
         instance.pins.as_slice(),

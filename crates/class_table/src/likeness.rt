@@ -57,6 +57,7 @@ fn are_instances_alike(classes: &[u32], a: &Instance, b: &Instance) -> bool
 {
     a.kind == b.kind
         && a.delay == b.delay
+        && a.split == b.split
         && a.out_inverted == b.out_inverted
         && are_all_pins_alike(classes, a.pins.as_slice(), b.pins.as_slice())
 }

@@ -49,7 +49,7 @@ not_on i = record { target = OnNet i; inverted = true; hold = false }
 
 abbrev element : Kind → Bounds → List Pin → ℕ → Instance
 element kind delay pins out =
-    record { path = []; bit = 0; kind = kind; delay = delay; limits = (0, 0); pins = pins; out = Some (OnNet out); out_inverted = false; place = record { line = 1; col = 1 } }
+    record { path = []; bit = 0; kind = kind; delay = delay; split = None; limits = (0, 0); pins = pins; out = Some (OnNet out); out_inverted = false; place = record { line = 1; col = 1 } }
 
 abbrev circuit : List Net → List Instance → Circuit
 circuit nets instances = record { header = header; nets = nets; instances = instances; order = [] }

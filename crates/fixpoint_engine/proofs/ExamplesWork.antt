@@ -57,6 +57,7 @@ element kind pins out = record {
   bit = 0;
   kind = kind;
   delay = record { min = 1; max = 1 };
+  split = None;
   limits = (0, 0);
   pins = pins;
   out = Some (OnNet out);

@@ -15,7 +15,7 @@ zeros choices = map (λ choice. run (choice ∷ []) ("0000" ∷ "0000" ∷ "0000
 -- ---- delays
 
 -- one pin of each kind as often as it has pins
-abbrev pin_list : Kind → List Pin
+abbrev pub pin_list : Kind → List Pin
 pin_list Buf = on 1 ∷ []
 pin_list And = on 1 ∷ []
 pin_list Or = on 1 ∷ []
@@ -97,6 +97,11 @@ rise_fall_delays = runs refl
 
 pulse_delays : AreRuns (checker_with_delay MinPulse) (delayed MinPulse any_delay)
 pulse_delays = runs refl
+
+-- where there is one delay, a rise and a fall delay are any
+one_delay_counts : AreRuns (with_delay Buf)
+    (zeros (record (late 2 (0 ∷ [])) { rise = 9; fall = 4096 } ∷ []))
+one_delay_counts = runs refl
 
 -- ---- wires
 

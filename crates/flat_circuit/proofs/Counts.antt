@@ -102,7 +102,8 @@ out-more n m j l h = record {
   step (Some t) e = target-more n m t l e
 
 pub fits-more : (h : Header) (n m : ℕ) (j : Instance) → n ≤ m → InstanceFits h n j → InstanceFits h m j
-fits-more h n m j l f = record { pins = f.pins; has_out = f.has_out; lim = f.lim; exists = out-more n m j l f.exists }
+fits-more h n m j l f =
+    record { pins = f.pins; has_out = f.has_out; lim = f.lim; split = f.split; exists = out-more n m j l f.exists }
 
 -- ---- what holds of a builder goes on
 

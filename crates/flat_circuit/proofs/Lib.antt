@@ -1,4 +1,5 @@
 pub mod Moved
+pub mod MovedSplits
 pub mod Parts
 pub mod Instancewise
 pub mod Deciding
@@ -8,6 +9,7 @@ pub mod GateRuns
 pub mod StorageRuns
 pub mod ChangeRuns
 pub mod ChoiceRuns
+pub mod SplitRuns
 pub mod AnyLength
 pub mod Examples
 pub mod Walk

@@ -24,14 +24,14 @@ Match m t _ _ _ = ⊥
 
 -- ---- what signals show a delay before
 
-abbrev Named : ℕ → ℕ → List ℕ → Type 0
+abbrev pub Named : ℕ → ℕ → List ℕ → Type 0
 Named t delay ws = All (λ before. before ≤ t) (pins_before delay ws)
 
-named_head : (t delay w : ℕ) (ws : List ℕ) → Named t delay (w ∷ ws) → delay + w ≤ t
+pub named_head : (t delay w : ℕ) (ws : List ℕ) → Named t delay (w ∷ ws) → delay + w ≤ t
 named_head t delay w ws named = All-head (λ (before : ℕ). before ≤ t) (delay + w)
     (pins_before delay ws) named
 
-named_tail : (t delay w : ℕ) (ws : List ℕ) → Named t delay (w ∷ ws) → Named t delay ws
+pub named_tail : (t delay w : ℕ) (ws : List ℕ) → Named t delay (w ∷ ws) → Named t delay ws
 named_tail t delay w ws named = All-tail (λ (before : ℕ). before ≤ t) (delay + w)
     (pins_before delay ws) named
 
@@ -42,7 +42,7 @@ shown m t delay w x y same named =
     let at : m + (t - delay) ≡ (m + t) - delay = omega arith in
     same (t - delay) (omega arith) (omega arith) ∙ ap x at
 
-bits_move : (m t delay : ℕ) (ws : List ℕ) (xs ys : List Signal) → Match m t ws xs ys →
+pub bits_move : (m t delay : ℕ) (ws : List ℕ) (xs ys : List Signal) → Match m t ws xs ys →
     Named t delay ws →
     bits_at ys (t - delay) ≡ bits_at xs ((m + t) - delay)
 bits_move m t delay [] [] [] same named = refl

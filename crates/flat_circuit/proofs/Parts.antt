@@ -15,29 +15,37 @@ use Rattle.flat_circuit.specs.declared.instance.Instance.{Instance}
 use Rattle.flat_circuit.specs.declared.net.Net.{Net}
 use Rattle.element_kinds.specs.Kinds.{has_output}
 use Rattle.flat_circuit.specs.Circuit.{Circuit}
-use Rattle.element_kinds.specs.Equation.{Equation, named_before, IsAsked}
-use Rattle.flat_circuit.specs.Run.{Run, Choice, net_signal, target_signal, pin_signal, pin_signals, out_signal, WiresFit, IsRunAt}
+use Rattle.element_kinds.specs.Equation.{named_before}
+use Rattle.flat_circuit.specs.declared.split.Split.{Split}
+use Rattle.flat_circuit.specs.Split.{split_named_before, two_delays}
+use Rattle.flat_circuit.specs.Run.{Run, Choice, net_signal, target_signal, pin_signal, pin_signals, out_signal, WiresFit, EquationWith, IsAskedWith, IsRunAt}
 use Rattle.flat_circuit.specs.Laws.{front, later_part, FrontsAreRuns, LaterPartsAreRuns, with_bit, looks_back, LeavesFree, UnnamedBitsAreFree}
-use Rattle.flat_circuit.proofs.Moved.{Match, equation_moves}
+use Rattle.flat_circuit.proofs.Moved.{Match}
+use Rattle.flat_circuit.proofs.MovedSplits.{chosen_moves}
 
 -- ---- what is asked, later
 
-asked_later : (kind : Kind) (bounds : Bounds) (delay : ℕ) (wires : List ℕ) (m t : ℕ) →
-    IsAsked kind bounds delay wires t →
-    IsAsked kind bounds delay wires (m + t)
-asked_later kind bounds delay wires m t asked k d less =
-    let soon : get_or (named_before kind bounds delay wires) k d ≤ t = asked k d less in omega arith
+asked_at_later : (m t : ℕ) (named : List ℕ) → All (λ before. before ≤ t) named →
+    All (λ before. before ≤ m + t) named
+asked_at_later m t named asked k d less =
+    let soon : get_or named k d ≤ t = asked k d less in omega arith
 
--- what looks back is not asked at tick 0
-not_at_zero : (kind : Kind) (bounds : Bounds) (delay : ℕ) (wires : List ℕ) (t : ℕ) →
-    IsAsked kind bounds delay wires t →
-    looks_back kind ≡ true → 1 ≤ t
-not_at_zero Chg bounds delay wires t asked back = asked 0 0 (omega arith)
-not_at_zero Reg bounds delay wires t asked back = asked 0 0 (omega arith)
-not_at_zero RegRs bounds delay wires t asked back = asked 0 0 (omega arith)
-not_at_zero Latch bounds delay wires t asked back = asked 0 0 (omega arith)
-not_at_zero LatchRs bounds delay wires t asked back = asked 0 0 (omega arith)
-not_at_zero kind bounds delay wires t asked back = absurd (true≢false (sym back))
+asked_later : (kind : Kind) (d : Bounds) (split : Option Split) (choice : Choice) (m t : ℕ) →
+    IsAskedWith kind d split choice t → IsAskedWith kind d split choice (m + t)
+asked_later kind d None choice m t asked =
+    asked_at_later m t (named_before kind d choice.delay choice.wires) asked
+asked_later kind d (Some s) choice m t asked =
+    asked_at_later m t (split_named_before choice.rise choice.fall choice.wires) asked
+
+-- What looks back is not asked at tick 0. It has no two delays.
+not_at_zero : (kind : Kind) (d : Bounds) (split : Option Split) (choice : Choice) (t : ℕ) →
+    IsAskedWith kind d (two_delays kind split) choice t → looks_back kind ≡ true → 1 ≤ t
+not_at_zero Chg d split choice t asked back = asked 0 0 (omega arith)
+not_at_zero Reg d split choice t asked back = asked 0 0 (omega arith)
+not_at_zero RegRs d split choice t asked back = asked 0 0 (omega arith)
+not_at_zero Latch d split choice t asked back = asked 0 0 (omega arith)
+not_at_zero LatchRs d split choice t asked back = asked 0 0 (omega arith)
+not_at_zero kind d split choice t asked back = absurd (true≢false (sym back))
 
 -- ---- runs that show the same bits, m ticks later and up to a tick
 
@@ -79,21 +87,20 @@ part_at m c run other shows short i choice at = record {
   delay = at.delay;
   wires = at.wires;
   obeys = λ t less asked.
-      equation_moves m t i.delay choice.delay choice.wires (pin_signals run i.pins choice.wires)
-      (pin_signals other i.pins choice.wires)
+      chosen_moves i.kind i.delay (two_delays i.kind i.split) choice m t
+      (pin_signals run i.pins choice.wires) (pin_signals other i.pins choice.wires)
       (out_signal run i.out i.out_inverted) (out_signal other i.out i.out_inverted)
-      (pins_match m other.ticks t run other shows less c.nets i.pins choice.wires at.wires) i.kind
-      asked
+      (pins_match m other.ticks t run other shows less c.nets i.pins choice.wires at.wires) asked
       (record {
         now = out_shows m other.ticks run other shows i.out i.out_inverted t less;
         before = λ back.
-            let one : 1 ≤ t = not_at_zero i.kind i.delay choice.delay choice.wires t asked back in
+            let one : 1 ≤ t = not_at_zero i.kind i.delay i.split choice t asked back in
             let at : m + (t - 1) ≡ (m + t) - 1 = omega arith in
             out_shows m other.ticks run other shows i.out i.out_inverted (t - 1) (omega arith)
             ∙ ap (out_signal run i.out i.out_inverted) at;
       })
-      (at.obeys (m + t) (omega arith) (asked_later i.kind i.delay choice.delay choice.wires m t
-      asked));
+      (at.obeys (m + t) (omega arith)
+      (asked_later i.kind i.delay (two_delays i.kind i.split) choice m t asked));
 }
 
 -- ---- fronts and later parts
@@ -188,13 +195,13 @@ long_with n (bits ∷ nets) (suc net) t b long =
     (All-head (λ (x : List Bool). length x ≡ n) bits nets long)
     (long_with n nets net t b (All-tail (λ (x : List Bool). length x ≡ n) bits nets long))
 
-checker_equation : (kind : Kind) (bounds : Bounds) (delay : ℕ) (signals : List Signal)
-    (output : Signal) (t : ℕ) →
-    has_output kind ≡ false → Equation kind bounds delay signals output t
-checker_equation SetupHold bounds delay signals output t none = tt
-checker_equation RiseFall bounds delay signals output t none = tt
-checker_equation MinPulse bounds delay signals output t none = tt
-checker_equation kind bounds delay signals output t none = absurd (true≢false none)
+checker_equation : (kind : Kind) (d : Bounds) (split : Option Split) (choice : Choice)
+    (signals : List Signal) (output : Signal) (t : ℕ) → has_output kind ≡ false →
+    EquationWith kind d (two_delays kind split) choice signals output t
+checker_equation SetupHold d split choice signals output t none = tt
+checker_equation RiseFall d split choice signals output t none = tt
+checker_equation MinPulse d split choice signals output t none = tt
+checker_equation kind d split choice signals output t none = absurd (true≢false none)
 
 module _ (run : Run) (net t : ℕ) (b : Bool) where
   target_same : (target : Target) → target ≢ OnNet net → (w u : ℕ) →
@@ -241,10 +248,11 @@ module _ (run : Run) (net t : ℕ) (b : Bool) where
     obeys = λ u less asked.
         let at_u : u ≡ 0 + u = omega arith in
         let x : Signal = out_signal run i.out i.out_inverted in
-        equation_moves 0 u i.delay choice.delay choice.wires (pin_signals run i.pins choice.wires)
+        chosen_moves i.kind i.delay (two_delays i.kind i.split) choice 0 u
+        (pin_signals run i.pins choice.wires)
         (pin_signals (with_bit run net t b) i.pins choice.wires) x
         (out_signal (with_bit run net t b) i.out i.out_inverted)
-        (pins_same u c.nets i.pins choice.wires at.wires (free.unread output)) i.kind asked
+        (pins_same u c.nets i.pins choice.wires at.wires (free.unread output)) asked
         (record {
           now = out_same i.out i.out_inverted u (λ drives. free.unasked drives u less asked)
               ∙ ap x at_u;
@@ -252,8 +260,8 @@ module _ (run : Run) (net t : ℕ) (b : Bool) where
               out_same i.out i.out_inverted (u - 1)
               (λ drives. free.unnamed drives back u less asked) ∙ ap (λ v. x (v - 1)) at_u;
         })
-        (at.obeys (0 + u) (omega arith) (asked_later i.kind i.delay choice.delay choice.wires 0 u
-        asked));
+        (at.obeys (0 + u) (omega arith)
+        (asked_later i.kind i.delay (two_delays i.kind i.split) choice 0 u asked));
   }
 
   checker_same : (c : Circuit) (i : Instance) (choice : Choice) → IsRunAt c run i choice →
@@ -262,7 +270,7 @@ module _ (run : Run) (net t : ℕ) (b : Bool) where
   checker_same c i choice at none = record {
     delay = at.delay;
     wires = at.wires;
-    obeys = λ u less asked. checker_equation i.kind i.delay choice.delay _ _ u none;
+    obeys = λ u less asked. checker_equation i.kind i.delay i.split choice _ _ u none;
   }
 
   instance_same : (c : Circuit) (i : Instance) (choice : Choice) → IsRunAt c run i choice →

@@ -12,6 +12,8 @@ use Rattle.element_kinds.specs.declared.kind.Kind.{Kind}
 use Rattle.flat_circuit.specs.declared.instance.Pin.{Pin}
 use Rattle.flat_circuit.specs.declared.instance.Instance.{Instance}
 use Rattle.flat_circuit.specs.declared.net.Net.{Net}
+use Rattle.flat_circuit.specs.declared.split.Split.{Split}
+use Rattle.flat_circuit.specs.Split.{either_delay}
 use Rattle.flat_circuit.specs.Circuit.{Circuit}
 use Rattle.flat_circuit.specs.Run.{Run, Choice, IsRun}
 use Rattle.flat_circuit.proofs.Deciding.{all_tells}
@@ -61,6 +63,7 @@ element kind delay pins out =
       bit = 0;
       kind = kind;
       delay = delay;
+      split = None;
       limits =
           (0, 0);
       pins = pins;
@@ -69,6 +72,14 @@ element kind delay pins out =
       place =
           record { line = 1; col = 1 };
     }
+
+abbrev pub two : ℕ → ℕ → ℕ → ℕ → Split
+two r R f F = record { rise = bounds r R; fall = bounds f F }
+
+-- an element with two delays, between the least and the greatest of both
+abbrev pub split_element : Kind → Split → List Pin → ℕ → Instance
+split_element kind s pins out =
+    record (element kind (either_delay s) pins out) { split = Some s }
 
 abbrev pub complemented : Instance → Instance
 complemented i = record i { out_inverted = true }
@@ -80,6 +91,7 @@ checker kind pins =
       bit = 0;
       kind = kind;
       delay = bounds 0 0;
+      split = None;
       limits =
           (1, 1);
       pins = pins;
@@ -99,7 +111,11 @@ bits text = map (λ digit. nat_eq digit 49) (codes text)
 
 -- the delay of an instance, and those of the wires to its pins
 abbrev pub late : ℕ → List ℕ → Choice
-late delay wires = record { delay = delay; wires = wires }
+late delay wires = record { delay = delay; rise = 0; fall = 0; wires = wires }
+
+-- the same of an instance with two delays
+abbrev pub late_by_two : ℕ → ℕ → List ℕ → Choice
+late_by_two rise fall wires = record { delay = 0; rise = rise; fall = fall; wires = wires }
 
 abbrev pub ticks_of : List (List Bool) → ℕ
 ticks_of [] = 0

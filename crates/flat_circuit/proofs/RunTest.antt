@@ -14,9 +14,11 @@ use Rattle.element_kinds.specs.Kinds.{form_of}
 use Rattle.flat_circuit.specs.declared.instance.Pin.{Pin}
 use Rattle.flat_circuit.specs.declared.instance.Instance.{Instance}
 use Rattle.flat_circuit.specs.declared.net.Net.{Net}
+use Rattle.flat_circuit.specs.declared.split.Split.{Split}
+use Rattle.flat_circuit.specs.Split.{two_delays, gate_signal, split_bit, split_named_before}
 use Rattle.flat_circuit.specs.Circuit.{Circuit}
 use Rattle.element_kinds.specs.Equation.{bits_at, gate_bit, nth_signal, registered, latched, Follows, IsForced, IsSetReset, AreStill, IsInReach, IsStored, EquationOf, Equation, named_before, IsAsked}
-use Rattle.flat_circuit.specs.Run.{Run, Choice, pin_signals, out_signal, Within, DelayFitsForm, DelayFits, net_wire_fits, WireFits, WiresFit, Obeys, IsRunAt, IsRun}
+use Rattle.flat_circuit.specs.Run.{Run, Choice, pin_signals, out_signal, Within, DelayFitsForm, DelayFits, DelaysFit, net_wire_fits, WireFits, WiresFit, EquationWith, IsAskedWith, Obeys, IsRunAt, IsRun}
 use Rattle.flat_circuit.proofs.Deciding.{at_most_tells, equal_tells, same_bit, same_bit_tells, always_tells, never_tells, if_tells, all_tells, each_below, below_tells}
 
 -- ---- equations
@@ -140,24 +142,50 @@ asked_tells kind bounds delay wires t =
     all_tells (λ before. nat_le before t) (λ before. before ≤ t) (λ before. at_most_tells before t)
     (named_before kind bounds delay wires)
 
-abbrev obeys : ℕ → Kind → Bounds → Choice → List Signal → Signal → Bool
-obeys ticks kind bounds choice signals output =
-    each_below (λ t. not (is_asked kind bounds choice.delay choice.wires t)
-    || obeys_at kind bounds choice.delay signals output t) ticks
+-- ---- with one delay or with two
 
-obeys_tells : (ticks : ℕ) (kind : Kind) (bounds : Bounds) (choice : Choice) (signals : List Signal)
-    (output : Signal) →
-    Decides (obeys ticks kind bounds choice signals output)
-    (Obeys ticks kind bounds choice signals output)
-obeys_tells ticks kind bounds choice signals output =
-    below_tells (λ t. not (is_asked kind bounds choice.delay choice.wires t)
-    || obeys_at kind bounds choice.delay signals output t)
-    (λ t. IsAsked kind bounds choice.delay choice.wires t →
-    Equation kind bounds choice.delay signals output t)
-    (λ t. if_tells (is_asked kind bounds choice.delay choice.wires t)
-    (obeys_at kind bounds choice.delay signals output t)
-    (asked_tells kind bounds choice.delay choice.wires t)
-    (obeys_at_tells kind bounds choice.delay signals output t)) ticks
+abbrev obeys_with : Kind → Bounds → Option Split → Choice → List Signal → Signal → ℕ → Bool
+obeys_with kind d None choice signals output t = obeys_at kind d choice.delay signals output t
+obeys_with kind d (Some s) choice signals output t =
+    same_bit (output t) (split_bit (gate_signal kind signals) choice.rise choice.fall t)
+
+obeys_with_tells : (kind : Kind) (d : Bounds) (split : Option Split) (choice : Choice)
+    (signals : List Signal) (output : Signal) (t : ℕ) →
+    Decides (obeys_with kind d split choice signals output t)
+    (EquationWith kind d split choice signals output t)
+obeys_with_tells kind d None choice signals output t =
+    obeys_at_tells kind d choice.delay signals output t
+obeys_with_tells kind d (Some s) choice signals output t =
+    same_bit_tells (output t) (split_bit (gate_signal kind signals) choice.rise choice.fall t)
+
+abbrev is_asked_with : Kind → Bounds → Option Split → Choice → ℕ → Bool
+is_asked_with kind d None choice t = is_asked kind d choice.delay choice.wires t
+is_asked_with kind d (Some s) choice t =
+    list_all (λ before. nat_le before t) (split_named_before choice.rise choice.fall choice.wires)
+
+asked_with_tells : (kind : Kind) (d : Bounds) (split : Option Split) (choice : Choice) (t : ℕ) →
+    Decides (is_asked_with kind d split choice t) (IsAskedWith kind d split choice t)
+asked_with_tells kind d None choice t = asked_tells kind d choice.delay choice.wires t
+asked_with_tells kind d (Some s) choice t =
+    all_tells (λ before. nat_le before t) (λ before. before ≤ t) (λ before. at_most_tells before t)
+    (split_named_before choice.rise choice.fall choice.wires)
+
+abbrev obeys : ℕ → Kind → Bounds → Option Split → Choice → List Signal → Signal → Bool
+obeys ticks kind d split choice signals output =
+    each_below (λ t. not (is_asked_with kind d split choice t)
+    || obeys_with kind d split choice signals output t) ticks
+
+obeys_tells : (ticks : ℕ) (kind : Kind) (d : Bounds) (split : Option Split) (choice : Choice)
+    (signals : List Signal) (output : Signal) →
+    Decides (obeys ticks kind d split choice signals output)
+    (Obeys ticks kind d split choice signals output)
+obeys_tells ticks kind d split choice signals output =
+    below_tells (λ t. not (is_asked_with kind d split choice t)
+    || obeys_with kind d split choice signals output t)
+    (λ t. IsAskedWith kind d split choice t → EquationWith kind d split choice signals output t)
+    (λ t. if_tells (is_asked_with kind d split choice t)
+    (obeys_with kind d split choice signals output t) (asked_with_tells kind d split choice t)
+    (obeys_with_tells kind d split choice signals output t)) ticks
 
 -- ---- choices
 
@@ -189,6 +217,17 @@ delay_as_tells (Checker check) d n = always_tells
 delay_tells : (kind : Kind) (d : Bounds) (n : ℕ) →
     Decides (delay_fits kind d n) (DelayFits kind d n)
 delay_tells kind d n = delay_as_tells (form_of kind) d n
+
+abbrev delays_fit : Kind → Bounds → Option Split → Choice → Bool
+delays_fit kind d None choice = delay_fits kind d choice.delay
+delays_fit kind d (Some s) choice = is_within s.rise choice.rise && is_within s.fall choice.fall
+
+delays_tell : (kind : Kind) (d : Bounds) (split : Option Split) (choice : Choice) →
+    Decides (delays_fit kind d split choice) (DelaysFit kind d split choice)
+delays_tell kind d None choice = delay_tells kind d choice.delay
+delays_tell kind d (Some s) choice =
+    Decides-and (is_within s.rise choice.rise) (is_within s.fall choice.fall)
+    (within_tells s.rise choice.rise) (within_tells s.fall choice.fall)
 
 abbrev net_wire_is_in : Option Net → ℕ → Bool
 net_wire_is_in None w = false
@@ -226,20 +265,21 @@ wires_tell nets (p ∷ ps) (w ∷ ws) =
 
 abbrev is_run_at : Circuit → Run → Instance → Choice → Bool
 is_run_at c run i choice =
-    delay_fits i.kind i.delay choice.delay && (wires_fit c.nets i.pins choice.wires
-    && obeys run.ticks i.kind i.delay choice (pin_signals run i.pins choice.wires)
-    (out_signal run i.out i.out_inverted))
+    delays_fit i.kind i.delay (two_delays i.kind i.split) choice
+    && (wires_fit c.nets i.pins choice.wires
+    && obeys run.ticks i.kind i.delay (two_delays i.kind i.split) choice
+    (pin_signals run i.pins choice.wires) (out_signal run i.out i.out_inverted))
 
 run_at_tells : (c : Circuit) (run : Run) (i : Instance) (choice : Choice) →
     Decides (is_run_at c run i choice) (IsRunAt c run i choice)
 run_at_tells c run i choice =
     Decides-like (is_run_at c run i choice)
     (λ h. record { delay = h.0; wires = h.1.0; obeys = h.1.1 }) (λ h. (h.delay, (h.wires, h.obeys)))
-    (Decides-and (delay_fits i.kind i.delay choice.delay) _
-    (delay_tells i.kind i.delay choice.delay)
+    (Decides-and (delays_fit i.kind i.delay (two_delays i.kind i.split) choice) _
+    (delays_tell i.kind i.delay (two_delays i.kind i.split) choice)
     (Decides-and (wires_fit c.nets i.pins choice.wires) _ (wires_tell c.nets i.pins choice.wires)
-    (obeys_tells run.ticks i.kind i.delay choice (pin_signals run i.pins choice.wires)
-    (out_signal run i.out i.out_inverted))))
+    (obeys_tells run.ticks i.kind i.delay (two_delays i.kind i.split) choice
+    (pin_signals run i.pins choice.wires) (out_signal run i.out i.out_inverted))))
 
 -- each instance that has a choice
 abbrev EachAt : Circuit → Run → List Instance → List Choice → Type 0

@@ -77,6 +77,42 @@ same-delays z delay t =
     alone : (b : Bool) → (b && true) ≡ b
     alone b = grind arith
 
+-- a bit that never changes
+all_constant : (b : Bool) (first n : ℕ) → list_all (λ u. b) (range_with_len first (suc n)) ≡ b
+all_constant b first zero = alone b
+  where
+    alone : (b : Bool) → (b && true) ≡ b
+    alone b = grind arith
+all_constant b first (suc n) = ap (λ c. b && c) (all_constant b (first + 1) n) ∙ twice b
+  where
+    twice : (b : Bool) → (b && b) ≡ b
+    twice b = grind arith
+
+any_constant : (b : Bool) (first n : ℕ) → list_any (λ u. b) (range_with_len first (suc n)) ≡ b
+any_constant b first zero = alone b
+  where
+    alone : (b : Bool) → (b || false) ≡ b
+    alone b = grind arith
+any_constant b first (suc n) = ap (λ c. b || c) (any_constant b (first + 1) n) ∙ twice b
+  where
+    twice : (b : Bool) → (b || b) ≡ b
+    twice b = grind arith
+
+pub constant_bit : (b : Bool) (rise fall t : ℕ) → split_bit (λ u. b) rise fall t ≡ b
+constant_bit b rise fall t = by (cases_lt rise fall)
+  where
+    by : (rise < fall) ⊎ (fall ≤ rise) → split_bit (λ u. b) rise fall t ≡ b
+    by (inl longer) =
+        let some : t - rise + 1 - (t - fall) ≡ suc (t - rise - (t - fall)) = omega arith in
+        by-fall (λ u. b) rise fall t longer
+        ∙ ap (λ (n : ℕ). list_any (λ u. b) (range_with_len (t - fall) n)) some
+        ∙ any_constant b (t - fall) (t - rise - (t - fall))
+    by (inr longer) =
+        let some : t - fall + 1 - (t - rise) ≡ suc (t - fall - (t - rise)) = omega arith in
+        by-rise (λ u. b) rise fall t longer
+        ∙ ap (λ (n : ℕ). list_all (λ u. b) (range_with_len (t - rise) n)) some
+        ∙ all_constant b (t - rise) (t - fall - (t - rise))
+
 pub turned : RiseMirrorsFall
 turned z rise fall t = by (cases_lt rise fall)
   where

@@ -9,6 +9,7 @@ use Rattle.flat_circuit.specs.declared.instance.Pin.{Pin}
 use Rattle.flat_circuit.specs.declared.instance.Instance.{Instance}
 use Rattle.element_kinds.specs.Kinds.{has_output, listens}
 use Rattle.flat_circuit.specs.Kind.{PinsFit, LimitsFit}
+use Rattle.flat_circuit.specs.Split.{SplitFits}
 
 -- ---- one instance between so many nets
 
@@ -28,11 +29,13 @@ pub record InstanceExists (nets : ℕ) (j : Instance) : Type 0 where
   pub reads : All (PinExists nets) j.pins
   pub drives : OutExists nets j.out
 
--- Its nets exist, its pins and limits are those of its kind, and it has an output exactly where its kind has one.
+-- Its nets exist, its pins, its limits and its two delays are those of its kind, and it has an output exactly where its
+-- kind has one.
 pub record InstanceFits (h : Header) (nets : ℕ) (j : Instance) : Type 0 where
   pub pins : PinsFit j.kind j.pins
   pub has_out : is_some j.out ≡ has_output j.kind
   pub lim : LimitsFit h j.kind j.limits
+  pub split : SplitFits j.kind j.delay j.split
   pub exists : InstanceExists nets j
 
 -- ---- parts of the instance of a number
@@ -51,6 +54,7 @@ pins_of (Some j) = j.pins
 abbrev pub pins_at : List Instance → ℕ → List Pin
 pins_at js k = pins_of (slice_get js k)
 
+-- With two delays this is the least of both, by SplitFits.
 abbrev pub least_delay_of : Option Instance → ℕ
 least_delay_of None = 0
 least_delay_of (Some j) = j.delay.min

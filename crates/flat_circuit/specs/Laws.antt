@@ -8,9 +8,9 @@ use Rattle.element_kinds.specs.declared.form.Form.TheVariants.{Gate, Change, Reg
 use Rattle.element_kinds.specs.Kinds.{form_of, has_output}
 use Rattle.flat_circuit.specs.declared.instance.Pin.{Pin}
 use Rattle.flat_circuit.specs.declared.instance.Instance.{Instance}
-use Rattle.element_kinds.specs.Equation.{IsAsked}
+use Rattle.flat_circuit.specs.Split.{two_delays}
 use Rattle.flat_circuit.specs.Circuit.{Circuit}
-use Rattle.flat_circuit.specs.Run.{Run, Choice, IsRunAt, IsRun}
+use Rattle.flat_circuit.specs.Run.{Run, Choice, IsAskedWith, IsRunAt, IsRun}
 
 -- the first ticks of a run, at most so many
 abbrev pub front : ℕ → Run → Run
@@ -52,9 +52,9 @@ looks_back kind = looks_back_by (form_of kind)
 pub record LeavesFree (run : Run) (net t : ℕ) (i : Instance) (choice : Choice) : Type 0 where
   pub unread : has_output i.kind ≡ true → All (λ (p : Pin). p.target ≢ OnNet net) i.pins
   pub unasked : i.out ≡ Some (OnNet net) → (u : ℕ) → u < run.ticks →
-      IsAsked i.kind i.delay choice.delay choice.wires u → u ≢ t
+      IsAskedWith i.kind i.delay (two_delays i.kind i.split) choice u → u ≢ t
   pub unnamed : i.out ≡ Some (OnNet net) → looks_back i.kind ≡ true → (u : ℕ) → u < run.ticks →
-      IsAsked i.kind i.delay choice.delay choice.wires u → u - 1 ≢ t
+      IsAskedWith i.kind i.delay (two_delays i.kind i.split) choice u → u - 1 ≢ t
 
 -- A bit that no equation names may be either.
 abbrev pub UnnamedBitsAreFree : Type 0

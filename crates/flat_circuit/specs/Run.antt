@@ -11,12 +11,17 @@ use Rattle.element_kinds.specs.Kinds.{form_of}
 use Rattle.flat_circuit.specs.declared.instance.Pin.{Pin}
 use Rattle.flat_circuit.specs.declared.instance.Instance.{Instance}
 use Rattle.flat_circuit.specs.declared.net.Net.{Net}
+use Rattle.flat_circuit.specs.declared.split.Split.{Split}
 use Rattle.flat_circuit.specs.Circuit.{Circuit}
 use Rattle.element_kinds.specs.Equation.{Equation, IsAsked}
+use Rattle.flat_circuit.specs.Split.{two_delays, SplitEquation, IsSplitAsked}
 
--- what a run chooses at an instance: its delay, and the delay of the wire to each of its pins
+-- What a run chooses at an instance: its delay, or where it has two its rise and its fall delay, and the delay of the wire
+-- to each of its pins.
 pub record Choice : Type 0 where
   pub delay : ℕ
+  pub rise : ℕ
+  pub fall : ℕ
   pub wires : List ℕ
 
 -- so many ticks, the choices at each instance, and the bits of each net
@@ -63,6 +68,11 @@ DelayFitsForm (Checker check) d n = ⊤
 abbrev pub DelayFits : Kind → Bounds → ℕ → Type 0
 DelayFits kind d n = DelayFitsForm (form_of kind) d n
 
+-- A gate with two delays has one rise delay and one fall delay for the whole of a run, each within its own bounds.
+abbrev pub DelaysFit : Kind → Bounds → Option Split → Choice → Type 0
+DelaysFit kind d None choice = DelayFits kind d choice.delay
+DelaysFit kind d (Some s) choice = Within s.rise choice.rise × Within s.fall choice.fall
+
 abbrev pub net_wire_fits : Option Net → ℕ → Type 0
 net_wire_fits None w = ⊥
 net_wire_fits (Some net) w = Within net.wire w
@@ -77,15 +87,26 @@ WiresFit nets [] [] = Unit {0}
 WiresFit nets (p ∷ ps) (w ∷ ws) = WireFits nets p.target w × WiresFit nets ps ws
 WiresFit nets _ _ = ⊥
 
+-- the equation with the delays of a choice, and the ticks at which it is asked
+abbrev pub EquationWith : Kind → Bounds → Option Split → Choice → List Signal → Signal → ℕ → Type 0
+EquationWith kind d None choice signals output t = Equation kind d choice.delay signals output t
+EquationWith kind d (Some s) choice signals output t =
+    SplitEquation kind choice.rise choice.fall signals output t
+
+abbrev pub IsAskedWith : Kind → Bounds → Option Split → Choice → ℕ → Type 0
+IsAskedWith kind d None choice t = IsAsked kind d choice.delay choice.wires t
+IsAskedWith kind d (Some s) choice t = IsSplitAsked choice.rise choice.fall choice.wires t
+
 -- the equation holds at each tick of the run at which it is asked
-abbrev pub Obeys : ℕ → Kind → Bounds → Choice → List Signal → Signal → Type 0
-Obeys ticks kind bounds choice signals output =
-    (t : ℕ) → t < ticks → IsAsked kind bounds choice.delay choice.wires t → Equation kind bounds choice.delay signals output t
+abbrev pub Obeys : ℕ → Kind → Bounds → Option Split → Choice → List Signal → Signal → Type 0
+Obeys ticks kind d split choice signals output =
+    (t : ℕ) → t < ticks → IsAskedWith kind d split choice t → EquationWith kind d split choice signals output t
 
 pub record IsRunAt (c : Circuit) (run : Run) (i : Instance) (choice : Choice) : Type 0 where
-  pub delay : DelayFits i.kind i.delay choice.delay
+  pub delay : DelaysFit i.kind i.delay (two_delays i.kind i.split) choice
   pub wires : WiresFit c.nets i.pins choice.wires
-  pub obeys : Obeys run.ticks i.kind i.delay choice (pin_signals run i.pins choice.wires) (out_signal run i.out i.out_inverted)
+  pub obeys : Obeys run.ticks i.kind i.delay (two_delays i.kind i.split) choice
+      (pin_signals run i.pins choice.wires) (out_signal run i.out i.out_inverted)
 
 -- Each net has a bit for each tick, and each instance a choice within its bounds. Nothing is said of the start.
 pub record IsRun (c : Circuit) (run : Run) : Type 0 where

@@ -1,6 +1,6 @@
 -- Gates with two delays: a rise delay, after which the output comes to 1, and a fall delay, after
 -- which it comes to 0.
-use Rattle.std.specs.Prelude.{◌≡◌, ◌↔◌, ℕ, ◌+◌, ◌-◌, ◌<◌, ◌≤◌, min, max, nat_le, Bool, true, not, if◌then◌else◌, List, All}
+use Rattle.std.specs.Prelude.{◌≡◌, ◌↔◌, ℕ, ◌+◌, ◌-◌, ◌<◌, ◌≤◌, min, max, nat_le, Bool, true, not, if◌then◌else◌, List, All, Option, Some, None, ⊤}
 use Rattle.std.specs.List.{list_all, list_any, range_with_len}
 use Rattle.scald_base.specs.Time.{Bounds}
 use Rattle.scald_base.specs.Signal.{Signal}
@@ -17,6 +17,15 @@ may_split kind = by_form is_function kind
 abbrev pub either_delay : Split → Bounds
 either_delay s = record { min = min s.rise.min s.fall.min; max = max s.rise.max s.fall.max }
 
+-- Two delays stand only at a kind that may have them, and the bounds beside them are those of both.
+abbrev pub SplitFits : Kind → Bounds → Option Split → Type 0
+SplitFits kind d None = ⊤
+SplitFits kind d (Some s) = (may_split kind ≡ true) × (d ≡ either_delay s)
+
+-- The two delays that count in a run: at a kind that may not have two, none do.
+abbrev pub two_delays : Kind → Option Split → Option Split
+two_delays kind split = if may_split kind then split else None
+
 -- ---- the equation at a tick
 
 -- the gate's own bit at each tick, of what its pins show there
@@ -27,9 +36,10 @@ gate_signal kind signals u = gate_bit kind (bits_at signals u)
 abbrev pub ticks : ℕ → ℕ → List ℕ
 ticks first last = range_with_len first (last + 1 - first)
 
--- Where the rise takes longer, the output is 1 if z was 1 on all ticks from the rise delay before to
--- the fall delay before, so a shorter pulse is swallowed. Where the fall takes longer, it is 1 if z
--- was 1 on some tick from the fall delay before to the rise delay before.
+-- Where the rise takes at least as long, the output is 1 exactly where z was 1 on all ticks from the
+-- rise delay before to the fall delay before, so a shorter pulse is swallowed. Where the fall takes
+-- longer, it is 1 exactly where z was 1 on some tick from the fall delay before to the rise delay
+-- before.
 abbrev pub split_bit : Signal → ℕ → ℕ → ℕ → Bool
 split_bit z rise fall t =
     if nat_le fall rise

@@ -153,6 +153,7 @@ fn entry_at(drivers: &[Option<u32>], i: u32) -> Option<u32>
     }
 }
 
+// The least delay: with two delays `delay` begins with the least of both.
 fn delay_min_at(instances: &[Instance], d: u32) -> u16
     ensures { result ≡ least_delay_at instances.now d }
 {

@@ -43,11 +43,11 @@ quiet = Stable (record { lo = 1; hi = 4 } ∷ [])
 
 abbrev element : List ℕ → Kind → ℕ → Instance
 element label kind out =
-    record { path = label; bit = 0; kind = kind; delay = record { min = 0; max = 0 }; limits = (0, 0); pins = []; out = Some (OnNet out); out_inverted = false; place = record { line = 4; col = 1 } }
+    record { path = label; bit = 0; kind = kind; delay = record { min = 0; max = 0 }; split = None; limits = (0, 0); pins = []; out = Some (OnNet out); out_inverted = false; place = record { line = 4; col = 1 } }
 
 abbrev checker : List ℕ → Kind → Instance
 checker label kind =
-    record { path = label; bit = 0; kind = kind; delay = record { min = 0; max = 0 }; limits = (0, 0); pins = []; out = None; out_inverted = false; place = record { line = 4; col = 1 } }
+    record { path = label; bit = 0; kind = kind; delay = record { min = 0; max = 0 }; split = None; limits = (0, 0); pins = []; out = None; out_inverted = false; place = record { line = 4; col = 1 } }
 
 abbrev circuit : List Net → List Instance → List ℕ → Circuit
 circuit nets instances order = record { header = header; nets = nets; instances = instances; order = order }

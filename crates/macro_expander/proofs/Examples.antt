@@ -104,6 +104,7 @@ checked_bit k = record {
   bit = k;
   kind = SetupHold;
   delay = record { min = 0; max = 0 };
+  split = None;
   limits = (20, 10);
   pins = (record { target = On (record { text = codes "CK"; bit = 0 }); inverted = false; hold = false })
       ∷ (record { target = On (record { text = codes "D"; bit = k }); inverted = false; hold = false }) ∷ [];

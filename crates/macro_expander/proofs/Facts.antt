@@ -232,5 +232,6 @@ module _ (h : Header) (names : List Name) (kind : Kind) (u : UseStatement) (plan
     pins = pins_fit k kind ins counted (named_wide names ins ins_are.wide);
     has_out = some_out kind outs k (has_output kind) one_out;
     lim = fits.limits;
+    split = tt;
     exists = record { reads = pins_exist nets k kind ins x; drives = out_exists nets k outs y };
   }

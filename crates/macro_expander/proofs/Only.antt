@@ -12,6 +12,7 @@ use Rattle.element_kinds.specs.declared.kind.Kind.{Kind}
 use Rattle.flat_circuit.specs.declared.net.Net.{Net}
 use Rattle.flat_circuit.specs.declared.instance.Pin.{Pin}
 use Rattle.flat_circuit.specs.declared.instance.Instance.{Instance}
+use Rattle.flat_circuit.specs.declared.split.Split.{Split}
 use Rattle.flat_circuit.specs.Name.{Name, name_at, AreDistinct}
 use Rattle.flat_circuit.specs.Instances.{TargetExists, PinExists, OutExists, InstanceFits, AreDrivers}
 use Rattle.flat_circuit.specs.Circuit.{Circuit, IsCircuit, net_name, net_names, driver_at}
@@ -56,23 +57,24 @@ module _ (names : List Name) (distinct : AreDistinct names) where
   same_out (Some t) (Some u) a b e = let target : where_of names t ≡ where_of names u = cc in ap Some (same_target t u a b target)
 
   instance_by : (j k : Instance) → j.path ≡ k.path → j.bit ≡ k.bit → j.kind ≡ k.kind → j.delay ≡ k.delay →
-      j.limits ≡ k.limits → j.pins ≡ k.pins → j.out ≡ k.out → j.out_inverted ≡ k.out_inverted → j.place ≡ k.place → j ≡ k
-  instance_by j k a b c d e f g h i =
+      j.split ≡ k.split → j.limits ≡ k.limits → j.pins ≡ k.pins → j.out ≡ k.out → j.out_inverted ≡ k.out_inverted → j.place ≡ k.place → j ≡ k
+  instance_by j k a b c d s e f g h i =
       ap (λ (x : List ℕ). record j { path = x }) a
       ∙ (ap (λ (x : ℕ). record j { path = k.path; bit = x }) b
       ∙ (ap (λ (x : Kind). record j { path = k.path; bit = k.bit; kind = x }) c
       ∙ (ap (λ (x : Bounds). record j { path = k.path; bit = k.bit; kind = k.kind; delay = x }) d
-      ∙ (ap (λ (x : ℕ × ℕ). record j { path = k.path; bit = k.bit; kind = k.kind; delay = k.delay; limits = x }) e
-      ∙ (ap (λ (x : List Pin). record j { path = k.path; bit = k.bit; kind = k.kind; delay = k.delay; limits = k.limits; pins = x }) f
+      ∙ (ap (λ (x : Option Split). record j { path = k.path; bit = k.bit; kind = k.kind; delay = k.delay; split = x }) s
+      ∙ (ap (λ (x : ℕ × ℕ). record k { limits = x; pins = j.pins; out = j.out; out_inverted = j.out_inverted; place = j.place }) e
+      ∙ (ap (λ (x : List Pin). record k { pins = x; out = j.out; out_inverted = j.out_inverted; place = j.place }) f
       ∙ (ap (λ (x : Option Target). record k { out = x; out_inverted = j.out_inverted; place = j.place }) g
       ∙ (ap (λ (x : Bool). record k { out_inverted = x; place = j.place }) h
-      ∙ ap (λ (x : Place). record k { place = x }) i)))))))
+      ∙ ap (λ (x : Place). record k { place = x }) i))))))))
 
   same_instance : (j k : Instance) → Exists (length names) j → Exists (length names) k → instance_of names j ≡ instance_of names k → j ≡ k
   same_instance j k a b e =
       instance_by j k
       (ap (λ (x : NamedInstance). x.path) e) (ap (λ (x : NamedInstance). x.bit) e) (ap (λ (x : NamedInstance). x.kind) e)
-      (ap (λ (x : NamedInstance). x.delay) e) (ap (λ (x : NamedInstance). x.limits) e)
+      (ap (λ (x : NamedInstance). x.delay) e) (ap (λ (x : NamedInstance). x.split) e) (ap (λ (x : NamedInstance). x.limits) e)
       (same_by (PinExists (length names)) (pin_of names) same_pin j.pins k.pins a.reads b.reads (ap (λ (x : NamedInstance). x.pins) e))
       (same_out j.out k.out a.drives b.drives (ap (λ (x : NamedInstance). x.out) e))
       (ap (λ (x : NamedInstance). x.out_inverted) e) (ap (λ (x : NamedInstance). x.place) e)

@@ -212,6 +212,7 @@ instance_at path u kind plan ins outs k = record {
   bit = k;
   kind = kind;
   delay = plan.delay;
+  split = None;
   limits = plan.limits;
   pins = pins_of kind ins k;
   out = target_of (output_at outs k);

@@ -33,6 +33,7 @@ element kind delay pins out =
       bit = 0;
       kind = kind;
       delay = delay;
+      split = None;
       limits =
           (0, 0);
       pins = pins;

@@ -29,7 +29,7 @@ abbrev not_tied : Pin
 not_tied = record { target = Constant true; inverted = true; hold = false }
 
 abbrev choice : List ℕ → Choice
-choice wires = record { delay = 0; wires = wires }
+choice wires = record { delay = 0; rise = 0; fall = 0; wires = wires }
 
 -- ---- what pins show: a wire's delay later, and what the net was at tick 0 before
 
