@@ -161,7 +161,16 @@ loop_to ws ds js n nodes h e k l =
 -- bounds that agree give the same passages
 passes_same : (w w' : ℕ → Bounds) (js : List Instance) → ((i : ℕ) → w i ≡ w' i) → (d k : ℕ) → PassesOn w js d k → PassesOn w' js d k
 passes_same w w' js e d k p =
-    record { net = p.net; drives = p.drives; at_once = p.at_once; wire_at_once = subst (λ x. x.min ≡ 0) (e p.net) p.wire_at_once; has_out = p.has_out; pin = p.pin; reads = p.reads; on_net = p.on_net }
+    record {
+      net = p.net;
+      drives = p.drives;
+      at_once = p.at_once;
+      wire_at_once = subst (λ x. x.min ≡ 0) (e p.net) p.wire_at_once;
+      has_out = p.has_out;
+      pin = p.pin;
+      reads = p.reads;
+      on_net = p.on_net;
+    }
 
 pub none_looped_by : (w w' : ℕ → Bounds) (js : List Instance) → ((i : ℕ) → w i ≡ w' i) → HoldsOfNone (IsLooped w js) js → HoldsOfNone (IsLooped w' js) js
 none_looped_by w w' js e h k l x = h k l (from_loop_map (passes_same w' w js (λ i. sym (e i))) k x)

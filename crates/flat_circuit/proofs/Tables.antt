@@ -165,7 +165,8 @@ spec-none (e ∷ es) text h = step (text_test text e.0) h (spec-none es text) wh
 pub has-told : (es : List Told) (text : List ℕ) → is_some (lookup (text_test text) es) ≡ has_text (asserted_entries es) text
 has-told [] text = refl
 has-told (e ∷ es) text = step (text_test text e.0) (has-told es text) where
-  step : (b : Bool) → is_some (lookup (text_test text) es) ≡ has_text (asserted_entries es) text → is_some (cond b (Some e.1) (lookup (text_test text) es)) ≡ (b || has_text (asserted_entries es) text)
+  step : (b : Bool) → is_some (lookup (text_test text) es) ≡ has_text (asserted_entries es) text →
+      is_some (cond b (Some e.1) (lookup (text_test text) es)) ≡ (b || has_text (asserted_entries es) text)
   step true h = refl
   step false h = h
 

@@ -64,7 +64,8 @@ stay_set start marks k m n h s i f =
     [ Here e w ↦ (λ x. n (sym w ∙ x)) | Elsewhere o w ↦ (λ x. s i f (sym w ∙ x)) ]
 
 -- a mark that is clear stays so where what is written is clear, or the place was not clear
-clear_stays : (marks : List Mark) (k : ℕ) (m : Mark) (i : ℕ) → k < length marks → (m ≡ Clear) ⊎ (mark_at marks k ≢ Clear) → mark_at marks i ≡ Clear → mark_at (set marks k m) i ≡ Clear
+clear_stays : (marks : List Mark) (k : ℕ) (m : Mark) (i : ℕ) → k < length marks → (m ≡ Clear) ⊎ (mark_at marks k ≢ Clear) →
+    mark_at marks i ≡ Clear → mark_at (set marks k m) i ≡ Clear
 clear_stays marks k m i h o c =
     elim (written marks k m i h) as (λ _. mark_at (set marks k m) i ≡ Clear) [
       | Here e w ↦ elim o as (λ _. mark_at (set marks k m) i ≡ Clear) [ inl z ↦ w ∙ z | inr z ↦ absurd (z (subst (λ x. mark_at marks x ≡ Clear) e c)) ]
@@ -104,7 +105,10 @@ marks_looped : (nodes : List Node) (marks : List Mark) (k : ℕ) → k < length 
 marks_looped nodes marks k h d a = record {
   length_marks = length-set marks k Looped ∙ a.length_marks;
   clear = λ i c. elim (written marks k Looped i h) as (λ _. IsClear (feeders_of nodes) i) [ Here e w ↦ absurd (cc) | Elsewhere n w ↦ a.clear i (sym w ∙ c) ];
-  looped = λ i c. elim (written marks k Looped i h) as (λ _. IsFedByLoop (feeders_of nodes) i) [ Here e w ↦ subst (IsFedByLoop (feeders_of nodes)) (sym e) d | Elsewhere n w ↦ a.looped i (sym w ∙ c) ];
+  looped = λ i c. elim (written marks k Looped i h) as (λ _. IsFedByLoop (feeders_of nodes) i) [
+    | Here e w ↦ subst (IsFedByLoop (feeders_of nodes)) (sym e) d
+    | Elsewhere n w ↦ a.looped i (sym w ∙ c)
+  ];
 }
 
 -- ---- the steps
@@ -158,7 +162,8 @@ step_pop nodes start marks f fs node at h s =
       stays = stay_set start marks node Clear (λ x. cc) l s.stays;
     }
 
-pub step_done : (nodes : List Node) (start marks : List Mark) (node at : ℕ) → length (feeders_of nodes node) ≤ at → Searching nodes start marks [] node at → Found nodes start (set marks node Clear)
+pub step_done : (nodes : List Node) (start marks : List Mark) (node at : ℕ) → length (feeders_of nodes node) ≤ at →
+    Searching nodes start marks [] node at → Found nodes start (set marks node Clear)
 step_done nodes start marks node at h s =
     let l : node < length marks = omega (arith, s.node_in, s.marks_are.length_marks) in
     record {
@@ -189,7 +194,10 @@ closed_found nodes start marks (f ∷ fs) a r l o s =
     closed_found nodes start (set marks f.node Looped) fs (marks_looped nodes marks f.node h (l f.node (inl refl)) a)
     (subst (λ n. FramesIn n fs) (sym (length-set marks f.node Looped)) (All-tail (λ (x : Frame). x.node < length marks) f fs r))
     (λ i p. l i (inr p))
-    (λ i x. elim (written marks f.node Looped i h) as (λ _. On i fs) [ Here y v ↦ absurd (cc) | Elsewhere y v ↦ elim (o i (sym v ∙ x)) as (λ _. On i fs) [ inl z ↦ absurd (y z) | inr z ↦ z ] ])
+    (λ i x. elim (written marks f.node Looped i h) as (λ _. On i fs) [
+      | Here y v ↦ absurd (cc)
+      | Elsewhere y v ↦ elim (o i (sym v ∙ x)) as (λ _. On i fs) [ inl z ↦ absurd (y z) | inr z ↦ z ]
+    ])
     (stay_set start marks f.node Looped (λ x. cc) h s)
 
 by_mark : (nodes : List Node) (start marks : List Mark) (fs : List Frame) (node at pin : ℕ) (m : Mark) → mark_at marks pin ≡ m →

@@ -41,7 +41,8 @@ impl Model for Builder {
 
     ghost view = { λ b. built b.header b.nets b.assertions b.instances };
 
-    ghost invariant = { λ b. IsBuilt (built b.header b.nets b.assertions b.instances) × AreCounts b.instances b.outputs b.checkers b.pins };
+    ghost invariant = { λ b. IsBuilt (built b.header b.nets b.assertions b.instances)
+        × AreCounts b.instances b.outputs b.checkers b.pins };
 }
 
 impl Builder {

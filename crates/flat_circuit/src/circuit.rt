@@ -36,7 +36,9 @@ impl Model for Circuit {
 
     ghost view = { λ c. record { header = c.header; nets = c.nets; instances = c.instances; order = c.order.items } };
 
-    ghost invariant = { λ c. IsCircuit (record { header = c.header; nets = c.nets; instances = c.instances; order = c.order.items }) × (map (λ r. r.items) c.readers.items ≡ map (readers_of c.instances) (range_with_len 0 (length c.nets))) };
+    ghost invariant = { λ c.
+        IsCircuit (record { header = c.header; nets = c.nets; instances = c.instances; order = c.order.items })
+        × (map (λ r. r.items) c.readers.items ≡ map (readers_of c.instances) (range_with_len 0 (length c.nets))) };
 }
 
 impl Circuit {
@@ -106,7 +108,8 @@ impl Circuit {
     /// there is none.
     pub fn find(&self, name: &[u8], bit: u16) -> Option<u32>
         ensures { let wanted : Name = record { text = name.now; bit = bit } in MatchOption result
-            ((i : ℕ) → ¬ (IsNumber (net_names self.now.nets) wanted i)) (IsNumber (net_names self.now.nets) wanted) }
+            ((i : ℕ) → ¬ (IsNumber (net_names self.now.nets) wanted i))
+            (IsNumber (net_names self.now.nets) wanted) }
     {
         let nets = self.nets.as_slice();
         match self
@@ -121,7 +124,8 @@ impl Circuit {
 
 // Where one name stands against another.
 fn order_of_names(text: &[u8], bit: u16, other: &[u8], other_bit: u16) -> Ordering
-    ensures { result ≡ name_cmp (record { text = text.now; bit = bit }) (record { text = other.now; bit = other_bit }) }
+    ensures { result ≡ name_cmp (record { text = text.now; bit = bit })
+        (record { text = other.now; bit = other_bit }) }
 {
     text.cmp(other).then(bit.cmp(&other_bit))
 }

@@ -44,7 +44,8 @@ fn note_instance(rows: &mut Vec<Vec<u32>>, instance: &Instance, k: u32) -> Resul
     requires { InstanceExists (length rows.old.items) instance.now }
     ensures long { OnOk result (length rows.new.items ≡ length rows.old.items) }
     ensures told { OnOk result
-        ((i : ℕ) → row_at (rows_of rows.new.items) i ≡ told_by instance.now i k (row_at (rows_of rows.old.items) i)) }
+        ((i : ℕ) → row_at (rows_of rows.new.items) i
+        ≡ told_by instance.now i k (row_at (rows_of rows.old.items) i)) }
 {
     if instance.out.is_some() {
         note_pins(rows, instance.kind, instance.pins.as_slice(), k)
