@@ -1,6 +1,8 @@
 //! What checkers and assertions find.
 
-use scald_base::List;
+ghost use Rattle.std.specs.Prelude.{◌≡◌, ◌++◌, OnOk};
+
+use scald_base::{List, NoMemory};
 
 /// On which side of an edge an input is not quiet.
 #[derive(Clone, Copy, PartialEq, Eq, Debug)]
@@ -48,3 +50,13 @@ pub enum Fault {
 
 /// Faults, in the order of the report.
 pub type Faults = List<Fault>;
+
+/// Appends more faults. Where memory runs out, only some of them may have been appended.
+pub fn append_faults(faults: &mut Faults, more: &Faults) -> Result<(), NoMemory>
+    ensures { OnOk result (faults.new ≡ faults.old ++ more.now) }
+{
+    for fault in more.as_slice() {
+        faults.push(*fault)?;
+    }
+    Ok(())
+}

@@ -10,22 +10,12 @@ ghost use Rattle.pulse_check.specs.Sound.{KeepsWidths};
 use crate::before::{Before, faults_before};
 use crate::checker::add_checker_faults;
 use crate::known::PulseFaults;
-use flat_circuit::{Circuit, Faults};
+use flat_circuit::{Circuit, Faults, append_faults};
 use net_waves::Waves;
 use scald_base::NoMemory;
 use std::alloc::Global;
 use step_values::Value;
 use wave_core::CyclicWave;
-
-/// Appends more faults.
-fn add_all(faults: &mut Faults, more: &Faults) -> Result<(), NoMemory>
-    ensures { OnOk result (faults.new ≡ faults.old ++ more.now) }
-{
-    for fault in more.as_slice() {
-        faults.push(*fault)?;
-    }
-    Ok(())
-}
 
 /// Appends the faults of the instance of a number. Where they are known from before it is not checked
 /// again.
@@ -44,7 +34,7 @@ pub fn add_faults<W: CyclicWave<Item = Value>>(
 {
     if let Some(before) = before {
         if let Some(found) = faults_before(c, before, waves, number) {
-            return add_all(faults, found);
+            return append_faults(faults, found);
         }
     }
     c.known();

@@ -10,7 +10,7 @@ ghost use Rattle.timing_analysis.specs.Case.{faults_of};
 ghost use Rattle.timing_analysis.specs.Known.{IsKnown};
 ghost use Rattle.timing_analysis.specs.Promise.{KeepsFaultless};
 
-use flat_circuit::{Circuit, Faults};
+use flat_circuit::{Circuit, Faults, append_faults};
 use net_waves::Waves;
 use point_check::{PointFaults, check_points, check_points_again, known_points};
 use pulse_check::{PulseFaults, check_pulses, check_pulses_again, known_pulses};
@@ -24,16 +24,6 @@ use wave_core::CyclicWave;
 pub struct KnownFaults {
     pub points: PointFaults,
     pub pulses: PulseFaults,
-}
-
-/// Appends more faults.
-fn add_all(faults: &mut Faults, more: &Faults) -> Result<(), NoMemory>
-    ensures { OnOk result (faults.new ≡ faults.old ++ more.now) }
-{
-    for fault in more.as_slice() {
-        faults.push(*fault)?;
-    }
-    Ok(())
 }
 
 /// The faults that the settled waves of all nets show: about the edges of clocks, at marked pins and of
@@ -56,7 +46,7 @@ pub fn faults<W: CyclicWave<Item = Value>>(
     circuit.header().known();
     let mut faults = check_points(alloc, circuit, waves)?;
     let pulses = check_pulses(alloc, circuit, waves)?;
-    add_all(&mut faults, &pulses)?;
+    append_faults(&mut faults, &pulses)?;
     Ok(faults)
 }
 
@@ -96,6 +86,6 @@ pub fn faults_again<W: CyclicWave<Item = Value>>(
     circuit.header().known();
     let mut faults = check_points_again(alloc, circuit, before, &known.points, waves)?;
     let pulses = check_pulses_again(alloc, circuit, before, &known.pulses, waves)?;
-    add_all(&mut faults, &pulses)?;
+    append_faults(&mut faults, &pulses)?;
     Ok(faults)
 }

@@ -20,5 +20,5 @@ returns-else-checks_pulses g c =
 
 pub returns-in-Some-faults_before : goal.returns-in-Some-faults_before
 returns-in-Some-faults_before g c =
-    subst (λ (l : List Fault). OnOk c.add_all.result (c.add_all.new.faults ≡ c.args.faults.now ++ l))
-    c.in-Some-faults_before.ensures c.add_all.ensures
+    subst (λ (l : List Fault). OnOk c.append_faults.result (c.append_faults.new.faults ≡ c.args.faults.now ++ l))
+    c.in-Some-faults_before.ensures c.append_faults.ensures
