@@ -55,6 +55,9 @@ wire_labels scope w = ap (statement_labels scope) (view_wire w)
 pub choice_labels : (scope : ℕ) (s : IfStmt) → statement_labels scope (statement_of (stmt.If s)) ≡ statement_labels scope (if_of s)
 choice_labels scope s = ap (statement_labels scope) (view_choice s)
 
+-- the labels of a statement, by its kind
+pub ruleset labels_by_kind = (use_labels, wire_labels, choice_labels)
+
 pub if_labels : (scope : ℕ) (s : IfStmt) → statement_labels scope (if_of s) ≡ labels scope (statements_of s.yes.items) ++ else_labels scope (else_of s.no)
 unfolding statement_labels
 if_labels scope s = ap (statement_labels scope) (view_if s)

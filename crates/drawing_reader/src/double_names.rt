@@ -127,7 +127,7 @@ impl<'a> Declarations<'a> {
 
     /// Takes the label of a use, or those inside of an IF.
     #[cycle(labels)]
-    #[tactic(auto, using(crate::proofs::Labels::use_labels, crate::proofs::Labels::wire_labels, crate::proofs::Labels::choice_labels))]
+    #[tactic(auto, using(crate::proofs::Labels::labels_by_kind))]
     fn statement(&mut self, scope: usize, statement: &'a Stmt) -> Result<(), Stop>
         ensures { MatchResult result (λ _.
             Declares self.old self.new (statement_labels scope (statement_of statement.now)))
