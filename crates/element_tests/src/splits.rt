@@ -48,10 +48,26 @@ const TWO_PULSES: Stretches = &[
     (Zero, 5),
 ];
 
+/// A pulse of five ticks, and one of a tick that begins where it ends.
+const NEXT_TO_IT: Stretches = &[
+    (Zero, 1),
+    (R, 1),
+    (One, 4),
+    (F, 1),
+    (R, 1),
+    (F, 1),
+    (Zero, 7),
+];
+
 /// Quiet while the pulse may be high, and only at its beginning.
 const QUIET_LONG: Stretches = &[(C, 1), (S, 11), (C, 4)];
 
 const QUIET_SHORT: Stretches = &[(C, 1), (S, 3), (C, 12)];
+
+/// A pulse of three ticks, and what is quiet while it is high.
+const SHORT_PULSE: Stretches = &[(Zero, 2), (R, 1), (One, 2), (F, 1), (Zero, 10)];
+
+const QUIET_AT_IT: Stretches = &[(C, 2), (Zero, 1), (S, 2), (Zero, 1), (C, 10)];
 
 const ZERO: PinRow = Free(&[(Zero, 16)], 0);
 
@@ -62,7 +78,7 @@ const STABLE: PinRow = Free(&[(S, 16)], 0);
 const SHOWN: PinRow = Free(PULSE, 1);
 
 /// Of one pin: which pulses stay, where their edges lie, and what becomes of a skew.
-const BUFFERS: [SplitRow; 11] = [
+const BUFFERS: [SplitRow; 15] = [
     (
         "each edge has the window of its own delay",
         Kind::Buf,
@@ -92,7 +108,7 @@ const BUFFERS: [SplitRow; 11] = [
         (&[(One, 16)], 0),
     ),
     (
-        "the first pulse may last a tick, and the second stays",
+        "of a pulse that is too short an S is left, and the longer one stays",
         Kind::Buf,
         ((4, 4), (1, 1)),
         &[Free(TWO_PULSES, 0)],
@@ -100,6 +116,38 @@ const BUFFERS: [SplitRow; 11] = [
             &[(Zero, 7), (S, 1), (Zero, 2), (R, 1), (F, 1), (Zero, 4)],
             0,
         ),
+    ),
+    (
+        "a pulse that ends where one begins that is swallowed",
+        Kind::Buf,
+        ((4, 4), (1, 1)),
+        &[Free(NEXT_TO_IT, 0)],
+        (
+            &[
+                (Zero, 5),
+                (R, 1),
+                (One, 1),
+                (F, 1),
+                (S, 1),
+                (F, 1),
+                (Zero, 6),
+            ],
+            0,
+        ),
+    ),
+    (
+        "a least rise delay that is the greatest fall delay",
+        Kind::Buf,
+        ((2, 3), (1, 2)),
+        &[Free(PULSE, 0)],
+        (&[(Zero, 4), (R, 2), (One, 3), (F, 2), (Zero, 5)], 0),
+    ),
+    (
+        "a least fall delay that is the greatest rise delay",
+        Kind::Buf,
+        ((1, 2), (2, 3)),
+        &[Free(PULSE, 0)],
+        (&[(Zero, 3), (R, 2), (One, 5), (F, 2), (Zero, 4)], 0),
     ),
     (
         "windows that meet",
@@ -154,16 +202,30 @@ const BUFFERS: [SplitRow; 11] = [
         &[Free(&[(U, 16)], 0)],
         (&[(U, 16)], 0),
     ),
+    (
+        "what is unknown between the two windows",
+        Kind::Buf,
+        ((1, 1), (4, 4)),
+        &[Free(&[(C, 3), (U, 1), (C, 4)], 0)],
+        (&[(C, 4), (U, 4)], 0),
+    ),
 ];
 
 /// The other kinds.
-const GATES: [SplitRow; 8] = [
+const GATES: [SplitRow; 9] = [
     (
         "an AND",
         Kind::And,
         ((4, 4), (1, 2)),
         &[ONE, Free(PULSE, 0), STABLE],
         (&[(Zero, 6), (R, 1), (S, 2), (F, 2), (Zero, 5)], 0),
+    ),
+    (
+        "an image that never changes, of which each slot counts",
+        Kind::And,
+        ((2, 2), (0, 0)),
+        &[Free(SHORT_PULSE, 0), Free(QUIET_AT_IT, 0)],
+        (&[(Zero, 16)], 0),
     ),
     (
         "an OR",

@@ -27,7 +27,7 @@ module _ (s : Split) (cells : List Value) (p : ℕ) (rise : s.rise.min ≤ s.ris
   abbrev at_fall : Value
   at_fall = earlier values cells p s.fall.min
 
-  -- some slot that either delay reaches ends in the bit
+  -- some slot from the greatest to the least of both delays before ends in the bit
   by-rise : (bit : Bool) → ends_in bit at_rise ≡ true → some_before (ends_in bit) cells (either_delay s) p ≡ true
   by-rise bit h = before-from (ends_in bit) cells (either_delay s) p s.rise.min (omega arith) (omega arith) h
 

@@ -36,9 +36,9 @@ may_rise v = has v false true
 abbrev pub may_fall : Value → Bool
 may_fall v = has v true false
 
--- In slot p the output may be at this bit: some slot that either delay reaches ends in it. Where the
--- delay to the bit is the longer one whatever both are, some slot that the rise delay reaches and some
--- slot that the fall delay reaches do.
+-- In slot p the output may be at this bit: some slot from the greatest to the least of both delays
+-- before ends in it. Where the delay to the bit is at least the other one whatever both are, some slot
+-- that the rise delay reaches and some slot that the fall delay reaches do.
 abbrev pub may_be : Bool → Bool → Split → List Value → ℕ → Bool
 may_be bit is_longer s cells p =
     if is_longer

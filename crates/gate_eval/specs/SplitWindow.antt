@@ -1,5 +1,6 @@
--- How the slots of two delays are found: by what the slots that either delay reaches may hold together,
--- and those that the rise delay and the fall delay reach, in a slot and in the slot before.
+-- How the slots of two delays are found: by what the slots from the greatest to the least of both delays
+-- before may hold together, and those that the rise delay and the fall delay reach, in a slot and in the
+-- slot before.
 use Rattle.std.specs.Prelude.{nat_le, Bool, true, false, ◌&&◌, if◌then◌else◌, List, [], ◌∷◌}
 use Rattle.step_values.specs.declared.value.Value.{Value}
 use Rattle.step_values.specs.declared.value.Value.TheVariants.{U}

@@ -17,7 +17,7 @@ use flat_circuit::{Kind, Split};
 use scald_base::NoMemory;
 use skew_algebra::Skewed;
 use std::alloc::Global;
-use step_values::{Step, Value};
+use step_values::{Step, StepSet, Value, cover};
 use wave_core::CyclicWave;
 
 /// Whether a value permits a step that ends in this bit.
@@ -33,8 +33,8 @@ fn ends_in(bit: bool, v: Value) -> bool
     })
 }
 
-/// Whether the output may be 1, by what the slots may hold that either delay, the rise delay and the
-/// fall delay reach.
+/// Whether the output may be 1, by what the slots may hold from the greatest to the least of both delays
+/// before, those that the rise delay reaches, and those that the fall delay reaches.
 fn one_seen(s: &Split, either: Value, rise: Value, fall: Value) -> bool
     ensures { result ≡ one s.now either rise fall }
 {
@@ -57,23 +57,21 @@ fn zero_seen(s: &Split, either: Value, rise: Value, fall: Value) -> bool
 }
 
 /// The least value that permits the steps that are named true: U where all are, and something is
-/// unknown.
+/// unknown. Where none is, which no wave brings about, it is 1.
 fn covering(low: bool, rises: bool, falls: bool, high: bool, unknown: bool) -> Value
     ensures { result ≡ cover_of low rises falls high unknown }
 {
-    match (rises, falls) {
-        (true, true) if low && high && unknown => Value::U,
-        (true, true) => Value::C,
-        (true, false) => Value::R,
-        (false, true) => Value::F,
-        (false, false) if low && high => Value::S,
-        (false, false) if low => Value::Zero,
-        (false, false) => Value::One,
+    let steps = StepSet::of(low, rises, falls, high);
+    if steps.is_empty() {
+        Value::One
+    } else {
+        cover(steps, unknown)
     }
 }
 
-/// What the output may do in a slot, by what the slots may hold that either delay, the rise delay and
-/// the fall delay reach: first of this slot, and then of the slot before.
+/// What the output may do in a slot, by what the slots may hold from the greatest to the least of both
+/// delays before, those that the rise delay reaches, and those that the fall delay reaches: first of this
+/// slot, and then of the slot before.
 impl Image for Split {
     ghost value_of = { λ split found. split_of split found };
 
