@@ -4,7 +4,7 @@ use Rattle.std.proofs.Common.{◌≡◌, ℕ, List, [], ◌∷◌, refl}
 use Rattle.scald_base.specs.Clock.{back}
 use Rattle.wave_core.specs.Slots.{earlier}
 use Rattle.step_values.specs.declared.value.Value.{Value}
-use Rattle.step_values.specs.declared.value.Value.TheVariants.{Zero, One, R, F, U}
+use Rattle.step_values.specs.declared.value.Value.TheVariants.{Zero, One, S, C, R, F, U}
 use Rattle.skew_algebra.specs.Wave.{skewed}
 use Rattle.flat_circuit.specs.declared.split.Split.{Split}
 use Rattle.flat_circuit.proofs.RunTables.{bounds}
@@ -51,6 +51,21 @@ either_way : late_by_two (skewed pulse 0) (delays 0 2 0 2) ≡ skewed (Zero ∷ 
 unfolding earlier back
 either_way = refl
 
+-- the least rise delay is the greatest fall delay, and so is never the shorter one; and the reverse
+rise_at_least : late_by_two (skewed pulse 0) (delays 2 3 1 2) ≡ skewed (Zero ∷ Zero ∷ Zero ∷ Zero ∷ R ∷ R ∷ F ∷ F ∷ []) 0
+unfolding earlier back
+rise_at_least = refl
+
+fall_at_least : late_by_two (skewed pulse 0) (delays 1 2 2 3) ≡ skewed (F ∷ Zero ∷ Zero ∷ R ∷ R ∷ One ∷ One ∷ F ∷ []) 0
+unfolding earlier back
+fall_at_least = refl
+
+-- each slot of an image that never changes counts by itself: it is 1 in two slots at most, one after the other
+steady : late_by_two (skewed (Zero ∷ Zero ∷ S ∷ S ∷ Zero ∷ Zero ∷ Zero ∷ Zero ∷ []) 0) (delays 2 2 0 0)
+    ≡ skewed (Zero ∷ Zero ∷ Zero ∷ Zero ∷ Zero ∷ Zero ∷ Zero ∷ Zero ∷ []) 0
+unfolding earlier back
+steady = refl
+
 -- the skew stays beside the slots
 keeps_its_skew : late_by_two (skewed pulse 3) (delays 2 2 1 1) ≡ skewed (Zero ∷ Zero ∷ Zero ∷ Zero ∷ R ∷ One ∷ F ∷ Zero ∷ []) 3
 unfolding earlier back
@@ -60,6 +75,12 @@ keeps_its_skew = refl
 unknown : late_by_two (skewed (U ∷ U ∷ []) 0) (delays 1 2 0 0) ≡ skewed (U ∷ U ∷ []) 0
 unfolding earlier back
 unknown = refl
+
+-- an unknown slot that lies between those of the rise and those of the fall counts too
+unknown_between : late_by_two (skewed (C ∷ C ∷ C ∷ U ∷ C ∷ C ∷ C ∷ C ∷ []) 0) (delays 1 1 4 4)
+    ≡ skewed (C ∷ C ∷ C ∷ C ∷ U ∷ U ∷ U ∷ U ∷ []) 0
+unfolding earlier back
+unknown_between = refl
 
 known_again : late_by_two (skewed (Zero ∷ Zero ∷ U ∷ One ∷ One ∷ One ∷ One ∷ One ∷ []) 0) (delays 1 1 0 0)
     ≡ skewed (Zero ∷ Zero ∷ Zero ∷ R ∷ One ∷ One ∷ One ∷ One ∷ []) 0
