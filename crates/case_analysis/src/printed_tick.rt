@@ -39,7 +39,7 @@ fn greatest_wire(c: &Circuit, pins: &[Pin]) -> u16
 }
 
 /// How many ticks an instance looks back, at most: by its own delay, which a checker has not, and by
-/// the wires to its pins.
+/// the wires to its pins. With two delays it is the greatest of both, at which `delay` ends.
 fn looks_back(c: &Circuit, instance: &Instance) -> u32
     ensures is { result ≡ greatest_delay instance.now + greatest_wire c.now.nets instance.now.pins }
     ensures bounded { result ≤ 8190 }

@@ -7,6 +7,7 @@ use Rattle.scald_base.specs.Time.{Header}
 use Rattle.scald_base.specs.declared.assertion.AssertSpec.{AssertSpec}
 use Rattle.scald_base.specs.declared.assertion.AssertSpec.TheVariants.{None as Unasserted, Precision, Stable}
 use Rattle.scald_base.specs.declared.refusal.RefusalKind.TheVariants.{ZeroLoop}
+use Rattle.vector_names.specs.declared.bits.Target.{Target}
 use Rattle.vector_names.specs.declared.bits.Target.TheVariants.{Net as OnNet}
 use Rattle.step_values.specs.declared.value.Value.{Value}
 use Rattle.step_values.specs.declared.value.Value.TheVariants.{Zero, One, S, C, R, F}
@@ -41,13 +42,26 @@ clocked = Precision (record { spans = record { lo = 2; hi = 3 } ∷ []; skew = N
 abbrev quiet : AssertSpec
 quiet = Stable (record { lo = 1; hi = 4 } ∷ [])
 
+abbrev made : List ℕ → Kind → Option Target → Instance
+made label kind out =
+    record {
+      path = label;
+      bit = 0;
+      kind = kind;
+      delay = record { min = 0; max = 0 };
+      split = None;
+      limits = (0, 0);
+      pins = [];
+      out = out;
+      out_inverted = false;
+      place = record { line = 4; col = 1 };
+    }
+
 abbrev element : List ℕ → Kind → ℕ → Instance
-element label kind out =
-    record { path = label; bit = 0; kind = kind; delay = record { min = 0; max = 0 }; split = None; limits = (0, 0); pins = []; out = Some (OnNet out); out_inverted = false; place = record { line = 4; col = 1 } }
+element label kind out = made label kind (Some (OnNet out))
 
 abbrev checker : List ℕ → Kind → Instance
-checker label kind =
-    record { path = label; bit = 0; kind = kind; delay = record { min = 0; max = 0 }; split = None; limits = (0, 0); pins = []; out = None; out_inverted = false; place = record { line = 4; col = 1 } }
+checker label kind = made label kind None
 
 abbrev circuit : List Net → List Instance → List ℕ → Circuit
 circuit nets instances order = record { header = header; nets = nets; instances = instances; order = order }
@@ -108,7 +122,8 @@ abbrev late_pulse : ℕ → Wave Value
 late_pulse = waves_of (skewed clock_cells 0 ∷ skewed (replicate 110 Zero ++ R ∷ (replicate 49 One ++ F ∷ replicate 239 Zero)) 20 ∷ [])
 
 pub narrow_pulse : head pulsed ++ case_lines pulsed Full 0 1 0 62 late_pulse (Width 1 true 110 50 ∷ [])
-    ≡ codes "SCALD 1 PERIOD 400\nNETS 2 INSTANCES 1 CHECKS 1\nCASE 0 BASE 1 ROUNDS 0 T 62\nWAVE CK<0> SKEW 0 0:100 R:1 1:49 F:1 0:249\nWAVE X<0> SKEW 20 0:110 R:1 1:49 F:1 0:239\nFAULT WIDTH w1<0> HIGH FROM 110 WIDTH 50\n"
+    ≡ codes "SCALD 1 PERIOD 400\nNETS 2 INSTANCES 1 CHECKS 1\nCASE 0 BASE 1 ROUNDS 0 T 62\n"
+    ++ codes "WAVE CK<0> SKEW 0 0:100 R:1 1:49 F:1 0:249\nWAVE X<0> SKEW 20 0:110 R:1 1:49 F:1 0:239\nFAULT WIDTH w1<0> HIGH FROM 110 WIDTH 50\n"
 unfolding digits period_line counts_line stable_line case_line wave_line fault_line
 narrow_pulse = refl
 

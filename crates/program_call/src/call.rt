@@ -37,7 +37,8 @@ pub fn main_call<P: Program, S: Source, K: Sink>(
     ensures whole { (text : List ℕ) → AreTold P.meaning words.now (S.left source.old) text →
         (asks P.meaning words.now ≡ true → ¬ Rose (S.faults source.old) (S.faults source.new)) →
         ¬ Rose (K.faults sink.old) (K.faults sink.new) →
-        (result ≡ P.meaning.ended CallEnd.NoMemory) ⊎ IsAnswered P.meaning words.now text result (K.taken sink.old) (K.taken sink.new) }
+        (result ≡ P.meaning.ended CallEnd.NoMemory)
+        ⊎ IsAnswered P.meaning words.now text result (K.taken sink.old) (K.taken sink.new) }
 
     // Whatever the devices did, an outcome that speaks of the text comes only where it is the text's
     // own, all of the text was read, and all of the answer was written, where the sink tells what it

@@ -38,14 +38,17 @@ pub fn tool_main<S: Source, K: Sink>(
     // Told bytes and no fault of a device that is used: the answer that the words and the bytes have,
     // with exactly its bytes, or no memory.
     ensures whole { (text : List ℕ) → AreTold words.now (S.left source.old) text →
-        (are_reading (command_of words.now) ≡ true → ¬ Rose (S.faults source.old) (S.faults source.new)) → ¬ Rose (K.faults sink.old) (K.faults sink.new) →
+        (are_reading (command_of words.now) ≡ true → ¬ Rose (S.faults source.old) (S.faults source.new)) →
+        ¬ Rose (K.faults sink.old) (K.faults sink.new) →
         (result ≡ Outcome.NoMemory) ⊎ IsAnswered words.now text result (K.taken sink.old) (K.taken sink.new) }
 
     // The same where the words are of a form and the text passes every stage of it: the answer is the
     // report, or what else was asked for.
     ensures finished { (text : List ℕ) → AreTold words.now (S.left source.old) text →
-        (are_reading (command_of words.now) ≡ true → ¬ Rose (S.faults source.old) (S.faults source.new)) → ¬ Rose (K.faults sink.old) (K.faults sink.new) →
-        AsksWell words.now text → (result ≡ Outcome.NoMemory) ⊎ IsFinished words.now text result (K.taken sink.old) (K.taken sink.new) }
+        (are_reading (command_of words.now) ≡ true → ¬ Rose (S.faults source.old) (S.faults source.new)) →
+        ¬ Rose (K.faults sink.old) (K.faults sink.new) →
+        AsksWell words.now text →
+        (result ≡ Outcome.NoMemory) ⊎ IsFinished words.now text result (K.taken sink.old) (K.taken sink.new) }
 
     // Whatever the devices did, an outcome that speaks of the text comes only where it is the text's
     // own, all of the text was read, and all of the answer was written, where the sink tells what it
