@@ -18,7 +18,7 @@ const LATE: &[&[u8]] = &[
 ];
 
 /// What `verify` answers to texts with faults.
-const REPORTS: [Row; 12] = [
+const REPORTS: [Row; 13] = [
     Row {
         name: "one fault",
         words: FULL,
@@ -200,6 +200,25 @@ w1 : MIN_PULSE_CHK {HIGH=51} ("X");"#,
 NETS 2 INSTANCES 1 CHECKS 1
 CASE 0 BASE 1 ROUNDS 0 T 62
 FAULT WIDTH w1<0> HIGH FROM 110 WIDTH 50
+FAULTS 1
+",
+    },
+    Row {
+        name: "a narrow pulse of a gate with two delays",
+        words: FULL,
+        text: &[
+            FRAME,
+            br#"b1 : BUF [2:4, 6:8] ("CK .P2-3") -> ("X");
+w1 : MIN_PULSE_CHK {HIGH=53} ("X");"#,
+            END,
+        ],
+        outcome: Outcome::Faulty(1),
+        bytes: b"SCALD 1 PERIOD 400
+NETS 2 INSTANCES 1 CHECKS 1
+CASE 0 BASE 1 ROUNDS 0 T 18
+WAVE CK<0> SKEW 0 0:100 R:1 1:49 F:1 0:249
+WAVE X<0> SKEW 0 0:102 R:3 1:51 F:3 0:241
+FAULT WIDTH w1<0> HIGH FROM 104 WIDTH 52
 FAULTS 1
 ",
     },

@@ -116,7 +116,7 @@ b1 : BUF [0:0] ("B") -> ("Y");"#,
 ];
 
 /// What is refused in expansion, for its circuit or for its cases.
-const LATE: [Row; 15] = [
+const LATE: [Row; 23] = [
     (
         "REFUSED 6 UnknownKind 4:1\n",
         RefusalKind::UnknownKind,
@@ -190,6 +190,61 @@ const LATE: [Row; 15] = [
         ],
     ),
     (
+        "REFUSED 14 Bounds 4:1\n",
+        RefusalKind::Bounds,
+        (4, 1),
+        &[FRAME, br#"b1 : BUF [0:256, 0:0] ("A") -> ("X");"#, END],
+    ),
+    (
+        "REFUSED 14 Bounds 4:1\n",
+        RefusalKind::Bounds,
+        (4, 1),
+        &[FRAME, br#"b1 : BUF [0:0, 0:256] ("A") -> ("X");"#, END],
+    ),
+    (
+        "REFUSED 14 Bounds 4:1\n",
+        RefusalKind::Bounds,
+        (4, 1),
+        &[FRAME, br#"r1 : REG [1:2, 1:2] ("CK", "D") -> ("Q");"#, END],
+    ),
+    // the kind before the expressions, and these before their bounds
+    (
+        "REFUSED 14 Bounds 4:1\n",
+        RefusalKind::Bounds,
+        (4, 1),
+        &[
+            FRAME,
+            br#"r1 : REG [1:2, 1:1/0] ("CK", "D") -> ("Q");"#,
+            END,
+        ],
+    ),
+    (
+        "REFUSED 21 ZeroDivisor 4:1\n",
+        RefusalKind::ZeroDivisor,
+        (4, 1),
+        &[FRAME, br#"b1 : BUF [0:256, 0:1/0] ("A") -> ("X");"#, END],
+    ),
+    (
+        "REFUSED 22 UnknownName 4:1\n",
+        RefusalKind::UnknownName,
+        (4, 1),
+        &[FRAME, br#"b1 : BUF [0:0, 0:N] ("A") -> ("X");"#, END],
+    ),
+    (
+        "REFUSED 14 Bounds 7:1\n",
+        RefusalKind::Bounds,
+        (7, 1),
+        &[
+            HEAD,
+            br#"MACRO M ("A") -> ("Z");
+b : BUF [0:0] ("A") -> ("Z");
+END;
+DRAWING ROW;
+m1 : M [1:2, 1:2] ("A") -> ("X");"#,
+            END,
+        ],
+    ),
+    (
         "REFUSED 15 TooDeep 4:1\n",
         RefusalKind::TooDeep,
         (4, 1),
@@ -241,6 +296,12 @@ b2 : BUF [0:0] ("B") -> ("X");"#,
 a1 : AND [0:0] ("CK .P2-3", "X") -> ("Y");"#,
             END,
         ],
+    ),
+    (
+        "REFUSED 18 ZeroLoop 4:1\n",
+        RefusalKind::ZeroLoop,
+        (4, 1),
+        &[FRAME, br#"b1 : BUF [0:5, 3:3] ("X") -> ("X");"#, END],
     ),
     (
         "REFUSED 19 CaseNet 6:6\n",

@@ -19,6 +19,20 @@ const PULSE: Row = (
     b"SCALD 1 PERIOD 400\nNETS 2 INSTANCES 1 CHECKS 1\nCASE 0 BASE 1 ROUNDS 0 T 62\nWAVE CK<0> SKEW 0 0:100 R:1 1:49 F:1 0:249\nWAVE X<0> SKEW 20 0:110 R:1 1:49 F:1 0:239\nCLEAN\n",
 );
 
+/// A pulse that grows, since its fall takes longer than its rise.
+const GROWN: Row = (
+    b"SCALD 1;\nCLOCK 8 x 50;\nDRAWING ROW;\nb1 : BUF [2:4, 6:8] (\"CK .P2-3\") -> (\"X\");\nw1 : MIN_PULSE_CHK {HIGH=52} (\"X\");\nEND;\n",
+    Mode::Full,
+    b"SCALD 1 PERIOD 400\nNETS 2 INSTANCES 1 CHECKS 1\nCASE 0 BASE 1 ROUNDS 0 T 18\nWAVE CK<0> SKEW 0 0:100 R:1 1:49 F:1 0:249\nWAVE X<0> SKEW 0 0:102 R:3 1:51 F:3 0:241\nCLEAN\n",
+);
+
+/// A pulse of 50 ticks that is swallowed, since its rise takes 51 ticks longer than its fall.
+const SWALLOWED: Row = (
+    b"SCALD 1;\nCLOCK 8 x 50;\nDRAWING ROW;\nb1 : BUF [61:61, 10:10] (\"CK .P2-3\") -> (\"X\");\nEND;\n",
+    Mode::Full,
+    b"SCALD 1 PERIOD 400\nNETS 2 INSTANCES 1 CHECKS 0\nCASE 0 BASE 1 ROUNDS 0 T 124\nWAVE CK<0> SKEW 0 0:100 R:1 1:49 F:1 0:249\nWAVE X<0> SKEW 0 0:400\nCLEAN\n",
+);
+
 /// Two pins that move.
 const MOVERS: Row = (
     b"SCALD 1;\nCLOCK 8 x 50;\nDRAWING ROW;\nb1 : BUF [10:30] (\"CK .P2-3\") -> (\"X\");\nb2 : BUF [10:30] (\"CK\") -> (\"Y\");\na1 : AND [0:0] (\"X\", \"Y\") -> (\"Z\");\nEND;\n",
@@ -64,6 +78,8 @@ fn is_reported(rt: &(impl Abort + AllocGlobal), name: &str, (text, mode, report)
 #[test]
 fn waves_of_slots_and_of_runs(rt: HostRuntime) {
     is_reported(&rt, "a pulse", PULSE);
+    is_reported(&rt, "a pulse that grows", GROWN);
+    is_reported(&rt, "a pulse that is swallowed", SWALLOWED);
     is_reported(&rt, "two movers", MOVERS);
     is_reported(&rt, "two choices", CHOICES);
     is_reported(&rt, "late", LATE);

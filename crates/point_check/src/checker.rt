@@ -18,20 +18,26 @@ use std::alloc::Global;
 use step_values::Value;
 use wave_core::CyclicWave;
 
+/// What a checker asks of its input: by its kind and its number, and its setup and hold times, in ticks.
+#[derive(Clone, Copy)]
+struct Constraint {
+    kind: Kind,
+    instance: u32,
+    limits: (u16, u16),
+}
+
 /// The fault of a checker by the waves at its clock and its input.
 fn fault_between<W: CyclicWave<Item = Value>>(
     alloc: Global,
     folds: &mut Folds<W>,
-    kind: Kind,
-    instance: u32,
+    asked: Constraint,
     clock: &Skewed<W>,
     input: &Skewed<W>,
-    limits: (u16, u16),
 ) -> Result<Option<Fault>, NoMemory>
-    requires limits { limits.0 + limits.1 ≤ length clock.now.cells }
+    requires limits { asked.limits.0 + asked.limits.1 ≤ length clock.now.cells }
     requires periods { length input.now.cells ≡ length clock.now.cells }
-    ensures { IfOk result (λ found.
-        found ≡ fault_of_checker kind (length clock.now.cells) instance clock.now input.now limits) }
+    ensures { IfOk result (λ found. found ≡ fault_of_checker asked.kind (length clock.now.cells)
+        asked.instance clock.now input.now asked.limits) }
 {
     clock.known();
     input.known();
@@ -40,40 +46,35 @@ fn fault_between<W: CyclicWave<Item = Value>>(
     }
     let clock_folds = folds.clocks.of(alloc, clock)?;
     let input_folds = folds.inputs.of(alloc, input)?;
+    let Constraint {
+        kind,
+        instance,
+        limits,
+    } = asked;
     Ok(first_fault(kind, instance, &clock_folds, &input_folds, limits))
 }
 
-/// The fault of a checker with these pins and limits.
+/// The fault of a checker with these pins.
 fn checker_fault<W: CyclicWave<Item = Value>>(
     alloc: Global,
     folds: &mut Folds<W>,
     c: &Circuit,
     waves: &Waves<W>,
-    kind: Kind,
-    instance: u32,
+    asked: Constraint,
     clock: Pin,
     input: Pin,
-    limits: (u16, u16),
 ) -> Result<Option<Fault>, NoMemory>
     requires clock { PinExists (length c.now.nets) clock }
     requires input { PinExists (length c.now.nets) input }
-    requires limits { limits.0 + limits.1 ≤ period c.now.header }
+    requires limits { asked.limits.0 + asked.limits.1 ≤ period c.now.header }
     requires fit { FitWaves c.now waves.now }
     ensures { let ws = waves_of waves.now in
-        IfOk result (λ found. found ≡ fault_of_checker kind (period c.now.header)
-        instance (wave_shown c.now ws clock) (wave_shown c.now ws input) limits) }
+        IfOk result (λ found. found ≡ fault_of_checker asked.kind (period c.now.header)
+        asked.instance (wave_shown c.now ws clock) (wave_shown c.now ws input) asked.limits) }
 {
     let clock_wave = pin_wave(alloc, c, waves, clock)?;
     let input_wave = pin_wave(alloc, c, waves, input)?;
-    let found = fault_between(
-        alloc,
-        folds,
-        kind,
-        instance,
-        &clock_wave,
-        &input_wave,
-        limits,
-    )?;
+    let found = fault_between(alloc, folds, asked, &clock_wave, &input_wave)?;
     Ok(found)
 }
 
@@ -94,20 +95,15 @@ pub fn limited_fault<W: CyclicWave<Item = Value>>(
     ensures { let ws = waves_of waves.now in
         IfOk result (λ found. found ≡ fault_with c.now ws number checker.now limits) }
 {
+    let asked = Constraint {
+        kind: checker.kind,
+        instance: number,
+        limits,
+    };
     let pins = checker.pins.as_slice();
     let clock = pins[0];
     let input = pins[1];
-    let found = checker_fault(
-        alloc,
-        folds,
-        c,
-        waves,
-        checker.kind,
-        number,
-        clock,
-        input,
-        limits,
-    )?;
+    let found = checker_fault(alloc, folds, c, waves, asked, clock, input)?;
     Ok(found)
 }
 

@@ -16,7 +16,7 @@ use Rattle.case_analysis.specs.Case.{PermitCase}
 use Rattle.case_analysis.specs.Tick.{tick}
 use Rattle.point_check.specs.Faults.{is_of_instance, is_of_net}
 use Rattle.point_check.specs.Sound.{KeepsConstraints}
-use Rattle.point_check.proofs.Reached.{all-pins-permit, no-instance-breaks, no-net-breaks}
+use Rattle.timing_analysis.proofs.Reached.{all-pins-permit, no-instance-breaks, no-net-breaks}
 use Rattle.pulse_check.specs.Sound.{is_of_pulse, KeepsWidths}
 use Rattle.timing_analysis.specs.Case.{Case, faults, fault_count}
 use Rattle.timing_analysis.specs.Laws.{FaultlessIsUnbroken}

@@ -24,9 +24,9 @@ fault_between-requires-clause-periods g c =
 pub returns : goal.returns
 returns g c =
     let ws = waves_of c.args.waves.now in
-    same-checker c.args.kind (length c.in_ok-clock_wave.clock_wave.cells) (period c.args.c.now.header) c.args.instance
+    same-checker c.args.asked.kind (length c.in_ok-clock_wave.clock_wave.cells) (period c.args.c.now.header) c.args.asked.instance
     c.in_ok-clock_wave.clock_wave (pin_wave c.args.c.now ws c.args.clock)
     c.in_ok-input_wave.input_wave (pin_wave c.args.c.now ws c.args.input)
-    c.args.limits c.in_ok-found.found
+    c.args.asked.limits c.in_ok-found.found
     (ap (λ (w : Wave Value). length w.cells) c.in_ok-clock_wave.ensures ∙ long-pin c.args.c.now ws c.args.clock c.requires.fit.each_slot c.requires.clock)
     c.in_ok-clock_wave.ensures c.in_ok-input_wave.ensures c.in_ok-found.ensures

@@ -6,8 +6,8 @@ use Rattle.point_check.proofs.checker.fault_between.Goals as goal
 
 pub returns-then-is_steady : goal.returns-then-is_steady
 returns-then-is_steady g c =
-    still_input c.args.kind (length c.args.clock.now.cells) c.args.instance c.args.clock.now
-    c.args.input.now c.args.limits
+    still_input c.args.asked.kind (length c.args.clock.now.cells) c.args.asked.instance c.args.clock.now
+    c.args.input.now c.args.asked.limits
     (let two = c.known-2.ensures.sized.shortest in omega (arith, two)) (sym c.is_steady.ensures ∙ c.if-is_steady.true)
 
 pub first_fault-requires-clause-limits : goal.first_fault-requires-clause-limits
@@ -24,7 +24,7 @@ first_fault-requires-clause-periods g c =
 
 pub returns : goal.returns
 returns g c =
-    checker-is c.args.kind c.args.instance c.args.clock.now c.args.input.now
-    (g.W.CyclicWave.cells c.in_ok-clock_folds.clock_folds) (g.W.CyclicWave.cells c.in_ok-input_folds.input_folds) c.args.limits c.first_fault.result
+    checker-is c.args.asked.kind c.args.asked.instance c.args.clock.now c.args.input.now
+    (g.W.CyclicWave.cells c.in_ok-clock_folds.clock_folds) (g.W.CyclicWave.cells c.in_ok-input_folds.input_folds) c.args.asked.limits c.first_fault.result
     (let two = c.known.ensures.sized.shortest in omega (arith, two)) (let two = c.known-2.ensures.sized.shortest in omega (arith, two))
     c.in_ok-clock_folds.ensures c.in_ok-input_folds.ensures c.first_fault.ensures
