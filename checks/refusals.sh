@@ -134,6 +134,17 @@ drawing '6 UnknownKind 4:1' 'b1 : BUFF [0:0] ("A") -> ("X");'
 drawing '14 Bounds 4:1' 'b1 : BUF ("A") -> ("X");'
 drawing '14 Bounds 4:1' 'c1 : MIN_PULSE_CHK [0:0] ("A");'
 macro unexpanded '14 Bounds 6:1' 'MACRO M ();' 'END;' 'DRAWING ROW;' 'u : M [0:0] ();' 'END;'
+macro unexpanded '14 Bounds 6:1' 'MACRO M ();' 'END;' 'DRAWING ROW;' 'u : M [0:0, 0:0] ();' 'END;'
+for kind in CHG REG LATCH; do
+    drawing '14 Bounds 4:1' "r1 : $kind [1:2, 1:2] (\"CK\", \"D\") -> (\"Q\");"
+done
+for kind in REG_RS LATCH_RS; do
+    drawing '14 Bounds 4:1' "r1 : $kind [1:2, 1:2] (\"CK\", \"D\", \"S\", \"R\") -> (\"Q\");"
+done
+for kind in SETUP_HOLD_CHK SETUP_RISE_HOLD_FALL_CHK; do
+    drawing '14 Bounds 4:1' "c1 : $kind [0:0, 0:0] (\"CK\", \"D\");"
+done
+drawing '14 Bounds 4:1' 'c1 : MIN_PULSE_CHK [0:0, 0:0] ("A");'
 drawing '9 BadParameter 4:1' 'b1 : BUF [0:0] {N=1} ("A") -> ("X");'
 drawing '9 BadParameter 4:1' 'c1 : MIN_PULSE_CHK {HIGH=1, HIGH=1} ("A");'
 macro unexpanded '9 BadParameter 6:1' 'MACRO M {N=1} ();' 'END;' 'DRAWING ROW;' 'u : M {P=1} ();' 'END;'
@@ -148,6 +159,13 @@ drawing '22 UnknownName 4:1' 'IF N THEN END;'
 for delay in 3:2 0:4096 0-1:0; do
     drawing '14 Bounds 4:1' "b1 : BUF [$delay] (\"A\") -> (\"X\");"
 done
+for delay in 3:2 0:256 256:256 0-1:0 0-1:0-1 0:4095; do
+    drawing '14 Bounds 4:1' "b1 : BUF [$delay, 0:0] (\"A\") -> (\"X\");"
+    drawing '14 Bounds 4:1' "b1 : BUF [0:0, $delay] (\"A\") -> (\"X\");"
+done
+drawing '10 Overflow 4:1' 'b1 : BUF [0:0, 9223372036854775807+1:0] ("A") -> ("X");'
+drawing '21 ZeroDivisor 4:1' 'b1 : BUF [0:0, 0:1/0] ("A") -> ("X");'
+drawing '22 UnknownName 4:1' 'b1 : BUF [0:0, N:0] ("A") -> ("X");'
 drawing '14 Bounds 4:1' 'c1 : SETUP_HOLD_CHK {SETUP=391, HOLD=10} ("CK", "D");'
 drawing '14 Bounds 4:1' 'c1 : SETUP_RISE_HOLD_FALL_CHK {SETUP=0-1, HOLD=10} ("CK", "D");'
 drawing '14 Bounds 4:1' 'c1 : MIN_PULSE_CHK {HIGH=401} ("K");'
@@ -186,8 +204,18 @@ drawing '6 UnknownKind 4:1' 'b1 : BUFF {N=1/0} ("A", "B") -> ("X");'
 drawing '14 Bounds 4:1' 'b1 : BUF {N=1} ("A") -> ("X");'
 drawing '9 BadParameter 4:1' 'b1 : BUF [0:1/0] {N=1} ("A") -> ("X");'
 drawing '22 UnknownName 4:1' 'b1 : BUF [N:1/0] ("A") -> ("X");'
+drawing '21 ZeroDivisor 4:1' 'b1 : BUF [0:1/0, 0:N] ("A") -> ("X");'
+drawing '22 UnknownName 4:1' 'b1 : BUF [0:0, N:1/0] ("A") -> ("X");'
+drawing '21 ZeroDivisor 4:1' 'b1 : BUF [0:256, 0:1/0] ("A") -> ("X");'
+drawing '22 UnknownName 4:1' 'b1 : BUF [3:2, N:0] ("A") -> ("X");'
+drawing '14 Bounds 4:1' 'r1 : REG [1:2, 1:1/0] ("CK", "D") -> ("Q");'
+drawing '14 Bounds 4:1' 'r1 : REG [1:2, 1:2] {N=1} ("CK", "D") -> ("Q");'
+drawing '9 BadParameter 4:1' 'b1 : BUF [0:256, 0:1/0] {N=1} ("A") -> ("X");'
+macro unexpanded '14 Bounds 6:1' 'MACRO M {N=1} ();' 'END;' 'DRAWING ROW;' 'u : M [0:0, 0:1/0] {P=1} ();' 'END;'
 drawing '21 ZeroDivisor 4:1' 'c1 : SETUP_HOLD_CHK {SETUP=391, HOLD=10+1/0} ("CK", "D");'
 drawing '14 Bounds 4:1' 'b1 : BUF [3:2] ("A", "B") -> ("X");'
+drawing '14 Bounds 4:1' 'b1 : BUF [0:0, 3:2] ("A", "B") -> ("X");'
+drawing '13 PinCount 4:1' 'b1 : BUF [2:4, 6:8] ("A", "B") -> ("X");'
 drawing '13 PinCount 4:1' 'b1 : BUF [0:0] ("A"<65536>, "B") -> ("X");'
 drawing '8 AssertionClash 4:1' 'a1 : AND [0:0] ("A .S", "A .S0-4", "B"<65536>) -> ("X");'
 drawing '11 BadRange 4:1' 'a1 : AND [0:0] ("A .S", "A .S0-4"<65536>) -> ("X");'
@@ -229,6 +257,10 @@ drawing '17 TwoDrivers 4:1' 'b1 : BUF [0:0] ("A") -> (ZERO);'
 drawing '17 TwoDrivers 6:1' 'b1 : BUF [0:0] ("Y") -> ("X");' 'a1 : AND [0:0] ("CK .P2-3", "X") -> ("Y");' 'b2 : BUF [0:0] ("B") -> ("X");'
 drawing '18 ZeroLoop 4:1' 'b1 : BUF [0:0] ("Y") -> ("X");' 'a1 : AND [0:0] ("CK .P2-3", "X") -> ("Y");'
 drawing '18 ZeroLoop 4:1' 'r1 : REG [0:0] ("CK .P2-3", "Q") -> ("Q");'
+drawing '18 ZeroLoop 4:1' 'b1 : BUF [0:5, 3:3] ("X") -> ("X");'
+drawing '18 ZeroLoop 4:1' 'b1 : BUF [3:3, 0:5] ("X") -> ("X");'
+drawing '18 ZeroLoop 4:1' 'b1 : BUF [0:1, 2:3] ("Y") -> ("X");' 'a1 : AND [2:3, 0:1] ("CK .P2-3", "X") -> ("Y");'
+drawing '17 TwoDrivers 5:1' 'b1 : BUF [1:2, 3:4] ("A") -> ("X");' 'b2 : BUF [1:2, 3:4] ("A") -> ("X");'
 drawing '18 ZeroLoop 4:1' 'b1 : BUF [0:9] ("X") -> ("Y");' 'x1 : XOR [0:0] ("CK .P2-3", "X") -> ("X");'
 
 # --- the cases, which begin on line 6

@@ -189,6 +189,42 @@ whole 'a chain of two and one round' 'verify rounds=1' 3 \
     'b1 : BUF [1:1] ("CK .P2-3") -> ("X");' 'b2 : BUF [1:1] ("X") -> ("Y");' \
     -- 'UNSETTLED Y<0> ROUND 1'
 
+# --- two delays
+row 'each edge by its own delay' verify 0 \
+    'b1 : BUF [2:4, 6:8] ("CK .P2-3") -> ("X");' 'w1 : MIN_PULSE_CHK {HIGH=52} ("X");' \
+    -- 'CASE 0 BASE 1 ROUNDS 0 T 18' 'WAVE X<0> SKEW 0 0:102 R:3 1:51 F:3 0:241' 'CLEAN'
+row 'a pulse that is one tick short, from its latest rise to its earliest fall' verify 1 \
+    'b1 : BUF [2:4, 6:8] ("CK .P2-3") -> ("X");' 'w1 : MIN_PULSE_CHK {HIGH=53} ("X");' \
+    -- 'FAULT WIDTH w1<0> HIGH FROM 104 WIDTH 52' 'FAULTS 1'
+row 'rises that take longer narrow a pulse' verify 0 \
+    'b1 : BUF [6:8, 2:4] ("CK .P2-3") -> ("X");' 'w1 : MIN_PULSE_CHK {HIGH=44} ("X");' \
+    -- 'CASE 0 BASE 1 ROUNDS 0 T 18' 'WAVE X<0> SKEW 0 0:106 R:3 1:43 F:3 0:245' 'CLEAN'
+row 'a pulse that they narrow too much' verify 1 \
+    'b1 : BUF [6:8, 2:4] ("CK .P2-3") -> ("X");' 'w1 : MIN_PULSE_CHK {HIGH=45} ("X");' \
+    -- 'FAULT WIDTH w1<0> HIGH FROM 108 WIDTH 44' 'FAULTS 1'
+row 'a pulse that is swallowed' verify 0 \
+    'b1 : BUF [61:61, 10:10] ("CK .P2-3") -> ("X");' \
+    -- 'CASE 0 BASE 1 ROUNDS 0 T 124' 'WAVE X<0> SKEW 0 0:400'
+row 'a pulse of which one tick is left' verify 0 \
+    'b1 : BUF [59:59, 10:10] ("CK .P2-3") -> ("X");' \
+    -- 'CASE 0 BASE 1 ROUNDS 0 T 120' 'WAVE X<0> SKEW 0 0:159 R:1 F:1 0:239'
+row 'a complemented output of two delays' verify 0 \
+    'b1 : BUF [2:4, 6:8] ("CK .P2-3") -> (-"X");' \
+    -- 'WAVE X<0> SKEW 0 1:102 F:3 0:51 R:3 1:241'
+row 'the longest two delays' verify 0 \
+    'b1 : BUF [0:255, 0:255] ("CK .P2-3") -> ("X");' \
+    -- 'CASE 0 BASE 1 ROUNDS 0 T 512' 'WAVE X<0> SKEW 0 F:6 0:94 R:50 C:206 F:44'
+row 'two delays by the parameter of a macro' verify 0 \
+    'MACRO SLOW {N=1} ("A") -> ("Z");' 'b : BUF [N:2*N, 3*N:4*N] ("A") -> ("Z");' 'END;' 'DRAWING ROW;' \
+    'u1 : SLOW {N=2} ("CK .P2-3") -> ("X");' 'END;' \
+    -- 'CASE 0 BASE 1 ROUNDS 0 T 18' 'WAVE X<0> SKEW 0 0:102 R:3 1:51 F:3 0:241'
+row 'a loop of two delays, neither of which may be 0' verify 0 \
+    'b1 : BUF [1:5, 3:3] ("X") -> ("X");' \
+    -- 'NETS 1 INSTANCES 1 CHECKS 0' 'CASE 0 BASE 0 ROUNDS 0 T 6' 'WAVE X<0> SKEW 0 U:400' 'CLEAN'
+row 'a loop of a delay of 0 through a late wire' verify 0 \
+    'WIRE 1:1;' 'DRAWING ROW;' 'b1 : BUF [0:5, 3:3] ("X") -> ("X");' 'END;' \
+    -- 'CASE 0 BASE 0 ROUNDS 0 T 7' 'WAVE X<0> SKEW 0 U:400' 'CLEAN'
+
 # --- macros and wires
 row 'a tree of gates' verify 0 \
     'MACRO TREE {SIZE=8} ("A"<0:SIZE-1>) -> ("Z");' 'IF SIZE = 1 THEN leaf : BUF [1:2] ("A"<0>) -> ("Z");' \

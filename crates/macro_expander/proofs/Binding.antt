@@ -120,7 +120,8 @@ module _ {X X' Y Y' : Type 0} (g : X → X') (f : Y → Y') (step : X → Judged
       (λ y. ap (λ so_far. collected step' so_far (map g xs)) (sym (map_push f got y)) ∙ collected-map (got ++ y ∷ []) xs)
 
 module _ {X Y : Type 0} (P : X → Type 0) (Q : Y → Type 0) (step : X → Judged Y) (keeps : (x : X) (y : Y) → P x → step x ≡ Ok y → Q y) where
-  all-step : (j : Judged Y) (next : Y → Judged (List Y)) (out : List Y) → ((y : Y) → j ≡ Ok y → Q y) → ((y : Y) → Q y → next y ≡ Ok out → All Q out) → judging j next ≡ Ok out → All Q out
+  all-step : (j : Judged Y) (next : Y → Judged (List Y)) (out : List Y) → ((y : Y) → j ≡ Ok y → Q y) →
+      ((y : Y) → Q y → next y ≡ Ok out → All Q out) → judging j next ≡ Ok out → All Q out
   all-step (Ok y) next out h n e = n y (h y refl) e
   all-step (Err kind) next out h n e = absurd (cc)
 
@@ -198,8 +199,10 @@ module _ (names : List Name) where
   outputs-then path env inputs (Ok fs) k j' e q = rw (e, q) (rw (map-append (bound_of names) inputs fs) refl)
   outputs-then path env inputs (Err kind) k j' e q = rw (e, q) refl
 
-  inputs-then : (path : List ℕ) (inside : Inside) (outs : List numbered_joined.Joined) (j : Judged (List numbered_bound.Bound)) (j' : Judged (List Bound)) → j' ≡ jmap (map (bound_of names)) j →
-      judging j' (λ inputs. judging (collected output_bound [] (zip inside.outs (map (joined_of names) outs))) (λ outputs. Ok (record { path = path; env = inside.env; formals = inputs ++ outputs })))
+  inputs-then : (path : List ℕ) (inside : Inside) (outs : List numbered_joined.Joined) (j : Judged (List numbered_bound.Bound)) (j' : Judged (List Bound)) →
+      j' ≡ jmap (map (bound_of names)) j →
+      judging j' (λ inputs. judging (collected output_bound [] (zip inside.outs (map (joined_of names) outs)))
+      (λ outputs. Ok (record { path = path; env = inside.env; formals = inputs ++ outputs })))
       ≡ jmap (scope_with path inside.env) (judging j (λ inputs. collected output_bound_ref inputs (zip inside.outs outs)))
   inputs-then path inside outs (Ok inputs) j' e =
       rw e

@@ -1,5 +1,5 @@
 -- What holds of the bits of a use that is not refused.
-use Rattle.std.proofs.Common.{◌≡◌, ℕ, ℤ, pos, negsuc, zero, suc, ◌+◌, ◌*◌, ◌≤◌, Bool, true, false, ◌&&◌, cond, List, [], ◌∷◌, length, map, Ok, Err, Option, Some, None, is_some, refl, sym, ◌∙◌, subst, arith}
+use Rattle.std.proofs.Common.{◌≡◌, ℕ, ℤ, pos, negsuc, zero, suc, ◌+◌, ◌*◌, ◌≤◌, Bool, true, false, not, ◌&&◌, ◌||◌, cond, List, [], ◌∷◌, length, map, Ok, Err, Option, Some, None, is_some, refl, ap, sym, ◌∙◌, subst, arith}
 use Rattle.std.specs.Prelude.{◌==◌, nat_le, slice_index_or}
 use Rattle.std.specs.List.{All, count_by, flat_map}
 use Rattle.std.proofs.lemmas.Bool.{and_parts, eqb-true, leb-true}
@@ -10,6 +10,7 @@ use Rattle.scald_base.specs.Time.{Header, period}
 use Rattle.scald_base.specs.declared.refusal.RefusalKind.{RefusalKind}
 use Rattle.scald_base.specs.declared.refusal.RefusalKind.TheVariants.{BadParameter, Bounds, PinCount}
 use Rattle.scald_expr.specs.declared.environment.Binding.{Binding}
+use Rattle.scald_expr.specs.Expression.{Expression}
 use Rattle.vector_names.specs.declared.bits.BitRef.{BitRef}
 use Rattle.element_kinds.specs.declared.kind.Kind.{Kind}
 use Rattle.element_kinds.specs.declared.kind.Kind.TheVariants.{Chg}
@@ -18,6 +19,7 @@ use Rattle.element_kinds.specs.declared.form.Check.TheVariants.{SetupHold as Abo
 use Rattle.flat_circuit.specs.declared.instance.Pin.{Pin}
 use Rattle.element_kinds.specs.Kinds.{has_output, check_of}
 use Rattle.flat_circuit.specs.Kind.{PinsFit, LimitsFitCheck, LimitsFit}
+use Rattle.flat_circuit.specs.Split.{may_split, either_delay, SplitFits}
 use Rattle.flat_circuit.specs.Name.{Name}
 use Rattle.flat_circuit.specs.Instances.{PinExists, OutExists, InstanceFits}
 use Rattle.drawing_tree.specs.declared.statement.UseStmt.{UseStmt}
@@ -26,7 +28,7 @@ use Rattle.macro_expander.specs.declared.primitive.Plan.{Plan}
 use Rattle.macro_expander.specs.declared.connection.Joined as numbered_joined
 use Rattle.macro_expander.specs.Outcome.{Judged, judging}
 use Rattle.macro_expander.specs.Terms.{Joined}
-use Rattle.macro_expander.specs.Primitives.{demanded, are_of, takes, same_truth, written_delay, values_given, delay_of, limits_for, limits_of, setup_and_hold, high_and_low, are_connected, plan_of, fewest_inputs, most_inputs, most_marks, outputs, marks, bit_at}
+use Rattle.macro_expander.specs.Primitives.{demanded, are_of, takes, same_truth, fall_of, written_delay, values_given, Delays, delay_between, split_of, delays_of, takes_delays, limits_for, limits_of, setup_and_hold, high_and_low, are_connected, plan_of, fewest_inputs, most_inputs, most_marks, outputs, marks, bit_at}
 use Rattle.macro_expander.specs.Numbered.{bit_of, joined_of, no_ref, pin_ref, all_refs, column_ref, pin_refs, output_ref, target_ref, instance_ref, BitExists, JoinedExists}
 use Rattle.macro_expander.proofs.Lists.{count_by-map}
 use Rattle.macro_expander.proofs.Joints.{HasWidth, AreJoined}
@@ -80,23 +82,55 @@ limits_fit h kind given l e = by (check_of kind) e
     by (Some RiseToFall) e = setup_fits (period h) _ _ l e
     by (Some Widths) e = high_fits (period h) _ _ l e
 
+-- ---- delays
+
+ends_where_written : (env : List Binding) (written : Option (Expression × Expression)) (ends : ℤ × ℤ) →
+    written_delay env written ≡ Ok (Some ends) → is_some written ≡ true
+ends_where_written env None ends e = absurd (cc)
+ends_where_written env (Some pair) ends e = refl
+
+where_two : (two allowed : Bool) → (not two || allowed) ≡ true → two ≡ true → allowed ≡ true
+where_two true allowed h is = h
+where_two false allowed h is = absurd (cc)
+
+split_fits : (kind : Kind) (delay fall : Option (ℤ × ℤ)) (d : Delays) →
+    ((ends : ℤ × ℤ) → fall ≡ Some ends → may_split kind ≡ true) → delays_of delay fall ≡ Ok d → SplitFits kind d.0 d.1
+split_fits kind None fall d may e = let is : (record { min = 0; max = 0 }, None) ≡ d = cc in subst (λ (x : Delays). SplitFits kind x.0 x.1) is tt
+split_fits kind (Some delay) None d may e =
+    let a = judging_ok (delay_between delay.0 delay.1) _ d e in
+    let is : (a.value, None) ≡ d = cc (a.goes_on) in
+    subst (λ (x : Delays). SplitFits kind x.0 x.1) is tt
+split_fits kind (Some rise) (Some fall) d may e =
+    let a = judging_ok (split_of rise fall) _ d e in
+    let is : (either_delay a.value, Some a.value) ≡ d = cc (a.goes_on) in
+    subst (λ (x : Delays). SplitFits kind x.0 x.1) is (may fall refl, refl)
+
 pub record PlanFits (h : Header) (kind : Kind) (u : UseStatement) (plan : Plan) : Type 0 where
+  pub split : SplitFits kind plan.delay plan.split
   pub limits : LimitsFit h kind plan.limits
   pub connected : are_connected kind u ≡ true
 
 pub plan_fits : (h : Header) (kind : Kind) (env : List Binding) (u : UseStatement) (plan : Plan) → plan_of (period h) kind env u ≡ Ok plan → PlanFits h kind u plan
 unfolding plan_of
 plan_fits h kind env u plan e =
-    let a = demanded_ok (same_truth (is_some u.delay) (has_output kind)) Bounds _ plan e in
+    let a = demanded_ok (takes_delays kind u) Bounds _ plan e in
     let b = demanded_ok (are_of (takes kind) u.params) BadParameter _ plan a.1 in
-    let c = judging_ok (written_delay env u.delay) _ plan b.1 in
-    let d = judging_ok (values_given env u.params) _ plan c.goes_on in
-    let f = judging_ok (delay_of c.value) _ plan d.goes_on in
-    let g = judging_ok (limits_of (period h) kind d.value) _ plan f.goes_on in
-    let i = demanded_ok (are_connected kind u) PinCount _ plan g.goes_on in
-    let made : Plan = record { delay = f.value; limits = g.value } in
+    let ends = judging_ok (written_delay env u.delay) _ plan b.1 in
+    let fall = judging_ok (written_delay env (fall_of u)) _ plan ends.goes_on in
+    let given = judging_ok (values_given env u.params) _ plan fall.goes_on in
+    let delays = judging_ok (delays_of ends.value fall.value) _ plan given.goes_on in
+    let limits = judging_ok (limits_of (period h) kind given.value) _ plan delays.goes_on in
+    let i = demanded_ok (are_connected kind u) PinCount _ plan limits.goes_on in
+    let made : Plan = record { delay = delays.value.0; split = delays.value.1; limits = limits.value } in
     let is : made ≡ plan = cc (i.1) in
-    subst (λ (p : Plan). PlanFits h kind u p) is (record { limits = limits_fit h kind d.value g.value g.was; connected = i.0 })
+    let taken = and_parts (same_truth (is_some u.delay) (has_output kind)) (not (is_some (fall_of u)) || may_split kind) a.0 in
+    let may : (two : ℤ × ℤ) → fall.value ≡ Some two → may_split kind ≡ true = λ two is.
+    where_two (is_some (fall_of u)) (may_split kind) taken.1 (ends_where_written env (fall_of u) two (fall.was ∙ ap Ok is)) in
+    subst (λ (p : Plan). PlanFits h kind u p) is (record {
+      split = split_fits kind ends.value fall.value delays.value may delays.was;
+      limits = limits_fit h kind given.value limits.value limits.was;
+      connected = i.0;
+    })
 
 -- ---- numbers that there are
 
@@ -227,11 +261,12 @@ module _ (h : Header) (names : List Name) (kind : Kind) (u : UseStatement) (plan
       let c = and_parts (length u.outs == outputs kind) (nat_le (marks u.ins) (most_marks kind) && (marks u.outs == 0)) a.1 in
       sym (length-map outs (joined_of names)) ∙ (outs_are.count ∙ eqb-true (length u.outs) (outputs kind) c.0)
 
-  pub bit_fits : (nets k : ℕ) (path : List ℕ) (code : UseStmt) → All (JoinedExists nets) ins → All (JoinedExists nets) outs → InstanceFits h nets (instance_ref path code kind plan ins outs k)
+  pub bit_fits : (nets k : ℕ) (path : List ℕ) (code : UseStmt) → All (JoinedExists nets) ins →
+      All (JoinedExists nets) outs → InstanceFits h nets (instance_ref path code kind plan ins outs k)
   bit_fits nets k path code x y = record {
     pins = pins_fit k kind ins counted (named_wide names ins ins_are.wide);
     has_out = some_out kind outs k (has_output kind) one_out;
     lim = fits.limits;
-    split = tt;
+    split = fits.split;
     exists = record { reads = pins_exist nets k kind ins x; drives = out_exists nets k outs y };
   }

@@ -81,7 +81,8 @@ module _ {A B : Type 0} (f : A → B) where
   term-map spec (Ok bits) j' e = rw e (unasserted-map spec bits)
   term-map spec (Err kind) j' e = rw e refl
 
-  pub formal_term-map : (numbers : List ℕ) (bits : List A) (spec : AssertSpec) (ends : Option (ℤ × ℤ)) → formal_term numbers (map f bits) spec ends ≡ jmap (map f) (formal_term numbers bits spec ends)
+  pub formal_term-map : (numbers : List ℕ) (bits : List A) (spec : AssertSpec) (ends : Option (ℤ × ℤ)) →
+      formal_term numbers (map f bits) spec ends ≡ jmap (map f) (formal_term numbers bits spec ends)
   unfolding formal_term
   formal_term-map numbers bits spec ends = term-map spec (formal_bits numbers bits ends) (formal_bits numbers (map f bits) ends) (formal_bits-map numbers bits ends)
 
@@ -105,14 +106,16 @@ module _ {A : Type 0} (P : A → Type 0) (numbers : List ℕ) (bits : List A) (h
   unfolding bit_numbered
   outer-is i a e = refuse-is (bit_numbered numbers bits i) a (λ x q. place-is (position (λ n. n == i) numbers) x q) e
 
-  step-is : (j : Judged A) (next : A → Judged (List A)) (out : List A) → ((a : A) → j ≡ Ok a → P a) → ((a : A) → P a → next a ≡ Ok out → All P out) → judging j next ≡ Ok out → All P out
+  step-is : (j : Judged A) (next : A → Judged (List A)) (out : List A) → ((a : A) → j ≡ Ok a → P a) →
+      ((a : A) → P a → next a ≡ Ok out → All P out) → judging j next ≡ Ok out → All P out
   step-is (Ok a) next out k n e = n a (k a refl) e
   step-is (Err kind) next out k n e = absurd (cc)
 
   outers-are : (got : List A) (chosen : List ℕ) (out : List A) → All P got → collected (outer_bit numbers bits) got chosen ≡ Ok out → All P out
   outers-are got [] out g e = let s : got ≡ out = cc in subst (All P) s g
   outers-are got (i ∷ chosen) out g e =
-      step-is (outer_bit numbers bits i) (λ a. collected (outer_bit numbers bits) (got ++ a ∷ []) chosen) out (outer-is i) (λ a p q. outers-are (got ++ a ∷ []) chosen out (All-push P got a g p) q) e
+      step-is (outer_bit numbers bits i) (λ a. collected (outer_bit numbers bits) (got ++ a ∷ []) chosen) out (outer-is i)
+      (λ a p q. outers-are (got ++ a ∷ []) chosen out (All-push P got a g p) q) e
 
   chosen-are : (j : Judged (List ℕ)) (out : List A) → judging j (λ chosen. outer_bits numbers bits chosen) ≡ Ok out → All P out
   chosen-are (Ok chosen) out e = outers-are [] chosen out (All-nil P) e
@@ -150,7 +153,8 @@ formal_of-map names formals name = by name.global
     by true = refl
     by false = find-map (λ f. bytes_eq f.base name.base) (bound_of names) formals
 
-formal-is : (P : numbered_bound.Bound → Type 0) (formals : List numbered_bound.Bound) (name : SignalName) (f : numbered_bound.Bound) → All P formals → numbered_formal formals name ≡ Some f → P f
+formal-is : (P : numbered_bound.Bound → Type 0) (formals : List numbered_bound.Bound) (name : SignalName) (f : numbered_bound.Bound) →
+    All P formals → numbered_formal formals name ≡ Some f → P f
 formal-is P formals name f h e = by name.global e
   where
     by : (g : Bool) → (if g then None else find (λ x. bytes_eq x.base name.base) formals) ≡ Some f → P f
@@ -182,7 +186,8 @@ module _ (e : Expansion) (s : numbered_scope.Scope) (name : SignalName) (ends : 
       subst (λ (o : Option Bound). BitsAt e e r (meant o (net_text s.path name) name.spec ends place (state_of e))) (sym is)
       (bound_term f r (formal-is (BoundExists (nets_in e)) s.formals name f h.formals found).bits j)
 
-  pub named_net : (e' : Expansion) (r : Result (List BitRef) Stop) → numbered_formal s.formals name ≡ None → BitsAt e e' r (meant None (net_text s.path name) name.spec ends place (state_of e)) →
+  pub named_net : (e' : Expansion) (r : Result (List BitRef) Stop) → numbered_formal s.formals name ≡ None →
+      BitsAt e e' r (meant None (net_text s.path name) name.spec ends place (state_of e)) →
       BitsAt e e' r (named_bits (scope_of (names_in e) s) name ends place (state_of e))
   unfolding named_bits
   named_net e' r found h =

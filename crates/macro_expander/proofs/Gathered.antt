@@ -150,7 +150,8 @@ turned_map names minus [] = refl
 turned_map names minus (b ∷ bits) = ap (λ rest. bit_of names (turned_ref minus b) ∷ rest) (turned_map names minus bits)
 
 turned_exist : (nets : ℕ) (minus : Bool) (bits : List BitRef) → All (BitExists nets) bits → All (BitExists nets) (map (turned_ref minus) bits)
-turned_exist nets minus bits h = All-map (BitExists nets) (turned_ref minus) bits (All-weaker (BitExists nets) (λ b. BitExists nets (turned_ref minus b)) (λ b x. record { target = x.target }) bits h)
+turned_exist nets minus bits h = All-map (BitExists nets) (turned_ref minus) bits
+    (All-weaker (BitExists nets) (λ b. BitExists nets (turned_ref minus b)) (λ b x. record { target = x.target }) bits h)
 
 pub turned_term : (e f : Expansion) (s : Scope) (place : Place) (t : Term) (bits turned : List BitRef) → turned ≡ map (turned_ref t.minus) bits →
     GivesBits e f bits (item_bits s t.item place (state_of e)) → GivesBits e f turned (term_bits s place t (state_of e))

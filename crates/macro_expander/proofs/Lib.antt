@@ -1,4 +1,5 @@
 mod Examples
+mod ExamplesDelays
 pub mod Lists
 pub mod Alike
 pub mod Nets

@@ -129,7 +129,8 @@ module _ (e : Expansion) (text : List ℕ) (bit : ℕ) (spec : AssertSpec) (plac
       record {
         is = rw (agrees e.builder.asserted text spec free, h, fits, number.is, instances_stay e.builder.names (the_name ∷ []) e.builder.instances (all_exist e.builder built)) refl;
         grows = record { more = the_name ∷ []; names = refl; header = refl; statements = omega arith };
-        exist = All-cons (BitExists (length (e.builder.names ++ the_name ∷ []))) (the_bit i) [] (record { target = number.below }) (All-nil (BitExists (length (e.builder.names ++ the_name ∷ []))));
+        exist = All-cons (BitExists (length (e.builder.names ++ the_name ∷ []))) (the_bit i) []
+            (record { target = number.below }) (All-nil (BitExists (length (e.builder.names ++ the_name ∷ []))));
       }
 
   given_by : (h : Bool) (b : Built) (i : ℕ) → has_name e.builder.names the_name ≡ h → IsBuilt e.builder → IsBuilt b → GivesNet e.builder b the_name spec i →

@@ -24,7 +24,8 @@ use Rattle.macro_expander.specs.Stands.{Stands, IsCircuitOf}
 use Rattle.macro_expander.proofs.Nets.{Exists}
 
 -- lists that are seen alike are the same, where items that are seen alike are
-same_by : {X Y : Type 0} (P : X → Type 0) (f : X → Y) → ((x y : X) → P x → P y → f x ≡ f y → x ≡ y) → (xs ys : List X) → All P xs → All P ys → map f xs ≡ map f ys → xs ≡ ys
+same_by : {X Y : Type 0} (P : X → Type 0) (f : X → Y) → ((x y : X) → P x → P y → f x ≡ f y → x ≡ y) →
+    (xs ys : List X) → All P xs → All P ys → map f xs ≡ map f ys → xs ≡ ys
 same_by P f one [] [] a b e = refl
 same_by P f one [] (y ∷ ys) a b e = absurd (cc)
 same_by P f one (x ∷ xs) [] a b e = absurd (cc)
@@ -42,7 +43,8 @@ module _ (names : List Name) (distinct : AreDistinct names) where
   same_target (Constant c) (OnNet j) a b e = absurd (cc)
   same_target (Constant c) (Constant d) a b e = let one : c ≡ d = cc in ap Constant one
 
-  pin_by : (t u : Target) (i j h k : Bool) → t ≡ u → i ≡ j → h ≡ k → let p : Pin = record { target = t; inverted = i; hold = h } in let q : Pin = record { target = u; inverted = j; hold = k } in p ≡ q
+  pin_by : (t u : Target) (i j h k : Bool) → t ≡ u → i ≡ j → h ≡ k →
+      let p : Pin = record { target = t; inverted = i; hold = h } in let q : Pin = record { target = u; inverted = j; hold = k } in p ≡ q
   pin_by t u i j h k a b c = rw (a, b, c) refl
 
   same_pin : (p q : Pin) → PinExists (length names) p → PinExists (length names) q → pin_of names p ≡ pin_of names q → p ≡ q
@@ -57,7 +59,8 @@ module _ (names : List Name) (distinct : AreDistinct names) where
   same_out (Some t) (Some u) a b e = let target : where_of names t ≡ where_of names u = cc in ap Some (same_target t u a b target)
 
   instance_by : (j k : Instance) → j.path ≡ k.path → j.bit ≡ k.bit → j.kind ≡ k.kind → j.delay ≡ k.delay →
-      j.split ≡ k.split → j.limits ≡ k.limits → j.pins ≡ k.pins → j.out ≡ k.out → j.out_inverted ≡ k.out_inverted → j.place ≡ k.place → j ≡ k
+      j.split ≡ k.split → j.limits ≡ k.limits → j.pins ≡ k.pins → j.out ≡ k.out →
+      j.out_inverted ≡ k.out_inverted → j.place ≡ k.place → j ≡ k
   instance_by j k a b c d s e f g h i =
       ap (λ (x : List ℕ). record j { path = x }) a
       ∙ (ap (λ (x : ℕ). record j { path = k.path; bit = x }) b
@@ -74,7 +77,8 @@ module _ (names : List Name) (distinct : AreDistinct names) where
   same_instance j k a b e =
       instance_by j k
       (ap (λ (x : NamedInstance). x.path) e) (ap (λ (x : NamedInstance). x.bit) e) (ap (λ (x : NamedInstance). x.kind) e)
-      (ap (λ (x : NamedInstance). x.delay) e) (ap (λ (x : NamedInstance). x.split) e) (ap (λ (x : NamedInstance). x.limits) e)
+      (ap (λ (x : NamedInstance). x.delay) e) (ap (λ (x : NamedInstance). x.split) e)
+      (ap (λ (x : NamedInstance). x.limits) e)
       (same_by (PinExists (length names)) (pin_of names) same_pin j.pins k.pins a.reads b.reads (ap (λ (x : NamedInstance). x.pins) e))
       (same_out j.out k.out a.drives b.drives (ap (λ (x : NamedInstance). x.out) e))
       (ap (λ (x : NamedInstance). x.out_inverted) e) (ap (λ (x : NamedInstance). x.place) e)
@@ -98,7 +102,9 @@ net_by m n a b c d =
     ∙ (ap (λ (x : AssertSpec). record n { spec = x; driver = m.driver }) c
     ∙ ap (λ (x : Option ℕ). record n { driver = x }) d))
 
-same_nets : (ms ns : List Net) → net_names ms ≡ net_names ns → map (λ (n : Net). n.wire) ms ≡ map (λ (n : Net). n.wire) ns → map (λ (n : Net). n.spec) ms ≡ map (λ (n : Net). n.spec) ns →
+same_nets : (ms ns : List Net) → net_names ms ≡ net_names ns →
+    map (λ (n : Net). n.wire) ms ≡ map (λ (n : Net). n.wire) ns →
+    map (λ (n : Net). n.spec) ms ≡ map (λ (n : Net). n.spec) ns →
     ((i : ℕ) → driver_at ms i ≡ driver_at ns i) → ms ≡ ns
 same_nets [] [] a b c d = refl
 same_nets [] (n ∷ ns) a b c d = absurd (cc)

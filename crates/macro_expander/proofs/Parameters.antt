@@ -72,7 +72,8 @@ module _ (known : List ℕ → Bool) (params : List Assign) (i : ℕ) (x : Assig
       (subst (λ (n : List ℕ). is_some r ≡ list_any (assigns n) (map assignment_of (drop place params))) name_is (found_given name (drop place params) r (h ∙ l.first name)))
 
   pub comes_twice : list_any (assigns x.name) (map assignment_of (drop (i + 1) params)) ≡ true → are_of known (map assignment_of params) ≡ false
-  comes_twice h = not_all known i params (ap (λ (xs : List Assign). are_of known (map assignment_of xs)) split ∙ rw h (nothing (known x.name) (are_of known (map assignment_of (drop (i + 1) params)))))
+  comes_twice h = not_all known i params (ap (λ (xs : List Assign). are_of known (map assignment_of xs)) split
+      ∙ rw h (nothing (known x.name) (are_of known (map assignment_of (drop (i + 1) params)))))
     where
       nothing : (a b : Bool) → a && (false && b) ≡ false
       nothing true b = refl

@@ -79,7 +79,8 @@ module _ (e : Expansion) (ticks : ℕ) (kind : Kind) (s : numbered_scope.Scope) 
       unfolding primitive_use
       use_narrow h = rw (was, g.is, width_is, widths_are, h) refl
 
-      pub use_done : (e2 : Expansion) (r : Result (Unit {0}) Stop) (path : List ℕ) (i3 o3 : List numbered_joined.Joined) → path ≡ s.path → i3 ≡ w.ins → o3 ≡ w.outs → inputs_fit kind n (map bits_in i2) ≡ true →
+      pub use_done : (e2 : Expansion) (r : Result (Unit {0}) Stop) (path : List ℕ) (i3 o3 : List numbered_joined.Joined) →
+          path ≡ s.path → i3 ≡ w.ins → o3 ≡ w.outs → inputs_fit kind n (map bits_in i2) ≡ true →
           DoneAt e1 e2 r (all_added path (use_of u) kind plan n (map (joined_of (names_in e1)) i3) (map (joined_of (names_in e1)) o3) (state_of e1)) → DoneAt e e2 r the_use
       unfolding primitive_use
       use_done e2 r path i3 o3 p q t fits h =
@@ -93,14 +94,17 @@ module _ (e : Expansion) (ticks : ℕ) (kind : Kind) (s : numbered_scope.Scope) 
       pub use_few : n ≤ 256
       use_few = subst (λ (m : ℕ). m ≤ 256) width_is (width_few (has_output kind) wires.ins wires.outs are.ins.wide are.outs.wide)
 
-      pub use_fits : (k : ℕ) (path : List ℕ) (i3 o3 : List numbered_joined.Joined) → i3 ≡ w.ins → o3 ≡ w.outs → ticks ≡ period e.builder.header → InstanceFits e1.builder.header (nets_in e1) (instance_ref path u kind plan i3 o3 k)
+      pub use_fits : (k : ℕ) (path : List ℕ) (i3 o3 : List numbered_joined.Joined) → i3 ≡ w.ins →
+          o3 ≡ w.outs → ticks ≡ period e.builder.header →
+          InstanceFits e1.builder.header (nets_in e1) (instance_ref path u kind plan i3 o3 k)
       use_fits k path i3 o3 q t p =
           let was' : plan_of (period e.builder.header) kind s.env (use_of u) ≡ Ok plan = subst (λ (x : ℕ). plan_of x kind s.env (use_of u) ≡ Ok plan) p was in
           rw (q, t, g.grows.header) (bit_fits e.builder.header (names_in e1) kind (use_of u) plan w.ins
           w.outs (plan_fits e.builder.header kind s.env (use_of u) plan was') are.ins are.outs (nets_in e1) k path u g.ins g.outs)
 
 -- a refusal that a call makes
-pub failed_so : {A : Type 0} (stop : Stop) (o : Outcome A) (kind : RefusalKind) (place : Place) → stop ≡ Refused (record { kind = kind; place = place }) → o ≡ Fails kind place → Failed stop o
+pub failed_so : {A : Type 0} (stop : Stop) (o : Outcome A) (kind : RefusalKind) (place : Place) →
+    stop ≡ Refused (record { kind = kind; place = place }) → o ≡ Fails kind place → Failed stop o
 failed_so stop o kind place is h = record {
   told = λ r s.
       let made : Refusal = record { kind = kind; place = place } in

@@ -55,7 +55,8 @@ IsBodyAt P (Some body) = (m : Macro) → IsMacroAt P m → IsActAt P (body m)
 module _ (P : Place → Type 0) where
   -- ---- steps one behind another
 
-  after_at : {A B : Type 0} (o : Outcome A) (next : A → State → Outcome B) → IsOutcomeAt P o → ((a : A) (s : State) → IsStateAt P s → IsOutcomeAt P (next a s)) → IsOutcomeAt P (after o next)
+  after_at : {A B : Type 0} (o : Outcome A) (next : A → State → Outcome B) → IsOutcomeAt P o →
+      ((a : A) (s : State) → IsStateAt P s → IsOutcomeAt P (next a s)) → IsOutcomeAt P (after o next)
   after_at (Gives a s) next h k = k a s h
   after_at (Fails kind place) next h k = h
 
@@ -92,7 +93,8 @@ module _ (P : Place → Type 0) where
   net_bits_at : (text : List ℕ) (spec : AssertSpec) (place : Place) (numbers : List ℕ) (s : State) → P place → IsStateAt P s → IsOutcomeAt P (net_bits text spec place numbers s)
   net_bits_at text spec place numbers s p h = gathered_at (net_bit text spec place) (λ i s' h'. net_bit_at text spec place i s' p h') [] numbers s h
 
-  meant_at : (f : Option Bound) (text : List ℕ) (spec : AssertSpec) (ends : Option (ℤ × ℤ)) (place : Place) (s : State) → P place → IsStateAt P s → IsOutcomeAt P (meant f text spec ends place s)
+  meant_at : (f : Option Bound) (text : List ℕ) (spec : AssertSpec) (ends : Option (ℤ × ℤ)) (place : Place) (s : State) →
+      P place → IsStateAt P s → IsOutcomeAt P (meant f text spec ends place s)
   meant_at (Some f) text spec ends place s p h = judged_at (formal_term f.numbers f.bits spec ends) place _ p (λ bits. h)
   meant_at None text spec ends place s p h = judged_at (numbers_of ends) place _ p (λ numbers. net_bits_at text spec place numbers s p h)
 

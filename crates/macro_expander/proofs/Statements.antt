@@ -85,7 +85,8 @@ found_is P p (y ∷ xs) x all h = step (p y) h (λ q. found_is P p xs x (All-tai
 
 -- ---- bodies
 
-body_below : (ticks : ℕ) (macros : List Macro) (levels : ℕ) → levels ≢ 0 → body_at ticks macros levels ≡ Some (λ (m : Macro). statements_act ticks macros (body_at ticks macros (levels - 1)) m.body)
+body_below : (ticks : ℕ) (macros : List Macro) (levels : ℕ) → levels ≢ 0 →
+    body_at ticks macros levels ≡ Some (λ (m : Macro). statements_act ticks macros (body_at ticks macros (levels - 1)) m.body)
 unfolding body_at
 body_below ticks macros zero h = absurd (h refl)
 body_below ticks macros (suc n) h = let e : suc n - 1 ≡ n = omega arith in rw e refl

@@ -12,6 +12,8 @@ use Rattle.element_kinds.specs.declared.kind.Kind.{Kind}
 use Rattle.element_kinds.specs.declared.form.Check.{Check}
 use Rattle.element_kinds.specs.declared.form.Check.TheVariants.{SetupHold as AboutRise, RiseFall as RiseToFall, MinPulse as Widths}
 use Rattle.element_kinds.specs.Kinds.{inputs_of, has_output, is_change, check_of, greatest_marks}
+use Rattle.flat_circuit.specs.declared.split.Split.{Split}
+use Rattle.flat_circuit.specs.Split.{may_split, either_delay}
 use Rattle.flat_circuit.specs.Instances.{most_bits, most_pins}
 use Rattle.drawing_tree.specs.Tree.{Assignment, Connection, UseStatement}
 use Rattle.macro_expander.specs.declared.primitive.Plan.{Plan}
@@ -80,21 +82,51 @@ marks connections = count_by (λ c. c.hold) connections
 abbrev pub longest_delay : ℕ
 longest_delay = 4095
 
--- 0 at most the least, the least at most the greatest, and that at most the longest delay
+-- of a use with two delays, the longest of either
+abbrev pub longest_split : ℕ
+longest_split = 255
+
+-- 0 at most the least, the least at most the greatest, and that at most the longest
+abbrev pub delay_within : ℕ → ℤ → ℤ → Judged DelayBounds
+delay_within longest (pos min) (pos max) =
+    if nat_le min max && nat_le max longest then Ok (record { min = min; max = max }) else Err Bounds
+delay_within longest (pos min) (negsuc max) = Err Bounds
+delay_within longest (negsuc min) max = Err Bounds
+
 abbrev pub delay_between : ℤ → ℤ → Judged DelayBounds
-delay_between (pos min) (pos max) = if nat_le min max && nat_le max longest_delay then Ok (record { min = min; max = max }) else Err Bounds
-delay_between (pos min) (negsuc max) = Err Bounds
-delay_between (negsuc min) max = Err Bounds
+delay_between min max = delay_within longest_delay min max
+
+-- a fall delay without a delay counts as not there
+abbrev pub fall_beside : {A : Type 0} → Option A → Option A → Option A
+fall_beside None fall = None
+fall_beside (Some delay) fall = fall
+
+-- the fall delay of a use
+abbrev pub fall_of : UseStatement → Option (Expression × Expression)
+fall_of u = fall_beside u.delay u.fall
 
 -- the two expressions of a delay
 abbrev pub written_delay : List Binding → Option (Expression × Expression) → Judged (Option (ℤ × ℤ))
 written_delay env None = Ok None
 written_delay env (Some pair) = judging (valued env pair.0) (λ min. judging (valued env pair.1) (λ max. Ok (Some (min, max))))
 
--- a checker has no delay
-abbrev pub delay_of : Option (ℤ × ℤ) → Judged DelayBounds
-delay_of None = Ok (record { min = 0; max = 0 })
-delay_of (Some pair) = delay_between pair.0 pair.1
+-- the bounds of every delay of an instance bit, and its two delays where it has two
+abbrev pub Delays : Type 0
+Delays = DelayBounds × Option Split
+
+-- two delays, each in bounds of its own
+abbrev pub split_of : ℤ × ℤ → ℤ × ℤ → Judged Split
+split_of rise fall =
+    judging (delay_within longest_split rise.0 rise.1) (λ r.
+    judging (delay_within longest_split fall.0 fall.1) (λ f.
+    Ok (record { rise = r; fall = f })))
+
+-- A checker has no delay. Where a fall delay stands beside a delay, that one is the rise delay.
+abbrev pub delays_of : Option (ℤ × ℤ) → Option (ℤ × ℤ) → Judged Delays
+delays_of None fall = Ok (record { min = 0; max = 0 }, None)
+delays_of (Some delay) None = judging (delay_between delay.0 delay.1) (λ d. Ok (d, None))
+delays_of (Some rise) (Some fall) =
+    judging (split_of rise fall) (λ s. Ok (either_delay s, Some s))
 
 -- the value of a parameter, 0 where the use gives none
 abbrev pub given_or_zero : List Binding → List ℕ → ℤ
@@ -122,7 +154,7 @@ limits_for period (Some Widths) given = high_and_low period (given_or_zero given
 abbrev pub limits_of : ℕ → Kind → List Binding → Judged (ℕ × ℕ)
 limits_of period kind given = limits_for period (check_of kind) given
 
--- ---- what a use of a primitive says before its connections are looked at: its delay and limits
+-- ---- what a use of a primitive says before its connections are looked at: its delays and limits
 
 -- the number of connections, and the marks
 abbrev pub are_connected : Kind → UseStatement → Bool
@@ -133,16 +165,23 @@ are_connected kind u =
 abbrev pub same_truth : Bool → Bool → Bool
 same_truth a b = if a then b else not b
 
+-- a delay exactly where the kind has an output, and two only where the kind may have two
+abbrev pub takes_delays : Kind → UseStatement → Bool
+takes_delays kind u =
+    same_truth (is_some u.delay) (has_output kind) && (not (is_some (fall_of u)) || may_split kind)
+
+-- All expressions have values before any of these is held against its bounds.
 unfoldable pub plan_of : ℕ → Kind → List Binding → UseStatement → Judged Plan
 plan_of period kind env u =
-    demanded (same_truth (is_some u.delay) (has_output kind)) Bounds (
+    demanded (takes_delays kind u) Bounds (
     demanded (are_of (takes kind) u.params) BadParameter (
     judging (written_delay env u.delay) (λ ends.
+    judging (written_delay env (fall_of u)) (λ fall.
     judging (values_given env u.params) (λ given.
-    judging (delay_of ends) (λ delay.
+    judging (delays_of ends fall) (λ delays.
     judging (limits_of period kind given) (λ limits.
     demanded (are_connected kind u) PinCount (
-    Ok (record { delay = delay; limits = limits }))))))))
+    Ok (record { delay = delays.0; split = delays.1; limits = limits })))))))))
 
 -- ---- widths
 
@@ -212,7 +251,7 @@ instance_at path u kind plan ins outs k = record {
   bit = k;
   kind = kind;
   delay = plan.delay;
-  split = None;
+  split = plan.split;
   limits = plan.limits;
   pins = pins_of kind ins k;
   out = target_of (output_at outs k);

@@ -186,7 +186,7 @@ fn instance(alloc: Global, wiring: &Wiring, k: u16) -> Result<Instance, NoMemory
         bit: k,
         kind: wiring.kind,
         delay: wiring.plan.delay,
-        split: None,
+        split: wiring.plan.split,
         limits: wiring.plan.limits,
         pins: pins(alloc, wiring.kind, wiring.ins, k as usize)?,
         out: target(output),

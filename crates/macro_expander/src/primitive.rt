@@ -1,29 +1,37 @@
 //! What a use of a primitive says before its connections are looked at.
 
-ghost use Rattle.std.specs.Prelude.{◌≡◌, ◌+◌, ◌∷◌, [], map, is_some, option_map};
+ghost use Rattle.std.specs.Prelude.{◌≡◌, ◌≤◌, ◌+◌, ◌∷◌, [], map, is_some, option_map};
 ghost use Rattle.std.specs.List.{list_any};
 ghost use Rattle.std.specs.Str.{bytes_eq};
 ghost use Rattle.element_kinds.specs.Kinds.{kind_of};
+ghost use Rattle.flat_circuit.specs.Split.{may_split as spec_may_split};
 ghost use Rattle.drawing_tree.specs.Tree.{assignment_of, connection_of, both_of, use_of};
-ghost use Rattle.macro_expander.specs.Primitives.{parameters_for, fewest_inputs as spec_fewest, most_inputs as spec_most, most_marks as spec_most_marks, takes as spec_takes, are_of, marks as spec_marks, delay_between as spec_delay_between, written_delay as spec_written_delay, delay_of as spec_delay_of, setup_and_hold as spec_setup_and_hold, high_and_low as spec_high_and_low, limits_for as spec_limits_for, limits_of as spec_limits_of, are_connected as spec_are_connected, plan_of};
+ghost use Rattle.macro_expander.specs.Primitives.{parameters_for, fewest_inputs as spec_fewest, most_inputs as spec_most, most_marks as spec_most_marks, takes as spec_takes, are_of, marks as spec_marks, delay_within as spec_delay_within, delay_between as spec_delay_between, written_delay as spec_written_delay, fall_of, split_of as spec_split_of, delays_of as spec_delays_of, takes_delays as spec_takes_delays, setup_and_hold as spec_setup_and_hold, high_and_low as spec_high_and_low, limits_for as spec_limits_for, limits_of as spec_limits_of, are_connected as spec_are_connected, plan_of};
 ghost use Rattle.macro_expander.specs.Steps.{JudgedAt};
 
 use crate::parameter::{comes_again, value_given, values_given};
 use crate::range::{at, value};
 use drawing_tree::{Assigns, Conns, UseStmt};
 use element_kinds::{Check, Kind, kind_named};
+use flat_circuit::Split;
 use scald_base::{Delay, RefusalKind, Stop, same_bytes};
 use scald_expr::{Env, Expr};
 use std::alloc::Global;
 
-/// The delay of a primitive's bits and a checker's limits, in ticks.
+/// The delays of a primitive's bits and a checker's limits, in ticks.
 #[derive(Clone, Copy, PartialEq, Eq, Debug)]
 pub struct Plan {
+    /// The bounds of the delay, or from the least to the greatest of both.
     pub delay: Delay,
+    /// The bounds of the rise delay and of the fall delay, where two are written.
+    pub split: Option<Split>,
     pub limits: (u16, u16),
 }
 
-const LONGEST_DELAY: i64 = 4095;
+const LONGEST_DELAY: u16 = 4095;
+
+/// The longest rise delay and fall delay, where two are written.
+const LONGEST_SPLIT: u16 = 255;
 
 /// The primitive of a name.
 pub(crate) fn primitive(name: &[u8]) -> Option<Kind>
@@ -101,17 +109,26 @@ pub(crate) fn marks(connections: &Conns) -> usize
     connections.as_slice().iter().filter(|c| c.hold).count()
 }
 
-/// A delay's bounds, which are refused where the least is above the greatest or that is too long.
-pub(crate) fn delay_between(min: i64, max: i64) -> Result<Delay, RefusalKind>
-    ensures { result ≡ spec_delay_between min max }
+/// A delay's bounds, which are refused where the least is negative or above the greatest, or the
+/// greatest is above the longest.
+fn delay_within(longest: u16, min: i64, max: i64) -> Result<Delay, RefusalKind>
+    requires { longest ≤ 4095 }
+    ensures { result ≡ spec_delay_within longest min max }
 {
-    if 0 <= min && min <= max && max <= LONGEST_DELAY {
+    if 0 <= min && min <= max && max <= i64::from(longest) {
         return Ok(Delay {
             min: min as u16,
             max: max as u16,
         });
     }
     Err(RefusalKind::Bounds)
+}
+
+/// The bounds of the one delay of an element, or of a wire.
+pub(crate) fn delay_between(min: i64, max: i64) -> Result<Delay, RefusalKind>
+    ensures { result ≡ spec_delay_between min max }
+{
+    delay_within(LONGEST_DELAY, min, max)
 }
 
 fn written_delay(delay: &Option<(Expr, Expr)>, env: &Env) -> Result<Option<(i64, i64)>, RefusalKind>
@@ -127,13 +144,55 @@ fn written_delay(delay: &Option<(Expr, Expr)>, env: &Env) -> Result<Option<(i64,
     }
 }
 
-fn delay_of(ends: Option<(i64, i64)>) -> Result<Delay, RefusalKind>
-    ensures { result ≡ spec_delay_of ends }
+/// The fall delay of a use, which without a delay counts as not there.
+fn written_fall(statement: &UseStmt, env: &Env) -> Result<Option<(i64, i64)>, RefusalKind>
+    ensures { result ≡ spec_written_delay env.now (fall_of (use_of statement.now)) }
 {
-    match ends {
-        None => Ok(Delay { min: 0, max: 0 }),
-        Some((min, max)) => delay_between(min, max),
+    match statement.delay {
+        None => Ok(None),
+        Some(_) => written_delay(&statement.fall, env),
     }
+}
+
+/// The bounds of two delays.
+fn split_of(rise: (i64, i64), fall: (i64, i64)) -> Result<Split, RefusalKind>
+    ensures { result ≡ spec_split_of rise fall }
+{
+    let rise = delay_within(LONGEST_SPLIT, rise.0, rise.1)?;
+    let fall = delay_within(LONGEST_SPLIT, fall.0, fall.1)?;
+    Ok(Split { rise, fall })
+}
+
+/// The bounds of all delays, and the two delays where two are written.
+fn delays_of(
+    delay: Option<(i64, i64)>,
+    fall: Option<(i64, i64)>,
+) -> Result<(Delay, Option<Split>), RefusalKind>
+    ensures { result ≡ spec_delays_of delay fall }
+{
+    match (delay, fall) {
+        (None, _) => Ok((Delay { min: 0, max: 0 }, None)),
+        (Some((min, max)), None) => Ok((delay_between(min, max)?, None)),
+        (Some(rise), Some(fall)) => {
+            let split = split_of(rise, fall)?;
+            Ok((split.either(), Some(split)))
+        }
+    }
+}
+
+fn may_split(kind: Kind) -> bool
+    ensures { result ≡ spec_may_split kind }
+{
+    kind.form().is_function()
+}
+
+/// Whether the kind takes the delays of a use: none where it has no output, else one, or two where
+/// it may have two.
+fn takes_delays(kind: Kind, statement: &UseStmt) -> bool
+    ensures { result ≡ spec_takes_delays kind (use_of statement.now) }
+{
+    let is_split = statement.delay.is_some() && statement.fall.is_some();
+    statement.delay.is_some() == kind.has_output() && (!is_split || may_split(kind))
 }
 
 fn setup_and_hold(period: u16, setup: i64, hold: i64) -> Result<(u16, u16), RefusalKind>
@@ -193,7 +252,7 @@ fn are_connected(kind: Kind, statement: &UseStmt) -> bool
         && marks(&statement.outs) == 0
 }
 
-/// The delay and the limits of a use, or its refusal: a delay that is missing or not allowed, a
+/// The delays and the limits of a use, or its refusal: a delay that is missing or not allowed, a
 /// parameter that is not the kind's or comes twice, the first fault of an expression, a value out of
 /// its bounds, or a wrong number of connections or marks.
 #[tactic(auto, unfolding(crate::specs::Primitives::plan_of))]
@@ -207,18 +266,23 @@ pub(crate) fn planned(
     ensures { JudgedAt statement.now.place result (plan_of period kind env.now (use_of statement.now)) }
 {
     let place = statement.place;
-    if statement.delay.is_some() != kind.has_output() {
+    if !takes_delays(kind, statement) {
         return Err(Stop::refused(RefusalKind::Bounds, place));
     }
     if !are_parameters(kind, &statement.params) {
         return Err(Stop::refused(RefusalKind::BadParameter, place));
     }
     let ends = at(place, written_delay(&statement.delay, env))?;
+    let fall = at(place, written_fall(statement, env))?;
     let given = values_given(alloc, &statement.params, env, place)?;
-    let delay = at(place, delay_of(ends))?;
+    let (delay, split) = at(place, delays_of(ends, fall))?;
     let limits = at(place, limits_of(period, kind, &given))?;
     if !are_connected(kind, statement) {
         return Err(Stop::refused(RefusalKind::PinCount, place));
     }
-    Ok(Plan { delay, limits })
+    Ok(Plan {
+        delay,
+        split,
+        limits,
+    })
 }

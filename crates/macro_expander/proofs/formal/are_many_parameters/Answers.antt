@@ -46,5 +46,6 @@ loop-place-preserved c =
     let on : c.is_known.result ≡ true = search rules in
     let is_one : known x.name ≡ true = sym (subst (λ (n : List ℕ). c.is_known.result ≡ known n) c.name-name.ensures c.is_known.ensures) ∙ on in
     subst (λ (es : List Place). KnownBehind known params es i) (sym c.in_ok-insert.ensures.entries)
-    (stays_known known params i x below c.index-params-place.is c.loop-place.behind.entries c.in_ok-key.key is_one (sym found ∙ c.if-is_some.false) (c.in_ok-key.ensures.items ∙ c.name-name.ensures)
+    (stays_known known params i x below c.index-params-place.is c.loop-place.behind.entries
+    c.in_ok-key.key is_one (sym found ∙ c.if-is_some.false) (c.in_ok-key.ensures.items ∙ c.name-name.ensures)
     (subst (λ (n : ℕ). KnownBehind known params c.loop-place.behind.entries n) next c.loop-place.invariant))
