@@ -6,8 +6,10 @@ use Rattle.element_kinds.specs.declared.kind.Kind.{Kind}
 use Rattle.element_kinds.specs.declared.kind.Kind.TheVariants.{Chg, Reg, RegRs, Latch, LatchRs, SetupHold, RiseFall, MinPulse}
 use Rattle.flat_circuit.specs.declared.instance.Pin.{Pin}
 use Rattle.flat_circuit.specs.declared.net.Net.{Net}
+use Rattle.flat_circuit.specs.declared.split.Split.{Split}
 use Rattle.element_kinds.specs.Equation.{pins_before, IsAsked}
-use Rattle.flat_circuit.specs.Run.{DelayFits, WiresFit}
+use Rattle.flat_circuit.specs.Run.{Within, DelayFits, WiresFit}
+use Rattle.flat_circuit.specs.Split.{either_delay, IsSplitAsked}
 use Rattle.net_waves.proofs.Permitted.{wire-within}
 use Rattle.element_kinds.specs.Kinds.{has_output}
 use Rattle.fixpoint_engine.specs.Reach.{greatest_wire}
@@ -55,3 +57,11 @@ asked SetupHold d delay wires t makes within far = cc
 asked RiseFall d delay wires t makes within far = cc
 asked MinPulse d delay wires t makes within far = cc
 asked kind d delay wires t makes within far = let high : delay ≤ d.max = within.1 in pins-asked delay t wires (omega arith)
+
+-- of two delays the longer one counts
+pub asked-split : (s : Split) (rise fall : ℕ) (wires : List ℕ) (t : ℕ) → Within s.rise rise → Within s.fall fall →
+    1 + longest wires + (either_delay s).max ≤ t → IsSplitAsked rise fall wires t
+asked-split s rise fall wires t rises falls far =
+    let high : rise ≤ s.rise.max = rises.1 in
+    let high' : fall ≤ s.fall.max = falls.1 in
+    pins-asked (max rise fall) t wires (omega (arith, high, high', far))

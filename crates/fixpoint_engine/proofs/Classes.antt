@@ -145,10 +145,11 @@ module _ (c : Circuit) (cases : List (List CaseValue)) (k : List ℕ) (known : I
     instances-same a b exist exist' h =
         let kind = h.kind in
         let delay = h.delay in
+        let split = h.split in
         let complement = h.complement in
         let pins = pins-same a.pins b.pins exist exist' h.pins in
         let marked = marked-same a b h in
-        λ i. normal values (turned_wave (complement i) (made_by (kind i) (pins i) (marked i) (delay i)))
+        λ i. normal values (turned_wave (complement i) (made_by (kind i) (pins i) (marked i) (delay i) (split i)))
 
     from-same : (x y : Option ℕ) (v w : Wave Value) → v ≡ w → DriversAlike k (instance_of c x) (instance_of c y) →
         wave_from c ws (instance_in c x) v ≡ wave_from c ws (instance_in c y) w

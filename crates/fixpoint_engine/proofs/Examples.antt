@@ -16,10 +16,13 @@ use Rattle.element_kinds.specs.declared.kind.Kind.TheVariants.{Buf, And, Xor, Re
 use Rattle.flat_circuit.specs.declared.instance.Pin.{Pin}
 use Rattle.flat_circuit.specs.declared.instance.Instance.{Instance}
 use Rattle.flat_circuit.specs.declared.net.Net.{Net}
+use Rattle.flat_circuit.specs.declared.split.Split.{Split}
+use Rattle.flat_circuit.specs.Split.{either_delay}
 use Rattle.flat_circuit.specs.Circuit.{Circuit}
 use Rattle.gate_eval.specs.Meeting.{meeting}
 use Rattle.gate_eval.specs.Hold.{hazard}
 use Rattle.gate_eval.specs.Instance.{gate_wave}
+use Rattle.gate_eval.specs.Split.{split_wave}
 use Rattle.storage_eval.specs.Instance.{storage_wave}
 use Rattle.fixpoint_engine.specs.Value.{instance_wave}
 use Rattle.fixpoint_engine.specs.Rounds.{next, round}
@@ -49,7 +52,22 @@ not_on i = record { target = OnNet i; inverted = true; hold = false }
 
 abbrev element : Kind → Bounds → List Pin → ℕ → Instance
 element kind delay pins out =
-    record { path = []; bit = 0; kind = kind; delay = delay; split = None; limits = (0, 0); pins = pins; out = Some (OnNet out); out_inverted = false; place = record { line = 1; col = 1 } }
+    record {
+      path = [];
+      bit = 0;
+      kind = kind;
+      delay = delay;
+      split = None;
+      limits = (0, 0);
+      pins = pins;
+      out = Some (OnNet out);
+      out_inverted = false;
+      place = record { line = 1; col = 1 };
+    }
+
+-- a buffer with a rise delay and a fall delay
+abbrev split_buffer : Split → List Pin → ℕ → Instance
+split_buffer s pins out = record (element Buf (either_delay s) pins out) { split = Some s }
 
 abbrev circuit : List Net → List Instance → Circuit
 circuit nets instances = record { header = header; nets = nets; instances = instances; order = [] }
@@ -91,6 +109,40 @@ paths_reach = refl
 
 paths_limit : default_limit paths ≡ 51
 paths_limit = refl
+
+-- ---- two delays: a buffer whose rise comes after 1 and whose fall after 3 or 4, and one of the complement, whose output is
+-- complemented too, whose rise comes after 2 and whose fall after 0 or 1; the skew stays beside both
+
+abbrev two_by_two : Circuit
+two_by_two = circuit (clock ∷ driven_by 0 ∷ driven_by 1 ∷ driven_by 2 ∷ [])
+    (element Buf (bounds 1 2) (on 0 ∷ []) 1
+    ∷ split_buffer (record { rise = bounds 1 1; fall = bounds 3 4 }) (on 1 ∷ []) 2
+    ∷ record (split_buffer (record { rise = bounds 2 2; fall = bounds 0 1 }) (not_on 2 ∷ []) 3) { out_inverted = true } ∷ [])
+
+split_of_unknown : after two_by_two 1 2 ≡ skewed (U ∷ U ∷ U ∷ U ∷ U ∷ U ∷ U ∷ U ∷ []) 0
+unfolding image1 round next instance_wave gate_wave split_wave meeting hazard back earlier normal moved
+split_of_unknown = refl
+
+split_of_a_pulse : after two_by_two 2 2 ≡ skewed (F ∷ Zero ∷ Zero ∷ Zero ∷ R ∷ S ∷ S ∷ F ∷ []) 1
+unfolding image1 round next instance_wave gate_wave split_wave meeting hazard back earlier normal moved
+split_of_a_pulse = refl
+
+split_of_the_complement : after two_by_two 3 3 ≡ skewed (S ∷ F ∷ F ∷ Zero ∷ R ∷ R ∷ S ∷ S ∷ []) 1
+unfolding image1 round next instance_wave gate_wave split_wave meeting hazard back earlier normal moved
+split_of_the_complement = refl
+
+split_rests : after two_by_two 4 3 ≡ after two_by_two 3 3
+unfolding image1 round next instance_wave gate_wave split_wave meeting hazard back earlier normal moved
+split_rests = refl
+
+-- three are due in round 1, the second in round 2, and the third in round 3
+split_work : work_to two_by_two (is_driven two_by_two) (after two_by_two) 4 ≡ 5
+unfolding image1 work_to is_due round next instance_wave gate_wave split_wave meeting hazard back earlier normal moved
+split_work = refl
+
+-- the greater of the greatest rise delay and the greatest fall delay
+split_reach : reach two_by_two ≡ 5
+split_reach = refl
 
 -- ---- a loop through a register: its output may change where its clock rises
 

@@ -9,7 +9,10 @@ use Rattle.wave_core.specs.Slots.{earlier}
 use Rattle.skew_algebra.specs.Wave.{Wave, skewed, normal}
 use Rattle.element_kinds.specs.declared.kind.Kind.TheVariants.{Buf, And, Or, Xor, Mux2, Mux4, Mux8, Chg, Reg, RegRs, Latch, LatchRs, SetupHold, RiseFall, MinPulse}
 use Rattle.flat_circuit.specs.declared.instance.Pin.{Pin}
+use Rattle.flat_circuit.specs.declared.instance.Instance.{Instance}
 use Rattle.flat_circuit.specs.declared.net.Net.{Net}
+use Rattle.flat_circuit.specs.declared.split.Split.{Split}
+use Rattle.flat_circuit.specs.Split.{either_delay}
 use Rattle.net_waves.proofs.ExamplesInterface.{bounds, net, element, on, circuit, small}
 use Rattle.fixpoint_engine.specs.Rounds.{RestsAt, IsUnsettled}
 use Rattle.fixpoint_engine.specs.Start.{base_start, is_driven}
@@ -44,6 +47,16 @@ second_instance : reach
     (element Buf (bounds 0 4) (on 0 ∷ []) (Some 0) ∷ element Buf (bounds 0 3) (on 1 ∷ []) (Some 1)
     ∷ [])) ≡ 11
 second_instance = refl
+
+-- with two delays the greater of the greatest rise delay and the greatest fall delay
+abbrev split_buffer : Split → Instance
+split_buffer s = record (element Buf (either_delay s) (on 0 ∷ []) (Some 1)) { split = Some s }
+
+long_rise : reach (circuit wires (split_buffer (record { rise = bounds 1 9; fall = bounds 0 3 }) ∷ [])) ≡ 12
+long_rise = refl
+
+long_fall : reach (circuit wires (split_buffer (record { rise = bounds 2 3; fall = bounds 4 6 }) ∷ [])) ≡ 9
+long_fall = refl
 
 -- a checker takes no time by itself
 one_checker : reach (circuit wires (element SetupHold (bounds 5 9) (on 0 ∷ on 1 ∷ []) None ∷ []))

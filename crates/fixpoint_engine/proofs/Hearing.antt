@@ -11,9 +11,9 @@ use Rattle.element_kinds.specs.declared.kind.Kind.{Kind}
 use Rattle.element_kinds.specs.declared.kind.Kind.TheVariants.{Reg, RegRs, Latch, LatchRs}
 use Rattle.flat_circuit.specs.declared.instance.Pin.{Pin}
 use Rattle.flat_circuit.specs.declared.instance.Instance.{Instance}
+use Rattle.flat_circuit.specs.declared.split.Split.{Split}
 use Rattle.element_kinds.specs.Kinds.{listens}
 use Rattle.flat_circuit.specs.Circuit.{Circuit}
-use Rattle.gate_eval.specs.Instance.{gate_wave}
 use Rattle.storage_eval.specs.Storage.{listening_from}
 use Rattle.storage_eval.proofs.Dependence.{storage_wave-listening}
 use Rattle.pin_waves.specs.Pin.{pin_wave as wave_behind}
@@ -55,19 +55,20 @@ all-same : (c : Circuit) (ws vs : Waves) (kind : Kind) (ps : List Pin) → ((pla
 all-same c ws vs kind ps all unheard =
     sym (listening-all kind all 0 (map (pin_wave c ws) ps)) ∙ listening-same c ws vs kind 0 ps unheard ∙ listening-all kind all 0 (map (pin_wave c vs) ps)
 
-made-same : (c : Circuit) (ws vs : Waves) (kind : Kind) (ps : List Pin) (marked : Option ℕ) (d : Bounds) → hears_from (differs ws vs) kind 0 ps ≡ false →
-    made_by kind (map (pin_wave c ws) ps) marked d ≡ made_by kind (map (pin_wave c vs) ps) marked d
-made-same c ws vs Reg ps marked d unheard = storage_wave-listening Reg _ _ d (listening-same c ws vs Reg 0 ps unheard)
-made-same c ws vs RegRs ps marked d unheard = storage_wave-listening RegRs _ _ d (listening-same c ws vs RegRs 0 ps unheard)
-made-same c ws vs Latch ps marked d unheard = storage_wave-listening Latch _ _ d (listening-same c ws vs Latch 0 ps unheard)
-made-same c ws vs LatchRs ps marked d unheard = storage_wave-listening LatchRs _ _ d (listening-same c ws vs LatchRs 0 ps unheard)
-made-same c ws vs kind ps marked d unheard =
-    ap (λ (waves : List (Wave Value)). gate_wave kind waves marked d) (all-same c ws vs kind ps (λ place. refl) unheard)
+made-same : (c : Circuit) (ws vs : Waves) (kind : Kind) (ps : List Pin) (marked : Option ℕ) (d : Bounds) (split : Option Split) →
+    hears_from (differs ws vs) kind 0 ps ≡ false →
+    made_by kind (map (pin_wave c ws) ps) marked d split ≡ made_by kind (map (pin_wave c vs) ps) marked d split
+made-same c ws vs Reg ps marked d split unheard = storage_wave-listening Reg _ _ d (listening-same c ws vs Reg 0 ps unheard)
+made-same c ws vs RegRs ps marked d split unheard = storage_wave-listening RegRs _ _ d (listening-same c ws vs RegRs 0 ps unheard)
+made-same c ws vs Latch ps marked d split unheard = storage_wave-listening Latch _ _ d (listening-same c ws vs Latch 0 ps unheard)
+made-same c ws vs LatchRs ps marked d split unheard = storage_wave-listening LatchRs _ _ d (listening-same c ws vs LatchRs 0 ps unheard)
+made-same c ws vs kind ps marked d split unheard =
+    ap (λ (waves : List (Wave Value)). made_by kind waves marked d split) (all-same c ws vs kind ps (λ place. refl) unheard)
 
 pub instance-same : (c : Circuit) (ws vs : Waves) (j : Instance) → hears_in (differs ws vs) (Some j) ≡ false → instance_wave c ws j ≡ instance_wave c vs j
 unfolding instance_wave
 instance-same c ws vs j unheard =
-    ap (λ (w : Wave Value). normal values (turned_wave j.out_inverted w)) (made-same c ws vs j.kind j.pins (marked_pin j) j.delay unheard)
+    ap (λ (w : Wave Value). normal values (turned_wave j.out_inverted w)) (made-same c ws vs j.kind j.pins (marked_pin j) j.delay j.split unheard)
 
 -- A net whose driver listens to nothing that changed keeps the wave that the round before gave it.
 pub stays : (c : Circuit) (active : ℕ → Bool) (before now : Waves) (i : ℕ) → now i ≡ next c active before i → hears_in (differs before now) (driver c i) ≡ false →

@@ -49,10 +49,10 @@ normal-same w some fits = by (is_steady values w.cells) refl
         normal-moving values w q ∙ (λ k. skewed w.cells (skew k))
 
 pub instance-is : (c : Circuit) (ws : Waves) (j : Instance) (waves : List (Wave Value)) (marked : Option ℕ) (inverted : Bool) (made result : Wave Value) → j.out_inverted ≡ inverted →
-    0 < length result.cells → IsNormal values result → waves ≡ pin_waves c ws j → marked ≡ marked_pin j → made ≡ made_by j.kind waves marked j.delay → result ≡ turned_wave inverted made →
-    result ≡ instance_wave c ws j
+    0 < length result.cells → IsNormal values result → waves ≡ pin_waves c ws j → marked ≡ marked_pin j → made ≡ made_by j.kind waves marked j.delay j.split →
+    result ≡ turned_wave inverted made → result ≡ instance_wave c ws j
 unfolding instance_wave
 instance-is c ws j waves marked inverted made result is some fits pins mark makes turns =
     sym (normal-same result some fits) ∙ ap (normal values) turns
     ∙ (λ k. normal values (turned_wave (sym is k) (makes k)))
-    ∙ (λ k. normal values (turned_wave j.out_inverted (made_by j.kind (pins k) (mark k) j.delay)))
+    ∙ (λ k. normal values (turned_wave j.out_inverted (made_by j.kind (pins k) (mark k) j.delay j.split)))

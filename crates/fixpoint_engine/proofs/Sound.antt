@@ -2,7 +2,7 @@
 use Rattle.std.proofs.Common.{◌≡◌, ℕ, zero, suc, ◌+◌, ◌-◌, ◌*◌, ◌<◌, ◌≤◌, Bool, true, false, List, [], ◌∷◌, length, map, refl, sym, ap, subst, ◌∙◌, arith, All, slice_get, Option, Some, None}
 use Rattle.std.proofs.lemmas.Bool.{cond_both}
 use Rattle.std.proofs.lemmas.List.Elements.{All-head, All-tail}
-use Rattle.scald_base.specs.Time.{period}
+use Rattle.scald_base.specs.Time.{Bounds, period}
 use Rattle.scald_base.specs.Signal.{Signal, turned}
 use Rattle.vector_names.specs.declared.bits.Target.{Target}
 use Rattle.vector_names.specs.declared.bits.Target.TheVariants.{Net as OnNet}
@@ -15,10 +15,12 @@ use Rattle.skew_algebra.proofs.Moves.{Permits-after, Permits-normal, Permits-fli
 use Rattle.flat_circuit.specs.declared.instance.Pin.{Pin}
 use Rattle.flat_circuit.specs.declared.instance.Instance.{Instance}
 use Rattle.flat_circuit.specs.declared.net.Net.{Net}
+use Rattle.flat_circuit.specs.declared.split.Split.{Split}
 use Rattle.element_kinds.specs.Kinds.{has_output}
 use Rattle.flat_circuit.specs.Instances.{InstanceFits, PinExists, out_of}
 use Rattle.flat_circuit.specs.Circuit.{Circuit, IsCircuit, driver_at}
-use Rattle.flat_circuit.specs.Run.{Choice, Run, IsRun, IsRunAt, net_signal, pin_signals, out_signal, WiresFit}
+use Rattle.flat_circuit.specs.Run.{Choice, Run, IsRun, DelaysFit, Obeys, IsRunAt, net_signal, pin_signals, out_signal, WiresFit}
+use Rattle.flat_circuit.specs.Split.{either_delay, two_delays}
 use Rattle.gate_eval.specs.Permitted.{AllPermit}
 use Rattle.net_waves.specs.Waves.{Waves, pin_wave, pin_waves, marked_pin}
 use Rattle.net_waves.specs.Interface.{PermitRun}
@@ -28,10 +30,9 @@ use Rattle.flat_circuit.proofs.Numbered.{fits-of}
 use Rattle.fixpoint_engine.specs.Value.{made_by, turned_wave, instance_wave}
 use Rattle.fixpoint_engine.specs.Rounds.{instance_in, wave_from, evaluated, next, round}
 use Rattle.fixpoint_engine.specs.Reach.{greatest_wire, greatest_delay, farthest, reach}
-use Rattle.fixpoint_engine.proofs.Made.{length-turned}
-use Rattle.fixpoint_engine.proofs.Asked.{wires-within, asked}
+use Rattle.fixpoint_engine.proofs.Asked.{longest, wires-within, asked, asked-split}
 use Rattle.fixpoint_engine.proofs.Drivers.{makes-of}
-use Rattle.fixpoint_engine.proofs.Made.{made-sound, made-long, instance-fits}
+use Rattle.fixpoint_engine.proofs.Made.{length-turned, made-sound, made-split-sound, spans-both, made-long, instance-fits}
 
 -- ---- pins
 
@@ -59,6 +60,21 @@ turned-permits : (inverted : Bool) (w : Wave Value) (n v : ℕ) (x : Signal) →
 turned-permits true w n v x some permits = Permits-flipped values values_lawful w some n v x permits
 turned-permits false w n v x some permits = permits
 
+-- what is made of the waves at its pins permits its output, before the complement
+made-permits : (c : Circuit) (run : Run) (ws : Waves) (j : Instance) (choice : Choice) (seen : ℕ) (signals : List Signal) (output : Signal) (counted : Option Split) →
+    0 < period c.header → AreLong c ws → InstanceFits c.header (length c.nets) j → has_output j.kind ≡ true → two_delays j.kind j.split ≡ counted →
+    AllPermit values (pin_waves c ws j) run.ticks signals seen → 1 + longest choice.wires ≤ seen →
+    DelaysFit j.kind j.delay counted choice → Obeys run.ticks j.kind j.delay counted choice signals output →
+    Permits values (made_by j.kind (pin_waves c ws j) (marked_pin j) j.delay j.split) run.ticks output (seen + j.delay.max + 1)
+made-permits c run ws j choice seen signals output None some fit fits makes counted pins far delay obeys =
+    made-sound c ws j some fit fits makes counted run.ticks run.ticks seen choice.delay signals output pins (omega (arith, far)) delay (omega arith)
+    (λ t tv tm. obeys t tm (asked j.kind j.delay choice.delay choice.wires t makes delay (omega (arith, far))))
+made-permits c run ws j choice seen signals output (Some s) some fit fits makes counted pins far delays obeys =
+    let span : j.delay ≡ either_delay s = spans-both j.kind j.delay j.split s counted fits.split in
+    subst (λ (d : Bounds). Permits values (made_by j.kind (pin_waves c ws j) (marked_pin j) j.delay j.split) run.ticks output (seen + d.max + 1)) (sym span)
+    (made-split-sound c ws j s some fit fits counted run.ticks run.ticks seen choice.rise choice.fall signals output pins (omega (arith, far)) delays.0 delays.1 (omega arith)
+    (λ t tv tm. obeys t tm (asked-split s choice.rise choice.fall choice.wires t delays.0 delays.1 (omega (arith, far)))))
+
 instance-permits : (c : Circuit) (run : Run) (ws : Waves) (j : Instance) (i : ℕ) (choice : Choice) (v u : ℕ) →
     0 < period c.header → AreLong c ws → InstanceFits c.header (length c.nets) j → PermitRun c run ws v → 1 ≤ v →
     IsRunAt c run j choice → has_output j.kind ≡ true → j.out ≡ Some (OnNet i) → v + greatest_wire c.nets j.pins + j.delay.max + 1 ≤ u →
@@ -66,14 +82,13 @@ instance-permits : (c : Circuit) (run : Run) (ws : Waves) (j : Instance) (i : �
 unfolding instance_wave
 instance-permits c run ws j i choice v u some fit fits permits v1 at makes out far =
     let seen : ℕ = v + greatest_wire c.nets j.pins in
-    let made : Wave Value = made_by j.kind (pin_waves c ws j) (marked_pin j) j.delay in
+    let made : Wave Value = made_by j.kind (pin_waves c ws j) (marked_pin j) j.delay j.split in
     let output : Signal = out_signal run j.out j.out_inverted in
     let wires = wires-within c.nets j.pins choice.wires at.wires in
     let made_permits : Permits values made run.ticks output (seen + j.delay.max + 1) =
-    made-sound c ws j some fit fits makes run.ticks run.ticks seen choice.delay (pin_signals run j.pins choice.wires) output
+    made-permits c run ws j choice seen (pin_signals run j.pins choice.wires) output (two_delays j.kind j.split) some fit fits makes refl
     (pins-permit c run ws j.pins choice.wires v seen some fit fits.exists.reads permits v1 at.wires (omega arith))
-    (omega arith) at.delay (omega arith)
-    (λ t tv tm. at.obeys t tm (asked j.kind j.delay choice.delay choice.wires t makes at.delay (omega (arith, wires)))) in
+    (omega (arith, wires)) at.delay at.obeys in
     let long : length made.cells ≡ period c.header = made-long c ws j some fit fits in
     let turned_permits = turned-permits j.out_inverted made run.ticks (seen + j.delay.max + 1) output (omega arith) made_permits in
     let turned_long : length (turned_wave j.out_inverted made).cells ≡ period c.header = length-turned j.out_inverted made ∙ long in

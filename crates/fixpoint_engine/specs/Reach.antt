@@ -13,7 +13,8 @@ abbrev pub greatest_wire : List Net → List Pin → ℕ
 greatest_wire nets [] = 0
 greatest_wire nets (p ∷ ps) = max (target_wire nets p.target).max (greatest_wire nets ps)
 
--- the most that an instance takes by itself: a checker takes no time
+-- The most that an instance takes by itself: with two delays the greatest of both, with which `delay` ends. A checker
+-- takes no time.
 abbrev pub greatest_delay : Instance → ℕ
 greatest_delay j = if has_output j.kind then j.delay.max else 0
 

@@ -1,18 +1,19 @@
 //! What an instance makes of the waves of all nets.
 
-ghost use Rattle.std.specs.Prelude.{◌≡◌, ◌<◌, IfOk, count_by, length, map, true};
+ghost use Rattle.std.specs.Prelude.{◌≡◌, ◌<◌, IfOk, None, count_by, length, map, true};
 ghost use Rattle.std.specs.List.{position};
 ghost use Rattle.std.specs.Option.{option_copied};
 ghost use Rattle.element_kinds.specs.Kinds.{has_output};
 ghost use Rattle.flat_circuit.specs.Instances.{InstanceFits};
-ghost use Rattle.gate_eval.specs.Instance.{CountsFit, IsSound};
+ghost use Rattle.flat_circuit.specs.Split.{SplitFits};
+ghost use Rattle.gate_eval.specs.Instance.{CountsFit};
 ghost use Rattle.gate_eval.specs.Meeting.{HaveOnePeriod};
 ghost use Rattle.net_waves.specs.Waves.{FitWaves, waves_of};
 ghost use Rattle.fixpoint_engine.specs.Value.{instance_wave, made_by};
 ghost use Rattle.fixpoint_engine.specs.Rounds.{driver, evaluated};
 
-use flat_circuit::{Circuit, Instance, Kind};
-use gate_eval::{PinWaves, eval_gate};
+use flat_circuit::{Circuit, Instance, Kind, Split};
+use gate_eval::{PinWaves, eval_gate, eval_split};
 use net_waves::{Waves, waves_at_pins};
 use scald_base::{Delay, NoMemory};
 use skew_algebra::Skewed;
@@ -21,8 +22,8 @@ use step_values::Value;
 use storage_eval::eval_storage;
 use wave_core::CyclicWave;
 
-/// What a kind with an output makes of the waves at its pins.
-fn made_by<W: CyclicWave<Item = Value>>(
+/// What a kind with an output and one delay makes of the waves at its pins.
+fn made_by_one<W: CyclicWave<Item = Value>>(
     alloc: Global,
     kind: Kind,
     pins: &PinWaves<W>,
@@ -31,15 +32,35 @@ fn made_by<W: CyclicWave<Item = Value>>(
     requires makes { has_output kind ≡ true }
     requires pins { CountsFit kind (length pins.now) (count_by (λ p. p.hold) pins.now) }
     requires periods { HaveOnePeriod (map (λ p. p.wave) pins.now) }
-    ensures wave { IfOk result (λ s.
-        s ≡ made_by kind (map (λ p. p.wave) pins.now) (position (λ p. p.hold) pins.now) d) }
-    ensures sound { IfOk result (λ s. IsSound kind d (map (λ p. p.wave) pins.now) s) }
+    ensures { IfOk result (λ s.
+        s ≡ made_by kind (map (λ p. p.wave) pins.now) (position (λ p. p.hold) pins.now) d None) }
 {
     match kind {
         Kind::Reg | Kind::RegRs | Kind::Latch | Kind::LatchRs => {
             eval_storage(alloc, kind, pins, d)
         }
         _ => eval_gate(alloc, kind, pins, d),
+    }
+}
+
+/// What a kind with an output makes of the waves at its pins, with one delay or with two.
+fn made_by<W: CyclicWave<Item = Value>>(
+    alloc: Global,
+    kind: Kind,
+    pins: &PinWaves<W>,
+    d: Delay,
+    split: Option<Split>,
+) -> Result<Skewed<W>, NoMemory>
+    requires makes { has_output kind ≡ true }
+    requires split { SplitFits kind d split }
+    requires pins { CountsFit kind (length pins.now) (count_by (λ p. p.hold) pins.now) }
+    requires periods { HaveOnePeriod (map (λ p. p.wave) pins.now) }
+    ensures { IfOk result (λ s.
+        s ≡ made_by kind (map (λ p. p.wave) pins.now) (position (λ p. p.hold) pins.now) d split) }
+{
+    match split {
+        Some(s) => eval_split(alloc, kind, pins, s),
+        None => made_by_one(alloc, kind, pins, d),
     }
 }
 
@@ -57,7 +78,7 @@ fn instance_wave<W: CyclicWave<Item = Value>>(
 {
     c.header().known();
     let pins = waves_at_pins(alloc, c, waves, instance.pins.as_slice())?;
-    let wave = made_by(alloc, instance.kind, &pins, instance.delay)?;
+    let wave = made_by(alloc, instance.kind, &pins, instance.delay, instance.split)?;
     if instance.out_inverted {
         let turned = wave.flipped(alloc)?;
         turned.known();

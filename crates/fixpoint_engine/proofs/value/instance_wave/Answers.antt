@@ -41,7 +41,7 @@ returns-then-instance g c =
     (let two = c.known-then-instance.ensures.sized.shortest in omega (arith, two)) c.known-then-instance.ensures.normal
     (c.in_ok-pins.ensures.waves ∙ ap (map (pin_wave c.args.c.now (waves_of c.args.waves.now))) c.as_slice.ensures)
     (position-marks (λ p. p.hold) (λ p. p.hold) c.in_ok-pins.pins c.as_slice.result.now c.in_ok-pins.ensures.marks ∙ ap (position (λ p. p.hold)) c.as_slice.ensures)
-    c.in_ok-wave.ensures.wave c.in_ok-turned.ensures.wave
+    c.in_ok-wave.ensures c.in_ok-turned.ensures.wave
 
 pub returns : goal.returns
 returns g c =
@@ -50,4 +50,4 @@ returns g c =
     (let two = c.known-else-instance.ensures.sized.shortest in omega (arith, two)) c.known-else-instance.ensures.normal
     (c.in_ok-pins.ensures.waves ∙ ap (map (pin_wave c.args.c.now (waves_of c.args.waves.now))) c.as_slice.ensures)
     (position-marks (λ p. p.hold) (λ p. p.hold) c.in_ok-pins.pins c.as_slice.result.now c.in_ok-pins.ensures.marks ∙ ap (position (λ p. p.hold)) c.as_slice.ensures)
-    c.in_ok-wave.ensures.wave refl
+    c.in_ok-wave.ensures refl
