@@ -1,5 +1,5 @@
 -- A circuit has one judgement, and a form and a text one reply.
-use Rattle.std.proofs.Common.{◌≡◌, ℕ, suc, ◌<◌, ◌≤◌, refl, sym, ap, subst, ◌∙◌, arith, List, [], length, true, Option, None, Result, Ok, Err}
+use Rattle.std.proofs.Common.{◌≡◌, ℕ, suc, refl, ap, subst, ◌∙◌, List, Option, None}
 use Rattle.drawing_tree.specs.Canonical.{canonical}
 use Rattle.drawing_grammar.proofs.TextLaws.{one_drawing, not_both as no_drawing, one_refusal as one_cause}
 use Rattle.flat_circuit.specs.declared.case.CaseValue.{CaseValue}
@@ -8,7 +8,7 @@ use Rattle.case_analysis.specs.Base.{base_round}
 use Rattle.drawn_circuit.proofs.OneText.{not_refused, one_refusal, text_draws_one_circuit}
 use Rattle.design_gen.specs.Datapath.{datapath}
 use Rattle.listing.specs.Answer.{unsettled_line}
-use Rattle.timing_analysis.specs.Case.{AreAtRest, StopsAt, listed_cases}
+use Rattle.timing_analysis.specs.Case.{StopsAt, listed_cases}
 use Rattle.timing_analysis.proofs.OneRest.{one_rest, one_place, rest_in_one_way, rest_or_stop, one_stop}
 use Rattle.scald_base.specs.declared.outcome.Outcome.{Outcome}
 use Rattle.scald_base.specs.declared.outcome.Outcome.TheVariants.{Unsettled}

@@ -15,7 +15,7 @@ use Rattle.drawn_circuit.specs.Drawn.{IsTextRefused, DrawsCircuit}
 use Rattle.listing.specs.declared.case.Mode.{Mode}
 use Rattle.listing.specs.Answer.{refusal_line}
 use Rattle.timing_analysis.specs.Case.{listed_cases, fault_count}
-use Rattle.timing_analysis.specs.Promise.{FaultlessNeverBreaks, IsKept, IsSafe, IsUnbroken, NeverBreaks}
+use Rattle.timing_analysis.specs.Promise.{FaultlessNeverBreaks, IsKept, IsSafe, NeverBreaks}
 use Rattle.timing_analysis.proofs.Headline.{faultless_is_safe}
 use Rattle.scald_base.specs.declared.outcome.Outcome.{Outcome}
 use Rattle.scald_base.specs.declared.outcome.Outcome.TheVariants.{Clean, Done, Refused}
