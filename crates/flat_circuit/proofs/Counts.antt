@@ -103,7 +103,13 @@ out-more n m j l h = record {
 
 pub fits-more : (h : Header) (n m : ℕ) (j : Instance) → n ≤ m → InstanceFits h n j → InstanceFits h m j
 fits-more h n m j l f =
-    record { pins = f.pins; has_out = f.has_out; lim = f.lim; split = f.split; exists = out-more n m j l f.exists }
+    record {
+      pins = f.pins;
+      has_out = f.has_out;
+      lim = f.lim;
+      split = f.split;
+      exists = out-more n m j l f.exists;
+    }
 
 -- ---- what holds of a builder goes on
 

@@ -44,7 +44,8 @@ abbrev net_of : Option Target → ℕ → ℕ
 net_of (Some (OnNet i)) d = i
 net_of _ d = d
 
-driven_new : (js : List Instance) (n k m : ℕ) (ds : List (Option ℕ)) → Some (OnNet m) ≡ out_at js k → m < n → entry ds m ≡ None →
+driven_new : (js : List Instance) (n k m : ℕ) (ds : List (Option ℕ)) →
+    Some (OnNet m) ≡ out_at js k → m < n → entry ds m ≡ None →
     DrivenTo js n k ds → DrivenTo js n (k + 1) (set ds m (Some k))
 driven_new js n k m ds e lt o h =
     let l : m < length ds = omega (arith, h.long) in

@@ -114,7 +114,8 @@ row_written rows i k v w l e h x =
     rows_set rows i x w l ∙ eq_cases i x (nat_eq i x) w.items (row_noted (row_at (rows_of rows) x) k) (row_at (rows_of rows) x)
     refl (λ q. h ∙ ap (λ r. row_noted r k) (sym (rows_get rows i v l e)) ∙ ap (λ y. row_noted (row_at (rows_of rows) y) k) q)
 
-found_from : (f : ℕ → Row) (rows : List (Vec ℕ)) (a n i : ℕ) (r : Vec ℕ) → map (λ (y : Vec ℕ). y.items) rows ≡ map f (range_with_len a n) →
+found_from : (f : ℕ → Row) (rows : List (Vec ℕ)) (a n i : ℕ) (r : Vec ℕ) →
+    map (λ (y : Vec ℕ). y.items) rows ≡ map f (range_with_len a n) →
     slice_get rows i ≡ Some r → (i < n) × (r.items ≡ f (a + i))
 found_from f [] a n i r e h = absurd (cc)
 found_from f (x ∷ xs) a zero i r e h = absurd (cc)
@@ -136,6 +137,7 @@ missing_from f (x ∷ xs) a zero i e h = omega arith
 missing_from f (x ∷ xs) a (suc n) zero e h = absurd (cc)
 missing_from f (x ∷ xs) a (suc n) (suc i) e h = let p = missing_from f xs (a + 1) n i (cc) h in omega arith
 
-pub row_missing : (js : List Instance) (rows : List (Vec ℕ)) (n i : ℕ) → map (λ (y : Vec ℕ). y.items) rows ≡ map (readers_of js) (range_with_len 0 n) →
+pub row_missing : (js : List Instance) (rows : List (Vec ℕ)) (n i : ℕ) →
+    map (λ (y : Vec ℕ). y.items) rows ≡ map (readers_of js) (range_with_len 0 n) →
     slice_get rows i ≡ None → n ≤ i
 row_missing js rows n i e h = missing_from (readers_of js) rows 0 n i e h

@@ -1,5 +1,5 @@
--- Runs of one gate with two delays, worked out on paper. Net 0 is the output. The ticks before the longer
--- delay and the longest wire have passed are free.
+-- Runs of one gate with two delays, worked out on paper. Net 0 is the output. Until the longer
+-- delay and the longest wire have passed, its bits are free.
 use Rattle.std.proofs.Common.{ℕ, true, false, List, [], ◌∷◌, map, refl, Some}
 use Rattle.element_kinds.specs.declared.kind.Kind.{Kind}
 use Rattle.element_kinds.specs.declared.kind.Kind.TheVariants.{Buf, And, Or, Xor, Mux2, Mux4, Mux8, Chg, Reg, RegRs, Latch, LatchRs, SetupHold, RiseFall, MinPulse}
@@ -110,8 +110,8 @@ slow_fall_by_wire : Fixes (gate Buf (on 1 ∷ [])) (run (of_one 1 3 2) (
     "00000000000" ∷ [])) 0 "00000111111"
 slow_fall_by_wire = fixes refl
 
--- One net on two pins, by a wire of 0 and a wire of 2. The AND of what it is and what it was two ticks
--- before is 1 at ticks 3 and 4, and falls a tick late.
+-- One net on two pins, by a wire of 0 and a wire of 2. The AND of what it is and what it was two
+-- ticks before is 1 at ticks 3 and 4, and falls a tick late.
 two_wires_of_one_net : Fixes (gate And (on 1 ∷ on 1 ∷ []))
     (run (late_by_two 0 1 (0 ∷ 2 ∷ []) ∷ []) (
     "0001110" ∷
@@ -120,8 +120,8 @@ two_wires_of_one_net : Fixes (gate And (on 1 ∷ on 1 ∷ []))
     "0000000" ∷ [])) 0 "0001111"
 two_wires_of_one_net = fixes refl
 
--- An input that the select does not number is a pin too: from tick 4 on, by its wire of 3 and a rise
--- delay of 1.
+-- An input that the select does not number is a pin too: from tick 4 on, by its wire of 3 and a
+-- rise delay of 1.
 unselected_pin_delays : Fixes (gate Mux2 (on 1 ∷ on 2 ∷ on 3 ∷ []))
     (run (late_by_two 1 0 (0 ∷ 0 ∷ 3 ∷ []) ∷ []) (
     "1011011" ∷
@@ -237,7 +237,8 @@ latch_rs_bounds : HasOneBound LatchRs
 latch_rs_bounds = (runs refl, none refl)
 
 -- a register that takes in its input, on net 2, a tick after each rise of its clock
-register : Fixes (between (record (element Reg (bounds 1 1) (on 1 ∷ on 2 ∷ []) 0) { split = Some slow }))
+register : Fixes
+    (between (record (element Reg (bounds 1 1) (on 1 ∷ on 2 ∷ []) 0) { split = Some slow }))
     (run (late 1 (0 ∷ 0 ∷ []) ∷ []) (
     "0110000" ∷
     "0011001" ∷
@@ -246,7 +247,8 @@ register : Fixes (between (record (element Reg (bounds 1 1) (on 1 ∷ on 2 ∷ [
 register = fixes refl
 
 -- an output of a change function that changes a tick after its input
-change : Fixes (between (record (element Chg (bounds 1 1) (on 1 ∷ []) 0) { split = Some (two 0 0 0 0) }))
+change : Fixes
+    (between (record (element Chg (bounds 1 1) (on 1 ∷ []) 0) { split = Some (two 0 0 0 0) }))
     (run (late 0 (0 ∷ []) ∷ []) (
     "1110000" ∷
     "0011111" ∷

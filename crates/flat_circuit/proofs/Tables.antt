@@ -166,7 +166,8 @@ pub has-told : (es : List Told) (text : List ℕ) → is_some (lookup (text_test
 has-told [] text = refl
 has-told (e ∷ es) text = step (text_test text e.0) (has-told es text) where
   step : (b : Bool) → is_some (lookup (text_test text) es) ≡ has_text (asserted_entries es) text →
-      is_some (cond b (Some e.1) (lookup (text_test text) es)) ≡ (b || has_text (asserted_entries es) text)
+      is_some (cond b (Some e.1) (lookup (text_test text) es))
+      ≡ (b || has_text (asserted_entries es) text)
   step true h = refl
   step false h = h
 

@@ -64,7 +64,8 @@ stay_set start marks k m n h s i f =
     [ Here e w ↦ (λ x. n (sym w ∙ x)) | Elsewhere o w ↦ (λ x. s i f (sym w ∙ x)) ]
 
 -- a mark that is clear stays so where what is written is clear, or the place was not clear
-clear_stays : (marks : List Mark) (k : ℕ) (m : Mark) (i : ℕ) → k < length marks → (m ≡ Clear) ⊎ (mark_at marks k ≢ Clear) →
+clear_stays : (marks : List Mark) (k : ℕ) (m : Mark) (i : ℕ) → k < length marks →
+    (m ≡ Clear) ⊎ (mark_at marks k ≢ Clear) →
     mark_at marks i ≡ Clear → mark_at (set marks k m) i ≡ Clear
 clear_stays marks k m i h o c =
     elim (written marks k m i h) as (λ _. mark_at (set marks k m) i ≡ Clear) [
@@ -162,7 +163,8 @@ step_pop nodes start marks f fs node at h s =
       stays = stay_set start marks node Clear (λ x. cc) l s.stays;
     }
 
-pub step_done : (nodes : List Node) (start marks : List Mark) (node at : ℕ) → length (feeders_of nodes node) ≤ at →
+pub step_done : (nodes : List Node) (start marks : List Mark) (node at : ℕ) →
+    length (feeders_of nodes node) ≤ at →
     Searching nodes start marks [] node at → Found nodes start (set marks node Clear)
 step_done nodes start marks node at h s =
     let l : node < length marks = omega (arith, s.node_in, s.marks_are.length_marks) in

@@ -16,8 +16,8 @@ use Rattle.flat_circuit.specs.Circuit.{Circuit}
 use Rattle.element_kinds.specs.Equation.{Equation, IsAsked}
 use Rattle.flat_circuit.specs.Split.{two_delays, SplitEquation, IsSplitAsked}
 
--- What a run chooses at an instance: its delay, or where it has two its rise and its fall delay, and the delay of the wire
--- to each of its pins.
+-- What a run chooses at an instance: its delay, or where it has two its rise and its fall delay, and
+-- the delay of the wire to each of its pins.
 pub record Choice : Type 0 where
   pub delay : ℕ
   pub rise : ℕ
@@ -68,7 +68,8 @@ DelayFitsForm (Checker check) d n = ⊤
 abbrev pub DelayFits : Kind → Bounds → ℕ → Type 0
 DelayFits kind d n = DelayFitsForm (form_of kind) d n
 
--- A gate with two delays has one rise delay and one fall delay for the whole of a run, each within its own bounds.
+-- A gate with two delays has one rise delay and one fall delay for the whole of a run, each within
+-- its own bounds.
 abbrev pub DelaysFit : Kind → Bounds → Option Split → Choice → Type 0
 DelaysFit kind d None choice = DelayFits kind d choice.delay
 DelaysFit kind d (Some s) choice = Within s.rise choice.rise × Within s.fall choice.fall
@@ -100,7 +101,8 @@ IsAskedWith kind d (Some s) choice t = IsSplitAsked choice.rise choice.fall choi
 -- the equation holds at each tick of the run at which it is asked
 abbrev pub Obeys : ℕ → Kind → Bounds → Option Split → Choice → List Signal → Signal → Type 0
 Obeys ticks kind d split choice signals output =
-    (t : ℕ) → t < ticks → IsAskedWith kind d split choice t → EquationWith kind d split choice signals output t
+    (t : ℕ) → t < ticks → IsAskedWith kind d split choice t →
+    EquationWith kind d split choice signals output t
 
 pub record IsRunAt (c : Circuit) (run : Run) (i : Instance) (choice : Choice) : Type 0 where
   pub delay : DelaysFit i.kind i.delay (two_delays i.kind i.split) choice

@@ -36,10 +36,10 @@ gate_signal kind signals u = gate_bit kind (bits_at signals u)
 abbrev pub ticks : ℕ → ℕ → List ℕ
 ticks first last = range_with_len first (last + 1 - first)
 
--- Where the rise takes at least as long, the output is 1 exactly where z was 1 on all ticks from the
--- rise delay before to the fall delay before, so a shorter pulse is swallowed. Where the fall takes
--- longer, it is 1 exactly where z was 1 on some tick from the fall delay before to the rise delay
--- before.
+-- Where the rise takes at least as long, the output is 1 exactly where z was 1 on all ticks from
+-- the rise delay before to the fall delay before, so a shorter pulse is swallowed. Where the fall
+-- takes longer, it is 1 exactly where z was 1 on some tick from the fall delay before to the rise
+-- delay before.
 abbrev pub split_bit : Signal → ℕ → ℕ → ℕ → Bool
 split_bit z rise fall t =
     if nat_le fall rise

@@ -26,8 +26,8 @@ pub struct Instance {
     pub kind: Kind,
     /// The bounds of its delay, in ticks. A checker has none, whatever stands here.
     pub delay: Delay,
-    /// Its rise and its fall delay, where it has two. `delay` then goes from the least to the greatest
-    /// of both.
+    /// Its rise and its fall delay, where it has two. `delay` then goes from the least to the
+    /// greatest of both.
     pub split: Option<Split>,
     /// A checker's setup and hold times, or its least widths of high and low pulses, in ticks.
     pub limits: (u16, u16),

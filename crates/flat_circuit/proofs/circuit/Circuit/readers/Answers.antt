@@ -17,4 +17,5 @@ returns-in-None c =
     let i = c.self.inside in
     let l = rw c.deref.ensures.value at c.in-None.ensures.lookup in
     subst (λ (x : Circuit). length x.nets ≤ c.args.net) c.self.view_is
-    (row_missing i.instances i.readers.items (length i.nets) c.args.net c.self.invariant.1 (get_none i.readers.items c.args.net l.3))
+    (row_missing i.instances i.readers.items (length i.nets) c.args.net c.self.invariant.1
+    (get_none i.readers.items c.args.net l.3))
