@@ -1,5 +1,5 @@
 -- The waves of the listening pins, as they are gathered pin by pin.
-use Rattle.std.proofs.Common.{◌≡◌, ℕ, ◌+◌, List, ◌++◌, map, drop}
+use Rattle.std.proofs.Common.{◌≡◌, ℕ, List, ◌++◌, map, drop}
 use Rattle.step_values.specs.declared.value.Value.{Value}
 use Rattle.skew_algebra.specs.Wave.{Wave}
 use Rattle.element_kinds.specs.declared.kind.Kind.{Kind}
