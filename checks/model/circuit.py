@@ -26,6 +26,19 @@ class Bit(NamedTuple):
         return Bit(self.on, self.is_complemented != is_complemented)
 
 
+class Split(NamedTuple):
+    """Two delays: that of an output's rises, and that of its falls."""
+
+    rise: Bounds
+    fall: Bounds
+
+    @property
+    def either(self):
+        """From the least to the greatest of both."""
+        least, greatest = zip(self.rise, self.fall)
+        return Bounds(min(least), max(greatest))
+
+
 @dataclass
 class Instance:
     """One bit of an element or of a checker."""
@@ -36,7 +49,8 @@ class Instance:
     pins: list
     marked: Optional[int]  # the number of the pin with !H
     output: Optional[Bit]
-    delay: Bounds
+    delay: Bounds  # where there are two, from the least to the greatest of both
+    split: Optional[Split]
     limits: dict  # of a checker, by its parameters
     place: Place
 

@@ -71,6 +71,8 @@ ELEMENTS = {
     "LATCH_RS": Inputs(4, 4),
 }
 MARKED_KINDS = ("AND", "OR")
+# the kinds that may have two delays
+SPLIT_KINDS = ("BUF", "AND", "OR", "XOR", "MUX2", "MUX4", "MUX8")
 
 
 class Checker(NamedTuple):
@@ -198,8 +200,9 @@ class Use:
     kind: str
     inputs: list
     outputs: list
-    delay: Optional[Delay] = None
+    delay: Optional[Delay] = None  # of rises alone, where there is a fall delay beside it
     parameters: list = field(default_factory=list)
+    fall: Optional[Delay] = None
     place: Optional[Place] = None
 
 

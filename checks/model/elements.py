@@ -3,7 +3,7 @@ from functools import lru_cache
 from itertools import product
 from typing import NamedTuple, Optional
 
-from .values import RISES, STAYS_LOW, STEPS, Step, cover, is_quiet
+from .values import FALLS, RISES, STAYS_HIGH, STAYS_LOW, STEPS, Step, cover, is_quiet, permits
 from .waves import Wave, delayed, fold, is_steady, normal, windows
 
 BITS = frozenset({0, 1})
@@ -131,12 +131,62 @@ def met(kind, waves):
     return Wave("".join(slot_value(kind, values) for values in slots), skew)
 
 
+def gated(kind, clock):
+    """A marked pin whose rule holds, seen through pins that are stable wherever it lets them through."""
+    return Wave("".join(image(kind, (value, "S")) for value in clock.slots), clock.skew)
+
+
+# --- two delays
+
+
+def slots_with(wave, *steps):
+    """The slots in which one of these steps is permitted."""
+    return {slot for slot, value in enumerate(wave.slots) if any(permits(value, step) for step in steps)}
+
+
+def slots_before(wave, bounds):
+    """For each slot, those that lie so many slots before it."""
+    period = len(wave.slots)
+    return [
+        {(slot - late) % period for late in range(bounds.least, bounds.greatest + 1)} for slot in range(period)
+    ]
+
+
+def may_have(slots, before_rise, before_fall, before_either, is_seen_by_both):
+    """For each slot, whether the output may have a level at its end, where these are the slots at whose end the
+    inputs may give that level."""
+    if is_seen_by_both:
+        return [bool(slots & rise) and bool(slots & fall) for rise, fall in zip(before_rise, before_fall)]
+    return [bool(slots & either) for either in before_either]
+
+
+def late_by_two(wave, split):
+    """The output of a gate with two delays, of the wave that its pins would give it at once."""
+    rise, fall = split
+    around = slots_before(wave, rise), slots_before(wave, fall), slots_before(wave, split.either)
+    before_rise, before_fall, before_either = around
+    high = may_have(slots_with(wave, RISES, STAYS_HIGH), *around, rise.least >= fall.greatest)
+    low = may_have(slots_with(wave, FALLS, STAYS_LOW), *around, fall.least >= rise.greatest)
+    rising, falling = slots_with(wave, RISES), slots_with(wave, FALLS)
+    unknown = {slot for slot, value in enumerate(wave.slots) if value == "U"}
+    made = []
+    for slot in range(len(wave.slots)):
+        may_be = {
+            STAYS_HIGH: high[slot],
+            STAYS_LOW: low[slot],
+            RISES: low[slot - 1] and high[slot] and rising & before_rise[slot],
+            FALLS: high[slot - 1] and low[slot] and falling & before_fall[slot],
+        }
+        steps = frozenset(step for step, is_there in may_be.items() if is_there)
+        made.append(cover(steps, bool(unknown & before_either[slot])))
+    return normal(Wave("".join(made), wave.skew))
+
+
 @lru_cache(10_000)
-def output_wave(kind, waves, marked, delay):
+def output_wave(kind, waves, marked, delay, split):
     """What an element makes of the waves at its pins, those that it listens to, before a complement of its output."""
     if kind == "CHG":
         return change_wave(waves, delay)
-    if marked is not None and first_hazard(kind, waves, marked) is None:
-        clock = waves[marked]
-        return delayed(Wave("".join(image(kind, (value, "S")) for value in clock.slots), clock.skew), delay)
-    return delayed(met(kind, waves), delay)
+    is_gating = marked is not None and first_hazard(kind, waves, marked) is None
+    made = gated(kind, waves[marked]) if is_gating else met(kind, waves)
+    return delayed(made, delay) if split is None else late_by_two(made, split)

@@ -4,14 +4,15 @@
 from typing import NamedTuple
 
 from .assertions import spelling
-from .circuit import Bit, Circuit, Instance, Net
+from .circuit import Bit, Circuit, Instance, Net, Split
 from .drawing import (
-    CHECKERS, ELEMENTS, MARKED_KINDS, Binary, Constant, If, Minus, Number, Parameter, RefusalKind, Refused,
+    CHECKERS, ELEMENTS, MARKED_KINDS, SPLIT_KINDS, Binary, Constant, If, Minus, Number, Parameter, RefusalKind, Refused,
     WireStatement,
 )
 from .names import GREATEST_DELAY
 from .waves import Bounds
 
+GREATEST_SPLIT = 255  # of each of two delays
 GREATEST_BIT = 65535
 WIDEST = 256
 DEEPEST = 64
@@ -69,9 +70,29 @@ def delay_of(delay, parameters, place):
     return Bounds(value_of(delay.least, parameters, place), value_of(delay.greatest, parameters, place))
 
 
-def check_delay(delay, place):
-    if not 0 <= delay.least <= delay.greatest <= GREATEST_DELAY:
+def check_delay(delay, place, greatest=GREATEST_DELAY):
+    if not 0 <= delay.least <= delay.greatest <= greatest:
         raise Refused(RefusalKind.Bounds, place)
+
+
+def delays_of(use, parameters):
+    """The delay of a use, and both where there are two. All four expressions come before any of the bounds."""
+    place = use.place
+    if use.delay is None:
+        return Bounds(0, 0), None
+    delay = delay_of(use.delay, parameters, place)
+    if use.fall is None:
+        return delay, None
+    split = Split(delay, delay_of(use.fall, parameters, place))
+    return split.either, split
+
+
+def check_delays(delay, split, place):
+    if split is None:
+        check_delay(delay, place)
+    else:
+        check_delay(split.rise, place, GREATEST_SPLIT)
+        check_delay(split.fall, place, GREATEST_SPLIT)
 
 
 def ends_of(bits, parameters, place):
@@ -171,18 +192,18 @@ class Expansion:
 
     def expand_use(self, scope, use):
         self.check_kind(use)
-        delay, given = self.values_of_use(scope, use)
+        delay, split, given = self.values_of_use(scope, use)
         self.check_connections(use)
         if use.kind in self.macros:
             self.expand_macro(scope, use, given)
         else:
-            self.expand_primitive(scope, use, delay, given)
+            self.expand_primitive(scope, use, delay, split, given)
 
     def check_kind(self, use):
-        """The kind, whether a delay is there, and the parameters."""
+        """The kind, whether a delay or two may be there, and the parameters."""
         if use.kind not in ELEMENTS and use.kind not in CHECKERS and use.kind not in self.macros:
             raise Refused(RefusalKind.UnknownKind, use.place)
-        if (use.delay is not None) != (use.kind in ELEMENTS):
+        if (use.delay is not None) != (use.kind in ELEMENTS) or (use.fall is not None and use.kind not in SPLIT_KINDS):
             raise Refused(RefusalKind.Bounds, use.place)
         words = [parameter.word for parameter in use.parameters]
         if len(set(words)) < len(words) or not set(words) <= set(self.parameters_of(use.kind)):
@@ -194,17 +215,17 @@ class Expansion:
         return [parameter.word for parameter in self.macros[kind].parameters] if kind in self.macros else []
 
     def values_of_use(self, scope, use):
-        """The delay and the given parameters, or the limits of a checker, in which what is not given is 0."""
+        """The delays and the given parameters, or the limits of a checker, in which what is not given is 0."""
         place = use.place
-        delay = Bounds(0, 0) if use.delay is None else delay_of(use.delay, scope.parameters, place)
+        delay, split = delays_of(use, scope.parameters)
         given = {parameter.word: value_of(parameter.value, scope.parameters, place) for parameter in use.parameters}
-        check_delay(delay, place)
+        check_delays(delay, split, place)
         if use.kind in CHECKERS:
             given = {word: given.get(word, 0) for word in CHECKERS[use.kind].parameters}
             asked = max(given.values()) if use.kind == "MIN_PULSE_CHK" else sum(given.values())
             if min(given.values()) < 0 or asked > self.circuit.period:
                 raise Refused(RefusalKind.Bounds, place)
-        return delay, given
+        return delay, split, given
 
     def check_connections(self, use):
         """How many there are, and that at most one input of an AND or OR is marked and nothing else."""
@@ -250,7 +271,7 @@ class Expansion:
 
     # --- primitives
 
-    def expand_primitive(self, scope, use, delay, limits):
+    def expand_primitive(self, scope, use, delay, split, limits):
         connections = [self.connection_bits(scope, connection, use.place) for connection in use.inputs + use.outputs]
         width = max(len(bits) for bits in (connections[-1:] if use.kind in ELEMENTS else connections))
         inputs = connections[: len(use.inputs)]
@@ -272,6 +293,7 @@ class Expansion:
                     marked=marks.index(True) if True in marks else None,
                     output=outputs[0][number] if outputs else None,
                     delay=delay,
+                    split=split,
                     limits=limits,
                     place=use.place,
                 )

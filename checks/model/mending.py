@@ -27,11 +27,13 @@ def leave_out_entry(drawing, place):
 
 
 def slow_down(drawing, place):
-    """Gives the element at this place a delay, so that its loop does not pass on at once."""
+    """Gives the element at this place a delay, or two, so that its loop does not pass on at once."""
     for body in bodies(drawing):
         for statement in statements(body):
             if statement.place == place and isinstance(statement, Use):
                 statement.delay = Delay(Number(1), Number(2))
+                if statement.fall is not None:
+                    statement.fall = Delay(Number(2), Number(4))
                 return
 
 

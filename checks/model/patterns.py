@@ -13,18 +13,18 @@ def less(expression, number):
     return Binary("-", expression, Number(number))
 
 
-def tree_macro(kind, delay):
+def tree_macro(kind, delay, fall):
     """A macro that halves its inputs until one is left."""
     size = Parameter("SIZE")
     half = Binary("/", size, Number(2))
     all_bits = Range(Number(0), less(size, 1))
     lower_half = Range(Number(0), less(half, 1))
     upper_half = Range(half, less(size, 1))
-    leaf = Use("leaf", "BUF", [signal("A", Range(Number(0)))], [signal("Z")], delay)
+    leaf = Use("leaf", "BUF", [signal("A", Range(Number(0)))], [signal("Z")], delay, fall=fall)
     halves = [
         Use("left", "TREE", [signal("A", lower_half)], [signal("L")], None, [Assign("SIZE", half)]),
         Use("right", "TREE", [signal("A", upper_half)], [signal("R")], None, [Assign("SIZE", half)]),
-        Use("top", kind, [signal("L"), signal("R")], [signal("Z")], delay),
+        Use("top", kind, [signal("L"), signal("R")], [signal("Z")], delay, fall=fall),
     ]
     body = [If(Binary("=", size, Number(1)), [leaf], halves)]
     return Macro("TREE", [Assign("SIZE", Number(4))], [Formal(Name("A"), all_bits)], [Formal(Name("Z"))], body)

@@ -1,13 +1,13 @@
 """Random drawings of two kinds: most with a small period, and others with a large one and names of many intervals.
 
 They have macros with parameters, vectors, spread bits, complements, constants, WIRE and IF statements, marks, loops,
-delays past the period, and cases. Many would be refused, so `mending` makes most of them good again.
+delays past the period, two delays, and cases. Many would be refused, so `mending` makes most of them good again.
 """
 from typing import NamedTuple
 
 from .assertions import edges_overlap
 from .drawing import (
-    CHECKERS, ELEMENTS, MARKED_KINDS, Assign, Binary, Case, Clock, Connection, Constant, Delay, Drawing, Entry, Formal,
+    CHECKERS, ELEMENTS, MARKED_KINDS, SPLIT_KINDS, Assign, Binary, Case, Clock, Connection, Constant, Delay, Drawing, Entry, Formal,
     Header, If, Interval, Macro, Minus, Name, Number, Parameter, Range, Still, Term, Use, WireStatement,
 )
 from .expansion import numbers_of
@@ -181,7 +181,32 @@ class Maker:
             least, more = self.random.randrange(2 * period), self.random.choice([0, period, 3 * period])
         if self.chance(0.01):
             least, more = least + 1, -1
-        return Delay(self.make_number(least, parameters), self.make_number(least + more, parameters))
+        return self.written_delay(Bounds(least, least + more), parameters)
+
+    def written_delay(self, bounds, parameters):
+        return Delay(self.make_number(bounds.least, parameters), self.make_number(bounds.greatest, parameters))
+
+    def make_split(self):
+        """The bounds of two delays: the one above the other, or not, or equal; some of 0, and some past the period."""
+        choice = self.random.choice
+        lot = self.random.random()
+        first = self.make_bounds(choice([0, 1, 2, 4]))
+        apart = choice([0, 0, 1, 1, 2, 4, self.header.ticks_per_unit])
+        second = Bounds(first.greatest + apart, first.greatest + apart + choice([0, 0, 1, 2, 5]))
+        if lot < 0.4:
+            second = self.make_bounds(choice([0, 2, 5]))
+        elif lot < 0.5:
+            second = first
+        elif lot < 0.65:
+            least = self.random.randrange(min(256, 2 * self.header.period))
+            second = Bounds(least, choice([least, min(255, least + self.random.randrange(40)), 255]))
+        return (first, second) if self.chance(0.5) else (second, first)
+
+    def make_delays(self, kind, parameters):
+        """One delay, or now and then two where the kind may have them."""
+        if kind in SPLIT_KINDS and self.chance(0.4):
+            return [self.written_delay(bounds, parameters) for bounds in self.make_split()]
+        return self.make_delay(parameters), None
 
     # --- connections
 
@@ -240,7 +265,8 @@ class Maker:
         if kind in MARKED_KINDS and self.chance(0.5):
             self.random.choice(inputs).is_marked = True
         output = self.make_connection(room, width, is_output=True)
-        return Use(label, kind, inputs, [output], self.make_delay(room.parameters))
+        delay, fall = self.make_delays(kind, room.parameters)
+        return Use(label, kind, inputs, [output], delay, fall=fall)
 
     def make_checker(self, room, label):
         """Mostly with short limits, and with some as long as may be."""
@@ -353,7 +379,8 @@ class Maker:
 
     def make_drawing(self):
         if self.chance(0.1):
-            self.macros.append(tree_macro(self.random.choice(["AND", "OR", "XOR"]), self.make_delay({})))
+            kind = self.random.choice(["AND", "OR", "XOR"])
+            self.macros.append(tree_macro(kind, *self.make_delays(kind, {})))
         for number in range(self.random.choice([0, 0, 1, 2])):
             self.macros.append(self.make_macro(f"MACRO_{number}"))
         body = self.make_body(OUTERMOST, self.random.choice([1, 2, 4, 6, 9, 12]))

@@ -50,7 +50,7 @@ def pin_wave(circuit, waves, pin):
 def driven_wave(circuit, waves, element):
     """What an element makes of all waves on its net."""
     pins = tuple(pin_wave(circuit, waves, pin) for pin in element.listening)
-    wave = output_wave(element.kind, pins, element.marked, element.delay)
+    wave = output_wave(element.kind, pins, element.marked, element.delay, element.split)
     return normal(flipped(wave)) if element.output.is_complemented else wave
 
 

@@ -123,6 +123,18 @@ def other_delay(drawing, random):
     use = some_use(drawing, random)
     if use is not None:
         use.delay = None if use.delay is not None else Delay(Number(0), Number(0))
+        use.fall = None
+
+
+def two_delays(drawing, random):
+    """Two delays of any use, whose bounds are mostly not allowed, or right at the edge."""
+    use = some_use(drawing, random)
+    if use is not None:
+        bounds = [(0, 0), (0, 255), (255, 255), (0, 256), (256, 256), (3, 2), (-1, 0), (300, 200)]
+        use.delay, use.fall = (
+            Delay(Number(least) if least >= 0 else Minus(Number(-least)), Number(greatest))
+            for least, greatest in random.sample(bounds, 2)
+        )
 
 
 def bad_parameter(drawing, random):
@@ -164,6 +176,10 @@ def spoilt_expression(drawing, random):
         random.choice(statement.parameters).value = expression
     elif statement.delay is not None and random.random() < 0.5:
         statement.delay = Delay(Number(0), expression)
+    elif statement.delay is not None and random.random() < 0.5:
+        # the bounds of the rise delay are refused only if the expressions behind them have no fault
+        statement.delay = Delay(Number(3), Number(random.choice([2, 4])))
+        statement.fall = Delay(*random.sample([expression, Number(0)], 2))
     elif statement.inputs:
         term = random.choice(random.choice(statement.inputs).terms)
         term.range = Range(expression) if isinstance(term.what, Name) else None
@@ -215,7 +231,7 @@ def second_driver(drawing, random):
 
 SPOILS = [
     bad_header, bad_name, bad_name, overlapping_edges, asserted_formal, double_label, double_declaration,
-    default_of_a_parameter, macro_named_like_a_primitive, unknown_kind, other_delay, bad_parameter,
+    default_of_a_parameter, macro_named_like_a_primitive, unknown_kind, other_delay, two_delays, two_delays, bad_parameter,
     spoilt_expression, spoilt_expression, bad_range, bad_range, other_connections, other_connections, deep_use,
     second_driver, bad_entry, bad_entry,
 ]

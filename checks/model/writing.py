@@ -75,14 +75,15 @@ class Writer:
 
     def write_use(self, use):
         self.write(f"{use.label} : {use.kind}")
-        if use.delay is not None:
-            self.write(f" [{text_of(use.delay.least)}:{text_of(use.delay.greatest)}]")
+        delays = [text_of_delay(delay) for delay in (use.delay, use.fall) if delay is not None]
+        if delays:
+            self.write(f" [{', '.join(delays)}]")
         self.write_sides(use, self.write_connection)
 
     def write_wire(self, wire):
         self.write("WIRE ")
         self.write_named(wire)
-        self.write_line(f" {text_of(wire.delay.least)}:{text_of(wire.delay.greatest)};")
+        self.write_line(f" {text_of_delay(wire.delay)};")
 
     def write_if(self, choice):
         self.write_line(f"IF {text_of(choice.test)} THEN")
@@ -139,6 +140,10 @@ def text_of(expression):
         return f"(-{text_of(expression.operand)})"
     assert isinstance(expression, Binary)
     return f"({text_of(expression.left)}{expression.operator}{text_of(expression.right)})"
+
+
+def text_of_delay(delay):
+    return f"{text_of(delay.least)}:{text_of(delay.greatest)}"
 
 
 def text_of_range(bits):
