@@ -122,6 +122,19 @@ def small_cones(count):
     return drawing(lines, macros=CASE_STAGE, after=[f'CASE "SEL"={number & 1};' for number in range(count)])
 
 
+def two_delays(sections):
+    """Sections of four gates with two delays each, that are other ones in each section, and a checker of their pulses."""
+    lines = []
+    for i in range(1, sections + 1):
+        rise, fall = f"{i % 50}:{i % 50 + i // 50 % 50}", f"{i % 50 + 3}:{i % 50 + 7}"
+        lines.append(f'g{i} : AND [{rise}, {fall}] ("CK .P2-4" !H, "EN .S1-5") -> ("G{i}");')
+        lines.append(f'n{i} : BUF [{fall}, {rise}] (-"G{i}") -> ("N{i}");')
+        lines.append(f'm{i} : MUX2 [{rise}, {fall}] ("SEL .S", "G{i}", "N{i}") -> ("M{i}");')
+        lines.append(f'x{i} : XOR [{fall}, {rise}] ("M{i}", "D .S1-8") -> ("X{i}");')
+        lines.append(f'w{i} : MIN_PULSE_CHK {{HIGH=30, LOW=30}} ("G{i}");')
+    return drawing(lines)
+
+
 def chains(count):
     """Chains of 250 buffers, side by side."""
     lines = []

@@ -250,6 +250,9 @@ awk -v tail="$(many 64 '+0')" 'BEGIN { for (i = 0; i < 29000; i++) printf "WIRE 
 echo "WIRE \"A\" 0:0$(many 65 '+0');" | frame | tries '65 operators' 2 'REFUSED 15 TooDeep 4:141'
 echo 'b : BUF [4095:4095] ("CK .P2-3(4095,4095)") -> ("X");' | frame | tries 'the greatest delay and skew' 0 CLEAN faults
 echo 'b : BUF [0:4096] ("A") -> ("X");' | frame | tries 'a greater delay' 2 'REFUSED 14 Bounds 4:1'
+echo 'b : BUF [255:255, 255:255] ("CK .P2-3(4095,4095)") -> ("X");' | frame | tries 'the greatest two delays' 0 CLEAN faults
+echo 'b : BUF [0:256, 0:0] ("A") -> ("X");' | frame | tries 'a greater rise delay' 2 'REFUSED 14 Bounds 4:1'
+echo 'b : BUF [0:0, 0:256] ("A") -> ("X");' | frame | tries 'a greater fall delay' 2 'REFUSED 14 Bounds 4:1'
 echo 'b : BUF [0:0] ("CK .P2-3(4096,0)") -> ("X");' | frame | tries 'a greater skew' 2 'REFUSED 7 BadName 4:16'
 echo 'c : MIN_PULSE_CHK {HIGH=400, LOW=400} ("K");' | frame | tries 'the longest pulses' 0 CLEAN faults
 echo 'c : MIN_PULSE_CHK {LOW=401} ("K");' | frame | tries 'a longer pulse' 2 'REFUSED 14 Bounds 4:1'
@@ -303,5 +306,20 @@ printf '%s\n' 'p : BUF [0:0] ("X"<0:254>) -> ("X"<1:255>);' 'q : BUF [0:0] ("X"<
     tries 'a chain of 510 elements' 0 CLEAN faults
 echo 'a : AND [1:1] ("CK .P0-7", "X"<0:15>) -> ("X"<0:15>);' | frame '8 x 512' | tries '16 loops in the longest period' 0 CLEAN faults rounds=10000
 ranges 40 'BUF [0:9] ("CK .P2-3") -> ("X"' ');' | frame '8 x 512' | tries '10240 elements in the longest period' 0 CLEAN faults
+# two delays: the longest in a long chain, in which a pulse shrinks or the edges spread; on waves that change in each slot;
+# and in loops
+for delays in '255:255, 254:254' '0:255, 0:255' '255:255, 0:0'; do
+    printf '%s\n' 'h : BUF [0:0] ("CK .P2-3") -> ("X"<0>);' "p : BUF [$delays] (\"X\"<0:254>) -> (\"X\"<1:255>);" \
+        "q : BUF [$delays] (\"X\"<255:509>) -> (\"X\"<256:510>);" | frame '8 x 512' |
+        tries "a chain of 510 elements with [$delays]" 0 CLEAN faults
+done
+awk 'BEGIN { ticks = "0-1"; for (i = 2; i < 4096; i += 2) ticks = ticks sprintf(",%d-%d", i, i + 1)
+    for (i = 0; i < 256; i++)
+        printf "b%d : XOR [%d:255, 0:%d] (\"CK%s\", \"EN .S\") -> (\"X%d\");\n", i, i, 255 - i, i ? "" : " .P" ticks, i }' |
+    frame '4096 x 1' | tries '256 elements with two delays and 4096 edges' 0 CLEAN faults
+for delays in '1:1, 255:255' '255:255, 1:1'; do
+    echo "a : AND [$delays] (\"CK .P0-7\", \"X\"<0:15>) -> (\"X\"<0:15>);" | frame '8 x 512' |
+        tries "16 loops with [$delays] in the longest period" 0 CLEAN faults rounds=10000
+done
 
 ended ", in $(($(date +%s) - begun)) seconds"

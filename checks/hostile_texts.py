@@ -33,7 +33,7 @@ TOKENS = [b"SCALD", b"CLOCK", b"WIRE", b"PSKEW", b"CSKEW", b"MACRO", b"DRAWING",
           b"MIN_PULSE_CHK", b"SETUP", b"HOLD", b"HIGH", b"LOW", b"SIZE", b";", b":", b",", b"(", b")", b"<", b">",
           b"[", b"]", b"{", b"}", b"=", b"+", b"-", b"*", b"/", b"&", b"!", b"!H", b"->", b"--", b"\n", b"\t", b"\r",
           b'"', b'"A"', b'"CK .P2-3"', b'"CK .C2-3(5,5)"', b'"CK .P0-8L"', b'"D .S0-4,4-6"', b'"/G"', b'"Q .S"',
-          b"[0:0]", b"[1:4095]", b"[1:2, 0:255]", b'"A"<0:255>', b'"X"<3:0>', b"!", *NUMBERS]
+          b"[0:0]", b"[1:4095]", b"[1:2, 0:255]", b"[255:255, 255:255]", b"[0:0, 0:256]", b", 1:2]", b'"A"<0:255>', b'"X"<3:0>', b"!", *NUMBERS]
 WORD = re.compile(rb'[A-Za-z0-9_]+|"[^"\n]*"|->|\s+|.', re.S)
 
 
