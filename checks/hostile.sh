@@ -93,6 +93,8 @@ c1 : SETUP_HOLD_CHK {SETUP=20, HOLD=5} ("CK .P3-4", "OUT");
 END
             printf 'CASE "SEL"=0;\nCASE "SEL"=1;\n'
         } | refused_in_turn 'two cases' verify 0 CLEAN
+        printf '%s\n' 'a1 : AND [2:4, 6:8] ("CK .P2-3", "EN .S1-5") -> ("X");' 'w1 : MIN_PULSE_CHK {HIGH=45} ("X");' | frame |
+            refused_in_turn 'a gate with two delays' verify 0 CLEAN
         refused_in_turn 'a macro that halves itself' verify 0 CLEAN <<'TEXT'
 SCALD 1;
 CLOCK 8 x 50;
