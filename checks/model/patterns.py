@@ -1,7 +1,10 @@
-"""Parts of drawings that chance alone would seldom draw: macros that use themselves, and a loop that settles slowly."""
+"""Parts of drawings that chance alone would seldom draw: macros that use themselves, a loop that settles slowly, a net that
+is unknown in a part of the period, and one whose wave is quiet and not the same all round."""
 from .drawing import (
-    Assign, Binary, Clock, Connection, Delay, Formal, If, Interval, Macro, Name, Number, Parameter, Range, Term, Use,
+    Assign, Binary, Clock, Connection, Constant, Delay, Formal, If, Interval, Macro, Name, Number, Parameter, Range, Still,
+    Term, Use,
 )
+from .waves import Bounds
 
 
 def signal(base, bits=None, assertion=None):
@@ -48,4 +51,36 @@ def ring(count, kind, header):
     return [
         Use("ring", "BUF", [signal("RING", front)], [signal("RING", back)], Delay(Number(0), Number(0))),
         Use("gate", kind, [clock, fed_back], [signal("RING")], Delay(Number(1), Number(1))),
+    ]
+
+
+def haze(intervals, late, delay, fall):
+    """A net of which nothing is known in the units of some intervals and that may change in all others, and a gate with
+    two delays behind it."""
+    still = Delay(Number(0), Number(0))
+    clock = signal("LIFT", None, Clock("P", intervals, None, False))
+    changing = signal("MIST", None, Still((Interval(0, 1),)))
+    return [
+        Use("fog", "XOR", [signal("FOG"), changing], [signal("FOG")], late),
+        Use("lift", "AND", [clock, signal("FOG")], [signal("BANK")], still),
+        Use("rain", "OR", [signal("BANK"), changing], [signal("HAZE")], still),
+        Use("late", "BUF", [signal("HAZE")], [signal("LATE")], delay, fall=fall),
+    ]
+
+
+def islet(ticks, delay, fall):
+    """A gate with two delays, in eight units of so many ticks, whose pins make a wave that is quiet in all slots and not
+    the same in all: 0, but S in slot `ticks`. So it matters that its normal form comes after the two delays."""
+
+    def clock(base, first, end):
+        return signal(base, None, Clock("P", (Interval(first, end),), Bounds(0, 0), False))
+
+    still, zero = Delay(Number(0), Number(0)), Connection([Term(Constant.ZERO)])
+    swallowed = Number(ticks)  # as long as the stretch of S in HELD, so that one slot of it is left, without edges
+    return [
+        Use("clear", "REG_RS", [zero, zero, zero, clock("ISLE1", 1, 8)], [signal("HELD")], still),
+        Use("bring", "AND", [clock("ISLE2", 3, 6), signal("FOAM", None, Still((Interval(0, 1),)))], [signal("SURF")], still),
+        Use("or", "OR", [signal("HELD"), signal("SURF")], [signal("COAST")], still),
+        Use("swallow", "BUF", [signal("COAST")], [signal("ROCK")], Delay(swallowed, swallowed), fall=still),
+        Use("islet", "AND", [clock("ISLE3", 0, 2), signal("ROCK")], [signal("ISLET")], delay, fall=fall),
     ]

@@ -11,7 +11,7 @@ from .drawing import (
     Header, If, Interval, Macro, Minus, Name, Number, Parameter, Range, Still, Term, Use, WireStatement,
 )
 from .expansion import numbers_of
-from .patterns import ring, signal, tree_macro
+from .patterns import haze, islet, ring, signal, tree_macro
 from .waves import Bounds
 
 CLOCKS = ["CK", "PH"]
@@ -191,7 +191,7 @@ class Maker:
         choice = self.random.choice
         lot = self.random.random()
         first = self.make_bounds(choice([0, 1, 2, 4]))
-        apart = choice([0, 0, 1, 1, 2, 4, self.header.ticks_per_unit])
+        apart = choice([0, 0, 1, 1, 2, 4, 7, self.header.ticks_per_unit])
         second = Bounds(first.greatest + apart, first.greatest + apart + choice([0, 0, 1, 2, 5]))
         if lot < 0.4:
             second = self.make_bounds(choice([0, 2, 5]))
@@ -202,10 +202,13 @@ class Maker:
             second = Bounds(least, choice([least, min(255, least + self.random.randrange(40)), 255]))
         return (first, second) if self.chance(0.5) else (second, first)
 
+    def written_split(self, parameters):
+        return [self.written_delay(bounds, parameters) for bounds in self.make_split()]
+
     def make_delays(self, kind, parameters):
         """One delay, or now and then two where the kind may have them."""
         if kind in SPLIT_KINDS and self.chance(0.4):
-            return [self.written_delay(bounds, parameters) for bounds in self.make_split()]
+            return self.written_split(parameters)
         return self.make_delay(parameters), None
 
     # --- connections
@@ -386,6 +389,11 @@ class Maker:
         body = self.make_body(OUTERMOST, self.random.choice([1, 2, 4, 6, 9, 12]))
         if self.header.period <= 16 and self.chance(0.08):
             body += ring(self.random.randrange(1, 14), self.random.choice(["AND", "OR"]), self.header)
+        if self.chance(0.04):
+            delays = self.written_delay(Bounds(1, 1), {}), *self.written_split({})
+            body += haze(self.random.choice([self.make_intervals(), (Interval(0, 1),)]), *delays)
+        if self.header.units == 8 and self.chance(0.1):
+            body += islet(self.header.ticks_per_unit, *self.written_split({}))
         cases = self.make_cases() if self.chance(0.4) else []
         return Drawing(self.header, self.macros, body, cases)
 

@@ -2,8 +2,8 @@
 from copy import deepcopy
 
 from .drawing import (
-    Assign, Binary, Clock, Connection, Delay, If, Interval, Minus, Name, Number, Parameter, Range, Still, Term, Use,
-    WireStatement, bodies, statements, uses,
+    ELEMENTS, SPLIT_KINDS, Assign, Binary, Clock, Connection, Delay, If, Interval, Minus, Name, Number, Parameter, Range,
+    Still, Term, Use, WireStatement, bodies, statements, uses,
 )
 from .names import names
 from .patterns import chain_macro, signal
@@ -12,9 +12,9 @@ from .waves import Bounds
 GREATEST_NUMBER = 2**63 - 1
 
 
-def some_use(drawing, random):
-    """A use, or None where there is none."""
-    found = [use for body in bodies(drawing) for use in uses(body)]
+def some_use(drawing, random, kinds=None):
+    """A use, of one of these kinds where any are named; or None where there is none."""
+    found = [use for body in bodies(drawing) for use in uses(body) if kinds is None or use.kind in kinds]
     return random.choice(found) if found else None
 
 
@@ -127,14 +127,17 @@ def other_delay(drawing, random):
 
 
 def two_delays(drawing, random):
-    """Two delays of any use, whose bounds are mostly not allowed, or right at the edge."""
-    use = some_use(drawing, random)
+    """Two delays, of a kind that may have two or of another one. The bounds are right at the edge, or those of one are past
+    it, or an expression has a fault."""
+    use = some_use(drawing, random, random.choice([SPLIT_KINDS, SPLIT_KINDS, ELEMENTS.keys() - SPLIT_KINDS, None]))
     if use is not None:
-        bounds = [(0, 0), (0, 255), (255, 255), (0, 256), (256, 256), (3, 2), (-1, 0), (300, 200)]
-        use.delay, use.fall = (
-            Delay(Number(least) if least >= 0 else Minus(Number(-least)), Number(greatest))
-            for least, greatest in random.sample(bounds, 2)
-        )
+        good = [(0, 0), (0, 255), (255, 255)]
+        bad = [(0, 256), (256, 256), (3, 2), (-1, 0), (300, 200)]
+        bounds = random.sample([random.choice(good), random.choice(good + bad)], 2)
+        written = [Number(end) if end >= 0 else Minus(Number(-end)) for end in bounds[0] + bounds[1]]
+        if random.random() < 0.3:
+            written[random.randrange(4)] = bad_expression(random)
+        use.delay, use.fall = Delay(*written[:2]), Delay(*written[2:])
 
 
 def bad_parameter(drawing, random):
@@ -176,10 +179,6 @@ def spoilt_expression(drawing, random):
         random.choice(statement.parameters).value = expression
     elif statement.delay is not None and random.random() < 0.5:
         statement.delay = Delay(Number(0), expression)
-    elif statement.delay is not None and random.random() < 0.5:
-        # the bounds of the rise delay are refused only if the expressions behind them have no fault
-        statement.delay = Delay(Number(3), Number(random.choice([2, 4])))
-        statement.fall = Delay(*random.sample([expression, Number(0)], 2))
     elif statement.inputs:
         term = random.choice(random.choice(statement.inputs).terms)
         term.range = Range(expression) if isinstance(term.what, Name) else None
@@ -231,9 +230,9 @@ def second_driver(drawing, random):
 
 SPOILS = [
     bad_header, bad_name, bad_name, overlapping_edges, asserted_formal, double_label, double_declaration,
-    default_of_a_parameter, macro_named_like_a_primitive, unknown_kind, other_delay, two_delays, two_delays, bad_parameter,
-    spoilt_expression, spoilt_expression, bad_range, bad_range, other_connections, other_connections, deep_use,
-    second_driver, bad_entry, bad_entry,
+    default_of_a_parameter, macro_named_like_a_primitive, unknown_kind, other_delay, two_delays, two_delays, two_delays,
+    bad_parameter, spoilt_expression, spoilt_expression, bad_range, bad_range, other_connections, other_connections,
+    deep_use, second_driver, bad_entry, bad_entry,
 ]
 
 
