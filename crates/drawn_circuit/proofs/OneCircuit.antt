@@ -87,7 +87,8 @@ one-rule b at at' kind kind' (Looped e none f) (Taken e' g) = absurd (none g.k g
 one-rule b at at' kind kind' (Looped e none f) (Looped e' none' g) = (e ∙ sym e', first-same (IsLooped (bounds_at b.wires) b.instances) b.instances at at' f g)
 
 -- A circuit's rules are broken in one way.
-pub one_break : (s : State) (b b' : Built) (r q : Refusal) → IsNumbered s b → IsNumbered s b' → IsBuilt b → IsBuilt b' → IsRuleBroken b r.place r.kind → IsRuleBroken b' q.place q.kind → r ≡ q
+pub one_break : (s : State) (b b' : Built) (r q : Refusal) → IsNumbered s b → IsNumbered s b' → IsBuilt b →
+    IsBuilt b' → IsRuleBroken b r.place r.kind → IsRuleBroken b' q.place q.kind → r ≡ q
 one_break s b b' r q is is' fit fit' broken broken' =
     let same : b' ≡ b = sym (one-built s b b' is is' fit fit') in
     let both : (r.kind ≡ q.kind) × (r.place ≡ q.place) =
@@ -121,6 +122,8 @@ no_break s b c r is fit stands circuit broken =
     unbroken (rule-of b r.place r.kind broken)
     (λ k taken. none-taken b.instances (driver_at c.nets) k drivers taken) loopless
   where
-    unbroken : {b : Built} {at : Place} {kind : RefusalKind} → IsRule b at kind → ((k : ℕ) → IsTaken b.instances k → ⊥) → HoldsOfNone (IsLooped (bounds_at b.wires) b.instances) b.instances → ⊥
+    unbroken : {b : Built} {at : Place} {kind : RefusalKind} → IsRule b at kind →
+        ((k : ℕ) → IsTaken b.instances k → ⊥) →
+        HoldsOfNone (IsLooped (bounds_at b.wires) b.instances) b.instances → ⊥
     unbroken (Taken e f) free loopless = free f.k f.is
     unbroken (Looped e none f) free loopless = loopless f.k f.below f.is

@@ -1,5 +1,5 @@
 -- A text draws one circuit at most, or is refused in one way.
-use Rattle.std.proofs.Common.{◌≡◌, ℕ, ◌<◌, refl, sym, ap, subst, ◌∙◌, arith, List, [], ◌∷◌, length, map, Result, Ok, Err, inl, inr}
+use Rattle.std.proofs.Common.{◌≡◌, ◌<◌, refl, sym, ap, subst, ◌∙◌, arith, List, [], ◌∷◌, length, map, Result, Ok, Err, inl, inr}
 use Rattle.std.specs.List.{All}
 use Rattle.std.proofs.lemmas.List.{length-map}
 use Rattle.std.proofs.lemmas.List.Elements.{All-head, All-tail}
@@ -18,14 +18,15 @@ use Rattle.macro_expander.specs.Cases.{CaseBit, cases_of}
 use Rattle.macro_expander.specs.Stands.{IsCircuitOf, IsStopOf, IsNumbered}
 use Rattle.case_analysis.specs.Case.{NetsExist}
 use Rattle.case_analysis.specs.Listed.{IsListed, bit_of, bits_of}
-use Rattle.drawn_circuit.specs.Drawn.{IsTextRefused, undrawn, unexpanded, wrong_cases, DrawsCircuit}
+use Rattle.drawn_circuit.specs.Drawn.{undrawn, unexpanded, wrong_cases}
 use Rattle.drawn_circuit.specs.Laws.{NotBoth, OneCircuit, OneRefusal}
 use Rattle.drawn_circuit.proofs.OneCircuit.{one_circuit, one_break, no_break}
 
 -- ---- circuits
 
 -- a drawing has one list of cases, or one refusal of them
-one-listed : (d d' : Drawing) (s s' : State) (r r' : Result (List (List CaseBit)) Refusal) → d' ≡ d → flat d ≡ Gives tt s → flat d' ≡ Gives tt s' → cases_of s d ≡ r → cases_of s' d' ≡ r' → r ≡ r'
+one-listed : (d d' : Drawing) (s s' : State) (r r' : Result (List (List CaseBit)) Refusal) → d' ≡ d →
+    flat d ≡ Gives tt s → flat d' ≡ Gives tt s' → cases_of s d ≡ r → cases_of s' d' ≡ r' → r ≡ r'
 one-listed d d' s s' r r' same gives gives' is is' =
     let e : Gives tt s' ≡ Gives tt s = sym gives' ∙ ap flat same ∙ gives in
     let states : s' ≡ s = cc in
