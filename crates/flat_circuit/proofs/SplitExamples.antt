@@ -1,5 +1,6 @@
--- Gates with two delays, tick by tick: the gate's own bits above, and the output below.
-use Rattle.std.proofs.Common.{◌≡◌, ℕ, Bool, true, false, List, [], ◌∷◌, map, get_or, refl, sym, ap, arith, true≢false, Option, Some, None}
+-- Gates with two delays, tick by tick: the gate's own bits above, and the output below. Then which
+-- bounds stand beside two delays, at which kinds they count, and what passes on at once.
+use Rattle.std.proofs.Common.{◌≡◌, ℕ, Bool, false, List, [], ◌∷◌, map, get_or, refl, sym, ap, arith, true≢false, Some, None}
 use Prim.Native.String.{String}
 use Rattle.scald_base.specs.Signal.{Signal}
 use Rattle.scald_base.specs.Time.{Bounds}
