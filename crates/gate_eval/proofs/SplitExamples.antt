@@ -60,6 +60,18 @@ fall_at_least : late_by_two (skewed pulse 0) (delays 1 2 2 3) ≡ skewed (F ∷ 
 unfolding earlier back
 fall_at_least = refl
 
+-- a pulse of one slot, and a gap: where it may be 1 in one slot alone, it rises there and does not fall there, since the
+-- slot before may not be 1; and the reverse
+short_pulse : late_by_two (skewed (Zero ∷ Zero ∷ R ∷ F ∷ Zero ∷ Zero ∷ Zero ∷ Zero ∷ []) 0) (delays 2 2 1 1)
+    ≡ skewed (Zero ∷ Zero ∷ Zero ∷ Zero ∷ R ∷ Zero ∷ Zero ∷ Zero ∷ []) 0
+unfolding earlier back
+short_pulse = refl
+
+short_gap : late_by_two (skewed (One ∷ One ∷ F ∷ R ∷ One ∷ One ∷ One ∷ One ∷ []) 0) (delays 1 1 2 2)
+    ≡ skewed (One ∷ One ∷ One ∷ One ∷ F ∷ One ∷ One ∷ One ∷ []) 0
+unfolding earlier back
+short_gap = refl
+
 -- each slot of an image that never changes counts by itself: it is 1 in two slots at most, one after the other
 steady : late_by_two (skewed (Zero ∷ Zero ∷ S ∷ S ∷ Zero ∷ Zero ∷ Zero ∷ Zero ∷ []) 0) (delays 2 2 0 0)
     ≡ skewed (Zero ∷ Zero ∷ Zero ∷ Zero ∷ Zero ∷ Zero ∷ Zero ∷ Zero ∷ []) 0
