@@ -128,7 +128,7 @@ def other_delay(drawing, random):
 
 def two_delays(drawing, random):
     """Two delays, of a kind that may have two or of another one. The bounds are right at the edge, or those of one are past
-    it, or an expression has a fault."""
+    it, or an expression or two have a fault."""
     use = some_use(drawing, random, random.choice([SPLIT_KINDS, SPLIT_KINDS, ELEMENTS.keys() - SPLIT_KINDS, None]))
     if use is not None:
         good = [(0, 0), (0, 255), (255, 255)]
@@ -136,7 +136,8 @@ def two_delays(drawing, random):
         bounds = random.sample([random.choice(good), random.choice(good + bad)], 2)
         written = [Number(end) if end >= 0 else Minus(Number(-end)) for end in bounds[0] + bounds[1]]
         if random.random() < 0.3:
-            written[random.randrange(4)] = bad_expression(random)
+            for number in random.sample(range(4), random.choice([1, 2])):
+                written[number] = bad_expression(random)
         use.delay, use.fall = Delay(*written[:2]), Delay(*written[2:])
 
 
