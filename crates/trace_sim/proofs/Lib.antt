@@ -1,0 +1,12 @@
+pub mod Shown
+pub mod Held
+pub mod Agreeing
+pub mod Fixed
+pub mod Chosen
+pub mod Walk
+pub mod Orders
+pub mod Turns
+pub mod Exists
+pub mod Made
+pub mod Steps
+pub mod Examples

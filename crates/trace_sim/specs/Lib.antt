@@ -1,0 +1,6 @@
+pub mod Choice
+pub mod Simulated
+pub mod Laws
+pub mod Order
+pub mod Search
+pub mod Making

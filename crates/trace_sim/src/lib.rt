@@ -1,0 +1,22 @@
+//! Runs of a circuit, made tick by tick, without waves.
+//!
+//! The layer above calls [`simulate`], which makes the run of a `Choice`: delays, wires' delays, inputs
+//! and free bits. `specs/Choice` says which choices a circuit has, and `specs/Simulated` where the bits
+//! of their runs come from; that a run for each of them exists is a law in [`laws`].
+//!
+//! Within a tick an instance without delay reads what others drive at that very tick, so `order` finds
+//! one order of the instances for every choice of delays (`specs/Order`).
+#![tactic(auto)]
+
+mod asked;
+mod choice;
+mod gates;
+pub mod laws;
+mod levels;
+mod making;
+mod order;
+mod rows;
+mod search;
+
+pub use choice::{Choice, DelayPicks, Levels, Traces, WirePicks};
+pub use making::simulate;
