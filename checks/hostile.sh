@@ -316,9 +316,9 @@ for delays in '255:255, 254:254' '0:255, 0:255' '255:255, 0:0'; do
         tries "a chain of 510 elements with [$delays]" 0 CLEAN faults
 done
 awk 'BEGIN { ticks = "0-1"; for (i = 2; i < 4096; i += 2) ticks = ticks sprintf(",%d-%d", i, i + 1)
-    for (i = 0; i < 256; i++)
-        printf "b%d : XOR [%d:255, 0:%d] (\"CK%s\", \"EN .S\") -> (\"X%d\");\n", i, i, 255 - i, i ? "" : " .P" ticks, i }' |
-    frame '4096 x 1' | tries '256 elements with two delays and 4096 edges' 0 CLEAN faults
+    for (i = 0; i < 64; i++)
+        printf "b%d : XOR [%d:255, 0:%d] (\"CK%s\", \"EN .S\") -> (\"X%d\");\n", i, 4 * i, 255 - 4 * i, i ? "" : " .P" ticks, i }' |
+    frame '4096 x 1' | tries '64 elements with two delays and 4096 edges' 0 CLEAN faults
 for delays in '1:1, 255:255' '255:255, 1:1'; do
     echo "a : AND [$delays] (\"CK .P0-7\", \"X\"<0:15>) -> (\"X\"<0:15>);" | frame '8 x 512' |
         tries "16 loops with [$delays] in the longest period" 0 CLEAN faults rounds=10000
