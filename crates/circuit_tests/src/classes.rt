@@ -20,6 +20,9 @@ const END: &[u8] = b"END;\n";
 /// A second gate that is as the first.
 const PLAIN: &[u8] = br#"g2 : AND [1:2] ("X"<0>) -> ("X"<3>);"#;
 
+/// The same with its delay written twice, for rises and for falls.
+const SPLIT: &[u8] = br#"g2 : AND [1:2, 1:2] ("X"<0>) -> ("X"<3>);"#;
+
 const SLOWER: &[u8] = br#"g2 : AND [1:3] ("X"<0>) -> ("X"<3>);"#;
 
 const ON_SECOND: &[u8] = br#"g2 : AND [1:2] ("X"<1>) -> ("X"<3>);"#;
@@ -35,9 +38,10 @@ const UNLIKE: &[u8] = br#"CASE "X"<0>=0, "X"<1>=1;"#;
 type StableRow = (&'static str, &'static [u8], &'static [u8], [u32; 4], bool);
 
 /// Gates in one class that differ in one thing.
-const GATES: [StableRow; 7] = [
+const GATES: [StableRow; 8] = [
     ("nothing", PLAIN, NO_CASE, [0, 0, 2, 2], true),
     ("delay", SLOWER, NO_CASE, [0, 0, 2, 2], false),
+    ("two delays", SPLIT, NO_CASE, [0, 0, 2, 2], false),
     (
         "kind",
         br#"g2 : OR [1:2] ("X"<0>) -> ("X"<3>);"#,
@@ -102,9 +106,10 @@ const NUMBERS: [StableRow; 8] = [
 /// The name of a row, its second gate, its case, and the fewest classes.
 type FewestRow = (&'static str, &'static [u8], &'static [u8], [u32; 4]);
 
-const FEWEST: [FewestRow; 5] = [
+const FEWEST: [FewestRow; 6] = [
     ("nothing differs", PLAIN, NO_CASE, [0, 0, 2, 2]),
     ("the delay differs", SLOWER, NO_CASE, [0, 0, 2, 3]),
+    ("one has two delays", SPLIT, NO_CASE, [0, 0, 2, 3]),
     ("the net differs", ON_SECOND, NO_CASE, [0, 0, 2, 2]),
     ("the nets are unlike", PLAIN, UNLIKE, [0, 1, 2, 2]),
     (
@@ -120,7 +125,7 @@ const FEWEST: [FewestRow; 5] = [
 type DrawingRow = (&'static str, &'static [u8], &'static [u32], bool);
 
 /// Two buffers from a clock, whose nets are numbered CK, X, Y.
-const BUFFERS: [DrawingRow; 2] = [
+const BUFFERS: [DrawingRow; 5] = [
     (
         "one delay",
         br#"DRAWING BUFFERS;
@@ -132,10 +137,40 @@ END;
         true,
     ),
     (
-        "two delays",
+        "another delay",
         br#"DRAWING BUFFERS;
 b1 : BUF [1:2] ("CK .P2-3") -> ("X");
 b2 : BUF [1:3] ("CK") -> ("Y");
+END;
+"#,
+        &[0, 1, 1],
+        false,
+    ),
+    (
+        "the same two delays",
+        br#"DRAWING BUFFERS;
+b1 : BUF [1:4, 2:3] ("CK .P2-3") -> ("X");
+b2 : BUF [1:4, 2:3] ("CK") -> ("Y");
+END;
+"#,
+        &[0, 1, 1],
+        true,
+    ),
+    (
+        "another fall delay, within the rise delay",
+        br#"DRAWING BUFFERS;
+b1 : BUF [1:4, 2:3] ("CK .P2-3") -> ("X");
+b2 : BUF [1:4, 2:4] ("CK") -> ("Y");
+END;
+"#,
+        &[0, 1, 1],
+        false,
+    ),
+    (
+        "rise and fall exchanged",
+        br#"DRAWING BUFFERS;
+b1 : BUF [1:2, 3:4] ("CK .P2-3") -> ("X");
+b2 : BUF [3:4, 1:2] ("CK") -> ("Y");
 END;
 "#,
         &[0, 1, 1],

@@ -1,4 +1,4 @@
-//! Reports on a circuit of one net, spelled out on paper.
+//! Reports on a circuit of one net and on a gate with two delays, spelled out on paper.
 
 ghost use Rattle.std.specs.Prelude.{map};
 ghost use Rattle.skew_algebra.specs.Wave.{skewed};
@@ -6,12 +6,14 @@ ghost use Rattle.net_waves.specs.Waves.{FitWaves};
 
 use crate::drawings::{are_fit, read_circuit};
 use crate::rows::expect_bytes;
+use case_analysis::{base, reach, tick};
 use flat_circuit::{Circuit, Fault, Faults};
 use listing::{
     CaseHead, Mode, begin_report, end_report, write_case, write_refusal, write_summary,
     write_unsettled,
 };
 use net_waves::Waves;
+use pulse_check::check_pulses;
 use scald_base::{Bytes, NoMemory, Place, Refusal, RefusalKind};
 use skew_algebra::Skewed;
 use std::alloc::Global;
@@ -96,6 +98,48 @@ fn one_net_in_each_mode(rt: HostRuntime) -> Result<(), Fail> {
         FAULT ASSERT u1/K<3> SLOT 5 VALUE R\n\
         FAULTS 3\n";
     expect_bytes(&rt, "a case in each mode", out.as_slice(), expected);
+    Ok(())
+}
+
+/// A clock, and a buffer after it with a rise delay and a longer fall delay. Its pulse is to be one tick
+/// wider than it is from the latest rise to the earliest fall.
+const TWO_DELAYS: &[u8] = br#"SCALD 1;
+CLOCK 8 x 50;
+DRAWING ROW;
+b1 : BUF [2:4, 6:8] ("CK .P2-3") -> ("X");
+w1 : MIN_PULSE_CHK {HIGH=53} ("X");
+END;
+"#;
+
+/// The report of a circuit's base, which settles after one round, with the faults of its pulses.
+fn base_report(alloc: Global, c: &Circuit) -> Result<Bytes, Fail> {
+    let settled = base::<SlotWave<Value>>(alloc, c, 1)?;
+    let head = CaseHead {
+        number: 0,
+        base: settled.rounds,
+        rounds: 0,
+        tick: tick(reach(c), settled.rounds, 0),
+    };
+    let faults = check_pulses(alloc, c, &settled.waves)?;
+    let mut out = Bytes::new(alloc);
+    begin_report(c, &mut out)?;
+    write_case(c, head, &settled.waves, &faults, Mode::Full, &mut out)?;
+    end_report(1, &mut out)?;
+    Ok(out)
+}
+
+#[test]
+fn two_delays(rt: HostRuntime) -> Result<(), Fail> {
+    let drawn = read_circuit(rt.alloc(), &[TWO_DELAYS])?;
+    let out = base_report(rt.alloc(), &drawn.circuit)?;
+    let expected = b"SCALD 1 PERIOD 400\n\
+        NETS 2 INSTANCES 1 CHECKS 1\n\
+        CASE 0 BASE 1 ROUNDS 0 T 18\n\
+        WAVE CK<0> SKEW 0 0:100 R:1 1:49 F:1 0:249\n\
+        WAVE X<0> SKEW 0 0:102 R:3 1:51 F:3 0:241\n\
+        FAULT WIDTH w1<0> HIGH FROM 104 WIDTH 52\n\
+        FAULTS 1\n";
+    expect_bytes(&rt, "two delays", out.as_slice(), expected);
     Ok(())
 }
 

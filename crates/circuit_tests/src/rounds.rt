@@ -49,7 +49,7 @@ type BaseRow = (
     u32,
 );
 
-const BASES: [BaseRow; 6] = [
+const BASES: [BaseRow; 8] = [
     (
         "500 buffers",
         CHAIN,
@@ -87,6 +87,28 @@ const BASES: [BaseRow; 6] = [
             rounds: 2,
             evals: 3,
             tick: 12288,
+        }),
+        1618,
+    ),
+    (
+        "the rise may take the longest",
+        br#"DRAWING ROW; b1 : BUF [1:9, 2:3] ("X"<0:1>) -> ("X"<1:2>); END;"#,
+        9,
+        Ok(Rest {
+            rounds: 2,
+            evals: 3,
+            tick: 30,
+        }),
+        1618,
+    ),
+    (
+        "the fall may take the longest",
+        br#"DRAWING ROW; b1 : BUF [2:3, 1:9] ("X"<0:1>) -> ("X"<1:2>); END;"#,
+        9,
+        Ok(Rest {
+            rounds: 2,
+            evals: 3,
+            tick: 30,
         }),
         1618,
     ),
