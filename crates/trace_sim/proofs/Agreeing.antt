@@ -1,10 +1,10 @@
 -- Runs that agree before a tick, and at it on each net that an instance sees at once, fix one bit of its output there.
-use Rattle.std.proofs.Common.{◌≡◌, ℕ, zero, suc, ◌+◌, ◌-◌, ◌<◌, ◌≤◌, min, max, Bool, true, false, not, ◌&&◌, cond, ltb, List, [], ◌∷◌, length, get_or, Option, Some, None, refl, ap, sym, subst, ◌∙◌, arith, inl, inr, All}
+use Rattle.std.proofs.Common.{◌≡◌, ℕ, zero, suc, ◌+◌, ◌-◌, ◌<◌, ◌≤◌, min, max, Bool, true, false, ◌&&◌, cond, ltb, List, [], ◌∷◌, length, get_or, Option, Some, None, refl, ap, sym, subst, ◌∙◌, arith, inl, inr, All}
 use Rattle.std.specs.List.{list_all}
 use Rattle.std.proofs.lemmas.Bool.{cases_eq}
 use Rattle.std.proofs.lemmas.List.Elements.{All-head, All-tail}
 use Rattle.scald_base.specs.Time.{Bounds}
-use Rattle.scald_base.specs.Signal.{Signal, turned}
+use Rattle.scald_base.specs.Signal.{turned}
 use Rattle.vector_names.specs.declared.bits.Target.{Target}
 use Rattle.vector_names.specs.declared.bits.Target.TheVariants.{Net as OnNet, Constant}
 use Rattle.element_kinds.specs.declared.kind.Kind.{Kind}
@@ -15,7 +15,7 @@ use Rattle.element_kinds.specs.Equation.{gate_bit, bits_at, nth_signal, register
 use Rattle.flat_circuit.specs.declared.instance.Pin.{Pin}
 use Rattle.flat_circuit.specs.declared.instance.Instance.{Instance}
 use Rattle.flat_circuit.specs.Run.{Choice as Chosen, Run, net_signal, target_signal, pin_signal, pin_signals, out_signal}
-use Rattle.trace_sim.specs.Making.{near_in, named_in, are_there, are_shown, in_a_row, held_through, stays_at, passes, row_by, forced_by, stored, fixed, fixed_in, SeesNow}
+use Rattle.trace_sim.specs.Making.{near_in, named_in, are_there, are_shown, in_a_row, held_through, stays_at, passes, row_by, stored, fixed, fixed_in, SeesNow}
 use Rattle.trace_sim.proofs.Shown.{from_there, shown_at, far_enough}
 
 guarded : (b x y : Bool) → (b ≡ true → x ≡ y) → (b && x) ≡ (b && y)

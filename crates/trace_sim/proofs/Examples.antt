@@ -1,6 +1,6 @@
 -- What stands in promises alone, on examples: at which ticks an output is free, which picks are one delay, and which
 -- instances read others at once.
-use Rattle.std.proofs.Common.{◌≡◌, ℕ, zero, suc, ◌+◌, ◌-◌, ◌<◌, ◌≤◌, ◌⊎◌, true, false, leb, List, [], ◌∷◌, Some, None, refl, arith, inl, inr, All, ◌∙◌, sym, subst}
+use Rattle.std.proofs.Common.{◌≡◌, ℕ, zero, suc, ◌-◌, ◌<◌, ◌≤◌, ◌⊎◌, true, false, leb, List, [], ◌∷◌, Some, None, refl, arith, inl, inr, ◌∙◌, sym, subst}
 use Rattle.std.proofs.lemmas.Bool.{le-leb, lt-leb}
 use Rattle.std.proofs.lemmas.List.Elements.{All-nil, All-cons}
 use Rattle.scald_base.specs.Signal.{Signal}
@@ -13,7 +13,7 @@ use Rattle.flat_circuit.specs.Run.{Choice as Chosen, Run}
 use Rattle.flat_circuit.proofs.RunTables.{bounds, input, wired, driven_by, on, element, circuit, two}
 use Rattle.trace_sim.specs.declared.choice.Choice.{Choice}
 use Rattle.trace_sim.specs.Choice.{chosen, IsOneDelay}
-use Rattle.trace_sim.specs.Simulated.{run_of, MayChange, AreBoth, LeavesFree, IsSimulated}
+use Rattle.trace_sim.specs.Simulated.{MayChange, AreBoth, LeavesFree, IsSimulated}
 use Rattle.trace_sim.specs.Order.{ReadsAtOnce, IsEvaluationOrder}
 
 -- ---- a change function of 1 to 3 ticks, of whose two pins the second steps at tick 5 alone

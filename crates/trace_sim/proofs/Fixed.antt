@@ -1,7 +1,7 @@
 -- With the bit that is fixed the equation holds, and none is fixed where the equation leaves the bit open.
-use Rattle.std.proofs.Common.{◌≡◌, ◌≢◌, ℕ, zero, suc, ◌+◌, ◌-◌, ◌≤◌, ◌⊎◌, ◌↔◌, max, min, Bool, true, false, cond, List, [], ◌∷◌, length, Option, Some, None, refl, ap, sym, subst, ◌∙◌, arith, inl, inr, All}
+use Rattle.std.proofs.Common.{◌≡◌, ℕ, zero, suc, ◌+◌, ◌-◌, ◌≤◌, ◌↔◌, max, Bool, true, false, cond, List, [], ◌∷◌, length, Option, Some, None, refl, ap, sym, subst, ◌∙◌, arith, inl, inr, All}
 use Rattle.std.specs.List.{list_all}
-use Rattle.std.proofs.lemmas.Bool.{and_from, and_parts, cases_Bool, false_from_ne_true}
+use Rattle.std.proofs.lemmas.Bool.{and_from, and_parts, false_from_ne_true}
 use Rattle.std.proofs.lemmas.List.Elements.{All-head, All-tail}
 use Rattle.scald_base.specs.Time.{Bounds}
 use Rattle.scald_base.specs.Signal.{Signal}
@@ -9,13 +9,13 @@ use Rattle.element_kinds.specs.declared.kind.Kind.{Kind}
 use Rattle.element_kinds.specs.declared.form.Form.{Form}
 use Rattle.element_kinds.specs.declared.form.Form.TheVariants.{Gate, Change, Register, Latch as Enabled, Checker}
 use Rattle.element_kinds.specs.Kinds.{form_of}
-use Rattle.element_kinds.specs.Equation.{nth_signal, registered, latched, IsForced, IsStored, AreStill, IsInReach, EquationOf, pins_before, named_by}
+use Rattle.element_kinds.specs.Equation.{nth_signal, registered, latched, IsForced, IsStored, AreStill, EquationOf, pins_before, named_by}
 use Rattle.flat_circuit.specs.declared.split.Split.{Split}
 use Rattle.flat_circuit.specs.declared.instance.Instance.{Instance}
 use Rattle.flat_circuit.specs.Split.{gate_signal, split_bit, two_delays}
 use Rattle.flat_circuit.specs.Run.{Choice as Chosen, Run, pin_signals, out_signal, EquationWith, IsAskedWith}
 use Rattle.flat_circuit.proofs.Splits.{same-delays}
-use Rattle.trace_sim.specs.Simulated.{MayChange, IsOpenForm, LeavesFree}
+use Rattle.trace_sim.specs.Simulated.{IsOpenForm, LeavesFree}
 use Rattle.trace_sim.specs.Making.{named_in, are_there, are_shown, stays_at, held_through, passes, forced_by, stored, fixed, fixed_in}
 use Rattle.trace_sim.proofs.Shown.{there_from, from_there, shown_at, far_enough}
 use Rattle.trace_sim.proofs.Held.{held_passes, passes_held, waited_is}

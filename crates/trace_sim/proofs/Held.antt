@@ -1,9 +1,7 @@
 -- Ticks in a row, and what they say of a window of ticks.
-use Rattle.std.proofs.Common.{◌≡◌, ℕ, zero, suc, ◌+◌, ◌-◌, ◌<◌, ◌≤◌, ◌⊎◌, min, max, Bool, true, false, not, ◌&&◌, cond, ltb, refl, ap, sym, subst, ◌∙◌, arith, inl, inr}
+use Rattle.std.proofs.Common.{◌≡◌, ℕ, zero, suc, ◌+◌, ◌-◌, ◌<◌, ◌≤◌, ◌⊎◌, min, max, Bool, true, false, not, ◌&&◌, cond, ltb, refl, ap, sym, ◌∙◌, arith, inl, inr}
 use Rattle.std.proofs.lemmas.Bool.{and_parts, and_from, cases_eq, cases_lt, lt-ltb, le-ltb, ltb-true, both_ways}
-use Rattle.scald_base.specs.Time.{Bounds}
 use Rattle.scald_base.specs.Signal.{Signal, turned}
-use Rattle.element_kinds.specs.Equation.{IsInReach}
 use Rattle.flat_circuit.specs.Split.{split_bit}
 use Rattle.flat_circuit.proofs.Splits.{every_tick, turned as mirrored}
 use Rattle.trace_sim.specs.Making.{in_a_row, held_through}

@@ -1,5 +1,5 @@
 -- An order of evaluation, taken from the front: each instance reads at once neither itself nor any after it.
-use Rattle.std.proofs.Common.{◌≡◌, ℕ, zero, suc, ◌<◌, ◌≤◌, true, List, [], ◌∷◌, length, get_or, Option, Some, None, refl, ap, sym, subst, ◌∙◌, arith, inl, inr}
+use Rattle.std.proofs.Common.{◌≡◌, ℕ, zero, suc, ◌<◌, true, List, [], ◌∷◌, length, get_or, Option, Some, None, refl, ap, sym, subst, ◌∙◌, arith, inl, inr}
 use Rattle.std.specs.Prelude.{◌⊎◌, slice_get, is_some}
 use Rattle.std.specs.List.{Contains}
 use Rattle.vector_names.specs.declared.bits.Target.{Target}

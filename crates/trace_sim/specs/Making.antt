@@ -1,6 +1,6 @@
 -- How the bits of a run are made: tick by tick, and within a tick instance by instance, in an order of
 -- evaluation.
-use Rattle.std.specs.Prelude.{◌≡◌, ℕ, zero, suc, ◌+◌, ◌-◌, ◌<◌, min, max, Bool, true, false, ◌&&◌, nat_le, nat_lt, if◌then◌else◌, ◌⊎◌, List, [], ◌∷◌, length, map, slice_get, slice_set, slice_index_or, Option, Some, None, is_some}
+use Rattle.std.specs.Prelude.{◌≡◌, ℕ, zero, suc, ◌+◌, ◌-◌, min, max, Bool, true, false, ◌&&◌, nat_le, nat_lt, if◌then◌else◌, ◌⊎◌, List, [], ◌∷◌, length, map, slice_get, slice_set, slice_index_or, Option, Some, None, is_some}
 use Rattle.std.specs.List.{list_all, range_with_len}
 use Rattle.scald_base.specs.Time.{Bounds}
 use Rattle.scald_base.specs.Signal.{Signal, turned}

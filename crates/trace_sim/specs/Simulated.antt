@@ -1,14 +1,12 @@
 -- The run that is made from a choice: where its bits come from.
-use Rattle.std.specs.Prelude.{◌≡◌, ◌≢◌, ℕ, ◌-◌, ◌<◌, Bool, true, false, List, [], slice_get, slice_index_or, ◌⊎◌, Option, Some, None}
+use Rattle.std.specs.Prelude.{◌≡◌, ◌≢◌, ℕ, ◌-◌, ◌<◌, Bool, true, false, List, [], slice_get, slice_index_or, ◌⊎◌, Some, None}
 use Rattle.scald_base.specs.Time.{Bounds}
 use Rattle.scald_base.specs.Signal.{Signal}
 use Rattle.vector_names.specs.declared.bits.Target.TheVariants.{Net as OnNet}
-use Rattle.element_kinds.specs.declared.kind.Kind.{Kind}
 use Rattle.element_kinds.specs.declared.form.Form.{Form}
 use Rattle.element_kinds.specs.declared.form.Form.TheVariants.{Gate, Change, Register, Latch as Enabled, Checker}
 use Rattle.element_kinds.specs.Kinds.{form_of}
 use Rattle.element_kinds.specs.Equation.{nth_signal, IsInReach}
-use Rattle.flat_circuit.specs.declared.split.Split.{Split}
 use Rattle.flat_circuit.specs.declared.instance.Instance.{Instance}
 use Rattle.flat_circuit.specs.Split.{two_delays}
 use Rattle.flat_circuit.specs.Circuit.{Circuit, driver_at}

@@ -1,6 +1,6 @@
 //! The bits of nets, and what pins show of them.
 
-ghost use Rattle.std.specs.Prelude.{◌≡◌, ◌<◌, ℕ, [], false, slice_index_or, slice_set, IfOk};
+ghost use Rattle.std.specs.Prelude.{◌≡◌, ◌<◌, ℕ, false, slice_index_or, slice_set, IfOk};
 ghost use Rattle.std.specs.List.{list_all};
 ghost use Rattle.scald_base.specs.Signal.{turned as turned_bit};
 ghost use Rattle.element_kinds.specs.Equation.{bits_at, nth_signal};

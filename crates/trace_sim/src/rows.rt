@@ -1,7 +1,7 @@
 //! Ticks in a row: for how long a gate's own bit was what it waits for, or no pin of a change function
 //! stepped. Kept from tick to tick, so a tick is looked at once however far back a delay reaches.
 
-ghost use Rattle.std.specs.Prelude.{◌≡◌, ℕ, ◌+◌, ◌-◌, ◌<◌, ◌^◌, List, length, IfOk, OnOk, Some, slice_get, slice_index_or};
+ghost use Rattle.std.specs.Prelude.{◌≡◌, ℕ, ◌+◌, ◌-◌, ◌<◌, ◌^◌, List, length, IfOk, OnOk, Some, slice_get};
 ghost use Rattle.flat_circuit.specs.declared.instance.Instance.{Instance as Element};
 ghost use Rattle.flat_circuit.specs.Run.{pin_signals, Choice as Chosen};
 ghost use Rattle.trace_sim.specs.Choice.{chosen, choices_of};

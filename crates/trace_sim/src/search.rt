@@ -1,6 +1,6 @@
 //! A search backwards that puts each node after those that feed it.
 
-ghost use Rattle.std.specs.Prelude.{◌≡◌, ◌≢◌, ◌<◌, ◌≤◌, ℕ, length, IfOk, OnOk, MatchOption, MatchBool};
+ghost use Rattle.std.specs.Prelude.{◌≡◌, ◌≢◌, ◌<◌, ◌≤◌, length, IfOk, OnOk, MatchOption, MatchBool};
 ghost use Rattle.trace_sim.specs.Search.{feeders_of, AreInRange, AreLoopless, IsSorted, AreMarks, HasNoOpen, StaysMarked, mark_at, IsFeeder};
 ghost use Rattle.trace_sim.specs.declared.search.Mark.TheVariants.{Fresh, Open, Clear};
 
