@@ -57,13 +57,16 @@ def ring(count, kind, header):
 def haze(intervals, late, delay, fall):
     """A net of which nothing is known in the units of some intervals and that may change in all others, and a gate with
     two delays behind it."""
+
+    def changing():  # of its own for each pin, since a name knows its place in the text
+        return signal("MIST", None, Still((Interval(0, 1),)))
+
     still = Delay(Number(0), Number(0))
     clock = signal("LIFT", None, Clock("P", intervals, None, False))
-    changing = signal("MIST", None, Still((Interval(0, 1),)))
     return [
-        Use("fog", "XOR", [signal("FOG"), changing], [signal("FOG")], late),
+        Use("fog", "XOR", [signal("FOG"), changing()], [signal("FOG")], late),
         Use("lift", "AND", [clock, signal("FOG")], [signal("BANK")], still),
-        Use("rain", "OR", [signal("BANK"), changing], [signal("HAZE")], still),
+        Use("rain", "OR", [signal("BANK"), changing()], [signal("HAZE")], still),
         Use("late", "BUF", [signal("HAZE")], [signal("LATE")], delay, fall=fall),
     ]
 
