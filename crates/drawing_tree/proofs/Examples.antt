@@ -4,9 +4,10 @@ use Rattle.std.specs.Prelude.{codes, ⊤}
 use Rattle.std.specs.Fmt.{digits}
 use Rattle.scald_base.specs.declared.refusal.Place.{Place}
 use Rattle.scald_base.specs.declared.assertion.AssertSpec.TheVariants.{None as Unasserted}
-use Rattle.scald_expr.specs.declared.expr.Op.TheVariants.{Add, Sub, Mul, Div, Eq, Ne, Lt, Ge}
+use Rattle.scald_expr.specs.declared.expr.Op.TheVariants.{Add, Sub, Mul, Div, Eq, Ne, Lt, Le, Gt, Ge}
 use Rattle.scald_expr.specs.Expression.{Expression, Number, Param, Negate, Binary}
 use Rattle.assertion_syntax.specs.declared.name.SignalName.{SignalName}
+use Rattle.drawing_tree.specs.declared.drawing.CaseStmt.{CaseStmt}
 use Rattle.drawing_tree.specs.Tree.{Range, Item, Zero, One, Named, Term, Connection, UseStatement, Use, If, nil, cons, no_else, else_, EachDelay}
 use Rattle.drawing_tree.specs.ExpressionText.{condition_text, sum_text}
 use Rattle.drawing_tree.specs.Canonical.{connection_text, bracketed, bracketed_if_some, use_head, use_text, wire_text, statement_lines, statements_lines, else_lines, header_lines, body_lines, macro_head, macro_lines, case_lines, canonical}
@@ -16,7 +17,7 @@ use Rattle.drawing_tree.specs.Canonical.{connection_text, bracketed, bracketed_i
 abbrev num : ℕ → Expression
 num n = Number (pos n)
 
-abbrev a : Expression
+abbrev pub a : Expression
 a = Param (codes "A")
 
 abbrev b : Expression
@@ -51,6 +52,18 @@ minus_of_a_product : condition_text (Negate (Binary Mul (Negate a) (Negate b))) 
 unfolding digits condition_text
 minus_of_a_product = refl
 
+minus_of_a_sum : condition_text (Negate (Binary Add a b)) ≡ codes "-(A + B)"
+unfolding digits condition_text
+minus_of_a_sum = refl
+
+at_most : condition_text (Binary Le a b) ≡ codes "A <= B"
+unfolding digits condition_text
+at_most = refl
+
+above : condition_text (Binary Gt a b) ≡ codes "A > B"
+unfolding digits condition_text
+above = refl
+
 comparison_of_comparisons : condition_text (Binary Ne (Binary Lt a b) (Binary Ge (Binary Add a b) (num 0))) ≡ codes "(A < B) != (A + B >= 0)"
 unfolding digits condition_text
 comparison_of_comparisons = refl
@@ -66,7 +79,7 @@ negative_number = refl
 
 -- ---- connections
 
-abbrev here : Place
+abbrev pub here : Place
 here = record { line = 1; col = 1 }
 
 abbrev plain : List ℕ → SignalName
@@ -75,10 +88,10 @@ plain base = record { base = base; global = false; spec = Unasserted }
 abbrev term : Bool → Item → Term
 term minus item = record { minus = minus; item = item }
 
-abbrev single : Item → Connection
+abbrev pub single : Item → Connection
 single item = record { terms = term false item ∷ []; hold = false; place = here }
 
-abbrev named : List ℕ → Item
+abbrev pub named : List ℕ → Item
 named base = Named (plain base) None
 
 abbrev bits : Expression → Option Expression → Option Range
@@ -113,7 +126,7 @@ buffer = record {
   place = here;
 }
 
-abbrev checker : UseStatement
+abbrev pub checker : UseStatement
 checker = record {
   label = codes "c";
   kind = codes "CHK";
@@ -192,16 +205,19 @@ a_macro : macro_lines (record {
 unfolding digits condition_text bracketed bracketed_if_some macro_head macro_lines body_lines statements_lines
 a_macro = refl
 
-a_case : case_lines (record {
-  entries = record { name = plain (codes "A"); bit = 0; value = 0; place = here } ∷ record {
+abbrev case : CaseStmt
+case = record {
+  entries = record { name = plain (codes "A"); bit = 3; value = 0; place = here } ∷ record {
     name =
         plain (codes "B");
-    bit = 1;
+    bit = 0;
     value = 1;
     place = here;
   } ∷ [];
   place = here;
-}) ≡ codes "CASE \"A\"<0>=0, \"B\"<1>=1;\n"
+}
+
+a_case : case_lines case ≡ codes "CASE \"A\"<3>=0, \"B\"<0>=1;\n"
 unfolding digits
 a_case = refl
 
@@ -214,7 +230,7 @@ whole : canonical (record {
   body =
       cons (Use buffer) nil;
   cases =
-      [];
-}) ≡ codes "SCALD 1;\nCLOCK 8 x 50;\nWIRE 0:0;\nPSKEW 0:0;\nCSKEW 0:0;\nDRAWING T;\n  b1 : BUF [0:0] (-\"A\") -> (\"B\");\nEND;\n"
+      case ∷ [];
+}) ≡ codes "SCALD 1;\nCLOCK 8 x 50;\nWIRE 0:0;\nPSKEW 0:0;\nCSKEW 0:0;\nDRAWING T;\n  b1 : BUF [0:0] (-\"A\") -> (\"B\");\nEND;\nCASE \"A\"<3>=0, \"B\"<0>=1;\n"
 unfolding digits condition_text bracketed bracketed_if_some use_head use_text statement_lines statements_lines else_lines header_lines body_lines
 whole = refl

@@ -2,7 +2,9 @@
 use Rattle.std.proofs.Common.{◌≡◌, true, false, [], ◌∷◌, map, refl, Some, None}
 use Rattle.std.specs.Prelude.{codes}
 use Rattle.element_kinds.specs.declared.kind.Kind.TheVariants.{And, Reg, RegRs, Latch, RiseFall, MinPulse}
-use Rattle.element_kinds.specs.Kinds.{kinds, kind_names, kind_of, has_output, listens, is_change, checks_points, checks_pulses, inputs_of, greatest_marks}
+use Rattle.element_kinds.specs.declared.form.Check.TheVariants.{SetupHold as AboutRise, RiseFall as RiseToFall, MinPulse as Widths}
+use Rattle.element_kinds.specs.declared.form.Form.TheVariants.{Gate, Change, Register, Latch as Enabled, Checker}
+use Rattle.element_kinds.specs.Kinds.{kinds, kind_names, kind_of, form_of, closes_of, by_form, is_function, keeps_bit, is_memoryless, has_output, listens, is_change, checks_points, checks_pulses, inputs_of, greatest_marks}
 
 -- ---- names
 
@@ -23,6 +25,36 @@ registers = refl
 checkers : map kind_of (codes "SETUP_RISE_HOLD_FALL_CHK" ∷ codes "MIN_PULSE_CHK" ∷ [])
     ≡ Some RiseFall ∷ Some MinPulse ∷ []
 checkers = refl
+
+-- ---- what makes an output
+
+-- seven gates, a change function, storage without and with a set and a reset, and three checkers
+forms : map form_of kinds
+    ≡ Gate ∷ Gate ∷ Gate ∷ Gate ∷ Gate ∷ Gate ∷ Gate ∷ Change
+    ∷ Register false ∷ Register true ∷ Enabled false ∷ Enabled true
+    ∷ Checker AboutRise ∷ Checker RiseToFall ∷ Checker Widths ∷ []
+forms = refl
+
+functions : map (by_form is_function) kinds
+    ≡ true ∷ true ∷ true ∷ true ∷ true ∷ true ∷ true ∷ false ∷ false ∷ false ∷ false ∷ false
+    ∷ false ∷ false ∷ false ∷ []
+functions = refl
+
+storage : map (by_form keeps_bit) kinds
+    ≡ false ∷ false ∷ false ∷ false ∷ false ∷ false ∷ false ∷ false ∷ true ∷ true ∷ true ∷ true
+    ∷ false ∷ false ∷ false ∷ []
+storage = refl
+
+memoryless : map (by_form is_memoryless) kinds
+    ≡ true ∷ true ∷ true ∷ true ∷ true ∷ true ∷ true ∷ true ∷ false ∷ false ∷ false ∷ false
+    ∷ false ∷ false ∷ false ∷ []
+memoryless = refl
+
+-- a 0 settles an AND, and a 1 an OR
+settling : map closes_of kinds
+    ≡ None ∷ Some false ∷ Some true ∷ None ∷ None ∷ None ∷ None ∷ None ∷ None ∷ None ∷ None ∷ None
+    ∷ None ∷ None ∷ None ∷ []
+settling = refl
 
 -- ---- outputs and pins
 

@@ -113,6 +113,13 @@ pub held_and_high : fault_line checked (Point Hold 0 398 405 85) ++ fault_line c
 unfolding digits fault_line
 held_and_high = refl
 
+-- the same two nets with the clock named last: lines stand in the order of names
+pub in_name_order : case_lines (circuit (net (codes "D") 0 quiet None ∷ net (codes "CK") 0 clocked None ∷ []) [] (1 ∷ 0 ∷ [])) Waves 0 0 0 1
+    (waves_of (skewed (input_cells 51) 0 ∷ skewed clock_cells 0 ∷ [])) []
+    ≡ codes "CASE 0 BASE 0 ROUNDS 0 T 1\nWAVE CK<0> SKEW 0 0:100 R:1 1:49 F:1 0:249\nWAVE D<0> SKEW 0 C:51 S:149 C:200\n"
+unfolding digits case_line wave_line
+in_name_order = refl
+
 -- ---- a buffer that may be late as a whole, and a checker of its pulse
 
 abbrev pulsed : Circuit

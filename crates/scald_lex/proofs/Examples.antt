@@ -1,6 +1,6 @@
 -- Small texts: their places, their tokens and what lies between them, and why they are refused,
 -- both ways.
-use Rattle.std.proofs.Common.{◌≡◌, ℕ, zero, suc, ◌<◌, ◌≤◌, true, List, [], ◌∷◌, Some, None, Ok, Err, inl, inr, pos, refl, ap, arith}
+use Rattle.std.proofs.Common.{◌≡◌, ℕ, zero, suc, ◌<◌, ◌≤◌, true, false, List, [], ◌∷◌, map, Some, None, Ok, Err, inl, inr, pos, refl, ap, arith}
 use Rattle.std.specs.Prelude.{codes, slice_index, replicate}
 use Rattle.std.proofs.lemmas.List.Sums.{AllPass-from_list_all}
 use Rattle.scald_base.specs.declared.refusal.Place.{Place}
@@ -11,7 +11,7 @@ use Rattle.scald_lex.specs.declared.piece.Piece.TheVariants.{Space, LineEnd, Com
 use Rattle.scald_lex.specs.declared.token.Token.{Token}
 use Rattle.scald_lex.specs.declared.token.TokenKind.{TokenKind}
 use Rattle.scald_lex.specs.declared.token.TokenKind.TheVariants.{Word, Number, Name, Arrow, Symbol, End}
-use Rattle.scald_lex.specs.Bytes.{is_allowed}
+use Rattle.scald_lex.specs.Bytes.{is_allowed, is_name_byte}
 use Rattle.scald_lex.specs.Piece.{word_at, number_at, name_behind, dash_before, piece_at}
 use Rattle.scald_lex.specs.Place.{place_at, IsPlaceOf, IsPlacedStop}
 use Rattle.scald_lex.specs.Scan.{GivesList, GivesRefusal}
@@ -66,6 +66,19 @@ stop_behind_the_line : IsPlacedStop two_lines (Refused (record {
       place 1 4;
 })) → ⊥
 stop_behind_the_line h = behind_the_line h
+
+-- ---- bytes
+
+-- at each edge: 8 to 14, 31, 32, 126 (`~`), 127, 128 and 255
+allowed_at_edges : map is_allowed (8 ∷ 9 ∷ 10 ∷ 11 ∷ 12 ∷ 13 ∷ 14 ∷ 31 ∷ 32 ∷ 126 ∷ 127 ∷ 128 ∷ 255 ∷ [])
+    ≡ false ∷ true ∷ true ∷ false ∷ false ∷ true ∷ false ∷ false ∷ true ∷ true ∷ false ∷ false
+    ∷ false ∷ []
+allowed_at_edges = refl
+
+-- a tabulator, a carriage return, 31, the space, `!`, a quote, `#`, `~` and 127
+in_a_name : map is_name_byte (9 ∷ 13 ∷ 31 ∷ 32 ∷ 33 ∷ 34 ∷ 35 ∷ 126 ∷ 127 ∷ [])
+    ≡ false ∷ false ∷ false ∷ true ∷ true ∷ false ∷ true ∷ true ∷ false ∷ []
+in_a_name = refl
 
 -- ---- answers
 

@@ -8,3 +8,4 @@ pub mod Ends
 pub mod Drawn
 mod Examples
 mod Unbroken
+mod ExamplesBroken

@@ -1,0 +1,138 @@
+-- What makes drawings differ, what keeps them from being well formed, and which of their places
+-- count, one part of a drawing at a time.
+use Rattle.std.proofs.Common.{◌≡◌, ℕ, true, false, List, [], ◌∷◌, ◌++◌, Some, None, refl, ap, arith}
+use Rattle.std.specs.Prelude.{codes, length}
+use Rattle.std.specs.List.{AllByRecursion, IsDistinct}
+use Rattle.std.specs.Str.{bytes_eq}
+use Rattle.scald_base.specs.Time.{Header}
+use Rattle.scald_base.specs.declared.refusal.Place.{Place}
+use Rattle.scald_base.specs.declared.assertion.AssertSpec.TheVariants.{Stable}
+use Rattle.scald_expr.specs.Expression.{Param}
+use Rattle.drawing_tree.specs.declared.drawing.CaseEntry.{CaseEntry}
+use Rattle.drawing_tree.specs.declared.drawing.CaseStmt.{CaseStmt}
+use Rattle.drawing_tree.specs.Tree.{Connection, Statement, Use, If, nil, cons, else_, Formal, Macro, Drawing}
+use Rattle.drawing_tree.specs.WellFormed.{IsGoodRange, IsGoodMacro, IsGoodEntry, IsWellFormed, AreDifferent, labels, primitive_names}
+use Rattle.drawing_tree.specs.EachPlace.{IsUseAt, IsStatementAt}
+use Rattle.drawing_tree.specs.Places.{SameButPlaces, unplaced_connection}
+use Rattle.drawing_tree.proofs.Examples.{a, here, named, single, checker}
+
+-- ---- labels
+
+abbrev use_named : List ℕ → Statement
+use_named label = Use (record checker { label = label })
+
+-- those inside of an IF, behind THEN and behind ELSE, before those after it
+in_the_order_of_the_text : labels
+    (cons (If a (cons (use_named (codes "u")) nil) (else_ (cons (use_named (codes "v")) nil)) here)
+    (cons (use_named (codes "w")) nil)) ≡ codes "u" ∷ codes "v" ∷ codes "w" ∷ []
+in_the_order_of_the_text = refl
+
+-- ---- what no well formed drawing has
+
+-- a reserved word as the end of a range
+reserved_at_the_end : IsGoodRange (record { first = a; last = Some (Param (codes "END")) }) → ⊥
+reserved_at_the_end good = let free : true ≡ false = good.last.is_free in cc
+
+abbrev formal : Formal
+formal = record { base = codes "D"; range = None }
+
+abbrev macro : List ℕ → List Formal → List Formal → Macro
+macro name ins outs =
+    record { name = name; params = []; ins = ins; outs = outs; body = nil; place = here }
+
+-- an input and an output of a macro with one base
+input_and_output : (h : Header) → IsGoodMacro h (macro (codes "M") (formal ∷ []) (formal ∷ [])) → ⊥
+unfolding IsDistinct
+input_and_output h good = let apart : true ≡ false = good.different_formals.0.0 in cc
+
+-- without the first texts, and of the first of them and a last one
+after : (xs ys : List (List ℕ)) → AreDifferent (xs ++ ys) → AreDifferent ys
+unfolding IsDistinct
+after [] ys h = h
+after (x ∷ xs) ys h = after xs ys h.1
+
+last_of : (P : List ℕ → Type 0) (xs : List (List ℕ)) (y : List ℕ) →
+    AllByRecursion P (xs ++ y ∷ []) → P y
+last_of P [] y h = h.0
+last_of P (x ∷ xs) y h = last_of P xs y h.1
+
+abbrev others : List (List ℕ)
+others =
+    codes "AND" ∷ codes "OR" ∷ codes "XOR" ∷ codes "MUX2" ∷ codes "MUX4" ∷ codes "MUX8"
+    ∷ codes "CHG" ∷ codes "REG" ∷ codes "REG_RS" ∷ codes "LATCH" ∷ codes "LATCH_RS"
+    ∷ codes "SETUP_HOLD_CHK" ∷ codes "SETUP_RISE_HOLD_FALL_CHK" ∷ codes "MIN_PULSE_CHK" ∷ []
+
+-- a macro of a primitive's name, and two of one name
+module _ (d : Drawing) where
+  as_a_primitive : IsWellFormed (record d { macros = macro (codes "BUF") [] [] ∷ [] }) → ⊥
+  unfolding IsDistinct
+  as_a_primitive good =
+      let apart : true ≡ false =
+      last_of (λ y. bytes_eq (codes "BUF") y ≡ false) others (codes "BUF") good.different_kinds.0 in
+      cc
+
+  twice : IsWellFormed (record d { macros = macro (codes "M") [] [] ∷ macro (codes "M") [] [] ∷ [] }) → ⊥
+  unfolding IsDistinct
+  twice good =
+      let apart : true ≡ false =
+      (after primitive_names (codes "M" ∷ codes "M" ∷ []) good.different_kinds).0.0 in
+      cc
+
+abbrev header : Header
+header = record {
+  units = 8;
+  ticks = 50;
+  wire = record { min = 0; max = 0 };
+  pskew = (0, 0);
+  cskew = (0, 0);
+}
+
+abbrev entry : ℕ → CaseEntry
+entry hi = record {
+  name = record { base = codes "A"; global = false; spec = Stable (record { lo = 1; hi = hi } ∷ []) };
+  bit = 0;
+  value = 0;
+  place = here;
+}
+
+-- a net in a case whose interval goes beyond the period
+beyond_the_period : IsGoodEntry header (entry 9) → ⊥
+beyond_the_period good =
+    let ends = (good.fits.intervals 0 (record { lo = 1; hi = 9 }) (omega arith)).ends in omega arith
+
+-- ---- the places that count
+
+abbrev IsFirstLine : Place → Type 0
+IsFirstLine place = place.line ≡ 1
+
+abbrev there : Place
+there = record { line = 2; col = 1 }
+
+abbrev below : Connection
+below = record (single (named (codes "A"))) { place = there }
+
+-- of each output
+output_below : IsUseAt IsFirstLine (record checker { outs = below ∷ [] }) → ⊥
+output_below h = let first : 2 ≡ 1 = h.outs.0 in omega arith
+
+-- of each statement behind ELSE
+else_below : IsStatementAt IsFirstLine
+    (If a nil (else_ (cons (Use (record checker { place = there })) nil)) here) → ⊥
+else_below h = let first : 2 ≡ 1 = h.2.0.place in omega arith
+
+-- ---- drawings that differ
+
+places_aside : unplaced_connection below ≡ unplaced_connection (single (named (codes "A")))
+places_aside = refl
+
+marked : unplaced_connection (record below { hold = true }) ≡ unplaced_connection below → ⊥
+marked same = let hold : true ≡ false = ap (λ (c : Connection). c.hold) same in cc
+
+abbrev case : CaseStmt
+case = record { entries = entry 4 ∷ []; place = here }
+
+one_case_less : (d : Drawing) →
+    SameButPlaces (record d { cases = case ∷ [] }) (record d { cases = [] }) → ⊥
+one_case_less d same =
+    let count : 1 ≡ 0 = ap (λ (e : Drawing). length e.cases) same in
+    omega (arith, count)
