@@ -2,7 +2,7 @@
 
 ghost use Rattle.std.specs.Prelude.{◌≡◌, ◌<◌, ◌==◌, IfOk, OnOk, false, length, replicate, slice_get};
 ghost use Rattle.flat_circuit.specs.Instances.{out_at};
-ghost use Rattle.fixpoint_engine.specs.Rounds.{driver};
+ghost use Rattle.flat_circuit.specs.Circuit.{driver};
 ghost use Rattle.fixpoint_engine.specs.Settled.{marked_in};
 ghost use Rattle.fixpoint_engine.specs.Work.{hears_in};
 ghost use Rattle.fixpoint_engine.specs.Worklist.{IsQueue, drives_in};

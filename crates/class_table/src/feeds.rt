@@ -1,6 +1,5 @@
 //! Which nets feed which: the driver of the one has a pin on the other.
 
-use crate::key::driver_of;
 use crate::numbers::{at, put};
 use flat_circuit::{Circuit, Pin, Target};
 use scald_base::NoMemory;
@@ -73,7 +72,7 @@ fn list(is_listed: &mut [bool], net: u32) -> bool {
 
 /// The pins of the instance that drives a net.
 fn pins_of(c: &Circuit, net: u32) -> &[Pin] {
-    match driver_of(c, net) {
+    match c.driver_of(net) {
         Some(driver) => driver.pins.as_slice(),
         None => &[],
     }

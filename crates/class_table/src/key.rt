@@ -1,7 +1,7 @@
 //! Numbers of what nets have in common: nets of different keys are different, and different nets hardly
 //! ever have one key.
 
-use flat_circuit::{Circuit, Instance, Net, Pin, Split, Target};
+use flat_circuit::{Circuit, Instance, Pin, Split, Target};
 use scald_base::{AssertSpec, ClockSpec, Delay, Span};
 
 /// By how many places a key is rotated before the next part, and by what it is multiplied after it.
@@ -26,28 +26,13 @@ impl Key {
     }
 }
 
-/// The instance that drives a net, if one does.
-pub fn driver_of(c: &Circuit, net: u32) -> Option<&Instance> {
-    match c.net(net) {
-        Some(net) => driver(c, net),
-        None => None,
-    }
-}
-
-fn driver<'a>(c: &'a Circuit, net: &Net) -> Option<&'a Instance> {
-    match net.driver {
-        Some(k) => c.instance(k),
-        None => None,
-    }
-}
-
 /// The key of all that tells a net apart but the nets that its driver's pins are on, and the values that
 /// cases give it.
 pub fn key_of_net(c: &Circuit, net: u32) -> Key {
     match c.net(net) {
-        Some(net) => {
-            let key = and_spec(and_delay(Key::EMPTY, net.wire), &net.spec);
-            and_driver(key, driver(c, net))
+        Some(named) => {
+            let key = and_spec(and_delay(Key::EMPTY, named.wire), &named.spec);
+            and_driver(key, c.driver_of(net))
         }
         None => Key::EMPTY,
     }

@@ -10,7 +10,7 @@ ghost use Rattle.std.specs.Prelude.{◌≡◌, IfOk, length};
 
 use crate::class_map::ClassMap;
 use crate::feeds::Feeds;
-use crate::key::{Key, driver_of, key_of_net};
+use crate::key::{Key, key_of_net};
 use crate::numbers::{at, put};
 use flat_circuit::{Case, CaseList, Circuit, Pin, Target};
 use scald_base::{List, NoMemory};
@@ -77,7 +77,7 @@ impl Partition {
     /// The key of the class of a net, and of the classes that its driver's pins are on.
     fn key(&self, c: &Circuit, net: u32) -> Key {
         let mut key = Key::EMPTY.followed_by(self.class(net) as u64);
-        if let Some(driver) = driver_of(c, net) {
+        if let Some(driver) = c.driver_of(net) {
             for pin in driver.pins.as_slice() {
                 key = key.followed_by(self.class_of_pin(*pin) as u64);
             }

@@ -111,6 +111,10 @@ is_function (Register forced) = false
 is_function (Enabled forced) = false
 is_function (Checker check) = false
 
+-- the kinds that may have a rise delay and a fall delay
+abbrev pub may_split : Kind → Bool
+may_split kind = by_form is_function kind
+
 -- changes may come from each pin by another delay
 abbrev pub may_vary : Form → Bool
 may_vary Gate = false

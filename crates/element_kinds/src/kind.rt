@@ -59,7 +59,7 @@ pub const KINDS: [Kind; 15] = [
 
 impl Kind {
     ghost use Rattle.std.specs.Prelude.{◌≡◌};
-    ghost use Rattle.element_kinds.specs.Kinds.{check_of, checks_points, checks_pulses, closes_of, form_of, has_output, inputs_of, is_change, listens, may_be_marked, name_of, row_of};
+    ghost use Rattle.element_kinds.specs.Kinds.{check_of, checks_points, checks_pulses, closes_of, form_of, has_output, inputs_of, is_change, listens, may_be_marked, may_split, name_of, row_of};
 
     /// The kind's row.
     pub fn row(self) -> Row
@@ -139,6 +139,13 @@ impl Kind {
         ensures { result ≡ has_output self }
     {
         self.form().makes_output()
+    }
+
+    /// Whether it may have a rise delay and a fall delay.
+    pub fn may_split(self) -> bool
+        ensures { result ≡ may_split self }
+    {
+        self.form().is_function()
     }
 
     /// Whether its output changes with the pin at this place, from 0: a register's input counts

@@ -1,8 +1,5 @@
 //! Gates with a rise delay and a fall delay.
 
-ghost use Rattle.std.specs.Prelude.{◌≡◌};
-ghost use Rattle.flat_circuit.specs.Split.{may_split as split};
-
 use crate::pins::PinRow::{Free, Marked};
 use crate::pins::{PinRow, Stretches, are_fit, pins_of, wave_of};
 use crate::rows::expect;
@@ -285,12 +282,6 @@ fn delay_of(rt: &impl Abort, (min, max): (u16, u16)) -> Delay {
     Delay { min, max }
 }
 
-fn may_split(kind: Kind) -> bool
-    ensures { result ≡ split kind }
-{
-    kind.form().is_function()
-}
-
 /// The wave of a gate, which has such pins, whose waves have this period.
 fn evaluated<W: CyclicWave<Item = Value>>(
     rt: &impl Abort,
@@ -300,7 +291,7 @@ fn evaluated<W: CyclicWave<Item = Value>>(
     pins: &PinWaves<W>,
     period: u16,
 ) -> Result<Skewed<W>, NoMemory> {
-    assert!(rt; may_split(kind));
+    assert!(rt; kind.may_split());
     assert!(rt; are_fit(kind, pins.as_slice(), period));
     eval_split(alloc, kind, pins, split)
 }

@@ -15,7 +15,7 @@ use Rattle.element_kinds.specs.declared.kind.Kind.{Kind}
 use Rattle.flat_circuit.specs.declared.net.Net.{Net}
 use Rattle.element_kinds.specs.Kinds.{listens}
 use Rattle.flat_circuit.specs.Instances.{PinExists, TargetExists}
-use Rattle.flat_circuit.specs.Circuit.{Circuit, IsCircuit, wire_in, wire_at, driver_in, driver_at}
+use Rattle.flat_circuit.specs.Circuit.{Circuit, IsCircuit, wire_in, wire_at, driver_in, driver_at, instance_in, driver}
 use Rattle.pin_waves.specs.Interface.{constant_wave}
 use Rattle.pin_waves.specs.Pin.{pin_wave as wave_behind}
 use Rattle.class_table.specs.Alike.{class_of, TargetsAlike, PinsAlike, InstancesAlike, DriversAlike, instance_of}
@@ -23,7 +23,7 @@ use Rattle.class_table.specs.Stable.{IsStable}
 use Rattle.net_waves.specs.Waves.{Waves, target_wave, target_wire, pin_wave, marked_pin}
 use Rattle.flat_circuit.proofs.Numbered.{fits-of}
 use Rattle.fixpoint_engine.specs.Value.{made_by, turned_wave, instance_wave}
-use Rattle.fixpoint_engine.specs.Rounds.{instance_in, driver, wave_from, evaluated, next, round}
+use Rattle.fixpoint_engine.specs.Rounds.{wave_from, evaluated, next, round}
 use Rattle.fixpoint_engine.specs.Work.{same_wave, differs, is_on_any, hears_from, hears_in, is_due}
 use Rattle.fixpoint_engine.specs.Classes.{HaveOneWave, AreTogether, GoTogether}
 use Rattle.fixpoint_engine.proofs.Drivers.{driver-fits}

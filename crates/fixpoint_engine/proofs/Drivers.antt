@@ -6,9 +6,8 @@ use Rattle.flat_circuit.specs.declared.instance.Instance.{Instance}
 use Rattle.flat_circuit.specs.declared.net.Net.{Net}
 use Rattle.element_kinds.specs.Kinds.{has_output}
 use Rattle.flat_circuit.specs.Instances.{InstanceFits, out_of}
-use Rattle.flat_circuit.specs.Circuit.{Circuit, IsCircuit, driver_at}
+use Rattle.flat_circuit.specs.Circuit.{Circuit, IsCircuit, driver_at, instance_in, driver}
 use Rattle.flat_circuit.proofs.Numbered.{fits-of}
-use Rattle.fixpoint_engine.specs.Rounds.{instance_in, driver}
 use Rattle.fixpoint_engine.specs.Settled.{marked_in, FitActive}
 use Rattle.fixpoint_engine.specs.Members.{leads_in, is_evaluated}
 

@@ -8,10 +8,10 @@ use Rattle.std.proofs.lemmas.List.FromFn.{fill_by_all}
 use Rattle.std.proofs.lemmas.List.Folds.{Any-from_list_any, list_any-from_Any}
 use Rattle.step_values.specs.declared.value.Value.{Value}
 use Rattle.skew_algebra.specs.Wave.{Wave}
-use Rattle.flat_circuit.specs.Circuit.{Circuit}
+use Rattle.flat_circuit.specs.Circuit.{Circuit, driver}
 use Rattle.net_waves.specs.Waves.{Waves}
 use Rattle.net_waves.proofs.Marks.{count-marks}
-use Rattle.fixpoint_engine.specs.Rounds.{driver, evaluated, round}
+use Rattle.fixpoint_engine.specs.Rounds.{evaluated, round}
 use Rattle.fixpoint_engine.specs.Work.{same_wave, differs, hears_in, is_due}
 use Rattle.fixpoint_engine.specs.Settled.{marked_in}
 use Rattle.fixpoint_engine.specs.Worklist.{Queue, IsQueue, among}

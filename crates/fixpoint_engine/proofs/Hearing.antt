@@ -13,13 +13,13 @@ use Rattle.flat_circuit.specs.declared.instance.Pin.{Pin}
 use Rattle.flat_circuit.specs.declared.instance.Instance.{Instance}
 use Rattle.flat_circuit.specs.declared.split.Split.{Split}
 use Rattle.element_kinds.specs.Kinds.{listens}
-use Rattle.flat_circuit.specs.Circuit.{Circuit}
+use Rattle.flat_circuit.specs.Circuit.{Circuit, driver}
 use Rattle.storage_eval.specs.Storage.{listening_from}
 use Rattle.storage_eval.proofs.Dependence.{storage_wave-listening}
 use Rattle.pin_waves.specs.Pin.{pin_wave as wave_behind}
 use Rattle.net_waves.specs.Waves.{Waves, target_wave, target_wire, pin_wave, marked_pin}
 use Rattle.fixpoint_engine.specs.Value.{made_by, turned_wave, instance_wave}
-use Rattle.fixpoint_engine.specs.Rounds.{driver, wave_from, evaluated, next}
+use Rattle.fixpoint_engine.specs.Rounds.{wave_from, evaluated, next}
 use Rattle.fixpoint_engine.specs.Work.{same_wave, differs, is_on_any, hears_from, hears_in}
 use Rattle.fixpoint_engine.proofs.Same.{same_wave-is}
 

@@ -15,7 +15,7 @@ use Rattle.step_values.specs.Cell.{values}
 use Rattle.skew_algebra.specs.Wave.{Wave}
 use Rattle.skew_algebra.specs.Permits.{Permits}
 use Rattle.flat_circuit.specs.declared.case.CaseValue.{CaseValue}
-use Rattle.flat_circuit.specs.Circuit.{Circuit, IsCircuit}
+use Rattle.flat_circuit.specs.Circuit.{Circuit, IsCircuit, driver}
 use Rattle.flat_circuit.specs.Run.{net_signal}
 use Rattle.class_table.specs.Alike.{class_of}
 use Rattle.class_table.specs.Stable.{IsStable}
@@ -24,7 +24,7 @@ use Rattle.net_waves.proofs.Fits.{AreLong}
 use Rattle.net_waves.proofs.WavesOf.{set-at}
 use Rattle.fixpoint_engine.specs.declared.rounds.EngineEnd.{EngineEnd}
 use Rattle.fixpoint_engine.specs.Reach.{reach}
-use Rattle.fixpoint_engine.specs.Rounds.{driver, evaluated, round, AreSame}
+use Rattle.fixpoint_engine.specs.Rounds.{evaluated, round, AreSame}
 use Rattle.fixpoint_engine.specs.Work.{same_wave, differs, hears_in, is_due}
 use Rattle.fixpoint_engine.specs.Settled.{marked_in, FitActive, AreAtRest, KeepRuns}
 use Rattle.fixpoint_engine.specs.End.{EndsAt, EndsFor}

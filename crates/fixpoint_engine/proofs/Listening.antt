@@ -14,8 +14,7 @@ use Rattle.flat_circuit.specs.declared.instance.Pin.{Pin}
 use Rattle.flat_circuit.specs.declared.instance.Instance.{Instance}
 use Rattle.element_kinds.specs.Kinds.{listens}
 use Rattle.flat_circuit.specs.Instances.{is_on, any_listens, reads, numbers_from, readers_of, out_of, out_at}
-use Rattle.flat_circuit.specs.Circuit.{Circuit, IsCircuit, driver_at}
-use Rattle.fixpoint_engine.specs.Rounds.{instance_in, driver}
+use Rattle.flat_circuit.specs.Circuit.{Circuit, IsCircuit, driver_at, instance_in, driver}
 use Rattle.fixpoint_engine.specs.Settled.{marked_in}
 use Rattle.fixpoint_engine.specs.Work.{is_on_any, hears_from, hears_in}
 use Rattle.fixpoint_engine.specs.Worklist.{Queue, Adds, among, drives_in}

@@ -14,10 +14,10 @@ use Rattle.element_kinds.specs.declared.kind.Kind.TheVariants.{Chg, Reg, RegRs, 
 use Rattle.flat_circuit.specs.declared.instance.Pin.{Pin}
 use Rattle.flat_circuit.specs.declared.instance.Instance.{Instance}
 use Rattle.flat_circuit.specs.declared.split.Split.{Split}
-use Rattle.element_kinds.specs.Kinds.{has_output}
+use Rattle.element_kinds.specs.Kinds.{has_output, may_split}
 use Rattle.flat_circuit.specs.Kind.{pin_counts}
 use Rattle.flat_circuit.specs.Instances.{InstanceFits}
-use Rattle.flat_circuit.specs.Split.{may_split, either_delay, two_delays, SplitFits}
+use Rattle.flat_circuit.specs.Split.{either_delay, two_delays, SplitFits}
 use Rattle.flat_circuit.specs.Circuit.{Circuit}
 use Rattle.pin_waves.proofs.Pins.{length-moved}
 use Rattle.gate_eval.specs.Meeting.{period_of}

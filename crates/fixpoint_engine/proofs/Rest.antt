@@ -23,11 +23,11 @@ use Rattle.flat_circuit.specs.declared.instance.Instance.{Instance}
 use Rattle.element_kinds.specs.Kinds.{has_output, listens}
 use Rattle.flat_circuit.specs.Instances.{InstanceFits, outputs, out_at}
 use Rattle.flat_circuit.specs.Loop.{Reaches, By_one, And_then}
-use Rattle.flat_circuit.specs.Circuit.{Circuit, IsCircuit, driver_at}
+use Rattle.flat_circuit.specs.Circuit.{Circuit, IsCircuit, driver_at, driver, instance_in}
 use Rattle.net_waves.specs.Waves.{Waves}
 use Rattle.fixpoint_engine.specs.declared.rounds.EngineEnd.{EngineEnd}
 use Rattle.fixpoint_engine.specs.declared.rounds.EngineEnd.TheVariants.{Unsettled, NoMemory}
-use Rattle.fixpoint_engine.specs.Rounds.{driver, instance_in, wave_from, round, AreSame, RestsAt}
+use Rattle.fixpoint_engine.specs.Rounds.{wave_from, round, AreSame, RestsAt}
 use Rattle.fixpoint_engine.specs.Work.{same_wave, differs, is_on_any, hears_from, hears_in, is_due}
 use Rattle.fixpoint_engine.specs.Loops.{Hears, HasNoLoop}
 use Rattle.fixpoint_engine.specs.End.{EndsFor}

@@ -18,7 +18,7 @@ use Rattle.flat_circuit.specs.declared.net.Net.{Net}
 use Rattle.flat_circuit.specs.declared.split.Split.{Split}
 use Rattle.element_kinds.specs.Kinds.{has_output}
 use Rattle.flat_circuit.specs.Instances.{InstanceFits, PinExists, out_of}
-use Rattle.flat_circuit.specs.Circuit.{Circuit, IsCircuit, driver_at}
+use Rattle.flat_circuit.specs.Circuit.{Circuit, IsCircuit, driver_at, instance_in}
 use Rattle.flat_circuit.specs.Run.{Choice, Run, IsRun, DelaysFit, Obeys, IsRunAt, net_signal, pin_signals, out_signal, WiresFit}
 use Rattle.flat_circuit.specs.Split.{either_delay, two_delays}
 use Rattle.gate_eval.specs.Permitted.{AllPermit}
@@ -28,7 +28,7 @@ use Rattle.net_waves.proofs.Fits.{AreLong}
 use Rattle.net_waves.proofs.Permitted.{pin-permits}
 use Rattle.flat_circuit.proofs.Numbered.{fits-of}
 use Rattle.fixpoint_engine.specs.Value.{made_by, turned_wave, instance_wave}
-use Rattle.fixpoint_engine.specs.Rounds.{instance_in, wave_from, evaluated, next, round}
+use Rattle.fixpoint_engine.specs.Rounds.{wave_from, evaluated, next, round}
 use Rattle.fixpoint_engine.specs.Reach.{greatest_wire, greatest_delay, farthest, reach}
 use Rattle.fixpoint_engine.proofs.Asked.{longest, wires-within, asked, asked-split}
 use Rattle.fixpoint_engine.proofs.Drivers.{makes-of}

@@ -1,8 +1,7 @@
 -- Loops through listening pins. Where there is none, rounds settle within as many rounds as there are outputs.
 use Rattle.std.specs.Prelude.{◌≡◌, ℕ, ◌==◌, true}
-use Rattle.flat_circuit.specs.Circuit.{Circuit}
+use Rattle.flat_circuit.specs.Circuit.{Circuit, driver}
 use Rattle.flat_circuit.specs.Loop.{Reaches}
-use Rattle.fixpoint_engine.specs.Rounds.{driver}
 use Rattle.fixpoint_engine.specs.Work.{hears_in}
 
 -- the driver of the net has a listening pin on the other net

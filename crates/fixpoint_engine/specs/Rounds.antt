@@ -1,20 +1,12 @@
 -- Rounds: from given waves, each of some nets takes what its driver makes of the waves of the round before, all at once.
-use Rattle.std.specs.Prelude.{◌≡◌, ◌≢◌, ℕ, zero, suc, ◌<◌, ◌≤◌, Bool, if◌then◌else◌, List, length, slice_get, Option, Some, None}
+use Rattle.std.specs.Prelude.{◌≡◌, ◌≢◌, ℕ, zero, suc, ◌<◌, ◌≤◌, Bool, if◌then◌else◌, List, length, Option, Some, None}
 use Rattle.step_values.specs.declared.value.Value.{Value}
 use Rattle.skew_algebra.specs.Wave.{Wave}
 use Rattle.flat_circuit.specs.declared.instance.Instance.{Instance}
 use Rattle.flat_circuit.specs.Name.{net_at}
-use Rattle.flat_circuit.specs.Circuit.{Circuit, driver_at}
+use Rattle.flat_circuit.specs.Circuit.{Circuit, driver}
 use Rattle.net_waves.specs.Waves.{Waves}
 use Rattle.fixpoint_engine.specs.Value.{instance_wave}
-
--- the instance that drives a net
-abbrev pub instance_in : Circuit → Option ℕ → Option Instance
-instance_in c None = None
-instance_in c (Some k) = slice_get c.instances k
-
-abbrev pub driver : Circuit → ℕ → Option Instance
-driver c i = instance_in c (driver_at c.nets i)
 
 -- what an instance makes; where there is none, the wave stays as it was
 abbrev pub wave_from : Circuit → Waves → Option Instance → Wave Value → Wave Value

@@ -11,9 +11,8 @@ use Rattle.element_kinds.specs.declared.kind.Kind.{Kind}
 use Rattle.flat_circuit.specs.declared.instance.Pin.{Pin}
 use Rattle.flat_circuit.specs.declared.instance.Instance.{Instance}
 use Rattle.element_kinds.specs.Kinds.{listens}
-use Rattle.flat_circuit.specs.Circuit.{Circuit}
+use Rattle.flat_circuit.specs.Circuit.{Circuit, driver}
 use Rattle.net_waves.specs.Waves.{Waves}
-use Rattle.fixpoint_engine.specs.Rounds.{driver}
 
 -- two waves are one
 abbrev pub same_wave : Wave Value → Wave Value → Bool

@@ -4,7 +4,7 @@ ghost use Rattle.std.specs.Prelude.{◌≡◌, ◌<◌, ◌==◌, ◌&&◌, [], 
 ghost use Rattle.std.specs.List.{All};
 ghost use Rattle.std.specs.Option.{option_copied};
 ghost use Rattle.flat_circuit.specs.Instances.{out_at};
-ghost use Rattle.fixpoint_engine.specs.Rounds.{driver};
+ghost use Rattle.flat_circuit.specs.Circuit.{driver};
 ghost use Rattle.fixpoint_engine.specs.Settled.{FitActive, marked_in};
 ghost use Rattle.fixpoint_engine.specs.Members.{is_evaluated};
 ghost use Rattle.fixpoint_engine.specs.Work.{hears_in};

@@ -90,17 +90,6 @@ fn changed_nets<W: CyclicWave>(
     Ok(changed)
 }
 
-/// The number of the net at a place in name order; past the last, 0.
-#[tactic(auto, using(flat_circuit::proofs::Numbered::past_last, flat_circuit::proofs::Numbered::at_place))]
-fn net_named(c: &Circuit, place: u32) -> u32
-    ensures { result ≡ net_at c.now.order place }
-{
-    match c.by_name(place) {
-        Some(net) => net,
-        None => 0,
-    }
-}
-
 /// The place in name order of the first net of a set.
 fn first_named(c: &Circuit, set: &NetSet) -> Option<u32>
     ensures { MatchOption result ((k : ℕ) → k < length c.now.order →
@@ -108,7 +97,7 @@ fn first_named(c: &Circuit, set: &NetSet) -> Option<u32>
 {
     c.known();
     for place in 0..c.net_count() {
-        if set.has(net_named(c, place)) {
+        if set.has(c.net_at(place)) {
             return Some(place);
         }
     }

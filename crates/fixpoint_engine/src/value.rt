@@ -2,7 +2,6 @@
 
 ghost use Rattle.std.specs.Prelude.{◌≡◌, ◌<◌, IfOk, None, count_by, length, map, true};
 ghost use Rattle.std.specs.List.{position};
-ghost use Rattle.std.specs.Option.{option_copied};
 ghost use Rattle.element_kinds.specs.Kinds.{has_output};
 ghost use Rattle.flat_circuit.specs.Instances.{InstanceFits};
 ghost use Rattle.flat_circuit.specs.Split.{SplitFits};
@@ -10,7 +9,8 @@ ghost use Rattle.gate_eval.specs.Instance.{CountsFit};
 ghost use Rattle.gate_eval.specs.Meeting.{HaveOnePeriod};
 ghost use Rattle.net_waves.specs.Waves.{FitWaves, waves_of};
 ghost use Rattle.fixpoint_engine.specs.Value.{instance_wave, made_by};
-ghost use Rattle.fixpoint_engine.specs.Rounds.{driver, evaluated};
+ghost use Rattle.flat_circuit.specs.Circuit.{driver};
+ghost use Rattle.fixpoint_engine.specs.Rounds.{evaluated};
 
 use flat_circuit::{Circuit, Instance, Kind, Split};
 use gate_eval::{PinWaves, eval_gate, eval_split};
@@ -89,14 +89,6 @@ fn instance_wave<W: CyclicWave<Item = Value>>(
     }
 }
 
-/// The instance that drives a net.
-pub fn driver_of(c: &Circuit, net: u32) -> Option<&Instance>
-    ensures { option_copied result ≡ driver c.now net }
-{
-    let driver = c.net(net)?.driver?;
-    c.instance(driver)
-}
-
 /// The value of a net: what its driver makes, or the wave that it has where nothing drives it.
 pub fn evaluated<W: CyclicWave<Item = Value>>(
     alloc: Global,
@@ -109,7 +101,7 @@ pub fn evaluated<W: CyclicWave<Item = Value>>(
     ensures { IfOk result (λ s. s ≡ evaluated c.now (waves_of waves.now) net) }
 {
     c.known();
-    match driver_of(c, net) {
+    match c.driver_of(net) {
         Some(driver) => instance_wave(alloc, c, waves, driver),
         None => waves.as_slice()[net as usize].copy(alloc),
     }

@@ -2,11 +2,10 @@
 use Rattle.std.proofs.Common.{◌≡◌, ℕ, ◌+◌, ◌≤◌, true, false, [], ◌∷◌, map, refl}
 use Rattle.scald_base.specs.Time.{Header, Bounds, period}
 use Rattle.element_kinds.specs.declared.kind.Kind.TheVariants.{And, Chg, Reg, RiseFall, MinPulse}
-use Rattle.element_kinds.specs.Kinds.{kinds}
+use Rattle.element_kinds.specs.Kinds.{kinds, may_split}
 use Rattle.flat_circuit.specs.Kind.{pin_counts, LimitsFit}
 use Rattle.flat_circuit.specs.Run.{Within, DelayFits}
 use Rattle.flat_circuit.specs.Laws.{looks_back}
-use Rattle.flat_circuit.specs.Split.{may_split}
 
 -- a change function has up to 16 connections of up to 256 bits
 counts : map pin_counts kinds

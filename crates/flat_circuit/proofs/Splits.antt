@@ -7,10 +7,10 @@ use Rattle.scald_base.specs.Signal.{Signal}
 use Rattle.element_kinds.specs.declared.kind.Kind.{Kind}
 use Rattle.element_kinds.specs.declared.form.Form.{Form}
 use Rattle.element_kinds.specs.declared.form.Form.TheVariants.{Gate}
-use Rattle.element_kinds.specs.Kinds.{form_of, is_function}
+use Rattle.element_kinds.specs.Kinds.{form_of, is_function, may_split}
 use Rattle.element_kinds.proofs.Forms.{of_form}
 use Rattle.element_kinds.specs.Equation.{gate_bit, bits_at, pins_before, EquationOf, Equation, named_by, IsAsked, IsInReach}
-use Rattle.flat_circuit.specs.Split.{may_split, gate_signal, ticks, split_bit, SplitEquation, IsSplitAsked, EqualDelaysAreOne, EveryTickCounts, RiseMirrorsFall}
+use Rattle.flat_circuit.specs.Split.{gate_signal, ticks, split_bit, SplitEquation, IsSplitAsked, EqualDelaysAreOne, EveryTickCounts, RiseMirrorsFall}
 
 -- ---- a signal over some ticks in a row
 

@@ -39,6 +39,14 @@ driver_in (Some n) = n.driver
 abbrev pub driver_at : List Net → ℕ → Option ℕ
 driver_at nets i = driver_in (slice_get nets i)
 
+abbrev pub instance_in : Circuit → Option ℕ → Option Instance
+instance_in c None = None
+instance_in c (Some k) = slice_get c.instances k
+
+-- the instance that drives a net
+abbrev pub driver : Circuit → ℕ → Option Instance
+driver c i = instance_in c (driver_at c.nets i)
+
 -- What holds of each circuit: no name stands twice, assertions fit, and so do the instances; each net has at most one
 -- driver, and no instance is reached from a loop without delay.
 pub record IsCircuit (c : Circuit) : Type 0 where

@@ -5,13 +5,9 @@ use Rattle.std.specs.List.{list_all, list_any, range_with_len}
 use Rattle.scald_base.specs.Time.{Bounds}
 use Rattle.scald_base.specs.Signal.{Signal}
 use Rattle.element_kinds.specs.declared.kind.Kind.{Kind}
-use Rattle.element_kinds.specs.Kinds.{by_form, is_function}
+use Rattle.element_kinds.specs.Kinds.{may_split}
 use Rattle.flat_circuit.specs.declared.split.Split.{Split}
 use Rattle.element_kinds.specs.Equation.{gate_bit, bits_at, pins_before, Equation, IsAsked, IsInReach}
-
--- the kinds that may have two delays
-abbrev pub may_split : Kind → Bool
-may_split kind = by_form is_function kind
 
 -- from the least to the greatest of both delays
 abbrev pub either_delay : Split → Bounds

@@ -2,9 +2,9 @@
 
 ghost use Rattle.std.specs.Prelude.{◌≡◌, ◌<◌, ◌≤◌, ℕ, length, slice_get, MatchOption};
 ghost use Rattle.std.specs.Option.{option_copied};
-ghost use Rattle.flat_circuit.specs.Name.{Name, IsNumber, name_at, name_cmp};
+ghost use Rattle.flat_circuit.specs.Name.{Name, IsNumber, name_at, name_cmp, net_at};
 ghost use Rattle.flat_circuit.specs.Instances.{readers_of};
-ghost use Rattle.flat_circuit.specs.Circuit.{IsCircuit, net_names};
+ghost use Rattle.flat_circuit.specs.Circuit.{IsCircuit, driver, net_names};
 
 use crate::instance::Instance;
 use crate::net::Net;
@@ -85,6 +85,15 @@ impl Circuit {
         self.instances.get(i as usize)
     }
 
+    /// The instance that drives the net of a number, or `None` exactly where nothing drives it or there
+    /// is no such net.
+    pub fn driver_of(&self, net: u32) -> Option<&Instance>
+        ensures { option_copied result ≡ driver self.now net }
+    {
+        let driver = self.net(net)?.driver?;
+        self.instance(driver)
+    }
+
     /// The instances with an output that have a listening pin on the net, each once, in ascending order,
     /// and no checkers; or `None` exactly where there is no such net.
     pub fn readers(&self, net: u32) -> Option<&[u32]>
@@ -102,6 +111,17 @@ impl Circuit {
         ensures { result ≡ slice_get self.now.order k }
     {
         self.order.get(k as usize).copied()
+    }
+
+    /// The number of the net at a place from 0 in name order; past the last, 0.
+    #[tactic(auto, using(crate::proofs::Numbered::past_last, crate::proofs::Numbered::at_place))]
+    pub fn net_at(&self, place: u32) -> u32
+        ensures { result ≡ net_at self.now.order place }
+    {
+        match self.by_name(place) {
+            Some(net) => net,
+            None => 0,
+        }
     }
 
     /// The number of the net of this whole name, path and base, and this bit, or `None` exactly where

@@ -15,14 +15,13 @@ use Rattle.element_kinds.specs.declared.kind.Kind.{Kind}
 use Rattle.element_kinds.specs.declared.kind.Kind.TheVariants.{Buf, Chg}
 use Rattle.element_kinds.specs.declared.form.Form.{Form}
 use Rattle.element_kinds.specs.declared.form.Form.TheVariants.{Gate, Change, Register, Latch as Enabled, Checker}
-use Rattle.element_kinds.specs.Kinds.{form_of, closes_of, is_function, may_be_marked, marks_by, greatest_marks}
+use Rattle.element_kinds.specs.Kinds.{form_of, closes_of, is_function, may_be_marked, marks_by, greatest_marks, may_split}
 use Rattle.element_kinds.proofs.Forms.{of_form}
 use Rattle.flat_circuit.specs.Kind.{pin_counts}
 use Rattle.gate_eval.specs.Meeting.{folds_in, period_of, HaveOnePeriod, meeting}
 use Rattle.gate_eval.specs.Gates.{gate_value}
 use Rattle.gate_eval.specs.Hold.{first_some, disturber, hazard, hazard_beside}
 use Rattle.gate_eval.specs.Change.{change_wave}
-use Rattle.flat_circuit.specs.Split.{may_split}
 use Rattle.gate_eval.specs.Instance.{MarkIsAt, MarkFits, image_by, gate_image, wave_by, gate_wave}
 use Rattle.gate_eval.proofs.Fitting.{AllFit}
 use Rattle.gate_eval.proofs.Gathered.{folded-cells}

@@ -7,7 +7,7 @@ ghost use Rattle.skew_algebra.specs.Wave.{moved, skewed};
 ghost use Rattle.gate_eval.specs.Meeting.{HaveOnePeriod, meeting};
 ghost use Rattle.gate_eval.specs.Gates.{passed_on};
 ghost use Rattle.gate_eval.specs.Hold.{hazard};
-ghost use Rattle.flat_circuit.specs.Split.{may_split};
+ghost use Rattle.element_kinds.specs.Kinds.{may_split};
 ghost use Rattle.gate_eval.specs.Instance.{CountsFit, IsSound, MarkFits, gate_image, gate_wave, held_wave, image_by, is_gate};
 
 use crate::change::change_wave;

@@ -3,7 +3,7 @@
 ghost use Rattle.std.specs.Prelude.{◌≡◌, ◌<◌, ◌∷◌, [], IfOk, count_by, length, map, position, true};
 ghost use Rattle.wave_core.specs.Slots.{slots};
 ghost use Rattle.step_values.specs.Steps.{cover_of};
-ghost use Rattle.flat_circuit.specs.Split.{may_split};
+ghost use Rattle.element_kinds.specs.Kinds.{may_split};
 ghost use Rattle.gate_eval.specs.Meeting.{HaveOnePeriod};
 ghost use Rattle.gate_eval.specs.Instance.{CountsFit, MarkFits};
 ghost use Rattle.gate_eval.specs.Split.{IsSplitSound, SomeBitIsLeft, ends_in as ends, split_value, split_wave};

@@ -17,9 +17,9 @@ use Rattle.element_kinds.specs.declared.kind.Kind.TheVariants.{Chg}
 use Rattle.element_kinds.specs.declared.form.Check.{Check}
 use Rattle.element_kinds.specs.declared.form.Check.TheVariants.{SetupHold as AboutRise, RiseFall as RiseToFall, MinPulse as Widths}
 use Rattle.flat_circuit.specs.declared.instance.Pin.{Pin}
-use Rattle.element_kinds.specs.Kinds.{has_output, check_of}
+use Rattle.element_kinds.specs.Kinds.{has_output, check_of, may_split}
 use Rattle.flat_circuit.specs.Kind.{PinsFit, LimitsFitCheck, LimitsFit}
-use Rattle.flat_circuit.specs.Split.{may_split, either_delay, SplitFits}
+use Rattle.flat_circuit.specs.Split.{either_delay, SplitFits}
 use Rattle.flat_circuit.specs.Name.{Name}
 use Rattle.flat_circuit.specs.Instances.{PinExists, OutExists, InstanceFits}
 use Rattle.drawing_tree.specs.declared.statement.UseStmt.{UseStmt}

@@ -11,9 +11,9 @@ use Rattle.scald_expr.specs.Expression.{Expression}
 use Rattle.element_kinds.specs.declared.kind.Kind.{Kind}
 use Rattle.element_kinds.specs.declared.form.Check.{Check}
 use Rattle.element_kinds.specs.declared.form.Check.TheVariants.{SetupHold as AboutRise, RiseFall as RiseToFall, MinPulse as Widths}
-use Rattle.element_kinds.specs.Kinds.{inputs_of, has_output, is_change, check_of, greatest_marks}
+use Rattle.element_kinds.specs.Kinds.{inputs_of, has_output, is_change, check_of, greatest_marks, may_split}
 use Rattle.flat_circuit.specs.declared.split.Split.{Split}
-use Rattle.flat_circuit.specs.Split.{may_split, either_delay}
+use Rattle.flat_circuit.specs.Split.{either_delay}
 use Rattle.flat_circuit.specs.Instances.{most_bits, most_pins}
 use Rattle.drawing_tree.specs.Tree.{Assignment, Connection, UseStatement}
 use Rattle.macro_expander.specs.declared.primitive.Plan.{Plan}

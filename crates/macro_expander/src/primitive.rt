@@ -4,7 +4,6 @@ ghost use Rattle.std.specs.Prelude.{◌≡◌, ◌≤◌, ◌+◌, ◌∷◌, []
 ghost use Rattle.std.specs.List.{list_any};
 ghost use Rattle.std.specs.Str.{bytes_eq};
 ghost use Rattle.element_kinds.specs.Kinds.{kind_of};
-ghost use Rattle.flat_circuit.specs.Split.{may_split as spec_may_split};
 ghost use Rattle.drawing_tree.specs.Tree.{assignment_of, connection_of, both_of, use_of};
 ghost use Rattle.macro_expander.specs.Primitives.{parameters_for, fewest_inputs as spec_fewest, most_inputs as spec_most, most_marks as spec_most_marks, takes as spec_takes, are_of, marks as spec_marks, delay_within as spec_delay_within, delay_between as spec_delay_between, written_delay as spec_written_delay, fall_of, split_of as spec_split_of, delays_of as spec_delays_of, takes_delays as spec_takes_delays, setup_and_hold as spec_setup_and_hold, high_and_low as spec_high_and_low, limits_for as spec_limits_for, limits_of as spec_limits_of, are_connected as spec_are_connected, plan_of};
 ghost use Rattle.macro_expander.specs.Steps.{JudgedAt};
@@ -180,19 +179,13 @@ fn delays_of(
     }
 }
 
-fn may_split(kind: Kind) -> bool
-    ensures { result ≡ spec_may_split kind }
-{
-    kind.form().is_function()
-}
-
 /// Whether the kind takes the delays of a use: none where it has no output, else one, or two where
 /// it may have two.
 fn takes_delays(kind: Kind, statement: &UseStmt) -> bool
     ensures { result ≡ spec_takes_delays kind (use_of statement.now) }
 {
     let is_split = statement.delay.is_some() && statement.fall.is_some();
-    statement.delay.is_some() == kind.has_output() && (!is_split || may_split(kind))
+    statement.delay.is_some() == kind.has_output() && (!is_split || kind.may_split())
 }
 
 fn setup_and_hold(period: u16, setup: i64, hold: i64) -> Result<(u16, u16), RefusalKind>

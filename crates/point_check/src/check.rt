@@ -119,17 +119,6 @@ fn add(faults: &mut Faults, found: Option<Fault>) -> Result<(), NoMemory>
     }
 }
 
-/// The number of the net at a place in name order; past the last, 0.
-#[tactic(auto, using(flat_circuit::proofs::Numbered::past_last, flat_circuit::proofs::Numbered::at_place))]
-fn net_named(c: &Circuit, place: u32) -> u32
-    ensures { result ≡ net_at c.now.order place }
-{
-    match c.by_name(place) {
-        Some(net) => net,
-        None => 0,
-    }
-}
-
 /// The faults of instances, in the order of expansion.
 fn instance_faults<W: CyclicWave<Item = Value>>(
     alloc: Global,
@@ -166,7 +155,7 @@ fn add_net_faults<W: CyclicWave<Item = Value>>(
 {
     c.known();
     for place in 0..c.net_count() {
-        let found = net_fault(alloc, c, before, waves, net_named(c, place))?;
+        let found = net_fault(alloc, c, before, waves, c.net_at(place))?;
         add(faults, found)?;
     }
     Ok(())

@@ -6,11 +6,11 @@ use Rattle.std.proofs.lemmas.List.Elements.{All-head, All-nil}
 use Rattle.scald_base.specs.Time.{Header}
 use Rattle.flat_circuit.specs.declared.case.CaseValue.{CaseValue}
 use Rattle.flat_circuit.specs.declared.instance.Instance.{Instance}
-use Rattle.flat_circuit.specs.Circuit.{Circuit}
+use Rattle.flat_circuit.specs.Circuit.{Circuit, driver}
 use Rattle.flat_circuit.specs.Run.{Run}
 use Rattle.net_waves.specs.Waves.{Waves}
 use Rattle.fixpoint_engine.specs.Reach.{reach}
-use Rattle.fixpoint_engine.specs.Rounds.{RestsAt, driver, next, round, wave_from}
+use Rattle.fixpoint_engine.specs.Rounds.{RestsAt, next, round, wave_from}
 use Rattle.fixpoint_engine.specs.Start.{base_start, is_driven}
 use Rattle.case_analysis.specs.Base.{base_round}
 use Rattle.case_analysis.specs.Case.{IsInCase, case_active, case_round, case_start}

@@ -8,14 +8,14 @@ use Rattle.element_kinds.specs.declared.kind.Kind.{Kind}
 use Rattle.element_kinds.specs.declared.kind.Kind.TheVariants.{Buf}
 use Rattle.element_kinds.specs.declared.form.Form.{Form}
 use Rattle.element_kinds.specs.declared.form.Form.TheVariants.{Gate, Change, Register, Latch as Enabled, Checker}
-use Rattle.element_kinds.specs.Kinds.{form_of, makes_output, has_output, is_function}
+use Rattle.element_kinds.specs.Kinds.{form_of, makes_output, has_output, is_function, may_split}
 use Rattle.element_kinds.proofs.Forms.{of_form}
 use Rattle.flat_circuit.specs.declared.split.Split.{Split}
 use Rattle.flat_circuit.specs.declared.instance.Pin.{Pin}
 use Rattle.flat_circuit.specs.declared.instance.Instance.{Instance}
 use Rattle.flat_circuit.specs.declared.net.Net.{Net}
 use Rattle.flat_circuit.specs.Kind.{pin_counts}
-use Rattle.flat_circuit.specs.Split.{may_split, either_delay, SplitFits, two_delays}
+use Rattle.flat_circuit.specs.Split.{either_delay, SplitFits, two_delays}
 use Rattle.flat_circuit.specs.Instances.{InstanceFits}
 use Rattle.flat_circuit.specs.Circuit.{Circuit, IsCircuit}
 use Rattle.flat_circuit.specs.Run.{Choice as Chosen, DelayFitsForm, DelaysFit, WiresFit}

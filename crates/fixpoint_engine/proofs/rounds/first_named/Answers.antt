@@ -10,7 +10,7 @@ returns-then-has c =
     record {
       below = omega (arith, long, c.net_count-place-end.ensures, c.loop-place-test.true);
       is = let e : marked_in c.args.set.now (net_at c.args.c.now.order c.loop-place.place) ≡ c.has.result =
-          ap (marked_in c.args.set.now) (sym c.net_named.ensures) ∙ sym c.has.ensures in e ∙ c.if-has.true;
+          ap (marked_in c.args.set.now) (sym c.net_at.ensures) ∙ sym c.has.ensures in e ∙ c.if-has.true;
       first = c.loop-place.invariant;
     }
 

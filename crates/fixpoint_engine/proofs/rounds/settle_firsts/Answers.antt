@@ -3,7 +3,7 @@ use Rattle.std.specs.Option.{option_copied}
 use Rattle.std.proofs.lemmas.List.Elements.{All-same}
 use Rattle.scald_base.specs.Time.{period}
 use Rattle.net_waves.specs.Waves.{waves_of}
-use Rattle.fixpoint_engine.specs.Rounds.{driver}
+use Rattle.flat_circuit.specs.Circuit.{driver}
 use Rattle.fixpoint_engine.specs.Settled.{marked_in}
 use Rattle.fixpoint_engine.specs.Work.{hears_in}
 use Rattle.fixpoint_engine.specs.Worklist.{among}

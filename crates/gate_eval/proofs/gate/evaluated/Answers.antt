@@ -4,7 +4,7 @@ use Rattle.std.proofs.lemmas.Result.{IfOk-weaker}
 use Rattle.step_values.specs.declared.value.Value.{Value}
 use Rattle.step_values.specs.Cell.{values}
 use Rattle.skew_algebra.specs.Wave.{Wave, moved, normal}
-use Rattle.flat_circuit.specs.Split.{may_split}
+use Rattle.element_kinds.specs.Kinds.{may_split}
 use Rattle.gate_eval.specs.Meeting.{meeting}
 use Rattle.gate_eval.specs.Gates.{gate_value, passed_on}
 use Rattle.gate_eval.specs.Change.{change_wave}

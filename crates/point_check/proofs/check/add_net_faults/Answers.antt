@@ -11,8 +11,8 @@ pub loop-place-preserved : goal.loop-place-preserved
 loop-place-preserved g c =
     let long = order_long c.args.c.now.nets c.args.c.now.order c.known.ensures.by_name in
     let count = c.net_count-place-end.ensures in
-    order-found (net_fault c.args.c.now (waves_of c.args.waves.now)) c.args.c.now.order c.loop-place.place c.net_named.result c.args.faults.now c.loop-place.faults c.add.new.faults c.in_ok-found.found
-    (omega (arith, long, count)) c.net_named.ensures c.loop-place.invariant c.in_ok-found.ensures c.in_ok-add.ensures
+    order-found (net_fault c.args.c.now (waves_of c.args.waves.now)) c.args.c.now.order c.loop-place.place c.net_at.result c.args.faults.now c.loop-place.faults c.add.new.faults c.in_ok-found.found
+    (omega (arith, long, count)) c.net_at.ensures c.loop-place.invariant c.in_ok-found.ensures c.in_ok-add.ensures
 
 pub returns : goal.returns
 returns g c =

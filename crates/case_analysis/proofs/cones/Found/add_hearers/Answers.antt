@@ -2,7 +2,7 @@ use Rattle.std.proofs.Common.{◌≡◌, ◌∙◌, ◌==◌, length, take, ap, 
 use Rattle.std.specs.List.{list_any}
 use Rattle.std.proofs.lemmas.List.{take_all}
 use Rattle.flat_circuit.specs.Instances.{out_at, readers_of}
-use Rattle.fixpoint_engine.specs.Rounds.{driver}
+use Rattle.flat_circuit.specs.Circuit.{driver}
 use Rattle.fixpoint_engine.specs.Work.{hears_in}
 use Rattle.fixpoint_engine.specs.Worklist.{drives_in}
 use Rattle.fixpoint_engine.proofs.Listening.{heard-by-reader}

@@ -3,7 +3,7 @@ use Rattle.std.specs.List.{list_any}
 use Rattle.std.proofs.lemmas.List.{take_all}
 use Rattle.flat_circuit.specs.Instances.{out_at, readers_of}
 use Rattle.std.specs.Option.{option_copied}
-use Rattle.fixpoint_engine.specs.Rounds.{driver}
+use Rattle.flat_circuit.specs.Circuit.{driver}
 use Rattle.fixpoint_engine.specs.Members.{is_evaluated}
 use Rattle.fixpoint_engine.specs.Work.{hears_in}
 use Rattle.fixpoint_engine.specs.Worklist.{drives_in}

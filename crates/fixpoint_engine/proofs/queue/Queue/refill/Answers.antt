@@ -2,7 +2,7 @@ use Rattle.std.proofs.Common.{◌∙◌, ◌&&◌, sym, ap, false, length, map, 
 use Rattle.std.proofs.Math.Bool.{and-false}
 use Rattle.std.proofs.lemmas.List.{length-replicate}
 use Rattle.std.specs.Option.{option_copied}
-use Rattle.fixpoint_engine.specs.Rounds.{driver}
+use Rattle.flat_circuit.specs.Circuit.{driver}
 use Rattle.fixpoint_engine.specs.Settled.{marked_in}
 use Rattle.fixpoint_engine.specs.Members.{is_evaluated}
 use Rattle.fixpoint_engine.proofs.Listening.{hears-none, taken-more, heard-more}

@@ -1,6 +1,6 @@
 use Rattle.std.proofs.Common.{◌≡◌, ℕ, ◌&&◌, length, map, take}
 use Rattle.std.specs.Option.{option_copied}
-use Rattle.fixpoint_engine.specs.Rounds.{driver}
+use Rattle.flat_circuit.specs.Circuit.{driver}
 use Rattle.fixpoint_engine.specs.Settled.{marked_in}
 use Rattle.fixpoint_engine.specs.Members.{is_evaluated}
 use Rattle.fixpoint_engine.specs.Work.{hears_in}
