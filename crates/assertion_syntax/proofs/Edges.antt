@@ -7,31 +7,31 @@ use Rattle.scald_base.specs.declared.assertion.ClockSpec.{ClockSpec}
 use Rattle.scald_base.specs.Time.{Header, period}
 use Rattle.scald_base.specs.Clock.{ideal, back, IsEdge, IsInRegion, SharesSlot, IsTooWide}
 use Rattle.assertion_syntax.specs.Slots.{steps, AreNear}
-use Rattle.scald_base.proofs.Back.{mod-small, back-zero, back-one, back-mod, back-later, back-sooner, back-periods, back-to, next-period, period-apart}
+use Rattle.scald_base.proofs.Back.{mod_small, back_zero, back_one, back_mod, back_later, back_sooner, back_periods, back_to, period_later, period_apart}
 
 -- ---- an edge, by its test
 
-differ-is : (before after : Bool) → cond before (not after) after ≡ true → before ≡ not after
-differ-is true true e = absurd cc
-differ-is true false e = refl
-differ-is false true e = refl
-differ-is false false e = absurd cc
+differ_is : (before after : Bool) → cond before (not after) after ≡ true → before ≡ not after
+differ_is true true e = absurd cc
+differ_is true false e = refl
+differ_is false true e = refl
+differ_is false false e = absurd cc
 
-differ-from : (to before after : Bool) → before ≡ not to → after ≡ to → cond before (not after) after ≡ true
-differ-from true before after b a = rw (b, a) refl
-differ-from false before after b a = rw (b, a) refl
+differ_from : (to before after : Bool) → before ≡ not to → after ≡ to → cond before (not after) after ≡ true
+differ_from true before after b a = rw (b, a) refl
+differ_from false before after b a = rw (b, a) refl
 
 edge_of : (c : ClockSpec) (h : Header) (t : ℕ) → 0 < period h → steps c h t ≡ true → IsEdge c h (ideal c h (t % period h)) (t % period h)
 edge_of c h t pos e = record {
   within = mod-lt t pos;
-  before = ap (ideal c h) (back-mod (period h) t 1 ∙ back-one (period h) t) ∙ differ-is (ideal c h ((t + (period h - 1)) % period h)) (ideal c h (t % period h)) e;
+  before = ap (ideal c h) (back_mod (period h) t 1 ∙ back_one (period h) t) ∙ differ_is (ideal c h ((t + (period h - 1)) % period h)) (ideal c h (t % period h)) e;
   after = refl;
 }
 
 step_at : (c : ClockSpec) (h : Header) (to : Bool) (edge t : ℕ) → IsEdge c h to edge → t % period h ≡ edge → steps c h t ≡ true
 step_at c h to edge t is at =
-    differ-from to (ideal c h ((t + (period h - 1)) % period h)) (ideal c h (t % period h))
-    (ap (ideal c h) (sym (back-one (period h) t) ∙ sym (back-mod (period h) t 1) ∙ ap (λ (z : ℕ). back (period h) z 1) at) ∙ is.before)
+    differ_from to (ideal c h ((t + (period h - 1)) % period h)) (ideal c h (t % period h))
+    (ap (ideal c h) (sym (back_one (period h) t) ∙ sym (back_mod (period h) t 1) ∙ ap (λ (z : ℕ). back (period h) z 1) at) ∙ is.before)
     (ap (ideal c h) at ∙ is.after)
 
 -- ---- from two near edges to their regions
@@ -47,7 +47,7 @@ overlap_from c h early late pos near = go (cases_eq (near.first % period h) (nea
 
     go : (near.first % period h ≡ near.second % period h) ⊎ (near.first % period h ≡ near.second % period h → ⊥) → Overlap c h early late
     go (inl same) =
-        let later : near.second ≡ near.first + period h = period-apart (period h) near.first near.second pos near.ordered near.within same in
+        let later : near.second ≡ near.first + period h = period_apart (period h) near.first near.second pos near.ordered near.within same in
         let by : near.second ≤ near.first + (early + late) = near.near in
         inr (record { to = ideal c h (near.first % period h); edge = near.first % period h; is_edge = edge_of c h near.first pos near.at_first; wide = omega arith })
     go (inr other) =
@@ -63,13 +63,13 @@ overlap_from c h early late pos near = go (cases_eq (near.first % period h) (nea
             is_edge = edge_of c h near.first pos near.at_first;
             by = near.second - near.first;
             near = omega arith;
-            there = back-periods (period h) near.second early (near.second - near.first) pos ∙ back-to (period h) near.first near.second pos near.ordered;
+            there = back_periods (period h) near.second early (near.second - near.first) pos ∙ back_to (period h) near.first near.second pos near.ordered;
           };
           of_other = record {
             is_edge = edge_of c h near.second pos near.at_second;
             by = 0;
             near = omega arith;
-            there = back-periods (period h) near.second early 0 pos ∙ back-zero (period h) near.second;
+            there = back_periods (period h) near.second early 0 pos ∙ back_zero (period h) near.second;
           };
         })
 
@@ -79,7 +79,7 @@ overlap_from c h early late pos near = go (cases_eq (near.first % period h) (nea
 near_itself : (c : ClockSpec) (h : Header) (reach : ℕ) (to : Bool) (edge : ℕ) → IsEdge c h to edge → period h ≤ reach → AreNear (steps c h) reach (2 * period h)
 near_itself c h reach to edge is wide =
     let within : edge < period h = is.within in
-    let here : edge % period h ≡ edge = mod-small edge (period h) within in
+    let here : edge % period h ≡ edge = mod_small edge (period h) within in
     record {
       first = edge;
       second = edge + period h;
@@ -87,7 +87,7 @@ near_itself c h reach to edge is wide =
       within = omega arith;
       near = omega arith;
       at_first = step_at c h to edge edge is here;
-      at_second = step_at c h to edge (edge + period h) is (next-period (period h) edge ∙ here);
+      at_second = step_at c h to edge (edge + period h) is (period_later (period h) edge ∙ here);
     }
 
 -- one edge is reached by fewer slots back than the other
@@ -102,18 +102,18 @@ near_later c h reach tick to other_to edge other by other_by pos is other_is at 
         let apart = other_by - by in
         let same : other_by + 0 ≡ apart + by = omega arith in
         let there : (other + apart) % period h ≡ edge =
-        sym (back-zero (period h) (other + apart))
+        sym (back_zero (period h) (other + apart))
         ∙ ap (λ (z : ℕ). back (period h) (z + apart) 0) (sym other_at)
-        ∙ back-sooner (period h) tick other_by apart 0
+        ∙ back_sooner (period h) tick other_by apart 0
         ∙ ap (back (period h) (tick + apart)) same
-        ∙ back-later (period h) tick apart by pos ∙ at in
+        ∙ back_later (period h) tick apart by pos ∙ at in
         record {
           first = other;
           second = other + apart;
           ordered = omega arith;
           within = omega arith;
           near = omega arith;
-          at_first = step_at c h other_to other other other_is (mod-small other (period h) within);
+          at_first = step_at c h other_to other other other_is (mod_small other (period h) within);
           at_second = step_at c h to edge (other + apart) is there;
         }
 

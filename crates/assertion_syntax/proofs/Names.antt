@@ -133,8 +133,8 @@ not_more : (b : Bool) (n : ℕ) → cond b n (n - 1) ≤ n
 not_more true n = omega arith
 not_more false n = omega arith
 
-pub base_len-le : (rest : List ℕ) → base_len rest ≤ length rest
-base_len-le rest =
+pub base_len_le : (rest : List ℕ) → base_len rest ≤ length rest
+base_len_le rest =
     omega (arith, prefix_len-le-length is_base_byte rest, not_more (eqb (prefix_len is_base_byte rest) (length rest)) (prefix_len is_base_byte rest))
 
 base_takes : (rest : List ℕ) (x : List ℕ × List ℕ) → base_at rest ≡ Some x → (rest ≡ x.0 ++ x.1) × IsBase x.0
@@ -164,13 +164,13 @@ last_len n l k at is = rw (eq-eqb n l at) is
 inner_len : (n l k : ℕ) → n < l → n ≡ k + 1 → cond (eqb n l) n (n - 1) ≡ k
 inner_len n l k before is = rw (ne_eqb n l (λ z. omega arith)) (omega arith)
 
-base_len-is : (base tail : List ℕ) → IsBase base → Behind tail → base_len (base ++ tail) ≡ length base
+base_len_is : (base tail : List ℕ) → IsBase base → Behind tail → base_len (base ++ tail) ≡ length base
 unfolding Behind
-base_len-is base tail is (inl e) =
+base_len_is base tail is (inl e) =
     rw e (last_len (prefix_len is_base_byte (base ++ [])) (length (base ++ [])) (length base)
     (all_counted is_base_byte base [] is.bytes ∙ sym (length-append base []))
     (all_counted is_base_byte base [] is.bytes ∙ omega arith))
-base_len-is base tail is (inr s) =
+base_len_is base tail is (inr s) =
     let behind : List ℕ = 32 ∷ 46 ∷ s.0 in
     let counted : prefix_len is_base_byte (base ++ behind) ≡ length base + 1 = all_counted is_base_byte base behind is.bytes in
     rw s.1 (inner_len (prefix_len is_base_byte (base ++ behind)) (length (base ++ behind)) (length base)
@@ -180,7 +180,7 @@ base_again : (base tail : List ℕ) → IsBase base → Behind tail → base_at 
 unfolding base_at
 base_again base tail is behind =
     let test : (leb (length base) 64 && well_spaced false base) ≡ true = and_from (leb (length base) 64) (well_spaced false base) (le-leb (length base) 64 is.short) is.spaced in
-    rw (base_len-is base tail is behind, take_at base tail (length base) refl, drop_at base tail (length base) refl, test) refl
+    rw (base_len_is base tail is behind, take_at base tail (length base) refl, drop_at base tail (length base) refl, test) refl
 
 assertion_behind : (a : AssertSpec) → Behind (assertion_text a)
 unfolding Behind
@@ -235,11 +235,11 @@ name_takes text n e =
     let s2 = bind_some (assertion_at base.1) (λ spec. Some (record { base = base.0; global = g.0; spec = spec })) n s1.2 in
     let spec = s2.0 in
     let base-is = base_takes g.1 base s1.1 in
-    let spec-is : (base.1 ≡ assertion_text spec) × IsAssertion spec = assertion_takes base.1 spec s2.1 in
+    let spec_is : (base.1 ≡ assertion_text spec) × IsAssertion spec = assertion_takes base.1 spec s2.1 in
     let made : SignalName = record { base = base.0; global = g.0; spec = spec } in
     subst (λ (y : SignalName). IsTextOf y text) (same_Some made n s2.2) record {
-      is_name = record { base = base-is.1; assertion = spec-is.1 };
-      spelled = global_takes text ∙ ap (λ (l : List ℕ). global_text g.0 ++ l) (base-is.0 ∙ ap (λ (l : List ℕ). base.0 ++ l) spec-is.0)
+      is_name = record { base = base-is.1; assertion = spec_is.1 };
+      spelled = global_takes text ∙ ap (λ (l : List ℕ). global_text g.0 ++ l) (base-is.0 ∙ ap (λ (l : List ℕ). base.0 ++ l) spec_is.0)
           ∙ sym (name_parts (global_text g.0) base.0 (assertion_text spec));
     }
 

@@ -94,8 +94,8 @@ comma = codes ","
 abbrev joined : List Span → List ℕ
 joined spans = flat_map (λ s. comma ++ span_text s) spans
 
-spans_text-cons : (s m : Span) (ms : List Span) (tail : List ℕ) → spans_text (s ∷ m ∷ ms) ++ tail ≡ span_text s ++ (comma ++ (spans_text (m ∷ ms) ++ tail))
-spans_text-cons s m ms tail = parts (span_text s) comma (span_text m) (joined ms) tail
+spans_text_cons : (s m : Span) (ms : List Span) (tail : List ℕ) → spans_text (s ∷ m ∷ ms) ++ tail ≡ span_text s ++ (comma ++ (spans_text (m ∷ ms) ++ tail))
+spans_text_cons s m ms tail = parts (span_text s) comma (span_text m) (joined ms) tail
   where
     parts : (a b c d rest : List ℕ) → (a ++ ((b ++ c) ++ d)) ++ rest ≡ a ++ (b ++ ((c ++ d) ++ rest))
     parts a b c d rest = simp append_assoc
@@ -109,7 +109,7 @@ more_spans : (s : Span) (ss : List Span) (rest after inside tail : List ℕ) →
     IsInterval s → after ≡ comma ++ inside → AreSpans inside (ss, tail) → AreSpans rest (s ∷ ss, tail)
 more_spans s [] rest after inside tail e is c are = let none : 1 ≤ 0 = are.some in absurd (omega arith)
 more_spans s (m ∷ ms) rest after inside tail e is c are = record {
-  spelled = e ∙ ap (λ (l : List ℕ). span_text s ++ l) (c ∙ ap (λ (l : List ℕ). comma ++ l) are.spelled) ∙ sym (spans_text-cons s m ms tail);
+  spelled = e ∙ ap (λ (l : List ℕ). span_text s ++ l) (c ∙ ap (λ (l : List ℕ). comma ++ l) are.spelled) ∙ sym (spans_text_cons s m ms tail);
   some = omega arith;
   each = (is, are.each);
 }
@@ -152,7 +152,7 @@ spans_again_by (s ∷ []) tail (suc most) some each ends room =
     ∙ rw (span_again s tail each.0 ends.number, ends.list) refl
 spans_again_by (s ∷ m ∷ ms) tail (suc most) some each ends room =
     let inside = spans_text (m ∷ ms) ++ tail in
-    ap (spans_at (suc most)) (spans_text-cons s m ms tail)
+    ap (spans_at (suc most)) (spans_text_cons s m ms tail)
     ∙ rw (span_again s (comma ++ inside) each.0 refl, literal_again comma inside, spans_again_by (m ∷ ms) tail most (omega arith) each.1 ends (omega arith)) refl
 
 spans_long : (ss : List Span) (tail : List ℕ) → AllByRecursion IsInterval ss → length ss ≤ length (spans_text ss ++ tail)
@@ -163,7 +163,7 @@ spans_long (s ∷ []) tail each =
 spans_long (s ∷ m ∷ ms) tail each =
     let onward = spans_long (m ∷ ms) tail each.1 in
     let inside = spans_text (m ∷ ms) ++ tail in
-    omega (arith, onward, ap (λ (l : List ℕ). length l) (spans_text-cons s m ms tail), length-append (span_text s) (comma ++ inside), length-append comma inside)
+    omega (arith, onward, ap (λ (l : List ℕ). length l) (spans_text_cons s m ms tail), length-append (span_text s) (comma ++ inside), length-append comma inside)
 
 pub spans_again : (ss : List Span) (tail : List ℕ) → 1 ≤ length ss → All IsInterval ss → EndsSpans tail → spans_at (length (spans_text ss ++ tail)) (spans_text ss ++ tail) ≡ Some (ss, tail)
 spans_again ss tail some each ends =

@@ -13,53 +13,53 @@ use Rattle.fixpoint_engine.specs.Start.{base_start}
 use Rattle.fixpoint_engine.specs.Settled.{AreAtRest, KeepRuns}
 use Rattle.fixpoint_engine.specs.End.{EndsFor}
 use Rattle.fixpoint_engine.specs.Loops.{HasNoLoop}
-use Rattle.fixpoint_engine.proofs.Rest.{rests-soon, rests-within}
+use Rattle.fixpoint_engine.proofs.Rest.{rests_soon, rests_within}
 use Rattle.case_analysis.specs.Base.{PermitInputs}
 use Rattle.case_analysis.specs.Case.{IsCone, PermitCase, case_active, case_start}
-use Rattle.case_analysis.proofs.Inputs.{inputs-permitted}
-use Rattle.case_analysis.proofs.Cases.{as-case, case-permitted}
+use Rattle.case_analysis.proofs.Inputs.{inputs_permitted}
+use Rattle.case_analysis.proofs.Cases.{as_case, case_permitted}
 
 -- ---- its rounds
 
-pub in-time : {A : Type 0} (result : Result A EngineEnd) (c : Circuit) (active : ℕ → Bool) (first : Waves) (limit : ℕ) (rounds : A → ℕ) (waves : A → Waves) →
+pub in_time : {A : Type 0} (result : Result A EngineEnd) (c : Circuit) (active : ℕ → Bool) (first : Waves) (limit : ℕ) (rounds : A → ℕ) (waves : A → Waves) →
     IfOk result (λ s. AreAtRest c active first limit (rounds s) (waves s)) → IfOk result (λ s. rounds s ≤ limit)
-in-time (Ok s) c active first limit rounds waves rest = rest.rests.within
-in-time (Err e) c active first limit rounds waves rest = tt
+in_time (Ok s) c active first limit rounds waves rest = rest.rests.within
+in_time (Err e) c active first limit rounds waves rest = tt
 
 -- without a loop through listening pins
 pub soon : {A : Type 0} (result : Result A EngineEnd) (c : Circuit) (active : ℕ → Bool) (first : Waves) (limit : ℕ) (rounds : A → ℕ) (waves : A → Waves) →
     IsCircuit c → HasNoLoop c → outputs c.instances ≤ limit →
     IfOk result (λ s. AreAtRest c active first limit (rounds s) (waves s)) → IfErr result (EndsFor c.order (round c active first) limit) →
     MatchResult result (λ s. rounds s ≤ outputs c.instances) (λ e. e ≡ NoMemory)
-soon (Ok s) c active first limit rounds waves known none within rest ends = rests-soon c active first limit (rounds s) known none rest.rests
-soon (Err e) c active first limit rounds waves known none within rest ends = rests-within c active first limit e known none within ends
+soon (Ok s) c active first limit rounds waves known none within rest ends = rests_soon c active first limit (rounds s) known none rest.rests
+soon (Err e) c active first limit rounds waves known none within rest ends = rests_within c active first limit e known none within ends
 
 -- ---- the base
 
-pub base-keeps : {A : Type 0} (result : Result A EngineEnd) (c : Circuit) (first : Waves) (rounds : A → ℕ) (waves : A → Waves) → 0 < period c.header → ((i : ℕ) → first i ≡ base_start c i) →
+pub base_keeps : {A : Type 0} (result : Result A EngineEnd) (c : Circuit) (first : Waves) (rounds : A → ℕ) (waves : A → Waves) → 0 < period c.header → ((i : ℕ) → first i ≡ base_start c i) →
     IfOk result (λ s. KeepRuns c first (rounds s) (waves s)) → IfOk result (λ s. PermitInputs c (rounds s) (waves s))
-base-keeps (Ok s) c first rounds waves some start keeps = inputs-permitted c first (waves s) (rounds s) some (λ k i. start i k) keeps
-base-keeps (Err e) c first rounds waves some start keeps = tt
+base_keeps (Ok s) c first rounds waves some start keeps = inputs_permitted c first (waves s) (rounds s) some (λ k i. start i k) keeps
+base_keeps (Err e) c first rounds waves some start keeps = tt
 
 -- ---- a case
 
-pub case-keeps : {A : Type 0} (result : Result A EngineEnd) (c : Circuit) (vs : List CaseValue) (cone : ℕ → Bool) (base first : Waves)
+pub case_keeps : {A : Type 0} (result : Result A EngineEnd) (c : Circuit) (vs : List CaseValue) (cone : ℕ → Bool) (base first : Waves)
     (before : ℕ) (rounds : A → ℕ) (waves : A → Waves) → 0 < period c.header → PermitInputs c before base →
     ((i : ℕ) → first i ≡ case_start c vs cone base i) →
     IfOk result (λ s. KeepRuns c first (rounds s) (waves s)) → IfOk result (λ s. PermitCase c vs (before + rounds s) (waves s))
-case-keeps (Ok s) c vs cone base first before rounds waves some inputs start keeps = case-permitted c vs cone base first (waves s) before (rounds s) some inputs start keeps
-case-keeps (Err e) c vs cone base first before rounds waves some inputs start keeps = tt
+case_keeps (Ok s) c vs cone base first before rounds waves some inputs start keeps = case_permitted c vs cone base first (waves s) before (rounds s) some inputs start keeps
+case_keeps (Err e) c vs cone base first before rounds waves some inputs start keeps = tt
 
 -- What holds of the active nets and of the waves that code begins with holds of those of the case, whatever its cone is
 -- written as.
 module _ (c : Circuit) (vs : List CaseValue) (marks active : ℕ → Bool) (base first : Waves) (marked : IsCone c vs marks)
     (of : (i : ℕ) → active i ≡ case_active c marks i) (from : (i : ℕ) → first i ≡ case_start c vs marks base i) where
-  pub case-rests : {A : Type 0} (result : Result A EngineEnd) (P : (ℕ → Bool) → Waves → A → Type 0) → IfOk result (P active first) →
+  pub case_rests : {A : Type 0} (result : Result A EngineEnd) (P : (ℕ → Bool) → Waves → A → Type 0) → IfOk result (P active first) →
       IfOk result (λ s. (cone : ℕ → Bool) → IsCone c vs cone → P (case_active c cone) (case_start c vs cone base) s)
-  case-rests (Ok s) P holds = as-case c vs marks active base first (λ a f. P a f s) marked of from holds
-  case-rests (Err e) P holds = tt
+  case_rests (Ok s) P holds = as_case c vs marks active base first (λ a f. P a f s) marked of from holds
+  case_rests (Err e) P holds = tt
 
-  pub case-ends : {A : Type 0} (result : Result A EngineEnd) (P : (ℕ → Bool) → Waves → EngineEnd → Type 0) → IfErr result (P active first) →
+  pub case_ends : {A : Type 0} (result : Result A EngineEnd) (P : (ℕ → Bool) → Waves → EngineEnd → Type 0) → IfErr result (P active first) →
       IfErr result (λ e. (cone : ℕ → Bool) → IsCone c vs cone → P (case_active c cone) (case_start c vs cone base) e)
-  case-ends (Ok s) P holds = tt
-  case-ends (Err e) P holds = as-case c vs marks active base first (λ a f. P a f e) marked of from holds
+  case_ends (Ok s) P holds = tt
+  case_ends (Err e) P holds = as_case c vs marks active base first (λ a f. P a f e) marked of from holds

@@ -13,15 +13,15 @@ use Rattle.fixpoint_engine.specs.Settled.{marked_in}
 use Rattle.fixpoint_engine.specs.Work.{hears_in}
 use Rattle.fixpoint_engine.specs.Loops.{Hears}
 use Rattle.fixpoint_engine.specs.Worklist.{Queue, IsQueue}
-use Rattle.fixpoint_engine.proofs.Listening.{hears-same, same-order}
-use Rattle.fixpoint_engine.proofs.Waiting.{marked-below}
+use Rattle.fixpoint_engine.proofs.Listening.{hears_same, same_order}
+use Rattle.fixpoint_engine.proofs.Waiting.{marked_below}
 use Rattle.case_analysis.specs.Case.{InCone, Is_set, Hears_one, IsCone, is_set}
 use Rattle.case_analysis.specs.Found.{Extends}
 
 -- ---- a set that is the same
 
-pub set-same : (set other : ℕ → Bool) (old new : Queue) → Extends set old new → ((i : ℕ) → set i ≡ other i) → Extends other old new
-set-same set other old new extends same = subst (λ (s : ℕ → Bool). Extends s old new) (λ k i. same i k) extends
+pub set_same : (set other : ℕ → Bool) (old new : Queue) → Extends set old new → ((i : ℕ) → set i ≡ other i) → Extends other old new
+set_same set other old new extends same = subst (λ (s : ℕ → Bool). Extends s old new) (λ k i. same i k) extends
 
 -- ---- the search
 
@@ -33,8 +33,8 @@ pub record Closing (c : Circuit) (values : List CaseValue) (q : Queue) (next : �
   pub within : next ≤ length q.nets
   pub closed : (k i : ℕ) → k < next → Hears c (net_at q.nets k) i → marked_in q.marks i ≡ true
 
-pub closing-start : (c : Circuit) (values : List CaseValue) (q : Queue) → length q.marks ≡ length c.nets → ((i : ℕ) → marked_in q.marks i ≡ is_set values i) → Closing c values q 0
-closing-start c values q each marks = record {
+pub closing_start : (c : Circuit) (values : List CaseValue) (q : Queue) → length q.marks ≡ length c.nets → ((i : ℕ) → marked_in q.marks i ≡ is_set values i) → Closing c values q 0
+closing_start c values q each marks = record {
   each_net = each;
   inside = λ i marked. Is_set (sym (marks i) ∙ marked);
   set = λ i is. marks i ∙ is;
@@ -43,28 +43,28 @@ closing-start c values q each marks = record {
 }
 
 -- one value more of the case
-pub set-more : (values items : List CaseValue) (k : ℕ) (d : CaseValue) (old new : Queue) → items ≡ values → k < length items → Extends (λ i. (get_or items k d).net == i) old new →
+pub set_more : (values items : List CaseValue) (k : ℕ) (d : CaseValue) (old new : Queue) → items ≡ values → k < length items → Extends (λ i. (get_or items k d).net == i) old new →
     ((i : ℕ) → marked_in old.marks i ≡ is_set (take k values) i) → (i : ℕ) → marked_in new.marks i ≡ is_set (take (k + 1) values) i
-set-more values items k d old new same below extends marks i =
+set_more values items k d old new same below extends marks i =
     let inside : k < length values = subst (λ (vs : List CaseValue). k < length vs) same below in
     extends.adds.marks i ∙ ap (λ b. b || ((get_or items k d).net == i)) (marks i)
     ∙ ap (λ (vs : List CaseValue). is_set (take k values) i || ((get_or vs k d).net == i)) same
     ∙ sym (list_any_more (λ (v : CaseValue). v.net == i) values k d inside)
 
-turned-hears : (c : Circuit) (net i : ℕ) → hears_in (λ j. net == j) (driver c i) ≡ hears_in (λ j. j == net) (driver c i)
-turned-hears c net i = hears-same (λ j. net == j) (λ j. j == net) (driver c i) (λ j. same-order net j)
+turned_hears : (c : Circuit) (net i : ℕ) → hears_in (λ j. net == j) (driver c i) ≡ hears_in (λ j. j == net) (driver c i)
+turned_hears c net i = hears_same (λ j. net == j) (λ j. j == net) (driver c i) (λ j. same_order net j)
 
-pub found-marked : (q : Queue) (k net : ℕ) → IsQueue q → slice_get q.nets k ≡ Some net → marked_in q.marks net ≡ true
-found-marked q k net queue at =
+pub found_marked : (q : Queue) (k net : ℕ) → IsQueue q → slice_get q.nets k ≡ Some net → marked_in q.marks net ≡ true
+found_marked q k net queue at =
     (queue.are net).1 (subst (Contains q.nets) (get_or_from_slice_get q.nets k net 0 at) (Contains-get_or q.nets k 0 (slice_get_within q.nets k net at)))
 
-pub closing-more : (c : Circuit) (values : List CaseValue) (q more : Queue) (next net : ℕ) → IsQueue q → slice_get q.nets next ≡ Some net → Closing c values q next →
+pub closing_more : (c : Circuit) (values : List CaseValue) (q more : Queue) (next net : ℕ) → IsQueue q → slice_get q.nets next ≡ Some net → Closing c values q next →
     Extends (λ i. hears_in (λ j. net == j) (driver c i)) q more → Closing c values more (next + 1)
-closing-more c values q more next net queue at closing extends = record {
+closing_more c values q more next net queue at closing extends = record {
   each_net = extends.adds.each_net ∙ closing.each_net;
   inside = λ i marked. elim (or_cases (marked_in q.marks i) (hears_in (λ j. net == j) (driver c i)) (sym (extends.adds.marks i) ∙ marked)) [
     | inl before ↦ closing.inside i before
-    | inr hears ↦ Hears_one (closing.inside net (found-marked q next net queue at)) (sym (turned-hears c net i) ∙ hears)
+    | inr hears ↦ Hears_one (closing.inside net (found_marked q next net queue at)) (sym (turned_hears c net i) ∙ hears)
   ];
   set = λ i is. extends.adds.marks i ∙ or_left _ _ (closing.set i is);
   within = let inside = slice_get_within q.nets next net at in let longer = extends.longer in omega (arith, inside, longer);
@@ -76,12 +76,12 @@ closing-more c values q more next net queue at closing extends = record {
 
     heard : (k i : ℕ) → k < next + 1 → Hears c (net_at q.nets k) i → (marked_in q.marks i || hears_in (λ j. net == j) (driver c i)) ≡ true
     heard k i below hears = elim (cases_eq k next) [
-      | inl same ↦ or_right _ _ (turned-hears c net i ∙ subst (λ n. Hears c n i) (ap (net_at q.nets) same ∙ get_or_from_slice_get q.nets next net 0 at) hears)
+      | inl same ↦ or_right _ _ (turned_hears c net i ∙ subst (λ n. Hears c n i) (ap (net_at q.nets) same ∙ get_or_from_slice_get q.nets next net 0 at) hears)
       | inr other ↦ or_left _ _ (closing.closed k i (omega (arith, below, other)) hears)
     ]
 
-pub closing-end : (c : Circuit) (values : List CaseValue) (q : Queue) (next : ℕ) → IsQueue q → slice_get q.nets next ≡ None → Closing c values q next → IsCone c values (marked_in q.marks)
-closing-end c values q next queue none closing i = (closing.inside i, all)
+pub closing_end : (c : Circuit) (values : List CaseValue) (q : Queue) (next : ℕ) → IsQueue q → slice_get q.nets next ≡ None → Closing c values q next → IsCone c values (marked_in q.marks)
+closing_end c values q next queue none closing i = (closing.inside i, all)
   where
     whole : length q.nets ≤ next
     whole = elim (cases_lt next (length q.nets)) [
@@ -105,5 +105,5 @@ closing-end c values q next queue none closing i = (closing.inside i, all)
     all (Hears_one {from = from} {i = i} inner hears) = heard from i ((queue.are from).0 (all inner)) hears
 
 -- a net that is found exists
-pub found-below : (c : Circuit) (q : Queue) (k net : ℕ) → IsQueue q → length q.marks ≡ length c.nets → slice_get q.nets k ≡ Some net → net < length c.nets
-found-below c q k net queue each at = let below = marked-below q.marks net (found-marked q k net queue at) in omega (arith, below, each)
+pub found_below : (c : Circuit) (q : Queue) (k net : ℕ) → IsQueue q → length q.marks ≡ length c.nets → slice_get q.nets k ≡ Some net → net < length c.nets
+found_below c q k net queue each at = let below = marked_below q.marks net (found_marked q k net queue at) in omega (arith, below, each)

@@ -20,7 +20,7 @@ use Rattle.flat_circuit.specs.Circuit.{Circuit, driver_in, driver, instance_in}
 use Rattle.flat_circuit.specs.Run.{Run, net_signal}
 use Rattle.pin_waves.proofs.Tests.{bits, ticks, same_bit, same_bit_is, same_bit_from, implies, implies_is, not_true, all_below, each_passes, all_pass}
 use Rattle.fixpoint_engine.specs.Work.{is_on_any, hears_from, hears_in}
-use Rattle.fixpoint_engine.proofs.Rest.{heard-in}
+use Rattle.fixpoint_engine.proofs.Rest.{heard_in}
 use Rattle.case_analysis.specs.Case.{is_set, IsInCase, InCone, Is_set, Hears_one, IsCone}
 
 -- ---- runs in cases
@@ -104,7 +104,7 @@ reached_is c values zero i passed = Is_set passed
 reached_is c values (suc k) i passed =
     elim (or_cases (reached_in c values k i) (hears_in (reached_in c values k) (driver c i)) passed) [
       | inl before ↦ reached_is c values k i before
-      | inr hears ↦ let at = heard-in (reached_in c values k) (driver c i) hears in
+      | inr hears ↦ let at = heard_in (reached_in c values k) (driver c i) hears in
           Hears_one (reached_is c values k at.net at.of) at.is
     ]
 

@@ -10,120 +10,120 @@ use Rattle.flat_circuit.specs.declared.net.Net.{Net}
 use Rattle.flat_circuit.specs.Circuit.{Circuit}
 use Rattle.class_table.specs.Alike.{TargetsAlike, PinsAlike, DriversAlike, CasesAlike, NetsAlike, instance_of}
 
-zip-self : {T : Type 0} (R : T → T → Type 0) → ((x : T) → R x x) → (xs : List T) → AllZip R xs xs
-zip-self R self [] = tt
-zip-self R self (x ∷ xs) = (self x, zip-self R self xs)
+zip_self : {T : Type 0} (R : T → T → Type 0) → ((x : T) → R x x) → (xs : List T) → AllZip R xs xs
+zip_self R self [] = tt
+zip_self R self (x ∷ xs) = (self x, zip_self R self xs)
 
-zip-back : {T : Type 0} (R : T → T → Type 0) → ((x y : T) → R x y → R y x) → (xs ys : List T) → AllZip R xs ys → AllZip R ys xs
-zip-back R back [] [] h = tt
-zip-back R back [] (y ∷ ys) h = absurd h
-zip-back R back (x ∷ xs) [] h = absurd h
-zip-back R back (x ∷ xs) (y ∷ ys) h = (back x y h.0, zip-back R back xs ys h.1)
+zip_back : {T : Type 0} (R : T → T → Type 0) → ((x y : T) → R x y → R y x) → (xs ys : List T) → AllZip R xs ys → AllZip R ys xs
+zip_back R back [] [] h = tt
+zip_back R back [] (y ∷ ys) h = absurd h
+zip_back R back (x ∷ xs) [] h = absurd h
+zip_back R back (x ∷ xs) (y ∷ ys) h = (back x y h.0, zip_back R back xs ys h.1)
 
-zip-both : {T : Type 0} (R : T → T → Type 0) → ((x y z : T) → R x z → R y z → R x y) → (xs ys zs : List T) → AllZip R xs zs → AllZip R ys zs → AllZip R xs ys
-zip-both R both [] [] zs h h' = tt
-zip-both R both [] (y ∷ ys) [] h h' = absurd h'
-zip-both R both [] (y ∷ ys) (z ∷ zs) h h' = absurd h
-zip-both R both (x ∷ xs) ys [] h h' = absurd h
-zip-both R both (x ∷ xs) [] (z ∷ zs) h h' = absurd h'
-zip-both R both (x ∷ xs) (y ∷ ys) (z ∷ zs) h h' = (both x y z h.0 h'.0, zip-both R both xs ys zs h.1 h'.1)
+zip_both : {T : Type 0} (R : T → T → Type 0) → ((x y z : T) → R x z → R y z → R x y) → (xs ys zs : List T) → AllZip R xs zs → AllZip R ys zs → AllZip R xs ys
+zip_both R both [] [] zs h h' = tt
+zip_both R both [] (y ∷ ys) [] h h' = absurd h'
+zip_both R both [] (y ∷ ys) (z ∷ zs) h h' = absurd h
+zip_both R both (x ∷ xs) ys [] h h' = absurd h
+zip_both R both (x ∷ xs) [] (z ∷ zs) h h' = absurd h'
+zip_both R both (x ∷ xs) (y ∷ ys) (z ∷ zs) h h' = (both x y z h.0 h'.0, zip_both R both xs ys zs h.1 h'.1)
 
 module _ (k : List ℕ) where
-  targets-self : (a : Target) → TargetsAlike k a a
-  targets-self (OnNet i) = refl
-  targets-self (Constant a) = refl
+  targets_self : (a : Target) → TargetsAlike k a a
+  targets_self (OnNet i) = refl
+  targets_self (Constant a) = refl
 
-  targets-back : (a b : Target) → TargetsAlike k a b → TargetsAlike k b a
-  targets-back (OnNet i) (OnNet j) h = sym h
-  targets-back (OnNet i) (Constant b) h = h
-  targets-back (Constant a) (OnNet j) h = h
-  targets-back (Constant a) (Constant b) h = sym h
+  targets_back : (a b : Target) → TargetsAlike k a b → TargetsAlike k b a
+  targets_back (OnNet i) (OnNet j) h = sym h
+  targets_back (OnNet i) (Constant b) h = h
+  targets_back (Constant a) (OnNet j) h = h
+  targets_back (Constant a) (Constant b) h = sym h
 
-  targets-both : (a b c : Target) → TargetsAlike k a c → TargetsAlike k b c → TargetsAlike k a b
-  targets-both (OnNet i) (OnNet j) (OnNet l) h h' = h ∙ sym h'
-  targets-both (OnNet i) (OnNet j) (Constant l) h h' = absurd h
-  targets-both (OnNet i) (Constant b) (OnNet l) h h' = h'
-  targets-both (OnNet i) (Constant b) (Constant l) h h' = h
-  targets-both (Constant a) (OnNet j) (OnNet l) h h' = h
-  targets-both (Constant a) (OnNet j) (Constant l) h h' = h'
-  targets-both (Constant a) (Constant b) (OnNet l) h h' = absurd h
-  targets-both (Constant a) (Constant b) (Constant l) h h' = h ∙ sym h'
+  targets_both : (a b c : Target) → TargetsAlike k a c → TargetsAlike k b c → TargetsAlike k a b
+  targets_both (OnNet i) (OnNet j) (OnNet l) h h' = h ∙ sym h'
+  targets_both (OnNet i) (OnNet j) (Constant l) h h' = absurd h
+  targets_both (OnNet i) (Constant b) (OnNet l) h h' = h'
+  targets_both (OnNet i) (Constant b) (Constant l) h h' = h
+  targets_both (Constant a) (OnNet j) (OnNet l) h h' = h
+  targets_both (Constant a) (OnNet j) (Constant l) h h' = h'
+  targets_both (Constant a) (Constant b) (OnNet l) h h' = absurd h
+  targets_both (Constant a) (Constant b) (Constant l) h h' = h ∙ sym h'
 
-  pins-self : (p : Pin) → PinsAlike k p p
-  pins-self p = record { target = targets-self p.target; complement = refl; mark = refl }
+  pins_self : (p : Pin) → PinsAlike k p p
+  pins_self p = record { target = targets_self p.target; complement = refl; mark = refl }
 
-  pins-back : (p q : Pin) → PinsAlike k p q → PinsAlike k q p
-  pins-back p q h = record { target = targets-back p.target q.target h.target; complement = sym h.complement; mark = sym h.mark }
+  pins_back : (p q : Pin) → PinsAlike k p q → PinsAlike k q p
+  pins_back p q h = record { target = targets_back p.target q.target h.target; complement = sym h.complement; mark = sym h.mark }
 
-  pins-both : (p q r : Pin) → PinsAlike k p r → PinsAlike k q r → PinsAlike k p q
-  pins-both p q r h h' = record {
-    target = targets-both p.target q.target r.target h.target h'.target;
+  pins_both : (p q r : Pin) → PinsAlike k p r → PinsAlike k q r → PinsAlike k p q
+  pins_both p q r h h' = record {
+    target = targets_both p.target q.target r.target h.target h'.target;
     complement = h.complement ∙ sym h'.complement;
     mark = h.mark ∙ sym h'.mark;
   }
 
-  drivers-self : (a : Option Instance) → DriversAlike k a a
-  drivers-self None = tt
-  drivers-self (Some a) = record {
+  drivers_self : (a : Option Instance) → DriversAlike k a a
+  drivers_self None = tt
+  drivers_self (Some a) = record {
     kind = refl;
     delay = refl;
     split = refl;
     complement = refl;
-    pins = zip-self (PinsAlike k) pins-self a.pins;
+    pins = zip_self (PinsAlike k) pins_self a.pins;
   }
 
-  drivers-back : (a b : Option Instance) → DriversAlike k a b → DriversAlike k b a
-  drivers-back None None h = h
-  drivers-back None (Some b) h = h
-  drivers-back (Some a) None h = h
-  drivers-back (Some a) (Some b) h = record {
+  drivers_back : (a b : Option Instance) → DriversAlike k a b → DriversAlike k b a
+  drivers_back None None h = h
+  drivers_back None (Some b) h = h
+  drivers_back (Some a) None h = h
+  drivers_back (Some a) (Some b) h = record {
     kind = sym h.kind;
     delay = sym h.delay;
     split = sym h.split;
     complement = sym h.complement;
-    pins = zip-back (PinsAlike k) pins-back a.pins b.pins h.pins;
+    pins = zip_back (PinsAlike k) pins_back a.pins b.pins h.pins;
   }
 
-  drivers-both : (a b d : Option Instance) → DriversAlike k a d → DriversAlike k b d → DriversAlike k a b
-  drivers-both None None d h h' = tt
-  drivers-both None (Some b) None h h' = h'
-  drivers-both None (Some b) (Some d) h h' = h
-  drivers-both (Some a) None None h h' = h
-  drivers-both (Some a) None (Some d) h h' = h'
-  drivers-both (Some a) (Some b) None h h' = absurd h
-  drivers-both (Some a) (Some b) (Some d) h h' = record {
+  drivers_both : (a b d : Option Instance) → DriversAlike k a d → DriversAlike k b d → DriversAlike k a b
+  drivers_both None None d h h' = tt
+  drivers_both None (Some b) None h h' = h'
+  drivers_both None (Some b) (Some d) h h' = h
+  drivers_both (Some a) None None h h' = h
+  drivers_both (Some a) None (Some d) h h' = h'
+  drivers_both (Some a) (Some b) None h h' = absurd h
+  drivers_both (Some a) (Some b) (Some d) h h' = record {
     kind = h.kind ∙ sym h'.kind;
     delay = h.delay ∙ sym h'.delay;
     split = h.split ∙ sym h'.split;
     complement = h.complement ∙ sym h'.complement;
-    pins = zip-both (PinsAlike k) pins-both a.pins b.pins d.pins h.pins h'.pins;
+    pins = zip_both (PinsAlike k) pins_both a.pins b.pins d.pins h.pins h'.pins;
   }
 
-cases-self : (cases : List (List CaseValue)) (i : ℕ) → CasesAlike cases i i
-cases-self cases i k d below = refl
+cases_self : (cases : List (List CaseValue)) (i : ℕ) → CasesAlike cases i i
+cases_self cases i k d below = refl
 
-cases-back : (cases : List (List CaseValue)) (i j : ℕ) → CasesAlike cases i j → CasesAlike cases j i
-cases-back cases i j h k d below = sym (h k d below)
+cases_back : (cases : List (List CaseValue)) (i j : ℕ) → CasesAlike cases i j → CasesAlike cases j i
+cases_back cases i j h k d below = sym (h k d below)
 
-cases-both : (cases : List (List CaseValue)) (i j r : ℕ) → CasesAlike cases i r → CasesAlike cases j r → CasesAlike cases i j
-cases-both cases i j r h h' k d below = h k d below ∙ sym (h' k d below)
+cases_both : (cases : List (List CaseValue)) (i j r : ℕ) → CasesAlike cases i r → CasesAlike cases j r → CasesAlike cases i j
+cases_both cases i j r h h' k d below = h k d below ∙ sym (h' k d below)
 
-pub nets-self : (c : Circuit) (cases : List (List CaseValue)) (k : List ℕ) (i : ℕ) (m : Net) → NetsAlike c cases k i i m m
-nets-self c cases k i m = record { spec = refl; wire = refl; values = cases-self cases i; drivers = drivers-self k (instance_of c m.driver) }
+pub nets_self : (c : Circuit) (cases : List (List CaseValue)) (k : List ℕ) (i : ℕ) (m : Net) → NetsAlike c cases k i i m m
+nets_self c cases k i m = record { spec = refl; wire = refl; values = cases_self cases i; drivers = drivers_self k (instance_of c m.driver) }
 
-pub nets-back : (c : Circuit) (cases : List (List CaseValue)) (k : List ℕ) (i j : ℕ) (m n : Net) → NetsAlike c cases k i j m n → NetsAlike c cases k j i n m
-nets-back c cases k i j m n h = record {
+pub nets_back : (c : Circuit) (cases : List (List CaseValue)) (k : List ℕ) (i j : ℕ) (m n : Net) → NetsAlike c cases k i j m n → NetsAlike c cases k j i n m
+nets_back c cases k i j m n h = record {
   spec = sym h.spec;
   wire = sym h.wire;
-  values = cases-back cases i j h.values;
-  drivers = drivers-back k (instance_of c m.driver) (instance_of c n.driver) h.drivers;
+  values = cases_back cases i j h.values;
+  drivers = drivers_back k (instance_of c m.driver) (instance_of c n.driver) h.drivers;
 }
 
-pub nets-both : (c : Circuit) (cases : List (List CaseValue)) (k : List ℕ) (i j r : ℕ) (m n o : Net) → NetsAlike c cases k i r m o → NetsAlike c cases k j r n o →
+pub nets_both : (c : Circuit) (cases : List (List CaseValue)) (k : List ℕ) (i j r : ℕ) (m n o : Net) → NetsAlike c cases k i r m o → NetsAlike c cases k j r n o →
     NetsAlike c cases k i j m n
-nets-both c cases k i j r m n o h h' = record {
+nets_both c cases k i j r m n o h h' = record {
   spec = h.spec ∙ sym h'.spec;
   wire = h.wire ∙ sym h'.wire;
-  values = cases-both cases i j r h.values h'.values;
-  drivers = drivers-both k (instance_of c m.driver) (instance_of c n.driver) (instance_of c o.driver) h.drivers h'.drivers;
+  values = cases_both cases i j r h.values h'.values;
+  drivers = drivers_both k (instance_of c m.driver) (instance_of c n.driver) (instance_of c o.driver) h.drivers h'.drivers;
 }

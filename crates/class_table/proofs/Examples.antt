@@ -16,8 +16,8 @@ use Rattle.flat_circuit.specs.declared.split.Split.{Split}
 use Rattle.flat_circuit.specs.Circuit.{Circuit}
 use Rattle.class_table.specs.Alike.{class_of, TargetsAlike, PinsAlike, InstancesAlike, CasesAlike, NetsAlike, value_in}
 use Rattle.class_table.specs.Stable.{AreAlikeAt, IsStable, AreNumbersOfNets, IsAsNumbersIn}
-use Rattle.class_table.proofs.Alike.{nets-self}
-use Rattle.class_table.proofs.Pairs.{some-same, stable-by-numbers}
+use Rattle.class_table.proofs.Alike.{nets_self}
+use Rattle.class_table.proofs.Pairs.{some_same, stable_by_numbers}
 
 abbrev bounds : ℕ → ℕ → Bounds
 bounds min max = record { min = min; max = max }
@@ -253,10 +253,10 @@ abbrev here : Circuit
 here = pair (bounds 1 2) (bounds 1 2)
 
 equal_buffers : IsStable here [] classes
-equal_buffers = stable-by-numbers here [] classes refl first_nets each
+equal_buffers = stable_by_numbers here [] classes refl first_nets each
   where
     self : (i : ℕ) (m n : Net) → slice_get here.nets i ≡ Some m → slice_get here.nets i ≡ Some n → NetsAlike here [] classes i i m n
-    self i m n is_m is_n = subst (NetsAlike here [] classes i i m) (some-same m n (sym is_m ∙ is_n)) (nets-self here [] classes i m)
+    self i m n is_m is_n = subst (NetsAlike here [] classes i i m) (some_same m n (sym is_m ∙ is_n)) (nets_self here [] classes i m)
 
     second : NetsAlike here [] classes 2 1 (output 1) (output 0)
     second = record {
@@ -276,7 +276,7 @@ equal_buffers = stable-by-numbers here [] classes refl first_nets each
     each zero below m n is_m is_n = self 0 m n is_m is_n
     each (suc zero) below m n is_m is_n = self 1 m n is_m is_n
     each (suc (suc zero)) below m n is_m is_n =
-        subst (λ (o : Net). NetsAlike here [] classes 2 1 o n) (some-same (output 1) m is_m) (subst (NetsAlike here [] classes 2 1 (output 1)) (some-same (output 0) n is_n) second)
+        subst (λ (o : Net). NetsAlike here [] classes 2 1 o n) (some_same (output 1) m is_m) (subst (NetsAlike here [] classes 2 1 (output 1)) (some_same (output 0) n is_n) second)
     each (suc (suc (suc i))) below m n is_m is_n = absurd (omega (arith, below))
 
 -- one of them has two delays, each of them that of the other

@@ -4,15 +4,15 @@ use Rattle.std.specs.List.{AllZip}
 use Rattle.std.proofs.lemmas.List.{take_more}
 
 module _ {T : Type 0} (R : T → T → Type 0) where
-  zip-push : (xs ys : List T) (x y : T) → AllZip R xs ys → R x y → AllZip R (xs ++ x ∷ []) (ys ++ y ∷ [])
-  zip-push [] [] x y h r = (r, tt)
-  zip-push [] (b ∷ ys) x y h r = absurd h
-  zip-push (a ∷ xs) [] x y h r = absurd h
-  zip-push (a ∷ xs) (b ∷ ys) x y h r = (h.0, zip-push xs ys x y h.1 r)
+  zip_push : (xs ys : List T) (x y : T) → AllZip R xs ys → R x y → AllZip R (xs ++ x ∷ []) (ys ++ y ∷ [])
+  zip_push [] [] x y h r = (r, tt)
+  zip_push [] (b ∷ ys) x y h r = absurd h
+  zip_push (a ∷ xs) [] x y h r = absurd h
+  zip_push (a ∷ xs) (b ∷ ys) x y h r = (h.0, zip_push xs ys x y h.1 r)
 
-  pub zip-next : (xs ys : List T) (i : ℕ) (d d' : T) → i < length xs → i < length ys → R (get_or xs i d) (get_or ys i d') → AllZip R (take i xs) (take i ys) →
+  pub zip_next : (xs ys : List T) (i : ℕ) (d d' : T) → i < length xs → i < length ys → R (get_or xs i d) (get_or ys i d') → AllZip R (take i xs) (take i ys) →
       AllZip R (take (i + 1) xs) (take (i + 1) ys)
-  zip-next xs ys i d d' below below' here h =
+  zip_next xs ys i d d' below below' here h =
       subst (λ (l : List T). AllZip R l (take (i + 1) ys)) (sym (take_more xs i d below))
       (subst (λ (l : List T). AllZip R (take i xs ++ get_or xs i d ∷ []) l) (sym (take_more ys i d' below'))
-      (zip-push (take i xs) (take i ys) (get_or xs i d) (get_or ys i d') h here))
+      (zip_push (take i xs) (take i ys) (get_or xs i d) (get_or ys i d') h here))

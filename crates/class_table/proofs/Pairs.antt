@@ -9,57 +9,57 @@ use Rattle.flat_circuit.specs.declared.net.Net.{Net}
 use Rattle.flat_circuit.specs.Circuit.{Circuit}
 use Rattle.class_table.specs.Alike.{class_of, value_in, NetsAlike}
 use Rattle.class_table.specs.Stable.{AreAlikeAt, AreAlikeBefore, IsStable, AreNumbersOfNets, IsAsNumbersIn}
-use Rattle.class_table.proofs.Alike.{nets-self, nets-back, nets-both}
+use Rattle.class_table.proofs.Alike.{nets_self, nets_back, nets_both}
 
-pub some-same : (m n : Net) → ◌≡◌ {A = Option Net} (Some m) (Some n) → m ≡ n
-some-same m n e = cc
+pub some_same : (m n : Net) → ◌≡◌ {A = Option Net} (Some m) (Some n) → m ≡ n
+some_same m n e = cc
 
 -- a loop that looks at one number more
-pub next-one : (P : ℕ → Type 0) (n : ℕ) → ((i : ℕ) → i < n → P i) → P n → (i : ℕ) → i < n + 1 → P i
-next-one P n before here i within = go (cases_lt i n)
+pub next_one : (P : ℕ → Type 0) (n : ℕ) → ((i : ℕ) → i < n → P i) → P n → (i : ℕ) → i < n + 1 → P i
+next_one P n before here i within = go (cases_lt i n)
   where
     go : (i < n) ⊎ (n ≤ i) → P i
     go (inl less) = before i less
     go (inr last) = let there : n ≡ i = omega arith in subst P there here
 
-is-number : (k : List ℕ) (i : ℕ) → AreNumbersOfNets k → i < length k → slice_get k (class_of k i) ≡ Some (class_of k i)
-is-number k i numbers below = numbers i 0 below
+is_number : (k : List ℕ) (i : ℕ) → AreNumbersOfNets k → i < length k → slice_get k (class_of k i) ≡ Some (class_of k i)
+is_number k i numbers below = numbers i 0 below
 
-pub number-below : (k : List ℕ) (i : ℕ) → AreNumbersOfNets k → i < length k → class_of k i < length k
-number-below k i numbers below = slice_get_within k (class_of k i) (class_of k i) (is-number k i numbers below)
+pub number_below : (k : List ℕ) (i : ℕ) → AreNumbersOfNets k → i < length k → class_of k i < length k
+number_below k i numbers below = slice_get_within k (class_of k i) (class_of k i) (is_number k i numbers below)
 
 module _ (c : Circuit) (cases : List (List CaseValue)) (k : List ℕ) where
   -- ---- classes that have the number of one of their nets
 
-  pub as-its-number : (i : ℕ) → AreNumbersOfNets k → i < length k → IsStable c cases k → AreAlikeAt c cases k i (class_of k i)
-  as-its-number i numbers below stable =
-      stable i (class_of k i) (sym (get_or_from_slice_get k (class_of k i) (class_of k i) 0 (is-number k i numbers below)))
+  pub as_its_number : (i : ℕ) → AreNumbersOfNets k → i < length k → IsStable c cases k → AreAlikeAt c cases k i (class_of k i)
+  as_its_number i numbers below stable =
+      stable i (class_of k i) (sym (get_or_from_slice_get k (class_of k i) (class_of k i) 0 (is_number k i numbers below)))
 
-  pub stable-by-numbers : length k ≡ length c.nets → AreNumbersOfNets k → ((i : ℕ) → i < length c.nets → AreAlikeAt c cases k i (class_of k i)) → IsStable c cases k
-  stable-by-numbers one_each numbers each i j same m n is_m is_n =
+  pub stable_by_numbers : length k ≡ length c.nets → AreNumbersOfNets k → ((i : ℕ) → i < length c.nets → AreAlikeAt c cases k i (class_of k i)) → IsStable c cases k
+  stable_by_numbers one_each numbers each i j same m n is_m is_n =
       let below_i : i < length c.nets = slice_get_within c.nets i m is_m in
       let below_j : j < length c.nets = slice_get_within c.nets j n is_n in
       let there : class_of k i < length k =
-      slice_get_within k (class_of k i) (class_of k i) (is-number k i numbers (omega (arith, one_each, below_i))) in
+      slice_get_within k (class_of k i) (class_of k i) (is_number k i numbers (omega (arith, one_each, below_i))) in
       let is_first : slice_get c.nets (class_of k i) ≡ Some (get_or c.nets (class_of k i) m) =
       slice_get-get_or c.nets (class_of k i) m (omega (arith, one_each, there)) in
-      nets-both c cases k i j (class_of k i) m n (get_or c.nets (class_of k i) m)
+      nets_both c cases k i j (class_of k i) m n (get_or c.nets (class_of k i) m)
       (each i below_i m (get_or c.nets (class_of k i) m) is_m is_first)
       (subst (λ (r : ℕ). AreAlikeAt c cases k j r) (sym same) (each j below_j) n (get_or c.nets (class_of k i) m) is_n is_first)
 
   -- ---- whatever the numbers are
 
-  pub stable-by-pairs : ((i : ℕ) → i < length c.nets → AreAlikeBefore c cases k i) → IsStable c cases k
-  stable-by-pairs each i j same m n is_m is_n = go (cases_lt i j) (cases_lt j i)
+  pub stable_by_pairs : ((i : ℕ) → i < length c.nets → AreAlikeBefore c cases k i) → IsStable c cases k
+  stable_by_pairs each i j same m n is_m is_n = go (cases_lt i j) (cases_lt j i)
     where
       go : (i < j) ⊎ (j ≤ i) → (j < i) ⊎ (i ≤ j) → NetsAlike c cases k i j m n
-      go (inl before) either = nets-back c cases k j i n m (each j (slice_get_within c.nets j n is_n) i before (sym same) n m is_n is_m)
+      go (inl before) either = nets_back c cases k j i n m (each j (slice_get_within c.nets j n is_n) i before (sym same) n m is_n is_m)
       go (inr up_to) (inl after) = each i (slice_get_within c.nets i m is_m) j after same m n is_m is_n
       go (inr up_to) (inr down_to) =
           let there : i ≡ j = omega arith in
           let one : slice_get c.nets i ≡ slice_get c.nets j = ap (slice_get c.nets) there in
-          let net : m ≡ n = some-same m n (sym is_m ∙ one ∙ is_n) in
-          subst (λ (l : ℕ). NetsAlike c cases k i l m n) there (subst (λ (o : Net). NetsAlike c cases k i i m o) net (nets-self c cases k i m))
+          let net : m ≡ n = some_same m n (sym is_m ∙ one ∙ is_n) in
+          subst (λ (l : ℕ). NetsAlike c cases k i l m n) there (subst (λ (o : Net). NetsAlike c cases k i i m o) net (nets_self c cases k i m))
 
 -- ---- the cases apart from all else
 
@@ -73,28 +73,28 @@ apart c cases k stable i j same m n is_m is_n =
       drivers = alike.drivers;
     }
 
-net-at : (c : Circuit) (i : ℕ) → i < length c.nets → (m : Net) × (slice_get c.nets i ≡ Some m)
-net-at c i below = elim (slice_get_cases c.nets i).1 [
+net_at : (c : Circuit) (i : ℕ) → i < length c.nets → (m : Net) × (slice_get c.nets i ≡ Some m)
+net_at c i below = elim (slice_get_cases c.nets i).1 [
   | inl found ↦ (found.0, found.2)
   | inr past ↦ absurd (let far : length c.nets ≤ i = past.0 in omega (arith, far, below))
 ]
 
-pub values-as-numbers : (c : Circuit) (cases : List (List CaseValue)) (k : List ℕ) → length k ≡ length c.nets → AreNumbersOfNets k → IsStable c cases k →
+pub values_as_numbers : (c : Circuit) (cases : List (List CaseValue)) (k : List ℕ) → length k ≡ length c.nets → AreNumbersOfNets k → IsStable c cases k →
     All (IsAsNumbersIn (length c.nets) k) cases
-values-as-numbers c cases k one_each numbers stable place values within i below =
+values_as_numbers c cases k one_each numbers stable place values within i below =
     let below_k : i < length k = omega (arith, one_each, below) in
-    let number : class_of k i < length k = number-below k i numbers below_k in
-    let m = net-at c i below in
-    let n = net-at c (class_of k i) (omega (arith, one_each, number)) in
-    (as-its-number c cases k i numbers below_k stable m.0 n.0 m.1 n.1).values place values within
+    let number : class_of k i < length k = number_below k i numbers below_k in
+    let m = net_at c i below in
+    let n = net_at c (class_of k i) (omega (arith, one_each, number)) in
+    (as_its_number c cases k i numbers below_k stable m.0 n.0 m.1 n.1).values place values within
 
-pub stable-with-values : (c : Circuit) (cases : List (List CaseValue)) (k : List ℕ) → length k ≡ length c.nets → AreNumbersOfNets k → IsStable c [] k →
+pub stable_with_values : (c : Circuit) (cases : List (List CaseValue)) (k : List ℕ) → length k ≡ length c.nets → AreNumbersOfNets k → IsStable c [] k →
     All (IsAsNumbersIn (length c.nets) k) cases → IsStable c cases k
-stable-with-values c cases k one_each numbers stable values =
-    stable-by-numbers c cases k one_each numbers (λ i below m n is_m is_n.
-    let alike = as-its-number c [] k i numbers (omega (arith, one_each, below)) stable m n is_m is_n in
+stable_with_values c cases k one_each numbers stable values =
+    stable_by_numbers c cases k one_each numbers (λ i below m n is_m is_n.
+    let alike = as_its_number c [] k i numbers (omega (arith, one_each, below)) stable m n is_m is_n in
     record { spec = alike.spec; wire = alike.wire; values = λ place d within. values place d within i below; drivers = alike.drivers })
 
-pub either-way : {A B : Type 0} (b : Bool) → (A → B) → (B → A) → MatchBool b A (¬ A) → MatchBool b B (¬ B)
-either-way true to from h = to h
-either-way false to from h = λ is. h (from is)
+pub either_way : {A B : Type 0} (b : Bool) → (A → B) → (B → A) → MatchBool b A (¬ A) → MatchBool b B (¬ B)
+either_way true to from h = to h
+either_way false to from h = λ is. h (from is)

@@ -9,8 +9,8 @@ use Rattle.design_gen.specs.Text.{line}
 use Rattle.design_gen.specs.Datapath.{head, assertion, change_line, checker_line, register_line, section, datapath}
 
 -- one section more, behind those before it
-pub section-more : (n : ℕ) → concat (map section (range_with_len 1 (n + 1))) ≡ concat (map section (range_with_len 1 n)) ++ section (n + 1)
-section-more n =
+pub section_more : (n : ℕ) → concat (map section (range_with_len 1 (n + 1))) ≡ concat (map section (range_with_len 1 n)) ++ section (n + 1)
+section_more n =
     ap concat (map-range_with_len_more section 1 n (n + 1) (omega arith))
     ∙ concat-append (map section (range_with_len 1 n)) (section (n + 1) ∷ [])
     ∙ ap (λ (l : List ℕ). concat (map section (range_with_len 1 n)) ++ l) (append-nil (section (n + 1)))
@@ -21,79 +21,79 @@ abbrev total : List (List ℕ) → ℕ
 total [] = 0
 total (x ∷ xs) = length x + total xs
 
-line-length : (texts : List (List ℕ)) → length (line texts) ≡ total texts + 1
-line-length [] = refl
-line-length (x ∷ xs) = omega (arith, length-append x (concat xs), length-append (x ++ concat xs) (10 ∷ []), length-append (concat xs) (10 ∷ []), line-length xs)
+line_length : (texts : List (List ℕ)) → length (line texts) ≡ total texts + 1
+line_length [] = refl
+line_length (x ∷ xs) = omega (arith, length-append x (concat xs), length-append (x ++ concat xs) (10 ∷ []), length-append (concat xs) (10 ∷ []), line_length xs)
 
-short-line : (texts : List (List ℕ)) (n : ℕ) → total texts < n → length (line texts) ≤ n
-short-line texts n short = omega (arith, short, line-length texts)
+short_line : (texts : List (List ℕ)) (n : ℕ) → total texts < n → length (line texts) ≤ n
+short_line texts n short = omega (arith, short, line_length texts)
 
-digits-short : (i : ℕ) → i < 65536 → length (decimal i) ≤ 5
-digits-short i few = length-decimal-le 5 i (omega arith) (omega arith) (omega arith)
+digits_short : (i : ℕ) → i < 65536 → length (decimal i) ≤ 5
+digits_short i few = length-decimal-le 5 i (omega arith) (omega arith) (omega arith)
 
-assertion-short : (i : ℕ) → length (assertion i) ≤ 6
+assertion_short : (i : ℕ) → length (assertion i) ≤ 6
 unfolding assertion
-assertion-short i = either (i == 1)
+assertion_short i = either (i == 1)
   where
     either : (first : Bool) → length (if first then codes " .S4-3" else []) ≤ 6
     either true = omega arith
     either false = omega arith
 
-abbrev change-texts : ℕ → List (List ℕ)
-change-texts i =
+abbrev change_texts : ℕ → List (List ℕ)
+change_texts i =
     codes "g" ∷ decimal i ∷ codes " : CHG [20:60] (\"Q" ∷ decimal (i - 1) ∷ assertion i ∷ codes "\"<0:7>) -> (\"D" ∷ decimal i ∷ codes "\"<0:7>);" ∷ []
 
-change-short : (i : ℕ) → i < 65536 → length (change_line i) ≤ 80
+change_short : (i : ℕ) → i < 65536 → length (change_line i) ≤ 80
 unfolding change_line
-change-short i few = short-line (change-texts i) 80 (omega (arith, digits-short i few, digits-short (i - 1) (omega (arith, few)), assertion-short i))
+change_short i few = short_line (change_texts i) 80 (omega (arith, digits_short i few, digits_short (i - 1) (omega (arith, few)), assertion_short i))
 
-abbrev checker-texts : ℕ → List (List ℕ)
-checker-texts i = codes "c" ∷ decimal i ∷ codes " : SETUP_HOLD_CHK {SETUP=20, HOLD=5} (\"CK .P2-3\", \"D" ∷ decimal i ∷ codes "\"<0:7>);" ∷ []
+abbrev checker_texts : ℕ → List (List ℕ)
+checker_texts i = codes "c" ∷ decimal i ∷ codes " : SETUP_HOLD_CHK {SETUP=20, HOLD=5} (\"CK .P2-3\", \"D" ∷ decimal i ∷ codes "\"<0:7>);" ∷ []
 
-checker-short : (i : ℕ) → i < 65536 → length (checker_line i) ≤ 80
+checker_short : (i : ℕ) → i < 65536 → length (checker_line i) ≤ 80
 unfolding checker_line
-checker-short i few = short-line (checker-texts i) 80 (omega (arith, digits-short i few))
+checker_short i few = short_line (checker_texts i) 80 (omega (arith, digits_short i few))
 
-abbrev register-texts : ℕ → List (List ℕ)
-register-texts i = codes "r" ∷ decimal i ∷ codes " : REG [5:10] (\"CK .P2-3\", \"D" ∷ decimal i ∷ codes "\"<0:7>) -> (\"Q" ∷ decimal i ∷ codes "\"<0:7>);" ∷ []
+abbrev register_texts : ℕ → List (List ℕ)
+register_texts i = codes "r" ∷ decimal i ∷ codes " : REG [5:10] (\"CK .P2-3\", \"D" ∷ decimal i ∷ codes "\"<0:7>) -> (\"Q" ∷ decimal i ∷ codes "\"<0:7>);" ∷ []
 
-register-short : (i : ℕ) → i < 65536 → length (register_line i) ≤ 80
+register_short : (i : ℕ) → i < 65536 → length (register_line i) ≤ 80
 unfolding register_line
-register-short i few = short-line (register-texts i) 80 (omega (arith, digits-short i few))
+register_short i few = short_line (register_texts i) 80 (omega (arith, digits_short i few))
 
-section-short : (i : ℕ) → i < 65536 → length (section i) ≤ 240
-section-short i few =
+section_short : (i : ℕ) → i < 65536 → length (section i) ≤ 240
+section_short i few =
     omega (
       arith,
       length-append (change_line i ++ checker_line i) (register_line i),
       length-append (change_line i) (checker_line i),
-      change-short i few,
-      checker-short i few,
-      register-short i few,
+      change_short i few,
+      checker_short i few,
+      register_short i few,
     )
 
-sections-short : (n : ℕ) → n < 65536 → length (concat (map section (range_with_len 1 n))) ≤ 240 * n
-sections-short zero few = omega arith
-sections-short (suc n) few =
+sections_short : (n : ℕ) → n < 65536 → length (concat (map section (range_with_len 1 n))) ≤ 240 * n
+sections_short zero few = omega arith
+sections_short (suc n) few =
     let next : suc n ≡ n + 1 = omega arith in
     let same = ap (λ (k : ℕ). length (concat (map section (range_with_len 1 k)))) next in
     omega (
       arith,
       same,
-      ap length (section-more n),
+      ap length (section_more n),
       length-append (concat (map section (range_with_len 1 n))) (section (n + 1)),
-      sections-short n (omega (arith, few)),
-      section-short (n + 1) (omega (arith, few)),
+      sections_short n (omega (arith, few)),
+      section_short (n + 1) (omega (arith, few)),
     )
 
-head-short : length head ≤ 48
+head_short : length head ≤ 48
 unfolding head
-head-short = omega arith
+head_short = omega arith
 
 -- A drawing has at most 240 bytes a section, and 53 more.
-pub datapath-short : (n : ℕ) → n < 65536 → length (datapath n) ≤ 240 * n + 53
+pub datapath_short : (n : ℕ) → n < 65536 → length (datapath n) ≤ 240 * n + 53
 unfolding datapath
-datapath-short n few =
+datapath_short n few =
     let middle = concat (map section (range_with_len 1 n)) in
     let last : length (line (codes "END;" ∷ [])) ≡ 5 = refl in
-    omega (arith, last, length-append (head ++ middle) (line (codes "END;" ∷ [])), length-append head middle, head-short, sections-short n few)
+    omega (arith, last, length-append (head ++ middle) (line (codes "END;" ∷ [])), length-append head middle, head_short, sections_short n few)

@@ -143,14 +143,14 @@ one_double ds r s a b =
 judged_same : (ts : List Lexeme) (w u : Written whole) → IsText ts w → IsText ts u → judged (values w).0.header ≡ judged (values u).0.header
 judged_same ts w u a b = ap (λ (s : Sketch). judged s.header) (sketches ts w u a b)
 
-ok-err : (j : Result Header Refusal) (h : Header) (r : Refusal) → j ≡ Ok h → j ≡ Err r → ⊥
-ok-err j h r a b = cc
+ok_err : (j : Result Header Refusal) (h : Header) (r : Refusal) → j ≡ Ok h → j ≡ Err r → ⊥
+ok_err j h r a b = cc
 
-ok-ok : (j : Result Header Refusal) (h k : Header) → j ≡ Ok h → j ≡ Ok k → h ≡ k
-ok-ok j h k a b = cc
+ok_ok : (j : Result Header Refusal) (h k : Header) → j ≡ Ok h → j ≡ Ok k → h ≡ k
+ok_ok j h k a b = cc
 
-err-err : (j : Result Header Refusal) (r s : Refusal) → j ≡ Err r → j ≡ Err s → r ≡ s
-err-err j r s a b = cc
+err_err : (j : Result Header Refusal) (r s : Refusal) → j ≡ Err r → j ≡ Err s → r ≡ s
+err_err j r s a b = cc
 
 pub one_drawing : (ts : List Lexeme) (d e : tree.Drawing) → Draws ts d → Draws ts e → d ≡ e
 one_drawing ts d e a b = sym a.stands ∙ (ap drawing_of_sketch (sketches ts a.written b.written a.text b.text) ∙ b.stands)
@@ -159,7 +159,7 @@ one_drawing ts d e a b = sym a.stands ∙ (ap drawing_of_sketch (sketches ts a.w
 good_same : (ts : List Lexeme) (w u : Written whole) (h k : Header) → IsText ts w → IsText ts u →
     judged (values w).0.header ≡ Ok h → judged (values u).0.header ≡ Ok k → AreGood h (names w) → AreGood k (names u)
 good_same ts w u h k a b e f good =
-    let one : h ≡ k = ok-ok (judged (values u).0.header) h k (sym (judged_same ts w u a b) ∙ e) f in
+    let one : h ≡ k = ok_ok (judged (values u).0.header) h k (sym (judged_same ts w u a b) ∙ e) f in
     let F : List Naming → Type 0 = λ ns. AreGood h ns in
     let G : Header → Type 0 = λ x. AreGood x (names u) in
     subst G one (subst F (same_names ts w u a b) good)
@@ -167,14 +167,14 @@ good_same ts w u h k a b e f good =
 bad_same : (ts : List Lexeme) (w u : Written whole) (h k : Header) (r : Refusal) → IsText ts w → IsText ts u →
     judged (values w).0.header ≡ Ok h → judged (values u).0.header ≡ Ok k → IsBadName h (names w) r → IsBadName k (names u) r
 bad_same ts w u h k r a b e f bad =
-    let one : h ≡ k = ok-ok (judged (values u).0.header) h k (sym (judged_same ts w u a b) ∙ e) f in
+    let one : h ≡ k = ok_ok (judged (values u).0.header) h k (sym (judged_same ts w u a b) ∙ e) f in
     let F : List Naming → Type 0 = λ ns. IsBadName h ns r in
     let G : Header → Type 0 = λ x. IsBadName x (names u) r in
     subst G one (subst F (same_names ts w u a b) bad)
 
 pub draws_is_not_wrong : (ts : List Lexeme) (d : tree.Drawing) (r : Refusal) → Draws ts d → IsWrong ts r → ⊥
 draws_is_not_wrong ts d r a (grammar wrong) = written_not_refused ts a.written r a.text wrong
-draws_is_not_wrong ts d r a (header w text e) = ok-err (judged (values w).0.header) d.header r (judged_same ts w a.written text a.text ∙ a.header) e
+draws_is_not_wrong ts d r a (header w text e) = ok_err (judged (values w).0.header) d.header r (judged_same ts w a.written text a.text ∙ a.header) e
 draws_is_not_wrong ts d r a (name w h text e bad) =
     not_good h (names w) r bad (good_same ts a.written w d.header h a.text text a.header e a.names)
 draws_is_not_wrong ts d r a (double w h text e good wrong) =
@@ -187,16 +187,16 @@ one_wrong ts r s (grammar a) (header w text e) = absurd (written_not_refused ts 
 one_wrong ts r s (grammar a) (name w h text e bad) = absurd (written_not_refused ts w r text a)
 one_wrong ts r s (grammar a) (double w h text e good wrong) = absurd (written_not_refused ts w r text a)
 one_wrong ts r s (header w text e) (grammar b) = absurd (written_not_refused ts w s text b)
-one_wrong ts r s (header w text e) (header u other f) = err-err (judged (values w).0.header) r s e (judged_same ts w u text other ∙ f)
-one_wrong ts r s (header w text e) (name u h other f bad) = absurd (ok-err (judged (values w).0.header) h r (judged_same ts w u text other ∙ f) e)
-one_wrong ts r s (header w text e) (double u h other f good wrong) = absurd (ok-err (judged (values w).0.header) h r (judged_same ts w u text other ∙ f) e)
+one_wrong ts r s (header w text e) (header u other f) = err_err (judged (values w).0.header) r s e (judged_same ts w u text other ∙ f)
+one_wrong ts r s (header w text e) (name u h other f bad) = absurd (ok_err (judged (values w).0.header) h r (judged_same ts w u text other ∙ f) e)
+one_wrong ts r s (header w text e) (double u h other f good wrong) = absurd (ok_err (judged (values w).0.header) h r (judged_same ts w u text other ∙ f) e)
 one_wrong ts r s (name w h text e bad) (grammar b) = absurd (written_not_refused ts w s text b)
-one_wrong ts r s (name w h text e bad) (header u other f) = absurd (ok-err (judged (values u).0.header) h s (judged_same ts u w other text ∙ e) f)
+one_wrong ts r s (name w h text e bad) (header u other f) = absurd (ok_err (judged (values u).0.header) h s (judged_same ts u w other text ∙ e) f)
 one_wrong ts r s (name w h text e bad) (name u k other f bad') = one_bad_name k (names u) r s (bad_same ts w u h k r text other e f bad) bad'
 one_wrong ts r s (name w h text e bad) (double u k other f good wrong) =
     absurd (not_good k (names u) r (bad_same ts w u h k r text other e f bad) good)
 one_wrong ts r s (double w h text e good wrong) (grammar b) = absurd (written_not_refused ts w s text b)
-one_wrong ts r s (double w h text e good wrong) (header u other f) = absurd (ok-err (judged (values u).0.header) h s (judged_same ts u w other text ∙ e) f)
+one_wrong ts r s (double w h text e good wrong) (header u other f) = absurd (ok_err (judged (values u).0.header) h s (judged_same ts u w other text ∙ e) f)
 one_wrong ts r s (double w h text e good wrong) (name u k other f bad) =
     absurd (not_good k (names u) s bad (good_same ts w u h k text other e f good))
 one_wrong ts r s (double w h text e good wrong) (double u k other f good' wrong') =

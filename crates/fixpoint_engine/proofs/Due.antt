@@ -10,19 +10,19 @@ use Rattle.step_values.specs.declared.value.Value.{Value}
 use Rattle.skew_algebra.specs.Wave.{Wave}
 use Rattle.flat_circuit.specs.Circuit.{Circuit, driver}
 use Rattle.net_waves.specs.Waves.{Waves}
-use Rattle.net_waves.proofs.Marks.{count-marks}
+use Rattle.net_waves.proofs.Marks.{count_marks}
 use Rattle.fixpoint_engine.specs.Rounds.{evaluated, round}
 use Rattle.fixpoint_engine.specs.Work.{same_wave, differs, hears_in, is_due}
 use Rattle.fixpoint_engine.specs.Settled.{marked_in}
 use Rattle.fixpoint_engine.specs.Worklist.{Queue, IsQueue, among}
-use Rattle.fixpoint_engine.proofs.Same.{same_wave-is, same_wave-self}
+use Rattle.fixpoint_engine.proofs.Same.{same_wave_is, same_wave_self}
 use Rattle.fixpoint_engine.proofs.Changing.{moves}
-use Rattle.fixpoint_engine.proofs.Reached.{undue-stays, due-takes}
+use Rattle.fixpoint_engine.proofs.Reached.{undue_stays, due_takes}
 
 -- ---- the nets that wait
 
-pub among-waiting : (q : Queue) (i : ℕ) → IsQueue q → among q.nets i ≡ marked_in q.marks i
-among-waiting q i queue = both_ways (among q.nets i) (marked_in q.marks i) to from
+pub among_waiting : (q : Queue) (i : ℕ) → IsQueue q → among q.nets i ≡ marked_in q.marks i
+among_waiting q i queue = both_ways (among q.nets i) (marked_in q.marks i) to from
   where
     to : among q.nets i ≡ true → marked_in q.marks i ≡ true
     to any =
@@ -33,36 +33,36 @@ among-waiting q i queue = both_ways (among q.nets i) (marked_in q.marks i) to fr
     from marked = let at = (queue.are i).0 marked in list_any-from_Any (λ net. net == i) q.nets (at.0, i, at.1, at.2, eq-eqb i i refl)
 
 -- as many wait as are due
-pub waiting-count : (c : Circuit) (due : ℕ → Bool) (q : Queue) → IsQueue q → length q.marks ≡ length c.nets →
+pub waiting_count : (c : Circuit) (due : ℕ → Bool) (q : Queue) → IsQueue q → length q.marks ≡ length c.nets →
     ((i : ℕ) → marked_in q.marks i ≡ due i) → length q.nets ≡ count_by due (range_with_len 0 (length c.nets))
-waiting-count c due q queue each is =
+waiting_count c due q queue each is =
     let marks : q.marks ≡ map due (range_with_len 0 (length c.nets)) = fill_by_all due q.marks (length c.nets) false each (λ k below. is k) in
-    queue.once ∙ count-marks (λ b. b) due q.marks (range_with_len 0 (length c.nets)) (map-id q.marks ∙ marks)
+    queue.once ∙ count_marks (λ b. b) due q.marks (range_with_len 0 (length c.nets)) (map-id q.marks ∙ marks)
 
 -- ---- the nets that are due
 
-pub first-due : (c : Circuit) (active : ℕ → Bool) (rounds : ℕ → Waves) (i : ℕ) → is_due c active rounds 1 i ≡ active i
+pub first_due : (c : Circuit) (active : ℕ → Bool) (rounds : ℕ → Waves) (i : ℕ) → is_due c active rounds 1 i ≡ active i
 unfolding is_due
-first-due c active rounds i = refl
+first_due c active rounds i = refl
 
-pub later-due : (c : Circuit) (active : ℕ → Bool) (rounds : ℕ → Waves) (r i : ℕ) → is_due c active rounds (suc (suc r)) i ≡ (active i && hears_in (differs (rounds r) (rounds (suc r))) (driver c i))
+pub later_due : (c : Circuit) (active : ℕ → Bool) (rounds : ℕ → Waves) (r i : ℕ) → is_due c active rounds (suc (suc r)) i ≡ (active i && hears_in (differs (rounds r) (rounds (suc r))) (driver c i))
 unfolding is_due
-later-due c active rounds r i = refl
+later_due c active rounds r i = refl
 
 -- what the evaluation of a net in round r changes
-pub changes-is : (c : Circuit) (active : ℕ → Bool) (start : Waves) (r i : ℕ) → (is_due c active (round c active start) (suc r) i
+pub changes_is : (c : Circuit) (active : ℕ → Bool) (start : Waves) (r i : ℕ) → (is_due c active (round c active start) (suc r) i
     && moves c (round c active start r) i) ≡ differs (round c active start r) (round c active start (suc r)) i
-changes-is c active start r i = by (is_due c active (round c active start) (suc r) i) refl
+changes_is c active start r i = by (is_due c active (round c active start) (suc r) i) refl
   where
     turned : (w v : Wave Value) → same_wave w v ≡ same_wave v w
-    turned w v = both_ways (same_wave w v) (same_wave v w) (λ same. flip w v (same_wave-is w v same)) (λ same. flip v w (same_wave-is v w same))
+    turned w v = both_ways (same_wave w v) (same_wave v w) (λ same. flip w v (same_wave_is w v same)) (λ same. flip v w (same_wave_is v w same))
       where
         flip : (w v : Wave Value) → w ≡ v → same_wave v w ≡ true
-        flip w v same = ap (same_wave v) same ∙ same_wave-self v
+        flip w v same = ap (same_wave v) same ∙ same_wave_self v
 
     by : (due : Bool) → is_due c active (round c active start) (suc r) i ≡ due → (due && moves c (round c active start r) i) ≡ differs (round c active start r) (round c active start (suc r)) i
     by true due =
         ap not (turned (evaluated c (round c active start r) i) (round c active start r i))
-        ∙ ap (λ (w : Wave Value). not (same_wave (round c active start r i) w)) (sym (due-takes c active start r i due))
+        ∙ ap (λ (w : Wave Value). not (same_wave (round c active start r i) w)) (sym (due_takes c active start r i due))
     by false undue =
-        sym (ap (λ (w : Wave Value). not (same_wave (round c active start r i) w)) (undue-stays c active start r i undue) ∙ ap not (same_wave-self (round c active start r i)))
+        sym (ap (λ (w : Wave Value). not (same_wave (round c active start r i) w)) (undue_stays c active start r i undue) ∙ ap not (same_wave_self (round c active start r i)))

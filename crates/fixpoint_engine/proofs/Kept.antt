@@ -21,7 +21,7 @@ use Rattle.class_table.specs.Alike.{class_of}
 use Rattle.class_table.specs.Stable.{IsStable}
 use Rattle.net_waves.specs.Waves.{Waves, waves_of, FitWaves}
 use Rattle.net_waves.proofs.Fits.{AreLong}
-use Rattle.net_waves.proofs.WavesOf.{set-at}
+use Rattle.net_waves.proofs.WavesOf.{set_at}
 use Rattle.fixpoint_engine.specs.declared.rounds.EngineEnd.{EngineEnd}
 use Rattle.fixpoint_engine.specs.Reach.{reach}
 use Rattle.fixpoint_engine.specs.Rounds.{evaluated, round, AreSame}
@@ -31,18 +31,18 @@ use Rattle.fixpoint_engine.specs.End.{EndsAt, EndsFor}
 use Rattle.fixpoint_engine.specs.Worklist.{Queue, IsQueue, Change, changes_of, changed, among}
 use Rattle.fixpoint_engine.specs.Classes.{HaveOneWave, AreTogether, OneStandsForAll, is_first, due_classes, class_work_to}
 use Rattle.fixpoint_engine.specs.Members.{for_classes, numbers_in, for_all}
-use Rattle.fixpoint_engine.proofs.Same.{same_wave-is, same_wave-self}
-use Rattle.fixpoint_engine.proofs.Drivers.{active-past}
-use Rattle.fixpoint_engine.proofs.Listening.{hears-same}
-use Rattle.fixpoint_engine.proofs.Changing.{moves, changed-nets, changes-exist, nets-made}
-use Rattle.fixpoint_engine.proofs.Waiting.{waiting-below, waiting-few}
-use Rattle.fixpoint_engine.proofs.Reached.{Reached, reached-start, undue-stays, due-takes}
-use Rattle.fixpoint_engine.proofs.Due.{among-waiting, waiting-count, changes-is, first-due, later-due}
-use Rattle.fixpoint_engine.proofs.Sound.{round-sound}
-use Rattle.fixpoint_engine.proofs.Turns.{nets_of, Turn, turn-rests, turn-reaches, turn-fits, turn-ends}
-use Rattle.fixpoint_engine.proofs.Classes.{differ-together, rounds-same}
-use Rattle.fixpoint_engine.proofs.Members.{is_with, nets_in, nets-for-classes, exist-for-classes, waves-for-classes, IsTo}
-use Rattle.fixpoint_engine.proofs.Alone.{for-all-is}
+use Rattle.fixpoint_engine.proofs.Same.{same_wave_is, same_wave_self}
+use Rattle.fixpoint_engine.proofs.Drivers.{active_past}
+use Rattle.fixpoint_engine.proofs.Listening.{hears_same}
+use Rattle.fixpoint_engine.proofs.Changing.{moves, changed_nets, changes_exist, nets_made}
+use Rattle.fixpoint_engine.proofs.Waiting.{waiting_below, waiting_few}
+use Rattle.fixpoint_engine.proofs.Reached.{Reached, reached_start, undue_stays, due_takes}
+use Rattle.fixpoint_engine.proofs.Due.{among_waiting, waiting_count, changes_is, first_due, later_due}
+use Rattle.fixpoint_engine.proofs.Sound.{round_sound}
+use Rattle.fixpoint_engine.proofs.Turns.{nets_of, Turn, turn_rests, turn_reaches, turn_fits, turn_ends}
+use Rattle.fixpoint_engine.proofs.Classes.{differ_together, rounds_same}
+use Rattle.fixpoint_engine.proofs.Members.{is_with, nets_in, nets_for_classes, exist_for_classes, waves_for_classes, IsTo}
+use Rattle.fixpoint_engine.proofs.Alone.{for_all_is}
 
 -- ---- the first net of a class
 
@@ -75,14 +75,14 @@ leader ks (suc bound) i below = by (list_any (λ j. class_of ks j == class_of ks
 -- ---- changes to given waves
 
 -- A net has the wave that it changes to, or the one that it had.
-changed-to : (ws : Waves) (changes : List Change) (waves : List (Wave Value)) (i : ℕ) → All (λ (ch : Change). ch.0 < length waves) changes → All (IsTo ws) changes →
+changed_to : (ws : Waves) (changes : List Change) (waves : List (Wave Value)) (i : ℕ) → All (λ (ch : Change). ch.0 < length waves) changes → All (IsTo ws) changes →
     waves_of (changed waves changes) i ≡ cond (nets_of changes i) (ws i) (waves_of waves i)
-changed-to ws [] waves i exist to = refl
-changed-to ws (ch ∷ changes) waves i exist to =
-    changed-to ws changes (set waves ch.0 ch.1) i
+changed_to ws [] waves i exist to = refl
+changed_to ws (ch ∷ changes) waves i exist to =
+    changed_to ws changes (set waves ch.0 ch.1) i
     (subst (λ (long : ℕ). All (λ (one : Change). one.0 < long) changes) (sym (length-set waves ch.0 ch.1)) (All-tail (λ (one : Change). one.0 < length waves) ch changes exist))
     (All-tail (IsTo ws) ch changes to)
-    ∙ (λ k. cond (nets_of changes i) (ws i) (set-at waves ch.0 i ch.1 (All-head (λ (one : Change). one.0 < length waves) ch changes exist) k))
+    ∙ (λ k. cond (nets_of changes i) (ws i) (set_at waves ch.0 i ch.1 (All-head (λ (one : Change). one.0 < length waves) ch changes exist) k))
     ∙ by (ch.0 == i) refl (nets_of changes i)
   where
     by : (here : Bool) → (ch.0 == i) ≡ here → (later : Bool) → cond later (ws i) (cond here ch.1 (waves_of waves i)) ≡ cond (here || later) (ws i) (waves_of waves i)
@@ -92,10 +92,10 @@ changed-to ws (ch ∷ changes) waves i exist to =
 
 -- ---- what has been found
 
-work-more : (c : Circuit) (ks : List ℕ) (active : ℕ → Bool) (rounds : ℕ → Waves) (r : ℕ) →
+work_more : (c : Circuit) (ks : List ℕ) (active : ℕ → Bool) (rounds : ℕ → Waves) (r : ℕ) →
     class_work_to c ks active rounds (suc r) ≡ class_work_to c ks active rounds r + due_classes c ks active rounds (suc r)
 unfolding class_work_to
-work-more c ks active rounds r = refl
+work_more c ks active rounds r = refl
 
 -- After r rounds: the waves are those of round r, the queue has the first nets of the classes that are due in the next round,
 -- and so many evaluations were made.
@@ -114,43 +114,43 @@ pub record IsMade (c : Circuit) (ks : List ℕ) (waves : List (Wave Value)) (q :
 
 module _ (c : Circuit) (active : ℕ → Bool) (ks : List ℕ) (start : Waves) (are : OneStandsForAll c active ks start) where
   -- nets of one class differ in the same rounds
-  differ-same : (r : ℕ) → AreTogether c ks (differs (round c active start r) (round c active start (suc r)))
-  differ-same r = differ-together c ks (round c active start r) (round c active start (suc r)) (are.one r) (are.one (suc r))
+  differ_same : (r : ℕ) → AreTogether c ks (differs (round c active start r) (round c active start (suc r)))
+  differ_same r = differ_together c ks (round c active start r) (round c active start (suc r)) (are.one r) (are.one (suc r))
 
   -- none past the last net does
-  none-differs : (r i : ℕ) → length c.nets ≤ i → differs (round c active start r) (round c active start (suc r)) i ≡ false
-  none-differs r i past =
-      ap (λ (w : Wave Value). not (same_wave (round c active start r i) w)) (undue-stays c active start r i (undue r)) ∙ ap not (same_wave-self (round c active start r i))
+  none_differs : (r i : ℕ) → length c.nets ≤ i → differs (round c active start r) (round c active start (suc r)) i ≡ false
+  none_differs r i past =
+      ap (λ (w : Wave Value). not (same_wave (round c active start r i) w)) (undue_stays c active start r i (undue r)) ∙ ap not (same_wave_self (round c active start r i))
     where
       undue : (r : ℕ) → is_due c active (round c active start) (suc r) i ≡ false
-      undue zero = first-due c active (round c active start) i ∙ are.none i past
-      undue (suc r) = later-due c active (round c active start) r i
+      undue zero = first_due c active (round c active start) i ∙ are.none i past
+      undue (suc r) = later_due c active (round c active start) r i
           ∙ ap (λ (b : Bool). b && hears_in (differs (round c active start r) (round c active start (suc r))) (driver c i)) (are.none i past)
 
   module _ (waves : List (Wave Value)) (q : Queue) (r evals : ℕ) (kept : Kept c active ks start waves q r evals) where
-    waves-are : waves_of waves ≡ round c active start r
-    waves-are = λ k i. kept.reached.is i k
+    waves_are : waves_of waves ≡ round c active start r
+    waves_are = λ k i. kept.reached.is i k
 
-    waiting-is : IsQueue q → (i : ℕ) → among q.nets i ≡ (is_first ks i && is_due c active (round c active start) (suc r) i)
-    waiting-is queue i = among-waiting q i queue ∙ kept.due i
+    waiting_is : IsQueue q → (i : ℕ) → among q.nets i ≡ (is_first ks i && is_due c active (round c active start) (suc r) i)
+    waiting_is queue i = among_waiting q i queue ∙ kept.due i
 
-    pub waiting-exist : IsQueue q → All (λ net. net < length c.nets) q.nets
-    waiting-exist queue = subst (λ (long : ℕ). All (λ net. net < long) q.nets) kept.each_net (waiting-below q queue)
+    pub waiting_exist : IsQueue q → All (λ net. net < length c.nets) q.nets
+    waiting_exist queue = subst (λ (long : ℕ). All (λ net. net < long) q.nets) kept.each_net (waiting_below q queue)
 
     -- the nets that change are the first ones of those that differ
-    firsts-change : IsQueue q → (i : ℕ) → nets_of (changes_of c (waves_of waves) q.nets) i ≡ (is_first ks i && differs (round c active start r) (round c active start (suc r)) i)
-    firsts-change queue i =
-        changed-nets c (waves_of waves) q.nets i
-        ∙ (λ k. waiting-is queue i k && moves c (waves-are k) i)
+    firsts_change : IsQueue q → (i : ℕ) → nets_of (changes_of c (waves_of waves) q.nets) i ≡ (is_first ks i && differs (round c active start r) (round c active start (suc r)) i)
+    firsts_change queue i =
+        changed_nets c (waves_of waves) q.nets i
+        ∙ (λ k. waiting_is queue i k && moves c (waves_are k) i)
         ∙ and_assoc (is_first ks i) (is_due c active (round c active start) (suc r) i) (moves c (round c active start r) i)
-        ∙ ap (λ (b : Bool). is_first ks i && b) (changes-is c active start r i)
+        ∙ ap (λ (b : Bool). is_first ks i && b) (changes_is c active start r i)
 
     -- a class has a net that changes where its nets differ
-    class-changes : IsQueue q → (i : ℕ) → i < length c.nets → is_with ks (nets_in (changes_of c (waves_of waves) q.nets)) i ≡ differs (round c active start r) (round c active start (suc r)) i
-    class-changes queue i below = both_ways _ _ to from
+    class_changes : IsQueue q → (i : ℕ) → i < length c.nets → is_with ks (nets_in (changes_of c (waves_of waves) q.nets)) i ≡ differs (round c active start r) (round c active start (suc r)) i
+    class_changes queue i below = both_ways _ _ to from
       where
         exist : All (λ net. net < length c.nets) (nets_in (changes_of c (waves_of waves) q.nets))
-        exist = All-map (λ net. net < length c.nets) (λ (ch : Change). ch.0) (changes_of c (waves_of waves) q.nets) (changes-exist c (waves_of waves) q.nets (length c.nets) (waiting-exist queue))
+        exist = All-map (λ net. net < length c.nets) (λ (ch : Change). ch.0) (changes_of c (waves_of waves) q.nets) (changes_exist c (waves_of waves) q.nets (length c.nets) (waiting_exist queue))
 
         to : is_with ks (nets_in (changes_of c (waves_of waves) q.nets)) i ≡ true → differs (round c active start r) (round c active start (suc r)) i ≡ true
         to any =
@@ -158,51 +158,51 @@ module _ (c : Circuit) (active : ℕ → Bool) (ks : List ℕ) (start : Waves) (
             let listed : nets_of (changes_of c (waves_of waves) q.nets) at.1 ≡ true = list_any-from_Any (λ net. net == at.1)
             (nets_in (changes_of c (waves_of waves) q.nets)) (at.0, at.1, at.2, at.3, eq-eqb at.1 at.1 refl) in
             let there : at.1 < length c.nets = subst (λ (n : ℕ). n < length c.nets) at.3 (exist at.0 at.1 at.2) in
-            differ-same r i at.1 below there (sym (eqb-true (class_of ks at.1) (class_of ks i) at.4))
-            ∙ (and_parts (is_first ks at.1) (differs (round c active start r) (round c active start (suc r)) at.1) (sym (firsts-change queue at.1) ∙ listed)).1
+            differ_same r i at.1 below there (sym (eqb-true (class_of ks at.1) (class_of ks i) at.4))
+            ∙ (and_parts (is_first ks at.1) (differs (round c active start r) (round c active start (suc r)) at.1) (sym (firsts_change queue at.1) ∙ listed)).1
 
         from : differs (round c active start r) (round c active start (suc r)) i ≡ true → is_with ks (nets_in (changes_of c (waves_of waves) q.nets)) i ≡ true
         from differ =
             let lead = leader ks (suc i) i (omega arith) in
             let there : lead.0 < length c.nets = let before = lead.1.before in omega (arith, before, below) in
-            let moved : differs (round c active start r) (round c active start (suc r)) lead.0 ≡ true = differ-same r lead.0 i there below lead.1.same ∙ differ in
-            let listed : nets_of (changes_of c (waves_of waves) q.nets) lead.0 ≡ true = firsts-change queue lead.0
+            let moved : differs (round c active start r) (round c active start (suc r)) lead.0 ≡ true = differ_same r lead.0 i there below lead.1.same ∙ differ in
+            let listed : nets_of (changes_of c (waves_of waves) q.nets) lead.0 ≡ true = firsts_change queue lead.0
             ∙ and_from (is_first ks lead.0) (differs (round c active start r) (round c active start (suc r)) lead.0) lead.1.first moved in
             let at = Any-from_list_any (λ net. net == lead.0) (nets_in (changes_of c (waves_of waves) q.nets)) listed in
             list_any-from_Any (λ net. class_of ks net == class_of ks i) (nets_in (changes_of c (waves_of waves) q.nets))
             (at.0, at.1, at.2, at.3, eq-eqb (class_of ks at.1) (class_of ks i) (ap (class_of ks) (eqb-true at.1 lead.0 at.4) ∙ lead.1.same))
 
     module _ (made : List Change) (is : IsMade c ks waves q made) where
-      pub made-exist : All (λ (ch : Change). ch.0 < length c.nets) made
-      made-exist =
+      pub made_exist : All (λ (ch : Change). ch.0 < length c.nets) made
+      made_exist =
           subst (λ (chs : List Change). All (λ (ch : Change). ch.0 < length c.nets) chs) (sym is.is)
-          (subst (λ (long : ℕ). All (λ (ch : Change). ch.0 < long) (for_classes ks (changes_of c (waves_of waves) q.nets))) are.each_net (exist-for-classes ks (changes_of c (waves_of waves) q.nets)))
+          (subst (λ (long : ℕ). All (λ (ch : Change). ch.0 < long) (for_classes ks (changes_of c (waves_of waves) q.nets))) are.each_net (exist_for_classes ks (changes_of c (waves_of waves) q.nets)))
 
       -- The nets of the changes are those whose waves differ in the next round.
-      nets-are : (i : ℕ) → nets_of made i ≡ differs (round c active start r) (round c active start (suc r)) i
-      nets-are i = elim (cases_lt i (length c.nets)) [
+      nets_are : (i : ℕ) → nets_of made i ≡ differs (round c active start r) (round c active start (suc r)) i
+      nets_are i = elim (cases_lt i (length c.nets)) [
         | inl below ↦
             ap (λ (chs : List Change). nets_of chs i) is.is
-            ∙ nets-for-classes ks (changes_of c (waves_of waves) q.nets) i (let each = are.each_net in omega (arith, each, below))
-            ∙ class-changes is.queue i below
-        | inr past ↦ false_from_ne_true (nets_of made i) (λ any. no-net past any) ∙ sym (none-differs r i past)
+            ∙ nets_for_classes ks (changes_of c (waves_of waves) q.nets) i (let each = are.each_net in omega (arith, each, below))
+            ∙ class_changes is.queue i below
+        | inr past ↦ false_from_ne_true (nets_of made i) (λ any. no_net past any) ∙ sym (none_differs r i past)
       ]
         where
-          no-net : length c.nets ≤ i → nets_of made i ≡ true → ⊥
-          no-net past any =
+          no_net : length c.nets ≤ i → nets_of made i ≡ true → ⊥
+          no_net past any =
               let at = Any-from_list_any (λ net. net == i) (nets_in made) any in
-              let exist = All-map (λ net. net < length c.nets) (λ (ch : Change). ch.0) made made-exist in
+              let exist = All-map (λ net. net < length c.nets) (λ (ch : Change). ch.0) made made_exist in
               let there : at.1 < length c.nets = subst (λ (n : ℕ). n < length c.nets) at.3 (exist at.0 at.1 at.2) in
               let same : at.1 ≡ i = eqb-true at.1 i at.4 in
               omega (arith, there, same, past)
 
       -- Each change is to the wave of the next round.
-      made-to : All (IsTo (round c active start (suc r))) made
-      made-to =
+      made_to : All (IsTo (round c active start (suc r))) made
+      made_to =
           subst (λ (chs : List Change). All (IsTo (round c active start (suc r))) chs) (sym is.is)
-          (waves-for-classes ks (changes_of c (waves_of waves) q.nets) (round c active start (suc r)) one
+          (waves_for_classes ks (changes_of c (waves_of waves) q.nets) (round c active start (suc r)) one
           (subst (λ (long : ℕ). All (λ (ch : Change). ch.0 < long) (changes_of c (waves_of waves) q.nets)) (sym are.each_net)
-          (changes-exist c (waves_of waves) q.nets (length c.nets) (waiting-exist is.queue)))
+          (changes_exist c (waves_of waves) q.nets (length c.nets) (waiting_exist is.queue)))
           (All-filter _ (IsTo (round c active start (suc r))) (map (λ i. (i, evaluated c (waves_of waves) i)) q.nets)
           (All-map (IsTo (round c active start (suc r))) (λ i. (i, evaluated c (waves_of waves) i)) q.nets taken)))
         where
@@ -211,42 +211,42 @@ module _ (c : Circuit) (active : ℕ → Bool) (ks : List ℕ) (start : Waves) (
 
           takes : (i : ℕ) → marked_in q.marks i ≡ true → evaluated c (waves_of waves) i ≡ round c active start (suc r) i
           takes i marked =
-              (λ k. evaluated c (waves-are k) i)
-              ∙ sym (due-takes c active start r i (and_parts (is_first ks i) (is_due c active (round c active start) (suc r) i) (sym (kept.due i) ∙ marked)).1)
+              (λ k. evaluated c (waves_are k) i)
+              ∙ sym (due_takes c active start r i (and_parts (is_first ks i) (is_due c active (round c active start) (suc r) i) (sym (kept.due i) ∙ marked)).1)
 
           taken : All (λ i. evaluated c (waves_of waves) i ≡ round c active start (suc r) i) q.nets
           taken k d below = takes _ ((is.queue.are _).1 (Contains-get_or q.nets k d below))
 
       -- The changed waves are those of the next round.
-      next-is : AreSame (waves_of (changed waves made)) (round c active start (suc r))
-      next-is i =
-          changed-to (round c active start (suc r)) made waves i (subst (λ (long : ℕ). All (λ (ch : Change). ch.0 < long) made) (sym kept.fit.each_net) made-exist) made-to
+      next_is : AreSame (waves_of (changed waves made)) (round c active start (suc r))
+      next_is i =
+          changed_to (round c active start (suc r)) made waves i (subst (λ (long : ℕ). All (λ (ch : Change). ch.0 < long) made) (sym kept.fit.each_net) made_exist) made_to
           ∙ by (nets_of made i) refl
         where
           by : (new : Bool) → nets_of made i ≡ new → cond new (round c active start (suc r) i) (waves_of waves i) ≡ round c active start (suc r) i
           by true e = refl
-          by false e = kept.reached.is i ∙ same_wave-is (round c active start r i) (round c active start (suc r) i) (not-false _ (sym (nets-are i) ∙ e))
+          by false e = kept.reached.is i ∙ same_wave_is (round c active start r i) (round c active start (suc r) i) (not-false _ (sym (nets_are i) ∙ e))
 
       pub turn : Turn c active start waves r made
-      turn = record { nets = nets-are; next = next-is }
+      turn = record { nets = nets_are; next = next_is }
 
       pub rests : (limit : ℕ) → length made ≡ 0 → r ≤ limit → AreAtRest c active start limit r (waves_of waves)
-      rests limit none within = turn-rests c active start waves r kept.reached limit made turn none within
+      rests limit none within = turn_rests c active start waves r kept.reached limit made turn none within
 
       -- ---- how many evaluations
 
-      works-out : evals + length q.nets ≡ class_work_to c ks active (round c active start) (suc r)
-      works-out =
-          (λ k. kept.works k + waiting-count c (λ i. is_first ks i && is_due c active (round c active start) (suc r) i) q is.queue kept.each_net kept.due k)
-          ∙ sym (work-more c ks active (round c active start) r)
+      works_out : evals + length q.nets ≡ class_work_to c ks active (round c active start) (suc r)
+      works_out =
+          (λ k. kept.works k + waiting_count c (λ i. is_first ks i && is_due c active (round c active start) (suc r) i) q is.queue kept.each_net kept.due k)
+          ∙ sym (work_more c ks active (round c active start) r)
 
       pub works : (nets : List ℕ) → nets ≡ q.nets → evals + length nets ≡ class_work_to c ks active (round c active start) (r + 1)
       works nets same =
-          ap (λ (ns : List ℕ). evals + length ns) same ∙ works-out ∙ ap (class_work_to c ks active (round c active start)) (let e : suc r ≡ r + 1 = omega arith in e)
+          ap (λ (ns : List ℕ). evals + length ns) same ∙ works_out ∙ ap (class_work_to c ks active (round c active start)) (let e : suc r ≡ r + 1 = omega arith in e)
 
-      evals-fit : IsCircuit c → evals + length q.nets ≤ 65536 * (r + 1)
-      evals-fit known =
-          let few = waiting-few q is.queue in
+      evals_fit : IsCircuit c → evals + length q.nets ≤ 65536 * (r + 1)
+      evals_fit known =
+          let few = waiting_few q is.queue in
           let each = kept.each_net in
           let bound = kept.bound in
           let nets = known.few_nets in
@@ -254,21 +254,21 @@ module _ (c : Circuit) (active : ℕ → Bool) (ks : List ℕ) (start : Waves) (
 
       -- ---- the loop
 
-      pub kept-more : (after : List (Wave Value)) (more : Queue) (nets : List ℕ) (leading : ℕ → Bool) →
+      pub kept_more : (after : List (Wave Value)) (more : Queue) (nets : List ℕ) (leading : ℕ → Bool) →
           IsCircuit c → 0 < period c.header → AreLong c start → nets ≡ q.nets → 0 < length made → after ≡ changed waves made →
           length more.marks ≡ length c.nets → ((i : ℕ) → leading i ≡ (active i && is_first ks i)) → ((i : ℕ) → marked_in more.marks i ≡ (leading i && hears_in (nets_of made) (driver c i))) →
           Kept c active ks start after more (r + 1) (evals + length nets)
-      kept-more after more nets leading known some fit waiting moves same each lead refilled =
+      kept_more after more nets leading known some fit waiting moves same each lead refilled =
           subst (λ (ns : List ℕ). Kept c active ks start after more (r + 1) (evals + length ns)) (sym waiting)
           (subst (λ (n : ℕ). Kept c active ks start after more n (evals + length q.nets)) (let e : suc r ≡ r + 1 = omega arith in e) (record {
-            reached = turn-reaches c active start waves r kept.reached made turn after same moves;
-            fit = turn-fits c active start waves r kept.reached made turn after same known some fit kept.fit;
+            reached = turn_reaches c active start waves r kept.reached made turn after same moves;
+            fit = turn_fits c active start waves r kept.reached made turn after same known some fit kept.fit;
             each_net = each;
-            due = λ i. refilled i ∙ (λ k. lead i k && hears-same (nets_of made) (differs (round c active start r) (round c active start (suc r))) (driver c i) nets-are k)
+            due = λ i. refilled i ∙ (λ k. lead i k && hears_same (nets_of made) (differs (round c active start r) (round c active start (suc r))) (driver c i) nets_are k)
                 ∙ turned (active i) (is_first ks i) (hears_in (differs (round c active start r) (round c active start (suc r))) (driver c i))
-                ∙ ap (λ (b : Bool). is_first ks i && b) (sym (later-due c active (round c active start) r i));
-            works = works-out;
-            bound = let most = evals-fit known in omega (arith, most);
+                ∙ ap (λ (b : Bool). is_first ks i && b) (sym (later_due c active (round c active start) r i));
+            works = works_out;
+            bound = let most = evals_fit known in omega (arith, most);
           }))
         where
           turned : (x y z : Bool) → ((x && y) && z) ≡ (y && (x && z))
@@ -282,56 +282,56 @@ module _ (c : Circuit) (active : ℕ → Bool) (ks : List ℕ) (start : Waves) (
     pub keeps : IsCircuit c → 0 < period c.header → AreLong c start → KeepRuns c start r (waves_of waves)
     keeps known some fit run v isrun v1 permits i below =
         subst (λ (w : Wave Value). Permits values w run.ticks (net_signal run i) (v + r * reach c))
-        (sym (kept.reached.is i)) (round-sound c active start r some known fit run v isrun v1 permits i below)
+        (sym (kept.reached.is i)) (round_sound c active start r some known fit run v isrun v1 permits i below)
 
 -- ---- before the first round
 
-no-work : (c : Circuit) (ks : List ℕ) (active : ℕ → Bool) (rounds : ℕ → Waves) → class_work_to c ks active rounds 0 ≡ 0
+no_work : (c : Circuit) (ks : List ℕ) (active : ℕ → Bool) (rounds : ℕ → Waves) → class_work_to c ks active rounds 0 ≡ 0
 unfolding class_work_to
-no-work c ks active rounds = refl
+no_work c ks active rounds = refl
 
-pub kept-start : (c : Circuit) (active : ℕ → Bool) (ks : List ℕ) (start waves : List (Wave Value)) (q : Queue) (leading : ℕ → Bool) → FitWaves c start →
+pub kept_start : (c : Circuit) (active : ℕ → Bool) (ks : List ℕ) (start waves : List (Wave Value)) (q : Queue) (leading : ℕ → Bool) → FitWaves c start →
     ((i : ℕ) → leading i ≡ (active i && is_first ks i)) → waves ≡ start → length q.marks ≡ length c.nets → ((i : ℕ) → marked_in q.marks i ≡ leading i) → Kept c active ks (waves_of start) waves q 0 0
-kept-start c active ks start waves q leading fit lead same each marks = record {
-  reached = reached-start c active (waves_of start) (waves_of waves) (λ i. ap (λ (ws : List (Wave Value)). waves_of ws i) same);
+kept_start c active ks start waves q leading fit lead same each marks = record {
+  reached = reached_start c active (waves_of start) (waves_of waves) (λ i. ap (λ (ws : List (Wave Value)). waves_of ws i) same);
   fit = subst (FitWaves c) (sym same) fit;
   each_net = each;
   due = λ i. marks i ∙ lead i ∙ and_comm (active i) (is_first ks i)
-      ∙ ap (λ (b : Bool). is_first ks i && b) (sym (first-due c active (round c active (waves_of start)) i));
-  works = sym (no-work c ks active (round c active (waves_of start)));
+      ∙ ap (λ (b : Bool). is_first ks i && b) (sym (first_due c active (round c active (waves_of start)) i));
+  works = sym (no_work c ks active (round c active (waves_of start)));
   bound = omega arith;
 }
 
 -- ---- what the caller knows
 
-pub classes-are : (c : Circuit) (cases : List (List CaseValue)) (active : List Bool) (ks : List ℕ) (start : Waves) →
+pub classes_are : (c : Circuit) (cases : List (List CaseValue)) (active : List Bool) (ks : List ℕ) (start : Waves) →
     IsCircuit c → FitActive c active → length ks ≡ length c.nets → IsStable c cases ks → HaveOneWave c ks start →
     AreTogether c ks (marked_in active) → OneStandsForAll c (marked_in active) ks start
-classes-are c cases active ks start known fit each stable one together = record {
+classes_are c cases active ks start known fit each stable one together = record {
   each_net = each;
-  one = rounds-same c cases ks known stable (marked_in active) start together one;
-  none = λ i past. active-past c active i fit past;
+  one = rounds_same c cases ks known stable (marked_in active) start together one;
+  none = λ i past. active_past c active i fit past;
 }
 
 -- ---- the limit, as code has the changes
 
-pub ends-by : {A : Type 0} (pair : A → Change) (net : A → ℕ) (c : Circuit) (active : ℕ → Bool) (ks : List ℕ) (start : Waves)
+pub ends_by : {A : Type 0} (pair : A → Change) (net : A → ℕ) (c : Circuit) (active : ℕ → Bool) (ks : List ℕ) (start : Waves)
     (are : OneStandsForAll c active ks start) (waves : List (Wave Value)) (q : Queue) (limit r evals : ℕ) (xs ys : List A) (e : EngineEnd) →
     ((x : A) → net x ≡ (pair x).0) → Kept c active ks start waves q r evals → IsMade c ks waves q (map pair xs) →
     r ≡ limit → ys ≡ xs → EndsAt c.order (among (map net ys)) limit e → EndsFor c.order (round c active start) limit e
-ends-by pair net c active ks start are waves q limit r evals xs ys e is kept made last same at =
+ends_by pair net c active ks start are waves q limit r evals xs ys e is kept made last same at =
     subst (λ (n : ℕ). EndsFor c.order (round c active start) n e) last
-    (turn-ends c active start waves r kept.reached (map pair xs) (turn c active ks start are waves q r evals kept (map pair xs) made) e
-    (subst (λ (ns : List ℕ). EndsAt c.order (among ns) r e) (nets-made pair net xs ys is same) (subst (λ (n : ℕ). EndsAt c.order (among (map net ys)) n e) (sym last) at)))
+    (turn_ends c active start waves r kept.reached (map pair xs) (turn c active ks start are waves q r evals kept (map pair xs) made) e
+    (subst (λ (ns : List ℕ). EndsAt c.order (among ns) r e) (nets_made pair net xs ys is same) (subst (λ (n : ℕ). EndsAt c.order (among (map net ys)) n e) (sym last) at)))
 
-pub made-of : (c : Circuit) (active : ℕ → Bool) (classes : Option (List ℕ)) (start : Waves)
+pub made_of : (c : Circuit) (active : ℕ → Bool) (classes : Option (List ℕ)) (start : Waves)
     (are : OneStandsForAll c active (numbers_in (length c.nets) classes) start) (waves : List (Wave Value)) (q : Queue) (r evals : ℕ) →
     Kept c active (numbers_in (length c.nets) classes) start waves q r evals → (nets : List ℕ) (made : List Change) →
     IsQueue q → nets ≡ q.nets → made ≡ for_all classes (changes_of c (waves_of waves) nets) →
     IsMade c (numbers_in (length c.nets) classes) waves q made
-made-of c active classes start are waves q r evals kept nets made queue same is = record {
+made_of c active classes start are waves q r evals kept nets made queue same is = record {
   queue = queue;
   is = is ∙ ap (λ (ns : List ℕ). for_all classes (changes_of c (waves_of waves) ns)) same
-      ∙ for-all-is (length c.nets) classes are.each_net (changes_of c (waves_of waves) q.nets)
-      (changes-exist c (waves_of waves) q.nets (length c.nets) (waiting-exist c active (numbers_in (length c.nets) classes) start are waves q r evals kept queue));
+      ∙ for_all_is (length c.nets) classes are.each_net (changes_of c (waves_of waves) q.nets)
+      (changes_exist c (waves_of waves) q.nets (length c.nets) (waiting_exist c active (numbers_in (length c.nets) classes) start are waves q r evals kept queue));
 }

@@ -21,62 +21,62 @@ use Rattle.fixpoint_engine.specs.Worklist.{Queue, Adds, among, drives_in}
 
 -- ---- listening to one set or another
 
-pub hears-same : (nets others : ℕ → Bool) (d : Option Instance) → ((j : ℕ) → nets j ≡ others j) → hears_in nets d ≡ hears_in others d
-hears-same nets others d same = λ k. hears_in (λ j. same j k) d
+pub hears_same : (nets others : ℕ → Bool) (d : Option Instance) → ((j : ℕ) → nets j ≡ others j) → hears_in nets d ≡ hears_in others d
+hears_same nets others d same = λ k. hears_in (λ j. same j k) d
 
-on-either : (nets others : ℕ → Bool) (t : Target) → is_on_any (λ j. nets j || others j) t ≡ (is_on_any nets t || is_on_any others t)
-on-either nets others (OnNet i) = refl
-on-either nets others (Constant one) = refl
+on_either : (nets others : ℕ → Bool) (t : Target) → is_on_any (λ j. nets j || others j) t ≡ (is_on_any nets t || is_on_any others t)
+on_either nets others (OnNet i) = refl
+on_either nets others (Constant one) = refl
 
-either-first : (heard a b r s : Bool) → ((heard && (a || b)) || (r || s)) ≡ (((heard && a) || r) || ((heard && b) || s))
-either-first false a b r s = refl
-either-first true true b r s = refl
-either-first true false true true s = refl
-either-first true false true false s = refl
-either-first true false false r s = refl
+either_first : (heard a b r s : Bool) → ((heard && (a || b)) || (r || s)) ≡ (((heard && a) || r) || ((heard && b) || s))
+either_first false a b r s = refl
+either_first true true b r s = refl
+either_first true false true true s = refl
+either_first true false true false s = refl
+either_first true false false r s = refl
 
-from-either : (nets others : ℕ → Bool) (kind : Kind) (place : ℕ) (ps : List Pin) →
+from_either : (nets others : ℕ → Bool) (kind : Kind) (place : ℕ) (ps : List Pin) →
     hears_from (λ j. nets j || others j) kind place ps ≡ (hears_from nets kind place ps || hears_from others kind place ps)
-from-either nets others kind place [] = refl
-from-either nets others kind place (p ∷ ps) =
-    (λ k. (listens kind place && on-either nets others p.target k) || from-either nets others kind (place + 1) ps k)
-    ∙ either-first (listens kind place) (is_on_any nets p.target) (is_on_any others p.target) (hears_from nets kind (place + 1) ps) (hears_from others kind (place + 1) ps)
+from_either nets others kind place [] = refl
+from_either nets others kind place (p ∷ ps) =
+    (λ k. (listens kind place && on_either nets others p.target k) || from_either nets others kind (place + 1) ps k)
+    ∙ either_first (listens kind place) (is_on_any nets p.target) (is_on_any others p.target) (hears_from nets kind (place + 1) ps) (hears_from others kind (place + 1) ps)
 
-hears-either : (nets others : ℕ → Bool) (d : Option Instance) → hears_in (λ j. nets j || others j) d ≡ (hears_in nets d || hears_in others d)
-hears-either nets others None = refl
-hears-either nets others (Some j) = from-either nets others j.kind 0 j.pins
+hears_either : (nets others : ℕ → Bool) (d : Option Instance) → hears_in (λ j. nets j || others j) d ≡ (hears_in nets d || hears_in others d)
+hears_either nets others None = refl
+hears_either nets others (Some j) = from_either nets others j.kind 0 j.pins
 
-from-none : (kind : Kind) (place : ℕ) (ps : List Pin) → hears_from (λ j. false) kind place ps ≡ false
-from-none kind place [] = refl
-from-none kind place (p ∷ ps) = by (listens kind place) p.target (from-none kind (place + 1) ps)
+from_none : (kind : Kind) (place : ℕ) (ps : List Pin) → hears_from (λ j. false) kind place ps ≡ false
+from_none kind place [] = refl
+from_none kind place (p ∷ ps) = by (listens kind place) p.target (from_none kind (place + 1) ps)
   where
     by : (heard : Bool) (t : Target) → hears_from (λ j. false) kind (place + 1) ps ≡ false → ((heard && is_on_any (λ j. false) t) || hears_from (λ j. false) kind (place + 1) ps) ≡ false
     by false t rest = rest
     by true (OnNet i) rest = rest
     by true (Constant one) rest = rest
 
-pub hears-none : (d : Option Instance) → hears_in (λ j. false) d ≡ false
-hears-none None = refl
-hears-none (Some j) = from-none j.kind 0 j.pins
+pub hears_none : (d : Option Instance) → hears_in (λ j. false) d ≡ false
+hears_none None = refl
+hears_none (Some j) = from_none j.kind 0 j.pins
 
-pub hears-more : (nets : List ℕ) (net : ℕ) (d : Option Instance) → hears_in (among (nets ++ net ∷ [])) d ≡ (hears_in (among nets) d || hears_in (λ j. net == j) d)
-hears-more nets net d =
-    hears-same (among (nets ++ net ∷ [])) (λ j. among nets j || (net == j)) d
+pub hears_more : (nets : List ℕ) (net : ℕ) (d : Option Instance) → hears_in (among (nets ++ net ∷ [])) d ≡ (hears_in (among nets) d || hears_in (λ j. net == j) d)
+hears_more nets net d =
+    hears_same (among (nets ++ net ∷ [])) (λ j. among nets j || (net == j)) d
     (λ j. list_any-append (λ n. n == j) nets (net ∷ []) ∙ ap (λ b. among nets j || b) (or-false (net == j)))
-    ∙ hears-either (among nets) (λ j. net == j) d
+    ∙ hears_either (among nets) (λ j. net == j) d
 
-pub heard-more : (d : Option Instance) (active : Bool) (nets more : List ℕ) (net : ℕ) (before after : Bool) → more ≡ nets ++ net ∷ [] → before ≡ (active && hears_in (among nets) d) →
+pub heard_more : (d : Option Instance) (active : Bool) (nets more : List ℕ) (net : ℕ) (before after : Bool) → more ≡ nets ++ net ∷ [] → before ≡ (active && hears_in (among nets) d) →
     after ≡ (before || (active && hears_in (λ j. net == j) d)) → after ≡ (active && hears_in (among more) d)
-heard-more d active nets more net before after ends was is =
+heard_more d active nets more net before after ends was is =
     is ∙ (λ k. was k || (active && hears_in (λ j. net == j) d)) ∙ spread active (hears_in (among nets) d) (hears_in (λ j. net == j) d)
-    ∙ ap (λ b. active && b) (sym (ap (λ (ns : List ℕ). hears_in (among ns) d) ends ∙ hears-more nets net d))
+    ∙ ap (λ b. active && b) (sym (ap (λ (ns : List ℕ). hears_in (among ns) d) ends ∙ hears_more nets net d))
   where
     spread : (a b c : Bool) → ((a && b) || (a && c)) ≡ (a && (b || c))
     spread true b c = refl
     spread false b c = refl
 
-pub taken-more : {A : Type 0} (net : A → ℕ) (xs : List A) (i : ℕ) (x : A) → i < length xs → x ≡ get_or xs i x → map net (take (i + 1) xs) ≡ map net (take i xs) ++ net x ∷ []
-taken-more net xs i x below is =
+pub taken_more : {A : Type 0} (net : A → ℕ) (xs : List A) (i : ℕ) (x : A) → i < length xs → x ≡ get_or xs i x → map net (take (i + 1) xs) ≡ map net (take i xs) ++ net x ∷ []
+taken_more net xs i x below is =
     ap (map net) (take_more xs i x below) ∙ map-append net (take i xs) (get_or xs i x ∷ []) ∙ (λ k. map net (take i xs) ++ net (sym is k) ∷ [])
 
 -- ---- the instances that listen
@@ -121,55 +121,55 @@ found test P (y ∷ ys) from any = by (found test P ys (from + 1)) (test y) refl
 
 -- ---- what they drive
 
-pub same-order : (m n : ℕ) → (m == n) ≡ (n == m)
-same-order m n = grind (arith, nat_tests)
+pub same_order : (m n : ℕ) → (m == n) ≡ (n == m)
+same_order m n = grind (arith, nat_tests)
 
-on-one : (net : ℕ) (t : Target) → is_on_any (λ j. net == j) t ≡ is_on net t
-on-one net (OnNet i) = same-order net i
-on-one net (Constant one) = refl
+on_one : (net : ℕ) (t : Target) → is_on_any (λ j. net == j) t ≡ is_on net t
+on_one net (OnNet i) = same_order net i
+on_one net (Constant one) = refl
 
-hears-one : (net : ℕ) (kind : Kind) (place : ℕ) (ps : List Pin) → hears_from (λ j. net == j) kind place ps ≡ any_listens kind net place ps
-hears-one net kind place [] = refl
-hears-one net kind place (p ∷ ps) = λ k. (listens kind place && on-one net p.target k) || hears-one net kind (place + 1) ps k
+hears_one : (net : ℕ) (kind : Kind) (place : ℕ) (ps : List Pin) → hears_from (λ j. net == j) kind place ps ≡ any_listens kind net place ps
+hears_one net kind place [] = refl
+hears_one net kind place (p ∷ ps) = λ k. (listens kind place && on_one net p.target k) || hears_one net kind (place + 1) ps k
 
-drives-is : (out : Option Target) (i : ℕ) → drives_in out i ≡ true → out ≡ Some (OnNet i)
-drives-is None i drives = cc
-drives-is (Some (OnNet n)) i drives = ap (λ m. Some (OnNet m)) (eqb-true n i drives)
-drives-is (Some (Constant one)) i drives = cc
+drives_is : (out : Option Target) (i : ℕ) → drives_in out i ≡ true → out ≡ Some (OnNet i)
+drives_is None i drives = cc
+drives_is (Some (OnNet n)) i drives = ap (λ m. Some (OnNet m)) (eqb-true n i drives)
+drives_is (Some (Constant one)) i drives = cc
 
-is-drives : (out : Option Target) (i : ℕ) → out ≡ Some (OnNet i) → drives_in out i ≡ true
-is-drives out i is = ap (λ (o : Option Target). drives_in o i) is ∙ eq-eqb i i refl
+is_drives : (out : Option Target) (i : ℕ) → out ≡ Some (OnNet i) → drives_in out i ≡ true
+is_drives out i is = ap (λ (o : Option Target). drives_in o i) is ∙ eq-eqb i i refl
 
 -- The driver of a net is listed, where it listens.
-driver-listed : (c : Circuit) (net i k : ℕ) (found : Option Instance) → slice_get c.instances k ≡ found → hears_in (λ j. net == j) found ≡ true → out_of found ≡ Some (OnNet i) →
+driver_listed : (c : Circuit) (net i k : ℕ) (found : Option Instance) → slice_get c.instances k ≡ found → hears_in (λ j. net == j) found ≡ true → out_of found ≡ Some (OnNet i) →
     list_any (λ k. drives_in (out_at c.instances k) i) (readers_of c.instances net) ≡ true
-driver-listed c net i k None at heard out = cc
-driver-listed c net i k (Some j) at heard out =
+driver_listed c net i k None at heard out = cc
+driver_listed c net i k (Some j) at heard out =
     let own : is_some j.out ≡ true = ap is_some out in
-    let hears : any_listens j.kind net 0 j.pins ≡ true = sym (hears-one net j.kind 0 j.pins) ∙ heard in
+    let hears : any_listens j.kind net 0 j.pins ≡ true = sym (hears_one net j.kind 0 j.pins) ∙ heard in
     let same : 0 + k ≡ k = omega arith in
     listed (reads net) (λ k. drives_in (out_at c.instances k) i) c.instances 0 k j at (λ n. own n && hears n)
-    (ap (λ k. drives_in (out_at c.instances k) i) same ∙ is-drives (out_at c.instances k) i (ap out_of at ∙ out))
+    (ap (λ k. drives_in (out_at c.instances k) i) same ∙ is_drives (out_at c.instances k) i (ap out_of at ∙ out))
 
 -- Of the instances that listen to a net, the one that drives another is that one's driver.
-pub heard-by-reader : (c : Circuit) (net i : ℕ) → IsCircuit c → list_any (λ k. drives_in (out_at c.instances k) i) (readers_of c.instances net) ≡ hears_in (λ j. net == j) (driver c i)
-heard-by-reader c net i known = both_ways _ _ to (λ heard. from (driver_at c.nets i) refl heard)
+pub heard_by_reader : (c : Circuit) (net i : ℕ) → IsCircuit c → list_any (λ k. drives_in (out_at c.instances k) i) (readers_of c.instances net) ≡ hears_in (λ j. net == j) (driver c i)
+heard_by_reader c net i known = both_ways _ _ to (λ heard. from (driver_at c.nets i) refl heard)
   where
     to : list_any (λ k. drives_in (out_at c.instances k) i) (readers_of c.instances net) ≡ true → hears_in (λ j. net == j) (driver c i) ≡ true
     to any =
         let f = found (reads net) (λ k. drives_in (out_at c.instances k) i) c.instances 0 any in
         let k : 0 + f.k ≡ f.k = omega arith in
         let drives : drives_in (out_at c.instances f.k) i ≡ true = ap (λ k. drives_in (out_at c.instances k) i) (sym k) ∙ f.is in
-        let by : driver_at c.nets i ≡ Some f.k = known.drivers.of i f.k (drives-is (out_at c.instances f.k) i drives) in
+        let by : driver_at c.nets i ≡ Some f.k = known.drivers.of i f.k (drives_is (out_at c.instances f.k) i drives) in
         let instance : driver c i ≡ Some f.x = ap (instance_in c) by ∙ f.at in
-        ap (hears_in (λ j. net == j)) instance ∙ hears-one net f.x.kind 0 f.x.pins ∙ (and_parts (is_some f.x.out) (any_listens f.x.kind net 0 f.x.pins) f.passes).1
+        ap (hears_in (λ j. net == j)) instance ∙ hears_one net f.x.kind 0 f.x.pins ∙ (and_parts (is_some f.x.out) (any_listens f.x.kind net 0 f.x.pins) f.passes).1
 
     from : (found : Option ℕ) → driver_at c.nets i ≡ found → hears_in (λ j. net == j) (instance_in c found) ≡ true →
         list_any (λ k. drives_in (out_at c.instances k) i) (readers_of c.instances net) ≡ true
     from None at heard = cc
-    from (Some k) at heard = driver-listed c net i k (slice_get c.instances k) refl heard (known.drivers.is i k at)
+    from (Some k) at heard = driver_listed c net i k (slice_get c.instances k) refl heard (known.drivers.is i k at)
 
 -- ---- queues
 
-pub adds-same : (set other : ℕ → Bool) (old new : Queue) → Adds set old new → ((i : ℕ) → set i ≡ other i) → Adds other old new
-adds-same set other old new adds same = record { each_net = adds.each_net; marks = λ i. adds.marks i ∙ ap (λ b. marked_in old.marks i || b) (same i) }
+pub adds_same : (set other : ℕ → Bool) (old new : Queue) → Adds set old new → ((i : ℕ) → set i ≡ other i) → Adds other old new
+adds_same set other old new adds same = record { each_net = adds.each_net; marks = λ i. adds.marks i ∙ ap (λ b. marked_in old.marks i || b) (same i) }

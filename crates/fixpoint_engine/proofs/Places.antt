@@ -11,8 +11,8 @@ use Rattle.flat_circuit.specs.Name.{IsNameOrder, net_at}
 use Rattle.flat_circuit.specs.Circuit.{net_name, net_names}
 use Rattle.fixpoint_engine.specs.Worklist.{among}
 
-pub All-read : {A : Type 0} (P : A → Type 0) (xs : List A) (k : ℕ) (x : A) → All P xs → k < length xs → x ≡ get_or xs k x → P x
-All-read P xs k x all below is = subst P (sym is) (all k x below)
+pub All_read : {A : Type 0} (P : A → Type 0) (xs : List A) (k : ℕ) (x : A) → All P xs → k < length xs → x ≡ get_or xs k x → P x
+All_read P xs k x all below is = subst P (sym is) (all k x below)
 
 -- each net has a place in the order
 placed : (nets : List Net) (order : List ℕ) (net : ℕ) → IsNameOrder (net_names nets) order → net < length nets → Contains order net
@@ -23,10 +23,10 @@ placed nets order net named below =
     (net, omega (arith, long, numbers), get_or-range_with_len 0 (length (net_names nets)) net net (omega (arith, long)) ∙ omega arith)
 
 -- Where there is a net, the order has one.
-pub some-named : (nets : List Net) (order some : List ℕ) (set : ℕ → Bool) → IsNameOrder (net_names nets) order → All (λ net. net < length nets) some → 0 < length some →
+pub some_named : (nets : List Net) (order some : List ℕ) (set : ℕ → Bool) → IsNameOrder (net_names nets) order → All (λ net. net < length nets) some → 0 < length some →
     ((i : ℕ) → set i ≡ among some i) → ((k : ℕ) → k < length order → set (net_at order k) ≡ false) → ⊥
-some-named nets order [] set named exist any are none = omega arith
-some-named nets order (net ∷ some) set named exist any are none =
+some_named nets order [] set named exist any are none = omega arith
+some_named nets order (net ∷ some) set named exist any are none =
     let at = placed nets order net named (All-head (λ n. n < length nets) net some exist) in
     let is : net_at order at.0 ≡ net = sym (get_or_default order at.0 net 0 at.1) ∙ at.2 in
     let here : set net ≡ true = are net ∙ (λ k. eq-eqb net net refl k || among some net) in

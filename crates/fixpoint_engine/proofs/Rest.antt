@@ -32,8 +32,8 @@ use Rattle.fixpoint_engine.specs.Work.{same_wave, differs, is_on_any, hears_from
 use Rattle.fixpoint_engine.specs.Loops.{Hears, HasNoLoop}
 use Rattle.fixpoint_engine.specs.End.{EndsFor}
 use Rattle.fixpoint_engine.specs.Worklist.{output_net}
-use Rattle.fixpoint_engine.proofs.Same.{same_wave-is, same_wave-self}
-use Rattle.fixpoint_engine.proofs.Reached.{undue-stays, due-takes}
+use Rattle.fixpoint_engine.proofs.Same.{same_wave_is, same_wave_self}
+use Rattle.fixpoint_engine.proofs.Reached.{undue_stays, due_takes}
 
 -- ---- a net that is heard
 
@@ -42,26 +42,26 @@ pub record IsHeard (set : ℕ → Bool) (heard : (ℕ → Bool) → Bool) : Type
   pub of : set net ≡ true
   pub is : heard (λ i. i == net) ≡ true
 
-heard-target : (set : ℕ → Bool) (t : Target) → is_on_any set t ≡ true → IsHeard set (λ nets. is_on_any nets t)
-heard-target set (OnNet i) on = record { net = i; of = on; is = eq-eqb i i refl }
-heard-target set (Constant one) on = cc
+heard_target : (set : ℕ → Bool) (t : Target) → is_on_any set t ≡ true → IsHeard set (λ nets. is_on_any nets t)
+heard_target set (OnNet i) on = record { net = i; of = on; is = eq-eqb i i refl }
+heard_target set (Constant one) on = cc
 
-heard-from : (set : ℕ → Bool) (kind : Kind) (place : ℕ) (ps : List Pin) → hears_from set kind place ps ≡ true → IsHeard set (λ nets. hears_from nets kind place ps)
-heard-from set kind place [] heard = cc
-heard-from set kind place (p ∷ ps) heard =
+heard_from : (set : ℕ → Bool) (kind : Kind) (place : ℕ) (ps : List Pin) → hears_from set kind place ps ≡ true → IsHeard set (λ nets. hears_from nets kind place ps)
+heard_from set kind place [] heard = cc
+heard_from set kind place (p ∷ ps) heard =
     elim (or_cases (listens kind place && is_on_any set p.target) (hears_from set kind (place + 1) ps) heard) [
       | inl here ↦
           let parts = and_parts (listens kind place) (is_on_any set p.target) here in
-          let at = heard-target set p.target parts.1 in
+          let at = heard_target set p.target parts.1 in
           record { net = at.net; of = at.of; is = or_left _ _ (and_from _ _ parts.0 at.is) }
       | inr later ↦
-          let at = heard-from set kind (place + 1) ps later in
+          let at = heard_from set kind (place + 1) ps later in
           record { net = at.net; of = at.of; is = or_right _ _ at.is }
     ]
 
-pub heard-in : (set : ℕ → Bool) (d : Option Instance) → hears_in set d ≡ true → IsHeard set (λ nets. hears_in nets d)
-heard-in set None heard = cc
-heard-in set (Some j) heard = heard-from set j.kind 0 j.pins heard
+pub heard_in : (set : ℕ → Bool) (d : Option Instance) → hears_in set d ≡ true → IsHeard set (λ nets. hears_in nets d)
+heard_in set None heard = cc
+heard_in set (Some j) heard = heard_from set j.kind 0 j.pins heard
 
 -- ---- the nets that outputs drive
 
@@ -69,11 +69,11 @@ output_nets : List Instance → List ℕ
 output_nets [] = []
 output_nets (j ∷ js) = option_to_list (output_net j.out) ++ output_nets js
 
-few-outputs : (h : Header) (n : ℕ) (js : List Instance) → All (InstanceFits h n) js → length (output_nets js) ≤ outputs js
+few_outputs : (h : Header) (n : ℕ) (js : List Instance) → All (InstanceFits h n) js → length (output_nets js) ≤ outputs js
 unfolding output_nets
-few-outputs h n [] each = omega arith
-few-outputs h n (j ∷ js) each =
-    let rest = few-outputs h n js (All-tail (InstanceFits h n) j js each) in
+few_outputs h n [] each = omega arith
+few_outputs h n (j ∷ js) each =
+    let rest = few_outputs h n js (All-tail (InstanceFits h n) j js each) in
     let one = by j.out (has_output j.kind) (All-head (InstanceFits h n) j js each).has_out in
     let long : length (output_nets (j ∷ js)) ≡ length (option_to_list (output_net j.out)) + length (output_nets js) = length-append (option_to_list (output_net j.out)) (output_nets js) in
     let count : outputs (j ∷ js) ≡ cond (has_output j.kind) 1 0 + outputs js = sum_by-cons (λ (i : Instance). cond (has_output i.kind) 1 0) j js in
@@ -85,13 +85,13 @@ few-outputs h n (j ∷ js) each =
     by (Some (OnNet i)) false is = cc
     by (Some (Constant one)) makes is = omega arith
 
-output-among : (js : List Instance) (k i : ℕ) → out_at js k ≡ Some (OnNet i) → is_member nat_eq (output_nets js) i ≡ true
+output_among : (js : List Instance) (k i : ℕ) → out_at js k ≡ Some (OnNet i) → is_member nat_eq (output_nets js) i ≡ true
 unfolding output_nets
-output-among [] k i is = cc
-output-among (j ∷ js) zero i is =
+output_among [] k i is = cc
+output_among (j ∷ js) zero i is =
     subst (λ (out : Option Target). is_member nat_eq (option_to_list (output_net out) ++ output_nets js) i ≡ true) (sym is) (or_left _ _ (eq-eqb i i refl))
-output-among (j ∷ js) (suc k) i is =
-    list_any-append (nat_eq i) (option_to_list (output_net j.out)) (output_nets js) ∙ or_right _ _ (output-among js k i is)
+output_among (j ∷ js) (suc k) i is =
+    list_any-append (nat_eq i) (option_to_list (output_net j.out)) (output_nets js) ∙ or_right _ _ (output_among js k i is)
 
 -- ---- a net that changes from a round to the next
 
@@ -100,33 +100,33 @@ Changes c active start r i = differs (round c active start r) (round c active st
 
 unchanged : (c : Circuit) (active : ℕ → Bool) (start : Waves) (r i : ℕ) →
     round c active start (suc r) i ≡ round c active start r i → differs (round c active start r) (round c active start (suc r)) i ≡ false
-unchanged c active start r i same = ap (λ (w : Wave Value). not (same_wave (round c active start r i) w)) same ∙ ap not (same_wave-self (round c active start r i))
+unchanged c active start r i same = ap (λ (w : Wave Value). not (same_wave (round c active start r i) w)) same ∙ ap not (same_wave_self (round c active start r i))
 
-change-due : (c : Circuit) (active : ℕ → Bool) (start : Waves) (r i : ℕ) → Changes c active start r i → is_due c active (round c active start) (suc r) i ≡ true
-change-due c active start r i changes = elim (cases_Bool (is_due c active (round c active start) (suc r) i)) [
+change_due : (c : Circuit) (active : ℕ → Bool) (start : Waves) (r i : ℕ) → Changes c active start r i → is_due c active (round c active start) (suc r) i ≡ true
+change_due c active start r i changes = elim (cases_Bool (is_due c active (round c active start) (suc r) i)) [
   | inl due ↦ due
-  | inr undue ↦ absurd (both_ways _ (unchanged c active start r i (undue-stays c active start r i undue)) changes)
+  | inr undue ↦ absurd (both_ways _ (unchanged c active start r i (undue_stays c active start r i undue)) changes)
 ]
 
 -- it is some instance's output
-change-output : (c : Circuit) (active : ℕ → Bool) (start : Waves) (r i : ℕ) → IsCircuit c → Changes c active start r i → is_member nat_eq (output_nets c.instances) i ≡ true
-change-output c active start r i known changes = by (driver_at c.nets i) refl
+change_output : (c : Circuit) (active : ℕ → Bool) (start : Waves) (r i : ℕ) → IsCircuit c → Changes c active start r i → is_member nat_eq (output_nets c.instances) i ≡ true
+change_output c active start r i known changes = by (driver_at c.nets i) refl
   where
     takes : (found : Option ℕ) → driver_at c.nets i ≡ found → round c active start (suc r) i ≡ wave_from c (round c active start r) (instance_in c found) (round c active start r i)
     takes found is =
-        due-takes c active start r i (change-due c active start r i changes)
+        due_takes c active start r i (change_due c active start r i changes)
         ∙ ap (λ (o : Option ℕ). wave_from c (round c active start r) (instance_in c o) (round c active start r i)) is
 
     by : (found : Option ℕ) → driver_at c.nets i ≡ found → is_member nat_eq (output_nets c.instances) i ≡ true
     by None is = absurd (both_ways _ (unchanged c active start r i (takes None is)) changes)
-    by (Some k) is = output-among c.instances k i (known.drivers.is i k is)
+    by (Some k) is = output_among c.instances k i (known.drivers.is i k is)
 
 -- and hears one that changed in the round before
-change-heard : (c : Circuit) (active : ℕ → Bool) (start : Waves) (r i : ℕ) → Changes c active start (suc r) i →
+change_heard : (c : Circuit) (active : ℕ → Bool) (start : Waves) (r i : ℕ) → Changes c active start (suc r) i →
     IsHeard (differs (round c active start r) (round c active start (suc r))) (λ nets. hears_in nets (driver c i))
 unfolding is_due
-change-heard c active start r i changes =
-    heard-in _ (driver c i) (and_parts (active i) (hears_in (differs (round c active start r) (round c active start (suc r))) (driver c i)) (change-due c active start (suc r) i changes)).1
+change_heard c active start r i changes =
+    heard_in _ (driver c i) (and_parts (active i) (hears_in (differs (round c active start r) (round c active start (suc r))) (driver c i)) (change_due c active start (suc r) i changes)).1
 
 -- ---- the nets that led to a change
 
@@ -167,49 +167,49 @@ longer c m i r none hears out trail = record {
       | inr end ↦ inr (last q end)
     ]
 
-trail-of : (c : Circuit) (active : ℕ → Bool) (start : Waves) (r i : ℕ) → IsCircuit c → HasNoLoop c → Changes c active start r i → Trail c i r
+trail_of : (c : Circuit) (active : ℕ → Bool) (start : Waves) (r i : ℕ) → IsCircuit c → HasNoLoop c → Changes c active start r i → Trail c i r
 unfolding IsDistinct
-trail-of c active start zero i known none changes = record {
+trail_of c active start zero i known none changes = record {
   nets = i ∷ [];
   long = refl;
   once = (tt, tt);
   leads = λ q among. inl (last q among);
-  outs = λ q among. subst (λ (n : ℕ). is_member nat_eq (output_nets c.instances) n ≡ true) (sym (last q among)) (change-output c active start 0 i known changes);
+  outs = λ q among. subst (λ (n : ℕ). is_member nat_eq (output_nets c.instances) n ≡ true) (sym (last q among)) (change_output c active start 0 i known changes);
 }
   where
     last : (q : ℕ) → (nat_eq q i || false) ≡ true → q ≡ i
     last q is = elim (or_cases (nat_eq q i) false is) [ inl same ↦ eqb-true q i same | inr never ↦ cc ]
-trail-of c active start (suc r) i known none changes =
-    let heard = change-heard c active start r i changes in
-    longer c heard.net i r none heard.is (change-output c active start (suc r) i known changes) (trail-of c active start r heard.net known none heard.of)
+trail_of c active start (suc r) i known none changes =
+    let heard = change_heard c active start r i changes in
+    longer c heard.net i r none heard.is (change_output c active start (suc r) i known changes) (trail_of c active start r heard.net known none heard.of)
 
 -- ---- rest
 
 -- As many rounds as outputs are enough, from any start and over any active nets.
-pub rests-by-outputs : (c : Circuit) (active : ℕ → Bool) (start : Waves) → IsCircuit c → HasNoLoop c →
+pub rests_by_outputs : (c : Circuit) (active : ℕ → Bool) (start : Waves) → IsCircuit c → HasNoLoop c →
     AreSame (round c active start (suc (outputs c.instances))) (round c active start (outputs c.instances))
-rests-by-outputs c active start known none i = elim (cases_Bool (same_wave (round c active start n i) (round c active start (suc n) i))) [
-  | inl same ↦ sym (same_wave-is _ _ same)
-  | inr differ ↦ absurd (too-long (trail-of c active start n i known none (ap not differ)))
+rests_by_outputs c active start known none i = elim (cases_Bool (same_wave (round c active start n i) (round c active start (suc n) i))) [
+  | inl same ↦ sym (same_wave_is _ _ same)
+  | inr differ ↦ absurd (too_long (trail_of c active start n i known none (ap not differ)))
 ]
   where
     n : ℕ
     n = outputs c.instances
 
-    too-long : Trail c i n → ⊥
-    too-long trail =
+    too_long : Trail c i n → ⊥
+    too_long trail =
         let most = length-le_from_is_member nat_eq_equiv trail.nets (output_nets c.instances) trail.once trail.outs in
-        let few = few-outputs c.header (length c.nets) c.instances known.each in
+        let few = few_outputs c.header (length c.nets) c.instances known.each in
         let long = trail.long in
         omega (arith, most, few, long)
 
-pub rests-soon : (c : Circuit) (active : ℕ → Bool) (start : Waves) (limit r : ℕ) → IsCircuit c → HasNoLoop c → RestsAt (round c active start) limit r → r ≤ outputs c.instances
-rests-soon c active start limit r known none rests = elim (cases_lt (outputs c.instances) r) [
-  | inl late ↦ absurd (rests.first (outputs c.instances) late (rests-by-outputs c active start known none))
+pub rests_soon : (c : Circuit) (active : ℕ → Bool) (start : Waves) (limit r : ℕ) → IsCircuit c → HasNoLoop c → RestsAt (round c active start) limit r → r ≤ outputs c.instances
+rests_soon c active start limit r known none rests = elim (cases_lt (outputs c.instances) r) [
+  | inl late ↦ absurd (rests.first (outputs c.instances) late (rests_by_outputs c active start known none))
   | inr soon ↦ soon
 ]
 
-pub rests-within : (c : Circuit) (active : ℕ → Bool) (start : Waves) (limit : ℕ) (e : EngineEnd) →
+pub rests_within : (c : Circuit) (active : ℕ → Bool) (start : Waves) (limit : ℕ) (e : EngineEnd) →
     IsCircuit c → HasNoLoop c → outputs c.instances ≤ limit → EndsFor c.order (round c active start) limit e → e ≡ NoMemory
-rests-within c active start limit NoMemory known none within ends = refl
-rests-within c active start limit (Unsettled net at) known none within ends = absurd (ends.0.never (outputs c.instances) within (rests-by-outputs c active start known none))
+rests_within c active start limit NoMemory known none within ends = refl
+rests_within c active start limit (Unsettled net at) known none within ends = absurd (ends.0.never (outputs c.instances) within (rests_by_outputs c active start known none))

@@ -15,109 +15,109 @@ use Rattle.element_kinds.specs.Kinds.{has_output}
 use Rattle.flat_circuit.specs.Name.{Name}
 use Rattle.flat_circuit.specs.Instances.{TargetExists, PinExists, OutExists, InstanceExists, InstanceFits, outputs, checkers, all_pins, AreFew, AreCounts, most_bits, most_pins}
 use Rattle.flat_circuit.specs.Builder.{built, Nets, Asserted, is_asserted, with_asserted, has_text, has_name, is_one_too_many, IsBuilt}
-use Rattle.flat_circuit.proofs.Tables.{distinct-push}
+use Rattle.flat_circuit.proofs.Tables.{distinct_push}
 
 abbrev pub of_bool : Bool → ℕ
 of_bool b = cond b 1 0
 
-count-push : (p : Instance → Bool) (js : List Instance) (j : Instance) → count_by p (js ++ j ∷ []) ≡ count_by p js + of_bool (p j)
-count-push p js j = sum_by-append (λ (x : Instance). cond (p x) 1 0) js (j ∷ []) ∙ omega arith
+count_push : (p : Instance → Bool) (js : List Instance) (j : Instance) → count_by p (js ++ j ∷ []) ≡ count_by p js + of_bool (p j)
+count_push p js j = sum_by-append (λ (x : Instance). cond (p x) 1 0) js (j ∷ []) ∙ omega arith
 
-pins-push : (js : List Instance) (j : Instance) → all_pins (js ++ j ∷ []) ≡ all_pins js + length j.pins
-pins-push js j = sum_by-append (λ (x : Instance). length x.pins) js (j ∷ []) ∙ omega arith
+pins_push : (js : List Instance) (j : Instance) → all_pins (js ++ j ∷ []) ≡ all_pins js + length j.pins
+pins_push js j = sum_by-append (λ (x : Instance). length x.pins) js (j ∷ []) ∙ omega arith
 
 -- elements and checkers are all
-length-counts : (js : List Instance) → length js ≡ outputs js + checkers js
-length-counts [] = refl
-length-counts (j ∷ js) =
+length_counts : (js : List Instance) → length js ≡ outputs js + checkers js
+length_counts [] = refl
+length_counts (j ∷ js) =
     let a = sum_by-append (λ (x : Instance). of_bool (has_output x.kind)) (j ∷ []) js in
     let b = sum_by-append (λ (x : Instance). of_bool (not (has_output x.kind))) (j ∷ []) js in
     let c = one (has_output j.kind) in
-    omega (arith, a, b, c, length-counts js) where
+    omega (arith, a, b, c, length_counts js) where
       one : (t : Bool) → of_bool t + of_bool (not t) ≡ 1
       one true = refl
       one false = refl
 
-pub length-few : (js : List Instance) → AreFew js → length js ≤ 131072
-length-few js h = let a = h.of_outputs in let b = h.of_checkers in omega (arith, length-counts js)
+pub length_few : (js : List Instance) → AreFew js → length js ≤ 131072
+length_few js h = let a = h.of_outputs in let b = h.of_checkers in omega (arith, length_counts js)
 
-pub counts-push : (js : List Instance) (j : Instance) (o k p : ℕ) → AreCounts js o k p →
+pub counts_push : (js : List Instance) (j : Instance) (o k p : ℕ) → AreCounts js o k p →
     AreCounts (js ++ j ∷ []) (o + of_bool (has_output j.kind)) (k + of_bool (not (has_output j.kind))) (p + length j.pins)
-counts-push js j o k p h =
+counts_push js j o k p h =
     let a = h.outputs_are in let b = h.checkers_are in let d = h.pins_are in
     record {
-      outputs_are = omega (arith, count-push (λ (x : Instance). has_output x.kind) js j);
-      checkers_are = omega (arith, count-push (λ (x : Instance). not (has_output x.kind)) js j);
-      pins_are = omega (arith, pins-push js j);
+      outputs_are = omega (arith, count_push (λ (x : Instance). has_output x.kind) js j);
+      checkers_are = omega (arith, count_push (λ (x : Instance). not (has_output x.kind)) js j);
+      pins_are = omega (arith, pins_push js j);
     }
 
-few-pins : (js : List Instance) (j : Instance) (b : Bool) → (b || nat_lt most_pins (all_pins js + length j.pins)) ≡ false → all_pins js + length j.pins ≤ most_pins
-few-pins js j true h = absurd (cc)
-few-pins js j false h = grind (arith, nat_tests)
+few_pins : (js : List Instance) (j : Instance) (b : Bool) → (b || nat_lt most_pins (all_pins js + length j.pins)) ≡ false → all_pins js + length j.pins ≤ most_pins
+few_pins js j true h = absurd (cc)
+few_pins js j false h = grind (arith, nat_tests)
 
-few-alike : (n : ℕ) (c : Bool) → (nat_le most_bits n || c) ≡ false → n + 1 ≤ most_bits
-few-alike n c h = step (nat_le most_bits n) refl h where
+few_alike : (n : ℕ) (c : Bool) → (nat_le most_bits n || c) ≡ false → n + 1 ≤ most_bits
+few_alike n c h = step (nat_le most_bits n) refl h where
   step : (b : Bool) → nat_le most_bits n ≡ b → (b || c) ≡ false → n + 1 ≤ most_bits
   step true e q = absurd (cc)
   step false e q = grind (arith, nat_tests)
 
-pub few-push : (js : List Instance) (j : Instance) → AreFew js → is_one_too_many js j ≡ false → AreFew (js ++ j ∷ [])
-few-push js j h r = step (has_output j.kind) refl r where
+pub few_push : (js : List Instance) (j : Instance) → AreFew js → is_one_too_many js j ≡ false → AreFew (js ++ j ∷ [])
+few_push js j h r = step (has_output j.kind) refl r where
   step : (b : Bool) → has_output j.kind ≡ b → (cond b (nat_le most_bits (outputs js)) (nat_le most_bits (checkers js))
       || nat_lt most_pins (all_pins js + length j.pins)) ≡ false → AreFew (js ++ j ∷ [])
   step true e q =
-      let o = count-push (λ (x : Instance). has_output x.kind) js j in
-      let k = count-push (λ (x : Instance). not (has_output x.kind)) js j in
-      let a = few-alike (outputs js) (nat_lt most_pins (all_pins js + length j.pins)) q in
+      let o = count_push (λ (x : Instance). has_output x.kind) js j in
+      let k = count_push (λ (x : Instance). not (has_output x.kind)) js j in
+      let a = few_alike (outputs js) (nat_lt most_pins (all_pins js + length j.pins)) q in
       let u = h.of_checkers in
       record {
         of_outputs = rw (o, e) (omega arith);
         of_checkers = rw (k, e) (omega arith);
-        of_pins = rw (pins-push js j) (few-pins js j (nat_le most_bits (outputs js)) q);
+        of_pins = rw (pins_push js j) (few_pins js j (nat_le most_bits (outputs js)) q);
       }
   step false e q =
-      let o = count-push (λ (x : Instance). has_output x.kind) js j in
-      let k = count-push (λ (x : Instance). not (has_output x.kind)) js j in
-      let a = few-alike (checkers js) (nat_lt most_pins (all_pins js + length j.pins)) q in
+      let o = count_push (λ (x : Instance). has_output x.kind) js j in
+      let k = count_push (λ (x : Instance). not (has_output x.kind)) js j in
+      let a = few_alike (checkers js) (nat_lt most_pins (all_pins js + length j.pins)) q in
       let u = h.of_outputs in
       record {
         of_outputs = rw (o, e) (omega arith);
         of_checkers = rw (k, e) (omega arith);
-        of_pins = rw (pins-push js j) (few-pins js j (nat_le most_bits (checkers js)) q);
+        of_pins = rw (pins_push js j) (few_pins js j (nat_le most_bits (checkers js)) q);
       }
 
 -- ---- between more nets
 
-target-more : (n m : ℕ) (t : Target) → n ≤ m → TargetExists n t → TargetExists m t
-target-more n m (OnNet i) l h = omega arith
-target-more n m (Constant b) l h = tt
+target_more : (n m : ℕ) (t : Target) → n ≤ m → TargetExists n t → TargetExists m t
+target_more n m (OnNet i) l h = omega arith
+target_more n m (Constant b) l h = tt
 
-out-more : (n m : ℕ) (j : Instance) → n ≤ m → InstanceExists n j → InstanceExists m j
-out-more n m j l h = record {
-  reads = All-weaker (PinExists n) (PinExists m) (λ p e. target-more n m p.target l e) j.pins h.reads;
+out_more : (n m : ℕ) (j : Instance) → n ≤ m → InstanceExists n j → InstanceExists m j
+out_more n m j l h = record {
+  reads = All-weaker (PinExists n) (PinExists m) (λ p e. target_more n m p.target l e) j.pins h.reads;
   drives = step j.out h.drives;
 } where
   step : (o : Option Target) → OutExists n o → OutExists m o
   step None e = tt
-  step (Some t) e = target-more n m t l e
+  step (Some t) e = target_more n m t l e
 
-pub fits-more : (h : Header) (n m : ℕ) (j : Instance) → n ≤ m → InstanceFits h n j → InstanceFits h m j
-fits-more h n m j l f =
+pub fits_more : (h : Header) (n m : ℕ) (j : Instance) → n ≤ m → InstanceFits h n j → InstanceFits h m j
+fits_more h n m j l f =
     record {
       pins = f.pins;
       has_out = f.has_out;
       lim = f.lim;
       split = f.split;
-      exists = out-more n m j l f.exists;
+      exists = out_more n m j l f.exists;
     }
 
 -- ---- what holds of a builder goes on
 
-pub built-instance : (h : Header) (t : Nets) (given : List Asserted) (js : List Instance) (j : Instance) →
+pub built_instance : (h : Header) (t : Nets) (given : List Asserted) (js : List Instance) (j : Instance) →
     IsBuilt (built h t given js) → InstanceFits h (length t.names) j → is_one_too_many js j ≡ false → IsBuilt (built h t given (js ++ j ∷ []))
-built-instance h t given js j b f r = record {
+built_instance h t given js j b f r = record {
   few_nets = b.few_nets;
-  few = few-push js j b.few r;
+  few = few_push js j b.few r;
   distinct = b.distinct;
   bounded = b.bounded;
   real = b.real;
@@ -125,26 +125,26 @@ built-instance h t given js j b f r = record {
   each = All-push (InstanceFits h (length t.names)) js j b.each f;
 }
 
-pub built-net : (h : Header) (t t' : Nets) (given : List Asserted) (js : List Instance) (name : Name) (w : Bounds) → IsBuilt (built h t given js) →
+pub built_net : (h : Header) (t t' : Nets) (given : List Asserted) (js : List Instance) (name : Name) (w : Bounds) → IsBuilt (built h t given js) →
     length t.names < most_bits → has_name t.names name ≡ false →
     t'.names ≡ t.names ++ name ∷ [] → t'.wires ≡ t.wires ++ w ∷ [] → IsBuilt (built h t' given js)
-built-net h t t' given js name w b l n en ew =
+built_net h t t' given js name w b l n en ew =
     let a : length t'.names ≡ length t.names + 1 = ap length en ∙ length_push t.names name in
     let d : length t'.wires ≡ length t.wires + 1 = ap length ew ∙ length_push t.wires w in
     let e = b.bounded in
     record {
       few_nets = omega arith;
       few = b.few;
-      distinct = rw en (distinct-push t.names name b.distinct n);
+      distinct = rw en (distinct_push t.names name b.distinct n);
       bounded = omega arith;
       real = b.real;
       fit = b.fit;
-      each = All-weaker (InstanceFits h (length t.names)) (InstanceFits h (length t'.names)) (λ j f. fits-more h (length t.names) (length t'.names) j (omega arith) f) js b.each;
+      each = All-weaker (InstanceFits h (length t.names)) (InstanceFits h (length t'.names)) (λ j f. fits_more h (length t.names) (length t'.names) j (omega arith) f) js b.each;
     }
 
-pub built-asserted : (h : Header) (t : Nets) (given : List Asserted) (js : List Instance) (text : List ℕ) (spec : AssertSpec) →
+pub built_asserted : (h : Header) (t : Nets) (given : List Asserted) (js : List Instance) (text : List ℕ) (spec : AssertSpec) →
     IsBuilt (built h t given js) → Fits h spec → IsBuilt (built h t (with_asserted given text spec) js)
-built-asserted h t given js text spec b f = step (is_asserted spec) refl (has_text given text) where
+built_asserted h t given js text spec b f = step (is_asserted spec) refl (has_text given text) where
   step : (a : Bool) → is_asserted spec ≡ a → (k : Bool) → IsBuilt (built h t (cond (a && not k) (given ++ record { text = text; spec = spec } ∷ []) given) js)
   step true e false = record {
     few_nets = b.few_nets;
@@ -158,6 +158,6 @@ built-asserted h t given js text spec b f = step (is_asserted spec) refl (has_te
   step true e true = b
   step false e k = b
 
-pub not-true : (b : Bool) → not b ≡ true → b ≡ false
-not-true true h = absurd (cc)
-not-true false h = refl
+pub not_true : (b : Bool) → not b ≡ true → b ≡ false
+not_true true h = absurd (cc)
+not_true false h = refl

@@ -6,7 +6,7 @@ use Rattle.std.specs.Option.{MatchOption}
 use Rattle.std.proofs.lemmas.List.{get_or-set_same, get_or-set_other, length-set}
 use Rattle.std.proofs.lemmas.List.Elements.{All-get_or}
 use Rattle.std.proofs.lemmas.Bool.{cases_eq}
-use Rattle.scald_base.proofs.Below.{below-or-last}
+use Rattle.scald_base.proofs.Below.{below_or_last}
 use Rattle.vector_names.specs.declared.bits.Target.{Target}
 use Rattle.vector_names.specs.declared.bits.Target.TheVariants.{Net as OnNet, Constant}
 use Rattle.flat_circuit.specs.declared.instance.Instance.{Instance}
@@ -28,12 +28,12 @@ driven_same : (js : List Instance) (n k : ℕ) (ds : List (Option ℕ)) → None
 driven_same js n k ds e h = record {
   long = h.long;
   is = λ i d x. let a = h.is i d x in let b = a.0 in (omega arith, a.1);
-  of = λ i d b x. elim (below-or-last d k b) as (λ _. entry ds i ≡ Some d) [
+  of = λ i d b x. elim (below_or_last d k b) as (λ _. entry ds i ≡ Some d) [
     | inl l ↦ h.of i d l x
     | inr q ↦ let y : out_at js k ≡ Some (OnNet i) =
         subst (λ z. out_at js z ≡ Some (OnNet i)) q x in absurd (cc)
   ];
-  steady = λ d b l x. elim (below-or-last d k l) as (λ _. ⊥) [
+  steady = λ d b l x. elim (below_or_last d k l) as (λ _. ⊥) [
     | inl m ↦ h.steady d b m x
     | inr q ↦ let y : out_at js k ≡ Some (Constant b) =
         subst (λ z. out_at js z ≡ Some (Constant b)) q x in absurd (cc)
@@ -57,13 +57,13 @@ driven_new js n k m ds e lt o h =
             cc in (omega arith, subst (λ v. out_at js v ≡ Some (OnNet i)) z (sym e ∙ ap (λ v. Some (OnNet v)) (sym q)))
         | inr q ↦ let a = h.is i d (sym (get_or-set_other ds m i (Some k) None q) ∙ x) in let b = a.0 in (omega arith, a.1)
       ];
-      of = λ i d b x. elim (below-or-last d k b) as (λ _. entry (set ds m (Some k)) i ≡ Some d) [
+      of = λ i d b x. elim (below_or_last d k b) as (λ _. entry (set ds m (Some k)) i ≡ Some d) [
         | inl t ↦ let y = h.of i d t x in elim (cases_eq i m) as (λ _. entry (set ds m (Some k)) i ≡ Some d)
             [ inl q ↦ let z : entry ds m ≡ Some d = subst (λ v. entry ds v ≡ Some d) q y in absurd (cc) | inr q ↦ get_or-set_other ds m i (Some k) None q ∙ y ]
         | inr q ↦ let y : out_at js k ≡ Some (OnNet i) = subst (λ z. out_at js z ≡ Some (OnNet i)) q x in let z : m ≡ i =
             ap (λ v. net_of v 0) (e ∙ y) in subst (λ v. entry (set ds m (Some k)) v ≡ Some d) z (same ∙ ap Some (sym q))
       ];
-      steady = λ d b t x. elim (below-or-last d k t) as (λ _. ⊥) [
+      steady = λ d b t x. elim (below_or_last d k t) as (λ _. ⊥) [
         | inl v ↦ h.steady d b v x
         | inr q ↦ let y : out_at js k ≡ Some (Constant b) =
             subst (λ z. out_at js z ≡ Some (Constant b)) q x in absurd (cc)

@@ -21,79 +21,79 @@ use Rattle.flat_circuit.proofs.Loops.{none_looped_by}
 
 -- ---- the nets, one after another
 
-map-step : {B : Type 0} (f : Net → B) (nets : List Net) (n : Net) (xs : List B) (i : ℕ) (d : B) →
+map_step : {B : Type 0} (f : Net → B) (nets : List Net) (n : Net) (xs : List B) (i : ℕ) (d : B) →
     i < length xs → map f nets ≡ take i xs → f n ≡ get_or xs i d → map f (nets ++ n ∷ []) ≡ take (i + 1) xs
-map-step {B} f nets n xs i d l e g = map_push f nets n ∙ ap (λ (x : List B). x ++ f n ∷ []) e ∙ ap (λ (x : B). take i xs ++ x ∷ []) g ∙ sym (take_more xs i d l)
+map_step {B} f nets n xs i d l e g = map_push f nets n ∙ ap (λ (x : List B). x ++ f n ∷ []) e ∙ ap (λ (x : B). take i xs ++ x ∷ []) g ∙ sym (take_more xs i d l)
 
-pub nets-step : (names : List Name) (ws : List Bounds) (given : List Asserted) (ds : List (Option ℕ)) (nets : List Net) (n : Net) (i : ℕ) (d : Option ℕ) →
+pub nets_step : (names : List Name) (ws : List Bounds) (given : List Asserted) (ds : List (Option ℕ)) (nets : List Net) (n : Net) (i : ℕ) (d : Option ℕ) →
     i < length names → length ws ≡ length names → length ds ≡ length names → IsNet names ws given (get_or ds i d) i n →
     AreNets (take i names) (take i ws) (take i (specs_of given names)) (take i ds) nets →
     AreNets (take (i + 1) names) (take (i + 1) ws) (take (i + 1) (specs_of given names)) (take (i + 1) ds) (nets ++ n ∷ [])
-nets-step names ws given ds nets n i d l lw ld h a =
+nets_step names ws given ds nets n i d l lw ld h a =
     let s : n.spec ≡ get_or (specs_of given names) i (spec_of given nameless.text) =
     h.spec_is ∙ ap (λ (x : Name). spec_of given x.text) h.name_is ∙ sym (get_or-map (λ (x : Name). spec_of given x.text) names i nameless) in
     record {
-      names_are = map-step net_name nets n names i nameless l a.names_are h.name_is;
-      wires_are = map-step (λ (x : Net). x.wire) nets n ws i (record { min = 0; max = 0 }) (omega arith) a.wires_are h.wire_is;
-      specs_are = map-step (λ (x : Net). x.spec) nets n (specs_of given names) i (spec_of given nameless.text) (omega (arith, length-map names (λ (x : Name). spec_of given x.text))) a.specs_are s;
-      drivers_are = map-step (λ (x : Net). x.driver) nets n ds i d (omega arith) a.drivers_are h.driver_is;
+      names_are = map_step net_name nets n names i nameless l a.names_are h.name_is;
+      wires_are = map_step (λ (x : Net). x.wire) nets n ws i (record { min = 0; max = 0 }) (omega arith) a.wires_are h.wire_is;
+      specs_are = map_step (λ (x : Net). x.spec) nets n (specs_of given names) i (spec_of given nameless.text) (omega (arith, length-map names (λ (x : Name). spec_of given x.text))) a.specs_are s;
+      drivers_are = map_step (λ (x : Net). x.driver) nets n ds i d (omega arith) a.drivers_are h.driver_is;
     }
 
 -- ---- what holds of the nets
 
-all-unmap : {B : Type 0} (P : B → Type 0) (f : Net → B) (nets : List Net) → All P (map f nets) → All (λ (n : Net). P (f n)) nets
-all-unmap P f [] a = All-nil (λ (n : Net). P (f n))
-all-unmap P f (n ∷ ns) a = All-cons (λ (x : Net). P (f x)) n ns (All-head P (f n) (map f ns) a) (all-unmap P f ns (All-tail P (f n) (map f ns) a))
+all_unmap : {B : Type 0} (P : B → Type 0) (f : Net → B) (nets : List Net) → All P (map f nets) → All (λ (n : Net). P (f n)) nets
+all_unmap P f [] a = All-nil (λ (n : Net). P (f n))
+all_unmap P f (n ∷ ns) a = All-cons (λ (x : Net). P (f x)) n ns (All-head P (f n) (map f ns) a) (all_unmap P f ns (All-tail P (f n) (map f ns) a))
 
-fits-spec : (h : Header) (given : List Asserted) (text : List ℕ) → All (λ (a : Asserted). Fits h a.spec) given → Fits h (spec_of given text)
-fits-spec h [] text a = record { intervals = tt; edges = λ e. e }
-fits-spec h (x ∷ xs) text a = step (bytes_eq text x.text) (fits-spec h xs text (All-tail (λ (y : Asserted). Fits h y.spec) x xs a)) where
+fits_spec : (h : Header) (given : List Asserted) (text : List ℕ) → All (λ (a : Asserted). Fits h a.spec) given → Fits h (spec_of given text)
+fits_spec h [] text a = record { intervals = tt; edges = λ e. e }
+fits_spec h (x ∷ xs) text a = step (bytes_eq text x.text) (fits_spec h xs text (All-tail (λ (y : Asserted). Fits h y.spec) x xs a)) where
   step : (b : Bool) → Fits h (spec_of xs text) → Fits h (cond b x.spec (spec_of xs text))
   step true f = All-head (λ (y : Asserted). Fits h y.spec) x xs a
   step false f = f
 
-fits-all : (h : Header) (given : List Asserted) (names : List Name) → All (λ (a : Asserted). Fits h a.spec) given → All (Fits h) (specs_of given names)
-fits-all h given [] a = All-nil (Fits h)
-fits-all h given (n ∷ ns) a = All-cons (Fits h) (spec_of given n.text) (specs_of given ns) (fits-spec h given n.text a) (fits-all h given ns a)
+fits_all : (h : Header) (given : List Asserted) (names : List Name) → All (λ (a : Asserted). Fits h a.spec) given → All (Fits h) (specs_of given names)
+fits_all h given [] a = All-nil (Fits h)
+fits_all h given (n ∷ ns) a = All-cons (Fits h) (spec_of given n.text) (specs_of given ns) (fits_spec h given n.text a) (fits_all h given ns a)
 
-driver-at : (nets : List Net) (i : ℕ) → driver_at nets i ≡ entry (map (λ (n : Net). n.driver) nets) i
-driver-at [] i = refl
-driver-at (n ∷ ns) zero = refl
-driver-at (n ∷ ns) (suc i) = driver-at ns i
+driver_by_entry : (nets : List Net) (i : ℕ) → driver_at nets i ≡ entry (map (λ (n : Net). n.driver) nets) i
+driver_by_entry [] i = refl
+driver_by_entry (n ∷ ns) zero = refl
+driver_by_entry (n ∷ ns) (suc i) = driver_by_entry ns i
 
-pub wire-at : (nets : List Net) (i : ℕ) → wire_at nets i ≡ bounds_at (map (λ (n : Net). n.wire) nets) i
-wire-at [] i = refl
-wire-at (n ∷ ns) zero = refl
-wire-at (n ∷ ns) (suc i) = wire-at ns i
+pub wire_by_bounds : (nets : List Net) (i : ℕ) → wire_at nets i ≡ bounds_at (map (λ (n : Net). n.wire) nets) i
+wire_by_bounds [] i = refl
+wire_by_bounds (n ∷ ns) zero = refl
+wire_by_bounds (n ∷ ns) (suc i) = wire_by_bounds ns i
 
-pub nets-long : (nets : List Net) (names : List Name) → net_names nets ≡ names → length nets ≡ length names
-nets-long nets names e = sym (length-map nets net_name) ∙ ap length e
+pub nets_long : (nets : List Net) (names : List Name) → net_names nets ≡ names → length nets ≡ length names
+nets_long nets names e = sym (length-map nets net_name) ∙ ap length e
 
 -- ---- the end
 
-pub circuit-is : (h : Header) (t : Nets) (given : List Asserted) (js : List Instance) (nets : List Net) (order : List ℕ) (ds : List (Option ℕ)) →
+pub circuit_is : (h : Header) (t : Nets) (given : List Asserted) (js : List Instance) (nets : List Net) (order : List ℕ) (ds : List (Option ℕ)) →
     IsBuilt (built h t given js) → DrivenTo js (length t.names) (length js) ds → HoldsOfNone (IsLooped (bounds_at t.wires) js) js → AreNets t.names t.wires (specs_of given t.names) ds nets →
     IsNameOrder (net_names nets) order → IsCircuit (record { header = h; nets = nets; instances = js; order = order })
-circuit-is h t given js nets order ds b dr nl an o =
-    let l = nets-long nets t.names an.names_are in
+circuit_is h t given js nets order ds b dr nl an o =
+    let l = nets_long nets t.names an.names_are in
     let da = drivers_are js (length t.names) ds dr in
-    let same : (i : ℕ) → driver_at nets i ≡ entry ds i = λ i. driver-at nets i ∙ ap (λ (x : List (Option ℕ)). entry x i) an.drivers_are in
-    let bounds : (i : ℕ) → bounds_at t.wires i ≡ wire_at nets i = λ i. sym (wire-at nets i ∙ ap (λ (x : List Bounds). bounds_at x i) an.wires_are) in
+    let same : (i : ℕ) → driver_at nets i ≡ entry ds i = λ i. driver_by_entry nets i ∙ ap (λ (x : List (Option ℕ)). entry x i) an.drivers_are in
+    let bounds : (i : ℕ) → bounds_at t.wires i ≡ wire_at nets i = λ i. sym (wire_by_bounds nets i ∙ ap (λ (x : List Bounds). bounds_at x i) an.wires_are) in
     record {
       few_nets = rw l b.few_nets;
       few = b.few;
       distinct = rw an.names_are b.distinct;
-      asserted = all-unmap (Fits h) (λ (n : Net). n.spec) nets (rw an.specs_are (fits-all h given t.names b.fit));
+      asserted = all_unmap (Fits h) (λ (n : Net). n.spec) nets (rw an.specs_are (fits_all h given t.names b.fit));
       each = rw l b.each;
       drivers = record { is = λ i k e. da.is i k (sym (same i) ∙ e); of = λ i k e. same i ∙ da.of i k e; steady = da.steady };
       no_loop = none_looped_by (bounds_at t.wires) (wire_at nets) js bounds nl;
       by_name = o;
     }
 
-pub stands-is : (h : Header) (t : Nets) (given : List Asserted) (js : List Instance) (nets : List Net) (order : List ℕ) (ds : List (Option ℕ)) →
+pub stands_is : (h : Header) (t : Nets) (given : List Asserted) (js : List Instance) (nets : List Net) (order : List ℕ) (ds : List (Option ℕ)) →
     DrivenTo js (length t.names) (length js) ds → HoldsOfNone (IsLooped (bounds_at t.wires) js) js → AreNets t.names t.wires (specs_of given t.names) ds nets →
     Stands (built h t given js) (record { header = h; nets = nets; instances = js; order = order })
-stands-is h t given js nets order ds dr nl an = record {
+stands_is h t given js nets order ds dr nl an = record {
   head = refl;
   names_are = an.names_are;
   wires_are = an.wires_are;
@@ -103,8 +103,8 @@ stands-is h t given js nets order ds dr nl an = record {
   none_looped = nl;
 }
 
-pub refusal-looped : (h : Header) (t : Nets) (given : List Asserted) (js : List Instance) (ds : List (Option ℕ)) (stop : Stop) →
+pub refusal_looped : (h : Header) (t : Nets) (given : List Asserted) (js : List Instance) (ds : List (Option ℕ)) (stop : Stop) →
     DrivenTo js (length t.names) (length js) ds → StopsAtLoop t.wires js stop → IsRefusal (built h t given js) stop
-refusal-looped h t given js ds NoMemory dr s = tt
-refusal-looped h t given js ds (Refused r) dr s =
+refusal_looped h t given js ds NoMemory dr s = tt
+refusal_looped h t given js ds (Refused r) dr s =
     subst (IsRuleBroken (built h t given js) r.place) (sym s.0) ((λ k l x. not_taken js (length t.names) (length js) ds dr k l x), s.1)

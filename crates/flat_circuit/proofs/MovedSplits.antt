@@ -11,7 +11,7 @@ use Rattle.element_kinds.specs.Equation.{gate_bit, pins_before}
 use Rattle.flat_circuit.specs.declared.split.Split.{Split}
 use Rattle.flat_circuit.specs.Split.{gate_signal, split_bit, SplitEquation, IsSplitAsked}
 use Rattle.flat_circuit.specs.Run.{Choice, EquationWith, IsAskedWith}
-use Rattle.flat_circuit.proofs.Splits.{by-rise, by-fall, constant_bit}
+use Rattle.flat_circuit.proofs.Splits.{by_rise, by_fall, constant_bit}
 use Rattle.flat_circuit.proofs.Moved.{Match, Named, named_head, named_tail, bits_move, OutputMoves, equation_moves}
 
 -- ---- the gate's own bit
@@ -71,20 +71,20 @@ module _ (z z' : Signal) (m : ℕ) where
           let n : ℕ = t - rise + 1 - (t - fall) in
           let at : m + (t - fall) ≡ m + t - fall = omega arith in
           let long : t - rise + 1 - (t - fall) ≡ m + t - rise + 1 - (m + t - fall) = omega arith in
-          by-fall z' rise fall t longer
+          by_fall z' rise fall t longer
           ∙ any_moves (t - fall) n (λ u low high. same u (omega arith) (omega arith))
           ∙ ap (λ (v : ℕ). list_any z (range_with_len v n)) at
           ∙ ap (λ (k : ℕ). list_any z (range_with_len (m + t - fall) k)) long
-          ∙ sym (by-fall z rise fall (m + t) longer)
+          ∙ sym (by_fall z rise fall (m + t) longer)
       by (inr longer) =
           let n : ℕ = t - fall + 1 - (t - rise) in
           let at : m + (t - rise) ≡ m + t - rise = omega arith in
           let long : t - fall + 1 - (t - rise) ≡ m + t - fall + 1 - (m + t - rise) = omega arith in
-          by-rise z' rise fall t longer
+          by_rise z' rise fall t longer
           ∙ all_moves (t - rise) n (λ u low high. same u (omega arith) (omega arith))
           ∙ ap (λ (v : ℕ). list_all z (range_with_len v n)) at
           ∙ ap (λ (k : ℕ). list_all z (range_with_len (m + t - rise) k)) long
-          ∙ sym (by-rise z rise fall (m + t) longer)
+          ∙ sym (by_rise z rise fall (m + t) longer)
 
 -- ---- the equation
 

@@ -31,7 +31,7 @@ order_long nets order named =
 
 -- ---- the instance of a number
 
-pub fits-of : (c : Circuit) (k : ℕ) (j : Instance) → IsCircuit c → slice_get c.instances k ≡ Some j → InstanceFits c.header (length c.nets) j
-fits-of c k j known is =
+pub fits_of : (c : Circuit) (k : ℕ) (j : Instance) → IsCircuit c → slice_get c.instances k ≡ Some j → InstanceFits c.header (length c.nets) j
+fits_of c k j known is =
     subst (InstanceFits c.header (length c.nets)) (get_or_from_slice_get c.instances k j j is)
     (known.each k j (slice_get_within c.instances k j is))

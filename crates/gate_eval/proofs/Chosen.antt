@@ -24,86 +24,86 @@ use Rattle.gate_eval.specs.Hold.{first_some, disturber, hazard, hazard_beside}
 use Rattle.gate_eval.specs.Change.{change_wave}
 use Rattle.gate_eval.specs.Instance.{MarkIsAt, MarkFits, image_by, gate_image, wave_by, gate_wave}
 use Rattle.gate_eval.proofs.Fitting.{AllFit}
-use Rattle.gate_eval.proofs.Gathered.{folded-cells}
-use Rattle.gate_eval.proofs.Held.{first_some-none, map-none}
-use Rattle.gate_eval.proofs.Found.{first_some-nowhere, none-is, hazard-nowhere}
+use Rattle.gate_eval.proofs.Gathered.{folded_cells}
+use Rattle.gate_eval.proofs.Held.{first_some_none, map_none}
+use Rattle.gate_eval.proofs.Found.{first_some_nowhere, none_is, hazard_nowhere}
 
 -- ---- pins
 
-pub pins-fit : {P : Type 0} (pins : List P) (wave : P → Wave Value) (period : ℕ) → All (λ (w : Wave Value). length w.cells ≡ period) (map wave pins) →
+pub pins_fit : {P : Type 0} (pins : List P) (wave : P → Wave Value) (period : ℕ) → All (λ (w : Wave Value). length w.cells ≡ period) (map wave pins) →
     ((p : P) → IsNormal values (wave p)) → AllFit values period (map wave pins)
-pins-fit [] wave period one normal = tt
-pins-fit (p ∷ ps) wave period one normal = (
+pins_fit [] wave period one normal = tt
+pins_fit (p ∷ ps) wave period one normal = (
   record { long = All-head (λ (w : Wave Value). length w.cells ≡ period) (wave p) (map wave ps) one; normal = normal p },
-  pins-fit ps wave period (All-tail (λ (w : Wave Value). length w.cells ≡ period) (wave p) (map wave ps) one) normal,
+  pins_fit ps wave period (All-tail (λ (w : Wave Value). length w.cells ≡ period) (wave p) (map wave ps) one) normal,
 )
 
 -- each kind has a pin
-pub some-pins : (kind : Kind) (pins : ℕ) → (pin_counts kind).0 ≤ pins → 0 < pins
-some-pins Buf pins least = omega arith
-some-pins kind pins least = omega arith
+pub some_pins : (kind : Kind) (pins : ℕ) → (pin_counts kind).0 ≤ pins → 0 < pins
+some_pins Buf pins least = omega arith
+some_pins kind pins least = omega arith
 
 -- ---- marks
 
-count-some : {P : Type 0} (marked : P → Bool) (pins : List P) (i : ℕ) (d : P) → i < length pins → marked (get_or pins i d) ≡ true → 0 < count_by marked pins
-count-some marked [] i d below here = absurd (omega arith)
-count-some marked (p ∷ ps) zero d below here =
+count_some : {P : Type 0} (marked : P → Bool) (pins : List P) (i : ℕ) (d : P) → i < length pins → marked (get_or pins i d) ≡ true → 0 < count_by marked pins
+count_some marked [] i d below here = absurd (omega arith)
+count_some marked (p ∷ ps) zero d below here =
     let one : ◌≡◌ {A = ℕ} (cond (marked p) 1 0) 1 = ap (λ b. cond {A = ℕ} b 1 0) here in
     let whole : count_by marked (p ∷ ps) ≡ cond (marked p) 1 0 + count_by marked ps = sum_by-cons (λ q. cond {A = ℕ} (marked q) 1 0) p ps in omega (arith, one, whole)
-count-some marked (p ∷ ps) (suc i) d below here =
-    let rest : 0 < count_by marked ps = count-some marked ps i d (omega arith) here in
+count_some marked (p ∷ ps) (suc i) d below here =
+    let rest : 0 < count_by marked ps = count_some marked ps i d (omega arith) here in
     let whole : count_by marked (p ∷ ps) ≡ cond (marked p) 1 0 + count_by marked ps = sum_by-cons (λ q. cond {A = ℕ} (marked q) 1 0) p ps in omega (arith, rest, whole)
 
-place-within : {P : Type 0} (marked : P → Bool) (pins : List P) (i : ℕ) → position marked pins ≡ Some i → (i < length pins) × (0 < count_by marked pins)
-place-within marked [] i e = cc
-place-within marked (p ∷ ps) i e =
-    let at = position-Some marked (p ∷ ps) i p e in (at.0, count-some marked (p ∷ ps) i p at.0 at.1)
+place_within : {P : Type 0} (marked : P → Bool) (pins : List P) (i : ℕ) → position marked pins ≡ Some i → (i < length pins) × (0 < count_by marked pins)
+place_within marked [] i e = cc
+place_within marked (p ∷ ps) i e =
+    let at = position-Some marked (p ∷ ps) i p e in (at.0, count_some marked (p ∷ ps) i p at.0 at.1)
 
-mark-at : (closes : Option Bool) (i pins count : ℕ) → i < pins → 0 < count → count ≤ marks_by closes → MarkIsAt closes i pins
-mark-at None i pins count below some few = absurd (omega (arith, some, few))
-mark-at (Some bit) i pins count below some few = below
+mark_at : (closes : Option Bool) (i pins count : ℕ) → i < pins → 0 < count → count ≤ marks_by closes → MarkIsAt closes i pins
+mark_at None i pins count below some few = absurd (omega (arith, some, few))
+mark_at (Some bit) i pins count below some few = below
 
-mark-by : (kind : Kind) (marked : Option ℕ) (pins count : ℕ) → ((i : ℕ) → marked ≡ Some i → (i < pins) × (0 < count)) → count ≤ greatest_marks kind → MarkFits kind marked pins
-mark-by kind None pins count at few = tt
-mark-by kind (Some i) pins count at few = mark-at (closes_of kind) i pins count (at i refl).0 (at i refl).1 few
+mark_by : (kind : Kind) (marked : Option ℕ) (pins count : ℕ) → ((i : ℕ) → marked ≡ Some i → (i < pins) × (0 < count)) → count ≤ greatest_marks kind → MarkFits kind marked pins
+mark_by kind None pins count at few = tt
+mark_by kind (Some i) pins count at few = mark_at (closes_of kind) i pins count (at i refl).0 (at i refl).1 few
 
-pub mark-fits : {P : Type 0} (kind : Kind) (marked : P → Bool) (pins : List P) → count_by marked pins ≤ greatest_marks kind →
+pub mark_fits : {P : Type 0} (kind : Kind) (marked : P → Bool) (pins : List P) → count_by marked pins ≤ greatest_marks kind →
     MarkFits kind (position marked pins) (length pins)
-mark-fits kind marked pins few = mark-by kind (position marked pins) (length pins) (count_by marked pins) (place-within marked pins) few
+mark_fits kind marked pins few = mark_by kind (position marked pins) (length pins) (count_by marked pins) (place_within marked pins) few
 
 -- ---- the rule of the mark, by folds that code has gathered
 
 module _ {A P : Type 0} (folds : List A) (pins : List P) (cells : A → List Value) (wave : P → Wave Value) (kind : Kind) (marked period : ℕ)
     (gathered : map cells folds ≡ map (λ q. folded values (wave q)) pins) (one : HaveOnePeriod (map wave pins)) (is : period ≡ period_of (map wave pins)) where
-  same-disturber : (slot : ℕ) → slot < period_of (map wave pins) →
+  same_disturber : (slot : ℕ) → slot < period_of (map wave pins) →
       disturber kind marked (map (λ w. cell_at values (cells w) slot) folds) ≡ disturber kind marked (folds_in values (map wave pins) slot)
-  same-disturber slot below = ap (disturber kind marked) (folded-cells values folds pins cells wave slot gathered one below)
+  same_disturber slot below = ap (disturber kind marked) (folded_cells values folds pins cells wave slot gathered one below)
 
-  pub held-none : is_none (first_some (λ slot. disturber kind marked (map (λ w. cell_at values (cells w) slot) folds)) period 0) ≡ true →
+  pub held_none : is_none (first_some (λ slot. disturber kind marked (map (λ w. cell_at values (cells w) slot) folds)) period 0) ≡ true →
       None ≡ hazard kind (map wave pins) (Some marked)
-  held-none held =
-      hazard-nowhere kind (map wave pins) (Some marked) marked refl
-      (λ slot below. sym (same-disturber slot below)
-      ∙ first_some-none (λ slot. disturber kind marked (map (λ w. cell_at values (cells w) slot) folds)) period 0 slot
-      (none-is (first_some (λ slot. disturber kind marked (map (λ w. cell_at values (cells w) slot) folds)) period 0) held) (omega arith) (omega (arith, is)))
+  held_none held =
+      hazard_nowhere kind (map wave pins) (Some marked) marked refl
+      (λ slot below. sym (same_disturber slot below)
+      ∙ first_some_none (λ slot. disturber kind marked (map (λ w. cell_at values (cells w) slot) folds)) period 0 slot
+      (none_is (first_some (λ slot. disturber kind marked (map (λ w. cell_at values (cells w) slot) folds)) period 0) held) (omega arith) (omega (arith, is)))
 
-  pub disturbed-met : (image : List Value → Value) →
+  pub disturbed_met : (image : List Value → Value) →
       is_none (first_some (λ slot. disturber kind marked (map (λ w. cell_at values (cells w) slot) folds)) period 0) ≡ false →
       meeting values image (map wave pins) ≡ image_by image (map wave pins) (Some marked) (hazard kind (map wave pins) (Some marked))
   unfolding hazard
-  disturbed-met image disturbed = by (hazard_beside kind (map wave pins) marked) refl
+  disturbed_met image disturbed = by (hazard_beside kind (map wave pins) marked) refl
     where
       by : (h : Option (ℕ × ℕ)) → hazard_beside kind (map wave pins) marked ≡ h →
           meeting values image (map wave pins) ≡ image_by image (map wave pins) (Some marked) (hazard_beside kind (map wave pins) marked)
       by (Some h) e = sym (ap (image_by image (map wave pins) (Some marked)) e)
       by None e =
           let nowhere : first_some (λ slot. disturber kind marked (map (λ w. cell_at values (cells w) slot) folds)) period 0 ≡ None =
-          first_some-nowhere (λ slot. disturber kind marked (map (λ w. cell_at values (cells w) slot) folds)) period 0
+          first_some_nowhere (λ slot. disturber kind marked (map (λ w. cell_at values (cells w) slot) folds)) period 0
           (λ slot below.
           let near : slot < period_of (map wave pins) = omega (arith, is) in
-          same-disturber slot near
-          ∙ map-none (λ pin. (slot, pin)) (disturber kind marked (folds_in values (map wave pins) slot))
-          (first_some-none (λ slot. option_map (λ pin. (slot, pin)) (disturber kind marked (folds_in values (map wave pins) slot)))
+          same_disturber slot near
+          ∙ map_none (λ pin. (slot, pin)) (disturber kind marked (folds_in values (map wave pins) slot))
+          (first_some_none (λ slot. option_map (λ pin. (slot, pin)) (disturber kind marked (folds_in values (map wave pins) slot)))
           (period_of (map wave pins)) 0 slot e (omega arith) (omega arith))) in
           let never : true ≡ false = sym (ap is_none nowhere) ∙ disturbed in
           cc
@@ -114,10 +114,10 @@ module _ {A P : Type 0} (folds : List A) (pins : List P) (cells : A → List Val
 abbrev pub is_plain : Kind → Bool
 is_plain kind = may_split kind && not (may_be_marked kind)
 
-pub plain-is : (kind : Kind) (image : List Value → Value) (waves : List (Wave Value)) (marked : Option ℕ) (pins : ℕ) → image ≡ gate_value kind → is_plain kind ≡ true →
+pub plain_is : (kind : Kind) (image : List Value → Value) (waves : List (Wave Value)) (marked : Option ℕ) (pins : ℕ) → image ≡ gate_value kind → is_plain kind ≡ true →
     MarkFits kind marked pins → meeting values image waves ≡ gate_image kind waves marked
-plain-is kind image waves None pins e plain mark = ap (λ (f : List Value → Value). meeting values f waves) e
-plain-is kind image waves (Some i) pins e plain mark =
+plain_is kind image waves None pins e plain mark = ap (λ (f : List Value → Value). meeting values f waves) e
+plain_is kind image waves (Some i) pins e plain mark =
     absurd (never (closes_of kind) i pins (and_parts (may_split kind) (not (may_be_marked kind)) plain).1 mark)
   where
     never : (closes : Option Bool) (i pins : ℕ) → not (is_some closes) ≡ true → MarkIsAt closes i pins → ⊥
@@ -128,16 +128,16 @@ plain-is kind image waves (Some i) pins e plain mark =
 abbrev pub is_markable : Kind → Bool
 is_markable kind = may_split kind && may_be_marked kind
 
-pub markable-is : (kind : Kind) (image : List Value → Value) (waves : List (Wave Value)) (marked : Option ℕ) → image ≡ gate_value kind → is_markable kind ≡ true →
+pub markable_is : (kind : Kind) (image : List Value → Value) (waves : List (Wave Value)) (marked : Option ℕ) → image ≡ gate_value kind → is_markable kind ≡ true →
     image_by image waves marked (hazard kind waves marked) ≡ gate_image kind waves marked
-markable-is kind image waves marked e m = ap (λ (f : List Value → Value). image_by f waves marked (hazard kind waves marked)) e
+markable_is kind image waves marked e m = ap (λ (f : List Value → Value). image_by f waves marked (hazard kind waves marked)) e
 
 -- ---- with their delay
 
-pub delayed-is : (kind : Kind) (waves : List (Wave Value)) (marked : Option ℕ) (d : Bounds) → may_split kind ≡ true →
+pub delayed_is : (kind : Kind) (waves : List (Wave Value)) (marked : Option ℕ) (d : Bounds) → may_split kind ≡ true →
     moved values (gate_image kind waves marked) d ≡ gate_wave kind waves marked d
 unfolding gate_wave
-delayed-is kind waves marked d h = by (form_of kind) (of_form is_function kind ∙ h)
+delayed_is kind waves marked d h = by (form_of kind) (of_form is_function kind ∙ h)
   where
     by : (form : Form) → is_function form ≡ true → moved values (gate_image kind waves marked) d ≡ wave_by form kind waves marked d
     by Gate e = refl
@@ -146,10 +146,10 @@ delayed-is kind waves marked d h = by (form_of kind) (of_form is_function kind �
     by (Enabled forced) e = cc
     by (Checker check) e = cc
 
-pub change-is : (kind : Kind) (waves : List (Wave Value)) (marked : Option ℕ) (d : Bounds) → kind ≡ Chg → normal values (change_wave waves d) ≡ gate_wave kind waves marked d
+pub change_is : (kind : Kind) (waves : List (Wave Value)) (marked : Option ℕ) (d : Bounds) → kind ≡ Chg → normal values (change_wave waves d) ≡ gate_wave kind waves marked d
 unfolding gate_wave
-change-is kind waves marked d e = ap (λ k. gate_wave k waves marked d) (sym e)
+change_is kind waves marked d e = ap (λ k. gate_wave k waves marked d) (sym e)
 
-pub if-none : {A : Type 0} (o : Option A) (P : Type 0) → (None ≡ o → P) → IfNone o P
-if-none None P h = h refl
-if-none (Some x) P h = tt
+pub if_none : {A : Type 0} (o : Option A) (P : Type 0) → (None ≡ o → P) → IfNone o P
+if_none None P h = h refl
+if_none (Some x) P h = tt

@@ -6,89 +6,89 @@ use Rattle.std.proofs.lemmas.List.{append_assoc, append-nil}
 use Rattle.std.proofs.lemmas.Option.{unwrap_or-slice_get}
 use Rattle.std.proofs.lemmas.List.Elements.{All-head, All-tail}
 use Rattle.wave_core.specs.Slots.{slots_from, slots, SameUntil}
-use Rattle.wave_core.proofs.Slots.{slots-push}
+use Rattle.wave_core.proofs.Slots.{slots_push}
 use Rattle.step_values.specs.declared.value.Value.{Value}
 use Rattle.step_values.specs.Cell.{values}
 use Rattle.skew_algebra.specs.Wave.{cell_at}
-use Rattle.gate_eval.proofs.Passed.{own-slots}
-use Rattle.gate_eval.proofs.Scanned.{map-next}
-use Rattle.gate_eval.proofs.Seen.{slots-map}
+use Rattle.gate_eval.proofs.Passed.{own_slots}
+use Rattle.gate_eval.proofs.Scanned.{map_next}
+use Rattle.gate_eval.proofs.Seen.{slots_map}
 
-pub alone-slots : (f : List Value → Value) (cells : List Value) (n : ℕ) → length cells ≡ n →
+pub alone_slots : (f : List Value → Value) (cells : List Value) (n : ℕ) → length cells ≡ n →
     map (λ (v : Value). f (v ∷ [])) cells ≡ slots n (λ p. f (cell_at values cells p ∷ []))
-alone-slots f cells n long =
-    ap (map (λ (v : Value). f (v ∷ []))) (sym (own-slots cells))
-    ∙ slots-map (λ (v : Value). f (v ∷ [])) (length cells) (cell_at values cells)
+alone_slots f cells n long =
+    ap (map (λ (v : Value). f (v ∷ []))) (sym (own_slots cells))
+    ∙ slots_map (λ (v : Value). f (v ∷ [])) (length cells) (cell_at values cells)
     ∙ ap (λ (m : ℕ). slots m (λ p. f (cell_at values cells p ∷ []))) long
 
-zip-slots_from : {A B : Type 0} (n i : ℕ) (f : ℕ → A) (h : ℕ → B) → zip (slots_from n i f) (slots_from n i h) ≡ slots_from n i (λ p. (f p, h p))
-zip-slots_from zero i f h = refl
-zip-slots_from (suc n) i f h = ap (λ l. (f i, h i) ∷ l) (zip-slots_from n (i + 1) f h)
+zip_slots_from : {A B : Type 0} (n i : ℕ) (f : ℕ → A) (h : ℕ → B) → zip (slots_from n i f) (slots_from n i h) ≡ slots_from n i (λ p. (f p, h p))
+zip_slots_from zero i f h = refl
+zip_slots_from (suc n) i f h = ap (λ l. (f i, h i) ∷ l) (zip_slots_from n (i + 1) f h)
 
-zip-cells : (xs ys : List Value) → length ys ≡ length xs → zip xs ys ≡ slots (length xs) (λ p. (cell_at values xs p, cell_at values ys p))
-zip-cells xs ys long =
-    ap (λ (l : List Value). zip l ys) (sym (own-slots xs))
-    ∙ ap (zip (slots (length xs) (cell_at values xs))) (sym (own-slots ys) ∙ ap (λ (m : ℕ). slots m (cell_at values ys)) long)
-    ∙ zip-slots_from (length xs) 0 (cell_at values xs) (cell_at values ys)
+zip_cells : (xs ys : List Value) → length ys ≡ length xs → zip xs ys ≡ slots (length xs) (λ p. (cell_at values xs p, cell_at values ys p))
+zip_cells xs ys long =
+    ap (λ (l : List Value). zip l ys) (sym (own_slots xs))
+    ∙ ap (zip (slots (length xs) (cell_at values xs))) (sym (own_slots ys) ∙ ap (λ (m : ℕ). slots m (cell_at values ys)) long)
+    ∙ zip_slots_from (length xs) 0 (cell_at values xs) (cell_at values ys)
 
-pub both-slots : (f : List Value → Value) (xs ys : List Value) (n : ℕ) → length xs ≡ n → length ys ≡ length xs →
+pub both_slots : (f : List Value → Value) (xs ys : List Value) (n : ℕ) → length xs ≡ n → length ys ≡ length xs →
     map (λ (q : Value × Value). f (q.0 ∷ q.1 ∷ [])) (zip xs ys) ≡ slots n (λ p. f (cell_at values xs p ∷ cell_at values ys p ∷ []))
-both-slots f xs ys n long same =
-    ap (map (λ (q : Value × Value). f (q.0 ∷ q.1 ∷ []))) (zip-cells xs ys same)
-    ∙ slots-map (λ (q : Value × Value). f (q.0 ∷ q.1 ∷ [])) (length xs) (λ p. (cell_at values xs p, cell_at values ys p))
+both_slots f xs ys n long same =
+    ap (map (λ (q : Value × Value). f (q.0 ∷ q.1 ∷ []))) (zip_cells xs ys same)
+    ∙ slots_map (λ (q : Value × Value). f (q.0 ∷ q.1 ∷ [])) (length xs) (λ p. (cell_at values xs p, cell_at values ys p))
     ∙ ap (λ (m : ℕ). slots m (λ p. f (cell_at values xs p ∷ cell_at values ys p ∷ []))) long
 
 -- the same, where the list of the waves has one, or has two
 
-pub alone-imaged : {U : Type 0} (f : List Value → Value) (cells : U → List Value) (waves : List U) (only : U) (n : ℕ) → length waves ≡ 1 →
+pub alone_imaged : {U : Type 0} (f : List Value → Value) (cells : U → List Value) (waves : List U) (only : U) (n : ℕ) → length waves ≡ 1 →
     only ≡ get_or waves 0 only → All (λ u. length (cells u) ≡ n) waves →
     map (λ (v : Value). f (v ∷ [])) (cells only) ≡ slots n (λ p. f (map (λ u. cell_at values (cells u) p) waves))
-alone-imaged f cells [] only n one is long = absurd (omega arith)
-alone-imaged f cells (u ∷ []) only n one is long =
+alone_imaged f cells [] only n one is long = absurd (omega arith)
+alone_imaged f cells (u ∷ []) only n one is long =
     ap (λ w. map (λ (v : Value). f (v ∷ [])) (cells w)) is
-    ∙ alone-slots f (cells u) n (All-head (λ w. length (cells w) ≡ n) u [] long)
-alone-imaged f cells (u ∷ v ∷ waves) only n one is long = absurd (omega arith)
+    ∙ alone_slots f (cells u) n (All-head (λ w. length (cells w) ≡ n) u [] long)
+alone_imaged f cells (u ∷ v ∷ waves) only n one is long = absurd (omega arith)
 
-pub both-imaged : {U : Type 0} (f : List Value → Value) (cells : U → List Value) (waves : List U) (one other : U) (n : ℕ) → length waves ≡ 2 →
+pub both_imaged : {U : Type 0} (f : List Value → Value) (cells : U → List Value) (waves : List U) (one other : U) (n : ℕ) → length waves ≡ 2 →
     one ≡ get_or waves 0 one → other ≡ get_or waves 1 other → All (λ u. length (cells u) ≡ n) waves →
     map (λ (q : Value × Value). f (q.0 ∷ q.1 ∷ [])) (zip (cells one) (cells other)) ≡ slots n (λ p. f (map (λ u. cell_at values (cells u) p) waves))
-both-imaged f cells [] one other n two is is' long = absurd (omega arith)
-both-imaged f cells (u ∷ []) one other n two is is' long = absurd (omega arith)
-both-imaged f cells (u ∷ v ∷ []) one other n two is is' long =
+both_imaged f cells [] one other n two is is' long = absurd (omega arith)
+both_imaged f cells (u ∷ []) one other n two is is' long = absurd (omega arith)
+both_imaged f cells (u ∷ v ∷ []) one other n two is is' long =
     let first : length (cells u) ≡ n = All-head (λ w. length (cells w) ≡ n) u (v ∷ []) long in
     let second : length (cells v) ≡ n = All-head (λ w. length (cells w) ≡ n) v [] (All-tail (λ w. length (cells w) ≡ n) u (v ∷ []) long) in
     ap (λ w. map (λ (q : Value × Value). f (q.0 ∷ q.1 ∷ [])) (zip (cells w) (cells other))) is
     ∙ ap (λ w. map (λ (q : Value × Value). f (q.0 ∷ q.1 ∷ [])) (zip (cells u) (cells w))) is'
-    ∙ both-slots f (cells u) (cells v) n first (second ∙ sym first)
-both-imaged f cells (u ∷ v ∷ w ∷ waves) one other n two is is' long = absurd (omega arith)
+    ∙ both_slots f (cells u) (cells v) n first (second ∙ sym first)
+both_imaged f cells (u ∷ v ∷ w ∷ waves) one other n two is is' long = absurd (omega arith)
 
 -- ---- from change to change
 
 -- the same value in some slots more
-pub slots-fill : (n a : ℕ) (f : ℕ → Value) (c : Value) → ((p : ℕ) → a ≤ p → p < a + n → f p ≡ c) → slots a f ++ replicate n c ≡ slots (a + n) f
-slots-fill zero a f c is = append-nil (slots a f) ∙ (let same : a ≡ a + 0 = omega arith in ap (λ (m : ℕ). slots m f) same)
-slots-fill (suc n) a f c is =
+pub slots_fill : (n a : ℕ) (f : ℕ → Value) (c : Value) → ((p : ℕ) → a ≤ p → p < a + n → f p ≡ c) → slots a f ++ replicate n c ≡ slots (a + n) f
+slots_fill zero a f c is = append-nil (slots a f) ∙ (let same : a ≡ a + 0 = omega arith in ap (λ (m : ℕ). slots m f) same)
+slots_fill (suc n) a f c is =
     let more : a + 1 + n ≡ a + suc n = omega arith in
     sym (append_assoc (slots a f) (c ∷ []) (replicate n c))
-    ∙ ap (λ (l : List Value). l ++ replicate n c) (slots-push a f (slots a f) c refl (sym (is a (omega arith) (omega arith))))
-    ∙ slots-fill n (a + 1) f c (λ p after before. is p (omega (arith, after)) (omega (arith, before)))
+    ∙ ap (λ (l : List Value). l ++ replicate n c) (slots_push a f (slots a f) c refl (sym (is a (omega arith) (omega arith))))
+    ∙ slots_fill n (a + 1) f c (λ p after before. is p (omega (arith, after)) (omega (arith, before)))
     ∙ ap (λ (m : ℕ). slots m f) more
 
 -- the cell of a slot up to the change
-pub same-value : (cells : List Value) (slot end p : ℕ) → SameUntil cells slot end → slot ≤ p → p < end → cell_at values cells p ≡ cell_at values cells slot
-same-value cells slot end p same after before =
+pub same_value : (cells : List Value) (slot end p : ℕ) → SameUntil cells slot end → slot ≤ p → p < end → cell_at values cells p ≡ cell_at values cells slot
+same_value cells slot end p same after before =
     sym (unwrap_or-slice_get cells p values.any) ∙ ap (λ o. unwrap_or o values.any) (same.same p after before) ∙ unwrap_or-slice_get cells slot values.any
 
 -- one item more, of which two readings are the same
-pub same-next : {U : Type 0} (f h : U → Value) (waves : List U) (i : ℕ) (w : U) → i < length waves → w ≡ get_or waves i w →
+pub same_next : {U : Type 0} (f h : U → Value) (waves : List U) (i : ℕ) (w : U) → i < length waves → w ≡ get_or waves i w →
     map f (take i waves) ≡ map h (take i waves) → f w ≡ h w → map f (take (i + 1) waves) ≡ map h (take (i + 1) waves)
-same-next f h waves i w below is so_far here =
-    sym (map-next f waves i w (map h (take i waves)) (h w) below is (sym so_far) (sym here))
-    ∙ map-next h waves i w (map h (take i waves)) (h w) below is refl refl
+same_next f h waves i w below is so_far here =
+    sym (map_next f waves i w (map h (take i waves)) (h w) below is (sym so_far) (sym here))
+    ∙ map_next h waves i w (map h (take i waves)) (h w) below is refl refl
 
 -- the cells of one wave more
-pub same-more : {U : Type 0} (cells : U → List Value) (waves : List U) (i slot p : ℕ) (w : U) → i < length waves → w ≡ get_or waves i w →
+pub same_more : {U : Type 0} (cells : U → List Value) (waves : List U) (i slot p : ℕ) (w : U) → i < length waves → w ≡ get_or waves i w →
     map (λ u. cell_at values (cells u) p) (take i waves) ≡ map (λ u. cell_at values (cells u) slot) (take i waves) →
     cell_at values (cells w) p ≡ cell_at values (cells w) slot →
     map (λ u. cell_at values (cells u) p) (take (i + 1) waves) ≡ map (λ u. cell_at values (cells u) slot) (take (i + 1) waves)
-same-more cells waves i slot p w = same-next (λ u. cell_at values (cells u) p) (λ u. cell_at values (cells u) slot) waves i w
+same_more cells waves i slot p w = same_next (λ u. cell_at values (cells u) p) (λ u. cell_at values (cells u) slot) waves i w

@@ -7,12 +7,12 @@ use Rattle.wave_core.specs.Cell.{Cells}
 use Rattle.wave_core.specs.Slots.{slots}
 use Rattle.skew_algebra.specs.Wave.{Wave, skewed, is_steady}
 use Rattle.gate_eval.specs.Meeting.{cells_in, folds_in, period_of, movers, kept_skew, meeting_by, meeting}
-use Rattle.gate_eval.proofs.Movers.{movers-moving}
+use Rattle.gate_eval.proofs.Movers.{movers_moving}
 
 -- one item more, by what stands for it
-pub map-next : {A B : Type 0} (f : A → B) (xs : List A) (i : ℕ) (x : A) (ys : List B) (y : B) → i < length xs → x ≡ get_or xs i x → ys ≡ map f (take i xs) → y ≡ f x →
+pub map_next : {A B : Type 0} (f : A → B) (xs : List A) (i : ℕ) (x : A) (ys : List B) (y : B) → i < length xs → x ≡ get_or xs i x → ys ≡ map f (take i xs) → y ≡ f x →
     ys ++ y ∷ [] ≡ map f (take (i + 1) xs)
-map-next f xs i x ys y below is so_far here =
+map_next f xs i x ys y below is so_far here =
     (λ j. so_far j ++ here j ∷ [])
     ∙ sym (map-append f (take i xs) (x ∷ []))
     ∙ ap (λ z. map f (take i xs ++ z ∷ [])) is
@@ -31,24 +31,24 @@ pub record Keeps {T : Type 0} (found : List (Wave T)) (moves : Bool) (skew : ℕ
 
 module _ {T P : Type 0} (k : Cells T) (wave : P → Wave T) (pins : List P) (i : ℕ) (pin : P) (below : i < length pins) (is : pin ≡ get_or pins i pin) where
   -- a second one that moves
-  pub kept-two : (skew : ℕ) → is_steady k (wave pin).cells ≡ false → Keeps (movers k (map wave (take i pins))) true skew →
+  pub kept_two : (skew : ℕ) → is_steady k (wave pin).cells ≡ false → Keeps (movers k (map wave (take i pins))) true skew →
       None ≡ kept_skew (movers k (map wave pins))
-  kept-two skew moves h =
+  kept_two skew moves h =
       let p = h.one refl in
       let rest : List (Wave T) = movers k (map wave (drop (i + 1) pins)) in
       let e : movers k (map wave pins) ≡ (p.0 ∷ []) ++ (wave pin ∷ movers k (map wave (drop (i + 1) pins))) =
       ap (λ l. movers k (map wave l)) (parts pins i pin below is)
       ∙ ap (movers k) (map-append wave (take i pins) (pin ∷ drop (i + 1) pins))
       ∙ filter-append _ (map wave (take i pins)) (wave pin ∷ map wave (drop (i + 1) pins))
-      ∙ (λ j. p.1 j ++ movers-moving k (wave pin) (map wave (drop (i + 1) pins)) moves j) in
+      ∙ (λ j. p.1 j ++ movers_moving k (wave pin) (map wave (drop (i + 1) pins)) moves j) in
       sym (ap kept_skew e)
 
-pub meeting-one : {T : Type 0} (k : Cells T) (image : List T → T) (waves : List (Wave T)) (skew : ℕ) → Some skew ≡ kept_skew (movers k waves) →
+pub meeting_one : {T : Type 0} (k : Cells T) (image : List T → T) (waves : List (Wave T)) (skew : ℕ) → Some skew ≡ kept_skew (movers k waves) →
     skewed (slots (period_of waves) (λ p. image (cells_in k waves p))) skew ≡ meeting k image waves
 unfolding meeting
-meeting-one k image waves skew e = ap (meeting_by k image waves) e
+meeting_one k image waves skew e = ap (meeting_by k image waves) e
 
-pub meeting-more : {T : Type 0} (k : Cells T) (image : List T → T) (waves : List (Wave T)) → None ≡ kept_skew (movers k waves) →
+pub meeting_more : {T : Type 0} (k : Cells T) (image : List T → T) (waves : List (Wave T)) → None ≡ kept_skew (movers k waves) →
     skewed (slots (period_of waves) (λ p. image (folds_in k waves p))) 0 ≡ meeting k image waves
 unfolding meeting
-meeting-more k image waves e = ap (meeting_by k image waves) e
+meeting_more k image waves e = ap (meeting_by k image waves) e

@@ -29,7 +29,7 @@ use Rattle.macro_expander.specs.Numbered.{bit_of, pin_of, out_of, instance_of, j
 use Rattle.macro_expander.specs.Terms.{Joined}
 use Rattle.macro_expander.proofs.Nets.{grows_refl}
 use Rattle.macro_expander.proofs.Gathered.{went_more, went_failed, went_all}
-use Rattle.macro_expander.proofs.Lists.{count_by-map, sum_by-map}
+use Rattle.macro_expander.proofs.Lists.{count_by_map, sum_by_map}
 
 -- ---- room
 
@@ -46,15 +46,15 @@ room : (names : List Name) (js : List Instance) (j : Instance) → AreFew js →
 room names js j few =
     let gates : count_by is_gate (map (instance_of names) js ++ instance_of names j ∷ []) ≡ outputs js + cond (has_output j.kind) 1 0 =
     sum_by_push (λ (x : NamedInstance). cond (is_gate x) 1 0) (map (instance_of names) js) (instance_of names j)
-    ∙ ap (λ n. n + cond (has_output j.kind) 1 0) (count_by-map is_gate (instance_of names) js) in
+    ∙ ap (λ n. n + cond (has_output j.kind) 1 0) (count_by_map is_gate (instance_of names) js) in
     let checks : count_by is_checker (map (instance_of names) js ++ instance_of names j ∷ []) ≡ checkers js + cond (not (has_output j.kind)) 1 0 =
     sum_by_push (λ (x : NamedInstance). cond (is_checker x) 1 0) (map (instance_of names) js) (instance_of names j)
-    ∙ ap (λ n. n + cond (not (has_output j.kind)) 1 0) (count_by-map is_checker (instance_of names) js) in
+    ∙ ap (λ n. n + cond (not (has_output j.kind)) 1 0) (count_by_map is_checker (instance_of names) js) in
     let counted : sum_by (λ (x : Instance). length (map (pin_of names) x.pins)) js ≡ all_pins js = same_pins names 0 js in
     let pins : sum_by pin_count (map (instance_of names) js ++ instance_of names j ∷ []) ≡ all_pins js + length j.pins =
     sum_by_push pin_count (map (instance_of names) js) (instance_of names j)
     ∙ (ap (λ n. n + length (map (pin_of names) j.pins))
-    (sum_by-map pin_count (instance_of names) js ∙ counted) ∙ ap (λ n. all_pins js + n) (length-map j.pins (pin_of names))) in
+    (sum_by_map pin_count (instance_of names) js ∙ counted) ∙ ap (λ n. all_pins js + n) (length-map j.pins (pin_of names))) in
     rw (gates, checks, pins) (few_by (has_output j.kind) (outputs js) (checkers js) (all_pins js) (length j.pins) few.of_outputs few.of_checkers)
 
 -- ---- one bit more

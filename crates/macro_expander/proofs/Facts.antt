@@ -30,7 +30,7 @@ use Rattle.macro_expander.specs.Outcome.{Judged, judging}
 use Rattle.macro_expander.specs.Terms.{Joined}
 use Rattle.macro_expander.specs.Primitives.{demanded, are_of, takes, same_truth, fall_of, written_delay, values_given, Delays, delay_between, split_of, delays_of, takes_delays, limits_for, limits_of, setup_and_hold, high_and_low, are_connected, plan_of, fewest_inputs, most_inputs, most_marks, outputs, marks, bit_at}
 use Rattle.macro_expander.specs.Numbered.{bit_of, joined_of, no_ref, pin_ref, all_refs, column_ref, pin_refs, output_ref, target_ref, instance_ref, BitExists, JoinedExists}
-use Rattle.macro_expander.proofs.Lists.{count_by-map}
+use Rattle.macro_expander.proofs.Lists.{count_by_map}
 use Rattle.macro_expander.proofs.Joints.{HasWidth, AreJoined}
 
 -- ---- judgements that are not refused
@@ -173,7 +173,7 @@ pub record Counted (kind : Kind) (ins : List numbered_joined.Joined) : Type 0 wh
 
 cols : (k lo hi m : ℕ) (ins : List numbered_joined.Joined) → lo ≤ length ins → length ins ≤ hi → count_by (λ (c : numbered_joined.Joined). c.hold) ins ≤ m →
     (lo ≤ length (map (column_ref k) ins)) × (length (map (column_ref k) ins) ≤ hi) × (count_by (λ (p : Pin). p.hold) (map (column_ref k) ins) ≤ m)
-cols k lo hi m ins a b c = rw (length-map ins (column_ref k), count_by-map (λ (p : Pin). p.hold) (column_ref k) ins) (a, b, c)
+cols k lo hi m ins a b c = rw (length-map ins (column_ref k), count_by_map (λ (p : Pin). p.hold) (column_ref k) ins) (a, b, c)
 
 pub record Wide (c : numbered_joined.Joined) : Type 0 where
   pub some : 1 ≤ length c.bits
@@ -251,7 +251,7 @@ module _ (h : Header) (names : List Name) (kind : Kind) (u : UseStatement) (plan
       let most = leb-true (length u.ins) (most_inputs kind) b.1 in
       let marked = leb-true (marks u.ins) (most_marks kind) d.0 in
       let count : length ins ≡ length u.ins = sym (length-map ins (joined_of names)) ∙ ins_are.count in
-      let held : count_by (λ (x : numbered_joined.Joined). x.hold) ins ≡ marks u.ins = sym (count_by-map (λ (j : Joined). j.hold) (joined_of names) ins) ∙ ins_are.marked in
+      let held : count_by (λ (x : numbered_joined.Joined). x.hold) ins ≡ marks u.ins = sym (count_by_map (λ (j : Joined). j.hold) (joined_of names) ins) ∙ ins_are.marked in
       record { least = rw count least; most = rw count most; marked = rw held marked }
 
   pub one_out : length outs ≡ outputs kind

@@ -23,7 +23,7 @@ use Rattle.macro_expander.specs.Outcome.{Judged, judging, or_refuse, collected}
 use Rattle.macro_expander.specs.Steps.{JudgedAt}
 use Rattle.macro_expander.specs.Terms.{Bound, bit_at_place, bit_numbered, outer_bit, outer_bits, formal_bits, if_unasserted, formal_term, formal_of, net_text, meant, named_bits, numbers_between}
 use Rattle.macro_expander.specs.Numbered.{bit_of, bound_of, scope_of, BitExists, BoundExists, ScopeExists, BitsAt, nets_in, names_in, state_of}
-use Rattle.macro_expander.proofs.Lists.{find-map, found_is}
+use Rattle.macro_expander.proofs.Lists.{find_map, found_is}
 use Rattle.macro_expander.proofs.Nets.{grows_refl}
 
 -- ---- judgements of bits that are seen otherwise
@@ -33,129 +33,129 @@ jmap f (Ok a) = Ok (f a)
 jmap f (Err kind) = Err kind
 
 module _ {A B : Type 0} (f : A → B) where
-  place-map : (bits : List A) (p : Option ℕ) → bit_at_place (map f bits) p ≡ option_map f (bit_at_place bits p)
-  place-map bits None = refl
-  place-map bits (Some k) = slice_get-map f bits k
+  place_map : (bits : List A) (p : Option ℕ) → bit_at_place (map f bits) p ≡ option_map f (bit_at_place bits p)
+  place_map bits None = refl
+  place_map bits (Some k) = slice_get-map f bits k
 
-  numbered-map : (numbers : List ℕ) (bits : List A) (i : ℕ) → bit_numbered numbers (map f bits) i ≡ option_map f (bit_numbered numbers bits i)
+  numbered_map : (numbers : List ℕ) (bits : List A) (i : ℕ) → bit_numbered numbers (map f bits) i ≡ option_map f (bit_numbered numbers bits i)
   unfolding bit_numbered
-  numbered-map numbers bits i = place-map bits (position (λ n. n == i) numbers)
+  numbered_map numbers bits i = place_map bits (position (λ n. n == i) numbers)
 
-  pub or_refuse-map : (o : Option A) (kind : RefusalKind) → or_refuse (option_map f o) kind ≡ jmap f (or_refuse o kind)
-  or_refuse-map None kind = refl
-  or_refuse-map (Some a) kind = refl
+  pub or_refuse_map : (o : Option A) (kind : RefusalKind) → or_refuse (option_map f o) kind ≡ jmap f (or_refuse o kind)
+  or_refuse_map None kind = refl
+  or_refuse_map (Some a) kind = refl
 
-  outer_bit-map : (numbers : List ℕ) (bits : List A) (i : ℕ) → outer_bit numbers (map f bits) i ≡ jmap f (outer_bit numbers bits i)
-  outer_bit-map numbers bits i = ap (λ o. or_refuse o BadRange) (numbered-map numbers bits i) ∙ or_refuse-map (bit_numbered numbers bits i) BadRange
+  outer_bit_map : (numbers : List ℕ) (bits : List A) (i : ℕ) → outer_bit numbers (map f bits) i ≡ jmap f (outer_bit numbers bits i)
+  outer_bit_map numbers bits i = ap (λ o. or_refuse o BadRange) (numbered_map numbers bits i) ∙ or_refuse_map (bit_numbered numbers bits i) BadRange
 
-  step-map : (j : Judged A) (j' : Judged B) (next : A → Judged (List A)) (next' : B → Judged (List B)) →
+  step_map : (j : Judged A) (j' : Judged B) (next : A → Judged (List A)) (next' : B → Judged (List B)) →
       j' ≡ jmap f j → ((a : A) → next' (f a) ≡ jmap (map f) (next a)) → judging j' next' ≡ jmap (map f) (judging j next)
-  step-map (Ok a) j' next next' e h = rw e (h a)
-  step-map (Err kind) j' next next' e h = rw e refl
+  step_map (Ok a) j' next next' e h = rw e (h a)
+  step_map (Err kind) j' next next' e h = rw e refl
 
-  outer_bits-map : (numbers : List ℕ) (bits got : List A) (chosen : List ℕ) →
+  outer_bits_map : (numbers : List ℕ) (bits got : List A) (chosen : List ℕ) →
       collected (outer_bit numbers (map f bits)) (map f got) chosen ≡ jmap (map f) (collected (outer_bit numbers bits) got chosen)
-  outer_bits-map numbers bits got [] = refl
-  outer_bits-map numbers bits got (i ∷ chosen) =
-      step-map (outer_bit numbers bits i) (outer_bit numbers (map f bits) i) (λ a. collected (outer_bit numbers bits) (got ++ a ∷ []) chosen)
-      (λ b. collected (outer_bit numbers (map f bits)) (map f got ++ b ∷ []) chosen) (outer_bit-map numbers bits i)
-      (λ a. ap (λ so_far. collected (outer_bit numbers (map f bits)) so_far chosen) (sym (map_push f got a)) ∙ outer_bits-map numbers bits (got ++ a ∷ []) chosen)
+  outer_bits_map numbers bits got [] = refl
+  outer_bits_map numbers bits got (i ∷ chosen) =
+      step_map (outer_bit numbers bits i) (outer_bit numbers (map f bits) i) (λ a. collected (outer_bit numbers bits) (got ++ a ∷ []) chosen)
+      (λ b. collected (outer_bit numbers (map f bits)) (map f got ++ b ∷ []) chosen) (outer_bit_map numbers bits i)
+      (λ a. ap (λ so_far. collected (outer_bit numbers (map f bits)) so_far chosen) (sym (map_push f got a)) ∙ outer_bits_map numbers bits (got ++ a ∷ []) chosen)
 
-  chosen-map : (numbers : List ℕ) (bits : List A) (j : Judged (List ℕ)) →
+  chosen_map : (numbers : List ℕ) (bits : List A) (j : Judged (List ℕ)) →
       judging j (λ chosen. outer_bits numbers (map f bits) chosen) ≡ jmap (map f) (judging j (λ chosen. outer_bits numbers bits chosen))
-  chosen-map numbers bits (Ok chosen) = outer_bits-map numbers bits [] chosen
-  chosen-map numbers bits (Err kind) = refl
+  chosen_map numbers bits (Ok chosen) = outer_bits_map numbers bits [] chosen
+  chosen_map numbers bits (Err kind) = refl
 
-  formal_bits-map : (numbers : List ℕ) (bits : List A) (ends : Option (ℤ × ℤ)) → formal_bits numbers (map f bits) ends ≡ jmap (map f) (formal_bits numbers bits ends)
-  formal_bits-map numbers bits None = refl
-  formal_bits-map numbers bits (Some ends) = chosen-map numbers bits (numbers_between ends)
+  formal_bits_map : (numbers : List ℕ) (bits : List A) (ends : Option (ℤ × ℤ)) → formal_bits numbers (map f bits) ends ≡ jmap (map f) (formal_bits numbers bits ends)
+  formal_bits_map numbers bits None = refl
+  formal_bits_map numbers bits (Some ends) = chosen_map numbers bits (numbers_between ends)
 
-  unasserted-map : (spec : AssertSpec) (bits : List A) → if_unasserted spec (map f bits) ≡ jmap (map f) (if_unasserted spec bits)
-  unasserted-map Unasserted bits = refl
-  unasserted-map (Precision c) bits = refl
-  unasserted-map (Clock c) bits = refl
-  unasserted-map (Stable c) bits = refl
+  unasserted_map : (spec : AssertSpec) (bits : List A) → if_unasserted spec (map f bits) ≡ jmap (map f) (if_unasserted spec bits)
+  unasserted_map Unasserted bits = refl
+  unasserted_map (Precision c) bits = refl
+  unasserted_map (Clock c) bits = refl
+  unasserted_map (Stable c) bits = refl
 
-  term-map : (spec : AssertSpec) (j : Judged (List A)) (j' : Judged (List B)) → j' ≡ jmap (map f) j →
+  term_map : (spec : AssertSpec) (j : Judged (List A)) (j' : Judged (List B)) → j' ≡ jmap (map f) j →
       judging j' (λ chosen. if_unasserted spec chosen) ≡ jmap (map f) (judging j (λ chosen. if_unasserted spec chosen))
-  term-map spec (Ok bits) j' e = rw e (unasserted-map spec bits)
-  term-map spec (Err kind) j' e = rw e refl
+  term_map spec (Ok bits) j' e = rw e (unasserted_map spec bits)
+  term_map spec (Err kind) j' e = rw e refl
 
-  pub formal_term-map : (numbers : List ℕ) (bits : List A) (spec : AssertSpec) (ends : Option (ℤ × ℤ)) →
+  pub formal_term_map : (numbers : List ℕ) (bits : List A) (spec : AssertSpec) (ends : Option (ℤ × ℤ)) →
       formal_term numbers (map f bits) spec ends ≡ jmap (map f) (formal_term numbers bits spec ends)
   unfolding formal_term
-  formal_term-map numbers bits spec ends = term-map spec (formal_bits numbers bits ends) (formal_bits numbers (map f bits) ends) (formal_bits-map numbers bits ends)
+  formal_term_map numbers bits spec ends = term_map spec (formal_bits numbers bits ends) (formal_bits numbers (map f bits) ends) (formal_bits_map numbers bits ends)
 
 -- ---- what holds of each outer bit holds of those that are chosen
 
 module _ {A : Type 0} (P : A → Type 0) (numbers : List ℕ) (bits : List A) (h : All P bits) where
-  got-is : (xs : List A) (k : ℕ) (a : A) → All P xs → slice_get xs k ≡ Some a → P a
-  got-is [] k a g e = absurd (cc)
-  got-is (x ∷ xs) zero a g e = let s : x ≡ a = cc in subst P s (All-head P x xs g)
-  got-is (x ∷ xs) (suc k) a g e = got-is xs k a (All-tail P x xs g) e
+  got_is : (xs : List A) (k : ℕ) (a : A) → All P xs → slice_get xs k ≡ Some a → P a
+  got_is [] k a g e = absurd (cc)
+  got_is (x ∷ xs) zero a g e = let s : x ≡ a = cc in subst P s (All-head P x xs g)
+  got_is (x ∷ xs) (suc k) a g e = got_is xs k a (All-tail P x xs g) e
 
-  place-is : (p : Option ℕ) (a : A) → bit_at_place bits p ≡ Some a → P a
-  place-is None a e = absurd (cc)
-  place-is (Some k) a e = got-is bits k a h e
+  is_place : (p : Option ℕ) (a : A) → bit_at_place bits p ≡ Some a → P a
+  is_place None a e = absurd (cc)
+  is_place (Some k) a e = got_is bits k a h e
 
-  refuse-is : (o : Option A) (a : A) → ((x : A) → o ≡ Some x → P x) → or_refuse o BadRange ≡ Ok a → P a
-  refuse-is None a k e = absurd (cc)
-  refuse-is (Some x) a k e = let s : x ≡ a = cc in subst P s (k x refl)
+  refuse_is : (o : Option A) (a : A) → ((x : A) → o ≡ Some x → P x) → or_refuse o BadRange ≡ Ok a → P a
+  refuse_is None a k e = absurd (cc)
+  refuse_is (Some x) a k e = let s : x ≡ a = cc in subst P s (k x refl)
 
-  outer-is : (i : ℕ) (a : A) → outer_bit numbers bits i ≡ Ok a → P a
+  outer_is : (i : ℕ) (a : A) → outer_bit numbers bits i ≡ Ok a → P a
   unfolding bit_numbered
-  outer-is i a e = refuse-is (bit_numbered numbers bits i) a (λ x q. place-is (position (λ n. n == i) numbers) x q) e
+  outer_is i a e = refuse_is (bit_numbered numbers bits i) a (λ x q. is_place (position (λ n. n == i) numbers) x q) e
 
-  step-is : (j : Judged A) (next : A → Judged (List A)) (out : List A) → ((a : A) → j ≡ Ok a → P a) →
+  step_is : (j : Judged A) (next : A → Judged (List A)) (out : List A) → ((a : A) → j ≡ Ok a → P a) →
       ((a : A) → P a → next a ≡ Ok out → All P out) → judging j next ≡ Ok out → All P out
-  step-is (Ok a) next out k n e = n a (k a refl) e
-  step-is (Err kind) next out k n e = absurd (cc)
+  step_is (Ok a) next out k n e = n a (k a refl) e
+  step_is (Err kind) next out k n e = absurd (cc)
 
-  outers-are : (got : List A) (chosen : List ℕ) (out : List A) → All P got → collected (outer_bit numbers bits) got chosen ≡ Ok out → All P out
-  outers-are got [] out g e = let s : got ≡ out = cc in subst (All P) s g
-  outers-are got (i ∷ chosen) out g e =
-      step-is (outer_bit numbers bits i) (λ a. collected (outer_bit numbers bits) (got ++ a ∷ []) chosen) out (outer-is i)
-      (λ a p q. outers-are (got ++ a ∷ []) chosen out (All-push P got a g p) q) e
+  outers_are : (got : List A) (chosen : List ℕ) (out : List A) → All P got → collected (outer_bit numbers bits) got chosen ≡ Ok out → All P out
+  outers_are got [] out g e = let s : got ≡ out = cc in subst (All P) s g
+  outers_are got (i ∷ chosen) out g e =
+      step_is (outer_bit numbers bits i) (λ a. collected (outer_bit numbers bits) (got ++ a ∷ []) chosen) out (outer_is i)
+      (λ a p q. outers_are (got ++ a ∷ []) chosen out (All-push P got a g p) q) e
 
-  chosen-are : (j : Judged (List ℕ)) (out : List A) → judging j (λ chosen. outer_bits numbers bits chosen) ≡ Ok out → All P out
-  chosen-are (Ok chosen) out e = outers-are [] chosen out (All-nil P) e
-  chosen-are (Err kind) out e = absurd (cc)
+  chosen_are : (j : Judged (List ℕ)) (out : List A) → judging j (λ chosen. outer_bits numbers bits chosen) ≡ Ok out → All P out
+  chosen_are (Ok chosen) out e = outers_are [] chosen out (All-nil P) e
+  chosen_are (Err kind) out e = absurd (cc)
 
-  formal-are : (ends : Option (ℤ × ℤ)) (out : List A) → formal_bits numbers bits ends ≡ Ok out → All P out
-  formal-are None out e = let s : bits ≡ out = cc in subst (All P) s h
-  formal-are (Some ends) out e = chosen-are (numbers_between ends) out e
+  formal_are : (ends : Option (ℤ × ℤ)) (out : List A) → formal_bits numbers bits ends ≡ Ok out → All P out
+  formal_are None out e = let s : bits ≡ out = cc in subst (All P) s h
+  formal_are (Some ends) out e = chosen_are (numbers_between ends) out e
 
-  unasserted-are : (spec : AssertSpec) (xs out : List A) → All P xs → if_unasserted spec xs ≡ Ok out → All P out
-  unasserted-are Unasserted xs out g e = let s : xs ≡ out = cc in subst (All P) s g
-  unasserted-are (Precision c) xs out g e = absurd (cc)
-  unasserted-are (Clock c) xs out g e = absurd (cc)
-  unasserted-are (Stable c) xs out g e = absurd (cc)
+  unasserted_are : (spec : AssertSpec) (xs out : List A) → All P xs → if_unasserted spec xs ≡ Ok out → All P out
+  unasserted_are Unasserted xs out g e = let s : xs ≡ out = cc in subst (All P) s g
+  unasserted_are (Precision c) xs out g e = absurd (cc)
+  unasserted_are (Clock c) xs out g e = absurd (cc)
+  unasserted_are (Stable c) xs out g e = absurd (cc)
 
-  term-are : (spec : AssertSpec) (j : Judged (List A)) (out : List A) → ((xs : List A) → j ≡ Ok xs → All P xs) → judging j (λ chosen. if_unasserted spec chosen) ≡ Ok out → All P out
-  term-are spec (Ok xs) out k e = unasserted-are spec xs out (k xs refl) e
-  term-are spec (Err kind) out k e = absurd (cc)
+  term_are : (spec : AssertSpec) (j : Judged (List A)) (out : List A) → ((xs : List A) → j ≡ Ok xs → All P xs) → judging j (λ chosen. if_unasserted spec chosen) ≡ Ok out → All P out
+  term_are spec (Ok xs) out k e = unasserted_are spec xs out (k xs refl) e
+  term_are spec (Err kind) out k e = absurd (cc)
 
-  pub formal_term-are : (spec : AssertSpec) (ends : Option (ℤ × ℤ)) (out : List A) → formal_term numbers bits spec ends ≡ Ok out → All P out
+  pub formal_term_are : (spec : AssertSpec) (ends : Option (ℤ × ℤ)) (out : List A) → formal_term numbers bits spec ends ≡ Ok out → All P out
   unfolding formal_term
-  formal_term-are spec ends out e = term-are spec (formal_bits numbers bits ends) out (λ xs q. formal-are ends xs q) e
+  formal_term_are spec ends out e = term_are spec (formal_bits numbers bits ends) out (λ xs q. formal_are ends xs q) e
 
 -- ---- names
 
 abbrev pub numbered_formal : List numbered_bound.Bound → SignalName → Option numbered_bound.Bound
 numbered_formal formals name = if name.global then None else find (λ f. bytes_eq f.base name.base) formals
 
-formal_of-map : (names : List Name) (formals : List numbered_bound.Bound) (name : SignalName) →
+formal_of_map : (names : List Name) (formals : List numbered_bound.Bound) (name : SignalName) →
     formal_of (map (bound_of names) formals) name ≡ option_map (bound_of names) (numbered_formal formals name)
-formal_of-map names formals name = by name.global
+formal_of_map names formals name = by name.global
   where
     by : (g : Bool) → (if g then None else find (λ f. bytes_eq f.base name.base) (map (bound_of names) formals)) ≡ option_map (bound_of names)
         (if g then None else find (λ f. bytes_eq f.base name.base) formals)
     by true = refl
-    by false = find-map (λ f. bytes_eq f.base name.base) (bound_of names) formals
+    by false = find_map (λ f. bytes_eq f.base name.base) (bound_of names) formals
 
-formal-is : (P : numbered_bound.Bound → Type 0) (formals : List numbered_bound.Bound) (name : SignalName) (f : numbered_bound.Bound) →
+formal_is : (P : numbered_bound.Bound → Type 0) (formals : List numbered_bound.Bound) (name : SignalName) (f : numbered_bound.Bound) →
     All P formals → numbered_formal formals name ≡ Some f → P f
-formal-is P formals name f h e = by name.global e
+formal_is P formals name f h e = by name.global e
   where
     by : (g : Bool) → (if g then None else find (λ x. bytes_eq x.base name.base) formals) ≡ Some f → P f
     by true q = absurd (cc)
@@ -166,15 +166,15 @@ module _ (e : Expansion) (s : numbered_scope.Scope) (name : SignalName) (ends : 
   bound_term : (f : numbered_bound.Bound) (r : Result (List BitRef) Stop) → All (BitExists (nets_in e)) f.bits → JudgedAt place r (formal_term f.numbers f.bits name.spec ends) →
       BitsAt e e r (meant (Some (bound_of (names_in e) f)) (net_text s.path name) name.spec ends place (state_of e))
   bound_term f (Ok bits) h j = record {
-    is = rw (formal_term-map (bit_of (names_in e)) f.numbers f.bits name.spec ends, j) refl;
+    is = rw (formal_term_map (bit_of (names_in e)) f.numbers f.bits name.spec ends, j) refl;
     grows = grows_refl e;
-    exist = formal_term-are (BitExists (nets_in e)) f.numbers f.bits h name.spec ends bits j;
+    exist = formal_term_are (BitExists (nets_in e)) f.numbers f.bits h name.spec ends bits j;
   }
   bound_term f (Err stop) h j = record {
     told = λ r is.
         let kind = j.told r is in
         let place_is = j.here r is in
-        rw (formal_term-map (bit_of (names_in e)) f.numbers f.bits name.spec ends, kind, sym place_is) refl;
+        rw (formal_term_map (bit_of (names_in e)) f.numbers f.bits name.spec ends, kind, sym place_is) refl;
   }
 
   pub named_formal : (f : numbered_bound.Bound) (r : Result (List BitRef) Stop) → ScopeExists (nets_in e) s →
@@ -182,14 +182,14 @@ module _ (e : Expansion) (s : numbered_scope.Scope) (name : SignalName) (ends : 
       BitsAt e e r (named_bits (scope_of (names_in e) s) name ends place (state_of e))
   unfolding named_bits
   named_formal f r h found j =
-      let is = formal_of-map (names_in e) s.formals name ∙ ap (option_map (bound_of (names_in e))) found in
+      let is = formal_of_map (names_in e) s.formals name ∙ ap (option_map (bound_of (names_in e))) found in
       subst (λ (o : Option Bound). BitsAt e e r (meant o (net_text s.path name) name.spec ends place (state_of e))) (sym is)
-      (bound_term f r (formal-is (BoundExists (nets_in e)) s.formals name f h.formals found).bits j)
+      (bound_term f r (formal_is (BoundExists (nets_in e)) s.formals name f h.formals found).bits j)
 
   pub named_net : (e' : Expansion) (r : Result (List BitRef) Stop) → numbered_formal s.formals name ≡ None →
       BitsAt e e' r (meant None (net_text s.path name) name.spec ends place (state_of e)) →
       BitsAt e e' r (named_bits (scope_of (names_in e) s) name ends place (state_of e))
   unfolding named_bits
   named_net e' r found h =
-      let is = formal_of-map (names_in e) s.formals name ∙ ap (option_map (bound_of (names_in e))) found in
+      let is = formal_of_map (names_in e) s.formals name ∙ ap (option_map (bound_of (names_in e))) found in
       subst (λ (o : Option Bound). BitsAt e e' r (meant o (net_text s.path name) name.spec ends place (state_of e))) (sym is) h

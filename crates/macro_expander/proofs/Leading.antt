@@ -16,8 +16,8 @@ use Rattle.macro_expander.specs.Places.{LeadTo}
 abbrev pub Place : Type 0
 Place = Vec ℕ × ℕ
 
-bytes_eq-sym : (a b : List ℕ) → bytes_eq a b ≡ bytes_eq b a
-bytes_eq-sym a b = grind (arith, nat_tests, bytes_eq-Decides)
+bytes_eq_sym : (a b : List ℕ) → bytes_eq a b ≡ bytes_eq b a
+bytes_eq_sym a b = grind (arith, nat_tests, bytes_eq-Decides)
 
 same_tests : (a b c : List ℕ) → bytes_eq a b ≡ true → bytes_eq c a ≡ bytes_eq c b
 same_tests a b c h = let e : a ≡ b = grind (arith, nat_tests, bytes_eq-Decides) in rw e refl
@@ -61,7 +61,7 @@ leads_more {X} name_of es items i x k h e s l =
     record {
       first = λ name.
           ap (bit_at_place items) (inserted name es k i)
-          ∙ by name (bytes_eq name k.items) (bytes_eq (name_of x) name) (rw s (bytes_eq-sym name (name_of x)))
+          ∙ by name (bytes_eq name k.items) (bytes_eq (name_of x) name) (rw s (bytes_eq_sym name (name_of x)))
           ∙ ap (find (λ (y : X). bytes_eq (name_of y) name)) (sym split);
     }
   where

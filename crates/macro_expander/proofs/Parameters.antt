@@ -17,14 +17,14 @@ use Rattle.macro_expander.proofs.Lists.{found_any}
 use Rattle.indexmap.specs.IndexMap.{insert_entry}
 use denote.Ref.{Bor}
 
-any-map : (name : List ℕ) (xs : List Assign) → list_any (λ x. bytes_eq (assigned_name x) name) xs ≡ list_any (assigns name) (map assignment_of xs)
-any-map name [] = refl
-any-map name (x ∷ xs) = ap (λ b. bytes_eq x.name name || b) (any-map name xs)
+any_map : (name : List ℕ) (xs : List Assign) → list_any (λ x. bytes_eq (assigned_name x) name) xs ≡ list_any (assigns name) (map assignment_of xs)
+any_map name [] = refl
+any_map name (x ∷ xs) = ap (λ b. bytes_eq x.name name || b) (any_map name xs)
 
 -- whether a look-up finds one is whether one has the name
 pub found_given : (name : List ℕ) (xs : List Assign) (r : Option (Bor Assign)) →
     option_copied r ≡ find (λ x. bytes_eq (assigned_name x) name) xs → is_some r ≡ list_any (assigns name) (map assignment_of xs)
-found_given name xs r e = copied r ∙ ap is_some e ∙ found_any (λ x. bytes_eq (assigned_name x) name) xs ∙ any-map name xs
+found_given name xs r e = copied r ∙ ap is_some e ∙ found_any (λ x. bytes_eq (assigned_name x) name) xs ∙ any_map name xs
   where
     copied : (o : Option (Bor Assign)) → is_some o ≡ is_some (option_copied o)
     copied None = refl

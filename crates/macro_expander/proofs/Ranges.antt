@@ -20,7 +20,7 @@ use Rattle.macro_expander.specs.Terms.{written_ends, numbers_of}
 use Rattle.macro_expander.specs.Macros.{input_bits, output_bits, parameters_of, shape_of, shapes_of, inside_of}
 use Rattle.macro_expander.specs.Runs.{IsRun, HasRun}
 use Rattle.macro_expander.specs.Numbered.{IsRange, bound_ref, input_bound_ref, output_bound_ref}
-use Rattle.macro_expander.proofs.Binding.{collected-are}
+use Rattle.macro_expander.proofs.Binding.{collected_are}
 
 -- both steps of a judgement that has a value have one
 both_give : {A B : Type 0} (j : Judged A) (next : A → Judged B) (b : B) → judging j next ≡ Ok b → (a : A) × (j ≡ Ok a) × (next a ≡ Ok b)
@@ -126,9 +126,9 @@ zip_firsts {A = A} {B = B} P (x ∷ xs) (y ∷ ys) h = All-cons (λ (p : A × B)
 pub inputs_have_runs : (shapes : List Shape) (ins : List numbered_joined.Joined) (out : List numbered_bound.Bound) →
     All IsRange shapes → collected input_bound_ref [] (zip shapes ins) ≡ Ok out → All HasRun out
 inputs_have_runs shapes ins out h e =
-    collected-are PairRange HasRun input_bound_ref (λ p f r q. bound_has_run p.0 (input_bits p.0 p.1.bits) f r q) [] (zip shapes ins) out (All-nil HasRun) (zip_firsts IsRange shapes ins h) e
+    collected_are PairRange HasRun input_bound_ref (λ p f r q. bound_has_run p.0 (input_bits p.0 p.1.bits) f r q) [] (zip shapes ins) out (All-nil HasRun) (zip_firsts IsRange shapes ins h) e
 
 pub outputs_have_runs : (inputs : List numbered_bound.Bound) (shapes : List Shape) (outs : List numbered_joined.Joined) (out : List
     numbered_bound.Bound) → All HasRun inputs → All IsRange shapes → collected output_bound_ref inputs (zip shapes outs) ≡ Ok out → All HasRun out
 outputs_have_runs inputs shapes outs out g h e =
-    collected-are PairRange HasRun output_bound_ref (λ p f r q. bound_has_run p.0 (output_bits p.0 p.1.bits) f r q) inputs (zip shapes outs) out g (zip_firsts IsRange shapes outs h) e
+    collected_are PairRange HasRun output_bound_ref (λ p f r q. bound_has_run p.0 (output_bits p.0 p.1.bits) f r q) inputs (zip shapes outs) out g (zip_firsts IsRange shapes outs h) e

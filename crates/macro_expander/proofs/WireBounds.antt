@@ -3,7 +3,7 @@ use Rattle.std.proofs.Common.{◌≡◌, ℕ, zero, suc, ◌<◌, Bool, true, fa
 use Rattle.scald_base.specs.Time.{Bounds}
 use Rattle.flat_circuit.specs.Name.{Name, name_at, AreDistinct}
 use Rattle.flat_circuit.specs.Builder.{Built, same_name, IsBuilt, after_wire}
-use Rattle.flat_circuit.proofs.Tables.{same_name-is, same_name-refl}
+use Rattle.flat_circuit.proofs.Tables.{same_name_is, same_name_refl}
 use Rattle.macro_expander.specs.Flat.{set_wire, with_wire}
 use Rattle.macro_expander.specs.declared.expansion.Expansion.{Expansion}
 use Rattle.macro_expander.specs.Named.{On}
@@ -15,7 +15,7 @@ tail_distinct n names d = λ i j h k e. let q : suc i ≡ suc j = d (suc i) (suc
 other_by : (b : Bool) (a n : Name) (names : List Name) (i : ℕ) → same_name a n ≡ b → AreDistinct (n ∷ names) → i < length names → a ≡ name_at names i → b ≡ false
 other_by false a n names i e d h is = refl
 other_by true a n names i e d h is =
-    let same : n ≡ name_at names i = same_name-is a n e ∙ is in
+    let same : n ≡ name_at names i = same_name_is a n e ∙ is in
     let q : 0 ≡ suc i = d 0 (suc i) (omega arith) (omega arith) same in
     absurd (omega arith)
 
@@ -23,7 +23,7 @@ pub set_by_name : (names : List Name) (wires : List Bounds) (i : ℕ) (w : Bound
     i < length names → length wires ≡ length names → set_wire names wires (name_at names i) w ≡ set wires i w
 set_by_name [] wires i w d h l = absurd (omega arith)
 set_by_name (n ∷ names) [] i w d h l = absurd (omega arith)
-set_by_name (n ∷ names) (v ∷ wires) zero w d h l = rw (same_name-refl n) refl
+set_by_name (n ∷ names) (v ∷ wires) zero w d h l = rw (same_name_refl n) refl
 set_by_name (n ∷ names) (v ∷ wires) (suc i) w d h l =
     let below : i < length names = omega arith in
     let long : length wires ≡ length names = omega arith in

@@ -11,9 +11,9 @@ use Rattle.flat_circuit.specs.Instances.{InstanceFits}
 use Rattle.flat_circuit.specs.Circuit.{Circuit}
 use Rattle.gate_eval.specs.Meeting.{period_of, HaveOnePeriod}
 use Rattle.gate_eval.proofs.Fitting.{AllFit}
-use Rattle.gate_eval.proofs.Chosen.{some-pins}
+use Rattle.gate_eval.proofs.Chosen.{some_pins}
 use Rattle.net_waves.specs.Waves.{Waves, pin_wave, pin_waves}
-use Rattle.net_waves.proofs.Fits.{AreLong, pins-fit}
+use Rattle.net_waves.proofs.Fits.{AreLong, pins_fit}
 
 period_is : (p : ℕ) (waves : List (Wave Value)) → AllFit values p waves → 0 < length waves → period_of waves ≡ p
 period_is p [] fits some = absurd (omega arith)
@@ -25,15 +25,15 @@ length_pins c ws j = length-map j.pins (pin_wave c ws)
 pub period_of_pins : (c : Circuit) (ws : Waves) (j : Instance) → 0 < period c.header → AreLong c ws →
     InstanceFits c.header (length c.nets) j → period_of (pin_waves c ws j) ≡ period c.header
 period_of_pins c ws j some fit fits =
-    let pins : 0 < length j.pins = some-pins j.kind (length j.pins) fits.pins.least in
-    period_is (period c.header) (pin_waves c ws j) (pins-fit c ws j.pins some fit fits.exists.reads)
+    let pins : 0 < length j.pins = some_pins j.kind (length j.pins) fits.pins.least in
+    period_is (period c.header) (pin_waves c ws j) (pins_fit c ws j.pins some fit fits.exists.reads)
     (let long = length_pins c ws j in omega (arith, long))
 
 pub pins_fit_period : (c : Circuit) (ws : Waves) (j : Instance) → 0 < period c.header → AreLong c ws →
     InstanceFits c.header (length c.nets) j → AllFit values (period_of (pin_waves c ws j)) (pin_waves c ws j)
 pins_fit_period c ws j some fit fits =
     subst (λ (p : ℕ). AllFit values p (pin_waves c ws j)) (sym (period_of_pins c ws j some fit fits))
-    (pins-fit c ws j.pins some fit fits.exists.reads)
+    (pins_fit c ws j.pins some fit fits.exists.reads)
 
 -- ---- by what code knows
 

@@ -7,13 +7,13 @@ use Rattle.step_values.specs.declared.value.Value.{Value}
 use Rattle.skew_algebra.specs.Wave.{Wave, skewed}
 use Rattle.net_waves.specs.Waves.{waves_of}
 
-pub wave-found : (xs : List (Wave Value)) (i n : ℕ) (x : Wave Value) → i < n → length xs ≡ n → x ≡ get_or xs i x → x ≡ waves_of xs i
-wave-found [] i n x below long is = absurd (omega arith)
-wave-found (y ∷ xs) zero n x below long is = is
-wave-found (y ∷ xs) (suc i) n x below long is = wave-found xs i (length xs) x (omega arith) refl is
+pub wave_found : (xs : List (Wave Value)) (i n : ℕ) (x : Wave Value) → i < n → length xs ≡ n → x ≡ get_or xs i x → x ≡ waves_of xs i
+wave_found [] i n x below long is = absurd (omega arith)
+wave_found (y ∷ xs) zero n x below long is = is
+wave_found (y ∷ xs) (suc i) n x below long is = wave_found xs i (length xs) x (omega arith) refl is
 
-pub set-at : (waves : List (Wave Value)) (net i : ℕ) (w : Wave Value) → net < length waves → waves_of (set waves net w) i ≡ cond (net == i) w (waves_of waves i)
-set-at waves net i w below = by (net == i) refl
+pub set_at : (waves : List (Wave Value)) (net i : ℕ) (w : Wave Value) → net < length waves → waves_of (set waves net w) i ≡ cond (net == i) w (waves_of waves i)
+set_at waves net i w below = by (net == i) refl
   where
     by : (here : Bool) → (net == i) ≡ here → waves_of (set waves net w) i ≡ cond here w (waves_of waves i)
     by true e = ap (waves_of (set waves net w)) (sym (eqb-true net i e)) ∙ get_or-set_same waves net w (skewed [] 0) below

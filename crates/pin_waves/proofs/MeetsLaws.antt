@@ -8,7 +8,7 @@ use Rattle.scald_base.specs.Signal.{Signal}
 use Rattle.scald_base.specs.declared.assertion.ClockSpec.{ClockSpec}
 use Rattle.scald_base.specs.declared.assertion.AssertSpec.{AssertSpec}
 use Rattle.scald_base.specs.declared.assertion.AssertSpec.TheVariants.{None as Unasserted, Precision, Clock, Stable}
-use Rattle.scald_base.proofs.Back.{back-lt, back-zero, back-later, back-back, back-mod, back-sooner, next-period}
+use Rattle.scald_base.proofs.Back.{back_lt, back_zero, back_later, back_back, back_mod, back_sooner, period_later}
 use Rattle.pin_waves.specs.Meets.{Meets, NearEdge}
 use Rattle.pin_waves.specs.Laws.{later_on, ideal_signal}
 
@@ -38,7 +38,7 @@ front h (Stable spans) m n x fewer meets = λ t one below. meets t one (omega (a
 -- a slot back from one of the next period
 later_slot : (p t o : ℕ) → back p (t + p) o ≡ back p t o
 later_slot p t o =
-    sym (back-mod p (t + p) o) ∙ ap (λ (z : ℕ). back p z o) (next-period p t) ∙ back-mod p t o
+    sym (back_mod p (t + p) o) ∙ ap (λ (z : ℕ). back p z o) (period_later p t) ∙ back_mod p t o
 
 -- the bit before a later one
 before_later : (by : ℕ) (x : Signal) (t : ℕ) → 1 ≤ t → later_on by x (t - 1) ≡ x (t + by - 1)
@@ -119,14 +119,14 @@ ideal_precision h c n pos =
           let early = (skew_of c h.pskew).0 in
           let same : early + 0 ≡ early = omega arith in
           ap (ideal c h)
-          (sym (back-zero (period h) t) ∙ sym (back-later (period h) t early 0 pos)
+          (sym (back_zero (period h) t) ∙ sym (back_later (period h) t early 0 pos)
           ∙ ap (back (period h) (t + early)) same);
     }
 
 -- the ideal clock's bits on both sides of a slot
 now_ideal : (h : Header) (c : ClockSpec) (t : ℕ) →
     ideal_signal c h t ≡ ideal c h (back (period h) t 0)
-now_ideal h c t = ap (ideal c h) (sym (back-zero (period h) t))
+now_ideal h c t = ap (ideal c h) (sym (back_zero (period h) t))
 
 before_ideal : (h : Header) (c : ClockSpec) (t : ℕ) → 0 < period h → 1 ≤ t →
     ideal_signal c h (t - 1) ≡ ideal c h (back (period h) t 1)
@@ -134,7 +134,7 @@ before_ideal h c t pos one =
     let on : t - 1 + 1 ≡ t = omega (arith, one) in
     now_ideal h c (t - 1)
     ∙ ap (ideal c h)
-    (sym (back-later (period h) (t - 1) 1 0 pos) ∙ ap (λ (z : ℕ). back (period h) z (1 + 0)) on)
+    (sym (back_later (period h) (t - 1) 1 0 pos) ∙ ap (λ (z : ℕ). back (period h) z (1 + 0)) on)
 
 either : (b to : Bool) → (b ≡ to) ⊎ (b ≡ not to)
 either true true = inl refl
@@ -157,8 +157,8 @@ own_region : (h : Header) (c : ClockSpec) (early late : ℕ) (to : Bool) (t : �
 own_region h c early late to t pos one before after =
     record {
       is_edge = record {
-        within = back-lt (period h) t 0 pos;
-        before = ap (ideal c h) (back-back (period h) t 0 1) ∙ sym (before_ideal h c t pos one)
+        within = back_lt (period h) t 0 pos;
+        before = ap (ideal c h) (back_back (period h) t 0 1) ∙ sym (before_ideal h c t pos one)
             ∙ before;
         after = sym (now_ideal h c t) ∙ after;
       };
@@ -166,8 +166,8 @@ own_region h c early late to t pos one before after =
       near = omega arith;
       there =
           let same : 0 + early ≡ early + 0 = omega arith in
-          back-sooner (period h) t 0 early early ∙ ap (back (period h) (t + early)) same
-          ∙ back-later (period h) t early 0 pos;
+          back_sooner (period h) t 0 early early ∙ ap (back (period h) (t + early)) same
+          ∙ back_later (period h) t early 0 pos;
     }
 
 -- so it leaves no bit in the region of an edge to it

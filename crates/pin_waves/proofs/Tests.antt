@@ -5,7 +5,7 @@ use Rattle.std.proofs.Common.{inl, inr, ◌≡◌, ◌⊎◌, ℕ, zero, suc, �
 use Rattle.std.specs.List.{range_with_len}
 use Rattle.std.proofs.lemmas.Bool.{and_parts, and_from, or_cases, or_left, or_right}
 use Rattle.scald_base.specs.Signal.{Signal}
-use Rattle.scald_base.proofs.Below.{below-or-last}
+use Rattle.scald_base.proofs.Below.{below_or_last}
 
 -- ---- signals that are written out
 
@@ -61,7 +61,7 @@ pub each_passes : (test : ℕ → Bool) (n : ℕ) → all_below test n ≡ true 
     test t ≡ true
 each_passes test zero h t below = absurd (omega (arith, below))
 each_passes test (suc n) h t below =
-    at (each_passes test n parts.1 t) (below-or-last t n (omega (arith, below)))
+    at (each_passes test n parts.1 t) (below_or_last t n (omega (arith, below)))
   where
     parts : (test n ≡ true) × (all_below test n ≡ true)
     parts = and_parts (test n) (all_below test n) h
@@ -95,7 +95,7 @@ some_passes test (suc n) h = at (some_passes test n) (or_cases (test n) (any_bel
 pub any_passes : (test : ℕ → Bool) (n t : ℕ) → t < n → test t ≡ true → any_below test n ≡ true
 any_passes test zero t below h = absurd (omega (arith, below))
 any_passes test (suc n) t below h =
-    at (λ less. any_passes test n t less h) (below-or-last t n (omega (arith, below)))
+    at (λ less. any_passes test n t less h) (below_or_last t n (omega (arith, below)))
   where
     at : (t < n → any_below test n ≡ true) → (t < n) ⊎ (t ≡ n) → any_below test (suc n) ≡ true
     at before (inl less) = or_right (test n) (any_below test n) (before less)

@@ -4,13 +4,13 @@ use Rattle.std.specs.Prelude.{IfSome}
 use Rattle.std.proofs.lemmas.Bool.{cases_eq, not-false, not-true}
 use Rattle.std.proofs.Math.Nat.{mod-add-mod}
 use Rattle.scald_base.specs.Clock.{back}
-use Rattle.scald_base.proofs.Back.{back-back, back-sooner}
+use Rattle.scald_base.proofs.Back.{back_back, back_sooner}
 use Rattle.step_values.specs.declared.value.Value.{Value}
 use Rattle.step_values.specs.declared.value.Value.TheVariants.{U}
 use Rattle.step_values.specs.Steps.{has, is_quiet}
 use Rattle.step_values.specs.Cell.{values}
 use Rattle.wave_core.specs.Slots.{earlier}
-use Rattle.skew_algebra.proofs.Moves.{earlier-mod}
+use Rattle.skew_algebra.proofs.Moves.{earlier_mod}
 use Rattle.element_kinds.specs.declared.kind.Kind.{Kind}
 use Rattle.net_waves.specs.Pins.{read}
 use Rattle.net_waves.proofs.ReadSlots.{below_run}
@@ -18,91 +18,91 @@ use Rattle.point_check.specs.declared.window.Window.{Window}
 use Rattle.point_check.specs.Window.{Folds, places, slot_at, mover_at, first_mover}
 use Rattle.point_check.specs.Next.{IsNextEdge}
 use Rattle.point_check.specs.Point.{first_low, last_to, falls_somewhere, edge_fault}
-use Rattle.point_check.proofs.Found.{no_mover, a_mover, first_mover-here, first_mover-nowhere, stays_high, gets_low, first_low-here, first_low-nowhere, falls-here, falls-nowhere, no_edge}
+use Rattle.point_check.proofs.Found.{no_mover, a_mover, first_mover_here, first_mover_nowhere, stays_high, gets_low, first_low_here, first_low_nowhere, falls_here, falls_nowhere, no_edge}
 
 -- places of a window are counted on from its first slot
-read-place : (cells : List Value) (w : Window) (t from place : ℕ) → from ≡ slot_at (length cells) w t 0 → read cells (slot_at (length cells) w t place) ≡ read cells (from + place)
+read_place : (cells : List Value) (w : Window) (t from place : ℕ) → from ≡ slot_at (length cells) w t 0 → read cells (slot_at (length cells) w t place) ≡ read cells (from + place)
 unfolding earlier
-read-place cells w t from place is =
+read_place cells w t from place is =
     let p : ℕ = length cells in
     let on : t + 1 + place ≡ t + 1 + 0 + place = omega arith in
     ap (λ (z : ℕ). get_or cells z U)
-    (back-back p (t + 1 + place) w.setup 0 ∙ ap (λ (z : ℕ). back p z (w.setup + 0)) on ∙ sym (back-sooner p (t + 1 + 0) w.setup place 0) ∙ ap (λ (z : ℕ). back p (z + place) 0) (sym is))
+    (back_back p (t + 1 + place) w.setup 0 ∙ ap (λ (z : ℕ). back p z (w.setup + 0)) on ∙ sym (back_sooner p (t + 1 + 0) w.setup place 0) ∙ ap (λ (z : ℕ). back p (z + place) 0) (sym is))
 
 module _ (cells : List Value) (w : Window) (t from : ℕ) (is : from ≡ slot_at (length cells) w t 0) where
-  still-quiet : (k : ℕ) → false ≡ not (is_quiet (read cells (from + k))) → mover_at (length cells) (read cells) w t k ≡ None
-  still-quiet k says = no_mover (length cells) (read cells) w t k (read cells (from + k)) (read-place cells w t from k is) (not-false _ (sym says))
+  still_quiet : (k : ℕ) → false ≡ not (is_quiet (read cells (from + k))) → mover_at (length cells) (read cells) w t k ≡ None
+  still_quiet k says = no_mover (length cells) (read cells) w t k (read cells (from + k)) (read_place cells w t from k is) (not-false _ (sym says))
 
-  pub all-quiet : ((k : ℕ) → k < places w → false ≡ not (is_quiet (read cells (from + k)))) → None ≡ first_mover (length cells) (read cells) w t
-  all-quiet none = first_mover-nowhere (length cells) (read cells) w t (λ k below. still-quiet k (none k below))
+  pub all_quiet : ((k : ℕ) → k < places w → false ≡ not (is_quiet (read cells (from + k)))) → None ≡ first_mover (length cells) (read cells) w t
+  all_quiet none = first_mover_nowhere (length cells) (read cells) w t (λ k below. still_quiet k (none k below))
 
-  pub mover-where : (place : ℕ) → place < places w → ((k : ℕ) → k < place → false ≡ not (is_quiet (read cells (from + k)))) → true ≡ not (is_quiet (read cells (from + place))) →
+  pub mover_where : (place : ℕ) → place < places w → ((k : ℕ) → k < place → false ≡ not (is_quiet (read cells (from + k)))) → true ≡ not (is_quiet (read cells (from + place))) →
       Some place ≡ first_mover (length cells) (read cells) w t
-  mover-where place within before here =
-      first_mover-here (length cells) (read cells) w t place (λ k below. still-quiet k (before k below)) within
-      (a_mover (length cells) (read cells) w t place (read cells (from + place)) (read-place cells w t from place is) (not-true _ (sym here)))
+  mover_where place within before here =
+      first_mover_here (length cells) (read cells) w t place (λ k below. still_quiet k (before k below)) within
+      (a_mover (length cells) (read cells) w t place (read cells (from + place)) (read_place cells w t from place is) (not-true _ (sym here)))
 
 -- the slot that many behind a rise, counted from the slot behind it
-read-behind : (cells : List Value) (period t from k : ℕ) → period ≡ length cells → from ≡ (t + 1) % period → read cells (t + (k + 1)) ≡ read cells (from + k)
-read-behind cells period t from k same is =
+read_behind : (cells : List Value) (period t from k : ℕ) → period ≡ length cells → from ≡ (t + 1) % period → read cells (t + (k + 1)) ≡ read cells (from + k)
+read_behind cells period t from k same is =
     let on : t + (k + 1) ≡ t + 1 + k = omega arith in
     let there : (t + (k + 1)) % length cells ≡ (from + k) % length cells =
     ap (λ (z : ℕ). z % length cells) on ∙ sym (mod-add-mod (t + 1) (length cells) k) ∙ ap (λ (z : ℕ). ((t + 1) % z + k) % length cells) (sym same) ∙ ap (λ (z : ℕ). (z + k) % length cells) (sym is) in
-    sym (earlier-mod values cells (t + (k + 1)) 0) ∙ ap (read cells) there ∙ earlier-mod values cells (from + k) 0
+    sym (earlier_mod values cells (t + (k + 1)) 0) ∙ ap (read cells) there ∙ earlier_mod values cells (from + k) 0
 
 module _ (cells : List Value) (period t from : ℕ) (same : period ≡ length cells) (is : from ≡ (t + 1) % period) where
-  still-high : (n k : ℕ) → ((k : ℕ) → k < n → false ≡ not (has (read cells (from + k)) true true)) → 1 ≤ k → k < n + 1 → cond (has (read cells (t + k)) true true) None (Some k) ≡ None
-  still-high n k none one below =
+  still_high : (n k : ℕ) → ((k : ℕ) → k < n → false ≡ not (has (read cells (from + k)) true true)) → 1 ≤ k → k < n + 1 → cond (has (read cells (t + k)) true true) None (Some k) ≡ None
+  still_high n k none one below =
       let more : k - 1 + 1 ≡ k = omega arith in
       subst (λ (z : ℕ). cond (has (read cells (t + z)) true true) None (Some z) ≡ None) more
-      (stays_high (read cells) t (k - 1 + 1) (read cells (from + (k - 1))) (read-behind cells period t from (k - 1) same is) (not-false _ (sym (none (k - 1) (omega arith)))))
+      (stays_high (read cells) t (k - 1 + 1) (read cells (from + (k - 1))) (read_behind cells period t from (k - 1) same is) (not-false _ (sym (none (k - 1) (omega arith)))))
 
-  pub never-low : ((k : ℕ) → k < period → false ≡ not (has (read cells (from + k)) true true)) → None ≡ first_low (length cells) (read cells) t
-  never-low none = first_low-nowhere (length cells) (read cells) t (λ k one below. still-high period k none one (omega (arith, same, below)))
+  pub never_low : ((k : ℕ) → k < period → false ≡ not (has (read cells (from + k)) true true)) → None ≡ first_low (length cells) (read cells) t
+  never_low none = first_low_nowhere (length cells) (read cells) t (λ k one below. still_high period k none one (omega (arith, same, below)))
 
-  pub low-where : (place : ℕ) → place < period → ((k : ℕ) → k < place → false ≡ not (has (read cells (from + k)) true true)) → true ≡ not (has (read cells (from + place)) true true) →
+  pub low_where : (place : ℕ) → place < period → ((k : ℕ) → k < place → false ≡ not (has (read cells (from + k)) true true)) → true ≡ not (has (read cells (from + place)) true true) →
       Some (place + 1) ≡ first_low (length cells) (read cells) t
-  low-where place within before here =
-      first_low-here (length cells) (read cells) t (place + 1) (λ k one less. still-high place k before one less) (omega arith) (omega (arith, within, same))
-      (gets_low (read cells) t (place + 1) (read cells (from + place)) (read-behind cells period t from place same is) (not-true _ (sym here)))
+  low_where place within before here =
+      first_low_here (length cells) (read cells) t (place + 1) (λ k one less. still_high place k before one less) (omega arith) (omega (arith, within, same))
+      (gets_low (read cells) t (place + 1) (read cells (from + place)) (read_behind cells period t from place same is) (not-true _ (sym here)))
 
 module _ (cells : List Value) (period : ℕ) (same : period ≡ length cells) where
-  falls-at : (k : ℕ) → has (read cells k) true false ≡ has (read cells (0 + k)) true false
-  falls-at k = let on : k ≡ 0 + k = omega arith in ap (λ (z : ℕ). has (read cells z) true false) on
+  falls_at : (k : ℕ) → has (read cells k) true false ≡ has (read cells (0 + k)) true false
+  falls_at k = let on : k ≡ 0 + k = omega arith in ap (λ (z : ℕ). has (read cells z) true false) on
 
-  pub never-falls : ((k : ℕ) → k < period → false ≡ has (read cells (0 + k)) true false) → false ≡ falls_somewhere (length cells) (read cells)
-  never-falls none = falls-nowhere (length cells) (read cells) (λ k below. falls-at k ∙ sym (none k (omega (arith, same, below))))
+  pub never_falls : ((k : ℕ) → k < period → false ≡ has (read cells (0 + k)) true false) → false ≡ falls_somewhere (length cells) (read cells)
+  never_falls none = falls_nowhere (length cells) (read cells) (λ k below. falls_at k ∙ sym (none k (omega (arith, same, below))))
 
-  pub falls-where : (slot : ℕ) → slot < period → ((k : ℕ) → k < slot → false ≡ has (read cells (0 + k)) true false) → true ≡ has (read cells (0 + slot)) true false →
+  pub falls_where : (slot : ℕ) → slot < period → ((k : ℕ) → k < slot → false ≡ has (read cells (0 + k)) true false) → true ≡ has (read cells (0 + slot)) true false →
       true ≡ falls_somewhere (length cells) (read cells)
-  falls-where slot within before here =
-      falls-here (length cells) (read cells) slot (λ k below. falls-at k ∙ sym (before k below)) (omega (arith, within, same)) (falls-at slot ∙ sym here)
+  falls_where slot within before here =
+      falls_here (length cells) (read cells) slot (λ k below. falls_at k ∙ sym (before k below)) (omega (arith, within, same)) (falls_at slot ∙ sym here)
 
 -- ---- the next edge
 
 module _ (cells : List Value) (period from left : ℕ) (same : period ≡ length cells) (most : from ≤ period) (is : left ≡ period - from) where
-  no-rise : (n s : ℕ) → ((k : ℕ) → k < n → false ≡ has (read cells (from + k)) false true) → from ≤ s → s < from + n → has (read cells s) false true ≡ false
-  no-rise n s none above below =
+  no_rise : (n s : ℕ) → ((k : ℕ) → k < n → false ≡ has (read cells (from + k)) false true) → from ≤ s → s < from + n → has (read cells s) false true ≡ false
+  no_rise n s none above below =
       let on : from + (s - from) ≡ s = omega arith in
       ap (λ (z : ℕ). has (read cells z) false true) (sym on) ∙ sym (none (s - from) (omega arith))
 
-  pub no-next : ((k : ℕ) → k < left → false ≡ has (read cells (from + k)) false true) → IsNextEdge (read cells) from (length cells) period
-  no-next none = record {
+  pub no_next : ((k : ℕ) → k < left → false ≡ has (read cells (from + k)) false true) → IsNextEdge (read cells) from (length cells) period
+  no_next none = record {
     after = most;
     within = omega (arith, same);
     none =
-        λ s above below. no-rise left s none above (omega (arith, is, below, most));
+        λ s above below. no_rise left s none above (omega (arith, is, below, most));
     at = λ below. absurd (omega (arith, same, below));
   }
 
-  pub is-next : (place : ℕ) → place < left → ((k : ℕ) → k < place → false ≡ has (read cells (from + k)) false true) → true ≡ has (read cells (from + place)) false true →
+  pub is_next : (place : ℕ) → place < left → ((k : ℕ) → k < place → false ≡ has (read cells (from + k)) false true) → true ≡ has (read cells (from + place)) false true →
       IsNextEdge (read cells) from (length cells) (from + place)
-  is-next place within before here =
-      record { after = omega arith; within = omega (arith, is, within, most, same); none = λ s above below. no-rise place s before above below; at = λ below. sym here }
+  is_next place within before here =
+      record { after = omega arith; within = omega (arith, is, within, most, same); none = λ s above below. no_rise place s before above below; at = λ below. sym here }
 
-pub past-edges : (kind : Kind) (p k : ℕ) (clock input : Folds) (limits : ℕ × ℕ) (edge next : ℕ) → ((s : ℕ) → s < edge → edge_fault kind p k clock input limits s ≡ None) →
+pub past_edges : (kind : Kind) (p k : ℕ) (clock input : Folds) (limits : ℕ × ℕ) (edge next : ℕ) → ((s : ℕ) → s < edge → edge_fault kind p k clock input limits s ≡ None) →
     None ≡ edge_fault kind p k clock input limits edge → IsNextEdge clock (edge + 1) p next → (s : ℕ) → s < next → edge_fault kind p k clock input limits s ≡ None
-past-edges kind p k clock input limits edge next before here to =
+past_edges kind p k clock input limits edge next before here to =
     below_run (λ s. edge_fault kind p k clock input limits s ≡ None) edge next before (λ s above below. elim (cases_eq edge s) [
       | inl e ↦ subst (λ (z : ℕ). edge_fault kind p k clock input limits z ≡ None) e (sym here)
       | inr ne ↦ sym (no_edge kind p k clock input limits s (clock s) refl (to.none s (omega arith) below))
@@ -110,19 +110,19 @@ past-edges kind p k clock input limits edge next before here to =
 
 -- ---- the last of a run
 
-pub last_to-run : (test : ℕ → Bool) (n m : ℕ) (b : Bool) → n < m → ((k : ℕ) → n < k → k ≤ m → test k ≡ b) → last_to test m ≡ cond b (Some m) (last_to test n)
-last_to-run test n zero b less run = absurd (omega arith)
-last_to-run test n (suc m) true less run = ap (λ b. cond b (Some (suc m)) (last_to test m)) (run (suc m) (omega arith) (omega arith))
-last_to-run test n (suc m) false less run = elim (cases_eq n m) [
+pub last_to_run : (test : ℕ → Bool) (n m : ℕ) (b : Bool) → n < m → ((k : ℕ) → n < k → k ≤ m → test k ≡ b) → last_to test m ≡ cond b (Some m) (last_to test n)
+last_to_run test n zero b less run = absurd (omega arith)
+last_to_run test n (suc m) true less run = ap (λ b. cond b (Some (suc m)) (last_to test m)) (run (suc m) (omega arith) (omega arith))
+last_to_run test n (suc m) false less run = elim (cases_eq n m) [
   | inl e ↦ ap (λ b. cond b (Some (suc m)) (last_to test m)) (run (suc m) (omega arith) (omega arith)) ∙ ap (last_to test) (sym e)
   | inr ne ↦ ap (λ b. cond b (Some (suc m)) (last_to test m)) (run (suc m) (omega arith) (omega arith))
-      ∙ last_to-run test n m false (omega arith) (λ k above most. run k above (omega arith))
+      ∙ last_to_run test n m false (omega arith) (λ k above most. run k above (omega arith))
 ]
 
-small-either : (n m : ℕ) (o : Option ℕ) (b : Bool) → suc n ≤ m → IfSome o (λ j. j ≤ m) → IfSome (cond b (Some (suc n)) o) (λ j. j ≤ m)
-small-either n m o true most before = most
-small-either n m o false most before = before
+small_either : (n m : ℕ) (o : Option ℕ) (b : Bool) → suc n ≤ m → IfSome o (λ j. j ≤ m) → IfSome (cond b (Some (suc n)) o) (λ j. j ≤ m)
+small_either n m o true most before = most
+small_either n m o false most before = before
 
-pub last_to-small : (test : ℕ → Bool) (n m : ℕ) → n ≤ m → IfSome (last_to test n) (λ j. j ≤ m)
-last_to-small test zero m most = tt
-last_to-small test (suc n) m most = small-either n m (last_to test n) (test (suc n)) most (last_to-small test n m (omega arith))
+pub last_to_small : (test : ℕ → Bool) (n m : ℕ) → n ≤ m → IfSome (last_to test n) (λ j. j ≤ m)
+last_to_small test zero m most = tt
+last_to_small test (suc n) m most = small_either n m (last_to test n) (test (suc n)) most (last_to_small test n m (omega arith))

@@ -60,24 +60,24 @@ reply_made m words left left' command read slice o bytes form all short same is 
 module _ {Command Outcome : Type 0} (m : Meaning Command Outcome) (lawful : IsLawful m) where
   -- ---- the form of the words
 
-  form-reads : (words : List (List ℕ)) (command : Command) → m.command_of words ≡ Ok command →
+  form_reads : (words : List (List ℕ)) (command : Command) → m.command_of words ≡ Ok command →
       are_reading m.reads (m.command_of words) ≡ m.reads command
-  form-reads words command form = ap (are_reading m.reads) form
+  form_reads words command form = ap (are_reading m.reads) form
 
-  one-command : (words : List (List ℕ)) (command other : Command) →
+  one_command : (words : List (List ℕ)) (command other : Command) →
       m.command_of words ≡ Ok command → m.command_of words ≡ Ok other → other ≡ command
-  one-command words command other form form' = cc (form, form')
+  one_command words command other form form' = cc (form, form')
 
-  no-command : (words : List (List ℕ)) (i : ℕ) (command : Command) → m.command_of words ≡ Err i →
+  no_command : (words : List (List ℕ)) (i : ℕ) (command : Command) → m.command_of words ≡ Err i →
       m.command_of words ≡ Ok command → ⊥
-  no-command words i command none form = absurd (cc (none, form))
+  no_command words i command none form = absurd (cc (none, form))
 
-  within-or-past : (words : List (List ℕ)) (text : List ℕ) (command other : Command) →
+  within_or_past : (words : List (List ℕ)) (text : List ℕ) (command other : Command) →
       m.command_of words ≡ Ok command → m.command_of words ≡ Ok other → m.reads command ≡ true →
       m.most_bytes (Ok command) < length text →
       (m.reads other ≡ true → length text ≤ m.most_bytes (Ok other)) → ⊥
-  within-or-past words text command other form form' asks long short =
-      let same : other ≡ command = one-command words command other form form' in
+  within_or_past words text command other form form' asks long short =
+      let same : other ≡ command = one_command words command other form form' in
       let within : length text ≤ m.most_bytes (Ok command) =
       subst (λ (k : Command). m.reads k ≡ true → length text ≤ m.most_bytes (Ok k))
       same short asks in
@@ -90,23 +90,23 @@ module _ {Command Outcome : Type 0} (m : Meaning Command Outcome) (lawful : IsLa
   one_answer words text _ _ _ _ (no_form i form) (no_form j form') =
       let same : i ≡ j = cc (form, form') in (ap (λ (k : ℕ). m.ended (BadWords k)) same, refl)
   one_answer words text _ _ _ _ (no_form i form) (too_long c form' asks long') =
-      absurd (no-command words i c form form')
+      absurd (no_command words i c form form')
   one_answer words text _ _ _ _ (no_form i form) (replied c o' bytes' form' short' r') =
-      absurd (no-command words i c form form')
+      absurd (no_command words i c form form')
   one_answer words text _ _ _ _ (too_long c form asks long) (no_form j form') =
-      absurd (no-command words j c form' form)
+      absurd (no_command words j c form' form)
   one_answer words text _ _ _ _ (too_long c form asks long) (too_long c' form' asks' long') =
       (refl, refl)
   one_answer words text _ _ _ _ (too_long c form asks long) (replied c' o' bytes' form' short' r') =
-      absurd (within-or-past words text c c' form form' asks long short')
+      absurd (within_or_past words text c c' form form' asks long short')
   one_answer words text _ _ _ _ (replied c o bytes form short r) (no_form j form') =
-      absurd (no-command words j c form' form)
+      absurd (no_command words j c form' form)
   one_answer words text _ _ _ _ (replied c o bytes form short r) (too_long c' form' asks' long') =
-      absurd (within-or-past words text c' c form' form asks' long' short)
+      absurd (within_or_past words text c' c form' form asks' long' short)
   one_answer words text _ _ _ _ (replied c o bytes form short r)
       (replied c' o' bytes' form' short' r') =
       lawful.one c text o o' bytes bytes' r
-      (subst (λ (k : Command). m.Replied k text o' bytes') (one-command words c c' form form')
+      (subst (λ (k : Command). m.Replied k text o' bytes') (one_command words c c' form form')
       r')
 
   -- ---- the reply, as the answer to what is told
@@ -118,30 +118,30 @@ module _ {Command Outcome : Type 0} (m : Meaning Command Outcome) (lawful : IsLa
     told_all text o bytes (by_source told) r asks =
         read_whole left left' (m.most_bytes (Ok r.command)) r.text text (r.read asks) told
     told_all text o bytes (by_words unread) r asks =
-        absurd (both_ways (m.reads r.command) (sym (form-reads words r.command r.form) ∙ unread)
+        absurd (both_ways (m.reads r.command) (sym (form_reads words r.command r.form) ∙ unread)
         asks)
 
-    replied-told : (command : Command) (read text : List ℕ) (o : Outcome) (bytes : List ℕ)
+    replied_told : (command : Command) (read text : List ℕ) (o : Outcome) (bytes : List ℕ)
         (asks : Bool) → m.reads command ≡ asks → (m.reads command ≡ true → read ≡ text) →
         m.Replied command read o bytes → m.Replied command text o bytes
-    replied-told command read text o bytes true is same reply =
+    replied_told command read text o bytes true is same reply =
         subst (λ (z : List ℕ). m.Replied command z o bytes) (same is) reply
-    replied-told command read text o bytes false is same reply =
+    replied_told command read text o bytes false is same reply =
         lawful.unread command read text o bytes is reply
 
-    has-answer : (text : List ℕ) (o : Outcome) (bytes : List ℕ) → AreTold m words left text →
+    has_answer : (text : List ℕ) (o : Outcome) (bytes : List ℕ) → AreTold m words left text →
         IsReply m words left left' o bytes → Answer m words text o bytes
-    has-answer text o bytes told r =
+    has_answer text o bytes told r =
         let same = told_all text o bytes told r in
         replied r.command o bytes r.form
         (λ asks. subst (λ (z : List ℕ). length z ≤ m.most_bytes (Ok r.command)) (same asks)
         r.short)
-        (replied-told r.command r.text text o bytes (m.reads r.command) refl same r.is)
+        (replied_told r.command r.text text o bytes (m.reads r.command) refl same r.is)
 
-    answered-by : (text : List ℕ) (o : Outcome) (bytes : List ℕ) (taken taken' : Option (List ℕ)) →
+    answered_by : (text : List ℕ) (o : Outcome) (bytes : List ℕ) (taken taken' : Option (List ℕ)) →
         Answer m words text o bytes → Appends taken taken' bytes →
         IsAnswered m words text o taken taken'
-    answered-by text o bytes taken taken' is written = record {
+    answered_by text o bytes taken taken' is written = record {
       bytes = bytes;
       is = is;
       only = λ p others other. one_answer words text p o others bytes other is;
@@ -153,7 +153,7 @@ module _ {Command Outcome : Type 0} (m : Meaning Command Outcome) (lawful : IsLa
         IsReplied m promised words left left' o taken taken' →
         IsAnswered m words text o taken taken'
     reply_answers promised text o taken taken' told r =
-        answered-by text o r.bytes taken taken' (has-answer text o r.bytes told r.reply) r.written
+        answered_by text o r.bytes taken taken' (has_answer text o r.bytes told r.reply) r.written
 
     pub part_answers : (text : List ℕ) (taken taken' : Option (List ℕ)) →
         AreTold m words left text → IsPartReplied m words left left' taken taken' →
@@ -161,47 +161,47 @@ module _ {Command Outcome : Type 0} (m : Meaning Command Outcome) (lawful : IsLa
     part_answers text taken taken' told r = record {
       outcome = r.outcome;
       bytes = r.bytes;
-      is = has-answer text r.outcome r.bytes told r.reply;
+      is = has_answer text r.outcome r.bytes told r.reply;
       written = r.written;
     }
 
     -- ---- the ends of a call, as answers
 
-    bad-words-answer : (text : List ℕ) (taken : Option (List ℕ)) (i : ℕ) →
+    bad_words_answer : (text : List ℕ) (taken : Option (List ℕ)) (i : ℕ) →
         m.command_of words ≡ Err i → IsAnswered m words text (m.ended (BadWords i)) taken taken
-    bad-words-answer text taken i none =
-        answered-by text _ [] taken taken (no_form i none) (Appends-nil taken)
+    bad_words_answer text taken i none =
+        answered_by text _ [] taken taken (no_form i none) (Appends-nil taken)
 
-    past-limit : (text : List ℕ) (taken : Option (List ℕ)) (read : Result Command ℕ) →
+    past_limit : (text : List ℕ) (taken : Option (List ℕ)) (read : Result Command ℕ) →
         m.command_of words ≡ read → are_reading m.reads read ≡ true → AreTold m words left text →
         ReadsPast left left' (m.most_bytes read) →
         IsAnswered m words text (m.ended TooLong) taken taken
-    past-limit text taken (Err i) form asks told past = absurd (cc)
-    past-limit text taken (Ok command) form asks (by_source told) past =
-        answered-by text _ [] taken taken
+    past_limit text taken (Err i) form asks told past = absurd (cc)
+    past_limit text taken (Ok command) form asks (by_source told) past =
+        answered_by text _ [] taken taken
         (too_long command form asks
         (read_past left left' (m.most_bytes (Ok command)) text past told)) (Appends-nil taken)
-    past-limit text taken (Ok command) form asks (by_words unread) past =
-        absurd (both_ways (m.reads command) (sym (form-reads words command form) ∙ unread) asks)
+    past_limit text taken (Ok command) form asks (by_words unread) past =
+        absurd (both_ways (m.reads command) (sym (form_reads words command form) ∙ unread) asks)
 
     -- no reply is to a text past the limit that was read
-    short-reply : (o : Outcome) (bytes text : List ℕ) → IsReply m words left left' o bytes →
+    short_reply : (o : Outcome) (bytes text : List ℕ) → IsReply m words left left' o bytes →
         left ≡ Some text → are_reading m.reads (m.command_of words) ≡ true →
         m.most_bytes (m.command_of words) < length text → ⊥
-    short-reply o bytes text r told asks long =
+    short_reply o bytes text r told asks long =
         let limit : m.most_bytes (m.command_of words) ≡ m.most_bytes (Ok r.command) =
         ap m.most_bytes r.form in
         let same : r.text ≡ text =
         read_whole left left' (m.most_bytes (Ok r.command)) r.text text
-        (r.read (sym (form-reads words r.command r.form) ∙ asks)) told in
+        (r.read (sym (form_reads words r.command r.form) ∙ asks)) told in
         absurd (omega (arith, ap length same, long, r.short, limit))
 
   -- ---- outcomes and ends
 
   -- the reply's outcome is of no end
-  reply-speaks : (words : List (List ℕ)) (left left' : Option (List ℕ)) (o : Outcome)
+  reply_speaks : (words : List (List ℕ)) (left left' : Option (List ℕ)) (o : Outcome)
       (bytes : List ℕ) → IsReply m words left left' o bytes → m.end_of o ≡ None
-  reply-speaks words left left' o bytes r = lawful.replies r.command r.text o bytes r.is
+  reply_speaks words left left' o bytes r = lawful.replies r.command r.text o bytes r.is
 
   pub end_gives : (made : Result Outcome CallEnd) (o : Outcome) (end : CallEnd) →
       o ≡ outcome_of m made → made ≡ Err end → o ≡ m.ended end
@@ -220,7 +220,7 @@ module _ {Command Outcome : Type 0} (m : Meaning Command Outcome) (lawful : IsLa
     pub end_is : (made : Result Outcome CallEnd) (o : Outcome) (end : CallEnd) → AreReplied made →
         o ≡ outcome_of m made → o ≡ m.ended end → made ≡ Err end
     end_is (Ok p) o end r is e =
-        let none : m.end_of p ≡ None = reply-speaks words left left' p r.bytes r.reply in
+        let none : m.end_of p ≡ None = reply_speaks words left left' p r.bytes r.reply in
         let some : m.end_of p ≡ Some end = ap m.end_of (sym is ∙ e) ∙ lawful.ends end in
         absurd (cc (none, some))
     end_is (Err other) o end r is e =
@@ -234,7 +234,7 @@ module _ {Command Outcome : Type 0} (m : Meaning Command Outcome) (lawful : IsLa
         IfErr made (λ end. test end ≡ true → X) → is_end test (m.end_of o) ≡ true → X
     at_end (Ok p) o test X r is f e =
         let none : m.end_of o ≡ None =
-        ap m.end_of is ∙ reply-speaks words left left' p r.bytes r.reply in
+        ap m.end_of is ∙ reply_speaks words left left' p r.bytes r.reply in
         let no : is_end test (m.end_of o) ≡ false = ap (is_end test) none in
         absurd (both_ways (is_end test (m.end_of o)) no e)
     at_end (Err end) o test X r is f e =
@@ -257,15 +257,15 @@ module _ {Command Outcome : Type 0} (m : Meaning Command Outcome) (lawful : IsLa
         IfSome left (λ text. are_reading m.reads (m.command_of words) ≡ true → speaks m o ≡ true →
         IsAtEnd left')
     at_source_end made o r is =
-        by-left left (λ asks spoken. let reply = (speaks_replied made o r is spoken).reply in
-        (reply.read (sym (form-reads words reply.command reply.form) ∙ asks)).to_end)
+        by_left left (λ asks spoken. let reply = (speaks_replied made o r is spoken).reply in
+        (reply.read (sym (form_reads words reply.command reply.form) ∙ asks)).to_end)
       where
-        by-left : (l : Option (List ℕ)) → (are_reading m.reads (m.command_of words) ≡ true →
+        by_left : (l : Option (List ℕ)) → (are_reading m.reads (m.command_of words) ≡ true →
             speaks m o ≡ true → IfSome l (λ _. IsAtEnd left')) →
             IfSome l (λ text. are_reading m.reads (m.command_of words) ≡ true → speaks m o ≡ true →
             IsAtEnd left')
-        by-left None f = tt
-        by-left (Some text) f = f
+        by_left None f = tt
+        by_left (Some text) f = f
 
     pub whole_answer : {K : Type 0} (contents : K → Option (List ℕ)) (sink sink' : K) →
         taken ≡ contents sink → taken' ≡ contents sink' →
@@ -307,10 +307,10 @@ module _ {Command Outcome : Type 0} (m : Meaning Command Outcome) (lawful : IsLa
             (sym of) r))
         go (Err (BadWords i)) of r none first quiet past failed failed' calm calm' =
             inr (silent (BadWords i) of (quiet refl)
-            (bad-words-answer words left left' text taken i (none i refl)))
+            (bad_words_answer words left left' text taken i (none i refl)))
         go (Err TooLong) of r none first quiet past failed failed' calm calm' =
             inr (silent TooLong of (quiet refl)
-            (past-limit words left left' text taken (m.command_of words) refl (first refl) told
+            (past_limit words left left' text taken (m.command_of words) refl (first refl) told
             (past refl)))
         go (Err ReadFault) of r none first quiet past failed failed' calm calm' =
             absurd (calm (first refl) (failed refl))
@@ -327,17 +327,17 @@ module _ {Command Outcome : Type 0} (m : Meaning Command Outcome) (lawful : IsLa
         m.most_bytes (m.command_of words) < length text → ¬ Failed →
         (o ≡ m.ended NoMemory) ⊎ (o ≡ m.ended TooLong))
     long_text made o Failed is replies none failed part =
-        by-left left (λ text told asks long calm. go text told asks long calm made is replies none failed part)
+        by_left left (λ text told asks long calm. go text told asks long calm made is replies none failed part)
       where
-        by-left : (l : Option (List ℕ)) →
+        by_left : (l : Option (List ℕ)) →
             ((text : List ℕ) → l ≡ Some text → are_reading m.reads (m.command_of words) ≡ true →
             m.most_bytes (m.command_of words) < length text → ¬ Failed →
             (o ≡ m.ended NoMemory) ⊎ (o ≡ m.ended TooLong)) →
             IfSome l (λ text. are_reading m.reads (m.command_of words) ≡ true →
             m.most_bytes (m.command_of words) < length text → ¬ Failed →
             (o ≡ m.ended NoMemory) ⊎ (o ≡ m.ended TooLong))
-        by-left None f = tt
-        by-left (Some text) f = f text refl
+        by_left None f = tt
+        by_left (Some text) f = f text refl
 
         go : (text : List ℕ) → left ≡ Some text → are_reading m.reads (m.command_of words) ≡ true →
             m.most_bytes (m.command_of words) < length text → ¬ Failed →
@@ -347,7 +347,7 @@ module _ {Command Outcome : Type 0} (m : Meaning Command Outcome) (lawful : IsLa
             IsPartReplied m words left left' taken taken') →
             (o ≡ m.ended NoMemory) ⊎ (o ≡ m.ended TooLong)
         go text told asks long calm (Ok p) of r none failed part =
-            absurd (short-reply words left left' p r.bytes text r.reply told asks long)
+            absurd (short_reply words left left' p r.bytes text r.reply told asks long)
         go text told asks long calm (Err (BadWords i)) of r none failed part =
             absurd (both_ways (are_reading m.reads (m.command_of words))
             (ap (are_reading m.reads) (none i refl)) asks)
@@ -356,5 +356,5 @@ module _ {Command Outcome : Type 0} (m : Meaning Command Outcome) (lawful : IsLa
             absurd (calm (failed refl))
         go text told asks long calm (Err WriteFault) of r none failed part =
             let some = part refl in absurd
-            (short-reply words left left' some.outcome some.bytes text some.reply told asks long)
+            (short_reply words left left' some.outcome some.bytes text some.reply told asks long)
         go text told asks long calm (Err NoMemory) of r none failed part = inl of

@@ -19,23 +19,23 @@ use Rattle.pulse_check.specs.Break.{limit_of}
 use Rattle.pulse_check.specs.Faults.{fault_at, width_fault, limited_fault, listed, faults_by_kind, faults_of, instance_faults, width_faults}
 use Rattle.pulse_check.specs.Sound.{same_level, is_of_pulse}
 
-same-level : (level : Bool) → same_level level level ≡ true
-same-level true = refl
-same-level false = refl
+level_is_same : (level : Bool) → same_level level level ≡ true
+level_is_same true = refl
+level_is_same false = refl
 
-is-own : (k : ℕ) (level : Bool) (found : ℕ × ℕ) → is_of_pulse k level (fault_at k level found) ≡ true
-is-own k level found = ap (λ b. b && same_level level level) (eq-eqb k k refl) ∙ same-level level
+is_own : (k : ℕ) (level : Bool) (found : ℕ × ℕ) → is_of_pulse k level (fault_at k level found) ≡ true
+is_own k level found = ap (λ b. b && same_level level level) (eq-eqb k k refl) ∙ level_is_same level
 
 -- a fault that is listed is not missing
-none-listed : (k : ℕ) (level : Bool) (o : Option (ℕ × ℕ)) → list_any (is_of_pulse k level) (listed (option_map (fault_at k level) o)) ≡ false → o ≡ None
-none-listed k level None none = refl
-none-listed k level (Some found) none = absurd (both_ways (is_of_pulse k level (fault_at k level found)) (or_parts (is_of_pulse k level (fault_at k level found)) false none).0 (is-own k level found))
+none_listed : (k : ℕ) (level : Bool) (o : Option (ℕ × ℕ)) → list_any (is_of_pulse k level) (listed (option_map (fault_at k level) o)) ≡ false → o ≡ None
+none_listed k level None none = refl
+none_listed k level (Some found) none = absurd (both_ways (is_of_pulse k level (fault_at k level found)) (or_parts (is_of_pulse k level (fault_at k level found)) false none).0 (is_own k level found))
 
-pub none-limited : (c : Circuit) (ws : Waves) (k : ℕ) (j : Instance) (level : Bool) (limit : ℕ) (wave : Wave Value) →
+pub none_limited : (c : Circuit) (ws : Waves) (k : ℕ) (j : Instance) (level : Bool) (limit : ℕ) (wave : Wave Value) →
     list_any (is_of_pulse k level) (listed (width_fault (period c.header) k wave level limit)) ≡ false →
     first_narrow (period c.header) level (read wave.cells) limit ≡ None
 unfolding width_fault
-none-limited c ws k j level limit wave none = none-listed k level (first_narrow (period c.header) level (read wave.cells) limit) none
+none_limited c ws k j level limit wave none = none_listed k level (first_narrow (period c.header) level (read wave.cells) limit) none
 
 either : (test : Fault → Bool) (xs ys : List Fault) → list_any test (xs ++ ys) ≡ false → (list_any test xs ≡ false) × (list_any test ys ≡ false)
 either test xs ys none =
@@ -43,27 +43,27 @@ either test xs ys none =
     or_parts (list_any test xs) (list_any test ys) e
 
 -- of both levels
-pub none-of-checker : (c : Circuit) (ws : Waves) (k : ℕ) (j : Instance) (level : Bool) → list_any (is_of_pulse k level) (faults_by_kind MinPulse c ws k j) ≡ false →
+pub none_of_checker : (c : Circuit) (ws : Waves) (k : ℕ) (j : Instance) (level : Bool) → list_any (is_of_pulse k level) (faults_by_kind MinPulse c ws k j) ≡ false →
     list_any (is_of_pulse k level) (listed (limited_fault c ws k j level (limit_of j level))) ≡ false
-none-of-checker c ws k j true none = (either (is_of_pulse k true) (listed (limited_fault c ws k j true j.limits.0)) (listed (limited_fault c ws k j false j.limits.1)) none).0
-none-of-checker c ws k j false none = (either (is_of_pulse k false) (listed (limited_fault c ws k j true j.limits.0)) (listed (limited_fault c ws k j false j.limits.1)) none).1
+none_of_checker c ws k j true none = (either (is_of_pulse k true) (listed (limited_fault c ws k j true j.limits.0)) (listed (limited_fault c ws k j false j.limits.1)) none).0
+none_of_checker c ws k j false none = (either (is_of_pulse k false) (listed (limited_fault c ws k j true j.limits.0)) (listed (limited_fault c ws k j false j.limits.1)) none).1
 
-none-at : (find : ℕ → List Fault) (test : Fault → Bool) (xs : List ℕ) (place d x : ℕ) →
+none_at : (find : ℕ → List Fault) (test : Fault → Bool) (xs : List ℕ) (place d x : ℕ) →
     place < length xs → get_or xs place d ≡ x → list_any test (flat_map find xs) ≡ false → list_any test (find x) ≡ false
-none-at find test [] place d x below is none = absurd (omega arith)
-none-at find test (y ∷ ys) zero d x below is none =
+none_at find test [] place d x below is none = absurd (omega arith)
+none_at find test (y ∷ ys) zero d x below is none =
     subst (λ (z : ℕ). list_any test (find z) ≡ false) is (either test (find y) (flat_map find ys) none).0
-none-at find test (y ∷ ys) (suc place) d x below is none = none-at find test ys place d x (omega arith) is (either test (find y) (flat_map find ys) none).1
+none_at find test (y ∷ ys) (suc place) d x below is none = none_at find test ys place d x (omega arith) is (either test (find y) (flat_map find ys) none).1
 
 -- an instance of which there is no fault has none
-pub none-of-instance : (c : Circuit) (ws : Waves) (k : ℕ) (test : Fault → Bool) → k < length c.instances → list_any test (width_faults c ws) ≡ false → list_any test (instance_faults c ws k) ≡ false
-none-of-instance c ws k test below none =
-    none-at (instance_faults c ws) test (range_with_len 0 (length c.instances)) k 0 k
+pub none_of_instance : (c : Circuit) (ws : Waves) (k : ℕ) (test : Fault → Bool) → k < length c.instances → list_any test (width_faults c ws) ≡ false → list_any test (instance_faults c ws k) ≡ false
+none_of_instance c ws k test below none =
+    none_at (instance_faults c ws) test (range_with_len 0 (length c.instances)) k 0 k
     (let long = length-range_with_len 0 (length c.instances) in omega (arith, long)) (get_or-range_with_len 0 (length c.instances) k 0 below ∙ zero_plus k) none
   where
     zero_plus : (k : ℕ) → 0 + k ≡ k
     zero_plus k = omega arith
 
-pub by-kind : (c : Circuit) (ws : Waves) (k : ℕ) (j : Instance) (faults : List Fault) → slice_get c.instances k ≡ Some j → faults ≡ instance_faults c ws k → faults ≡ faults_by_kind j.kind c ws k j
+pub by_kind : (c : Circuit) (ws : Waves) (k : ℕ) (j : Instance) (faults : List Fault) → slice_get c.instances k ≡ Some j → faults ≡ instance_faults c ws k → faults ≡ faults_by_kind j.kind c ws k j
 unfolding instance_faults
-by-kind c ws k j faults at is = is ∙ ap (faults_of c ws k) at
+by_kind c ws k j faults at is = is ∙ ap (faults_of c ws k) at

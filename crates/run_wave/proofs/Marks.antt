@@ -8,34 +8,34 @@ use Rattle.std.proofs.lemmas.List.Sorted.{IsNonDecreasingBy-from_default}
 use Rattle.run_wave.specs.declared.run.Run.{Run}
 use Rattle.run_wave.specs.Run.{cells_of}
 use Rattle.run_wave.specs.Mark.{AreMarks, marked_run}
-use Rattle.run_wave.proofs.Runs.{length-next}
-use Rattle.run_wave.proofs.Turned.{get_or-append_left}
+use Rattle.run_wave.proofs.Runs.{length_next}
+use Rattle.run_wave.proofs.Turned.{get_or_append_left}
 
 module _ {T : Type 0} where
   -- more of the runs have no fewer slots
-  slots-grow : (i j : ℕ) (rs : List (Run T)) → i ≤ j → length (cells_of (take i rs)) ≤ length (cells_of (take j rs))
-  slots-grow zero j rs within = let none : length (cells_of (take 0 rs)) ≡ 0 = refl in omega (arith, none)
-  slots-grow (suc i) zero rs within = absurd (omega arith)
-  slots-grow (suc i) (suc j) [] within = omega arith
-  slots-grow (suc i) (suc j) (r ∷ rs) within =
-      let fewer = length-next (cells_of (take (suc i) (r ∷ rs))) (cells_of (take i rs)) r.width r.cell refl in
-      let more = length-next (cells_of (take (suc j) (r ∷ rs))) (cells_of (take j rs)) r.width r.cell refl in
-      let rest = slots-grow i j rs (omega arith) in
+  slots_grow : (i j : ℕ) (rs : List (Run T)) → i ≤ j → length (cells_of (take i rs)) ≤ length (cells_of (take j rs))
+  slots_grow zero j rs within = let none : length (cells_of (take 0 rs)) ≡ 0 = refl in omega (arith, none)
+  slots_grow (suc i) zero rs within = absurd (omega arith)
+  slots_grow (suc i) (suc j) [] within = omega arith
+  slots_grow (suc i) (suc j) (r ∷ rs) within =
+      let fewer = length_next (cells_of (take (suc i) (r ∷ rs))) (cells_of (take i rs)) r.width r.cell refl in
+      let more = length_next (cells_of (take (suc j) (r ∷ rs))) (cells_of (take j rs)) r.width r.cell refl in
+      let rest = slots_grow i j rs (omega arith) in
       omega (arith, fewer, more, rest)
 
-  pub marks-rise : (rs : List (Run T)) (marks : List ℕ) → AreMarks rs marks → IsNonDecreasingBy (λ x. x) marks
-  marks-rise rs marks h =
+  pub marks_rise : (rs : List (Run T)) (marks : List ℕ) → AreMarks rs marks → IsNonDecreasingBy (λ x. x) marks
+  marks_rise rs marks h =
       IsNonDecreasingBy-from_default (λ x. x) marks 0
       (λ i j order below.
       let low = (h i (omega arith)).1 in
       let high = (h j below).1 in
-      let grow = slots-grow (marked_run i) (marked_run j) rs (omega arith) in
+      let grow = slots_grow (marked_run i) (marked_run j) rs (omega arith) in
       omega (arith, low, high, grow))
 
   -- ---- one run more, one that is wider, and one mark more
 
-  pub marks-push : (rs : List (Run T)) (r : Run T) (marks : List ℕ) → AreMarks rs marks → AreMarks (rs ++ r ∷ []) marks
-  marks-push rs r marks h i below =
+  pub marks_push : (rs : List (Run T)) (r : Run T) (marks : List ℕ) → AreMarks rs marks → AreMarks (rs ++ r ∷ []) marks
+  marks_push rs r marks h i below =
       let old = h i below in
       let long = length-append rs (r ∷ []) in
       let one : length (r ∷ []) ≡ 1 = refl in
@@ -44,8 +44,8 @@ module _ {T : Type 0} where
         old.1 ∙ ap (λ (l : List (Run T)). length (cells_of l)) (sym (take-append-le (marked_run i) rs (r ∷ []) (omega (arith, there)))),
       )
 
-  pub marks-set : (rs : List (Run T)) (last : ℕ) (r : Run T) (marks : List ℕ) → last + 1 ≡ length rs → AreMarks rs marks → AreMarks (set rs last r) marks
-  marks-set rs last r marks is_last h i below =
+  pub marks_set : (rs : List (Run T)) (last : ℕ) (r : Run T) (marks : List ℕ) → last + 1 ≡ length rs → AreMarks rs marks → AreMarks (set rs last r) marks
+  marks_set rs last r marks is_last h i below =
       let old = h i below in
       let long = length-set rs last r in
       let there = old.0 in (
@@ -54,9 +54,9 @@ module _ {T : Type 0} where
       )
 
   -- the run behind the others is marked
-  pub marks-mark : (rs : List (Run T)) (r : Run T) (marks : List ℕ) (begin : ℕ) → marked_run (length marks) ≡ length rs → begin ≡ length (cells_of rs) →
+  pub marks_mark : (rs : List (Run T)) (r : Run T) (marks : List ℕ) (begin : ℕ) → marked_run (length marks) ≡ length rs → begin ≡ length (cells_of rs) →
       AreMarks rs marks → AreMarks (rs ++ r ∷ []) (marks ++ begin ∷ [])
-  marks-mark rs r marks begin turn is h i below = go (cases_lt i (length marks))
+  marks_mark rs r marks begin turn is h i below = go (cases_lt i (length marks))
     where
       long : length (marks ++ begin ∷ []) ≡ length marks + 1
       long = length-append marks (begin ∷ [])
@@ -64,8 +64,8 @@ module _ {T : Type 0} where
       go : (i < length marks) ⊎ (length marks ≤ i) →
           (marked_run i < length (rs ++ r ∷ [])) × (get_or (marks ++ begin ∷ []) i 0 ≡ length (cells_of (take (marked_run i) (rs ++ r ∷ []))))
       go (inl before) =
-          let old = marks-push rs r marks h i before in
-          (old.0, get_or-append_left marks (begin ∷ []) i 0 before ∙ old.1)
+          let old = marks_push rs r marks h i before in
+          (old.0, get_or_append_left marks (begin ∷ []) i 0 before ∙ old.1)
       go (inr after) =
           let last : i ≡ length marks = omega (arith, long) in
           let more = length-append rs (r ∷ []) in
@@ -78,19 +78,19 @@ module _ {T : Type 0} where
           )
 
   -- the mark of the run that was pushed, where there was memory for it
-  pub marks-pushed : (rs : List (Run T)) (r : Run T) (rs' : List (Run T)) (marks marks' : List ℕ) (begin : ℕ) (room : Bool) → rs' ≡ rs ++ r ∷ [] →
+  pub marks_pushed : (rs : List (Run T)) (r : Run T) (rs' : List (Run T)) (marks marks' : List ℕ) (begin : ℕ) (room : Bool) → rs' ≡ rs ++ r ∷ [] →
       marked_run (length marks) ≡ length rs → begin ≡ length (cells_of rs) → marks' ≡ (if room then marks ++ begin ∷ [] else marks) →
       AreMarks rs marks → AreMarks rs' marks'
-  marks-pushed rs r rs' marks marks' begin true e turn is e' h =
-      subst (λ (l : List (Run T)). AreMarks l marks') (sym e) (subst (λ (ms : List ℕ). AreMarks (rs ++ r ∷ []) ms) (sym e') (marks-mark rs r marks begin turn is h))
-  marks-pushed rs r rs' marks marks' begin false e turn is e' h =
-      subst (λ (l : List (Run T)). AreMarks l marks') (sym e) (subst (λ (ms : List ℕ). AreMarks (rs ++ r ∷ []) ms) (sym e') (marks-push rs r marks h))
+  marks_pushed rs r rs' marks marks' begin true e turn is e' h =
+      subst (λ (l : List (Run T)). AreMarks l marks') (sym e) (subst (λ (ms : List ℕ). AreMarks (rs ++ r ∷ []) ms) (sym e') (marks_mark rs r marks begin turn is h))
+  marks_pushed rs r rs' marks marks' begin false e turn is e' h =
+      subst (λ (l : List (Run T)). AreMarks l marks') (sym e) (subst (λ (ms : List ℕ). AreMarks (rs ++ r ∷ []) ms) (sym e') (marks_push rs r marks h))
 
   -- ---- where a search begins
 
-  pub slice_get-behind : (xs ys : List T) (n : ℕ) → length xs ≤ n → slice_get (xs ++ ys) n ≡ slice_get ys (n - length xs)
-  slice_get-behind [] ys n within = let whole : n ≡ n - 0 = omega arith in ap (slice_get ys) whole
-  slice_get-behind (x ∷ xs) ys zero within = absurd (omega arith)
-  slice_get-behind (x ∷ xs) ys (suc n) within =
+  pub slice_get_behind : (xs ys : List T) (n : ℕ) → length xs ≤ n → slice_get (xs ++ ys) n ≡ slice_get ys (n - length xs)
+  slice_get_behind [] ys n within = let whole : n ≡ n - 0 = omega arith in ap (slice_get ys) whole
+  slice_get_behind (x ∷ xs) ys zero within = absurd (omega arith)
+  slice_get_behind (x ∷ xs) ys (suc n) within =
       let same : n - length xs ≡ suc n - length (x ∷ xs) = omega arith in
-      slice_get-behind xs ys n (omega arith) ∙ ap (slice_get ys) same
+      slice_get_behind xs ys n (omega arith) ∙ ap (slice_get ys) same

@@ -26,10 +26,10 @@ EndsWith (r ∷ s ∷ rs) c = EndsWith (s ∷ rs) c
 
 -- ---- a list of runs is of that kind in one way at most
 
-BeginsWithout-prop : {T : Type 0} (c : T) (rs : List (Run T)) → IsProp (BeginsWithout c rs)
-BeginsWithout-prop c [] = Unit-prop
-BeginsWithout-prop c (r ∷ rs) = →_prop (λ x y. absurd x)
+BeginsWithout_prop : {T : Type 0} (c : T) (rs : List (Run T)) → IsProp (BeginsWithout c rs)
+BeginsWithout_prop c [] = Unit-prop
+BeginsWithout_prop c (r ∷ rs) = →_prop (λ x y. absurd x)
 
-pub IsRuns-prop : {T : Type 0} (rs : List (Run T)) → IsProp (IsRuns rs)
-IsRuns-prop [] = Unit-prop
-IsRuns-prop (r ∷ rs) = ×_prop le_prop (×_prop (BeginsWithout-prop r.cell rs) (IsRuns-prop rs))
+pub IsRuns_prop : {T : Type 0} (rs : List (Run T)) → IsProp (IsRuns rs)
+IsRuns_prop [] = Unit-prop
+IsRuns_prop (r ∷ rs) = ×_prop le_prop (×_prop (BeginsWithout_prop r.cell rs) (IsRuns_prop rs))

@@ -3,7 +3,7 @@
 ghost use Rattle.std.specs.Prelude.{◌≡◌, ◌≤◌, ◌<◌, ◌+◌, ◌-◌, ◌^◌, ◌++◌, ◌∷◌, [], ◌↔◌, IsTrue, OnOk, IfOk, length, replicate, take, drop, slice_get};
 ghost use Rattle.std.proofs.Props.{props};
 ghost use Rattle.run_wave.specs.Mark.{AreMarks};
-ghost use Rattle.run_wave.specs.Run.{EndsWith, IsRuns, IsRuns-prop, cells_of};
+ghost use Rattle.run_wave.specs.Run.{EndsWith, IsRuns, IsRuns_prop, cells_of};
 ghost use Rattle.wave_core.specs.Slots.{SameUntil};
 
 use crate::run::Run;
@@ -24,7 +24,7 @@ pub struct RunList<T> {
     /// The slots at which every `STRIDE`th run begins: few runs have none, and of many a search
     /// goes over the marks and then over one stride.
     marks: Vec<u16>,
-    ghost is_runs: { IsRuns runs.items } by { IsRuns-prop runs.items },
+    ghost is_runs: { IsRuns runs.items } by { IsRuns_prop runs.items },
     ghost counted: { slots ≡ length (cells_of runs.items) },
     ghost marked: { AreMarks runs.items marks.items } by { Prim.hlevel props },
 }

@@ -8,13 +8,13 @@ use Rattle.scald_base.specs.declared.refusal.Place.{Place}
 use Rattle.scald_lex.specs.Bytes.{line_end, is_comment_byte}
 use Rattle.scald_lex.specs.Place.{first_place, next_place, place_behind, place_at}
 
-pub place_behind-append : (p : Place) (xs ys : List ℕ) → place_behind p (xs ++ ys) ≡ place_behind (place_behind p xs) ys
-place_behind-append p [] ys = refl
-place_behind-append p (x ∷ xs) ys = place_behind-append (next_place p x) xs ys
+pub place_behind_append : (p : Place) (xs ys : List ℕ) → place_behind p (xs ++ ys) ≡ place_behind (place_behind p xs) ys
+place_behind_append p [] ys = refl
+place_behind_append p (x ∷ xs) ys = place_behind_append (next_place p x) xs ys
 
 -- One byte further.
 pub place_next : (text : List ℕ) (i : ℕ) → i < length text → place_at text (i + 1) ≡ next_place (place_at text i) (get_or text i 0)
-place_next text i h = ap (place_behind first_place) (take_more text i 0 h) ∙ place_behind-append first_place (take i text) (get_or text i 0 ∷ [])
+place_next text i h = ap (place_behind first_place) (take_more text i 0 h) ∙ place_behind_append first_place (take i text) (get_or text i 0 ∷ [])
 
 stays : (b : Bool) (n m : ℕ) → suc n ≤ cond (not b) (1 + m) 0 → (b ≡ false) × (n ≤ m)
 stays true n m h = absurd (omega arith)
@@ -33,7 +33,7 @@ along p (x ∷ xs) (suc n) h =
 
 pub place_along : (text : List ℕ) (i n : ℕ) → n ≤ prefix_len is_comment_byte (drop i text) → place_at text (i + n) ≡ record { line = (place_at text i).line; col = (place_at text i).col + n }
 place_along text i n h =
-    ap (place_behind first_place) (take-add i n text) ∙ place_behind-append first_place (take i text) (take n (drop i text))
+    ap (place_behind first_place) (take-add i n text) ∙ place_behind_append first_place (take i text) (take n (drop i text))
     ∙ along (place_at text i) (drop i text) n h
 
 -- A place's numbers are no greater than what was read, and one.

@@ -29,23 +29,23 @@ use Rattle.scald_tool.proofs.Verdict.{verdict_counts}
 
 -- ---- an end
 
-concluded-early : (tell : Telling) (c : Circuit) (values : List (List CaseValue)) (limit place : ℕ) →
+concluded_early : (tell : Telling) (c : Circuit) (values : List (List CaseValue)) (limit place : ℕ) →
     StopsEarly c values limit place → Concluded tell c values limit (UnsettledOutcome place limit) (unsettled_line c place limit)
-concluded-early tell c values limit place (by_base is) = unsettled place is
-concluded-early tell c values limit place (by_case base rests stops) = case_unsettled base place rests stops
+concluded_early tell c values limit place (by_base is) = unsettled place is
+concluded_early tell c values limit place (by_case base rests stops) = case_unsettled base place rests stops
 
-ended-by : (tell : Telling) (c : Circuit) (values : List (List CaseValue)) (limit : ℕ) (end : EngineEnd) (o : Outcome) (bytes : List ℕ) →
+ended_by : (tell : Telling) (c : Circuit) (values : List (List CaseValue)) (limit : ℕ) (end : EngineEnd) (o : Outcome) (bytes : List ℕ) →
     EndsEarly c values limit end → IsEnded c end o bytes → Concluded tell c values limit o bytes
-ended-by tell c values limit end o bytes ends is =
+ended_by tell c values limit end o bytes ends is =
     let there : EndsEarly c values limit (Unsettled is.place is.round) = subst (EndsEarly c values limit) is.end_is ends in
     subst (λ (z : Outcome). Concluded tell c values limit z bytes) (sym (is.outcome ∙ ap (UnsettledOutcome is.place) there.1))
     (subst (λ (z : List ℕ). Concluded tell c values limit (UnsettledOutcome is.place limit) z) (sym (is.text ∙ ap (unsettled_line c is.place) there.1))
-    (concluded-early tell c values limit is.place there.0))
+    (concluded_early tell c values limit is.place there.0))
 
 -- what is answered to an end, whatever would have been told of a circuit at rest
 pub concluded_ended : (tell : Telling) (c : Circuit) (values : List (List CaseValue)) (limit : ℕ) (end : EngineEnd) (made : Result (Reply Outcome) OutOfMemory) → EndsEarly c values limit end →
     IfOk made (λ reply. IsEnded c end reply.outcome reply.bytes) → IfOk made (λ reply. Concluded tell c values limit reply.outcome reply.bytes)
-concluded_ended tell c values limit end (Ok reply) ends is = ended-by tell c values limit end reply.outcome reply.bytes ends is
+concluded_ended tell c values limit end (Ok reply) ends is = ended_by tell c values limit end reply.outcome reply.bytes ends is
 concluded_ended tell c values limit end (Err e) ends is = tt
 
 -- what holds of each net that does not rest

@@ -15,8 +15,8 @@ use Rattle.scald_tool.specs.Answer.{Telling, Evaluated, Replied, measured, repor
 use Rattle.scald_tool.specs.Promise.{IsAnswered}
 use Rattle.scald_tool.specs.Finished.{ComesToRest, Passes, formatted, verified, benched, is_finished, IsFinished, AsksWell}
 
-verdict-finished : (n : ℕ) → is_finished (verdict_of n) ≡ true
-verdict-finished n = either (n == 0) n
+verdict_finished : (n : ℕ) → is_finished (verdict_of n) ≡ true
+verdict_finished n = either (n == 0) n
   where
     either : (none : Bool) (n : ℕ) → is_finished (cond none Clean (Faulty n)) ≡ true
     either true n = refl
@@ -29,9 +29,9 @@ pub record Finishes (command : Command) (text : List ℕ) : Type 0 where
   pub is : Replied command text outcome bytes
   pub finished : is_finished outcome ≡ true
 
-told-at-rest : (tell : Telling) (rounds : Option ℕ) (text : List ℕ) → (rest : ComesToRest rounds text) →
+told_at_rest : (tell : Telling) (rounds : Option ℕ) (text : List ℕ) → (rest : ComesToRest rounds text) →
     Evaluated tell rounds text (tell rest.circuit rest.base rest.cases).0 (tell rest.circuit rest.base rest.cases).1
-told-at-rest tell rounds text rest =
+told_at_rest tell rounds text rest =
     answer.judged rest.circuit rest.values (tell rest.circuit rest.base rest.cases).0 (tell rest.circuit rest.base rest.cases).1 rest.drawn
     (answer.rested rest.base rest.cases rest.rests rest.at_rest)
 
@@ -40,13 +40,13 @@ finishes text _ (formatted d draws) = record { outcome = Done; bytes = canonical
 finishes text _ (verified mode rounds rest) = record {
   outcome = (reported mode rest.circuit rest.base rest.cases).0;
   bytes = (reported mode rest.circuit rest.base rest.cases).1;
-  is = told-at-rest (reported mode) rounds text rest;
-  finished = verdict-finished (fault_count rest.circuit rest.cases);
+  is = told_at_rest (reported mode) rounds text rest;
+  finished = verdict_finished (fault_count rest.circuit rest.cases);
 }
 finishes text _ (benched sections rest) = record {
   outcome = Done;
   bytes = (measured sections rest.circuit rest.base rest.cases).1;
-  is = told-at-rest (measured sections) None (datapath sections) rest;
+  is = told_at_rest (measured sections) None (datapath sections) rest;
   finished = refl;
 }
 

@@ -17,40 +17,40 @@ pub gives_by : (command form : Command) (made : Result (Reply Outcome) OutOfMemo
 gives_by command form made is given = subst (λ (k : Command). IfOk made (λ reply. may_give k reply.outcome ≡ true)) (sym is) given
 
 -- no other form gives a report
-report-of : (form : Command) (o : Outcome) → asks_verify form ≡ false → may_give form o ≡ true → has_report o ≡ true → ⊥
-report-of form Clean other given has = absurd (cc)
-report-of form (Faulty n) other given has = absurd (cc)
-report-of form Done other given has = absurd (cc)
-report-of form (Refused r) other given has = absurd (cc)
-report-of form (Unsettled place round) other given has = absurd (cc)
-report-of form (BadWords i) other given has = absurd (cc)
-report-of form TooLong other given has = absurd (cc)
-report-of form ReadFault other given has = absurd (cc)
-report-of form WriteFault other given has = absurd (cc)
-report-of form NoMemory other given has = absurd (cc)
+report_of : (form : Command) (o : Outcome) → asks_verify form ≡ false → may_give form o ≡ true → has_report o ≡ true → ⊥
+report_of form Clean other given has = absurd (cc)
+report_of form (Faulty n) other given has = absurd (cc)
+report_of form Done other given has = absurd (cc)
+report_of form (Refused r) other given has = absurd (cc)
+report_of form (Unsettled place round) other given has = absurd (cc)
+report_of form (BadWords i) other given has = absurd (cc)
+report_of form TooLong other given has = absurd (cc)
+report_of form ReadFault other given has = absurd (cc)
+report_of form WriteFault other given has = absurd (cc)
+report_of form NoMemory other given has = absurd (cc)
 
 pub no_report : (form : Command) (P : Type 0) (made : Result (Reply Outcome) OutOfMemory) → asks_verify form ≡ false →
     IfOk made (λ reply. may_give form reply.outcome ≡ true) → IfOk made (λ reply. has_report reply.outcome ≡ true → P)
-no_report form P (Ok reply) other given = λ has. absurd (report-of form reply.outcome other given has)
+no_report form P (Ok reply) other given = λ has. absurd (report_of form reply.outcome other given has)
 no_report form P (Err e) other given = tt
 
 pub not_clean : (form : Command) (P : Type 0) (made : Result (Reply Outcome) OutOfMemory) → asks_verify form ≡ false →
     IfOk made (λ reply. may_give form reply.outcome ≡ true) → IfOk made (λ reply. reply.outcome ≡ Clean → P)
-not_clean form P (Ok reply) other given = λ clean. absurd (report-of form reply.outcome other given (ap has_report clean))
+not_clean form P (Ok reply) other given = λ clean. absurd (report_of form reply.outcome other given (ap has_report clean))
 not_clean form P (Err e) other given = tt
 
 -- ---- without loops
 
-verify-rests : (mode : Mode) (rounds : Option ℕ) (text : List ℕ) (o : Outcome) → ((place round : ℕ) → rounds ≡ None → IsLoopless text → o ≢ Unsettled place round) →
+rests_verified : (mode : Mode) (rounds : Option ℕ) (text : List ℕ) (o : Outcome) → ((place round : ℕ) → rounds ≡ None → IsLoopless text → o ≢ Unsettled place round) →
     (evaluated : List ℕ) (place round : ℕ) → unlimited (Verify mode rounds) text ≡ Some evaluated → IsLoopless evaluated → o ≢ Unsettled place round
-verify-rests mode None text o rests evaluated place round is free = rests place round refl (let same : evaluated ≡ text = cc in subst IsLoopless same free)
-verify-rests mode (Some n) text o rests evaluated place round is free = absurd (cc)
+rests_verified mode None text o rests evaluated place round is free = rests place round refl (let same : evaluated ≡ text = cc in subst IsLoopless same free)
+rests_verified mode (Some n) text o rests evaluated place round is free = absurd (cc)
 
 pub verify_rests : (command : Command) (mode : Mode) (rounds : Option ℕ) (text : List ℕ) (made : Result (Reply Outcome) OutOfMemory) → command ≡ Verify mode rounds →
     IfOk made (λ reply. (place round : ℕ) → rounds ≡ None → IsLoopless text → reply.outcome ≢ Unsettled place round) →
     IfOk made (λ reply. (evaluated : List ℕ) (place round : ℕ) → unlimited command text ≡ Some evaluated → IsLoopless evaluated → reply.outcome ≢ Unsettled place round)
 verify_rests command mode rounds text (Ok reply) form rests =
-    λ evaluated place round is free. verify-rests mode rounds text reply.outcome rests evaluated place round (subst (λ (k : Command). unlimited k text ≡ Some evaluated) form is) free
+    λ evaluated place round is free. rests_verified mode rounds text reply.outcome rests evaluated place round (subst (λ (k : Command). unlimited k text ≡ Some evaluated) form is) free
 verify_rests command mode rounds text (Err e) form rests = tt
 
 pub format_rests : (command : Command) (text : List ℕ) (made : Result (Reply Outcome) OutOfMemory) → command ≡ Format →

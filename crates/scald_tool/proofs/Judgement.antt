@@ -19,51 +19,51 @@ use Rattle.scald_tool.specs.Answer.{Telling, limit_for, Concluded, Evaluated, me
 
 -- ---- judgements
 
-one-judgement : (tell : Telling) (c : Circuit) (values : List (List CaseValue)) (limit : ℕ) (o o' : Outcome) (bytes bytes' : List ℕ) →
+one_judgement : (tell : Telling) (c : Circuit) (values : List (List CaseValue)) (limit : ℕ) (o o' : Outcome) (bytes bytes' : List ℕ) →
     Concluded tell c values limit o bytes → Concluded tell c values limit o' bytes' → (o ≡ o') × (bytes ≡ bytes')
-one-judgement tell c values limit _ _ _ _ (rested base cases rests at) (rested base' cases' rests' at') =
+one_judgement tell c values limit _ _ _ _ (rested base cases rests at) (rested base' cases' rests' at') =
     let one = rest_in_one_way c limit limit base base' (listed_cases values) cases cases' rests at rests' at' in
     let told : tell c base cases ≡ tell c base' cases' = ap (tell c base) one.1 ∙ ap (λ (b : ℕ). tell c b cases') one.0 in
     (ap (λ (t : Outcome × List ℕ). t.0) told, ap (λ (t : Outcome × List ℕ). t.1) told)
-one-judgement tell c values limit _ _ _ _ (rested base cases rests at) (unsettled place is) = absurd (is.never base rests.within rests.still)
-one-judgement tell c values limit _ _ _ _ (rested base cases rests at) (case_unsettled base' place rests' stops) =
+one_judgement tell c values limit _ _ _ _ (rested base cases rests at) (unsettled place is) = absurd (is.never base rests.within rests.still)
+one_judgement tell c values limit _ _ _ _ (rested base cases rests at) (case_unsettled base' place rests' stops) =
     let same : base' ≡ base = one_rest (base_round c) limit limit base' base rests' rests in
     absurd (rest_or_stop c limit base (listed_cases values) cases place at (subst (λ (b : ℕ). StopsAt c limit b (listed_cases values) place) same stops))
-one-judgement tell c values limit _ _ _ _ (unsettled place is) (rested base cases rests at) = absurd (is.never base rests.within rests.still)
-one-judgement tell c values limit _ _ _ _ (unsettled place is) (unsettled place' is') =
+one_judgement tell c values limit _ _ _ _ (unsettled place is) (rested base cases rests at) = absurd (is.never base rests.within rests.still)
+one_judgement tell c values limit _ _ _ _ (unsettled place is) (unsettled place' is') =
     let same : place ≡ place' = one_place c.order (base_round c limit) (base_round c (suc limit)) place place' is.first is'.first in
     (ap (λ (k : ℕ). Unsettled k limit) same, ap (λ (k : ℕ). unsettled_line c k limit) same)
-one-judgement tell c values limit _ _ _ _ (unsettled place is) (case_unsettled base place' rests stops) = absurd (is.never base rests.within rests.still)
-one-judgement tell c values limit _ _ _ _ (case_unsettled base place rests stops) (rested base' cases rests' at) =
+one_judgement tell c values limit _ _ _ _ (unsettled place is) (case_unsettled base place' rests stops) = absurd (is.never base rests.within rests.still)
+one_judgement tell c values limit _ _ _ _ (case_unsettled base place rests stops) (rested base' cases rests' at) =
     let same : base ≡ base' = one_rest (base_round c) limit limit base base' rests rests' in
     absurd (rest_or_stop c limit base' (listed_cases values) cases place at (subst (λ (b : ℕ). StopsAt c limit b (listed_cases values) place) same stops))
-one-judgement tell c values limit _ _ _ _ (case_unsettled base place rests stops) (unsettled place' is) = absurd (is.never base rests.within rests.still)
-one-judgement tell c values limit _ _ _ _ (case_unsettled base place rests stops) (case_unsettled base' place' rests' stops') =
+one_judgement tell c values limit _ _ _ _ (case_unsettled base place rests stops) (unsettled place' is) = absurd (is.never base rests.within rests.still)
+one_judgement tell c values limit _ _ _ _ (case_unsettled base place rests stops) (case_unsettled base' place' rests' stops') =
     let bases : base' ≡ base = one_rest (base_round c) limit limit base' base rests' rests in
     let same : place ≡ place' = one_stop c limit base (listed_cases values) place place' stops (subst (λ (b : ℕ). StopsAt c limit b (listed_cases values) place') bases stops') in
     (ap (λ (k : ℕ). Unsettled k limit) same, ap (λ (k : ℕ). unsettled_line c k limit) same)
 
 -- ---- answers
 
-pub one-verified : (tell : Telling) (rounds : Option ℕ) (text : List ℕ) (o o' : Outcome) (bytes bytes' : List ℕ) →
+pub one_verified : (tell : Telling) (rounds : Option ℕ) (text : List ℕ) (o o' : Outcome) (bytes bytes' : List ℕ) →
     Evaluated tell rounds text o bytes → Evaluated tell rounds text o' bytes' → (o ≡ o') × (bytes ≡ bytes')
-one-verified tell rounds text _ _ _ _ (answer.refused r is) (answer.refused q is') =
+one_verified tell rounds text _ _ _ _ (answer.refused r is) (answer.refused q is') =
     let same : r ≡ q = one_refusal text r q is is' in (rw same refl, rw same refl)
-one-verified tell rounds text _ _ _ _ (answer.refused r is) (answer.judged c values o' bytes' drawn j) = absurd (not_refused text r c values is drawn)
-one-verified tell rounds text _ _ _ _ (answer.judged c values o bytes drawn j) (answer.refused q is') = absurd (not_refused text q c values is' drawn)
-one-verified tell rounds text _ _ _ _ (answer.judged c values o bytes drawn j) (answer.judged c' values' o' bytes' drawn' j') =
+one_verified tell rounds text _ _ _ _ (answer.refused r is) (answer.judged c values o' bytes' drawn j) = absurd (not_refused text r c values is drawn)
+one_verified tell rounds text _ _ _ _ (answer.judged c values o bytes drawn j) (answer.refused q is') = absurd (not_refused text q c values is' drawn)
+one_verified tell rounds text _ _ _ _ (answer.judged c values o bytes drawn j) (answer.judged c' values' o' bytes' drawn' j') =
     let same = text_draws_one_circuit text c' c values' values drawn' drawn in
-    one-judgement tell c values (limit_for c rounds) o o' bytes bytes' j
+    one_judgement tell c values (limit_for c rounds) o o' bytes bytes' j
     (subst (λ (vs : List (List CaseValue)). Concluded tell c vs (limit_for c rounds) o' bytes') same.1 (subst (λ (z : Circuit). Concluded tell z values' (limit_for z rounds) o' bytes') same.0 j'))
 
-one-formatted : (text : List ℕ) (o o' : Outcome) (bytes bytes' : List ℕ) → Formatted text o bytes → Formatted text o' bytes' → (o ≡ o') × (bytes ≡ bytes')
-one-formatted text _ _ _ _ (answer.undrawn r is) (answer.undrawn s is') = let same : r ≡ s = one_cause text r s is is' in (rw same refl, rw same refl)
-one-formatted text _ _ _ _ (answer.undrawn r is) (answer.drawn d draws) = absurd (no_drawing text r d is draws)
-one-formatted text _ _ _ _ (answer.drawn d draws) (answer.undrawn r is) = absurd (no_drawing text r d is draws)
-one-formatted text _ _ _ _ (answer.drawn d draws) (answer.drawn e draws') = let same : d ≡ e = one_drawing text d e draws draws' in (refl, ap canonical same)
+one_formatted : (text : List ℕ) (o o' : Outcome) (bytes bytes' : List ℕ) → Formatted text o bytes → Formatted text o' bytes' → (o ≡ o') × (bytes ≡ bytes')
+one_formatted text _ _ _ _ (answer.undrawn r is) (answer.undrawn s is') = let same : r ≡ s = one_cause text r s is is' in (rw same refl, rw same refl)
+one_formatted text _ _ _ _ (answer.undrawn r is) (answer.drawn d draws) = absurd (no_drawing text r d is draws)
+one_formatted text _ _ _ _ (answer.drawn d draws) (answer.undrawn r is) = absurd (no_drawing text r d is draws)
+one_formatted text _ _ _ _ (answer.drawn d draws) (answer.drawn e draws') = let same : d ≡ e = one_drawing text d e draws draws' in (refl, ap canonical same)
 
-pub one-reply : (command : Command) (text : List ℕ) (o o' : Outcome) (bytes bytes' : List ℕ) →
+pub one_reply : (command : Command) (text : List ℕ) (o o' : Outcome) (bytes bytes' : List ℕ) →
     Replied command text o bytes → Replied command text o' bytes' → (o ≡ o') × (bytes ≡ bytes')
-one-reply (Verify mode rounds) text o o' bytes bytes' r r' = one-verified (reported mode) rounds text o o' bytes bytes' r r'
-one-reply Format text o o' bytes bytes' r r' = one-formatted text o o' bytes bytes' r r'
-one-reply (Bench sections) text o o' bytes bytes' r r' = one-verified (measured sections) None (datapath sections) o o' bytes bytes' r r'
+one_reply (Verify mode rounds) text o o' bytes bytes' r r' = one_verified (reported mode) rounds text o o' bytes bytes' r r'
+one_reply Format text o o' bytes bytes' r r' = one_formatted text o o' bytes bytes' r r'
+one_reply (Bench sections) text o o' bytes bytes' r r' = one_verified (measured sections) None (datapath sections) o o' bytes bytes' r r'

@@ -16,34 +16,34 @@ use Rattle.scald_tool.specs.Report.{verdict_of}
 use Rattle.scald_tool.specs.Answer as answer
 use Rattle.scald_tool.specs.Answer.{Telling, Concluded, Evaluated, Replied, measured, reported, rested, unsettled, case_unsettled, verifier}
 use Rattle.scald_tool.specs.Laws.{OneAnswer}
-use Rattle.scald_tool.proofs.Judgement.{one-reply}
+use Rattle.scald_tool.proofs.Judgement.{one_reply}
 
 -- ---- no reply is an end of the call
 
 abbrev Speaks : Telling → Type 0
 Speaks tell = (c : Circuit) (base : ℕ) (cases : List Case) → end_of (tell c base cases).0 ≡ None
 
-reported-speaks : (n : ℕ) → end_of (verdict_of n) ≡ None
-reported-speaks n = either (n == 0) n
+reported_speaks : (n : ℕ) → end_of (verdict_of n) ≡ None
+reported_speaks n = either (n == 0) n
   where
     either : (none : Bool) (n : ℕ) → end_of (cond none Clean (Faulty n)) ≡ None
     either true n = refl
     either false n = refl
 
-concluded-speaks : (tell : Telling) (c : Circuit) (values : List (List CaseValue)) (limit : ℕ) (o : Outcome) (bytes : List ℕ) → Speaks tell → Concluded tell c values limit o bytes → end_of o ≡ None
-concluded-speaks tell c values limit _ _ spoken (rested base cases rests at_rest) = spoken c base cases
-concluded-speaks tell c values limit _ _ spoken (unsettled place is) = refl
-concluded-speaks tell c values limit _ _ spoken (case_unsettled base place rests stops) = refl
+concluded_speaks : (tell : Telling) (c : Circuit) (values : List (List CaseValue)) (limit : ℕ) (o : Outcome) (bytes : List ℕ) → Speaks tell → Concluded tell c values limit o bytes → end_of o ≡ None
+concluded_speaks tell c values limit _ _ spoken (rested base cases rests at_rest) = spoken c base cases
+concluded_speaks tell c values limit _ _ spoken (unsettled place is) = refl
+concluded_speaks tell c values limit _ _ spoken (case_unsettled base place rests stops) = refl
 
-evaluated-speaks : (tell : Telling) (rounds : Option ℕ) (text : List ℕ) (o : Outcome) (bytes : List ℕ) → Speaks tell → Evaluated tell rounds text o bytes → end_of o ≡ None
-evaluated-speaks tell rounds text _ _ spoken (answer.refused r is) = refl
-evaluated-speaks tell rounds text _ _ spoken (answer.judged c values o bytes drawn j) = concluded-speaks tell c values _ o bytes spoken j
+evaluated_speaks : (tell : Telling) (rounds : Option ℕ) (text : List ℕ) (o : Outcome) (bytes : List ℕ) → Speaks tell → Evaluated tell rounds text o bytes → end_of o ≡ None
+evaluated_speaks tell rounds text _ _ spoken (answer.refused r is) = refl
+evaluated_speaks tell rounds text _ _ spoken (answer.judged c values o bytes drawn j) = concluded_speaks tell c values _ o bytes spoken j
 
-reply-speaks : (command : Command) (text : List ℕ) (o : Outcome) (bytes : List ℕ) → Replied command text o bytes → end_of o ≡ None
-reply-speaks (Verify mode rounds) text o bytes r = evaluated-speaks (reported mode) rounds text o bytes (λ c base cases. reported-speaks (fault_count c cases)) r
-reply-speaks Format text _ _ (answer.undrawn r is) = refl
-reply-speaks Format text _ _ (answer.drawn d draws) = refl
-reply-speaks (Bench sections) text o bytes r = evaluated-speaks (measured sections) None _ o bytes (λ c base cases. refl) r
+reply_speaks : (command : Command) (text : List ℕ) (o : Outcome) (bytes : List ℕ) → Replied command text o bytes → end_of o ≡ None
+reply_speaks (Verify mode rounds) text o bytes r = evaluated_speaks (reported mode) rounds text o bytes (λ c base cases. reported_speaks (fault_count c cases)) r
+reply_speaks Format text _ _ (answer.undrawn r is) = refl
+reply_speaks Format text _ _ (answer.drawn d draws) = refl
+reply_speaks (Bench sections) text o bytes r = evaluated_speaks (measured sections) None _ o bytes (λ c base cases. refl) r
 
 -- ---- what does not read does not look at the text
 
@@ -53,7 +53,7 @@ unread Format text other o bytes none r = absurd (cc)
 unread (Bench sections) text other o bytes none r = r
 
 pub verifier_lawful : IsLawful verifier
-verifier_lawful = record { ends = end_of_ended; replies = reply-speaks; one = one-reply; unread = unread }
+verifier_lawful = record { ends = end_of_ended; replies = reply_speaks; one = one_reply; unread = unread }
 
 pub words_have_one_answer : OneAnswer
 words_have_one_answer = one_answer verifier verifier_lawful

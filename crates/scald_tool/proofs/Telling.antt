@@ -44,10 +44,10 @@ module _ (mode : Mode) (c : Circuit) (limit base : ℕ) where
   }
 
   -- the lines of one more case follow those of the others
-  text-more : (cases : List Case) (case : Case) (bytes after : List ℕ) →
+  text_more : (cases : List Case) (case : Case) (bytes after : List ℕ) →
       bytes ≡ head c ++ flat_map (case_text mode c base) cases → after ≡ bytes ++ case_text mode c base case →
       after ≡ head c ++ flat_map (case_text mode c base) (cases ++ case ∷ [])
-  text-more cases case bytes after before more =
+  text_more cases case bytes after before more =
       let one = case_text mode c base in
       more
       ∙ ap (λ (bs : List ℕ). bs ++ one case) before
@@ -57,9 +57,9 @@ module _ (mode : Mode) (c : Circuit) (limit base : ℕ) where
       ∙ ap (λ (bs : List ℕ). flat_map one cases ++ bs) (append-nil (one case))))
 
   -- its faults are counted with theirs
-  count-more : (cases : List Case) (case : Case) (total now : ℕ) →
+  count_more : (cases : List Case) (case : Case) (total now : ℕ) →
       total ≡ fault_count c cases → now ≡ total + length (faults c case) → now ≡ fault_count c (cases ++ case ∷ [])
-  count-more cases case total now before more =
+  count_more cases case total now before more =
       let whole = sum_by-append (λ (k : Case). length (faults c k)) cases (case ∷ []) in
       let one = sum_by-cons (λ (k : Case). length (faults c k)) case [] in
       omega (arith, whole, one, before, more)
@@ -80,8 +80,8 @@ module _ (mode : Mode) (c : Circuit) (limit base : ℕ) where
         cases = told.cases ++ case ∷ [];
         at_rest = one_more_at_rest c limit base listed l told.cases case told.at_rest refl is.rest;
         kept = All-push (IsKept c base) told.cases case told.kept is.kept;
-        text = text-more told.cases case bytes after told.text lines;
-        count = count-more told.cases case total now told.count (count ∙ ap (λ (xs : List Fault). total + length xs) is.found);
+        text = text_more told.cases case bytes after told.text lines;
+        count = count_more told.cases case total now told.count (count ∙ ap (λ (xs : List Fault). total + length xs) is.found);
       }
 
   pub told_end : (listed : List Listed) (bytes : List ℕ) (total : ℕ) (o : Outcome) (whole : List ℕ) →

@@ -26,19 +26,19 @@ promised_by command text (Ok reply) given loopless clean faultless = record { gi
 promised_by command text (Err e) given loopless clean faultless = tt
 
 -- only `verify` gives a report
-report-reads : (command : Command) (o : Outcome) → may_give command o ≡ true → has_report o ≡ true → reads command ≡ true
-report-reads (Verify mode rounds) o gives has = refl
-report-reads Format o gives has = refl
-report-reads (Bench n) Clean gives has = absurd (cc)
-report-reads (Bench n) (Faulty k) gives has = absurd (cc)
-report-reads (Bench n) Done gives has = absurd (cc)
-report-reads (Bench n) (Refused r) gives has = absurd (cc)
-report-reads (Bench n) (Unsettled place round) gives has = absurd (cc)
-report-reads (Bench n) (BadWords i) gives has = absurd (cc)
-report-reads (Bench n) TooLong gives has = absurd (cc)
-report-reads (Bench n) ReadFault gives has = absurd (cc)
-report-reads (Bench n) WriteFault gives has = absurd (cc)
-report-reads (Bench n) NoMemory gives has = absurd (cc)
+report_reads : (command : Command) (o : Outcome) → may_give command o ≡ true → has_report o ≡ true → reads command ≡ true
+report_reads (Verify mode rounds) o gives has = refl
+report_reads Format o gives has = refl
+report_reads (Bench n) Clean gives has = absurd (cc)
+report_reads (Bench n) (Faulty k) gives has = absurd (cc)
+report_reads (Bench n) Done gives has = absurd (cc)
+report_reads (Bench n) (Refused r) gives has = absurd (cc)
+report_reads (Bench n) (Unsettled place round) gives has = absurd (cc)
+report_reads (Bench n) (BadWords i) gives has = absurd (cc)
+report_reads (Bench n) TooLong gives has = absurd (cc)
+report_reads (Bench n) ReadFault gives has = absurd (cc)
+report_reads (Bench n) WriteFault gives has = absurd (cc)
+report_reads (Bench n) NoMemory gives has = absurd (cc)
 
 -- a report speaks of its text
 pub report_speaks : (o : Outcome) → has_report o ≡ true → speaks o ≡ true
@@ -63,19 +63,19 @@ module _ (words : List (List ℕ)) (left left' taken taken' : Option (List ℕ))
 
   -- what is promised of the text that was read is true of the text that is told
   pub of_report : (given : Type 0) (P : List ℕ → Type 0) → (given → IsWritten) → (given → has_report o ≡ true) → ((r : IsWritten) → given → P r.reply.text) → IfSome left (λ text. given → P text)
-  of_report given P replied has holds = by-left left (λ text told h. go text told h (replied h))
+  of_report given P replied has holds = by_left left (λ text told h. go text told h (replied h))
     where
-      by-left : (l : Option (List ℕ)) → ((text : List ℕ) → l ≡ Some text → given → P text) → IfSome l (λ text. given → P text)
-      by-left None f = tt
-      by-left (Some text) f = f text refl
+      by_left : (l : Option (List ℕ)) → ((text : List ℕ) → l ≡ Some text → given → P text) → IfSome l (λ text. given → P text)
+      by_left None f = tt
+      by_left (Some text) f = f text refl
 
       go : (text : List ℕ) → left ≡ Some text → given → IsWritten → P text
-      go text told h r = subst P (read_whole left left' most_bytes r.reply.text text (r.reply.read (report-reads r.reply.command o r.kept.given (has h))) told) (holds r h)
+      go text told h r = subst P (read_whole left left' most_bytes r.reply.text text (r.reply.read (report_reads r.reply.command o r.kept.given (has h))) told) (holds r h)
 
-  unlimited-by : (k : Command) (read text : List ℕ) → (reads k ≡ true → read ≡ text) → unlimited k read ≡ unlimited k text
-  unlimited-by (Verify mode rounds) read text same = ap (unlimited (Verify mode rounds)) (same refl)
-  unlimited-by Format read text same = refl
-  unlimited-by (Bench n) read text same = refl
+  unlimited_by : (k : Command) (read text : List ℕ) → (reads k ≡ true → read ≡ text) → unlimited k read ≡ unlimited k text
+  unlimited_by (Verify mode rounds) read text same = ap (unlimited (Verify mode rounds)) (same refl)
+  unlimited_by Format read text same = refl
+  unlimited_by (Bench n) read text same = refl
 
   pub loopless : (text : List ℕ) → AreTold words left text → (speaks o ≡ true → IsWritten) → RestsWithoutLoops words text o
   loopless text told replied = λ k evaluated place round asked free less still.
@@ -83,4 +83,4 @@ module _ (words : List (List ℕ)) (left left' taken taken' : Option (List ℕ))
       let one : k ≡ r.reply.command = cc (r.reply.form, asked) in
       let free' : unlimited r.reply.command text ≡ Some evaluated = subst (λ (z : Command). unlimited z text ≡ Some evaluated) one free in
       let same = told_all verifier verifier_lawful words left left' text o r.bytes told r.reply in
-      r.kept.loopless evaluated place round (unlimited-by r.reply.command r.reply.text text same ∙ free') less still
+      r.kept.loopless evaluated place round (unlimited_by r.reply.command r.reply.text text same ∙ free') less still

@@ -7,12 +7,12 @@ use Rattle.std.proofs.lemmas.List.Folds.{list_all_at}
 use Rattle.std.proofs.lemmas.Bool.{cases_eq, eq-eqb, ne_eqb, false_from_ne_true, not-false, not-true}
 use Rattle.std.proofs.Math.Nat.{mod-eq_of_lt}
 use Rattle.scald_base.specs.Clock.{back}
-use Rattle.scald_base.proofs.Back.{back-zero, back-sub, back-sooner, back-later}
+use Rattle.scald_base.proofs.Back.{back_zero, back_sub, back_sooner, back_later}
 use Rattle.wave_core.specs.Cell.{Cells, IsLawful}
 use Rattle.wave_core.specs.Slots.{SameUntil, cell_round, earlier, fold_at, join_round}
-use Rattle.wave_core.proofs.Fold.{join_to-same, join_to-turned}
+use Rattle.wave_core.proofs.Fold.{join_to_same, join_to_turned}
 use Rattle.skew_algebra.specs.Wave.{cell_at, all_equal, is_steady, joined}
-use Rattle.skew_algebra.proofs.Cells.{all-from}
+use Rattle.skew_algebra.proofs.Cells.{all_from}
 
 item : {T : Type 0} (xs : List T) (i : ℕ) → i < length xs → (x : T) × (slice_get xs i ≡ Some x)
 item [] i below = absurd (omega arith)
@@ -21,35 +21,35 @@ item (x ∷ xs) (suc i) below = item xs i (omega arith)
 
 module _ {T : Type 0} (k : Cells T) where
   -- from slot 0 on, up to the period's end
-  round-at : (cells : List T) (i : ℕ) → i < length cells → cell_round k cells (0 + i) ≡ cell_at k cells i
+  round_at : (cells : List T) (i : ℕ) → i < length cells → cell_round k cells (0 + i) ≡ cell_at k cells i
   unfolding earlier
-  round-at cells i below =
+  round_at cells i below =
       let whole : 0 + i ≡ i = omega arith in
-      ap (λ (z : ℕ). get_or cells z k.any) (back-zero (length cells) (0 + i) ∙ ap (λ (z : ℕ). z % length cells) whole ∙ mod-eq_of_lt below)
+      ap (λ (z : ℕ). get_or cells z k.any) (back_zero (length cells) (0 + i) ∙ ap (λ (z : ℕ). z % length cells) whole ∙ mod-eq_of_lt below)
 
   -- no cell moves, or one does
-  pub steady-none : (cells : List T) (count : ℕ) → count ≡ length cells →
+  pub steady_none : (cells : List T) (count : ℕ) → count ≡ length cells →
       ((place : ℕ) → place < count → false ≡ not (k.quiet (cell_round k cells (0 + place)))) → true ≡ is_steady k cells
-  steady-none cells count long still =
-      sym (all-from k.quiet cells k.any
-      (λ i below. ap k.quiet (sym (round-at cells i below)) ∙ not-false (k.quiet (cell_round k cells (0 + i))) (sym (still i (omega (arith, long, below))))))
+  steady_none cells count long still =
+      sym (all_from k.quiet cells k.any
+      (λ i below. ap k.quiet (sym (round_at cells i below)) ∙ not-false (k.quiet (cell_round k cells (0 + i))) (sym (still i (omega (arith, long, below))))))
 
-  pub steady-not : (cells : List T) (count place : ℕ) → count ≡ length cells → place < count →
+  pub steady_not : (cells : List T) (count place : ℕ) → count ≡ length cells → place < count →
       true ≡ not (k.quiet (cell_round k cells (0 + place))) → false ≡ is_steady k cells
-  steady-not cells count place long within moves =
+  steady_not cells count place long within moves =
       let below : place < length cells = omega (arith, long, within) in
       sym (list_all_at k.quiet cells place k.any below
-      (ap k.quiet (sym (round-at cells place below)) ∙ not-true (k.quiet (cell_round k cells (0 + place))) (sym moves)))
+      (ap k.quiet (sym (round_at cells place below)) ∙ not-true (k.quiet (cell_round k cells (0 + place))) (sym moves)))
 
-  pub joined-by : (cells : List T) (count : ℕ) → count ≡ length cells → 0 < length cells → join_round k cells 0 (count - 1) ≡ joined k cells
-  joined-by cells count long some =
+  pub joined_by : (cells : List T) (count : ℕ) → count ≡ length cells → 0 < length cells → join_round k cells 0 (count - 1) ≡ joined k cells
+  joined_by cells count long some =
       ap (λ (n : ℕ). join_round k cells 0 (n - 1)) long
-      ∙ join_to-same k (λ i. cell_round k cells (0 + i)) (cell_at k cells) (length cells - 1) (λ i l. round-at cells i (omega (arith, l, some)))
+      ∙ join_to_same k (λ i. cell_round k cells (0 + i)) (cell_at k cells) (length cells - 1) (λ i l. round_at cells i (omega (arith, l, some)))
 
   module _ (laws : IsLawful k) where
     -- the cell of slot 0 goes on to the period's end, or another comes
-    pub equal-by : (cells : List T) (end period : ℕ) → period ≡ length cells → 0 < length cells → SameUntil cells 0 end → eqb end period ≡ all_equal k cells
-    equal-by cells end period long some same = go (cases_eq end period)
+    pub equal_by : (cells : List T) (end period : ℕ) → period ≡ length cells → 0 < length cells → SameUntil cells 0 end → eqb end period ≡ all_equal k cells
+    equal_by cells end period long some same = go (cases_eq end period)
       where
         first : (x : T) × (slice_get cells 0 ≡ Some x)
         first = item cells 0 some
@@ -73,25 +73,25 @@ module _ {T : Type 0} (k : Cells T) where
             same.other below (next.1 ∙ ap Some (sym one) ∙ sym first.1)))
 
         go : ((end ≡ period) ⊎ (end ≢ period)) → eqb end period ≡ all_equal k cells
-        go (inl e) = eq-eqb end period e ∙ sym (all-from (k.same (cell_at k cells 0)) cells k.any (alike e))
+        go (inl e) = eq-eqb end period e ∙ sym (all_from (k.same (cell_at k cells 0)) cells k.any (alike e))
         go (inr ne) = ne_eqb end period ne ∙ sym (differs (let within = same.within in omega (arith, within, long, ne)))
 
     -- the slots from the earliest that may show in a slot up to it
-    pub fold-by : (cells : List T) (period slot skew : ℕ) → period ≡ length cells → slot < length cells → skew < length cells →
+    pub fold_by : (cells : List T) (period slot skew : ℕ) → period ≡ length cells → slot < length cells → skew < length cells →
         join_round k cells ((slot + (period - skew)) % period) (skew + 1 - 1) ≡ fold_at k cells skew slot
     unfolding earlier
-    fold-by cells period slot skew long inside short =
+    fold_by cells period slot skew long inside short =
         let small : skew % length cells ≡ skew = mod-eq_of_lt short in
         let first : (slot + (period - skew)) % period ≡ back (length cells) slot skew =
         ap (λ (z : ℕ). (slot + (z - skew)) % z) long
         ∙ ap (λ (z : ℕ). (slot + (length cells - z)) % length cells) (sym small)
-        ∙ back-sub (length cells) slot skew (omega (arith, inside)) in
+        ∙ back_sub (length cells) slot skew (omega (arith, inside)) in
         let n : skew + 1 - 1 ≡ skew = omega arith in
         (λ i. join_round k cells (first i) (n i))
-        ∙ join_to-same k (λ i. cell_round k cells (back (length cells) slot skew + i)) (λ i. earlier k cells slot (skew - i)) skew
+        ∙ join_to_same k (λ i. cell_round k cells (back (length cells) slot skew + i)) (λ i. earlier k cells slot (skew - i)) skew
         (λ i l.
         let whole : skew + 0 ≡ i + (skew - i) = omega (arith, l) in
         ap (λ (z : ℕ). get_or cells z k.any)
-        (back-sooner (length cells) slot skew i 0 ∙ ap (back (length cells) (slot + i)) whole
-        ∙ back-later (length cells) slot i (skew - i) (omega (arith, inside))))
-        ∙ join_to-turned k laws (λ o. earlier k cells slot o) skew
+        (back_sooner (length cells) slot skew i 0 ∙ ap (back (length cells) (slot + i)) whole
+        ∙ back_later (length cells) slot i (skew - i) (omega (arith, inside))))
+        ∙ join_to_turned k laws (λ o. earlier k cells slot o) skew

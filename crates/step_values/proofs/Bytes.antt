@@ -20,9 +20,9 @@ same : Bool → Bool → Bool
 same true b = b
 same false b = not b
 
-same-is : (a b : Bool) → same a b ≡ true → a ≡ b
+same_is : (a b : Bool) → same a b ≡ true → a ≡ b
 unfolding same
-same-is a b h = grind arith
+same_is a b h = grind arith
 
 -- the union of two bytes has the steps of either
 union_at : Bool → Bool → ℕ → ℕ → Bool
@@ -35,11 +35,11 @@ union_all false true = refl
 union_all true false = refl
 union_all true true = refl
 
-pub union-has : (m n : ℕ) (before after : Bool) → m < 16 → n < 16 →
+pub union_has : (m n : ℕ) (before after : Bool) → m < 16 → n < 16 →
     in_set (bit_or m n) before after ≡ (in_set m before after || in_set n before after)
 unfolding union_at
-union-has m n before after m_below n_below =
+union_has m n before after m_below n_below =
     let row : all_below 16 (λ k. union_at before after m k) ≡ true =
     at_each 16 (λ j. all_below 16 (λ k. union_at before after j k)) m (union_all before after) m_below in
-    same-is (in_set (bit_or m n) before after) (in_set m before after || in_set n before after)
+    same_is (in_set (bit_or m n) before after) (in_set m before after || in_set n before after)
     (at_each 16 (λ k. union_at before after m k) n row n_below)

@@ -8,12 +8,12 @@ use Rattle.step_values.specs.declared.value.Value.{Value}
 use Rattle.step_values.specs.declared.value.Value.TheVariants.{Zero}
 use Rattle.step_values.specs.Table.{number, index2, index3, index4}
 
-number-below : (v : Value) → number v < 7
-number-below v = grind arith
+number_below : (v : Value) → number v < 7
+number_below v = grind arith
 
 -- values of one number are one
-number-is : (v w : Value) → number v ≡ number w → v ≡ w
-number-is v w e = grind arith
+number_is : (v w : Value) → number v ≡ number w → v ≡ w
+number_is v w e = grind arith
 
 -- one more entry: what was there stays, and at the new index stands the new value
 one_more : (xs : List Value) (i k : ℕ) (new wanted : Value) → i < length xs → k < i + 1 →
@@ -37,10 +37,10 @@ filled2 f entries i v w new room at_v at_w is old = record {
   below = λ a b below.
       let size : length entries ≡ 49 = old.size in
       one_more entries i (index2 a b) new (f a b) (omega arith) below (old.below a b) (λ same.
-      let a_below = number-below a in
-      let b_below = number-below b in
-      let v_is : v ≡ a = number-is v a (omega arith) in
-      let w_is : w ≡ b = number-is w b (omega arith) in
+      let a_below = number_below a in
+      let b_below = number_below b in
+      let v_is : v ≡ a = number_is v a (omega arith) in
+      let w_is : w ≡ b = number_is w b (omega arith) in
       rw (is, v_is, w_is));
 }
 
@@ -56,12 +56,12 @@ filled3 f entries i u v w new room at_u at_v at_w is old = record {
   below = λ a b c below.
       let size : length entries ≡ 343 = old.size in
       one_more entries i (index3 a b c) new (f a b c) (omega arith) below (old.below a b c) (λ same.
-      let a_below = number-below a in
-      let b_below = number-below b in
-      let c_below = number-below c in
-      let u_is : u ≡ a = number-is u a (omega arith) in
-      let v_is : v ≡ b = number-is v b (omega arith) in
-      let w_is : w ≡ c = number-is w c (omega arith) in
+      let a_below = number_below a in
+      let b_below = number_below b in
+      let c_below = number_below c in
+      let u_is : u ≡ a = number_is u a (omega arith) in
+      let v_is : v ≡ b = number_is v b (omega arith) in
+      let w_is : w ≡ c = number_is w c (omega arith) in
       rw (is, u_is, v_is, w_is));
 }
 
@@ -77,23 +77,23 @@ filled4 f entries i t u v w new room at_t at_u at_v at_w is old = record {
   below = λ a b c d below.
       let size : length entries ≡ 2401 = old.size in
       one_more entries i (index4 a b c d) new (f a b c d) (omega arith) below (old.below a b c d) (λ same.
-      let a_below = number-below a in
-      let b_below = number-below b in
-      let c_below = number-below c in
-      let d_below = number-below d in
-      let t_is : t ≡ a = number-is t a (omega arith) in
-      let u_is : u ≡ b = number-is u b (omega arith) in
-      let v_is : v ≡ c = number-is v c (omega arith) in
-      let w_is : w ≡ d = number-is w d (omega arith) in
+      let a_below = number_below a in
+      let b_below = number_below b in
+      let c_below = number_below c in
+      let d_below = number_below d in
+      let t_is : t ≡ a = number_is t a (omega arith) in
+      let u_is : u ≡ b = number_is u b (omega arith) in
+      let v_is : v ≡ c = number_is v c (omega arith) in
+      let w_is : w ≡ d = number_is w d (omega arith) in
       rw (is, t_is, u_is, v_is, w_is));
 }
 
 -- a table of so many entries has one for each choice of arguments
-pub index2-below : (a b : Value) → index2 a b < 49
-index2-below a b = omega (arith, number-below a, number-below b)
+pub index2_below : (a b : Value) → index2 a b < 49
+index2_below a b = omega (arith, number_below a, number_below b)
 
-pub index3-below : (a b c : Value) → index3 a b c < 343
-index3-below a b c = omega (arith, number-below a, number-below b, number-below c)
+pub index3_below : (a b c : Value) → index3 a b c < 343
+index3_below a b c = omega (arith, number_below a, number_below b, number_below c)
 
-pub index4-below : (a b c d : Value) → index4 a b c d < 2401
-index4-below a b c d = omega (arith, number-below a, number-below b, number-below c, number-below d)
+pub index4_below : (a b c d : Value) → index4 a b c d < 2401
+index4_below a b c d = omega (arith, number_below a, number_below b, number_below c, number_below d)

@@ -25,10 +25,10 @@ abbrev pub agree : Bool → Bool → Bool
 agree true b = b
 agree false b = not b
 
-pub agree-is : (a b : Bool) → agree a b ≡ true → a ≡ b
-agree-is true b h = sym h
-agree-is false true h = h
-agree-is false false h = refl
+pub agree_is : (a b : Bool) → agree a b ≡ true → a ≡ b
+agree_is true b h = sym h
+agree_is false true h = h
+agree_is false false h = refl
 
 pub implied : (a b : Bool) → (not a || b) ≡ true → a ≡ true → b ≡ true
 implied true b h a_holds = h
@@ -54,5 +54,5 @@ pub at_step : (p : Bool → Bool → Bool) → each_bit (λ a. each_bit (p a)) �
 at_step p h before after = at_bit (p before) (at_bit (λ a. each_bit (p a)) h before) after
 
 -- two tests of two values are one where they agree at each
-pub tests-are : (p q : Value → Value → Bool) → each_value (λ v. each_value (λ w. agree (p v w) (q v w))) ≡ true → (v w : Value) → p v w ≡ q v w
-tests-are p q h v w = agree-is (p v w) (q v w) (at_values (λ v w. agree (p v w) (q v w)) h v w)
+pub tests_are : (p q : Value → Value → Bool) → each_value (λ v. each_value (λ w. agree (p v w) (q v w))) ≡ true → (v w : Value) → p v w ≡ q v w
+tests_are p q h v w = agree_is (p v w) (q v w) (at_values (λ v w. agree (p v w) (q v w)) h v w)

@@ -3,7 +3,7 @@
 ghost use Rattle.std.specs.Prelude.{refl};
 ghost use Rattle.step_values.specs.Lawful.{values_lawful};
 ghost use Rattle.step_values.specs.Cell.{values};
-ghost use Rattle.step_values.specs.Each.{tests-are};
+ghost use Rattle.step_values.specs.Each.{tests_are};
 
 use crate::value::Value;
 use wave_core::Cell;
@@ -13,7 +13,7 @@ impl Cell for Value {
 
     ghost laws = { values_lawful };
 
-    ghost equal = { tests-are _ _ refl };
+    ghost equal = { tests_are _ _ refl };
 
     /// The least value that permits what either permits; U where one of them is U.
     #[inline]

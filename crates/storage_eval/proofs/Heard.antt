@@ -21,65 +21,65 @@ sooner : (w : Wave Value) (n m v u : ℕ) (x : Signal) → m ≤ n → v ≤ u �
 sooner w n m v u x mn vu p =
     record { offset = p.offset; within = p.within; steps = λ t t1 tu tm. p.steps t t1 (omega arith) (omega arith) }
 
-pub permit-listening : (kind : Kind) (place : ℕ) (waves : List (Wave Value)) (signals : List Signal) (n m v u : ℕ) → m ≤ n → v ≤ u →
+pub permit_listening : (kind : Kind) (place : ℕ) (waves : List (Wave Value)) (signals : List Signal) (n m v u : ℕ) → m ≤ n → v ≤ u →
     AllPermit values waves n signals v → AllPermit values (listening_from kind place waves) m (listening_from kind place signals) u
-permit-listening kind place [] [] n m v u mn vu ps = tt
-permit-listening kind place [] (x ∷ xs) n m v u mn vu ps = absurd ps
-permit-listening kind place (w ∷ ws) [] n m v u mn vu ps = absurd ps
-permit-listening kind place (w ∷ ws) (x ∷ xs) n m v u mn vu ps =
+permit_listening kind place [] [] n m v u mn vu ps = tt
+permit_listening kind place [] (x ∷ xs) n m v u mn vu ps = absurd ps
+permit_listening kind place (w ∷ ws) [] n m v u mn vu ps = absurd ps
+permit_listening kind place (w ∷ ws) (x ∷ xs) n m v u mn vu ps =
     by (listens kind place) (listening_from kind (place + 1) ws) (listening_from kind (place + 1) xs)
-    (permit-listening kind (place + 1) ws xs n m v u mn vu ps.1)
+    (permit_listening kind (place + 1) ws xs n m v u mn vu ps.1)
   where
     by : (heard : Bool) (waves : List (Wave Value)) (signals : List Signal) → AllPermit values waves m signals u →
         AllPermit values (cond heard (w ∷ waves) waves) m (cond heard (x ∷ signals) signals) u
     by true waves signals rest = (sooner w n m v u x mn vu ps.0, rest)
     by false waves signals rest = rest
 
-pub fit-listening : (kind : Kind) (place period : ℕ) (waves : List (Wave Value)) → AllFit values period waves →
+pub fit_listening : (kind : Kind) (place period : ℕ) (waves : List (Wave Value)) → AllFit values period waves →
     AllFit values period (listening_from kind place waves)
-fit-listening kind place period [] fits = tt
-fit-listening kind place period (w ∷ ws) fits =
-    by (listens kind place) (listening_from kind (place + 1) ws) (fit-listening kind (place + 1) period ws fits.1)
+fit_listening kind place period [] fits = tt
+fit_listening kind place period (w ∷ ws) fits =
+    by (listens kind place) (listening_from kind (place + 1) ws) (fit_listening kind (place + 1) period ws fits.1)
   where
     by : (heard : Bool) (waves : List (Wave Value)) → AllFit values period waves → AllFit values period (cond heard (w ∷ waves) waves)
     by true waves rest = (fits.0, rest)
     by false waves rest = rest
 
 -- the first pin listens, so the period is its own
-pub period-listening : (kind : Kind) (waves : List (Wave Value)) → period_of (listening kind waves) ≡ period_of waves
-period-listening Reg [] = refl
-period-listening RegRs [] = refl
-period-listening kind [] = refl
-period-listening Reg (w ∷ ws) = refl
-period-listening RegRs (w ∷ ws) = refl
-period-listening kind (w ∷ ws) = refl
+pub period_listening : (kind : Kind) (waves : List (Wave Value)) → period_of (listening kind waves) ≡ period_of waves
+period_listening Reg [] = refl
+period_listening RegRs [] = refl
+period_listening kind [] = refl
+period_listening Reg (w ∷ ws) = refl
+period_listening RegRs (w ∷ ws) = refl
+period_listening kind (w ∷ ws) = refl
 
 -- an element has pins
-pub some-pins : (kind : Kind) (n : ℕ) → is_storage kind ≡ true → n ≡ (pin_counts kind).0 → 0 < n
-some-pins Reg n stores count = omega arith
-some-pins RegRs n stores count = omega arith
-some-pins Latch n stores count = omega arith
-some-pins LatchRs n stores count = omega arith
-some-pins kind n stores count = cc
+pub some_pins : (kind : Kind) (n : ℕ) → is_storage kind ≡ true → n ≡ (pin_counts kind).0 → 0 < n
+some_pins Reg n stores count = omega arith
+some_pins RegRs n stores count = omega arith
+some_pins Latch n stores count = omega arith
+some_pins LatchRs n stores count = omega arith
+some_pins kind n stores count = cc
 
 -- and one that listens
-pub some-listening : (kind : Kind) (waves : List (Wave Value)) → is_storage kind ≡ true → length waves ≡ (pin_counts kind).0 →
+pub some_listening : (kind : Kind) (waves : List (Wave Value)) → is_storage kind ≡ true → length waves ≡ (pin_counts kind).0 →
     0 < length (listening kind waves)
-some-listening Reg [] stores count = absurd (omega arith)
-some-listening RegRs [] stores count = absurd (omega arith)
-some-listening Latch [] stores count = absurd (omega arith)
-some-listening LatchRs [] stores count = absurd (omega arith)
-some-listening kind [] stores count = cc
-some-listening Reg (w ∷ ws) stores count = omega arith
-some-listening RegRs (w ∷ ws) stores count = omega arith
-some-listening kind (w ∷ ws) stores count = omega arith
+some_listening Reg [] stores count = absurd (omega arith)
+some_listening RegRs [] stores count = absurd (omega arith)
+some_listening Latch [] stores count = absurd (omega arith)
+some_listening LatchRs [] stores count = absurd (omega arith)
+some_listening kind [] stores count = cc
+some_listening Reg (w ∷ ws) stores count = omega arith
+some_listening RegRs (w ∷ ws) stores count = omega arith
+some_listening kind (w ∷ ws) stores count = omega arith
 
-long-listening : (kind : Kind) (place period : ℕ) (waves : List (Wave Value)) → All (λ w. length w.cells ≡ period) waves →
+long_listening : (kind : Kind) (place period : ℕ) (waves : List (Wave Value)) → All (λ w. length w.cells ≡ period) waves →
     All (λ w. length w.cells ≡ period) (listening_from kind place waves)
-long-listening kind place period [] long = All-nil (λ (w : Wave Value). length w.cells ≡ period)
-long-listening kind place period (w ∷ ws) long =
+long_listening kind place period [] long = All-nil (λ (w : Wave Value). length w.cells ≡ period)
+long_listening kind place period (w ∷ ws) long =
     by (listens kind place) (listening_from kind (place + 1) ws)
-    (long-listening kind (place + 1) period ws (All-tail (λ (w : Wave Value). length w.cells ≡ period) w ws long))
+    (long_listening kind (place + 1) period ws (All-tail (λ (w : Wave Value). length w.cells ≡ period) w ws long))
   where
     by : (heard : Bool) (waves : List (Wave Value)) → All (λ w. length w.cells ≡ period) waves →
         All (λ w. length w.cells ≡ period) (cond heard (w ∷ waves) waves)
@@ -87,7 +87,7 @@ long-listening kind place period (w ∷ ws) long =
         All-cons (λ (w : Wave Value). length w.cells ≡ period) w waves (All-head (λ (w : Wave Value). length w.cells ≡ period) w ws long) rest
     by false waves rest = rest
 
-pub one_period-listening : (kind : Kind) (waves : List (Wave Value)) → HaveOnePeriod waves → HaveOnePeriod (listening kind waves)
-one_period-listening kind waves long =
+pub one_period_listening : (kind : Kind) (waves : List (Wave Value)) → HaveOnePeriod waves → HaveOnePeriod (listening kind waves)
+one_period_listening kind waves long =
     All-weaker (λ (w : Wave Value). length w.cells ≡ period_of waves) (λ (w : Wave Value). length w.cells ≡ period_of (listening kind waves))
-    (λ w h. h ∙ sym (period-listening kind waves)) (listening kind waves) (long-listening kind 0 (period_of waves) waves long)
+    (λ w h. h ∙ sym (period_listening kind waves)) (listening kind waves) (long_listening kind 0 (period_of waves) waves long)

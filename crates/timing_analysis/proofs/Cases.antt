@@ -9,17 +9,17 @@ use Rattle.timing_analysis.specs.Case.{Listed, Case, IsAtRest, AreAtRest, NeverR
 
 -- ---- numbers of cases
 
-numbered-split : (from : ℕ) (xs : List (List CaseValue)) (v : List CaseValue) (ys : List (List CaseValue)) →
+numbered_split : (from : ℕ) (xs : List (List CaseValue)) (v : List CaseValue) (ys : List (List CaseValue)) →
     numbered from (xs ++ v ∷ ys) ≡
     numbered from xs ++ record { number = from + length xs; values = v } ∷ numbered (from + length xs + 1) ys
-numbered-split from [] v ys =
+numbered_split from [] v ys =
     let same : from ≡ from + 0 = omega arith in
     ap (λ (n : ℕ). let l : Listed = record { number = n; values = v } in l ∷ numbered (n + 1) ys) same
-numbered-split from (x ∷ xs) v ys =
+numbered_split from (x ∷ xs) v ys =
     let same : from + 1 + length xs ≡ from + suc (length xs) = omega arith in
     let first : Listed = record { number = from; values = x } in
     ap (λ (ls : List Listed). first ∷ ls)
-    (numbered-split (from + 1) xs v ys
+    (numbered_split (from + 1) xs v ys
     ∙ ap (λ (n : ℕ). let l : Listed = record { number = n; values = v } in
     numbered (from + 1) xs ++ l ∷ numbered (n + 1) ys) same)
 
@@ -31,7 +31,7 @@ module _ (cases : List (List CaseValue)) (k : ℕ) (inside : k < length cases) w
   numbered_here ys =
       let long : length (take k cases) ≡ k = length-take-le k cases (omega (arith, inside)) in
       let same : 1 + length (take k cases) ≡ k + 1 = omega (arith, long) in
-      numbered-split 1 (take k cases) (case_at cases k) ys
+      numbered_split 1 (take k cases) (case_at cases k) ys
       ∙ ap (λ (n : ℕ). let l : Listed = record { number = n; values = case_at cases k } in
       numbered 1 (take k cases) ++ l ∷ numbered (n + 1) ys) same
 

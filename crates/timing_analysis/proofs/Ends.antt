@@ -21,12 +21,12 @@ module _ (c : Circuit) (values : List (List CaseValue)) (limit : ℕ) where
   case_early base (Unsettled place round) rests ends = (by_case base rests ends.0, ends.1)
 
   -- the net that an end names is one of the circuit
-  stop-below : (place : ℕ) → StopsEarly c values limit place → place < length c.order
-  stop-below place (by_base is) = is.first.below
-  stop-below place (by_case base rests stops) = stops.never.is.first.below
+  stop_below : (place : ℕ) → StopsEarly c values limit place → place < length c.order
+  stop_below place (by_base is) = is.first.below
+  stop_below place (by_case base rests stops) = stops.never.is.first.below
 
   pub end_below : (end : EngineEnd) (place round : ℕ) → EndsEarly c values limit end →
       end ≡ Unsettled place round → place < length c.order
   end_below end place round ends is =
       let there : EndsEarly c values limit (Unsettled place round) = subst (EndsEarly c values limit) is ends in
-      stop-below place there.0
+      stop_below place there.0

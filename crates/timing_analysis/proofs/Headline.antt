@@ -16,7 +16,7 @@ use Rattle.case_analysis.specs.Case.{PermitCase}
 use Rattle.case_analysis.specs.Tick.{tick}
 use Rattle.point_check.specs.Faults.{is_of_instance, is_of_net}
 use Rattle.point_check.specs.Sound.{KeepsConstraints}
-use Rattle.timing_analysis.proofs.Reached.{all-pins-permit, no-instance-breaks, no-net-breaks}
+use Rattle.timing_analysis.proofs.Reached.{all_pins_permit, no_instance_breaks, no_net_breaks}
 use Rattle.pulse_check.specs.Sound.{is_of_pulse, KeepsWidths}
 use Rattle.timing_analysis.specs.Case.{Case, faults, fault_count}
 use Rattle.timing_analysis.specs.Laws.{FaultlessIsUnbroken}
@@ -24,23 +24,23 @@ use Rattle.timing_analysis.specs.Promise.{by_instance, by_pulse, by_net, IsUnbro
 
 -- ---- the faults of both checks together
 
-or-left : (a b : Bool) → (a || b) ≡ false → a ≡ false
-or-left true b e = absurd cc
-or-left false b e = refl
+or_left : (a b : Bool) → (a || b) ≡ false → a ≡ false
+or_left true b e = absurd cc
+or_left false b e = refl
 
-or-right : (a b : Bool) → (a || b) ≡ false → b ≡ false
-or-right true b e = absurd cc
-or-right false b e = e
+or_right : (a b : Bool) → (a || b) ≡ false → b ≡ false
+or_right true b e = absurd cc
+or_right false b e = e
 
-none-first : (test : Fault → Bool) (fs gs all : List Fault) → all ≡ fs ++ gs → list_any test all ≡ false → list_any test fs ≡ false
-none-first test fs gs all e none = or-left (list_any test fs) (list_any test gs) (sym (list_any-append test fs gs) ∙ ap (list_any test) (sym e) ∙ none)
+none_first : (test : Fault → Bool) (fs gs all : List Fault) → all ≡ fs ++ gs → list_any test all ≡ false → list_any test fs ≡ false
+none_first test fs gs all e none = or_left (list_any test fs) (list_any test gs) (sym (list_any-append test fs gs) ∙ ap (list_any test) (sym e) ∙ none)
 
-none-second : (test : Fault → Bool) (fs gs all : List Fault) → all ≡ fs ++ gs → list_any test all ≡ false → list_any test gs ≡ false
-none-second test fs gs all e none = or-right (list_any test fs) (list_any test gs) (sym (list_any-append test fs gs) ∙ ap (list_any test) (sym e) ∙ none)
+none_second : (test : Fault → Bool) (fs gs all : List Fault) → all ≡ fs ++ gs → list_any test all ≡ false → list_any test gs ≡ false
+none_second test fs gs all e none = or_right (list_any test fs) (list_any test gs) (sym (list_any-append test fs gs) ∙ ap (list_any test) (sym e) ∙ none)
 
 -- the printed tick lies a reach less one tick after the tick from which on the waves at rest permit the nets
-printed-after : (b r n : ℕ) → (b + r) * n + 1 + n ≤ (b + r + 1) * n + 1
-printed-after b r n = omega arith
+printed_after : (b r n : ℕ) → (b + r) * n + 1 + n ≤ (b + r + 1) * n + 1
+printed_after b r n = omega arith
 
 module _ (c : Circuit) (ws : Waves) (fs gs all : List Fault) (some : 0 < period c.header) (known : IsCircuit c) (long : AreLong c ws)
     (points : KeepsConstraints c ws fs) (widths : KeepsWidths c ws gs) (are : all ≡ fs ++ gs) (values : List CaseValue) (b r : ℕ) (permits : PermitCase c values (b + r) ws) where
@@ -48,14 +48,14 @@ module _ (c : Circuit) (ws : Waves) (fs gs all : List Fault) (some : 0 < period 
   pub keeps_faultless : KeepsFaultless c values all (tick (reach c) b r)
   keeps_faultless = record {
     instances = λ run k is_run meets inside none.
-        no-instance-breaks c run ws fs ((b + r) * reach c + 1) (tick (reach c) b r) some known long points is_run (permits run is_run meets inside) (omega arith) (printed-after b r (reach c)) k
-        (none-first (is_of_instance k) fs gs all are none);
+        no_instance_breaks c run ws fs ((b + r) * reach c + 1) (tick (reach c) b r) some known long points is_run (permits run is_run meets inside) (omega arith) (printed_after b r (reach c)) k
+        (none_first (is_of_instance k) fs gs all are none);
     pulses = λ run k level is_run meets inside none.
-        widths run k level (tick (reach c) b r) (none-second (is_of_pulse k level) fs gs all are none)
-        (all-pins-permit c run ws k ((b + r) * reach c + 1) (tick (reach c) b r) some known long is_run (permits run is_run meets inside) (omega arith) (printed-after b r (reach c)));
+        widths run k level (tick (reach c) b r) (none_second (is_of_pulse k level) fs gs all are none)
+        (all_pins_permit c run ws k ((b + r) * reach c + 1) (tick (reach c) b r) some known long is_run (permits run is_run meets inside) (omega arith) (printed_after b r (reach c)));
     nets = λ run i is_run meets inside none.
-        no-net-breaks c run ws fs ((b + r) * reach c + 1) (tick (reach c) b r) some known long points is_run (permits run is_run meets inside) (omega arith) (printed-after b r (reach c)) i
-        (none-first (is_of_net i) fs gs all are none);
+        no_net_breaks c run ws fs ((b + r) * reach c + 1) (tick (reach c) b r) some known long points is_run (permits run is_run meets inside) (omega arith) (printed_after b r (reach c)) i
+        (none_first (is_of_net i) fs gs all are none);
   }
 
 -- ---- no fault at all
@@ -68,9 +68,9 @@ faultless_is_unbroken c base case clean keeps run is_run meets inside broken =
       | by_net i b ↦ keeps.nets run i is_run meets inside (ap (list_any (is_of_net i)) clean) b
     ]
 
-no-fault : (fs : List Fault) → length fs ≡ 0 → fs ≡ []
-no-fault [] e = refl
-no-fault (f ∷ fs) e = absurd (omega arith)
+no_fault : (fs : List Fault) → length fs ≡ 0 → fs ≡ []
+no_fault [] e = refl
+no_fault (f ∷ fs) e = absurd (omega arith)
 
 -- Where no fault is counted, no case has one, and nothing is broken.
 all_unbroken : (c : Circuit) (base : ℕ) (cases : List Case) → fault_count c cases ≡ 0 → All (IsKept c base) cases → All (IsUnbroken c base) cases
@@ -78,7 +78,7 @@ all_unbroken c base [] none keeps = All-nil (IsUnbroken c base)
 all_unbroken c base (case ∷ cases) none keeps =
     let counted : fault_count c (case ∷ cases) ≡ length (faults c case) + fault_count c cases = sum_by-cons (λ (k : Case). length (faults c k)) case cases in
     All-cons (IsUnbroken c base) case cases
-    (faultless_is_unbroken c base case (no-fault (faults c case) (omega (arith, counted, none))) (All-head (IsKept c base) case cases keeps))
+    (faultless_is_unbroken c base case (no_fault (faults c case) (omega (arith, counted, none))) (All-head (IsKept c base) case cases keeps))
     (all_unbroken c base cases (omega (arith, counted, none)) (All-tail (IsKept c base) case cases keeps))
 
 -- What is safe but for its faults is safe where there is none.

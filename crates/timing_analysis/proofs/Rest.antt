@@ -11,7 +11,7 @@ use Rattle.fixpoint_engine.specs.declared.rounds.EngineEnd.TheVariants.{Unsettle
 use Rattle.fixpoint_engine.specs.Reach.{reach}
 use Rattle.fixpoint_engine.specs.Rounds.{round, AreSame}
 use Rattle.fixpoint_engine.specs.End.{EndsFor}
-use Rattle.fixpoint_engine.proofs.Reached.{round-next, inactive-stays}
+use Rattle.fixpoint_engine.proofs.Reached.{round_next, inactive_stays}
 use Rattle.case_analysis.specs.Base.{base_round, IsBase, PermitInputs}
 use Rattle.case_analysis.specs.Case.{InCone, Is_set, Hears_one, IsCone, IsCase, HasCone, EndsInCone, PermitCase, case_active, case_start, case_round}
 use Rattle.case_analysis.specs.Tick.{tick}
@@ -47,16 +47,16 @@ module _ (c : Circuit) (limit base : ℕ) (listed : Listed) (rounds : ℕ) (ws :
 
 -- ---- a drawing that lists no case
 
-none-in : (c : Circuit) (i : ℕ) → InCone c [] i → ⊥
-none-in c i (Is_set e) = cc
-none-in c i (Hears_one {from} h hears) = none-in c from h
+none_in : (c : Circuit) (i : ℕ) → InCone c [] i → ⊥
+none_in c i (Is_set e) = cc
+none_in c i (Hears_one {from} h hears) = none_in c from h
 
-no-cone : (c : Circuit) → IsCone c [] (λ i. false)
-no-cone c i = ((λ e. absurd (cc)), (λ h. absurd (none-in c i h)))
+no_cone : (c : Circuit) → IsCone c [] (λ i. false)
+no_cone c i = ((λ e. absurd (cc)), (λ h. absurd (none_in c i h)))
 
-round-first : (c : Circuit) (active : ℕ → Bool) (start : Waves) (i : ℕ) → round c active start 0 i ≡ start i
+round_first : (c : Circuit) (active : ℕ → Bool) (start : Waves) (i : ℕ) → round c active start 0 i ≡ start i
 unfolding round
-round-first c active start i = refl
+round_first c active start i = refl
 
 -- The base is the one case of a drawing that lists none.
 pub base_rests : (c : Circuit) (limit base : ℕ) (ws : Waves) → IsBase c limit base ws →
@@ -66,14 +66,14 @@ base_rests c limit base ws is =
     let start : Waves = case_start c [] (λ k. false) (base_round c base) in
     record {
       cone = λ i. false;
-      is_cone = no-cone c;
+      is_cone = no_cone c;
       is = record {
         rests = record {
-          still = λ i. round-next c active start 0 i ∙ inactive-stays c active (round c active start 0) i refl;
+          still = λ i. round_next c active start 0 i ∙ inactive_stays c active (round c active start 0) i refl;
           first = λ s less. absurd (omega arith);
           within = omega arith;
         };
-        waves = λ i. is.waves i ∙ sym (round-first c active start i);
+        waves = λ i. is.waves i ∙ sym (round_first c active start i);
       };
     }
 

@@ -14,7 +14,7 @@ use Rattle.flat_circuit.specs.declared.split.Split.{Split}
 use Rattle.flat_circuit.specs.declared.instance.Instance.{Instance}
 use Rattle.flat_circuit.specs.Split.{gate_signal, split_bit, two_delays}
 use Rattle.flat_circuit.specs.Run.{Choice as Chosen, Run, pin_signals, out_signal, EquationWith, IsAskedWith}
-use Rattle.flat_circuit.proofs.Splits.{same-delays}
+use Rattle.flat_circuit.proofs.Splits.{same_delays}
 use Rattle.trace_sim.specs.Simulated.{IsOpenForm, LeavesFree}
 use Rattle.trace_sim.specs.Making.{named_in, are_there, are_shown, stays_at, held_through, passes, forced_by, stored, fixed, fixed_in}
 use Rattle.trace_sim.proofs.Shown.{there_from, from_there, shown_at, far_enough}
@@ -89,7 +89,7 @@ obeys_one : (form : Form) (kind : Kind) (d : Bounds) (choice : Chosen) (xs : Lis
 obeys_one Gate kind d choice xs o t some one asked h =
     let z = gate_signal kind xs in
     gate_obeys kind choice xs (o t) t some asked d (o (t - 1)) h
-    ∙ ap (λ r. split_bit z r choice.fall t) one.0 ∙ ap (λ f. split_bit z choice.delay f t) one.1 ∙ same-delays z choice.delay t
+    ∙ ap (λ r. split_bit z r choice.fall t) one.0 ∙ ap (λ f. split_bit z choice.delay f t) one.1 ∙ same_delays z choice.delay t
 obeys_one Change kind d choice xs o t some one asked h = λ still.
     let ws = choice.wires in
     let rest = All-tail (λ (b : ℕ). b ≤ t) 1 (pins_before (d.max + 1) ws) asked in

@@ -269,9 +269,9 @@ fresh_taken (x ∷ xs) [] k m h l e f = absurd (omega arith)
 fresh_taken (x ∷ xs) (n ∷ ns) zero m h l e f = rw (fresh_none m n h, f) (omega arith)
 fresh_taken (x ∷ xs) (n ∷ ns) (suc k) m h l e f = omega (arith, fresh_taken xs ns k m h (omega arith) (omega arith) f)
 
-path_left-push : (nodes : List Node) (xs : List Frame) (x : Frame) → path_left nodes (xs ++ x ∷ []) ≡ path_left nodes xs + ((length (feeders_of nodes x.node) - x.at) + 1)
-path_left-push nodes [] x = omega arith
-path_left-push nodes (f ∷ fs) x = omega (arith, path_left-push nodes fs x)
+path_left_push : (nodes : List Node) (xs : List Frame) (x : Frame) → path_left nodes (xs ++ x ∷ []) ≡ path_left nodes xs + ((length (feeders_of nodes x.node) - x.at) + 1)
+path_left_push nodes [] x = omega arith
+path_left_push nodes (f ∷ fs) x = omega (arith, path_left_push nodes fs x)
 
 -- ---- as the code says it
 pub started : (nodes : List Node) (marks : List Mark) (order : List ℕ) (root : ℕ) → root < length nodes → mark_at marks root ≡ Fresh →
@@ -302,7 +302,7 @@ pub push_smaller : (nodes : List Node) (start marks : List Mark) (order : List �
 push_smaller nodes start marks order path items node at pin p m e s =
     let f : Frame = record { node = node; at = at + 1 } in
     let a = fresh_taken marks nodes pin Open (λ x. cc) (omega (arith, p.inside, s.marks_are.length_marks)) s.marks_are.length_marks m in
-    let b : path_left nodes items ≡ path_left nodes path + ((length (feeders_of nodes node) - (at + 1)) + 1) = ap (path_left nodes) e ∙ path_left-push nodes path f in
+    let b : path_left nodes items ≡ path_left nodes path + ((length (feeders_of nodes node) - (at + 1)) + 1) = ap (path_left nodes) e ∙ path_left_push nodes path f in
     let c = p.below in
     omega (arith, a, b, c)
 
@@ -324,7 +324,7 @@ pub pop_smaller : (nodes : List Node) (marks : List Mark) (path rest : List Fram
     + 1 < fresh_left marks nodes + path_left nodes path + (length (feeders_of nodes node) - at) + 1
 pop_smaller nodes marks path rest f node at e =
     let a = fresh_less marks nodes node Clear (λ x. cc) in
-    let b : path_left nodes path ≡ path_left nodes rest + ((length (feeders_of nodes f.node) - f.at) + 1) = ap (path_left nodes) e ∙ path_left-push nodes rest f in
+    let b : path_left nodes path ≡ path_left nodes rest + ((length (feeders_of nodes f.node) - f.at) + 1) = ap (path_left nodes) e ∙ path_left_push nodes rest f in
     omega (arith, a, b)
 
 pub ended : (nodes : List Node) (start marks : List Mark) (order items : List ℕ) (path : List Frame) (node at : ℕ) → items ≡ order ++ node ∷ [] →

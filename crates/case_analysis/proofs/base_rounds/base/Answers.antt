@@ -5,24 +5,24 @@ use Rattle.fixpoint_engine.specs.End.{EndsFor}
 use Rattle.fixpoint_engine.specs.Rounds.{round}
 use Rattle.fixpoint_engine.specs.Settled.{AreAtRest, marked_in}
 use Rattle.fixpoint_engine.specs.Work.{work_to}
-use Rattle.case_analysis.proofs.Inputs.{as-base}
-use Rattle.case_analysis.proofs.Answered.{base-keeps, in-time, soon}
+use Rattle.case_analysis.proofs.Inputs.{as_base}
+use Rattle.case_analysis.proofs.Answered.{base_keeps, in_time, soon}
 use Rattle.case_analysis.proofs.base_rounds.base.Goals as goal
 
 pub returns-clause-rest : goal.returns-clause-rest
 returns-clause-rest g c =
-    as-base c.args.c.now (marked_in c.in_ok-active.active) (waves_of c.in_ok-start.start)
+    as_base c.args.c.now (marked_in c.in_ok-active.active) (waves_of c.in_ok-start.start)
     (λ active first. IfOk c.settle.result (λ s. AreAtRest c.args.c.now active first c.args.limit s.rounds (waves_of s.waves)))
     c.in_ok-active.ensures.driven (λ k i. c.in_ok-start.ensures.is i k)
     c.settle.ensures.rest
 
 pub returns-clause-within : goal.returns-clause-within
-returns-clause-within g c = in-time c.settle.result c.args.c.now (marked_in c.in_ok-active.active)
+returns-clause-within g c = in_time c.settle.result c.args.c.now (marked_in c.in_ok-active.active)
     (waves_of c.in_ok-start.start) c.args.limit (λ s. s.rounds) (λ s. waves_of s.waves) c.settle.ensures.rest
 
 pub returns-clause-work : goal.returns-clause-work
 returns-clause-work g c =
-    as-base c.args.c.now (marked_in c.in_ok-active.active) (waves_of c.in_ok-start.start)
+    as_base c.args.c.now (marked_in c.in_ok-active.active) (waves_of c.in_ok-start.start)
     (λ active first. IfOk c.settle.result (λ s. s.evals ≡ work_to c.args.c.now active (round c.args.c.now active first) (s.rounds + 1)))
     c.in_ok-active.ensures.driven (λ k i. c.in_ok-start.ensures.is i k)
     c.settle.ensures.work
@@ -30,12 +30,12 @@ returns-clause-work g c =
 pub returns-clause-sound : goal.returns-clause-sound
 returns-clause-sound g c =
     let some : 0 < period c.args.c.now.header = subst (λ h. 0 < period h) c.header.ensures (let two = c.known-2.ensures.shortest in omega (arith, two)) in
-    base-keeps c.settle.result c.args.c.now (waves_of c.in_ok-start.start) (λ s. s.rounds) (λ s. waves_of s.waves)
+    base_keeps c.settle.result c.args.c.now (waves_of c.in_ok-start.start) (λ s. s.rounds) (λ s. waves_of s.waves)
     some c.in_ok-start.ensures.is c.settle.ensures.sound
 
 pub returns-clause-unsettled : goal.returns-clause-unsettled
 returns-clause-unsettled g c =
-    as-base c.args.c.now (marked_in c.in_ok-active.active) (waves_of c.in_ok-start.start)
+    as_base c.args.c.now (marked_in c.in_ok-active.active) (waves_of c.in_ok-start.start)
     (λ active first. IfErr c.settle.result (EndsFor c.args.c.now.order (round c.args.c.now active first) c.args.limit))
     c.in_ok-active.ensures.driven (λ k i. c.in_ok-start.ensures.is i k)
     c.settle.ensures.unsettled

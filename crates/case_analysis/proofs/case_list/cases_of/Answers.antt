@@ -6,7 +6,7 @@ use Rattle.flat_circuit.specs.declared.case.CaseValue.{CaseValue}
 use Rattle.drawing_tree.specs.declared.drawing.CaseStmt.{CaseStmt}
 use Rattle.drawing_tree.specs.declared.drawing.CaseEntry.{CaseEntry}
 use Rattle.case_analysis.specs.Listed.{IsCaseOf, IsCaseStop}
-use Rattle.case_analysis.proofs.Listing.{Passing, passing-more, passing-wrong}
+use Rattle.case_analysis.proofs.Listing.{Passing, passing_more, passing_wrong}
 use Rattle.case_analysis.proofs.case_list.cases_of.Goals as goal
 
 pub returns-in_err-listed-clause-is : goal.returns-in_err-listed-clause-is
@@ -16,7 +16,7 @@ returns-in_err-listed-clause-is c =
     let next : drop i c.args.written.now ≡ w ∷ drop (i + 1) c.args.written.now =
     drop_more c.args.written.now i w c.loop-case-test.true ∙ ap (λ (x : CaseStmt). x ∷ drop (i + 1) c.args.written.now) (sym c.case-item.is) in
     let p = err_from_is_err_and c.from_residual.result c.from_residual.ensures.1 in
-    rw (p.1, p.2) (passing-wrong c.args.c.now c.args.written.now (drop i c.args.written.now) (drop (i + 1) c.args.written.now) c.loop-case.cases w next c.loop-case.invariant c.in_err-listed.field-0.0
+    rw (p.1, p.2) (passing_wrong c.args.c.now c.args.written.now (drop i c.args.written.now) (drop (i + 1) c.args.written.now) c.loop-case.cases w next c.loop-case.invariant c.in_err-listed.field-0.0
     (subst (λ (es : List CaseEntry). IsCaseStop c.args.c.now es c.in_err-listed.field-0.0) c.as_slice.ensures c.in_err-listed.ensures.is))
 
 pub loop-case-preserved : goal.loop-case-preserved
@@ -27,7 +27,7 @@ loop-case-preserved c =
     drop_more c.args.written.now i w c.loop-case-test.true ∙ ap (λ (x : CaseStmt). x ∷ drop (i + 1) c.args.written.now) (sym c.case-item.is) in
     let is : IsCaseOf c.args.c.now w.entries c.in_ok-listed.listed = subst (λ (es : List CaseEntry). IsCaseOf c.args.c.now es c.in_ok-listed.listed) c.as_slice.ensures c.in_ok-listed.ensures.is in
     subst (λ (cases : List (List CaseValue)). Passing c.args.c.now c.args.written.now (drop (i + 1) c.args.written.now) cases) (sym c.in_ok-push.ensures.ok)
-    (passing-more c.args.c.now c.args.written.now (drop i c.args.written.now) (drop (i + 1) c.args.written.now)
+    (passing_more c.args.c.now c.args.written.now (drop i c.args.written.now) (drop (i + 1) c.args.written.now)
     c.loop-case.cases w next c.loop-case.invariant c.in_ok-listed.listed is c.in_ok-listed.ensures.listed)
 
 pub returns-clause-each : goal.returns-clause-each

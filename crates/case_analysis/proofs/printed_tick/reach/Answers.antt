@@ -1,7 +1,7 @@
 use Rattle.std.proofs.Common.{◌≡◌, ◌+◌, drop, max, arith, sym, subst}
 use Rattle.std.proofs.lemmas.Grind.{common_steps}
 use Rattle.fixpoint_engine.specs.Reach.{farthest}
-use Rattle.case_analysis.proofs.Far.{far-more}
+use Rattle.case_analysis.proofs.Far.{far_more}
 use Rattle.case_analysis.proofs.printed_tick.reach.Goals as goal
 
 pub loop-k-preserved : goal.loop-k-preserved
@@ -11,7 +11,7 @@ loop-k-preserved c =
     let one = c.looks_back.ensures.bounded in
     record {
       is = subst (λ n. max n (farthest c.args.c.now.nets (drop (c.loop-k.k + 1) c.args.c.now.instances)) ≡ farthest c.args.c.now.nets c.args.c.now.instances) (sym greater)
-          (far-more c.args.c.now.nets c.args.c.now.instances c.loop-k.k c.instance_of.result.now
+          (far_more c.args.c.now.nets c.args.c.now.instances c.loop-k.k c.instance_of.result.now
           c.loop-k.farthest c.looks_back.result c.instance_of.ensures c.looks_back.ensures.is c.loop-k.invariant.is);
       bounded = omega (arith, greater, before, one);
     }

@@ -7,20 +7,20 @@ use Rattle.flat_circuit.specs.Circuit.{Circuit}
 use Rattle.net_waves.specs.Waves.{waves_of, FitWaves}
 use Rattle.circuit_tests.proofs.drawings.are_fit.Goals as goal
 
-slots-at : (p : ℕ) (xs : List (Wave Value)) (i : ℕ) → list_all (λ x. length x.cells == p) xs ≡ true → i < length xs →
+slots_at : (p : ℕ) (xs : List (Wave Value)) (i : ℕ) → list_all (λ x. length x.cells == p) xs ≡ true → i < length xs →
     length (waves_of xs i).cells ≡ p
-slots-at p [] i tested below = absurd (omega arith)
-slots-at p (x ∷ xs) zero tested below =
+slots_at p [] i tested below = absurd (omega arith)
+slots_at p (x ∷ xs) zero tested below =
     let here : length x.cells ≡ p = grind (arith, tested) in here
-slots-at p (x ∷ xs) (suc i) tested below =
+slots_at p (x ∷ xs) (suc i) tested below =
     let rest : list_all (λ y. length y.cells == p) xs ≡ true = grind (arith, tested) in
-    slots-at p xs i rest (omega arith)
+    slots_at p xs i rest (omega arith)
 
 fit : (c : Circuit) (p : ℕ) (xs : List (Wave Value)) → length xs ≡ length c.nets → p ≡ period c.header →
     list_all (λ x. length x.cells == p) xs ≡ true → FitWaves c xs
 fit c p xs long is tested = record {
   each_net = long;
-  each_slot = λ i below. slots-at p xs i tested (omega (arith, long, below)) ∙ is;
+  each_slot = λ i below. slots_at p xs i tested (omega (arith, long, below)) ∙ is;
 }
 
 pub returns-then-len-net_count : goal.returns-then-len-net_count

@@ -3,7 +3,7 @@ use Rattle.std.proofs.lemmas.List.{drop_all}
 use Rattle.flat_circuit.specs.declared.case.CaseValue.{CaseValue}
 use Rattle.class_table.specs.Alike.{value_after, value_in}
 use Rattle.class_table.specs.Table.{said}
-use Rattle.class_table.proofs.Values.{one-later}
+use Rattle.class_table.proofs.Values.{one_later}
 use Rattle.class_table.proofs.case_values.say_all.Goals as goal
 
 pub loop-value-init : goal.loop-value-init
@@ -11,7 +11,7 @@ loop-value-init c i below = ap (λ o. value_after o c.args.case.now i) (c.requir
 
 pub loop-value-preserved : goal.loop-value-preserved
 loop-value-preserved c i below =
-    one-later c.args.case.now c.loop-value.value-index i _ (said (slice_index_or c.loop-value.table i 0)) (said (slice_index_or c.say.new.table i 0))
+    one_later c.args.case.now c.loop-value.value-index i _ (said (slice_index_or c.loop-value.table i 0)) (said (slice_index_or c.say.new.table i 0))
     (value_in c.args.case.now i) c.loop-value-test.true (c.say.ensures i below) (c.loop-value.invariant i below)
 
 pub returns : goal.returns

@@ -1,13 +1,13 @@
 use Rattle.std.proofs.Common.{arith}
 use Rattle.class_table.specs.Stable.{AreAlikeBefore}
-use Rattle.class_table.proofs.Pairs.{next-one, stable-by-pairs}
+use Rattle.class_table.proofs.Pairs.{next_one, stable_by_pairs}
 use Rattle.class_table.proofs.stability.are_alike_in_pairs.Goals as goal
 
 pub loop-net-preserved : goal.loop-net-preserved
 loop-net-preserved c =
-    next-one (AreAlikeBefore c.args.c.now c.args.cases.now c.args.classes.now) c.loop-net.net c.loop-net.invariant c.if-not-is_as_those_before.ensures
+    next_one (AreAlikeBefore c.args.c.now c.args.cases.now c.args.classes.now) c.loop-net.net c.loop-net.invariant c.if-not-is_as_those_before.ensures
 
 pub returns : goal.returns
 returns c =
-    stable-by-pairs c.args.c.now c.args.cases.now c.args.classes.now
+    stable_by_pairs c.args.c.now c.args.cases.now c.args.classes.now
     (λ i below. c.loop-net.invariant i (omega (arith, below, c.net_count-net-end.ensures, c.loop-net-test.false)))

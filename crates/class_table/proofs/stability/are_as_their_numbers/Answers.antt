@@ -1,4 +1,4 @@
-use Rattle.class_table.proofs.Pairs.{apart, either-way, stable-with-values, values-as-numbers}
+use Rattle.class_table.proofs.Pairs.{apart, either_way, stable_with_values, values_as_numbers}
 use Rattle.class_table.proofs.stability.are_as_their_numbers.Goals as goal
 
 pub returns-then-not-are_nets_as_their_numbers : goal.returns-then-not-are_nets_as_their_numbers
@@ -7,7 +7,7 @@ returns-then-not-are_nets_as_their_numbers c stable =
 
 pub returns : goal.returns
 returns c =
-    either-way c.are_cases_as_their_numbers.result
-    (stable-with-values c.args.c.now c.args.cases.now c.args.classes.now c.requires.one_each c.requires.numbers c.if-not-are_nets_as_their_numbers.ensures)
-    (values-as-numbers c.args.c.now c.args.cases.now c.args.classes.now c.requires.one_each c.requires.numbers)
+    either_way c.are_cases_as_their_numbers.result
+    (stable_with_values c.args.c.now c.args.cases.now c.args.classes.now c.requires.one_each c.requires.numbers c.if-not-are_nets_as_their_numbers.ensures)
+    (values_as_numbers c.args.c.now c.args.cases.now c.args.classes.now c.requires.one_each c.requires.numbers)
     c.are_cases_as_their_numbers.ensures

@@ -1,7 +1,7 @@
 use Rattle.std.proofs.Common.{arith, ◌≡◌, ℕ}
 use Rattle.class_table.specs.Alike.{class_of}
 use Rattle.class_table.specs.Stable.{AreAlikeAt}
-use Rattle.class_table.proofs.Pairs.{next-one}
+use Rattle.class_table.proofs.Pairs.{next_one}
 use Rattle.class_table.proofs.stability.is_as_those_before.Goals as goal
 use Rattle.class_table.proofs.stability.is_as_those_before.Goals.{else-class_of-via-then-class_of+else-not-are_alike, else-class_of-via-else-class_of}
 
@@ -13,7 +13,7 @@ returns-then-not-are_alike c h =
 
 pub loop-other-preserved : goal.loop-other-preserved
 loop-other-preserved c =
-    next-one (λ (j : ℕ). class_of c.args.classes.now c.args.net ≡ class_of c.args.classes.now j → AreAlikeAt c.args.c.now c.args.cases.now c.args.classes.now c.args.net j)
+    next_one (λ (j : ℕ). class_of c.args.classes.now c.args.net ≡ class_of c.args.classes.now j → AreAlikeAt c.args.c.now c.args.cases.now c.args.classes.now c.args.net j)
     c.loop-other.other c.loop-other.invariant
     (elim c.else-class_of.branch [
       | else-class_of-via-then-class_of+else-not-are_alike w ↦ λ same. w.if-not-are_alike.ensures

@@ -1,7 +1,7 @@
 use Rattle.std.proofs.Common.{ℕ, ◌+◌, List, ◌++◌, map, append_assoc, ap, sym, ◌∙◌}
 use Rattle.std.specs.List.{concat, range_with_len}
 use Rattle.design_gen.specs.Datapath.{head, section}
-use Rattle.design_gen.proofs.Sections.{section-more}
+use Rattle.design_gen.proofs.Sections.{section_more}
 use Rattle.design_gen.proofs.datapath.generate.Goals as goal
 
 pub loop-j-preserved : goal.loop-j-preserved
@@ -11,4 +11,4 @@ loop-j-preserved c =
     c.in_ok-add_section.ensures
     ∙ ap (λ (l : List ℕ). l ++ added) c.loop-j.invariant
     ∙ append_assoc head before added
-    ∙ ap (λ (l : List ℕ). head ++ l) (sym (section-more c.loop-j.j))
+    ∙ ap (λ (l : List ℕ). head ++ l) (sym (section_more c.loop-j.j))

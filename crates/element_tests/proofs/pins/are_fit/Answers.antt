@@ -6,22 +6,22 @@ use Rattle.skew_algebra.specs.Wave.{Wave}
 use Rattle.gate_eval.specs.Meeting.{HaveOnePeriod}
 use Rattle.element_tests.proofs.pins.are_fit.Goals as goal
 
-tested-period : {P : Type 0} (wave : P → Wave Value) (period : ℕ) (pins : List P) → list_all (λ p. length (wave p).cells == period) pins ≡ true →
+tested_period : {P : Type 0} (wave : P → Wave Value) (period : ℕ) (pins : List P) → list_all (λ p. length (wave p).cells == period) pins ≡ true →
     All (λ w. length w.cells ≡ period) (map wave pins)
-tested-period wave period [] tested = All-nil (λ (w : Wave Value). length w.cells ≡ period)
-tested-period wave period (p ∷ ps) tested =
+tested_period wave period [] tested = All-nil (λ (w : Wave Value). length w.cells ≡ period)
+tested_period wave period (p ∷ ps) tested =
     let here : length (wave p).cells ≡ period = grind (arith, tested) in
     let rest : list_all (λ q. length (wave q).cells == period) ps ≡ true = grind (arith, tested) in
-    All-cons (λ (w : Wave Value). length w.cells ≡ period) (wave p) (map wave ps) here (tested-period wave period ps rest)
+    All-cons (λ (w : Wave Value). length w.cells ≡ period) (wave p) (map wave ps) here (tested_period wave period ps rest)
 
-tested-one : {P : Type 0} (wave : P → Wave Value) (period : ℕ) (pins : List P) → list_all (λ p. length (wave p).cells == period) pins ≡ true →
+tested_one : {P : Type 0} (wave : P → Wave Value) (period : ℕ) (pins : List P) → list_all (λ p. length (wave p).cells == period) pins ≡ true →
     HaveOnePeriod (map wave pins)
-tested-one wave period [] tested = All-nil (λ (w : Wave Value). length w.cells ≡ 0)
-tested-one wave period (p ∷ ps) tested =
+tested_one wave period [] tested = All-nil (λ (w : Wave Value). length w.cells ≡ 0)
+tested_one wave period (p ∷ ps) tested =
     let here : length (wave p).cells ≡ period = grind (arith, tested) in
     All-weaker (λ (w : Wave Value). length w.cells ≡ period) (λ (w : Wave Value). length w.cells ≡ length (wave p).cells)
-    (λ w h. h ∙ sym here) (map wave (p ∷ ps)) (tested-period wave period (p ∷ ps) tested)
+    (λ w h. h ∙ sym here) (map wave (p ∷ ps)) (tested_period wave period (p ∷ ps) tested)
 
 pub returns-then-fit-clause-periods : goal.returns-then-fit-clause-periods
 returns-then-fit-clause-periods g c same =
-    tested-one (λ p. p.wave) c.args.period c.args.pins.now (sym c.have_period.ensures ∙ same)
+    tested_one (λ p. p.wave) c.args.period c.args.pins.now (sym c.have_period.ensures ∙ same)

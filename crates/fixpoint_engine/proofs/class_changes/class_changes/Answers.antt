@@ -5,18 +5,18 @@ use Rattle.std.proofs.lemmas.Result.{IfOk-weaker}
 use Rattle.net_waves.specs.Waves.{waves_of}
 use Rattle.fixpoint_engine.specs.Members.{for_all, for_classes}
 use Rattle.fixpoint_engine.specs.Worklist.{Change, changes_of}
-use Rattle.fixpoint_engine.proofs.Changing.{all-read, changes-exist}
-use Rattle.fixpoint_engine.proofs.Alone.{at-some}
+use Rattle.fixpoint_engine.proofs.Changing.{all_read, changes_exist}
+use Rattle.fixpoint_engine.proofs.Alone.{at_some}
 use Rattle.fixpoint_engine.proofs.class_changes.class_changes.Goals as goal
 
 pub for_classes-requires : goal.for_classes-requires
 for_classes-requires g c =
-    let each = at-some (λ (ks : List ℕ). length ks ≡ length c.args.c.now.nets) (option_copied c.args.classes) c.in-Some.classes.now (ap option_copied c.in-Some.is) c.requires.each_net in
+    let each = at_some (λ (ks : List ℕ). length ks ≡ length c.args.c.now.nets) (option_copied c.args.classes) c.in-Some.classes.now (ap option_copied c.in-Some.is) c.requires.each_net in
     All-same (λ ch. ch.net < length c.in-Some.classes.now) c.deref.result.now c.in_ok-made.made.items c.deref.ensures.value
-    (all-read (λ ch. (ch.net, ch.wave)) (λ ch. ch.0 < length c.in-Some.classes.now) c.in_ok-made.made.items
+    (all_read (λ ch. (ch.net, ch.wave)) (λ ch. ch.0 < length c.in-Some.classes.now) c.in_ok-made.made.items
     (subst (λ (chs : List Change). All (λ (ch : Change). ch.0 < length c.in-Some.classes.now) chs) (sym c.in_ok-made.ensures)
     (subst (λ (n : ℕ). All (λ (ch : Change). ch.0 < n) (changes_of c.args.c.now (waves_of c.args.waves.now) c.args.nets.now)) (sym each)
-    (changes-exist c.args.c.now (waves_of c.args.waves.now) c.args.nets.now (length c.args.c.now.nets) c.requires.exist))))
+    (changes_exist c.args.c.now (waves_of c.args.waves.now) c.args.nets.now (length c.args.c.now.nets) c.requires.exist))))
 
 pub returns-in-Some : goal.returns-in-Some
 returns-in-Some g c =

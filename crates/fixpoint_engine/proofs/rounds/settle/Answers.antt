@@ -6,11 +6,11 @@ use Rattle.fixpoint_engine.specs.Rounds.{round}
 use Rattle.fixpoint_engine.specs.Settled.{marked_in}
 use Rattle.fixpoint_engine.specs.Work.{work_to}
 use Rattle.fixpoint_engine.specs.Classes.{class_work_to}
-use Rattle.fixpoint_engine.proofs.Alone.{own-classes, own-work}
+use Rattle.fixpoint_engine.proofs.Alone.{own_classes, own_work}
 use Rattle.fixpoint_engine.proofs.rounds.settle.Goals as goal
 
 pub settle_firsts-requires-clause-classes : goal.settle_firsts-requires-clause-classes
-settle_firsts-requires-clause-classes g c = own-classes c.args.c.now c.args.active.now (waves_of c.args.start.now) c.requires.active
+settle_firsts-requires-clause-classes g c = own_classes c.args.c.now c.args.active.now (waves_of c.args.start.now) c.requires.active
 
 pub returns-clause-work : goal.returns-clause-work
 returns-clause-work g c =
@@ -19,5 +19,5 @@ returns-clause-work g c =
     IfOk-weaker c.settle_firsts.result
     (λ s. s.evals ≡ class_work_to c.args.c.now (range_with_len 0 (length c.args.c.now.nets)) active rounds (s.rounds + 1))
     (λ s. s.evals ≡ work_to c.args.c.now active rounds (s.rounds + 1))
-    (λ s is. is ∙ own-work c.args.c.now active rounds (s.rounds + 1))
+    (λ s is. is ∙ own_work c.args.c.now active rounds (s.rounds + 1))
     c.settle_firsts.ensures.work

@@ -8,27 +8,27 @@ use Rattle.fixpoint_engine.specs.Settled.{marked_in}
 use Rattle.fixpoint_engine.specs.Work.{hears_in}
 use Rattle.fixpoint_engine.specs.Worklist.{among}
 use Rattle.fixpoint_engine.specs.Members.{numbers_in, is_evaluated}
-use Rattle.fixpoint_engine.proofs.Changing.{all-read, nets-below, nets-made, none-made, some-made}
-use Rattle.fixpoint_engine.proofs.Alone.{each-numbered, evaluated-first}
-use Rattle.fixpoint_engine.proofs.Kept.{kept-start, kept-more, made-of, waiting-exist, made-exist, rests, works, keeps, ends-by}
+use Rattle.fixpoint_engine.proofs.Changing.{all_read, nets_below, nets_made, none_made, some_made}
+use Rattle.fixpoint_engine.proofs.Alone.{each_numbered, evaluated_first}
+use Rattle.fixpoint_engine.proofs.Kept.{kept_start, kept_more, made_of, waiting_exist, made_exist, rests, works, keeps, ends_by}
 use Rattle.fixpoint_engine.proofs.rounds.settle_firsts.Goals as goal
 
 pub rounds-init : goal.rounds-init
 rounds-init g c = record {
-  kept = kept-start c.args.c.now (marked_in c.args.active.now) (numbers_in (length c.args.c.now.nets) (option_copied c.args.classes)) c.args.start.now c.in_ok-waves.waves c.in_ok-queue.queue
+  kept = kept_start c.args.c.now (marked_in c.args.active.now) (numbers_in (length c.args.c.now.nets) (option_copied c.args.classes)) c.args.start.now c.in_ok-waves.waves c.in_ok-queue.queue
       (is_evaluated c.args.active.now (option_copied c.args.classes)) c.requires.waves
-      (λ i. evaluated-first c.args.c.now c.args.active.now (option_copied c.args.classes) i c.requires.active c.requires.classes.each_net)
+      (λ i. evaluated_first c.args.c.now c.args.active.now (option_copied c.args.classes) i c.requires.active c.requires.classes.each_net)
       (c.in_ok-waves.ensures ∙ c.as_slice.ensures) c.in_ok-queue.ensures.each_net c.in_ok-queue.ensures.are;
   within = omega arith;
 }
 
 pub class_changes-requires-clause-each_net : goal.class_changes-requires-clause-each_net
-class_changes-requires-clause-each_net g c = each-numbered (length c.args.c.now.nets) (option_copied c.args.classes) c.requires.classes.each_net
+class_changes-requires-clause-each_net g c = each_numbered (length c.args.c.now.nets) (option_copied c.args.classes) c.requires.classes.each_net
 
 pub class_changes-requires-clause-exist : goal.class_changes-requires-clause-exist
 class_changes-requires-clause-exist g c =
     All-same (λ net. net < length c.args.c.now.nets) c.nets.result.now c.rounds.queue.nets c.nets.ensures.nets
-    (waiting-exist c.args.c.now (marked_in c.args.active.now) (numbers_in (length c.args.c.now.nets) (option_copied c.args.classes))
+    (waiting_exist c.args.c.now (marked_in c.args.active.now) (numbers_in (length c.args.c.now.nets) (option_copied c.args.classes))
     (waves_of c.args.start.now) c.requires.classes c.rounds.waves
     c.rounds.queue c.rounds.rounds c.rounds.evals c.rounds.invariant.kept c.nets.ensures.once)
 
@@ -37,17 +37,17 @@ returns-then-is_empty-clause-rest g c =
     rests c.args.c.now (marked_in c.args.active.now) (numbers_in (length c.args.c.now.nets) (option_copied c.args.classes))
     (waves_of c.args.start.now) c.requires.classes c.rounds.waves c.rounds.queue
     c.rounds.rounds c.rounds.evals c.rounds.invariant.kept (map (λ ch. (ch.net, ch.wave)) c.in_ok-made.made.items)
-    (made-of c.args.c.now (marked_in c.args.active.now) (option_copied c.args.classes) (waves_of c.args.start.now)
+    (made_of c.args.c.now (marked_in c.args.active.now) (option_copied c.args.classes) (waves_of c.args.start.now)
     c.requires.classes c.rounds.waves c.rounds.queue c.rounds.rounds c.rounds.evals c.rounds.invariant.kept
     c.nets.result.now (map (λ ch. (ch.net, ch.wave)) c.in_ok-made.made.items) c.nets.ensures.once c.nets.ensures.nets c.in_ok-made.ensures)
-    c.args.limit (none-made (λ ch. (ch.net, ch.wave)) c.in_ok-made.made.items _ c.in_ok-made.made.ok.0 c.if-is_empty.ensures) c.rounds.invariant.within
+    c.args.limit (none_made (λ ch. (ch.net, ch.wave)) c.in_ok-made.made.items _ c.in_ok-made.made.ok.0 c.if-is_empty.ensures) c.rounds.invariant.within
 
 pub returns-then-is_empty-clause-work : goal.returns-then-is_empty-clause-work
 returns-then-is_empty-clause-work g c =
     works c.args.c.now (marked_in c.args.active.now) (numbers_in (length c.args.c.now.nets) (option_copied c.args.classes))
     (waves_of c.args.start.now) c.requires.classes c.rounds.waves c.rounds.queue
     c.rounds.rounds c.rounds.evals c.rounds.invariant.kept (map (λ ch. (ch.net, ch.wave)) c.in_ok-made.made.items)
-    (made-of c.args.c.now (marked_in c.args.active.now) (option_copied c.args.classes) (waves_of c.args.start.now)
+    (made_of c.args.c.now (marked_in c.args.active.now) (option_copied c.args.classes) (waves_of c.args.start.now)
     c.requires.classes c.rounds.waves c.rounds.queue c.rounds.rounds c.rounds.evals c.rounds.invariant.kept
     c.nets.result.now (map (λ ch. (ch.net, ch.wave)) c.in_ok-made.made.items) c.nets.ensures.once c.nets.ensures.nets c.in_ok-made.ensures)
     c.nets-in-rounds.result.now c.nets-in-rounds.ensures.nets
@@ -62,21 +62,21 @@ returns-then-is_empty-clause-sound g c =
 pub unsettled-requires-clause-exist : goal.unsettled-requires-clause-exist
 unsettled-requires-clause-exist g c =
     All-same (λ ch. ch.net < length c.args.c.now.nets) c.deref.result.now c.in_ok-made.made.items c.deref.ensures.value
-    (all-read (λ ch. (ch.net, ch.wave)) (λ ch. ch.0 < length c.args.c.now.nets) c.in_ok-made.made.items
-    (made-exist c.args.c.now (marked_in c.args.active.now) (numbers_in (length c.args.c.now.nets) (option_copied c.args.classes))
+    (all_read (λ ch. (ch.net, ch.wave)) (λ ch. ch.0 < length c.args.c.now.nets) c.in_ok-made.made.items
+    (made_exist c.args.c.now (marked_in c.args.active.now) (numbers_in (length c.args.c.now.nets) (option_copied c.args.classes))
     (waves_of c.args.start.now) c.requires.classes c.rounds.waves c.rounds.queue
     c.rounds.rounds c.rounds.evals c.rounds.invariant.kept (map (λ ch. (ch.net, ch.wave)) c.in_ok-made.made.items)
-    (made-of c.args.c.now (marked_in c.args.active.now) (option_copied c.args.classes) (waves_of c.args.start.now)
+    (made_of c.args.c.now (marked_in c.args.active.now) (option_copied c.args.classes) (waves_of c.args.start.now)
     c.requires.classes c.rounds.waves c.rounds.queue c.rounds.rounds c.rounds.evals c.rounds.invariant.kept
     c.nets.result.now (map (λ ch. (ch.net, ch.wave)) c.in_ok-made.made.items) c.nets.ensures.once c.nets.ensures.nets c.in_ok-made.ensures)))
 
 pub returns-then-rounds-limit-clause-unsettled : goal.returns-then-rounds-limit-clause-unsettled
 returns-then-rounds-limit-clause-unsettled g c =
-    ends-by (λ ch. (ch.net, ch.wave)) (λ ch. ch.net) c.args.c.now (marked_in c.args.active.now)
+    ends_by (λ ch. (ch.net, ch.wave)) (λ ch. ch.net) c.args.c.now (marked_in c.args.active.now)
     (numbers_in (length c.args.c.now.nets) (option_copied c.args.classes)) (waves_of c.args.start.now) c.requires.classes c.rounds.waves
     c.rounds.queue c.args.limit c.rounds.rounds c.rounds.evals c.in_ok-made.made.items
     c.deref.result.now c.in_ok-unsettled.field-0 (λ ch. refl) c.rounds.invariant.kept
-    (made-of c.args.c.now (marked_in c.args.active.now) (option_copied c.args.classes) (waves_of c.args.start.now)
+    (made_of c.args.c.now (marked_in c.args.active.now) (option_copied c.args.classes) (waves_of c.args.start.now)
     c.requires.classes c.rounds.waves c.rounds.queue c.rounds.rounds c.rounds.evals c.rounds.invariant.kept
     c.nets.result.now (map (λ ch. (ch.net, ch.wave)) c.in_ok-made.made.items) c.nets.ensures.once c.nets.ensures.nets c.in_ok-made.ensures)
     c.if-rounds-limit.true c.deref.ensures.value c.in_ok-unsettled.ensures
@@ -84,22 +84,22 @@ returns-then-rounds-limit-clause-unsettled g c =
 pub refill-requires-clause-exist : goal.refill-requires-clause-exist
 refill-requires-clause-exist g c =
     All-same (λ ch. ch.net < length c.args.c.now.nets) c.deref-in-rounds.result.now c.in_ok-made.made.items c.deref-in-rounds.ensures.value
-    (all-read (λ ch. (ch.net, ch.wave)) (λ ch. ch.0 < length c.args.c.now.nets) c.in_ok-made.made.items
-    (made-exist c.args.c.now (marked_in c.args.active.now) (numbers_in (length c.args.c.now.nets) (option_copied c.args.classes))
+    (all_read (λ ch. (ch.net, ch.wave)) (λ ch. ch.0 < length c.args.c.now.nets) c.in_ok-made.made.items
+    (made_exist c.args.c.now (marked_in c.args.active.now) (numbers_in (length c.args.c.now.nets) (option_copied c.args.classes))
     (waves_of c.args.start.now) c.requires.classes c.rounds.waves c.rounds.queue
     c.rounds.rounds c.rounds.evals c.rounds.invariant.kept (map (λ ch. (ch.net, ch.wave)) c.in_ok-made.made.items)
-    (made-of c.args.c.now (marked_in c.args.active.now) (option_copied c.args.classes) (waves_of c.args.start.now)
+    (made_of c.args.c.now (marked_in c.args.active.now) (option_copied c.args.classes) (waves_of c.args.start.now)
     c.requires.classes c.rounds.waves c.rounds.queue c.rounds.rounds c.rounds.evals c.rounds.invariant.kept
     c.nets.result.now (map (λ ch. (ch.net, ch.wave)) c.in_ok-made.made.items) c.nets.ensures.once c.nets.ensures.nets c.in_ok-made.ensures)))
 
 pub apply-requires : goal.apply-requires
 apply-requires g c =
-    nets-below (λ ch. ch.net) c.in_ok-made.made.items (length c.rounds.waves) (length c.args.c.now.nets) (c.rounds.invariant.kept.fit.each_net)
-    (all-read (λ ch. (ch.net, ch.wave)) (λ ch. ch.0 < length c.args.c.now.nets) c.in_ok-made.made.items
-    (made-exist c.args.c.now (marked_in c.args.active.now) (numbers_in (length c.args.c.now.nets) (option_copied c.args.classes))
+    nets_below (λ ch. ch.net) c.in_ok-made.made.items (length c.rounds.waves) (length c.args.c.now.nets) (c.rounds.invariant.kept.fit.each_net)
+    (all_read (λ ch. (ch.net, ch.wave)) (λ ch. ch.0 < length c.args.c.now.nets) c.in_ok-made.made.items
+    (made_exist c.args.c.now (marked_in c.args.active.now) (numbers_in (length c.args.c.now.nets) (option_copied c.args.classes))
     (waves_of c.args.start.now) c.requires.classes c.rounds.waves c.rounds.queue
     c.rounds.rounds c.rounds.evals c.rounds.invariant.kept (map (λ ch. (ch.net, ch.wave)) c.in_ok-made.made.items)
-    (made-of c.args.c.now (marked_in c.args.active.now) (option_copied c.args.classes) (waves_of c.args.start.now)
+    (made_of c.args.c.now (marked_in c.args.active.now) (option_copied c.args.classes) (waves_of c.args.start.now)
     c.requires.classes c.rounds.waves c.rounds.queue c.rounds.rounds c.rounds.evals c.rounds.invariant.kept
     c.nets.result.now (map (λ ch. (ch.net, ch.wave)) c.in_ok-made.made.items) c.nets.ensures.once c.nets.ensures.nets c.in_ok-made.ensures)))
 
@@ -107,16 +107,16 @@ pub rounds-preserved : goal.rounds-preserved
 rounds-preserved g c =
     let some : 0 < period c.args.c.now.header = subst (λ h. 0 < period h) c.header.ensures (let two = c.known-2.ensures.shortest in omega (arith, two)) in
     record {
-      kept = kept-more c.args.c.now (marked_in c.args.active.now) (numbers_in (length c.args.c.now.nets) (option_copied c.args.classes))
+      kept = kept_more c.args.c.now (marked_in c.args.active.now) (numbers_in (length c.args.c.now.nets) (option_copied c.args.classes))
           (waves_of c.args.start.now) c.requires.classes c.rounds.waves c.rounds.queue
           c.rounds.rounds c.rounds.evals c.rounds.invariant.kept (map (λ ch. (ch.net, ch.wave)) c.in_ok-made.made.items)
-          (made-of c.args.c.now (marked_in c.args.active.now) (option_copied c.args.classes) (waves_of c.args.start.now)
+          (made_of c.args.c.now (marked_in c.args.active.now) (option_copied c.args.classes) (waves_of c.args.start.now)
           c.requires.classes c.rounds.waves c.rounds.queue c.rounds.rounds c.rounds.evals c.rounds.invariant.kept
           c.nets.result.now (map (λ ch. (ch.net, ch.wave)) c.in_ok-made.made.items) c.nets.ensures.once c.nets.ensures.nets c.in_ok-made.ensures)
           c.apply.new.waves c.refill.new.self c.nets-in-rounds.result.now (is_evaluated c.args.active.now (option_copied c.args.classes)) c.known.ensures some c.requires.waves.each_slot
-          c.nets-in-rounds.ensures.nets (some-made (λ ch. (ch.net, ch.wave)) c.in_ok-made.made.items _ c.in_ok-made.made.ok.0 c.if-is_empty.ensures)
-          c.apply.ensures c.in_ok-refill.ensures.each_net (λ i. evaluated-first c.args.c.now c.args.active.now (option_copied c.args.classes) i c.requires.active c.requires.classes.each_net)
+          c.nets-in-rounds.ensures.nets (some_made (λ ch. (ch.net, ch.wave)) c.in_ok-made.made.items _ c.in_ok-made.made.ok.0 c.if-is_empty.ensures)
+          c.apply.ensures c.in_ok-refill.ensures.each_net (λ i. evaluated_first c.args.c.now c.args.active.now (option_copied c.args.classes) i c.requires.active c.requires.classes.each_net)
           (λ i. c.in_ok-refill.ensures.due i ∙ ap (λ (nets : List ℕ). is_evaluated c.args.active.now (option_copied c.args.classes) i && hears_in (among nets) (driver c.args.c.now i))
-          (nets-made (λ ch. (ch.net, ch.wave)) (λ ch. ch.net) c.in_ok-made.made.items c.deref-in-rounds.result.now (λ ch. refl) c.deref-in-rounds.ensures.value));
+          (nets_made (λ ch. (ch.net, ch.wave)) (λ ch. ch.net) c.in_ok-made.made.items c.deref-in-rounds.result.now (λ ch. refl) c.deref-in-rounds.ensures.value));
       within = omega (arith, c.rounds.invariant.within, c.if-rounds-limit.false);
     }

@@ -1,5 +1,5 @@
 use Rattle.std.proofs.Common.{sym, ◌∙◌, arith}
-use Rattle.flat_circuit.proofs.Ends.{nets-step}
+use Rattle.flat_circuit.proofs.Ends.{nets_step}
 use Rattle.flat_circuit.proofs.finish.nets.Goals as goal
 
 pub loop-i-preserved : goal.loop-i-preserved
@@ -7,5 +7,5 @@ loop-i-preserved c =
     let t = c.args.table.now in
     let n = c.len-i-end.ensures.names in
     let w = c.len-i-end.ensures.wires in
-    rw c.in_ok-push.ensures.ok (nets-step t.names t.wires c.args.assertions.now c.args.drivers.now
+    rw c.in_ok-push.ensures.ok (nets_step t.names t.wires c.args.assertions.now c.args.drivers.now
     c.loop-i.nets c.in_ok-net.field-0 c.loop-i.i _ (omega arith) (sym w ∙ n) c.requires c.in_ok-net.ensures c.loop-i.invariant)

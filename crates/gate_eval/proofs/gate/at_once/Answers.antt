@@ -10,7 +10,7 @@ use Rattle.gate_eval.specs.Meeting.{meeting}
 use Rattle.gate_eval.specs.Gates.{gate_value, passed_on, from_left, of_two, of_four, of_eight}
 use Rattle.gate_eval.specs.Hold.{hazard}
 use Rattle.gate_eval.specs.Instance.{image_by, gate_image}
-use Rattle.gate_eval.proofs.Chosen.{is_plain, plain-is, is_markable, markable-is}
+use Rattle.gate_eval.proofs.Chosen.{is_plain, plain_is, is_markable, markable_is}
 use Rattle.gate_eval.proofs.gate.at_once.Goals as goal
 
 pub returns-in-Buf-clause-made : goal.returns-in-Buf-clause-made
@@ -20,7 +20,7 @@ returns-in-Buf-clause-made g c =
     IfOk-weaker c.met_at_once.result
     (λ m. skewed (g.W.CyclicWave.cells m.wave) m.skew ≡ meeting values image (map (λ p. p.wave) c.args.pins.now))
     (λ m. skewed (g.W.CyclicWave.cells m.wave) m.skew ≡ gate_image c.args.kind (map (λ p. p.wave) c.args.pins.now) (position (λ p. p.hold) c.args.pins.now))
-    (λ s e. e ∙ plain-is c.args.kind image (map (λ p. p.wave) c.args.pins.now) (position (λ p. p.hold) c.args.pins.now) _ same (ap is_plain c.in-Buf.is) c.requires.mark)
+    (λ s e. e ∙ plain_is c.args.kind image (map (λ p. p.wave) c.args.pins.now) (position (λ p. p.hold) c.args.pins.now) _ same (ap is_plain c.in-Buf.is) c.requires.mark)
     c.met_at_once.ensures.made
 
 pub returns-in-And-clause-made : goal.returns-in-And-clause-made
@@ -31,7 +31,7 @@ returns-in-And-clause-made g c =
     (λ m. skewed (g.W.CyclicWave.cells m.wave) m.skew ≡ image_by image (map (λ p. p.wave) c.args.pins.now)
     (position (λ p. p.hold) c.args.pins.now) (hazard c.args.kind (map (λ p. p.wave) c.args.pins.now) (position (λ p. p.hold) c.args.pins.now)))
     (λ m. skewed (g.W.CyclicWave.cells m.wave) m.skew ≡ gate_image c.args.kind (map (λ p. p.wave) c.args.pins.now) (position (λ p. p.hold) c.args.pins.now))
-    (λ s e. e ∙ markable-is c.args.kind image (map (λ p. p.wave) c.args.pins.now) (position (λ p. p.hold) c.args.pins.now) same (ap is_markable c.in-And.is))
+    (λ s e. e ∙ markable_is c.args.kind image (map (λ p. p.wave) c.args.pins.now) (position (λ p. p.hold) c.args.pins.now) same (ap is_markable c.in-And.is))
     c.markable_gate.ensures.made
 
 pub returns-in-Or-clause-made : goal.returns-in-Or-clause-made
@@ -42,7 +42,7 @@ returns-in-Or-clause-made g c =
     (λ m. skewed (g.W.CyclicWave.cells m.wave) m.skew ≡ image_by image (map (λ p. p.wave) c.args.pins.now)
     (position (λ p. p.hold) c.args.pins.now) (hazard c.args.kind (map (λ p. p.wave) c.args.pins.now) (position (λ p. p.hold) c.args.pins.now)))
     (λ m. skewed (g.W.CyclicWave.cells m.wave) m.skew ≡ gate_image c.args.kind (map (λ p. p.wave) c.args.pins.now) (position (λ p. p.hold) c.args.pins.now))
-    (λ s e. e ∙ markable-is c.args.kind image (map (λ p. p.wave) c.args.pins.now) (position (λ p. p.hold) c.args.pins.now) same (ap is_markable c.in-Or.is))
+    (λ s e. e ∙ markable_is c.args.kind image (map (λ p. p.wave) c.args.pins.now) (position (λ p. p.hold) c.args.pins.now) same (ap is_markable c.in-Or.is))
     c.markable_gate-in-Or.ensures.made
 
 pub returns-in-Xor-clause-made : goal.returns-in-Xor-clause-made
@@ -52,7 +52,7 @@ returns-in-Xor-clause-made g c =
     IfOk-weaker c.met_at_once-in-Xor.result
     (λ m. skewed (g.W.CyclicWave.cells m.wave) m.skew ≡ meeting values image (map (λ p. p.wave) c.args.pins.now))
     (λ m. skewed (g.W.CyclicWave.cells m.wave) m.skew ≡ gate_image c.args.kind (map (λ p. p.wave) c.args.pins.now) (position (λ p. p.hold) c.args.pins.now))
-    (λ s e. e ∙ plain-is c.args.kind image (map (λ p. p.wave) c.args.pins.now) (position (λ p. p.hold) c.args.pins.now) _ same (ap is_plain c.in-Xor.is) c.requires.mark)
+    (λ s e. e ∙ plain_is c.args.kind image (map (λ p. p.wave) c.args.pins.now) (position (λ p. p.hold) c.args.pins.now) _ same (ap is_plain c.in-Xor.is) c.requires.mark)
     c.met_at_once-in-Xor.ensures.made
 
 pub returns-in-Mux2-clause-made : goal.returns-in-Mux2-clause-made
@@ -62,7 +62,7 @@ returns-in-Mux2-clause-made g c =
     IfOk-weaker c.met_at_once-in-Mux2.result
     (λ m. skewed (g.W.CyclicWave.cells m.wave) m.skew ≡ meeting values image (map (λ p. p.wave) c.args.pins.now))
     (λ m. skewed (g.W.CyclicWave.cells m.wave) m.skew ≡ gate_image c.args.kind (map (λ p. p.wave) c.args.pins.now) (position (λ p. p.hold) c.args.pins.now))
-    (λ s e. e ∙ plain-is c.args.kind image (map (λ p. p.wave) c.args.pins.now) (position (λ p. p.hold) c.args.pins.now) _ same (ap is_plain c.in-Mux2.is) c.requires.mark)
+    (λ s e. e ∙ plain_is c.args.kind image (map (λ p. p.wave) c.args.pins.now) (position (λ p. p.hold) c.args.pins.now) _ same (ap is_plain c.in-Mux2.is) c.requires.mark)
     c.met_at_once-in-Mux2.ensures.made
 
 pub returns-in-Mux4-clause-made : goal.returns-in-Mux4-clause-made
@@ -72,7 +72,7 @@ returns-in-Mux4-clause-made g c =
     IfOk-weaker c.met_at_once-in-Mux4.result
     (λ m. skewed (g.W.CyclicWave.cells m.wave) m.skew ≡ meeting values image (map (λ p. p.wave) c.args.pins.now))
     (λ m. skewed (g.W.CyclicWave.cells m.wave) m.skew ≡ gate_image c.args.kind (map (λ p. p.wave) c.args.pins.now) (position (λ p. p.hold) c.args.pins.now))
-    (λ s e. e ∙ plain-is c.args.kind image (map (λ p. p.wave) c.args.pins.now) (position (λ p. p.hold) c.args.pins.now) _ same (ap is_plain c.in-Mux4.is) c.requires.mark)
+    (λ s e. e ∙ plain_is c.args.kind image (map (λ p. p.wave) c.args.pins.now) (position (λ p. p.hold) c.args.pins.now) _ same (ap is_plain c.in-Mux4.is) c.requires.mark)
     c.met_at_once-in-Mux4.ensures.made
 
 pub returns-in-Mux8-clause-made : goal.returns-in-Mux8-clause-made
@@ -82,5 +82,5 @@ returns-in-Mux8-clause-made g c =
     IfOk-weaker c.met_at_once-in-Mux8.result
     (λ m. skewed (g.W.CyclicWave.cells m.wave) m.skew ≡ meeting values image (map (λ p. p.wave) c.args.pins.now))
     (λ m. skewed (g.W.CyclicWave.cells m.wave) m.skew ≡ gate_image c.args.kind (map (λ p. p.wave) c.args.pins.now) (position (λ p. p.hold) c.args.pins.now))
-    (λ s e. e ∙ plain-is c.args.kind image (map (λ p. p.wave) c.args.pins.now) (position (λ p. p.hold) c.args.pins.now) _ same (ap is_plain c.in-Mux8.is) c.requires.mark)
+    (λ s e. e ∙ plain_is c.args.kind image (map (λ p. p.wave) c.args.pins.now) (position (λ p. p.hold) c.args.pins.now) _ same (ap is_plain c.in-Mux8.is) c.requires.mark)
     c.met_at_once-in-Mux8.ensures.made

@@ -9,7 +9,7 @@ use Rattle.gate_eval.specs.Meeting.{meeting}
 use Rattle.gate_eval.specs.Gates.{gate_value, passed_on}
 use Rattle.gate_eval.specs.Change.{change_wave}
 use Rattle.gate_eval.specs.Instance.{gate_wave}
-use Rattle.gate_eval.proofs.Chosen.{is_plain, plain-is, delayed-is, change-is}
+use Rattle.gate_eval.proofs.Chosen.{is_plain, plain_is, delayed_is, change_is}
 use Rattle.gate_eval.proofs.gate.evaluated.Goals as goal
 
 pub returns-in-Buf : goal.returns-in-Buf
@@ -21,8 +21,8 @@ returns-in-Buf g c =
     (λ s. s ≡ gate_wave c.args.kind (map (λ p. p.wave) c.args.pins.now) (position (λ p. p.hold) c.args.pins.now) c.args.d)
     (λ s e. e
     ∙ ap (λ (w : Wave _). moved values w c.args.d)
-    (plain-is c.args.kind image (map (λ p. p.wave) c.args.pins.now) (position (λ p. p.hold) c.args.pins.now) _ same (ap is_plain c.in-Buf.is) c.requires.mark)
-    ∙ delayed-is c.args.kind (map (λ p. p.wave) c.args.pins.now) (position (λ p. p.hold) c.args.pins.now) c.args.d (ap may_split c.in-Buf.is))
+    (plain_is c.args.kind image (map (λ p. p.wave) c.args.pins.now) (position (λ p. p.hold) c.args.pins.now) _ same (ap is_plain c.in-Buf.is) c.requires.mark)
+    ∙ delayed_is c.args.kind (map (λ p. p.wave) c.args.pins.now) (position (λ p. p.hold) c.args.pins.now) c.args.d (ap may_split c.in-Buf.is))
     c.buffered.ensures
 
 pub returns-in-Chg : goal.returns-in-Chg
@@ -30,5 +30,5 @@ returns-in-Chg g c =
     IfOk-weaker c.change_wave.result
     (λ s. s ≡ normal values (change_wave (map (λ p. p.wave) c.args.pins.now) c.args.d))
     (λ s. s ≡ gate_wave c.args.kind (map (λ p. p.wave) c.args.pins.now) (position (λ p. p.hold) c.args.pins.now) c.args.d)
-    (λ s e. e ∙ change-is c.args.kind (map (λ p. p.wave) c.args.pins.now) (position (λ p. p.hold) c.args.pins.now) c.args.d c.in-Chg.is)
+    (λ s e. e ∙ change_is c.args.kind (map (λ p. p.wave) c.args.pins.now) (position (λ p. p.hold) c.args.pins.now) c.args.d c.in-Chg.is)
     c.change_wave.ensures

@@ -1,8 +1,8 @@
 use Rattle.std.proofs.Common.{◌≡◌, min, arith}
 use Rattle.step_values.specs.Cell.{values}
 use Rattle.skew_algebra.specs.Wave.{fold}
-use Rattle.gate_eval.proofs.Few.{same-next}
-use Rattle.gate_eval.proofs.Folding.{same-folds}
+use Rattle.gate_eval.proofs.Few.{same_next}
+use Rattle.gate_eval.proofs.Folding.{same_folds}
 use Rattle.gate_eval.proofs.hold.next_fold_change.Goals as goal
 
 pub loop-pin-preserved : goal.loop-pin-preserved
@@ -16,7 +16,7 @@ loop-pin-preserved g c =
       behind = omega (arith, end, behind, here);
       within = omega (arith, end, within);
       same = λ p after before.
-          same-next (λ q. fold values q.wave p)
+          same_next (λ q. fold values q.wave p)
           (λ q. fold values q.wave c.args.slot)
           c.args.pins.now c.loop-pin.pin-index c.pin-item.result (omega arith) c.pin-item.is
           (so_far.same p after (omega (arith, end, before)))
@@ -25,5 +25,5 @@ loop-pin-preserved g c =
 
 pub returns-clause-same : goal.returns-clause-same
 returns-clause-same g c = λ p after before.
-    same-folds c.args.pins.now c.loop-pin.pin-index c.args.slot p (λ q. q.wave) (omega arith)
+    same_folds c.args.pins.now c.loop-pin.pin-index c.args.slot p (λ q. q.wave) (omega arith)
     (c.loop-pin.invariant.same p after before)

@@ -5,7 +5,7 @@ use Rattle.wave_core.specs.Slots.{slots}
 use Rattle.step_values.specs.declared.value.Value.{Value}
 use Rattle.step_values.specs.Cell.{values}
 use Rattle.skew_algebra.specs.Wave.{cell_at}
-use Rattle.gate_eval.proofs.Few.{alone-imaged, both-imaged}
+use Rattle.gate_eval.proofs.Few.{alone_imaged, both_imaged}
 use Rattle.gate_eval.proofs.meeting.imaged.Goals as goal
 
 pub returns-in-len1 : goal.returns-in-len1
@@ -16,7 +16,7 @@ returns-in-len1 g c =
     IfOk-weaker c.imaged_alone.result
     (λ w. g.W.CyclicWave.cells w ≡ map (λ (v : Value). g.I.Image.value_of c.args.image.now (v ∷ [])) (g.W.CyclicWave.cells c.only-item.result))
     (λ w. g.W.CyclicWave.cells w ≡ slots c.args.period (λ p. g.I.Image.value_of c.args.image.now (map (λ u. cell_at values (g.W.CyclicWave.cells u) p) c.args.waves.now)))
-    (λ w e. e ∙ alone-imaged (g.I.Image.value_of c.args.image.now) g.W.CyclicWave.cells c.args.waves.now c.only-item.result c.args.period
+    (λ w e. e ∙ alone_imaged (g.I.Image.value_of c.args.image.now) g.W.CyclicWave.cells c.args.waves.now c.only-item.result c.args.period
     (omega (arith, least, most)) is c.requires.waves)
     c.imaged_alone.ensures
 
@@ -30,6 +30,6 @@ returns-in-len2 g c =
     (λ w. g.W.CyclicWave.cells w ≡ map (λ (q : Value × Value). g.I.Image.value_of c.args.image.now (q.0 ∷ q.1 ∷ []))
     (zip (g.W.CyclicWave.cells c.one-item.result) (g.W.CyclicWave.cells c.other-item.result)))
     (λ w. g.W.CyclicWave.cells w ≡ slots c.args.period (λ p. g.I.Image.value_of c.args.image.now (map (λ u. cell_at values (g.W.CyclicWave.cells u) p) c.args.waves.now)))
-    (λ w e. e ∙ both-imaged (g.I.Image.value_of c.args.image.now) g.W.CyclicWave.cells c.args.waves.now c.one-item.result c.other-item.result c.args.period
+    (λ w e. e ∙ both_imaged (g.I.Image.value_of c.args.image.now) g.W.CyclicWave.cells c.args.waves.now c.one-item.result c.other-item.result c.args.period
     (omega (arith, least, most)) is is' c.requires.waves)
     c.imaged_both.ensures

@@ -2,11 +2,11 @@ use Rattle.std.proofs.Common.{◌≡◌, ◌++◌, ◌+◌, ◌-◌, ℕ, List, 
 use Rattle.std.specs.Prelude.{replicate}
 use Rattle.std.proofs.lemmas.Result.{IfOk-weaker}
 use Rattle.wave_core.specs.Slots.{slots}
-use Rattle.wave_core.proofs.Slots.{length-slots, period-length}
+use Rattle.wave_core.proofs.Slots.{length_slots, period_length}
 use Rattle.step_values.specs.declared.value.Value.{Value}
 use Rattle.step_values.specs.Cell.{values}
 use Rattle.skew_algebra.specs.Wave.{cell_at}
-use Rattle.gate_eval.proofs.Few.{slots-fill}
+use Rattle.gate_eval.proofs.Few.{slots_fill}
 use Rattle.gate_eval.proofs.meeting.imaged_slots.Goals as goal
 
 pub changes-init : goal.changes-init
@@ -22,7 +22,7 @@ changes-preserved g c =
     record {
       so_far = c.in_ok-push_slots.ensures
           ∙ ap (λ (l : List Value). l ++ replicate (c.next_change-next.result - c.changes.slot) c.value-made.result) c.changes.invariant.so_far
-          ∙ slots-fill (c.next_change-next.result - c.changes.slot) c.changes.slot made c.value-made.result
+          ∙ slots_fill (c.next_change-next.result - c.changes.slot) c.changes.slot made c.value-made.result
           (λ p after before. ap (g.I.Image.value_of c.args.image.now) (c.next_change-next.ensures.same p after (omega (arith, before, end))) ∙ here)
           ∙ ap (λ (m : ℕ). slots m made) end;
       within = c.next_change-next.ensures.within;
@@ -34,7 +34,7 @@ from_slots-requires g c =
     let within = c.changes.invariant.within in
     let end : c.changes.slot ≡ c.args.period = omega (arith, within) in
     let all : c.deref-2.result.now ≡ slots c.args.period made = c.deref-2.ensures.value ∙ c.changes.invariant.so_far ∙ ap (λ (n : ℕ). slots n made) end in
-    period-length c.deref-2.result.now c.args.period (ap length all ∙ length-slots c.args.period made) c.requires.period
+    period_length c.deref-2.result.now c.args.period (ap length all ∙ length_slots c.args.period made) c.requires.period
 
 pub returns : goal.returns
 returns g c =

@@ -2,7 +2,7 @@ use Rattle.std.proofs.Common.{◌≡◌, ◌+◌, ◌-◌, rules, ◌∙◌}
 use Rattle.std.proofs.lemmas.Result.{IfOk-weaker}
 use Rattle.step_values.specs.Cell.{values}
 use Rattle.skew_algebra.specs.Wave.{skewed, normal, moved}
-use Rattle.skew_algebra.proofs.Normal.{moved-by}
+use Rattle.skew_algebra.proofs.Normal.{moved_by}
 use Rattle.gate_eval.proofs.meeting.late.Goals as goal
 
 pub returns : goal.returns
@@ -14,5 +14,5 @@ returns g c =
     IfOk-weaker c.normal.result
     (λ s. s ≡ normal values (skewed (g.W.CyclicWave.cells c.in_ok-turned.turned) skew))
     (λ s. s ≡ moved values w c.args.d)
-    (λ s e. e ∙ moved-by values w (g.W.CyclicWave.cells c.in_ok-turned.turned) c.d.inside.min c.d.inside.max c.args.d low high c.in_ok-turned.ensures)
+    (λ s e. e ∙ moved_by values w (g.W.CyclicWave.cells c.in_ok-turned.turned) c.d.inside.min c.d.inside.max c.args.d low high c.in_ok-turned.ensures)
     c.normal.ensures.wave

@@ -4,7 +4,7 @@ use Rattle.wave_core.specs.Slots.{slots}
 use Rattle.step_values.specs.Cell.{values}
 use Rattle.skew_algebra.specs.Wave.{skewed}
 use Rattle.gate_eval.specs.Meeting.{cells_in, folds_in, period_of, meeting}
-use Rattle.gate_eval.proofs.Scanned.{meeting-one, meeting-more}
+use Rattle.gate_eval.proofs.Scanned.{meeting_one, meeting_more}
 use Rattle.gate_eval.proofs.meeting.met_at_once.Goals as goal
 
 pub returns-in-Some-clause-made : goal.returns-in-Some-clause-made
@@ -16,7 +16,7 @@ returns-in-Some-clause-made g c =
     (λ m. skewed (g.W.CyclicWave.cells m.wave) m.skew
     ≡ meeting values (g.I.Image.value_of c.args.image.now) (map (λ p. p.wave) c.args.pins.now))
     (λ m e. e
-    ∙ meeting-one values (g.I.Image.value_of c.args.image.now) (map (λ p. p.wave) c.args.pins.now)
+    ∙ meeting_one values (g.I.Image.value_of c.args.image.now) (map (λ p. p.wave) c.args.pins.now)
     c.in-Some.skew c.in-Some.ensures.kept)
     c.by_slots.ensures.made
 
@@ -34,7 +34,7 @@ returns-in_ok-folds-in-None-clause-made g c =
     (λ m. skewed (g.W.CyclicWave.cells m.wave) m.skew
     ≡ meeting values (g.I.Image.value_of c.args.image.now) (map (λ p. p.wave) c.args.pins.now))
     (λ m e. e
-    ∙ meeting-more values (g.I.Image.value_of c.args.image.now) (map (λ p. p.wave) c.args.pins.now)
+    ∙ meeting_more values (g.I.Image.value_of c.args.image.now) (map (λ p. p.wave) c.args.pins.now)
     c.in-None.ensures.kept)
     c.by_folds.ensures.made
 

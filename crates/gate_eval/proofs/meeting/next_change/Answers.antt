@@ -2,7 +2,7 @@ use Rattle.std.proofs.Common.{◌≡◌, map, take, min, ap, sym, ◌∙◌, ari
 use Rattle.std.proofs.lemmas.List.{take_all}
 use Rattle.step_values.specs.Cell.{values}
 use Rattle.skew_algebra.specs.Wave.{cell_at}
-use Rattle.gate_eval.proofs.Few.{same-more, same-value}
+use Rattle.gate_eval.proofs.Few.{same_more, same_value}
 use Rattle.gate_eval.proofs.meeting.next_change.Goals as goal
 
 pub loop-wave-preserved : goal.loop-wave-preserved
@@ -16,9 +16,9 @@ loop-wave-preserved g c =
       behind = omega (arith, end, behind, here);
       within = omega (arith, end, within);
       same = λ p after before.
-          same-more g.W.CyclicWave.cells c.args.waves.now c.loop-wave.wave-index c.args.slot p c.wave-item.result (omega arith) c.wave-item.is
+          same_more g.W.CyclicWave.cells c.args.waves.now c.loop-wave.wave-index c.args.slot p c.wave-item.result (omega arith) c.wave-item.is
           (so_far.same p after (omega (arith, end, before)))
-          (same-value (g.W.CyclicWave.cells c.wave-item.result) c.args.slot c.same_until.result p c.same_until.ensures after (omega (arith, end, before)));
+          (same_value (g.W.CyclicWave.cells c.wave-item.result) c.args.slot c.same_until.result p c.same_until.ensures after (omega (arith, end, before)));
     }
 
 pub returns-clause-same : goal.returns-clause-same

@@ -1,5 +1,5 @@
-use Rattle.gate_eval.proofs.SplitCovers.{some-bit}
+use Rattle.gate_eval.proofs.SplitCovers.{some_bit}
 use Rattle.gate_eval.proofs.split.some_bit_is_left.Goals as goal
 
 pub returns : goal.returns
-returns c = some-bit
+returns c = some_bit

@@ -2,7 +2,7 @@ use Rattle.std.proofs.Common.{◌≡◌, ◌<◌, ◌∙◌, ap, length, arith}
 use Rattle.std.proofs.lemmas.Result.{IfOk-weaker}
 use Rattle.scald_base.specs.Time.{period}
 use Rattle.pin_waves.specs.Interface.{interface_wave, PermitsAsserted}
-use Rattle.pin_waves.proofs.Asserted.{length-interface, permits_asserted}
+use Rattle.pin_waves.proofs.Asserted.{length_interface, permits_asserted}
 use Rattle.pin_waves.proofs.interface.interface_wave.Goals as goal
 
 pub returns-clause-permits : goal.returns-clause-permits
@@ -19,5 +19,5 @@ returns-clause-sized g c =
     IfOk-weaker c.asserted_wave.result
     (λ s. s ≡ interface_wave c.args.h.now c.args.spec.now)
     (λ s. length s.cells ≡ period c.args.h.now)
-    (λ s e. ap (λ w. length w.cells) e ∙ length-interface c.args.h.now c.args.spec.now)
+    (λ s e. ap (λ w. length w.cells) e ∙ length_interface c.args.h.now c.args.spec.now)
     c.asserted_wave.ensures

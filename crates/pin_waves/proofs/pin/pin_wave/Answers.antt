@@ -3,7 +3,7 @@ use Rattle.std.proofs.lemmas.Result.{IfOk-weaker}
 use Rattle.step_values.specs.Cell.{values}
 use Rattle.skew_algebra.specs.Wave.{flipped}
 use Rattle.pin_waves.specs.Pin.{KeepsPin}
-use Rattle.pin_waves.proofs.Pins.{length-late, length-turned, keeps_pin, keeps_turned_pin}
+use Rattle.pin_waves.proofs.Pins.{length_late, length_turned, keeps_pin, keeps_turned_pin}
 use Rattle.pin_waves.proofs.pin.pin_wave.Goals as goal
 
 pub returns-then-inverted-clause-permits : goal.returns-then-inverted-clause-permits
@@ -35,11 +35,11 @@ returns-then-inverted-clause-sized g c =
     IfOk-weaker c.flipped.result
     (λ s. s ≡ flipped values late)
     (λ s. length s.cells ≡ length net.cells)
-    (λ s e. length-turned net late s c.args.wire c.in_ok-late.ensures.wave e)
+    (λ s e. length_turned net late s c.args.wire c.in_ok-late.ensures.wave e)
     c.flipped.ensures.wave
 
 pub returns-else-inverted-clause-sized : goal.returns-else-inverted-clause-sized
 returns-else-inverted-clause-sized g c =
     let net = c.args.net.now in
     let late = c.in_ok-late.late in
-    length-late net late c.args.wire c.in_ok-late.ensures.wave
+    length_late net late c.args.wire c.in_ok-late.ensures.wave

@@ -1,12 +1,12 @@
 use Rattle.std.proofs.Common.{sym, ◌∙◌, arith}
-use Rattle.net_waves.proofs.ReadSlots.{length-folded}
+use Rattle.net_waves.proofs.ReadSlots.{length_folded}
 use Rattle.point_check.proofs.Exceeded.{no_assertion_fault, an_assertion_fault}
 use Rattle.point_check.proofs.assertion.assertion_fault.Goals as goal
 
 pub first_excess-requires : goal.first_excess-requires
 first_excess-requires g c =
     c.in_ok-wide.ensures.sized ∙ sym c.requires.period
-    ∙ sym (length-folded c.args.wave.now (g.W.CyclicWave.cells c.in_ok-found.found) c.in_ok-found.ensures.wave)
+    ∙ sym (length_folded c.args.wave.now (g.W.CyclicWave.cells c.in_ok-found.found) c.in_ok-found.ensures.wave)
 
 pub returns-in-None : goal.returns-in-None
 returns-in-None g c =

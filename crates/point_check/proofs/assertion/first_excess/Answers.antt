@@ -2,7 +2,7 @@ use Rattle.std.proofs.Common.{◌≡◌, min, length, arith, sym, ◌∙◌, fal
 use Rattle.net_waves.specs.Pins.{read}
 use Rattle.net_waves.proofs.ReadSlots.{below_run}
 use Rattle.point_check.specs.Assertion.{exceeds}
-use Rattle.point_check.proofs.Exceeded.{excess-here, excess-nowhere, exceeds-read, exceeds-run}
+use Rattle.point_check.proofs.Exceeded.{excess_here, excess_nowhere, exceeds_read, exceeds_run}
 use Rattle.point_check.proofs.assertion.first_excess.Goals as goal
 
 pub returns-then-exceeds-clause-first : goal.returns-then-exceeds-clause-first
@@ -10,8 +10,8 @@ returns-then-exceeds-clause-first g c =
     let found = g.W.CyclicWave.cells c.args.found.now in
     let wide = g.W.CyclicWave.cells c.args.wide.now in
     let p = c.period.ensures in
-    excess-here (length found) (read found) (read wide) c.changes.slot c.changes.invariant (omega (arith, p))
-    (exceeds-read found wide c.changes.slot c.at.result c.at-in-changes.result (omega (arith, p)) (omega (arith, p)) c.at.ensures c.at-in-changes.ensures ∙ sym c.exceeds.ensures ∙ c.if-exceeds.true)
+    excess_here (length found) (read found) (read wide) c.changes.slot c.changes.invariant (omega (arith, p))
+    (exceeds_read found wide c.changes.slot c.at.result c.at-in-changes.result (omega (arith, p)) (omega (arith, p)) c.at.ensures c.at-in-changes.ensures ∙ sym c.exceeds.ensures ∙ c.if-exceeds.true)
 
 pub changes-preserved : goal.changes-preserved
 changes-preserved g c =
@@ -19,11 +19,11 @@ changes-preserved g c =
     let wide = g.W.CyclicWave.cells c.args.wide.now in
     let least : c.min-slot.result ≡ min c.same_until.result c.same_until-in-changes.result = c.min-slot.ensures in
     below_run (λ k. exceeds (read found k) (read wide k) ≡ false) c.changes.slot _ c.changes.invariant
-    (λ k above below. exceeds-run found wide c.changes.slot c.same_until.result c.same_until-in-changes.result k c.at.result c.at-in-changes.result c.same_until.ensures c.same_until-in-changes.ensures
+    (λ k above below. exceeds_run found wide c.changes.slot c.same_until.result c.same_until-in-changes.result k c.at.result c.at-in-changes.result c.same_until.ensures c.same_until-in-changes.ensures
     c.at.ensures c.at-in-changes.ensures above (omega (arith, below, least)) (omega (arith, below, least)) ∙ sym c.exceeds.ensures ∙ c.if-exceeds.false)
 
 pub returns-clause-first : goal.returns-clause-first
 returns-clause-first g c =
     let p = c.period.ensures in
-    excess-nowhere (length (g.W.CyclicWave.cells c.args.found.now)) (read (g.W.CyclicWave.cells c.args.found.now))
+    excess_nowhere (length (g.W.CyclicWave.cells c.args.found.now)) (read (g.W.CyclicWave.cells c.args.found.now))
     (read (g.W.CyclicWave.cells c.args.wide.now)) (λ k below. c.changes.invariant k (omega (arith, p)))

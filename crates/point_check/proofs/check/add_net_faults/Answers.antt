@@ -4,14 +4,14 @@ use Rattle.std.proofs.Math.Seq.{take-length}
 use Rattle.net_waves.specs.Waves.{waves_of}
 use Rattle.flat_circuit.proofs.Numbered.{order_long}
 use Rattle.point_check.specs.Faults.{net_fault}
-use Rattle.point_check.proofs.Gathered.{order-found}
+use Rattle.point_check.proofs.Gathered.{order_found}
 use Rattle.point_check.proofs.check.add_net_faults.Goals as goal
 
 pub loop-place-preserved : goal.loop-place-preserved
 loop-place-preserved g c =
     let long = order_long c.args.c.now.nets c.args.c.now.order c.known.ensures.by_name in
     let count = c.net_count-place-end.ensures in
-    order-found (net_fault c.args.c.now (waves_of c.args.waves.now)) c.args.c.now.order c.loop-place.place c.net_at.result c.args.faults.now c.loop-place.faults c.add.new.faults c.in_ok-found.found
+    order_found (net_fault c.args.c.now (waves_of c.args.waves.now)) c.args.c.now.order c.loop-place.place c.net_at.result c.args.faults.now c.loop-place.faults c.add.new.faults c.in_ok-found.found
     (omega (arith, long, count)) c.net_at.ensures c.loop-place.invariant c.in_ok-found.ensures c.in_ok-add.ensures
 
 pub returns : goal.returns

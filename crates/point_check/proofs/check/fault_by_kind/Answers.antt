@@ -4,12 +4,12 @@ use Rattle.element_kinds.specs.Kinds.{may_be_marked}
 use Rattle.flat_circuit.specs.declared.fault.Fault.{Fault}
 use Rattle.net_waves.specs.Waves.{waves_of}
 use Rattle.point_check.specs.Faults.{fault_by}
-use Rattle.point_check.proofs.Gathered.{points-limits}
+use Rattle.point_check.proofs.Gathered.{points_limits}
 use Rattle.point_check.proofs.check.fault_by_kind.Goals as goal
 
 pub limited_fault-requires-clause-limits : goal.limited_fault-requires-clause-limits
 limited_fault-requires-clause-limits g c =
-    points-limits c.args.c.now.header c.args.instance.now.kind c.args.instance.now.limits
+    points_limits c.args.c.now.header c.args.instance.now.kind c.args.instance.now.limits
     (sym c.checks_points.ensures ∙ c.if-checks_points.true) c.requires.fits.lim
 
 pub returns-then-checks_points : goal.returns-then-checks_points

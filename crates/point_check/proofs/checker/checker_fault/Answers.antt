@@ -3,30 +3,30 @@ use Rattle.step_values.specs.declared.value.Value.{Value}
 use Rattle.skew_algebra.specs.Wave.{Wave}
 use Rattle.scald_base.specs.Time.{period}
 use Rattle.net_waves.specs.Waves.{pin_wave, waves_of}
-use Rattle.net_waves.proofs.Fits.{long-pin}
-use Rattle.point_check.proofs.Gathered.{same-checker}
+use Rattle.net_waves.proofs.Fits.{long_pin}
+use Rattle.point_check.proofs.Gathered.{same_checker}
 use Rattle.point_check.proofs.checker.checker_fault.Goals as goal
 
 pub fault_between-requires-clause-limits : goal.fault_between-requires-clause-limits
 fault_between-requires-clause-limits g c =
     let ws = waves_of c.args.waves.now in
     let long : length c.in_ok-clock_wave.clock_wave.cells ≡ period c.args.c.now.header =
-    ap (λ (w : Wave Value). length w.cells) c.in_ok-clock_wave.ensures ∙ long-pin c.args.c.now ws c.args.clock c.requires.fit.each_slot c.requires.clock in
+    ap (λ (w : Wave Value). length w.cells) c.in_ok-clock_wave.ensures ∙ long_pin c.args.c.now ws c.args.clock c.requires.fit.each_slot c.requires.clock in
     let within = c.requires.limits in
     omega (arith, long, within)
 
 pub fault_between-requires-clause-periods : goal.fault_between-requires-clause-periods
 fault_between-requires-clause-periods g c =
     let ws = waves_of c.args.waves.now in
-    ap (λ (w : Wave Value). length w.cells) c.in_ok-input_wave.ensures ∙ long-pin c.args.c.now ws c.args.input c.requires.fit.each_slot c.requires.input
-    ∙ sym (ap (λ (w : Wave Value). length w.cells) c.in_ok-clock_wave.ensures ∙ long-pin c.args.c.now ws c.args.clock c.requires.fit.each_slot c.requires.clock)
+    ap (λ (w : Wave Value). length w.cells) c.in_ok-input_wave.ensures ∙ long_pin c.args.c.now ws c.args.input c.requires.fit.each_slot c.requires.input
+    ∙ sym (ap (λ (w : Wave Value). length w.cells) c.in_ok-clock_wave.ensures ∙ long_pin c.args.c.now ws c.args.clock c.requires.fit.each_slot c.requires.clock)
 
 pub returns : goal.returns
 returns g c =
     let ws = waves_of c.args.waves.now in
-    same-checker c.args.asked.kind (length c.in_ok-clock_wave.clock_wave.cells) (period c.args.c.now.header) c.args.asked.instance
+    same_checker c.args.asked.kind (length c.in_ok-clock_wave.clock_wave.cells) (period c.args.c.now.header) c.args.asked.instance
     c.in_ok-clock_wave.clock_wave (pin_wave c.args.c.now ws c.args.clock)
     c.in_ok-input_wave.input_wave (pin_wave c.args.c.now ws c.args.input)
     c.args.asked.limits c.in_ok-found.found
-    (ap (λ (w : Wave Value). length w.cells) c.in_ok-clock_wave.ensures ∙ long-pin c.args.c.now ws c.args.clock c.requires.fit.each_slot c.requires.clock)
+    (ap (λ (w : Wave Value). length w.cells) c.in_ok-clock_wave.ensures ∙ long_pin c.args.c.now ws c.args.clock c.requires.fit.each_slot c.requires.clock)
     c.in_ok-clock_wave.ensures c.in_ok-input_wave.ensures c.in_ok-found.ensures

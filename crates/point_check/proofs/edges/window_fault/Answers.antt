@@ -1,17 +1,17 @@
 use Rattle.std.proofs.Common.{length, rules, arith, ap, ◌∙◌, ℕ}
 use Rattle.flat_circuit.specs.declared.fault.Fault.TheVariants.{Point}
 use Rattle.net_waves.specs.Pins.{read}
-use Rattle.net_waves.proofs.ReadSlots.{read-at}
+use Rattle.net_waves.proofs.ReadSlots.{read_at}
 use Rattle.point_check.specs.Window.{slot_at}
 use Rattle.point_check.proofs.Found.{no_window_fault, a_window_fault, same_fault}
-use Rattle.point_check.proofs.Where.{all-quiet, mover-where}
+use Rattle.point_check.proofs.Where.{all_quiet, mover_where}
 use Rattle.point_check.proofs.edges.window_fault.Goals as goal
 
 pub returns-in-None : goal.returns-in-None
 returns-in-None g c =
     let cells = g.W.CyclicWave.cells c.args.input.now in
     no_window_fault (length cells) c.args.instance (read cells) c.args.window c.args.edge
-    (all-quiet cells c.args.window c.args.edge c.slot_at-from.result
+    (all_quiet cells c.args.window c.args.edge c.slot_at-from.result
     (c.slot_at-from.ensures.slot ∙ ap (λ (z : ℕ). slot_at z c.args.window c.args.edge 0) c.period-period.ensures)
     (λ k below. let said = c.in-None.ensures k (omega arith) below in search rules))
 
@@ -22,9 +22,9 @@ returns-in-Some g c =
     let found = c.in-Some.ensures in
     a_window_fault (length cells) c.args.instance (read cells) c.args.window c.args.edge c.in-Some.place
     (Point c.kind_at.result c.args.instance c.args.edge c.slot_at-slot.result c.letter.result)
-    (mover-where cells c.args.window c.args.edge c.slot_at-from.result (c.slot_at-from.ensures.slot ∙ ap (λ (z : ℕ). slot_at z c.args.window c.args.edge 0) p) c.in-Some.place found.within
+    (mover_where cells c.args.window c.args.edge c.slot_at-from.result (c.slot_at-from.ensures.slot ∙ ap (λ (z : ℕ). slot_at z c.args.window c.args.edge 0) p) c.in-Some.place found.within
     (λ k below. let said = found.before k (omega arith) below in search rules) (let said = found.passes in search rules))
     (same_fault (length cells) c.args.instance (read cells) c.args.window c.args.edge c.in-Some.place c.kind_at.result c.slot_at-slot.result c.at.result c.letter.result
     c.kind_at.ensures (c.slot_at-slot.ensures.slot ∙ ap (λ (z : ℕ). slot_at z c.args.window c.args.edge c.in-Some.place) p)
-    (read-at cells c.slot_at-slot.result c.slot_at-slot.result c.at.result (λ i. c.slot_at-slot.result) (omega (arith, p, c.slot_at-slot.ensures.within)) c.at.ensures)
+    (read_at cells c.slot_at-slot.result c.slot_at-slot.result c.at.result (λ i. c.slot_at-slot.result) (omega (arith, p, c.slot_at-slot.ensures.within)) c.at.ensures)
     c.letter.ensures)

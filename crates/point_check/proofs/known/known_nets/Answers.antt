@@ -1,13 +1,13 @@
 use Rattle.std.proofs.Common.{◌≡◌, ℕ, length, map, ap, ◌∙◌, arith}
 use Rattle.std.specs.List.{range_with_len}
 use Rattle.net_waves.specs.Waves.{waves_of}
-use Rattle.net_waves.proofs.ByNumber.{known-more}
+use Rattle.net_waves.proofs.ByNumber.{known_more}
 use Rattle.point_check.specs.Faults.{net_fault}
 use Rattle.point_check.proofs.known.known_nets.Goals as goal
 
 pub loop-number-preserved : goal.loop-number-preserved
 loop-number-preserved g c =
-    known-more (net_fault c.args.c.now (waves_of c.args.waves.now)) c.loop-number.number c.loop-number.known c.push.new.self c.in_ok-found.found
+    known_more (net_fault c.args.c.now (waves_of c.args.waves.now)) c.loop-number.number c.loop-number.known c.push.new.self c.in_ok-found.found
     c.loop-number.invariant c.in_ok-found.ensures c.in_ok-push.ensures.ok
 
 pub returns : goal.returns

@@ -2,13 +2,13 @@ use Rattle.std.proofs.Common.{◌≡◌, ◌++◌, ℕ, List, length, map, ap, �
 use Rattle.std.specs.List.{range_with_len}
 use Rattle.flat_circuit.specs.declared.fault.Fault.{Fault}
 use Rattle.net_waves.specs.Waves.{waves_of}
-use Rattle.net_waves.proofs.ByNumber.{known-more}
+use Rattle.net_waves.proofs.ByNumber.{known_more}
 use Rattle.pulse_check.specs.Faults.{instance_faults}
 use Rattle.pulse_check.proofs.known.known_pulses.Goals as goal
 
 pub loop-number-preserved : goal.loop-number-preserved
 loop-number-preserved g c =
-    known-more (instance_faults c.args.c.now (waves_of c.args.waves.now)) c.loop-number.number c.loop-number.known c.push.new.self c.add_faults.new.faults
+    known_more (instance_faults c.args.c.now (waves_of c.args.waves.now)) c.loop-number.number c.loop-number.known c.push.new.self c.add_faults.new.faults
     c.loop-number.invariant
     (c.in_ok-add_faults.ensures ∙ ap (λ (l : List Fault). l ++ instance_faults c.args.c.now (waves_of c.args.waves.now) c.loop-number.number) c.new-faults.ensures)
     c.in_ok-push.ensures.ok

@@ -1,5 +1,5 @@
 use Rattle.std.proofs.Common.{◌∙◌, refl, sym, subst, ap, arith, length, None}
-use Rattle.design_gen.proofs.Sections.{datapath-short}
+use Rattle.design_gen.proofs.Sections.{datapath_short}
 use Rattle.timing_analysis.proofs.Drawn.{subject_is_drawn}
 use Rattle.scald_tool.specs.Answer.{measured}
 use Rattle.drawn_circuit.specs.Drawn.{IsTextRefused}
@@ -8,7 +8,7 @@ use Rattle.scald_tool.proofs.bench.bench.Goals as goal
 
 pub read_circuit-requires : goal.read_circuit-requires
 read_circuit-requires c =
-    omega (arith, ap length c.as_slice.ensures, ap length c.in_ok-text.ensures, datapath-short c.args.sections (omega (arith, c.ranges.sections)))
+    omega (arith, ap length c.as_slice.ensures, ap length c.in_ok-text.ensures, datapath_short c.args.sections (omega (arith, c.ranges.sections)))
 
 pub returns-in-Ok-clause-is : goal.returns-in-Ok-clause-is
 returns-in-Ok-clause-is c =

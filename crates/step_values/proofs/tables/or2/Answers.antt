@@ -1,6 +1,6 @@
 use Rattle.std.proofs.Common.{refl, arith}
 use Rattle.step_values.specs.Image.{or_of}
-use Rattle.step_values.proofs.Filled.{filled2, index2-below}
+use Rattle.step_values.proofs.Filled.{filled2, index2_below}
 use Rattle.step_values.proofs.tables.or2.Goals as goal
 
 pub loop-index-init : goal.loop-index-init
@@ -15,4 +15,4 @@ loop-index-preserved c =
     c.value_at.ensures c.value_at-in-loop-index.ensures c.or_value.ensures c.loop-index.invariant
 
 pub returns : goal.returns
-returns c v w = c.loop-index.invariant.below v w (omega (arith, index2-below v w))
+returns c v w = c.loop-index.invariant.below v w (omega (arith, index2_below v w))

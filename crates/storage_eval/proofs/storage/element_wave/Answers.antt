@@ -5,13 +5,13 @@ use Rattle.step_values.specs.declared.value.Value.{Value}
 use Rattle.step_values.specs.Cell.{values}
 use Rattle.skew_algebra.specs.Wave.{Wave, moved}
 use Rattle.gate_eval.specs.Meeting.{meeting, period_of, HaveOnePeriod}
-use Rattle.gate_eval.proofs.Gathered.{some-period}
-use Rattle.gate_eval.proofs.Chosen.{pins-fit}
+use Rattle.gate_eval.proofs.Gathered.{some_period}
+use Rattle.gate_eval.proofs.Chosen.{pins_fit}
 use Rattle.storage_eval.specs.Storage.{listening, storage_value}
 use Rattle.gate_eval.specs.Instance.{IsSound}
 use Rattle.storage_eval.specs.Instance.{storage_wave}
-use Rattle.storage_eval.proofs.Heard.{some-listening, some-pins, one_period-listening}
-use Rattle.storage_eval.proofs.Sounds.{storage-sound}
+use Rattle.storage_eval.proofs.Heard.{some_listening, some_pins, one_period_listening}
+use Rattle.storage_eval.proofs.Sounds.{storage_sound}
 use Rattle.storage_eval.proofs.storage.element_wave.Goals as goal
 
 pub met-requires-clause-some : goal.met-requires-clause-some
@@ -19,7 +19,7 @@ met-requires-clause-some g c =
     let heard : map (λ p. p.wave) c.deref.result.now ≡ listening c.args.kind (map (λ p. p.wave) c.args.pins.now) =
     ap (λ ps. map (λ p. p.wave) ps) c.deref.ensures.value ∙ c.in_ok-heard.ensures in
     let some : 0 < length (listening c.args.kind (map (λ p. p.wave) c.args.pins.now)) =
-    some-listening c.args.kind (map (λ p. p.wave) c.args.pins.now) c.requires.stores (length-map c.args.pins.now (λ p. p.wave) ∙ c.requires.pins) in
+    some_listening c.args.kind (map (λ p. p.wave) c.args.pins.now) c.requires.stores (length-map c.args.pins.now (λ p. p.wave) ∙ c.requires.pins) in
     let long : length (map (λ p. p.wave) c.deref.result.now) ≡ length c.deref.result.now = length-map c.deref.result.now (λ p. p.wave) in
     let same : length (map (λ p. p.wave) c.deref.result.now) ≡ length (listening c.args.kind (map (λ p. p.wave) c.args.pins.now)) = ap length heard in
     omega (arith, some, long, same)
@@ -29,7 +29,7 @@ met-requires-clause-periods g c =
     let heard : map (λ p. p.wave) c.deref.result.now ≡ listening c.args.kind (map (λ p. p.wave) c.args.pins.now) =
     ap (λ ps. map (λ p. p.wave) ps) c.deref.ensures.value ∙ c.in_ok-heard.ensures in
     subst (λ (ws : List (Wave Value)). HaveOnePeriod ws) (sym heard)
-    (one_period-listening c.args.kind (map (λ p. p.wave) c.args.pins.now) c.requires.periods)
+    (one_period_listening c.args.kind (map (λ p. p.wave) c.args.pins.now) c.requires.periods)
 
 pub returns-clause-wave : goal.returns-clause-wave
 unfolding storage_wave
@@ -49,14 +49,14 @@ unfolding storage_wave
 returns-clause-sound g c =
     let heard : map (λ p. p.wave) c.deref.result.now ≡ listening c.args.kind (map (λ p. p.wave) c.args.pins.now) =
     ap (λ ps. map (λ p. p.wave) ps) c.deref.ensures.value ∙ c.in_ok-heard.ensures in
-    let some : 0 < length c.args.pins.now = some-pins c.args.kind (length c.args.pins.now) c.requires.stores c.requires.pins in
+    let some : 0 < length c.args.pins.now = some_pins c.args.kind (length c.args.pins.now) c.requires.stores c.requires.pins in
     IfOk-weaker c.met.result
     (λ s. s
     ≡ moved values (meeting values (g.I.Image.value_of c.args.image.now) (map (λ p. p.wave) c.deref.result.now)) c.args.d)
     (λ s. IsSound c.args.kind c.args.d (map (λ p. p.wave) c.args.pins.now) s)
     (λ s e. subst (λ (w : Wave Value). IsSound c.args.kind c.args.d (map (λ p. p.wave) c.args.pins.now) w)
     (sym (e ∙ (λ i. moved values (meeting values (λ found. c.requires.value found i) (heard i)) c.args.d)))
-    (storage-sound c.args.kind c.args.d (map (λ p. p.wave) c.args.pins.now) c.requires.stores (length-map c.args.pins.now (λ p. p.wave) ∙ c.requires.pins)
-    (some-period c.args.pins.now (λ p. p.wave) some (λ p. let sized = p.sized in omega (arith, sized.shortest)))
-    (pins-fit c.args.pins.now (λ p. p.wave) (period_of (map (λ p. p.wave) c.args.pins.now)) c.requires.periods (λ p. p.normal))))
+    (storage_sound c.args.kind c.args.d (map (λ p. p.wave) c.args.pins.now) c.requires.stores (length-map c.args.pins.now (λ p. p.wave) ∙ c.requires.pins)
+    (some_period c.args.pins.now (λ p. p.wave) some (λ p. let sized = p.sized in omega (arith, sized.shortest)))
+    (pins_fit c.args.pins.now (λ p. p.wave) (period_of (map (λ p. p.wave) c.args.pins.now)) c.requires.periods (λ p. p.normal))))
     c.met.ensures

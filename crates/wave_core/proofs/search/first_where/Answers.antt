@@ -1,5 +1,5 @@
 use Rattle.std.proofs.Common.{◌+◌, ◌%◌, Bool, true, false, refl, sym, subst}
-use Rattle.wave_core.proofs.Places.{cell-round, gives-more}
+use Rattle.wave_core.proofs.Places.{round_cell, gives_more}
 use Rattle.wave_core.proofs.search.first_where.Goals as goal
 
 pub returns-then-test : goal.returns-then-test
@@ -7,7 +7,7 @@ returns-then-test g c =
     let k = g.W.Item.Cell.kind in
     let cells = g.W.CyclicWave.cells c.args.wave.now in
     let given = subst (λ (b : Bool). g.F.Fn.post c.args.test (c.at.result, tt) b) c.if-test.true c.test.ensures in
-    let here = cell-round k cells c.period-period.result (c.args.from + c.loop-place.place) ((c.args.from + c.loop-place.place) % c.period-period.result) c.at.result
+    let here = round_cell k cells c.period-period.result (c.args.from + c.loop-place.place) ((c.args.from + c.loop-place.place) % c.period-period.result) c.at.result
     c.period-period.ensures refl c.at.ensures in
     record {
       within = c.loop-place-test.true;
@@ -20,6 +20,6 @@ loop-place-preserved g c =
     let k = g.W.Item.Cell.kind in
     let cells = g.W.CyclicWave.cells c.args.wave.now in
     let given = subst (λ (b : Bool). g.F.Fn.post c.args.test (c.at.result, tt) b) c.if-test.false c.test.ensures in
-    gives-more k cells (λ v passes. g.F.Fn.post c.args.test (v, tt) passes) false c.period-period.result c.args.from 0 c.loop-place.place
+    gives_more k cells (λ v passes. g.F.Fn.post c.args.test (v, tt) passes) false c.period-period.result c.args.from 0 c.loop-place.place
     ((c.args.from + c.loop-place.place) % c.period-period.result) c.same_until.result c.at.result c.period-period.ensures refl c.at.ensures
     c.same_until.ensures given c.loop-place.invariant

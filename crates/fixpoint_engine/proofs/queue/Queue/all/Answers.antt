@@ -2,7 +2,7 @@ use Rattle.std.proofs.Common.{◌∙◌, ◌&&◌, Bool, sym, ap, arith, inl, in
 use Rattle.std.proofs.lemmas.Bool.{cases_lt}
 use Rattle.std.specs.Option.{option_copied}
 use Rattle.fixpoint_engine.specs.Members.{leads_in}
-use Rattle.fixpoint_engine.proofs.Drivers.{active-past}
+use Rattle.fixpoint_engine.proofs.Drivers.{active_past}
 use Rattle.fixpoint_engine.proofs.queue.Queue.all.Goals as goal
 
 pub returns-clause-are : goal.returns-clause-are
@@ -10,5 +10,5 @@ returns-clause-are c i =
     elim (cases_lt i c.loop-net.net) [
       | inl less ↦ c.loop-net.invariant.before i less
       | inr more ↦ c.loop-net.invariant.after i more ∙ sym (ap (λ (b : Bool). b && leads_in (option_copied c.args.classes) i)
-          (active-past c.args.c.now c.args.active.now i c.requires (omega (arith, more, c.net_count-net-end.ensures, c.loop-net-test.false))))
+          (active_past c.args.c.now c.args.active.now i c.requires (omega (arith, more, c.net_count-net-end.ensures, c.loop-net-test.false))))
     ]

@@ -5,7 +5,7 @@ use Rattle.std.specs.Option.{option_copied}
 use Rattle.flat_circuit.specs.Circuit.{driver}
 use Rattle.fixpoint_engine.specs.Settled.{marked_in}
 use Rattle.fixpoint_engine.specs.Members.{is_evaluated}
-use Rattle.fixpoint_engine.proofs.Listening.{hears-none, taken-more, heard-more}
+use Rattle.fixpoint_engine.proofs.Listening.{hears_none, taken_more, heard_more}
 use Rattle.fixpoint_engine.proofs.Waiting.{unmarked}
 use Rattle.fixpoint_engine.proofs.queue.Queue.refill.Goals as goal
 
@@ -13,16 +13,16 @@ pub loop-change-init : goal.loop-change-init
 loop-change-init g c = record {
   each_net = ap length c.clear.ensures.marks ∙ length-replicate (length c.args.self.now.marks) false ∙ c.requires.each_net;
   due = λ i. ap (λ marks. marked_in marks i) c.clear.ensures.marks ∙ unmarked (length c.args.self.now.marks) i
-      ∙ sym (ap (λ b. is_evaluated c.args.active.now (option_copied c.args.classes) i && b) (hears-none (driver c.args.c.now i))
+      ∙ sym (ap (λ b. is_evaluated c.args.active.now (option_copied c.args.classes) i && b) (hears_none (driver c.args.c.now i))
       ∙ and-false (is_evaluated c.args.active.now (option_copied c.args.classes) i));
 }
 
 pub loop-change-preserved : goal.loop-change-preserved
 loop-change-preserved g c = record {
   each_net = c.in_ok-add_hearers.ensures.each_net ∙ c.loop-change.invariant.each_net;
-  due = λ i. heard-more (driver c.args.c.now i) (is_evaluated c.args.active.now (option_copied c.args.classes) i)
+  due = λ i. heard_more (driver c.args.c.now i) (is_evaluated c.args.active.now (option_copied c.args.classes) i)
       (map (λ ch. ch.net) (take c.loop-change.change-index c.args.changes.now)) _ c.change-item.result.net
       (marked_in c.loop-change.self.marks i) (marked_in c.add_hearers.new.self.marks i)
-      (taken-more (λ ch. ch.net) c.args.changes.now c.loop-change.change-index c.change-item.result c.loop-change-test.true c.change-item.is)
+      (taken_more (λ ch. ch.net) c.args.changes.now c.loop-change.change-index c.change-item.result c.loop-change-test.true c.change-item.is)
       (c.loop-change.invariant.due i) (c.in_ok-add_hearers.ensures.marks i);
 }

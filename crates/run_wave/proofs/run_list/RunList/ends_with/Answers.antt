@@ -1,5 +1,5 @@
 use Rattle.std.proofs.Common.{rules, arith, ◌≡◌, ◌+◌, ◌-◌, length, sym, ap, ◌∙◌}
-use Rattle.run_wave.proofs.Runs.{last-ends, ends-last}
+use Rattle.run_wave.proofs.Runs.{last_ends, ends_last}
 use Rattle.run_wave.proofs.run_list.RunList.ends_with.Goals as goal
 
 pub returns : goal.returns
@@ -9,7 +9,7 @@ returns g c =
     let last : c.len-count.result - 1 + 1 ≡ length rs = omega arith in
     let is : c.eq.result ≡ g.T.PartialEq.eq r.cell c.args.cell = search rules in
     let equal = g.met.T.Cell.equal r.cell c.args.cell in (
-      λ t. last-ends rs (c.len-count.result - 1) r c.args.cell last c.index.ensures
+      λ t. last_ends rs (c.len-count.result - 1) r c.args.cell last c.index.ensures
           (g.met.T.Cell.laws.same_is r.cell c.args.cell (sym equal ∙ sym is ∙ t)),
-      λ h. is ∙ equal ∙ ap (g.T.Cell.kind.same r.cell) (sym (ends-last rs (c.len-count.result - 1) r c.args.cell last c.index.ensures h)) ∙ g.met.T.Cell.laws.same_self r.cell,
+      λ h. is ∙ equal ∙ ap (g.T.Cell.kind.same r.cell) (sym (ends_last rs (c.len-count.result - 1) r c.args.cell last c.index.ensures h)) ∙ g.met.T.Cell.laws.same_self r.cell,
     )

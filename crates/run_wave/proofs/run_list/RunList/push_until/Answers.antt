@@ -1,15 +1,15 @@
 use Rattle.std.proofs.Common.{rules, arith, ◌≡◌, take, min, get_or}
 use Rattle.run_wave.specs.Run.{cells_of}
 use Rattle.std.proofs.lemmas.List.{take_all}
-use Rattle.run_wave.proofs.Runs.{pushed-taken, length-with-taken, slots-within, length-cells_of-more}
+use Rattle.run_wave.proofs.Runs.{pushed_taken, length_with_taken, slots_within, length_cells_of_more}
 use Rattle.run_wave.proofs.run_list.RunList.push_until.Goals as goal
 
 pub push-requires : goal.push-requires
 push-requires g c =
     let is : c.run-item.result ≡ get_or c.args.other.now.runs.items c.loop-run.run-index c.run-item.result = search rules in
     let rs = c.args.other.now.runs.items in
-    let long = length-with-taken (cells_of c.args.self.now.runs.items) (cells_of c.loop-run.self.runs.items) (cells_of (take c.loop-run.run-index rs)) c.args.end c.loop-run.invariant.so_far in
-    let within = slots-within rs c.loop-run.run-index c.run-item.result (omega arith) is in
+    let long = length_with_taken (cells_of c.args.self.now.runs.items) (cells_of c.loop-run.self.runs.items) (cells_of (take c.loop-run.run-index rs)) c.args.end c.loop-run.invariant.so_far in
+    let within = slots_within rs c.loop-run.run-index c.run-item.result (omega arith) is in
     let counted = c.loop-run.self.counted in
     let counted_before = c.args.self.now.counted in
     let counted_other = c.args.other.now.counted in
@@ -22,11 +22,11 @@ pub loop-run-preserved : goal.loop-run-preserved
 loop-run-preserved g c =
     let is : c.run-item.result ≡ get_or c.args.other.now.runs.items c.loop-run.run-index c.run-item.result = search rules in
     let rs = c.args.other.now.runs.items in
-    let more = length-cells_of-more rs c.loop-run.run-index c.run-item.result (omega arith) is in
+    let more = length_cells_of_more rs c.loop-run.run-index c.run-item.result (omega arith) is in
     let left = c.loop-run.invariant.left in
     let cut : c.min-part.result ≡ min c.loop-run.kept c.run-item.result.width = grind arith in
     record {
-      so_far = pushed-taken (cells_of c.args.self.now.runs.items) (cells_of c.loop-run.self.runs.items) (cells_of c.push.new.self.runs.items) rs
+      so_far = pushed_taken (cells_of c.args.self.now.runs.items) (cells_of c.loop-run.self.runs.items) (cells_of c.push.new.self.runs.items) rs
           c.loop-run.run-index c.args.end c.loop-run.kept c.min-part.result c.run-item.result (omega arith) is left cut
           c.loop-run.invariant.so_far c.in_ok-push.ensures;
       left = omega (arith, cut, more, left);

@@ -1,23 +1,23 @@
 use Rattle.std.proofs.Common.{arith}
-use Rattle.run_wave.proofs.Runs.{length-cells_of-more, slots-within}
+use Rattle.run_wave.proofs.Runs.{length_cells_of_more, slots_within}
 use Rattle.run_wave.proofs.run_list.RunList.run_with.Goals as goal
 
 pub overflow_add-end : goal.overflow_add-end
 overflow_add-end g c =
     let rs = c.args.self.now.runs.items in
-    let within = slots-within rs c.loop-place.place c.index.result.now (omega arith) c.index.ensures in
+    let within = slots_within rs c.loop-place.place c.index.result.now (omega arith) c.index.ensures in
     let counted = c.args.self.now.counted in
     let before = c.loop-place.invariant.before in
     omega (arith, within, counted, before)
 
 pub returns-then-slot-end-clause-end : goal.returns-then-slot-end-clause-end
 returns-then-slot-end-clause-end g c =
-    let more = length-cells_of-more c.args.self.now.runs.items c.loop-place.place c.index.result.now (omega arith) c.index.ensures in
+    let more = length_cells_of_more c.args.self.now.runs.items c.loop-place.place c.index.result.now (omega arith) c.index.ensures in
     omega (arith, more, c.loop-place.invariant.before)
 
 pub loop-place-preserved : goal.loop-place-preserved
 loop-place-preserved g c =
-    let more = length-cells_of-more c.args.self.now.runs.items c.loop-place.place c.index.result.now (omega arith) c.index.ensures in
+    let more = length_cells_of_more c.args.self.now.runs.items c.loop-place.place c.index.result.now (omega arith) c.index.ensures in
     record {
       before = omega (arith, more, c.loop-place.invariant.before);
       reached = omega (arith, c.if-slot-end.false);

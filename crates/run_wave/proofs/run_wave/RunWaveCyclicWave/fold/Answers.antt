@@ -1,20 +1,20 @@
 use Rattle.std.proofs.Common.{rules, arith, ◌≡◌, ◌≤◌, ◌<◌, ◌+◌, ◌-◌, length, min, refl, sym, ap, ◌∙◌}
 use Rattle.run_wave.specs.Run.{cells_of}
-use Rattle.run_wave.proofs.Turned.{length-later, folded-none}
-use Rattle.run_wave.proofs.Doubled.{doubled-step}
+use Rattle.run_wave.proofs.Turned.{length_later, folded_none}
+use Rattle.run_wave.proofs.Doubled.{doubled_step}
 use Rattle.run_wave.proofs.run_wave.RunWaveCyclicWave.fold.Goals as goal
 
 pub loop-reach-init : goal.loop-reach-init
 loop-reach-init g c =
     let shortest = c.args.self.now.sized.shortest in
     record {
-      so_far = c.in_ok-wave.ensures ∙ folded-none g.T.Cell.kind (cells_of c.args.self.now.list.runs.items) (omega (arith, shortest));
+      so_far = c.in_ok-wave.ensures ∙ folded_none g.T.Cell.kind (cells_of c.args.self.now.list.runs.items) (omega (arith, shortest));
       within = omega arith;
     }
 
 pub zip-requires-clause-periods : goal.zip-requires-clause-periods
 zip-requires-clause-periods g c =
-    sym (ap length c.in_ok-before.ensures ∙ length-later g.T.Cell.kind (cells_of c.loop-reach.wave.list.runs.items) c.min-by.result)
+    sym (ap length c.in_ok-before.ensures ∙ length_later g.T.Cell.kind (cells_of c.loop-reach.wave.list.runs.items) c.min-by.result)
 
 pub loop-reach-preserved : goal.loop-reach-preserved
 loop-reach-preserved g c =
@@ -23,7 +23,7 @@ loop-reach-preserved g c =
     let more : c.loop-reach.reach < c.args.back = omega arith in
     let within : c.loop-reach.reach + c.min-by.result ≤ c.args.back = omega (arith, by, more) in
     record {
-      so_far = doubled-step g.T.Cell.kind g.met.T.Cell.laws _ (cells_of c.args.self.now.list.runs.items) (cells_of c.loop-reach.wave.list.runs.items)
+      so_far = doubled_step g.T.Cell.kind g.met.T.Cell.laws _ (cells_of c.args.self.now.list.runs.items) (cells_of c.loop-reach.wave.list.runs.items)
           (cells_of c.in_ok-before.before.list.runs.items) (cells_of c.in_ok-wave-2.wave.list.runs.items) c.loop-reach.reach c.min-by.result
           (c.loop-reach.reach + c.min-by.result) (λ q x h. search rules) (omega (arith, shortest)) (omega (arith, by)) refl
           c.loop-reach.invariant.so_far c.in_ok-before.ensures c.in_ok-wave-2.ensures;

@@ -1,7 +1,7 @@
 use Rattle.std.proofs.Common.{arith, ◌≡◌, ◌++◌, ◌∷◌, [], length, take, sym, ap, ◌∙◌}
 use Rattle.run_wave.specs.Run.{cells_of}
 use Rattle.std.proofs.lemmas.List.{take_all, take_more, length-take}
-use Rattle.wave_core.proofs.Slots.{period-length}
+use Rattle.wave_core.proofs.Slots.{period_length}
 use Rattle.run_wave.proofs.run_wave.RunWaveCyclicWave.from_slots.Goals as goal
 
 pub push-requires : goal.push-requires
@@ -21,7 +21,7 @@ loop-cell-preserved g c =
 pub invariant_of-result : goal.invariant_of-result
 invariant_of-result g c =
     let all : take c.loop-cell.cell-index c.args.slots.now ≡ c.args.slots.now = take_all c.loop-cell.cell-index c.args.slots.now (omega arith) in
-    record { sized = period-length (cells_of c.loop-cell.list.runs.items) (length c.args.slots.now) (ap length (c.loop-cell.invariant ∙ all)) c.requires }
+    record { sized = period_length (cells_of c.loop-cell.list.runs.items) (length c.args.slots.now) (ap length (c.loop-cell.invariant ∙ all)) c.requires }
 
 pub returns : goal.returns
 returns g c =

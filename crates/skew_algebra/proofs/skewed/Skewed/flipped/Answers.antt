@@ -2,8 +2,8 @@ use Rattle.std.proofs.Common.{◌≡◌, ◌<◌, length, map, rules, arith, sym
 use Rattle.wave_core.proofs.Slots.{mapped}
 use Rattle.skew_algebra.specs.Permits.{KeepsFlipped}
 use Rattle.skew_algebra.specs.Wave.{skewed, flipped, IsNormal}
-use Rattle.skew_algebra.proofs.Normal.{flipped-normal}
-use Rattle.skew_algebra.proofs.Moves.{Permits-flipped, keeps_flipped-by}
+use Rattle.skew_algebra.proofs.Normal.{flipped_normal}
+use Rattle.skew_algebra.proofs.Moves.{Permits_flipped, keeps_flipped_by}
 use Rattle.skew_algebra.proofs.skewed.Skewed.flipped.Goals as goal
 
 pub invariant_of-result : goal.invariant_of-result
@@ -13,7 +13,7 @@ invariant_of-result g c =
     let same : g.W.CyclicWave.cells c.in_ok-wave.wave ≡ map k.flip cells =
     mapped _ k.flip cells (g.W.CyclicWave.cells c.in_ok-wave.wave) (λ x y h. search rules) c.in_ok-wave.ensures in
     subst (λ l. IsNormal k (skewed l c.self.inside.skew)) (sym same)
-    (flipped-normal k g.met.W.Item.Cell.laws (skewed cells c.self.inside.skew) c.self.invariant)
+    (flipped_normal k g.met.W.Item.Cell.laws (skewed cells c.self.inside.skew) c.self.invariant)
 
 pub returns-clause-wave : goal.returns-clause-wave
 returns-clause-wave g c =
@@ -33,5 +33,5 @@ returns-clause-permits g c =
     mapped _ k.flip cells (g.W.CyclicWave.cells c.in_ok-wave.wave) (λ x y h. search rules) c.in_ok-wave.ensures in
     let late = skewed (g.W.CyclicWave.cells c.in_ok-wave.wave) c.self.inside.skew in
     subst (λ v. KeepsFlipped k v late) c.self.view_is
-    (keeps_flipped-by k w (flipped k w) late (ap (λ l. skewed l c.self.inside.skew) same)
-    (Permits-flipped k g.met.W.Item.Cell.laws w some))
+    (keeps_flipped_by k w (flipped k w) late (ap (λ l. skewed l c.self.inside.skew) same)
+    (Permits_flipped k g.met.W.Item.Cell.laws w some))

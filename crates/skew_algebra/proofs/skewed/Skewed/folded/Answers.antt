@@ -2,7 +2,7 @@ use Rattle.std.proofs.Common.{◌≡◌, ◌<◌, length, arith, ap, subst}
 use Rattle.std.proofs.lemmas.Result.{IfOk-weaker}
 use Rattle.skew_algebra.specs.Permits.{Keeps}
 use Rattle.skew_algebra.specs.Wave.{skewed, folded}
-use Rattle.skew_algebra.proofs.Moves.{Permits-folded, keeps-by}
+use Rattle.skew_algebra.proofs.Moves.{Permits_folded, keeps_by}
 use Rattle.skew_algebra.proofs.skewed.Skewed.folded.Goals as goal
 
 pub returns-clause-permits : goal.returns-clause-permits
@@ -14,6 +14,6 @@ returns-clause-permits g c =
     IfOk-weaker c.fold.result (λ f. g.W.CyclicWave.cells f ≡ folded k w)
     (λ f. Keeps k c.args.self.now (skewed (g.W.CyclicWave.cells f) 0))
     (λ f e. subst (λ v. Keeps k v (skewed (g.W.CyclicWave.cells f) 0)) c.self.view_is
-    (keeps-by k w (skewed (folded k w) 0) (skewed (g.W.CyclicWave.cells f) 0) (ap (λ l. skewed l 0) e)
-    (Permits-folded k g.met.W.Item.Cell.laws w some)))
+    (keeps_by k w (skewed (folded k w) 0) (skewed (g.W.CyclicWave.cells f) 0) (ap (λ l. skewed l 0) e)
+    (Permits_folded k g.met.W.Item.Cell.laws w some)))
     c.fold.ensures

@@ -2,8 +2,8 @@ use Rattle.std.proofs.Common.{◌≡◌, ◌<◌, ◌+◌, ◌-◌, length, rule
 use Rattle.std.proofs.lemmas.Result.{IfOk-weaker}
 use Rattle.skew_algebra.specs.Permits.{KeepsMoved}
 use Rattle.skew_algebra.specs.Wave.{skewed, normal, moved}
-use Rattle.skew_algebra.proofs.Moves.{Permits-moved, keeps_moved-by}
-use Rattle.skew_algebra.proofs.Normal.{moved-by}
+use Rattle.skew_algebra.proofs.Moves.{Permits_moved, keeps_moved_by}
+use Rattle.skew_algebra.proofs.Normal.{moved_by}
 use Rattle.skew_algebra.proofs.skewed.Skewed.moved.Goals as goal
 
 pub returns-clause-wave : goal.returns-clause-wave
@@ -16,7 +16,7 @@ returns-clause-wave g c =
     IfOk-weaker c.normal.result
     (λ s. s ≡ normal k (skewed (g.W.CyclicWave.cells c.in_ok-wave.wave) skew))
     (λ s. s ≡ moved k c.args.self.now c.args.d)
-    (λ s e. e ∙ moved-by k w (g.W.CyclicWave.cells c.in_ok-wave.wave) c.d.inside.min c.d.inside.max c.args.d low high c.in_ok-wave.ensures
+    (λ s e. e ∙ moved_by k w (g.W.CyclicWave.cells c.in_ok-wave.wave) c.d.inside.min c.d.inside.max c.args.d low high c.in_ok-wave.ensures
     ∙ ap (λ v. moved k v c.args.d) c.self.view_is)
     c.normal.ensures.wave
 
@@ -33,7 +33,7 @@ returns-clause-permits g c =
     (λ s. s ≡ normal k (skewed (g.W.CyclicWave.cells c.in_ok-wave.wave) skew))
     (λ s. KeepsMoved k c.args.self.now s c.args.d)
     (λ s e. subst (λ v. KeepsMoved k v s c.args.d) c.self.view_is
-    (keeps_moved-by k w (moved k w c.args.d) s c.args.d
-    (e ∙ moved-by k w (g.W.CyclicWave.cells c.in_ok-wave.wave) c.d.inside.min c.d.inside.max c.args.d low high c.in_ok-wave.ensures)
-    (Permits-moved k g.met.W.Item.Cell.laws w c.args.d some)))
+    (keeps_moved_by k w (moved k w c.args.d) s c.args.d
+    (e ∙ moved_by k w (g.W.CyclicWave.cells c.in_ok-wave.wave) c.d.inside.min c.d.inside.max c.args.d low high c.in_ok-wave.ensures)
+    (Permits_moved k g.met.W.Item.Cell.laws w c.args.d some)))
     c.normal.ensures.wave

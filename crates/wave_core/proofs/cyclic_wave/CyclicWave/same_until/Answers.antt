@@ -1,6 +1,6 @@
 use Rattle.std.proofs.Common.{Some, arith, sym, ap, ◌∙◌}
 use Rattle.std.proofs.lemmas.Bool.{not-false}
-use Rattle.wave_core.proofs.Steady.{grown, held, is-no-other, one}
+use Rattle.wave_core.proofs.Steady.{grown, held, is_no_other, one}
 use Rattle.wave_core.proofs.cyclic_wave.CyclicWave.same_until.Goals as goal
 
 pub loop-next-init : goal.loop-next-init
@@ -15,7 +15,7 @@ returns-then-ne g c =
       within = omega (arith, c.period-next-end.ensures, c.loop-next-test.true);
       same = c.loop-next.invariant;
       other = λ below e.
-          is-no-other (g.Self.Item.PartialEq.eq here first) c.if-ne.ensures
+          is_no_other (g.Self.Item.PartialEq.eq here first) c.if-ne.ensures
           (g.met.Self.Item.Cell.equal here first
           ∙ ap (λ v. g.Self.Item.Cell.kind.same here v) (sym (held here first (sym c.at.ensures ∙ e ∙ c.at-cell.ensures)))
           ∙ g.met.Self.Item.Cell.laws.same_self here);

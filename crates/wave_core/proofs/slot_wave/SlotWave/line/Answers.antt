@@ -1,6 +1,6 @@
 use Rattle.std.proofs.Common.{◌≡◌, ◌++◌, [], rules, ap, ◌∙◌}
 use Rattle.wave_core.specs.Slots.{later}
-use Rattle.wave_core.proofs.Turned.{line-later}
+use Rattle.wave_core.proofs.Turned.{line_later}
 use Rattle.wave_core.proofs.slot_wave.SlotWave.line.Goals as goal
 
 pub returns : goal.returns
@@ -10,4 +10,4 @@ returns g c =
     let empty : c.in_ok-line.line.items ≡ [] = search rules in
     c.in_ok-push_later-2.ensures
     ∙ ap (λ l. l ++ later k cells c.args.back) (c.in_ok-push_later.ensures ∙ ap (λ l. l ++ later k cells c.args.back) empty)
-    ∙ line-later k cells c.args.back
+    ∙ line_later k cells c.args.back

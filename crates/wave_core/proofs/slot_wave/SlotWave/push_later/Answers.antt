@@ -1,6 +1,6 @@
 use Rattle.std.proofs.Common.{◌≡◌, ◌-◌, ◌%◌, ◌<◌, ◌≤◌, ◌++◌, length, take, drop, rules, arith, refl, ap, ◌∙◌}
 use Rattle.std.proofs.lemmas.List.{append_assoc, length-drop, take_all}
-use Rattle.wave_core.proofs.Turned.{taken, turned-later}
+use Rattle.wave_core.proofs.Turned.{taken, turned_later}
 use Rattle.wave_core.proofs.slot_wave.SlotWave.push_later.Goals as goal
 
 pub returns : goal.returns
@@ -24,4 +24,4 @@ returns g c =
     second
     ∙ ap (λ l. l ++ take (c.len-period.result - c.args.by % c.len-period.result) cells) first
     ∙ append_assoc c.args.cells.now.items (drop (c.len-period.result - c.args.by % c.len-period.result) cells) (take (c.len-period.result - c.args.by % c.len-period.result) cells)
-    ∙ ap (λ l. c.args.cells.now.items ++ l) (turned-later g.T.Cell.kind cells c.len-period.result c.args.by (c.len-period.result - c.args.by % c.len-period.result) long some refl)
+    ∙ ap (λ l. c.args.cells.now.items ++ l) (turned_later g.T.Cell.kind cells c.len-period.result c.args.by (c.len-period.result - c.args.by % c.len-period.result) long some refl)
