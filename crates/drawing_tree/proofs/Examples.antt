@@ -8,9 +8,9 @@ use Rattle.scald_expr.specs.declared.expr.Op.TheVariants.{Add, Sub, Mul, Div, Eq
 use Rattle.scald_expr.specs.Expression.{Expression, Number, Param, Negate, Binary}
 use Rattle.assertion_syntax.specs.declared.name.SignalName.{SignalName}
 use Rattle.drawing_tree.specs.declared.drawing.CaseStmt.{CaseStmt}
-use Rattle.drawing_tree.specs.Tree.{Range, Item, Zero, One, Named, Term, Connection, UseStatement, Use, If, nil, cons, no_else, else_, EachDelay}
+use Rattle.drawing_tree.specs.Tree.{Range, Item, Zero, One, Named, Term, Connection, UseStatement, Use, If, For, nil, cons, no_else, else_, EachDelay}
 use Rattle.drawing_tree.specs.ExpressionText.{condition_text, sum_text}
-use Rattle.drawing_tree.specs.Canonical.{connection_text, bracketed, bracketed_if_some, use_head, use_text, wire_text, statement_lines, statements_lines, else_lines, header_lines, body_lines, macro_head, macro_lines, case_lines, canonical}
+use Rattle.drawing_tree.specs.Canonical.{connection_text, bracketed, bracketed_if_some, use_head, use_text, wire_text, statement_lines, statements_lines, else_lines, header_lines, constant_line, body_lines, macro_head, macro_lines, case_lines, canonical}
 
 -- ---- expressions
 
@@ -169,6 +169,17 @@ empty_else : statement_lines [] (If a nil (else_ nil) here) ≡ codes "IF A THEN
 unfolding digits condition_text statement_lines
 empty_else = refl
 
+-- its values are sums, so a comparison stands in parentheses
+loop : statement_lines (codes "  ")
+    (For (codes "I") (Negate (num 1)) (Binary Lt a b) (cons (For (codes "J") a b nil here) nil) here)
+    ≡ codes "  FOR I = -1 TO (A < B) DO\n    FOR J = A TO B DO\n    END;\n  END;\n"
+unfolding digits condition_text statement_lines
+loop = refl
+
+a_constant : constant_line (record { name = codes "N"; value = Binary Eq a (num 4) }) ≡ codes "CONST N = (A = 4);\n"
+unfolding digits condition_text constant_line
+a_constant = refl
+
 -- ---- the bounds of delays
 
 abbrev IsParam : Expression → Type 0
@@ -225,6 +236,8 @@ whole : canonical (record {
   version = 1;
   header =
       record { units = 8; ticks = 50; wire = record { min = 0; max = 0 }; pskew = (0, 0); cskew = (0, 0) };
+  consts = [];
+  const_places = [];
   macros = [];
   name = codes "T";
   body =
@@ -234,3 +247,19 @@ whole : canonical (record {
 }) ≡ codes "SCALD 1;\nCLOCK 8 x 50;\nWIRE 0:0;\nPSKEW 0:0;\nCSKEW 0:0;\nDRAWING T;\n  b1 : BUF [0:0] (-\"A\") -> (\"B\");\nEND;\nCASE \"A\"<3>=0, \"B\"<0>=1;\n"
 unfolding digits condition_text bracketed bracketed_if_some use_head use_text statement_lines statements_lines else_lines header_lines body_lines
 whole = refl
+
+constants : canonical (record {
+  version = 2;
+  header =
+      record { units = 8; ticks = 50; wire = record { min = 0; max = 0 }; pskew = (0, 0); cskew = (0, 0) };
+  consts = record { name = codes "N"; value = num 4 } ∷ record { name = codes "M"; value = Binary Add (Param (codes "N")) (num 1) } ∷ [];
+  const_places = here ∷ here ∷ [];
+  macros = [];
+  name = codes "T";
+  body =
+      nil;
+  cases =
+      [];
+}) ≡ codes "SCALD 2;\nCLOCK 8 x 50;\nWIRE 0:0;\nPSKEW 0:0;\nCSKEW 0:0;\nCONST N = 4;\nCONST M = N + 1;\nDRAWING T;\nEND;\n"
+unfolding digits condition_text statements_lines header_lines constant_line body_lines
+constants = refl

@@ -7,7 +7,7 @@ use Rattle.assertion_syntax.specs.declared.name.SignalName.{SignalName}
 use Rattle.assertion_syntax.specs.Name.{name_text}
 use Rattle.drawing_tree.specs.declared.drawing.CaseEntry.{CaseEntry}
 use Rattle.drawing_tree.specs.declared.drawing.CaseStmt.{CaseStmt}
-use Rattle.drawing_tree.specs.Tree.{Range, Item, Zero, One, Named, Term, Connection, Assignment, UseStatement, WireStatement, Statement, Use, Wire, If, Statements, nil, cons, Otherwise, no_else, else_, Formal, Macro, Drawing}
+use Rattle.drawing_tree.specs.Tree.{Range, Item, Zero, One, Named, Term, Connection, Assignment, UseStatement, WireStatement, Statement, Use, Wire, If, For, Statements, nil, cons, Otherwise, no_else, else_, Formal, Macro, Drawing}
 use Rattle.drawing_tree.specs.ExpressionText.{condition_text, sum_text}
 
 -- texts of items with a comma and a space between them
@@ -102,7 +102,12 @@ wire_text w = codes "WIRE " ++ signal_text w.name w.range ++ codes " " ++ bounds
 abbrev pub line : List ℕ → List ℕ → List ℕ
 line margin text = margin ++ text ++ 10 ∷ []
 
--- the margin of what an IF holds
+-- the first line of a FOR
+abbrev pub for_text : List ℕ → Expression → Expression → List ℕ
+for_text var first last =
+    codes "FOR " ++ var ++ codes " = " ++ sum_text first ++ codes " TO " ++ sum_text last ++ codes " DO"
+
+-- the margin of what an IF or a FOR holds
 abbrev pub deeper : List ℕ → List ℕ
 deeper margin = margin ++ codes "  "
 
@@ -114,6 +119,9 @@ unfoldable mutual
       line margin (codes "IF " ++ condition_text test ++ codes " THEN")
       ++ statements_lines (deeper margin) behind_then ++ else_lines margin behind_else
       ++ line margin (codes "END;")
+  statement_lines margin (For var first last body place) =
+      line margin (for_text var first last)
+      ++ statements_lines (deeper margin) body ++ line margin (codes "END;")
 
   pub statements_lines : List ℕ → Statements → List ℕ
   statements_lines margin nil = []
@@ -140,6 +148,9 @@ header_lines version h =
     ++ line [] (codes "PSKEW " ++ pair_text h.pskew.0 h.pskew.1 ++ codes ";")
     ++ line [] (codes "CSKEW " ++ pair_text h.cskew.0 h.cskew.1 ++ codes ";")
 
+unfoldable pub constant_line : Assignment → List ℕ
+constant_line c = line [] (codes "CONST " ++ c.name ++ codes " = " ++ sum_text c.value ++ codes ";")
+
 abbrev pub formal_text : Formal → List ℕ
 formal_text f = quoted f.base ++ range_text f.range
 
@@ -159,6 +170,7 @@ case_lines c = line [] (codes "CASE " ++ listed_text entry_text c.entries ++ cod
 abbrev pub canonical : Drawing → List ℕ
 canonical d =
     header_lines d.version d.header
+    ++ flat_map constant_line d.consts
     ++ flat_map macro_lines d.macros
     ++ line [] (codes "DRAWING " ++ d.name ++ codes ";")
     ++ body_lines d.body

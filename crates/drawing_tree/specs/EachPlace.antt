@@ -4,7 +4,7 @@ use Rattle.std.specs.List.{AllByRecursion}
 use Rattle.scald_base.specs.declared.refusal.Place.{Place}
 use Rattle.drawing_tree.specs.declared.drawing.CaseEntry.{CaseEntry}
 use Rattle.drawing_tree.specs.declared.drawing.CaseStmt.{CaseStmt}
-use Rattle.drawing_tree.specs.Tree.{Connection, UseStatement, Statement, Use, Wire, If, Statements, nil, cons, Otherwise, no_else, else_, Macro, Drawing}
+use Rattle.drawing_tree.specs.Tree.{Connection, UseStatement, Statement, Use, Wire, If, For, Statements, nil, cons, Otherwise, no_else, else_, Macro, Drawing}
 
 abbrev pub IsConnectionAt : (Place → Type 0) → Connection → Type 0
 IsConnectionAt P c = P c.place
@@ -19,6 +19,7 @@ abbrev mutual
   IsStatementAt P (Use u) = IsUseAt P u
   IsStatementAt P (Wire w) = P w.place
   IsStatementAt P (If test ss other place) = P place × AreStatementsAt P ss × IsOtherwiseAt P other
+  IsStatementAt P (For var first last ss place) = P place × AreStatementsAt P ss
 
   pub AreStatementsAt : (Place → Type 0) → Statements → Type 0
   AreStatementsAt P nil = ⊤
@@ -39,8 +40,10 @@ pub record IsCaseAt (P : Place → Type 0) (c : CaseStmt) : Type 0 where
   pub place : P c.place
   pub entries : AllByRecursion (IsEntryAt P) c.entries
 
--- It holds of the place of each statement and connection, each macro, each case and each of its entries.
+-- It holds of the place of each constant, each statement and connection, each macro, each case and each of
+-- its entries.
 pub record EachPlace (P : Place → Type 0) (d : Drawing) : Type 0 where
+  pub consts : AllByRecursion P d.const_places
   pub macros : AllByRecursion (IsMacroAt P) d.macros
   pub body : AreStatementsAt P d.body
   pub cases : AllByRecursion (IsCaseAt P) d.cases

@@ -3,7 +3,7 @@ use Rattle.std.specs.Prelude.{◌≡◌, map}
 use Rattle.scald_base.specs.declared.refusal.Place.{Place}
 use Rattle.drawing_tree.specs.declared.drawing.CaseEntry.{CaseEntry}
 use Rattle.drawing_tree.specs.declared.drawing.CaseStmt.{CaseStmt}
-use Rattle.drawing_tree.specs.Tree.{Connection, UseStatement, WireStatement, Statement, Use, Wire, If, Statements, nil, cons, Otherwise, no_else, else_, Macro, Drawing}
+use Rattle.drawing_tree.specs.Tree.{Connection, UseStatement, WireStatement, Statement, Use, Wire, If, For, Statements, nil, cons, Otherwise, no_else, else_, Macro, Drawing}
 
 -- no place of a text, whose lines and columns count from 1
 abbrev pub nowhere : Place
@@ -23,6 +23,7 @@ abbrev mutual
   unplaced_statement (Use u) = Use (unplaced_use u)
   unplaced_statement (Wire w) = Wire (unplaced_wire w)
   unplaced_statement (If test ss other place) = If test (unplaced_statements ss) (unplaced_otherwise other) nowhere
+  unplaced_statement (For var first last ss place) = For var first last (unplaced_statements ss) nowhere
 
   pub unplaced_statements : Statements → Statements
   unplaced_statements nil = nil
@@ -43,6 +44,7 @@ unplaced_case c = record { entries = map unplaced_entry c.entries; place = nowhe
 
 abbrev pub unplaced : Drawing → Drawing
 unplaced d = record d {
+  const_places = map (λ place. nowhere) d.const_places;
   macros = map unplaced_macro d.macros;
   body = unplaced_statements d.body;
   cases = map unplaced_case d.cases;

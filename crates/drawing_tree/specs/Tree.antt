@@ -16,8 +16,9 @@ use Rattle.drawing_tree.specs.declared.statement.UseStmt.{UseStmt}
 use Rattle.drawing_tree.specs.declared.statement.WireStmt.{WireStmt}
 use Rattle.drawing_tree.specs.declared.statement.Stmt.{Stmt, Stmt-F, fold-Stmt}
 use Rattle.drawing_tree.specs.declared.statement.Stmt.TheOpen as layer
-use Rattle.drawing_tree.specs.declared.statement.Stmt.TheOpen.{IfStmt-F}
+use Rattle.drawing_tree.specs.declared.statement.Stmt.TheOpen.{IfStmt-F, ForStmt-F}
 use Rattle.drawing_tree.specs.declared.statement.IfStmt.{IfStmt, fold-IfStmt}
+use Rattle.drawing_tree.specs.declared.statement.ForStmt.{ForStmt, fold-ForStmt}
 use Rattle.drawing_tree.specs.declared.drawing.Formal as written_formal
 use Rattle.drawing_tree.specs.declared.drawing.MacroDef.{MacroDef}
 use Rattle.drawing_tree.specs.declared.drawing.CaseStmt.{CaseStmt}
@@ -76,12 +77,14 @@ pub record WireStatement : Type 0 where
   pub max : Expression
   pub place : Place
 
--- An IF has its test, the statements after THEN, those after ELSE where ELSE is written, and its place.
+-- An IF has its test, the statements after THEN, those after ELSE where ELSE is written, and its place. A
+-- FOR has its variable, the first and the last value, its statements, and its place.
 mutual
   pub data Statement : Type 0 where
     Use : UseStatement → Statement
     Wire : WireStatement → Statement
     If : Expression → Statements → Otherwise → Place → Statement
+    For : List ℕ → Expression → Expression → Statements → Place → Statement
 
   pub data Statements : Type 0 where
     nil : Statements
@@ -108,6 +111,8 @@ pub record Macro : Type 0 where
 pub record Drawing : Type 0 where
   pub version : ℕ
   pub header : Header
+  pub consts : List Assignment
+  pub const_places : List Place
   pub macros : List Macro
   pub name : List ℕ
   pub body : Statements
@@ -165,19 +170,26 @@ otherwise_of None = no_else
 otherwise_of (Some v) = else_ (listed v.items)
 
 -- one layer of a statement, with the tree of each inner statement in its place
-abbrev pub statement_layer : Stmt-F Statement Statement → Statement
+abbrev pub statement_layer : Stmt-F Statement Statement Statement → Statement
 statement_layer (layer.Use u) = Use (use_of u)
 statement_layer (layer.Wire w) = Wire (wire_of w)
 statement_layer (layer.If s) = s
+statement_layer (layer.For s) = s
 
-abbrev pub if_layer : IfStmt-F Statement Statement → Statement
+abbrev pub if_layer : IfStmt-F Statement Statement Statement → Statement
 if_layer s = If (expression_of s.test) (listed s.yes.items) (otherwise_of s.no) s.place
 
+abbrev pub for_layer : ForStmt-F Statement Statement Statement → Statement
+for_layer s = For s.var (expression_of s.first) (expression_of s.last) (listed s.body.items) s.place
+
 abbrev pub statement_of : Stmt → Statement
-statement_of = fold-Stmt Statement Statement statement_layer if_layer
+statement_of = fold-Stmt Statement Statement Statement statement_layer if_layer for_layer
 
 abbrev pub if_of : IfStmt → Statement
-if_of = fold-IfStmt Statement Statement statement_layer if_layer
+if_of = fold-IfStmt Statement Statement Statement statement_layer if_layer for_layer
+
+abbrev pub for_of : ForStmt → Statement
+for_of = fold-ForStmt Statement Statement Statement statement_layer if_layer for_layer
 
 abbrev pub statements_of : List Stmt → Statements
 statements_of ss = listed (map statement_of ss)
@@ -204,6 +216,8 @@ abbrev pub drawing_of : written_drawing.Drawing → Drawing
 drawing_of d = record {
   version = d.version;
   header = d.header;
+  consts = map assignment_of d.consts;
+  const_places = d.const_places;
   macros = map macro_of d.macros;
   name = d.name;
   body = statements_of d.body.items;

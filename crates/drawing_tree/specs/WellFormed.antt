@@ -1,5 +1,5 @@
 -- Well formed drawings: names that are names, words that are words and not reserved, a header that may be, and nothing named twice.
-use Rattle.std.specs.Prelude.{◌≡◌, ℕ, false, List, [], ◌∷◌, ◌++◌, map, All, IfSome, ⊤}
+use Rattle.std.specs.Prelude.{◌≡◌, ℕ, false, List, [], ◌∷◌, ◌++◌, length, map, All, IfSome, ⊤, ◌⊎◌}
 use Rattle.std.specs.List.{IsDistinct}
 use Rattle.std.specs.Str.{bytes_eq}
 use Rattle.scald_base.specs.Time.{Header, IsHeader}
@@ -11,7 +11,7 @@ use Rattle.assertion_syntax.specs.declared.name.SignalName.{SignalName}
 use Rattle.assertion_syntax.specs.Name.{IsName, IsBase}
 use Rattle.drawing_tree.specs.declared.drawing.CaseEntry.{CaseEntry}
 use Rattle.drawing_tree.specs.declared.drawing.CaseStmt.{CaseStmt}
-use Rattle.drawing_tree.specs.Tree.{Range, Item, Zero, One, Named, Connection, Assignment, UseStatement, WireStatement, Statement, Use, Wire, If, Statements, nil, cons, Otherwise, no_else, else_, Formal, Macro, Drawing, EachDelay}
+use Rattle.drawing_tree.specs.Tree.{Range, Item, Zero, One, Named, Connection, Assignment, UseStatement, WireStatement, Statement, Use, Wire, If, For, Statements, nil, cons, Otherwise, no_else, else_, Formal, Macro, Drawing, EachDelay}
 
 -- ---- words and names
 
@@ -69,6 +69,8 @@ abbrev mutual
   IsGoodStatement h (Wire w) = IsGoodWire h w
   IsGoodStatement h (If test behind_then behind_else place) =
       IsGoodExpression test × AreGoodStatements h behind_then × IsGoodOtherwise h behind_else
+  IsGoodStatement h (For var first last body place) =
+      IsFreeWord var × IsGoodExpression first × IsGoodExpression last × AreGoodStatements h body
 
   pub AreGoodStatements : Header → Statements → Type 0
   AreGoodStatements h nil = ⊤
@@ -78,12 +80,13 @@ abbrev mutual
   IsGoodOtherwise h no_else = ⊤
   IsGoodOtherwise h (else_ ss) = AreGoodStatements h ss
 
--- the labels of a body, those inside of IFs too, in the order of the text
+-- the labels of a body, those inside of IFs and FORs too, in the order of the text
 abbrev mutual
   pub statement_labels : Statement → List (List ℕ)
   statement_labels (Use u) = u.label ∷ []
   statement_labels (Wire w) = []
   statement_labels (If test behind_then behind_else place) = labels behind_then ++ else_labels behind_else
+  statement_labels (For var first last body place) = labels body
 
   pub labels : Statements → List (List ℕ)
   labels nil = []
@@ -127,11 +130,15 @@ IsGoodEntry h e = IsGoodName h e.name
 abbrev pub IsGoodCase : Header → CaseStmt → Type 0
 IsGoodCase h c = All (IsGoodEntry h) c.entries
 
+-- A drawing is of version 1 or 2, and each of its constants has a place.
 pub record IsWellFormed (d : Drawing) : Type 0 where
-  pub version : d.version ≡ 1
+  pub version : (d.version ≡ 1) ⊎ (d.version ≡ 2)
   pub header : IsHeader d.header
+  pub consts : All IsGoodAssignment d.consts
+  pub const_places : length d.const_places ≡ length d.consts
   pub name : IsFreeWord d.name
   pub macros : All (IsGoodMacro d.header) d.macros
   pub body : IsGoodBody d.header d.body
   pub cases : All (IsGoodCase d.header) d.cases
+  pub different_consts : AreDifferent (map (λ c. c.name) d.consts)
   pub different_kinds : AreDifferent (primitive_names ++ map (λ m. m.name) d.macros)

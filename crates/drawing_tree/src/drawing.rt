@@ -1,7 +1,7 @@
 //! A whole drawing.
 
 use crate::connection::RangeExpr;
-use crate::statement::{Assign, Stmts};
+use crate::statement::{Assign, Assigns, Stmts};
 use assertion_syntax::SignalName;
 use scald_base::{Bytes, Header, List, Place};
 
@@ -54,12 +54,19 @@ pub struct CaseStmt {
 /// The cases of a drawing.
 pub type CaseStmts = List<CaseStmt>;
 
+/// Places of tokens.
+pub type Places = List<Place>;
+
 /// A drawing.
 #[derive(Drop, PartialEq, Eq, Debug)]
 pub struct Drawing {
     /// The version of the language.
     pub version: u8,
     pub header: Header,
+    /// The constants; version 1 of the language has none.
+    pub consts: Assigns,
+    /// Of each constant the place of its word CONST.
+    pub const_places: Places,
     pub macros: MacroDefs,
     pub name: Bytes,
     pub body: Stmts,

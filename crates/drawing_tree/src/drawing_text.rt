@@ -2,13 +2,14 @@
 
 ghost use Rattle.std.specs.Prelude.{◌≡◌, ◌++◌, [], OnOk, IfOk, map, codes, decimal};
 ghost use Rattle.std.specs.List.{flat_map};
-ghost use Rattle.drawing_tree.specs.Tree.{formal_of, macro_of, statements_of, drawing_of};
-ghost use Rattle.drawing_tree.specs.Canonical.{header_lines, formal_text, inputs_text, outputs_text, macro_head, macro_lines, body_lines, line, entry_text, case_lines, canonical};
+ghost use Rattle.drawing_tree.specs.Tree.{assignment_of, formal_of, macro_of, statements_of, drawing_of};
+ghost use Rattle.drawing_tree.specs.Canonical.{header_lines, constant_line, formal_text, inputs_text, outputs_text, macro_head, macro_lines, body_lines, line, entry_text, case_lines, canonical};
 
 use crate::connection_text::{add_name, add_range};
 use crate::drawing::{CaseEntry, CaseStmt, Drawing, Formal, MacroDef};
+use crate::expression_text::add_sum;
 use crate::printed::{Printed, add_bracketed, add_bracketed_if_some, add_each, add_joined};
-use crate::statement::Stmt;
+use crate::statement::{Assign, Stmt};
 use crate::statement_text::{add_line, add_params, add_statements};
 use itoa::Buffer;
 use scald_base::{Bytes, Header, NoMemory};
@@ -48,6 +49,29 @@ fn add_header(out: &mut Bytes, version: u8, h: &Header) -> Result<(), NoMemory>
     add_pair(out, b"WIRE ", h.wire.min, b":", h.wire.max)?;
     add_pair(out, b"PSKEW ", h.pskew.0, b":", h.pskew.1)?;
     add_pair(out, b"CSKEW ", h.cskew.0, b":", h.cskew.1)
+}
+
+/// Puts the line of a constant at the end.
+#[tactic(auto, unfolding(crate::specs::Canonical::constant_line))]
+fn add_constant(out: &mut Bytes, constant: &Assign) -> Result<(), NoMemory>
+    ensures { OnOk result (out.new ≡ out.old ++ constant_line (assignment_of constant.now)) }
+{
+    out.extend(b"CONST ")?;
+    out.extend(constant.name.as_slice())?;
+    out.extend(b" = ")?;
+    add_sum(out, &constant.value)?;
+    out.extend(b";\n")
+}
+
+/// Puts the lines of the constants at the end.
+#[tactic(auto, using(crate::proofs::Joined::each_map))]
+fn add_constants(out: &mut Bytes, constants: &[Assign]) -> Result<(), NoMemory>
+    ensures { OnOk result (out.new ≡ out.old ++ flat_map constant_line (map assignment_of constants.now)) }
+{
+    'constants: for constant in constants {
+        add_constant(out, constant)?;
+    }
+    Ok(())
 }
 
 impl Printed for Formal {
@@ -153,6 +177,7 @@ pub fn print_drawing(alloc: Global, d: &Drawing) -> Result<Bytes, NoMemory>
 {
     let mut out = Bytes::new(alloc);
     add_header(&mut out, d.version, &d.header)?;
+    add_constants(&mut out, d.consts.as_slice())?;
     add_macros(alloc, &mut out, d.macros.as_slice())?;
     add_title(&mut out, d.name.as_slice())?;
     add_body(alloc, &mut out, d.body.as_slice())?;

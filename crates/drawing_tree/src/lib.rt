@@ -1,6 +1,6 @@
 //! The tree of a drawing, and its canonical text.
 //!
-//! A drawing has macros, statements and cases; statements put primitives and macros to use, and
+//! A drawing has constants, macros, statements and cases; statements put primitives and macros to use, and
 //! connections say on which bits of which nets. `print_drawing` writes a drawing canonically, as
 //! `specs/Canonical` and `specs/ExpressionText` say. `specs/Tree` sees a drawing as a tree of what it
 //! holds, of which the layers above speak, `specs/Places` says when two are alike but for the places
@@ -19,7 +19,7 @@ mod statement_text;
 pub use connection::{Conn, Conns, Item, RangeExpr, Term, Terms};
 pub use drawing::{
     CaseEntries, CaseEntry, CaseStmt, CaseStmts, Defaults, Drawing, Formal, Formals, MacroDef,
-    MacroDefs,
+    MacroDefs, Places,
 };
 pub use drawing_text::print_drawing;
-pub use statement::{Assign, Assigns, IfStmt, Stmt, Stmts, UseStmt, WireStmt};
+pub use statement::{Assign, Assigns, ForStmt, IfStmt, Stmt, Stmts, UseStmt, WireStmt};

@@ -5,14 +5,14 @@ use assertion_syntax::SignalName;
 use scald_base::{Bytes, List, Place};
 use scald_expr::Expr;
 
-/// A parameter and its value.
+/// A parameter or a constant, and its value.
 #[derive(Drop, PartialEq, Eq, Debug)]
 pub struct Assign {
     pub name: Bytes,
     pub value: Expr,
 }
 
-/// The parameters that a use gives.
+/// The parameters that a use gives, or the constants of a drawing.
 pub type Assigns = List<Assign>;
 
 /// A primitive or a macro put to use, with the place of its label.
@@ -55,6 +55,18 @@ pub struct IfStmt {
     pub place: Place,
 }
 
+/// Statements once for each value of a variable, from the first to the last, upwards, with the place
+/// of the word FOR.
+#[cycle(stmt)]
+#[derive(Drop, PartialEq, Eq, Debug)]
+pub struct ForStmt {
+    pub var: Bytes,
+    pub first: Expr,
+    pub last: Expr,
+    pub body: Stmts,
+    pub place: Place,
+}
+
 /// A statement.
 #[cycle(stmt)]
 #[derive(Drop, PartialEq, Eq, Debug)]
@@ -62,4 +74,5 @@ pub enum Stmt {
     Use(UseStmt),
     Wire(WireStmt),
     If(IfStmt),
+    For(ForStmt),
 }

@@ -2,15 +2,15 @@
 
 ghost use Rattle.std.specs.Prelude.{◌≡◌, ◌++◌, OnOk, IfOk, option_map, map, codes};
 ghost use Rattle.scald_expr.specs.Expression.{expression_of};
-ghost use Rattle.drawing_tree.specs.Tree.{assignment_of, connection_of, both_of, use_of, wire_of, statement_of, statements_of, if_of};
+ghost use Rattle.drawing_tree.specs.Tree.{assignment_of, connection_of, both_of, use_of, wire_of, statement_of, statements_of, if_of, for_of};
 ghost use Rattle.drawing_tree.specs.ExpressionText.{condition_text};
-ghost use Rattle.drawing_tree.specs.Canonical.{assignment_text, params_text, fall_text, delay_text, connection_text, inputs_text, outputs_text, use_head, use_text, wire_text, line, deeper, statement_lines, statements_lines};
+ghost use Rattle.drawing_tree.specs.Canonical.{for_text, assignment_text, params_text, fall_text, delay_text, connection_text, inputs_text, outputs_text, use_head, use_text, wire_text, line, deeper, statement_lines, statements_lines};
 
 use crate::connection::Conn;
 use crate::connection_text::{add_bounds, add_signal};
 use crate::expression_text::{add_condition, add_sum};
 use crate::printed::{Printed, add_bracketed, add_bracketed_if_some};
-use crate::statement::{Assign, IfStmt, Stmt, UseStmt, WireStmt};
+use crate::statement::{Assign, ForStmt, IfStmt, Stmt, UseStmt, WireStmt};
 use scald_base::{Bytes, NoMemory};
 use scald_expr::Expr;
 use std::alloc::Global;
@@ -152,7 +152,22 @@ fn add_if_line(out: &mut Bytes, margin: &[u8], test: &Expr) -> Result<(), NoMemo
     out.extend(b" THEN\n")
 }
 
-/// The margin of what an IF holds.
+/// Puts the first line of a FOR at the end.
+fn add_for_line(out: &mut Bytes, margin: &[u8], repeated: &ForStmt) -> Result<(), NoMemory>
+    ensures { OnOk result (out.new ≡ out.old ++ line margin.now
+        (for_text repeated.now.var (expression_of repeated.now.first) (expression_of repeated.now.last))) }
+{
+    out.extend(margin)?;
+    out.extend(b"FOR ")?;
+    out.extend(repeated.var.as_slice())?;
+    out.extend(b" = ")?;
+    add_sum(out, &repeated.first)?;
+    out.extend(b" TO ")?;
+    add_sum(out, &repeated.last)?;
+    out.extend(b" DO\n")
+}
+
+/// The margin of what an IF or a FOR holds.
 fn deeper(alloc: Global, margin: &[u8]) -> Result<Bytes, NoMemory>
     ensures { IfOk result (λ inside. inside ≡ deeper margin.now) }
 {
@@ -177,6 +192,7 @@ fn add_statement(
         Stmt::Use(u) => add_use_line(alloc, out, margin, u),
         Stmt::Wire(wire) => add_wire_line(alloc, out, margin, wire),
         Stmt::If(choice) => add_if(alloc, out, margin, choice),
+        Stmt::For(repeated) => add_for(alloc, out, margin, repeated),
     }
 }
 
@@ -194,6 +210,23 @@ fn add_if(alloc: Global, out: &mut Bytes, margin: &[u8], choice: &IfStmt) -> Res
     };
     add_line(out, margin, b"ELSE")?;
     add_statements(alloc, out, inside.as_slice(), otherwise.as_slice())?;
+    add_line(out, margin, b"END;")
+}
+
+/// Appends the lines of a FOR, each after the margin, and what it holds two spaces further in.
+#[cycle(statement)]
+#[tactic(auto, using(crate::proofs::Views::view_for), unfolding(crate::specs::Canonical::statement_lines))]
+fn add_for(
+    alloc: Global,
+    out: &mut Bytes,
+    margin: &[u8],
+    repeated: &ForStmt,
+) -> Result<(), NoMemory>
+    ensures { OnOk result (out.new ≡ out.old ++ statement_lines margin.now (for_of repeated.now)) }
+{
+    let inside = deeper(alloc, margin)?;
+    add_for_line(out, margin, repeated)?;
+    add_statements(alloc, out, inside.as_slice(), repeated.body.as_slice())?;
     add_line(out, margin, b"END;")
 }
 
