@@ -1,13 +1,16 @@
 -- The canonical text of a drawing draws it.
-use Rattle.std.proofs.Common.{◌≡◌, ℕ, false, List, [], ◌∷◌, ◌++◌, map, refl, sym, ap, ◌∙◌, subst}
+use Rattle.std.proofs.Common.{◌≡◌, ℕ, false, List, [], ◌∷◌, ◌++◌, ◌⊎◌, length, map, refl, sym, ap, ◌∙◌, subst}
 use Rattle.std.specs.Prelude.{Ok}
 use Rattle.scald_base.specs.Time.{Header, IsHeader}
+use Rattle.scald_base.specs.declared.refusal.Place.{Place}
 use Rattle.scald_lex.specs.declared.token.Token as lex
 use Rattle.scald_lex.specs.Tokens.{AreTokens}
 use Rattle.drawing_tree.specs.Tree as tree
 use Rattle.drawing_tree.specs.WellFormed.{IsGoodName}
-use Rattle.drawing_tree.specs.Places.{unplaced_macro, unplaced_statements, unplaced_case, SameButPlaces}
+use Rattle.drawing_tree.specs.Places.{nowhere, unplaced_macro, unplaced_statements, unplaced_case, SameButPlaces}
 use Rattle.drawing_tree.specs.Canonical.{canonical}
+use Rattle.drawing_grammar.specs.declared.edition.Edition.{Edition}
+use Rattle.drawing_grammar.specs.Edition.{edition_by, edition_of}
 use Rattle.drawing_grammar.specs.Lexeme.{Lexeme, lexemes}
 use Rattle.drawing_grammar.specs.Header.{natural, header_of, judged}
 use Rattle.drawing_grammar.specs.Names.{Naming, names, names_from, AreGood}
@@ -20,15 +23,16 @@ use Rattle.drawing_grammar.specs.CanonicalDraws.{IsShallowDrawing, DrawsAgain, C
 use Rattle.drawing_grammar.proofs.Cutting.{Bare}
 use Rattle.drawing_grammar.proofs.CanonicalTokens.{drawing_tokens, end_of_text}
 use Rattle.drawing_grammar.proofs.CanonicalText.{bare_at, canonical_has}
-use Rattle.drawing_grammar.proofs.Drawable.{IsDrawnDrawing}
+use Rattle.drawing_grammar.proofs.Drawable.{written_in, IsDrawnDrawing}
 use Rattle.drawing_grammar.proofs.Heads.{names_of_text}
 use Rattle.drawing_grammar.proofs.Formed.{judged_ok, sketch_proper, sketch_drawn}
 use Rattle.drawing_grammar.proofs.Matching.{bare, Are}
 use Rattle.drawing_grammar.proofs.Modest.{sketch_modest}
-use Rattle.drawing_grammar.proofs.Proper.{IsSketchOf}
+use Rattle.drawing_grammar.proofs.ProperTrees.{IsSketchOf}
 use Rattle.drawing_grammar.proofs.Short.{drawing_short}
 use Rattle.drawing_grammar.proofs.PhraseText.{IsShortDrawing, TextBuilt, text_built}
 use Rattle.drawing_grammar.proofs.SameHeader.{header_may_be, judged_again, header_again}
+use Rattle.drawing_grammar.proofs.Version.{named_version}
 use Rattle.drawing_grammar.proofs.SameDeclared.{distinct_again}
 use Rattle.drawing_grammar.proofs.SameNamesText.{text_names}
 
@@ -39,29 +43,38 @@ are_bare text [] = refl
 are_bare text (t ∷ ts) = ap (λ (bs : List Bare). bare_at text t ∷ bs) (are_bare text ts)
 
 -- the names of a text are those of its tokens
-pub names_spelled : (w : Written whole) (ts : List Lexeme) → spelling w ≡ ts → names w ≡ names_from false ts
-names_spelled w ts e = names_of_text w ∙ ap (λ (xs : List Lexeme). names_from false xs) e
+pub names_spelled : (v : Edition) (w : Written (whole v)) (ts : List Lexeme) → spelling w ≡ ts → names w ≡ names_from false ts
+names_spelled v w ts e = names_of_text v w ∙ ap (λ (xs : List Lexeme). names_from false xs) e
 
-drawing_same : (d e : tree.Drawing) → e.version ≡ d.version → e.header ≡ d.header → map unplaced_macro e.macros ≡ map unplaced_macro d.macros →
+unplaced_alike : (xs ys : List Place) → length xs ≡ length ys → map (λ place. nowhere) xs ≡ map (λ place. nowhere) ys
+unplaced_alike [] [] e = refl
+unplaced_alike [] (y ∷ ys) e = absurd cc
+unplaced_alike (x ∷ xs) [] e = absurd cc
+unplaced_alike (x ∷ xs) (y ∷ ys) e =
+    let k : length xs ≡ length ys = cc in ap (λ (ps : List Place). nowhere ∷ ps) (unplaced_alike xs ys k)
+
+drawing_same : (d e : tree.Drawing) → e.version ≡ d.version → e.header ≡ d.header → e.consts ≡ d.consts →
+    map (λ place. nowhere) e.const_places ≡ map (λ place. nowhere) d.const_places → map unplaced_macro e.macros ≡ map unplaced_macro d.macros →
     e.name ≡ d.name → unplaced_statements e.body ≡ unplaced_statements d.body →
     map unplaced_case e.cases ≡ map unplaced_case d.cases → SameButPlaces d e
-drawing_same d e a b c f g h = rw (a, b, c, f, g, h) refl
+drawing_same d e a b i j c f g h = rw (a, b, i, j, c, f, g, h) refl
 
 -- ---- the law of one text
 
 -- what is known of a text that draws
-record Known (h : Header) (s : Sketch) : Type 0 where
+record Known (v : Edition) (h : Header) (s : Sketch) : Type 0 where
   header : header_of s.header ≡ h
-  version : natural s.header.version ≡ 1
+  version : (natural s.header.version ≡ 1) ⊎ (natural s.header.version ≡ 2)
   may_be : IsHeader h
-  proper : IsSketchOf (λ n. IsGoodName h n) s
+  proper : IsSketchOf (λ n. IsGoodName h n) v s
   distinct : IsDistinct (declared_by s)
 
-drawn_again : (h : Header) (s : Sketch) → Known h s → (text : List ℕ) (tokens : List lex.Token) → AreTokens text tokens →
-    TextBuilt (drawing_of_sketch s) (lexemes text tokens) →
+drawn_again : (v : Edition) (h : Header) (s : Sketch) → Known v h s → (text : List ℕ) (tokens : List lex.Token) → AreTokens text tokens →
+    TextBuilt (edition_of (lexemes text tokens)) (drawing_of_sketch s) (lexemes text tokens) →
     AreGood h (names_from false (lexemes text tokens)) → (e : tree.Drawing) → e ≡ drawing_of_sketch s → DrawsAgain text e
-drawn_again h s known text tokens are built good e is =
+drawn_again v h s known text tokens are built good e is =
     let ts = lexemes text tokens in
+    let edition = edition_of ts in
     let d = drawing_of_sketch s in
     let w = built.written in
     let again = built.again in
@@ -71,10 +84,10 @@ drawn_again h s known text tokens are built good e is =
     (subst IsHeader (sym known.header) known.may_be) known.version again.version again.units again.ticks again.wire again.pskew again.cskew in
     let to_h : h ≡ header_of found.header = sym (same ∙ known.header) in
     let N : List Naming → Type 0 = λ ns. AreGood h ns in
-    let named : AreGood h (names w) = subst N (sym (names_spelled w ts built.spelled)) good in
+    let named : AreGood h (names w) = subst N (sym (names_spelled edition w ts built.spelled)) good in
     let H : Header → Type 0 = λ x. AreGood x (names w) in
     let W : List Lexeme → Type 0 = λ xs. Within xs (weights w 0) in
-    let proper : IsSketchOf (λ n. IsGoodName h n) found = sketch_proper h text tokens w are built.spelled good in
+    let proper : IsSketchOf (λ n. IsGoodName h n) edition found = sketch_proper edition h text tokens w are built.spelled good in
     let D : tree.Drawing → Type 0 = λ x. DrawsAgain text x in
     subst D (sym is) (record {
       drawing = drawing_of_sketch found;
@@ -86,12 +99,15 @@ drawn_again h s known text tokens are built good e is =
           text = record { spelled = built.spelled; within = subst W built.spelled built.fits };
           header = judged_so ∙ ap (λ (x : Header). Ok x) (sym same);
           names = subst H to_h named;
-          distinct = distinct_again s.macros.macros found.macros.macros s.macros.heads found.macros.heads
-              s.body found.body known.proper.macros.heads proper.macros.heads again.macros again.body known.distinct;
+          distinct = distinct_again s.consts found.consts s.macros.macros found.macros.macros s.macros.heads found.macros.heads
+              s.body found.body known.proper.consts proper.consts known.proper.macros.heads proper.macros.heads
+              again.consts again.macros again.body known.distinct;
           stands = refl;
         };
       };
-      same = drawing_same d (drawing_of_sketch found) (ap natural again.version) same again.macros again.name again.body again.cases;
+      same = drawing_same d (drawing_of_sketch found) (ap natural again.version) same again.consts
+          (unplaced_alike found.consts.places s.consts.places (proper.consts.places
+          ∙ (ap (λ (cs : List tree.Assignment). length cs) again.consts ∙ sym known.proper.consts.places))) again.macros again.name again.body again.cases;
     })
 
 pub law : CanonicalDraws
@@ -101,18 +117,26 @@ law text d x shallow =
     let w = draws.written in
     let s : Sketch = (values w).0 in
     let h = d.header in
+    let v = edition_of ts in
     let N : List Naming → Type 0 = λ ns. AreGood h ns in
-    let good : AreGood h (names_from false ts) = subst N (names_spelled w ts draws.text.spelled) draws.names in
+    let good : AreGood h (names_from false ts) = subst N (names_spelled v w ts draws.text.spelled) draws.names in
     let said = judged_ok s.header h draws.header in
     let may_be : IsHeader h = header_may_be s.header h draws.header in
-    let proper : IsSketchOf (λ n. IsGoodName h n) s = sketch_proper h text x.tokens w x.are draws.text.spelled good in
-    let known : Known h s = record { header = said.0; version = said.1; may_be = may_be; proper = proper; distinct = draws.distinct } in
-    let drawn : IsDrawnDrawing (drawing_of_sketch s) = sketch_drawn h s may_be draws.header proper in
+    let proper : IsSketchOf (λ n. IsGoodName h n) v s = sketch_proper v h text x.tokens w x.are draws.text.spelled good in
+    let known : Known v h s = record { header = said.0; version = said.1; may_be = may_be; proper = proper; distinct = draws.distinct } in
+    let S : Edition → Type 0 = λ e. IsSketchOf (λ n. IsGoodName h n) e s in
+    let drawn : IsDrawnDrawing (drawing_of_sketch s) = sketch_drawn h s may_be draws.header (subst S (named_version v w ts draws.text.spelled) proper) in
     let W : List Lexeme → Type 0 = λ xs. Within xs (weights w 0) in
-    let modest = sketch_modest w (subst W (sym draws.text.spelled) draws.text.within) in
-    let short : IsShortDrawing (drawing_of_sketch s) = drawing_short s drawn (subst IsShallowDrawing (sym draws.stands) shallow) modest in
+    let modest = sketch_modest v w (subst W (sym draws.text.spelled) draws.text.within) in
+    let again_in = written_in (drawing_of_sketch s) in
+    let short : IsShortDrawing again_in (drawing_of_sketch s) = drawing_short s drawn (subst IsShallowDrawing (sym draws.stands) shallow) modest in
     let has = canonical_has d (subst IsDrawnDrawing draws.stands drawn) in
     let B : tree.Drawing → Type 0 = λ y. Are (lexemes (canonical d) has.tokens) (drawing_tokens y ++ end_of_text) in
     let bares : Are (lexemes (canonical d) has.tokens) (drawing_tokens (drawing_of_sketch s) ++ end_of_text) = subst B (sym draws.stands) (are_bare (canonical d) has.tokens ∙ has.bare) in
-    drawn_again h s known (canonical d) has.tokens has.are (text_built (drawing_of_sketch s) short (lexemes (canonical d) has.tokens) bares)
-    (text_names h (drawing_of_sketch s) proper.name proper.macros.macros proper.body proper.cases (lexemes (canonical d) has.tokens) bares) d (sym draws.stands)
+    let us = lexemes (canonical d) has.tokens in
+    let built = text_built again_in (drawing_of_sketch s) short us bares in
+    let edition : again_in ≡ edition_of us =
+    ap edition_by (sym built.again.version) ∙ sym (named_version again_in built.written us built.spelled) in
+    let T : Edition → Type 0 = λ e. TextBuilt e (drawing_of_sketch s) us in
+    drawn_again v h s known (canonical d) has.tokens has.are (subst T edition built)
+    (text_names v h (drawing_of_sketch s) proper.name proper.consts.constants proper.macros.macros proper.body proper.cases (lexemes (canonical d) has.tokens) bares) d (sym draws.stands)

@@ -12,7 +12,7 @@ use Rattle.assertion_syntax.specs.declared.name.SignalName.{SignalName}
 use Rattle.assertion_syntax.specs.Name.{name_text}
 use Rattle.drawing_tree.specs.declared.drawing.CaseEntry.{CaseEntry}
 use Rattle.drawing_tree.specs.declared.drawing.CaseStmt.{CaseStmt}
-use Rattle.drawing_tree.specs.Tree.{Range, Item, Zero, One, Named, Term, Connection, Assignment, UseStatement, WireStatement, Statement, Use, Wire, If, Statements, nil, cons, Otherwise, no_else, else_, Formal, Macro, Drawing}
+use Rattle.drawing_tree.specs.Tree.{Range, Item, Zero, One, Named, Term, Connection, Assignment, UseStatement, WireStatement, Statement, Use, Wire, If, For, Statements, nil, cons, Otherwise, no_else, else_, Formal, Macro, Drawing}
 use Rattle.drawing_tree.specs.ExpressionText.{left_enclosed, right_enclosed, minus_enclosed, is_comparison}
 use Rattle.drawing_grammar.proofs.Cutting.{Bare}
 use Rattle.drawing_grammar.proofs.Leaves as leaf
@@ -189,6 +189,11 @@ wire_tokens w = word (codes "WIRE") ++ signal_tokens w.name w.range ++ bounds_to
 abbrev pub end_tokens : List Bare
 end_tokens = word (codes "END") ++ semicolon
 
+-- the first line of a FOR
+abbrev pub for_tokens : List ℕ → Expression → Expression → List Bare
+for_tokens var first last =
+    word (codes "FOR") ++ word var ++ equals ++ sum_tokens first ++ word (codes "TO") ++ sum_tokens last ++ word (codes "DO")
+
 unfoldable mutual
   pub statement_tokens : Statement → List Bare
   statement_tokens (Use u) = use_tokens u
@@ -196,6 +201,7 @@ unfoldable mutual
   statement_tokens (If test behind_then behind_else place) =
       (word (codes "IF") ++ condition_tokens test ++ word (codes "THEN")) ++ statements_tokens behind_then
       ++ else_tokens behind_else ++ end_tokens
+  statement_tokens (For var first last body place) = for_tokens var first last ++ statements_tokens body ++ end_tokens
 
   pub statements_tokens : Statements → List Bare
   statements_tokens nil = []
@@ -222,6 +228,9 @@ header_tokens version h =
     ++ (word (codes "PSKEW") ++ pair_tokens h.pskew.0 h.pskew.1 ++ semicolon)
     ++ (word (codes "CSKEW") ++ pair_tokens h.cskew.0 h.cskew.1 ++ semicolon)
 
+abbrev pub constant_tokens : Assignment → List Bare
+constant_tokens c = word (codes "CONST") ++ word c.name ++ equals ++ sum_tokens c.value ++ semicolon
+
 abbrev pub formal_tokens : Formal → List Bare
 formal_tokens f = name f.base ++ range_tokens f.range
 
@@ -239,6 +248,7 @@ case_tokens c = word (codes "CASE") ++ listed_tokens entry_tokens c.entries ++ s
 abbrev pub drawing_tokens : Drawing → List Bare
 drawing_tokens d =
     header_tokens d.version d.header
+    ++ flat_map constant_tokens d.consts
     ++ flat_map macro_tokens d.macros
     ++ (word (codes "DRAWING") ++ word d.name ++ semicolon)
     ++ body_tokens d.body

@@ -1,213 +1,319 @@
--- Each terminal is itself alone, and each choice of a part begins with a terminal of its own.
-use Rattle.std.proofs.Common.{◌≡◌, ℕ, zero, suc, ◌<◌, Bool, true, Some, List, [], ◌∷◌, length, refl, sym, ap, ◌∙◌, get_or, arith, lit<}
-use Rattle.std.specs.List.{list_all}
-use Rattle.std.proofs.lemmas.Bool.{eqb-true, eq-eqb, and_parts}
+-- Each choice of a part begins in a way of its own.
+use Rattle.std.proofs.Common.{◌≡◌, ℕ, Bool, true, false, not, ◌&&◌, if◌then◌else◌, Option, Some, None, List, [], ◌∷◌, ◌++◌, refl, ap, subst, ◌∙◌}
+use Rattle.std.specs.Prelude.{is_some, ⊤}
+use Rattle.std.specs.Str.{bytes_eq}
+use Rattle.std.proofs.lemmas.Bool.{and_parts, and_from}
+use Rattle.drawing_grammar.specs.declared.edition.Edition.{Edition}
+use Rattle.drawing_grammar.specs.declared.edition.Edition.TheVariants.{First, Second}
+use Rattle.drawing_grammar.specs.declared.terminal.Keyword.TheVariants.{Const, For}
 use Rattle.drawing_grammar.specs.declared.terminal.Terminal.{Terminal}
 use Rattle.drawing_grammar.specs.declared.terminal.Terminal.TheVariants as is
-use Rattle.drawing_grammar.specs.Grammar.{Part, Choice, opening}
+use Rattle.drawing_grammar.specs.Lexeme.{Lexeme, terminal}
+use Rattle.drawing_grammar.specs.Grammar.{Part, keyword_text, Need, Choice, opening, following}
 use Rattle.drawing_grammar.specs.Grammar as g
-use Rattle.drawing_grammar.specs.Machine.{code, same, choice}
+use Rattle.drawing_grammar.specs.Written.{MayOpen, Written, marked, token, spelling}
+use Rattle.drawing_grammar.specs.Machine.{same, is_keyword, no_colon, is_loop, choice, choice_at}
+use Rattle.drawing_grammar.specs.Front.{first_terminal, first_choice, behind_first, AtKeyword, at_loop, At}
+use Rattle.drawing_grammar.proofs.Terminals.{keyword_is, is_that_keyword}
 
-abbrev pub all : List Terminal
-all = is.Scald ∷ is.Clock ∷ is.Wire ∷ is.Pskew ∷ is.Cskew ∷ is.Macro ∷ is.Drawing ∷ is.Case ∷ is.If ∷ is.Then ∷ is.Else ∷ is.End ∷ is.Zero ∷
-    is.One ∷ is.Word ∷ is.Number ∷ is.Name ∷ is.Arrow ∷ is.Semicolon ∷ is.Colon ∷ is.Comma ∷ is.OpenParenthesis ∷ is.CloseParenthesis ∷
-    is.Less ∷ is.Greater ∷ is.OpenBracket ∷ is.CloseBracket ∷ is.OpenBrace ∷ is.CloseBrace ∷
-    is.Equals ∷ is.Plus ∷ is.Minus ∷ is.Star ∷ is.Slash ∷ is.Ampersand ∷ is.Exclamation ∷ is.EndOfText ∷ []
+-- the terminal of a token that may begin it
+pub opens_so : {p : Part} (c : Choice p) (t : Lexeme) → MayOpen c t → terminal t ≡ opening c
+opens_so g.constant t e = e.0
+opens_so g.for_ t e = e.0
+opens_so _ t e = e
 
-decoded : (l : Terminal) → get_or all (code l) is.Scald ≡ l
-decoded is.Scald = refl
-decoded is.Clock = refl
-decoded is.Wire = refl
-decoded is.Pskew = refl
-decoded is.Cskew = refl
-decoded is.Macro = refl
-decoded is.Drawing = refl
-decoded is.Case = refl
-decoded is.If = refl
-decoded is.Then = refl
-decoded is.Else = refl
-decoded is.End = refl
-decoded is.Zero = refl
-decoded is.One = refl
-decoded is.Word = refl
-decoded is.Number = refl
-decoded is.Name = refl
-decoded is.Arrow = refl
-decoded is.Semicolon = refl
-decoded is.Colon = refl
-decoded is.Comma = refl
-decoded is.OpenParenthesis = refl
-decoded is.CloseParenthesis = refl
-decoded is.Less = refl
-decoded is.Greater = refl
-decoded is.OpenBracket = refl
-decoded is.CloseBracket = refl
-decoded is.OpenBrace = refl
-decoded is.CloseBrace = refl
-decoded is.Equals = refl
-decoded is.Plus = refl
-decoded is.Minus = refl
-decoded is.Star = refl
-decoded is.Slash = refl
-decoded is.Ampersand = refl
-decoded is.Exclamation = refl
-decoded is.EndOfText = refl
+-- Its part may begin with this terminal.
+pub may_begin : {p : Part} (c : Choice p) → is_some (choice p (opening c)) ≡ true
+may_begin _ = refl
 
--- a test of each terminal
-abbrev pub at_each : (Terminal → Bool) → Bool
-at_each f = list_all f all
+pub begins_part : {p : Part} (c : Choice p) (t : Lexeme) → MayOpen c t → is_some (choice p (terminal t)) ≡ true
+begins_part {p} c t e = ap (λ (l : Terminal). is_some (choice p l)) (opens_so c t e) ∙ may_begin c
 
-known : (l : Terminal) → code l < length all
-known is.Scald = lit< tt
-known is.Clock = lit< tt
-known is.Wire = lit< tt
-known is.Pskew = lit< tt
-known is.Cskew = lit< tt
-known is.Macro = lit< tt
-known is.Drawing = lit< tt
-known is.Case = lit< tt
-known is.If = lit< tt
-known is.Then = lit< tt
-known is.Else = lit< tt
-known is.End = lit< tt
-known is.Zero = lit< tt
-known is.One = lit< tt
-known is.Word = lit< tt
-known is.Number = lit< tt
-known is.Name = lit< tt
-known is.Arrow = lit< tt
-known is.Semicolon = lit< tt
-known is.Colon = lit< tt
-known is.Comma = lit< tt
-known is.OpenParenthesis = lit< tt
-known is.CloseParenthesis = lit< tt
-known is.Less = lit< tt
-known is.Greater = lit< tt
-known is.OpenBracket = lit< tt
-known is.CloseBracket = lit< tt
-known is.OpenBrace = lit< tt
-known is.CloseBrace = lit< tt
-known is.Equals = lit< tt
-known is.Plus = lit< tt
-known is.Minus = lit< tt
-known is.Star = lit< tt
-known is.Slash = lit< tt
-known is.Ampersand = lit< tt
-known is.Exclamation = lit< tt
-known is.EndOfText = lit< tt
+-- ---- the choice that is taken
 
-tested : (f : Terminal → Bool) (ls : List Terminal) (n : ℕ) → list_all f ls ≡ true → n < length ls → f (get_or ls n is.Scald) ≡ true
-tested f [] n e h = absurd (omega arith)
-tested f (l ∷ ls) zero e h = (and_parts (f l) (list_all f ls) e).0
-tested f (l ∷ ls) (suc n) e h = tested f ls n (and_parts (f l) (list_all f ls) e).1 (omega arith)
+-- What the token behind the first one says, where a part may begin with the same token in two ways: it is no colon.
+abbrev pub Behind : {p : Part} → Choice p → Bool → Type 0
+Behind g.use_ b = b ≡ false
+Behind g.for_ b = b ≡ true
+Behind c b = ⊤
 
-pub tested_at : (f : Terminal → Bool) → at_each f ≡ true → (l : Terminal) → f l ≡ true
-tested_at f e l = ap f (sym (decoded l)) ∙ tested f all (code l) e (known l)
+-- What follows in what is written says so.
+pub behind_says : {p : Part} (c : Choice p) (n : ℕ) (rest : List Need) (w : Written (following c n ++ rest)) →
+    Behind c (no_colon (spelling w))
+behind_says g.use_ n rest (marked u h w) = ap (λ (l : Terminal). not (same l is.Colon)) h
+behind_says g.for_ n rest (token u h w) = ap (λ (l : Terminal). not (same l is.Colon)) h
+behind_says _ n rest w = tt
 
-pub same_is : (k l : Terminal) → same k l ≡ true → k ≡ l
-same_is k l e = sym (decoded k) ∙ (ap (λ (n : ℕ). get_or all n is.Scald) (eqb-true (code k) (code l) e) ∙ decoded l)
+no_loop : (a b : Bool) → b ≡ false → (a && b) ≡ false
+no_loop true b e = e
+no_loop false b e = refl
 
-pub is_same : (k l : Terminal) → k ≡ l → same k l ≡ true
-is_same k l e = eq-eqb (code k) (code l) (ap code e)
+-- A choice is taken where a token that may begin it stands first, and the one behind it says so.
+pub takes : {p : Part} (c : Choice p) (t : Lexeme) (ts : List Lexeme) → MayOpen c t → Behind c (no_colon ts) →
+    choice_at p t ts ≡ Some c
+takes g.constant t ts e b = ap (λ (k : Bool). if k then Some g.constant else None) (is_that_keyword Const t e)
+takes g.for_ t ts e b =
+    ap (λ (k : Bool). if k then Some g.for_ else choice (g.Statement Second) (terminal t))
+    (and_from (is_keyword For t) (no_colon ts) (is_that_keyword For t e) b)
+takes (g.use_ {v = First}) t ts e b = ap (choice (g.Statement First)) e
+takes (g.use_ {v = Second}) t ts e b =
+    ap (λ (k : Bool). if k then Some g.for_ else choice (g.Statement Second) (terminal t))
+    (no_loop (is_keyword For t) (no_colon ts) b) ∙ ap (choice (g.Statement Second)) e
+takes (g.wire {v = First}) t ts e b = ap (choice (g.Statement First)) e
+takes (g.wire {v = Second}) t ts e b = ap (λ (l : Terminal).
+    if (same l is.Word && bytes_eq t.text (keyword_text For)) && no_colon ts then Some g.for_
+    else choice (g.Statement Second) l) e
+takes (g.if_ {v = First}) t ts e b = ap (choice (g.Statement First)) e
+takes (g.if_ {v = Second}) t ts e b = ap (λ (l : Terminal).
+    if (same l is.Word && bytes_eq t.text (keyword_text For)) && no_colon ts then Some g.for_
+    else choice (g.Statement Second) l) e
+takes {p} _ t ts e b = ap (choice p) e
 
-choice_of : {p : Part} (c : Choice p) → choice p (opening c) ≡ Some c
-choice_of g.number = refl
-choice_of g.parameter = refl
-choice_of g.negated = refl
-choice_of g.bracketed = refl
-choice_of g.times = refl
-choice_of g.divided = refl
-choice_of g.plus = refl
-choice_of g.less = refl
-choice_of g.equal = refl
-choice_of g.unequal = refl
-choice_of g.below = refl
-choice_of g.above = refl
-choice_of g.or_equal = refl
-choice_of g.range = refl
-choice_of g.last = refl
-choice_of g.parameters = refl
-choice_of g.assign = refl
-choice_of g.next_assign = refl
-choice_of g.formal = refl
-choice_of g.next_formal = refl
-choice_of g.formal_outputs = refl
-choice_of g.delay = refl
-choice_of g.fall = refl
-choice_of g.complement = refl
-choice_of g.zero_term = refl
-choice_of g.one_term = refl
-choice_of g.named_term = refl
-choice_of g.zero_atom = refl
-choice_of g.one_atom = refl
-choice_of g.named_atom = refl
-choice_of g.next_term = refl
-choice_of g.hold = refl
-choice_of g.next_conn = refl
-choice_of g.outputs = refl
-choice_of g.use_ = refl
-choice_of g.wire = refl
-choice_of g.if_ = refl
-choice_of g.else_ = refl
-choice_of g.macro = refl
-choice_of g.index = refl
-choice_of g.entry = refl
-choice_of g.next_entry = refl
-choice_of g.case_ = refl
-choice_of g.wire_bounds = refl
-choice_of g.precision_skew = refl
-choice_of g.clock_skew = refl
-choice_of g.text = refl
+-- A part that may not begin with a terminal takes no token of it.
+pub takes_none : (p : Part) (t : Lexeme) (ts : List Lexeme) → is_some (choice p (terminal t)) ≡ false →
+    is_some (choice_at p t ts) ≡ false
+takes_none g.Constant t ts e = one (is_keyword Const t) refl
+  where
+    one : (k : Bool) → is_keyword Const t ≡ k → is_some (if k then Some g.constant else None) ≡ false
+    one true h =
+        let w = ap (λ (l : Terminal). is_some (choice g.Constant l)) (keyword_is Const t h).0 in absurd cc
+    one false h = refl
+takes_none (g.Statement Second) t ts e = one (is_loop t ts) refl
+  where
+    one : (k : Bool) → is_loop t ts ≡ k →
+        is_some (if k then Some g.for_ else choice (g.Statement Second) (terminal t)) ≡ false
+    one true h =
+        let q = and_parts (is_keyword For t) (no_colon ts) h in
+        let w = ap (λ (l : Terminal). is_some (choice (g.Statement Second) l)) (keyword_is For t q.0).0 in absurd cc
+    one false h = e
+takes_none _ t ts e = e
 
-pub chooses : {p : Part} (c : Choice p) (l : Terminal) → l ≡ opening c → choice p l ≡ Some c
-chooses {p} c l e = ap (λ (k : Terminal). choice p k) e ∙ choice_of c
+is_none : {A : Type 0} (o : Option A) → is_some o ≡ false → o ≡ None
+is_none None e = refl
+is_none (Some x) e = absurd cc
 
-pub opens_with : (p : Part) (l : Terminal) (c : Choice p) → choice p l ≡ Some c → l ≡ opening c
-opens_with g.Unary is.Number c e = let h : g.number ≡ c = cc in ap opening h
-opens_with g.Unary is.Word c e = let h : g.parameter ≡ c = cc in ap opening h
-opens_with g.Unary is.Minus c e = let h : g.negated ≡ c = cc in ap opening h
-opens_with g.Unary is.OpenParenthesis c e = let h : g.bracketed ≡ c = cc in ap opening h
-opens_with g.Factors is.Star c e = let h : g.times ≡ c = cc in ap opening h
-opens_with g.Factors is.Slash c e = let h : g.divided ≡ c = cc in ap opening h
-opens_with g.Terms is.Plus c e = let h : g.plus ≡ c = cc in ap opening h
-opens_with g.Terms is.Minus c e = let h : g.less ≡ c = cc in ap opening h
-opens_with g.Comparison is.Equals c e = let h : g.equal ≡ c = cc in ap opening h
-opens_with g.Comparison is.Exclamation c e = let h : g.unequal ≡ c = cc in ap opening h
-opens_with g.Comparison is.Less c e = let h : g.below ≡ c = cc in ap opening h
-opens_with g.Comparison is.Greater c e = let h : g.above ≡ c = cc in ap opening h
-opens_with g.OrEqual is.Equals c e = let h : g.or_equal ≡ c = cc in ap opening h
-opens_with g.Range is.Less c e = let h : g.range ≡ c = cc in ap opening h
-opens_with g.RangeEnd is.Colon c e = let h : g.last ≡ c = cc in ap opening h
-opens_with g.Parameters is.OpenBrace c e = let h : g.parameters ≡ c = cc in ap opening h
-opens_with g.Assign is.Word c e = let h : g.assign ≡ c = cc in ap opening h
-opens_with g.MoreAssigns is.Comma c e = let h : g.next_assign ≡ c = cc in ap opening h
-opens_with g.Formal is.Name c e = let h : g.formal ≡ c = cc in ap opening h
-opens_with g.MoreFormals is.Comma c e = let h : g.next_formal ≡ c = cc in ap opening h
-opens_with g.FormalOutputs is.Arrow c e = let h : g.formal_outputs ≡ c = cc in ap opening h
-opens_with g.Delay is.OpenBracket c e = let h : g.delay ≡ c = cc in ap opening h
-opens_with g.Fall is.Comma c e = let h : g.fall ≡ c = cc in ap opening h
-opens_with g.Term is.Minus c e = let h : g.complement ≡ c = cc in ap opening h
-opens_with g.Term is.Zero c e = let h : g.zero_term ≡ c = cc in ap opening h
-opens_with g.Term is.One c e = let h : g.one_term ≡ c = cc in ap opening h
-opens_with g.Term is.Name c e = let h : g.named_term ≡ c = cc in ap opening h
-opens_with g.Atom is.Zero c e = let h : g.zero_atom ≡ c = cc in ap opening h
-opens_with g.Atom is.One c e = let h : g.one_atom ≡ c = cc in ap opening h
-opens_with g.Atom is.Name c e = let h : g.named_atom ≡ c = cc in ap opening h
-opens_with g.MoreTerms is.Ampersand c e = let h : g.next_term ≡ c = cc in ap opening h
-opens_with g.Hold is.Exclamation c e = let h : g.hold ≡ c = cc in ap opening h
-opens_with g.MoreConns is.Comma c e = let h : g.next_conn ≡ c = cc in ap opening h
-opens_with g.Outputs is.Arrow c e = let h : g.outputs ≡ c = cc in ap opening h
-opens_with g.Statement is.Word c e = let h : g.use_ ≡ c = cc in ap opening h
-opens_with g.Statement is.Wire c e = let h : g.wire ≡ c = cc in ap opening h
-opens_with g.Statement is.If c e = let h : g.if_ ≡ c = cc in ap opening h
-opens_with g.Otherwise is.Else c e = let h : g.else_ ≡ c = cc in ap opening h
-opens_with g.Macro is.Macro c e = let h : g.macro ≡ c = cc in ap opening h
-opens_with g.Index is.Less c e = let h : g.index ≡ c = cc in ap opening h
-opens_with g.Entry is.Name c e = let h : g.entry ≡ c = cc in ap opening h
-opens_with g.MoreEntries is.Comma c e = let h : g.next_entry ≡ c = cc in ap opening h
-opens_with g.CaseStatement is.Case c e = let h : g.case_ ≡ c = cc in ap opening h
-opens_with g.WireBounds is.Wire c e = let h : g.wire_bounds ≡ c = cc in ap opening h
-opens_with g.PrecisionSkew is.Pskew c e = let h : g.precision_skew ≡ c = cc in ap opening h
-opens_with g.ClockSkew is.Cskew c e = let h : g.clock_skew ≡ c = cc in ap opening h
-opens_with g.Text is.Scald c e = let h : g.text ≡ c = cc in ap opening h
-opens_with _ _ c e = absurd cc
+pub no_choice_at : (p : Part) (ts : List Lexeme) → choice p (first_terminal ts) ≡ None → first_choice p ts ≡ None
+no_choice_at p [] e = refl
+no_choice_at p (t ∷ ts) e = is_none (choice_at p t ts) (takes_none p t ts (ap is_some e))
+
+-- ---- and what it begins with
+
+abbrev pub is_constant : Part → Bool
+is_constant g.Constant = true
+is_constant _ = false
+
+by_terminal : (p : Part) (l : Terminal) (t : Lexeme) (c : Choice p) → is_constant p ≡ false → terminal t ≡ l →
+    choice p l ≡ Some c → MayOpen c t
+by_terminal g.Unary is.Number t c i k e = let h : g.number ≡ c = cc in subst (λ (d : Choice g.Unary). MayOpen d t) h k
+by_terminal g.Unary is.Word t c i k e = let h : g.parameter ≡ c = cc in subst (λ (d : Choice g.Unary). MayOpen d t) h k
+by_terminal g.Unary is.Minus t c i k e = let h : g.negated ≡ c = cc in subst (λ (d : Choice g.Unary). MayOpen d t) h k
+by_terminal g.Unary is.OpenParenthesis t c i k e = let h : g.bracketed ≡ c = cc in subst (λ (d : Choice g.Unary). MayOpen d t) h k
+by_terminal g.Factors is.Star t c i k e = let h : g.times ≡ c = cc in subst (λ (d : Choice g.Factors). MayOpen d t) h k
+by_terminal g.Factors is.Slash t c i k e = let h : g.divided ≡ c = cc in subst (λ (d : Choice g.Factors). MayOpen d t) h k
+by_terminal g.Terms is.Plus t c i k e = let h : g.plus ≡ c = cc in subst (λ (d : Choice g.Terms). MayOpen d t) h k
+by_terminal g.Terms is.Minus t c i k e = let h : g.less ≡ c = cc in subst (λ (d : Choice g.Terms). MayOpen d t) h k
+by_terminal g.Comparison is.Equals t c i k e = let h : g.equal ≡ c = cc in subst (λ (d : Choice g.Comparison). MayOpen d t) h k
+by_terminal g.Comparison is.Exclamation t c i k e = let h : g.unequal ≡ c = cc in subst (λ (d : Choice g.Comparison). MayOpen d t) h k
+by_terminal g.Comparison is.Less t c i k e = let h : g.below ≡ c = cc in subst (λ (d : Choice g.Comparison). MayOpen d t) h k
+by_terminal g.Comparison is.Greater t c i k e = let h : g.above ≡ c = cc in subst (λ (d : Choice g.Comparison). MayOpen d t) h k
+by_terminal g.OrEqual is.Equals t c i k e = let h : g.or_equal ≡ c = cc in subst (λ (d : Choice g.OrEqual). MayOpen d t) h k
+by_terminal g.Range is.Less t c i k e = let h : g.range ≡ c = cc in subst (λ (d : Choice g.Range). MayOpen d t) h k
+by_terminal g.RangeEnd is.Colon t c i k e = let h : g.last ≡ c = cc in subst (λ (d : Choice g.RangeEnd). MayOpen d t) h k
+by_terminal g.Parameters is.OpenBrace t c i k e = let h : g.parameters ≡ c = cc in subst (λ (d : Choice g.Parameters). MayOpen d t) h k
+by_terminal g.Assign is.Word t c i k e = let h : g.assign ≡ c = cc in subst (λ (d : Choice g.Assign). MayOpen d t) h k
+by_terminal g.MoreAssigns is.Comma t c i k e = let h : g.next_assign ≡ c = cc in subst (λ (d : Choice g.MoreAssigns). MayOpen d t) h k
+by_terminal g.Formal is.Name t c i k e = let h : g.formal ≡ c = cc in subst (λ (d : Choice g.Formal). MayOpen d t) h k
+by_terminal g.MoreFormals is.Comma t c i k e = let h : g.next_formal ≡ c = cc in subst (λ (d : Choice g.MoreFormals). MayOpen d t) h k
+by_terminal g.FormalOutputs is.Arrow t c i k e = let h : g.formal_outputs ≡ c = cc in subst (λ (d : Choice g.FormalOutputs). MayOpen d t) h k
+by_terminal g.Delay is.OpenBracket t c i k e = let h : g.delay ≡ c = cc in subst (λ (d : Choice g.Delay). MayOpen d t) h k
+by_terminal g.Fall is.Comma t c i k e = let h : g.fall ≡ c = cc in subst (λ (d : Choice g.Fall). MayOpen d t) h k
+by_terminal g.Term is.Minus t c i k e = let h : g.complement ≡ c = cc in subst (λ (d : Choice g.Term). MayOpen d t) h k
+by_terminal g.Term is.Zero t c i k e = let h : g.zero_term ≡ c = cc in subst (λ (d : Choice g.Term). MayOpen d t) h k
+by_terminal g.Term is.One t c i k e = let h : g.one_term ≡ c = cc in subst (λ (d : Choice g.Term). MayOpen d t) h k
+by_terminal g.Term is.Name t c i k e = let h : g.named_term ≡ c = cc in subst (λ (d : Choice g.Term). MayOpen d t) h k
+by_terminal g.Atom is.Zero t c i k e = let h : g.zero_atom ≡ c = cc in subst (λ (d : Choice g.Atom). MayOpen d t) h k
+by_terminal g.Atom is.One t c i k e = let h : g.one_atom ≡ c = cc in subst (λ (d : Choice g.Atom). MayOpen d t) h k
+by_terminal g.Atom is.Name t c i k e = let h : g.named_atom ≡ c = cc in subst (λ (d : Choice g.Atom). MayOpen d t) h k
+by_terminal g.MoreTerms is.Ampersand t c i k e = let h : g.next_term ≡ c = cc in subst (λ (d : Choice g.MoreTerms). MayOpen d t) h k
+by_terminal g.Hold is.Exclamation t c i k e = let h : g.hold ≡ c = cc in subst (λ (d : Choice g.Hold). MayOpen d t) h k
+by_terminal g.MoreConns is.Comma t c i k e = let h : g.next_conn ≡ c = cc in subst (λ (d : Choice g.MoreConns). MayOpen d t) h k
+by_terminal g.Outputs is.Arrow t c i k e = let h : g.outputs ≡ c = cc in subst (λ (d : Choice g.Outputs). MayOpen d t) h k
+by_terminal (g.Statement v) is.Word t c i k e = let h : g.use_ ≡ c = cc in subst (λ (d : Choice (g.Statement v)). MayOpen d t) h k
+by_terminal (g.Statement v) is.Wire t c i k e = let h : g.wire ≡ c = cc in subst (λ (d : Choice (g.Statement v)). MayOpen d t) h k
+by_terminal (g.Statement v) is.If t c i k e = let h : g.if_ ≡ c = cc in subst (λ (d : Choice (g.Statement v)). MayOpen d t) h k
+by_terminal (g.Otherwise v) is.Else t c i k e = let h : g.else_ ≡ c = cc in subst (λ (d : Choice (g.Otherwise v)). MayOpen d t) h k
+by_terminal (g.Macro v) is.Macro t c i k e = let h : g.macro ≡ c = cc in subst (λ (d : Choice (g.Macro v)). MayOpen d t) h k
+by_terminal g.Index is.Less t c i k e = let h : g.index ≡ c = cc in subst (λ (d : Choice g.Index). MayOpen d t) h k
+by_terminal g.Entry is.Name t c i k e = let h : g.entry ≡ c = cc in subst (λ (d : Choice g.Entry). MayOpen d t) h k
+by_terminal g.MoreEntries is.Comma t c i k e = let h : g.next_entry ≡ c = cc in subst (λ (d : Choice g.MoreEntries). MayOpen d t) h k
+by_terminal g.CaseStatement is.Case t c i k e = let h : g.case_ ≡ c = cc in subst (λ (d : Choice g.CaseStatement). MayOpen d t) h k
+by_terminal g.WireBounds is.Wire t c i k e = let h : g.wire_bounds ≡ c = cc in subst (λ (d : Choice g.WireBounds). MayOpen d t) h k
+by_terminal g.PrecisionSkew is.Pskew t c i k e = let h : g.precision_skew ≡ c = cc in subst (λ (d : Choice g.PrecisionSkew). MayOpen d t) h k
+by_terminal g.ClockSkew is.Cskew t c i k e = let h : g.clock_skew ≡ c = cc in subst (λ (d : Choice g.ClockSkew). MayOpen d t) h k
+by_terminal (g.Text v) is.Scald t c i k e = let h : g.text ≡ c = cc in subst (λ (d : Choice (g.Text v)). MayOpen d t) h k
+by_terminal _ _ t c i k e = absurd cc
+
+-- The token may begin the choice that is taken.
+pub opens_with : (p : Part) (t : Lexeme) (ts : List Lexeme) (c : Choice p) → choice_at p t ts ≡ Some c → MayOpen c t
+opens_with g.Constant t ts c e = one (is_keyword Const t) refl e
+  where
+    one : (k : Bool) → is_keyword Const t ≡ k → (if k then Some g.constant else None) ≡ Some c → MayOpen c t
+    one true h f =
+        let d : g.constant ≡ c = cc in
+        subst (λ (x : Choice g.Constant). MayOpen x t) d (keyword_is Const t h)
+    one false h f = absurd cc
+opens_with (g.Statement First) t ts c e = by_terminal (g.Statement First) (terminal t) t c refl refl e
+opens_with (g.Statement Second) t ts c e = one (is_loop t ts) refl e
+  where
+    one : (k : Bool) → is_loop t ts ≡ k →
+        (if k then Some g.for_ else choice (g.Statement Second) (terminal t)) ≡ Some c → MayOpen c t
+    one true h f =
+        let d : g.for_ ≡ c = cc in
+        subst (λ (x : Choice (g.Statement Second)). MayOpen x t) d
+        (keyword_is For t (and_parts (is_keyword For t) (no_colon ts) h).0)
+    one false h f = by_terminal (g.Statement Second) (terminal t) t c refl refl f
+opens_with g.Unary t ts c e = by_terminal g.Unary (terminal t) t c refl refl e
+opens_with g.Factors t ts c e = by_terminal g.Factors (terminal t) t c refl refl e
+opens_with g.Terms t ts c e = by_terminal g.Terms (terminal t) t c refl refl e
+opens_with g.Comparison t ts c e = by_terminal g.Comparison (terminal t) t c refl refl e
+opens_with g.OrEqual t ts c e = by_terminal g.OrEqual (terminal t) t c refl refl e
+opens_with g.Range t ts c e = by_terminal g.Range (terminal t) t c refl refl e
+opens_with g.RangeEnd t ts c e = by_terminal g.RangeEnd (terminal t) t c refl refl e
+opens_with g.Parameters t ts c e = by_terminal g.Parameters (terminal t) t c refl refl e
+opens_with g.Assign t ts c e = by_terminal g.Assign (terminal t) t c refl refl e
+opens_with g.MoreAssigns t ts c e = by_terminal g.MoreAssigns (terminal t) t c refl refl e
+opens_with g.Formal t ts c e = by_terminal g.Formal (terminal t) t c refl refl e
+opens_with g.MoreFormals t ts c e = by_terminal g.MoreFormals (terminal t) t c refl refl e
+opens_with g.FormalOutputs t ts c e = by_terminal g.FormalOutputs (terminal t) t c refl refl e
+opens_with g.Delay t ts c e = by_terminal g.Delay (terminal t) t c refl refl e
+opens_with g.Fall t ts c e = by_terminal g.Fall (terminal t) t c refl refl e
+opens_with g.Term t ts c e = by_terminal g.Term (terminal t) t c refl refl e
+opens_with g.Atom t ts c e = by_terminal g.Atom (terminal t) t c refl refl e
+opens_with g.MoreTerms t ts c e = by_terminal g.MoreTerms (terminal t) t c refl refl e
+opens_with g.Hold t ts c e = by_terminal g.Hold (terminal t) t c refl refl e
+opens_with g.MoreConns t ts c e = by_terminal g.MoreConns (terminal t) t c refl refl e
+opens_with g.Outputs t ts c e = by_terminal g.Outputs (terminal t) t c refl refl e
+opens_with (g.Otherwise v) t ts c e = by_terminal (g.Otherwise v) (terminal t) t c refl refl e
+opens_with (g.Macro v) t ts c e = by_terminal (g.Macro v) (terminal t) t c refl refl e
+opens_with g.Index t ts c e = by_terminal g.Index (terminal t) t c refl refl e
+opens_with g.Entry t ts c e = by_terminal g.Entry (terminal t) t c refl refl e
+opens_with g.MoreEntries t ts c e = by_terminal g.MoreEntries (terminal t) t c refl refl e
+opens_with g.CaseStatement t ts c e = by_terminal g.CaseStatement (terminal t) t c refl refl e
+opens_with g.WireBounds t ts c e = by_terminal g.WireBounds (terminal t) t c refl refl e
+opens_with g.PrecisionSkew t ts c e = by_terminal g.PrecisionSkew (terminal t) t c refl refl e
+opens_with g.ClockSkew t ts c e = by_terminal g.ClockSkew (terminal t) t c refl refl e
+opens_with (g.Text v) t ts c e = by_terminal (g.Text v) (terminal t) t c refl refl e
+
+-- ---- how much the token behind the first one matters
+
+-- It matters only whether it is a colon.
+pub same_choice : (p : Part) (t : Lexeme) (ts zs : List Lexeme) → no_colon ts ≡ no_colon zs →
+    choice_at p t ts ≡ choice_at p t zs
+same_choice (g.Statement Second) t ts zs e = ap (λ (b : Bool).
+    if is_keyword For t && b then Some g.for_ else choice (g.Statement Second) (terminal t)) e
+same_choice (g.Statement First) t ts zs e = refl
+same_choice _ t ts zs e = refl
+
+-- ---- the choice that stands first
+
+-- the terminal that stands first then
+pub at_opening : {p : Part} (c : Choice p) (ts : List Lexeme) → At c ts → first_terminal ts ≡ opening c
+at_opening g.constant ts e = e.0
+at_opening g.for_ [] e = absurd cc
+at_opening g.for_ (t ∷ us) e = (keyword_is For t (and_parts (is_keyword For t) (no_colon us) e).0).0
+at_opening g.use_ ts e = e.0
+at_opening _ ts e = e
+
+-- It is the one that is taken.
+pub at_choice : {p : Part} (c : Choice p) (t : Lexeme) (us : List Lexeme) → At c (t ∷ us) → choice_at p t us ≡ Some c
+at_choice g.constant t us e = takes g.constant t us e tt
+at_choice g.for_ t us e =
+    let k = and_parts (is_keyword For t) (no_colon us) e in takes g.for_ t us (keyword_is For t k.0) k.1
+at_choice (g.use_ {v = First}) t us e = ap (choice (g.Statement First)) e.0
+at_choice (g.use_ {v = Second}) t us e =
+    ap (λ (k : Bool). if k then Some g.for_ else choice (g.Statement Second) (terminal t)) e.1
+    ∙ ap (choice (g.Statement Second)) e.0
+at_choice g.number t us e = takes g.number t us e tt
+at_choice g.parameter t us e = takes g.parameter t us e tt
+at_choice g.negated t us e = takes g.negated t us e tt
+at_choice g.bracketed t us e = takes g.bracketed t us e tt
+at_choice g.times t us e = takes g.times t us e tt
+at_choice g.divided t us e = takes g.divided t us e tt
+at_choice g.plus t us e = takes g.plus t us e tt
+at_choice g.less t us e = takes g.less t us e tt
+at_choice g.equal t us e = takes g.equal t us e tt
+at_choice g.unequal t us e = takes g.unequal t us e tt
+at_choice g.below t us e = takes g.below t us e tt
+at_choice g.above t us e = takes g.above t us e tt
+at_choice g.or_equal t us e = takes g.or_equal t us e tt
+at_choice g.range t us e = takes g.range t us e tt
+at_choice g.last t us e = takes g.last t us e tt
+at_choice g.parameters t us e = takes g.parameters t us e tt
+at_choice g.assign t us e = takes g.assign t us e tt
+at_choice g.next_assign t us e = takes g.next_assign t us e tt
+at_choice g.formal t us e = takes g.formal t us e tt
+at_choice g.next_formal t us e = takes g.next_formal t us e tt
+at_choice g.formal_outputs t us e = takes g.formal_outputs t us e tt
+at_choice g.delay t us e = takes g.delay t us e tt
+at_choice g.fall t us e = takes g.fall t us e tt
+at_choice g.complement t us e = takes g.complement t us e tt
+at_choice g.zero_term t us e = takes g.zero_term t us e tt
+at_choice g.one_term t us e = takes g.one_term t us e tt
+at_choice g.named_term t us e = takes g.named_term t us e tt
+at_choice g.zero_atom t us e = takes g.zero_atom t us e tt
+at_choice g.one_atom t us e = takes g.one_atom t us e tt
+at_choice g.named_atom t us e = takes g.named_atom t us e tt
+at_choice g.next_term t us e = takes g.next_term t us e tt
+at_choice g.hold t us e = takes g.hold t us e tt
+at_choice g.next_conn t us e = takes g.next_conn t us e tt
+at_choice g.outputs t us e = takes g.outputs t us e tt
+at_choice g.wire t us e = takes g.wire t us e tt
+at_choice g.if_ t us e = takes g.if_ t us e tt
+at_choice g.else_ t us e = takes g.else_ t us e tt
+at_choice g.macro t us e = takes g.macro t us e tt
+at_choice g.index t us e = takes g.index t us e tt
+at_choice g.entry t us e = takes g.entry t us e tt
+at_choice g.next_entry t us e = takes g.next_entry t us e tt
+at_choice g.case_ t us e = takes g.case_ t us e tt
+at_choice g.wire_bounds t us e = takes g.wire_bounds t us e tt
+at_choice g.precision_skew t us e = takes g.precision_skew t us e tt
+at_choice g.clock_skew t us e = takes g.clock_skew t us e tt
+at_choice g.text t us e = takes g.text t us e tt
+
+-- A part that may begin so does, but for a constant.
+pub still_some : (p : Part) (t : Lexeme) (us : List Lexeme) → is_constant p ≡ false →
+    is_some (choice p (terminal t)) ≡ true → is_some (choice_at p t us) ≡ true
+still_some g.Constant t us k e = absurd cc
+still_some (g.Statement Second) t us k e = one (is_loop t us)
+  where
+    one : (b : Bool) → is_some (if b then Some g.for_ else choice (g.Statement Second) (terminal t)) ≡ true
+    one true = refl
+    one false = e
+still_some _ t us k e = e
+
+-- ---- where a word of its own stands first
+
+-- A word with a colon behind it is no FOR.
+pub no_loop_at : (v : Edition) (t : Lexeme) (us : List Lexeme) → no_colon us ≡ false → at_loop v (t ∷ us) ≡ false
+no_loop_at First t us e = refl
+no_loop_at Second t us e = no_loop (is_keyword For t) (no_colon us) e
+
+pub no_constant_at : (ts : List Lexeme) → ¬ AtKeyword Const ts → first_choice g.Constant ts ≡ None
+no_constant_at [] h = refl
+no_constant_at (t ∷ ts) h = one (is_keyword Const t) refl
+  where
+    one : (k : Bool) → is_keyword Const t ≡ k → ◌≡◌ {A = Option (Choice g.Constant)} (if k then Some g.constant else None) None
+    one true e = absurd (h (keyword_is Const t e))
+    one false e = refl
+
+pub at_for : (ts : List Lexeme) → AtKeyword For ts → at_loop Second ts ≡ no_colon (behind_first ts)
+at_for [] h = let z : is.EndOfText ≡ is.Word = h.0 in absurd cc
+at_for (t ∷ ts) h = ap (λ (k : Bool). k && no_colon ts) (is_that_keyword For t h)
+
+pub no_for : (ts : List Lexeme) → ¬ AtKeyword For ts → at_loop Second ts ≡ false
+no_for [] h = refl
+no_for (t ∷ ts) h = one (is_keyword For t) refl
+  where
+    one : (k : Bool) → is_keyword For t ≡ k → (k && no_colon ts) ≡ false
+    one true e = absurd (h (keyword_is For t e))
+    one false e = refl

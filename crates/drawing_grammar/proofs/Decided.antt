@@ -28,7 +28,8 @@ use Rattle.drawing_tree.specs.Tree as tree
 use Rattle.drawing_grammar.specs.declared.declared.Kind.{Kind}
 use Rattle.drawing_grammar.specs.contracts.declared.Kind.{the_type}
 use Rattle.drawing_grammar.specs.Lexeme.{Lexeme, lexemes}
-use Rattle.drawing_grammar.specs.Header.{judged}
+use Rattle.drawing_grammar.specs.Edition.{edition_of}
+use Rattle.drawing_grammar.specs.Header.{natural, judged}
 use Rattle.drawing_grammar.specs.Names.{Naming, names_from, IsPlain, MayStand, IsGood, no_formal, no_interval, overlapping, IsFault, no_name, bad_name, AreGood, IsBadName}
 use Rattle.drawing_grammar.specs.DoubleNames.{Key, key, Declaration, primitives, double_at, Declares, Repeats, IsDistinct, IsDoubleName}
 use Rattle.drawing_grammar.specs.Sketch.{Sketch}
@@ -225,7 +226,16 @@ sketch_decided ts s reads = head (judged s.header) refl
   where
     doubles : (h : Header) → judged s.header ≡ Ok h → AreGood h (names_from false ts) → IsDistinct (declared_by s) ⊎ ((r : Refusal) × IsDoubleName (declared_by s) r) → Decided ts
     doubles h e good (inl distinct) =
-        let d : tree.Drawing = record { version = 1; header = h; macros = s.macros.macros; name = s.name; body = s.body; cases = s.cases } in
+        let d : tree.Drawing = record {
+          version = natural s.header.version;
+          header = h;
+          consts = s.consts.constants;
+          const_places = s.consts.places;
+          macros = s.macros.macros;
+          name = s.name;
+          body = s.body;
+          cases = s.cases;
+        } in
         inl (d, draws_it ts s h d reads e good distinct refl)
     doubles h e good (inr (r, wrong)) = inr (r, double_wrong ts s h (stop.Refused r) reads e good wrong)
 
@@ -241,11 +251,11 @@ sketch_decided ts s reads = head (judged s.header) refl
     head (Err r) e = inr (r, header_wrong ts s r reads e)
 
 pub drawn_or_refused : DrawnOrRefused
-drawn_or_refused text tokens are = one (verdict (lexemes text tokens) whole 0) refl
+drawn_or_refused text tokens are = one (verdict (lexemes text tokens) (whole (edition_of (lexemes text tokens))) 0) refl
   where
     ts : List Lexeme
     ts = lexemes text tokens
 
-    one : (v : Verdict whole) → verdict ts whole 0 ≡ v → Decided ts
+    one : (v : Verdict (whole (edition_of ts))) → verdict ts (whole (edition_of ts)) 0 ≡ v → Decided ts
     one (Complete v) e = sketch_decided ts v.0 (is_read ts v.0 e)
     one (Refused r) e = inr (r, grammar (is_refused ts r (ending text tokens are) e))

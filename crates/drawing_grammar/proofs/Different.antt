@@ -17,21 +17,23 @@ use Rattle.drawing_tree.specs.WellFormed as well
 use Rattle.drawing_tree.specs.WellFormed.{primitive_names, IsGoodBody, IsGoodCase, IsGoodMacro, IsGoodName, IsWellFormed}
 use Rattle.drawing_tree.specs.Places.{unplaced_statement, unplaced_statements, unplaced_otherwise, unplaced_macro}
 use Rattle.drawing_grammar.specs.declared.declared.Kind.{Kind}
-use Rattle.drawing_grammar.specs.declared.declared.Kind.TheVariants.{Macro, Parameter, Formal, Label}
+use Rattle.drawing_grammar.specs.declared.declared.Kind.TheVariants.{Constant, Macro, Parameter, Formal, Label}
 use Rattle.drawing_grammar.specs.declared.head.Head.{Head}
-use Rattle.drawing_grammar.specs.DoubleNames.{Key, key, Declaration, statement_labels, labels, else_labels, macros_declared, declared, primitives, keys_of, AreDifferent, IsDistinct}
+use Rattle.drawing_grammar.specs.DoubleNames.{Key, key, Declaration, constants, statement_labels, labels, else_labels, macros_declared, declared, primitives, keys_of, AreDifferent, IsDistinct}
+use Rattle.drawing_grammar.specs.declared.edition.Edition.{Edition}
+use Rattle.drawing_grammar.specs.Edition.{edition_of}
 use Rattle.drawing_grammar.specs.Header.{judged, header_of}
 use Rattle.drawing_grammar.specs.Lexeme.{Lexeme, lexemes}
 use Rattle.drawing_grammar.specs.Names.{Naming, AreGood, names, names_from}
-use Rattle.drawing_grammar.specs.Sketch.{Sketch}
+use Rattle.drawing_grammar.specs.Sketch.{Sketch, PlacedConstants}
 use Rattle.drawing_grammar.specs.Written.{values}
 use Rattle.drawing_grammar.specs.Drawing.{drawing_of_sketch, declared_by, Draws}
 use Rattle.drawing_grammar.proofs.First.{different_front}
 use Rattle.drawing_grammar.proofs.Heads.{names_of_text}
-use Rattle.drawing_grammar.proofs.Proper.{AreHeads, IsMacroOf, IsSketchOf}
-use Rattle.drawing_grammar.proofs.SameDeclared.{the_key, parameter_keys, formal_keys, macro_keys, all_keys, macros_are}
+use Rattle.drawing_grammar.proofs.ProperTrees.{AreHeads, AreConstantsOf, IsMacroOf, IsSketchOf}
+use Rattle.drawing_grammar.proofs.SameDeclared.{the_key, constant_keys, constants_are, parameter_keys, formal_keys, macro_keys, all_keys, macros_are}
 use Rattle.drawing_grammar.proofs.SameHeader.{header_may_be}
-use Rattle.drawing_grammar.proofs.Formed.{macro_good, body_good, cases_good, judged_ok, sketch_proper}
+use Rattle.drawing_grammar.proofs.Formed.{consts_good, macro_good, body_good, cases_good, judged_ok, sketch_proper}
 
 -- ---- some of the keys
 
@@ -64,6 +66,7 @@ mutual
   statement_keys scope (tree.Wire w) = refl
   statement_keys scope (tree.If test ss other place) = joined scope (labels scope ss)
       (else_labels scope other) (well.labels ss) (well.else_labels other) (label_keys scope ss) (otherwise_keys scope other)
+  statement_keys scope (tree.For var first last ss place) = label_keys scope ss
 
   label_keys : (scope : ℕ) (ss : tree.Statements) → keys_of (labels scope ss) ≡ map (key scope Label) (well.labels ss)
   label_keys scope tree.nil = refl
@@ -88,6 +91,7 @@ mutual
   statement_same (tree.Wire w) = refl
   statement_same (tree.If test ss other place) = both_same (well.labels (unplaced_statements ss))
       (well.else_labels (unplaced_otherwise other)) (well.labels ss) (well.else_labels other) (statements_same ss) (otherwise_same other)
+  statement_same (tree.For var first last ss place) = statements_same ss
 
   statements_same : (ss : tree.Statements) → well.labels (unplaced_statements ss) ≡ well.labels ss
   statements_same tree.nil = refl
@@ -131,6 +135,7 @@ macros_apart scope (m ∷ ms) h =
 -- ---- the names of macros among all that is declared
 
 abbrev is_macro_kind : Kind → Bool
+is_macro_kind Constant = false
 is_macro_kind Macro = true
 is_macro_kind Parameter = false
 is_macro_kind Formal = false
@@ -141,6 +146,10 @@ is_macro k = is_macro_kind k.kind
 
 none_kept : (a b : List Key) → filter is_macro a ≡ [] → filter is_macro b ≡ [] → filter is_macro (a ++ b) ≡ []
 none_kept a b e f = filter-append is_macro a b ∙ rw (e, f) refl
+
+no_constants_kept : (cs : List tree.Assignment) → filter is_macro (constant_keys cs) ≡ []
+no_constants_kept [] = refl
+no_constants_kept (c ∷ cs) = no_constants_kept cs
 
 no_parameters : (scope : ℕ) (ps : List tree.Assignment) → filter is_macro (parameter_keys scope ps) ≡ []
 no_parameters scope [] = refl
@@ -181,48 +190,63 @@ primitives_kept : filter is_macro primitives ≡ map (key 0 Macro) primitive_nam
 unfolding primitives
 primitives_kept = refl
 
-kinds_kept : (ms : List tree.Macro) (own : List Key) → filter is_macro own ≡ [] →
-    filter is_macro (primitives ++ (all_keys 0 (map unplaced_macro ms) ++ own)) ≡ map (key 0 Macro) (primitive_names ++ map macro_name ms)
-kinds_kept ms own e =
+kinds_kept : (cs : List tree.Assignment) (ms : List tree.Macro) (own : List Key) → filter is_macro own ≡ [] →
+    filter is_macro (primitives ++ (constant_keys cs ++ (all_keys 0 (map unplaced_macro ms) ++ own)))
+    ≡ map (key 0 Macro) (primitive_names ++ map macro_name ms)
+kinds_kept cs ms own e =
     let all = all_keys 0 (map unplaced_macro ms) in
-    filter-append is_macro primitives (all ++ own)
-    ∙ (ap (λ (ks : List Key). ks ++ filter is_macro (all ++ own)) primitives_kept
-    ∙ (ap (λ (ks : List Key). map (key 0 Macro) primitive_names ++ ks) (filter-append is_macro all own
-    ∙ (ap (λ (ks : List Key). filter is_macro all ++ ks) e ∙ (append-nil (filter is_macro all) ∙ macros_kept 0 ms)))
+    let consts = constant_keys cs in
+    filter-append is_macro primitives (consts ++ (all ++ own))
+    ∙ (ap (λ (ks : List Key). ks ++ filter is_macro (consts ++ (all ++ own))) primitives_kept
+    ∙ (ap (λ (ks : List Key). map (key 0 Macro) primitive_names ++ ks) (filter-append is_macro consts (all ++ own)
+    ∙ (ap (λ (ks : List Key). ks ++ filter is_macro (all ++ own)) (no_constants_kept cs)
+    ∙ (filter-append is_macro all own
+    ∙ (ap (λ (ks : List Key). filter is_macro all ++ ks) e ∙ (append-nil (filter is_macro all) ∙ macros_kept 0 ms)))))
     ∙ sym (map-append (key 0 Macro) primitive_names (map macro_name ms))))
 
 -- ---- the drawing
 
 -- all that is different in a drawing
-record AllApart (ms : List tree.Macro) (body : tree.Statements) : Type 0 where
+record AllApart (cs : List tree.Assignment) (ms : List tree.Macro) (body : tree.Statements) : Type 0 where
+  consts : well.AreDifferent (map (λ c. c.name) cs)
   macros : AllByRecursion IsApart ms
   labels : well.AreDifferent (well.labels body)
   kinds : well.AreDifferent (primitive_names ++ map macro_name ms)
 
-all_apart : (ms : List tree.Macro) (hs : List Head) (body : tree.Statements) → AreHeads ms hs → IsDistinct (declared ms hs body) → AllApart ms body
-all_apart ms hs body heads h =
+all_apart : (cs : PlacedConstants) (ms : List tree.Macro) (hs : List Head) (body : tree.Statements) → AreConstantsOf cs → AreHeads ms hs →
+    IsDistinct (declared cs.constants cs.name_places ms hs body) → AllApart cs.constants ms body
+all_apart cs ms hs body placed heads h =
+    let consts = constant_keys cs.constants in
     let all = all_keys 0 (map unplaced_macro ms) in
     let own = keys_of (labels (length ms) body) in
     let F : List Key → Type 0 = λ ks. AreDifferent ks in
     let G : List Key → Type 0 = λ ks. AreDifferent (primitives ++ ks) in
-    let parts : keys_of (declared ms hs body) ≡ all ++ own = map-append the_key (macros_declared 0 ms hs) (labels (length ms) body) ∙ ap (λ (ks : List Key). ks ++ own) (macros_are 0 ms hs heads) in
-    let every : AreDifferent (primitives ++ (all ++ own)) = subst G parts h in
-    let written : AreDifferent (all ++ own) = different_behind primitives (all ++ own) every in
+    let rest : keys_of (macros_declared 0 ms hs ++ labels (length ms) body) ≡ all ++ own =
+    map-append the_key (macros_declared 0 ms hs) (labels (length ms) body) ∙ ap (λ (ks : List Key). ks ++ own) (macros_are 0 ms hs heads) in
+    let parts : keys_of (declared cs.constants cs.name_places ms hs body) ≡ consts ++ (all ++ own) =
+    map-append the_key (constants cs.constants cs.name_places) (macros_declared 0 ms hs ++ labels (length ms) body)
+    ∙ (ap (λ (ks : List Key). ks ++ keys_of (macros_declared 0 ms hs ++ labels (length ms) body)) (constants_are cs.constants cs.name_places placed.name_places)
+    ∙ ap (λ (ks : List Key). consts ++ ks) rest) in
+    let every : AreDifferent (primitives ++ (consts ++ (all ++ own))) = subst G parts h in
+    let declared : AreDifferent (consts ++ (all ++ own)) = different_behind primitives (consts ++ (all ++ own)) every in
+    let written : AreDifferent (all ++ own) = different_behind consts (all ++ own) declared in
     record {
+      consts = names_different 0 Constant (λ c. c.name) cs.constants (different_front consts (all ++ own) declared);
       macros = macros_apart 0 ms (different_front all own written);
       labels = labels_different (length ms) body (different_behind all own written);
       kinds = texts_different 0 Macro (primitive_names ++ map macro_name ms)
-          (subst F (kinds_kept ms own (no_body (length ms) body)) (AllPairs-filter (λ a b. a ≢ b) is_macro (primitives ++ (all ++ own)) every));
+          (subst F (kinds_kept cs.constants ms own (no_body (length ms) body))
+          (AllPairs-filter (λ a b. a ≢ b) is_macro (primitives ++ (consts ++ (all ++ own))) every));
     }
 
-macros_good : (h : Header) (ms : List tree.Macro) → AllByRecursion (IsMacroOf (λ n. IsGoodName h n)) ms → AllByRecursion IsApart ms → AllByRecursion (IsGoodMacro h) ms
-macros_good h [] a b = tt
-macros_good h (m ∷ ms) a b = (macro_good h m a.0 b.0.params b.0.formals b.0.labels, macros_good h ms a.1 b.1)
+macros_good : (v : Edition) (h : Header) (ms : List tree.Macro) → AllByRecursion (IsMacroOf (λ n. IsGoodName h n) v) ms → AllByRecursion IsApart ms → AllByRecursion (IsGoodMacro h) ms
+macros_good v h [] a b = tt
+macros_good v h (m ∷ ms) a b = (macro_good h v m a.0 b.0.params b.0.formals b.0.labels, macros_good v h ms a.1 b.1)
 
-sketch_good : (h : Header) (s : Sketch) → judged s.header ≡ Ok h → IsSketchOf (λ n. IsGoodName h n) s → IsDistinct (declared_by s) → IsWellFormed (drawing_of_sketch s)
-sketch_good h s e proper distinct =
+sketch_good : (v : Edition) (h : Header) (s : Sketch) → judged s.header ≡ Ok h → IsSketchOf (λ n. IsGoodName h n) v s → IsDistinct (declared_by s) → IsWellFormed (drawing_of_sketch s)
+sketch_good v h s e proper distinct =
     let said = judged_ok s.header h e in
-    let apart = all_apart s.macros.macros s.macros.heads s.body proper.macros.heads distinct in
+    let apart = all_apart s.consts s.macros.macros s.macros.heads s.body proper.consts proper.macros.heads distinct in
     let to_h : h ≡ header_of s.header = sym said.0 in
     let M : Header → Type 0 = λ x. All (IsGoodMacro x) s.macros.macros in
     let B : Header → Type 0 = λ x. IsGoodBody x s.body in
@@ -230,10 +254,13 @@ sketch_good h s e proper distinct =
     record {
       version = said.1;
       header = subst IsHeader to_h (header_may_be s.header h e);
+      consts = consts_good s.consts.constants proper.consts.constants;
+      const_places = proper.consts.places;
       name = proper.name;
-      macros = subst M to_h (All-from_recursion (IsGoodMacro h) s.macros.macros (macros_good h s.macros.macros proper.macros.macros apart.macros));
-      body = subst B to_h (body_good h s.body proper.body apart.labels);
-      cases = subst C to_h (cases_good h s.cases proper.cases);
+      macros = subst M to_h (All-from_recursion (IsGoodMacro h) s.macros.macros (macros_good v h s.macros.macros proper.macros.macros apart.macros));
+      body = subst B to_h (body_good h v s.body proper.body apart.labels);
+      cases = subst C to_h (cases_good h v s.cases proper.cases);
+      different_consts = apart.consts;
       different_kinds = apart.kinds;
     }
 
@@ -243,6 +270,6 @@ well_formed text tokens d are draws =
     let w = draws.written in
     let ts = lexemes text tokens in
     let N : List Naming → Type 0 = λ ns. AreGood d.header ns in
-    let named : names w ≡ names_from false ts = names_of_text w ∙ ap (λ (xs : List Lexeme). names_from false xs) draws.text.spelled in
-    let proper = sketch_proper d.header text tokens w are draws.text.spelled (subst N named draws.names) in
-    subst IsWellFormed draws.stands (sketch_good d.header (values w).0 draws.header proper draws.distinct)
+    let named : names w ≡ names_from false ts = names_of_text (edition_of ts) w ∙ ap (λ (xs : List Lexeme). names_from false xs) draws.text.spelled in
+    let proper = sketch_proper (edition_of ts) d.header text tokens w are draws.text.spelled (subst N named draws.names) in
+    subst IsWellFormed draws.stands (sketch_good (edition_of ts) d.header (values w).0 draws.header proper draws.distinct)

@@ -1,5 +1,5 @@
 -- What is known of the numbers, words, names and lists of a drawing that some text draws.
-use Rattle.std.specs.Prelude.{◌≡◌, ◌≤◌, ◌<◌, ◌^◌, ℤ, pos, negsuc, List, [], ◌∷◌, Option, Some, None, IfSome, ⊤}
+use Rattle.std.specs.Prelude.{◌≡◌, ◌≤◌, ◌<◌, ◌^◌, ℤ, pos, negsuc, List, [], ◌∷◌, Option, Some, None, IfSome, ⊤, ◌⊎◌}
 use Rattle.std.specs.List.{AllByRecursion}
 use Rattle.scald_base.specs.Time.{IsHeader}
 use Rattle.scald_lex.specs.Piece.{greatest_number}
@@ -7,8 +7,11 @@ use Rattle.scald_expr.specs.Expression.{Expression, Number, Param, Negate, Binar
 use Rattle.assertion_syntax.specs.Name.{IsName, IsBase}
 use Rattle.drawing_tree.specs.declared.drawing.CaseEntry.{CaseEntry}
 use Rattle.drawing_tree.specs.declared.drawing.CaseStmt.{CaseStmt}
-use Rattle.drawing_tree.specs.Tree.{Range, Item, Zero, One, Named, Term, Connection, Assignment, UseStatement, WireStatement, Statement, Use, Wire, If, Statements, nil, cons, Otherwise, no_else, else_, Formal, Macro, Drawing, EachDelay}
+use Rattle.drawing_tree.specs.Tree.{Range, Item, Zero, One, Named, Term, Connection, Assignment, UseStatement, WireStatement, Statement, Use, Wire, If, For, Statements, nil, cons, Otherwise, no_else, else_, Formal, Macro, Drawing, EachDelay}
 use Rattle.drawing_tree.specs.WellFormed.{IsFreeWord}
+use Rattle.drawing_grammar.specs.declared.edition.Edition.{Edition}
+use Rattle.drawing_grammar.specs.declared.edition.Edition.TheVariants.{First, Second}
+use Rattle.drawing_grammar.specs.Edition.{edition_by}
 
 -- a number of a token
 abbrev pub IsDrawnNumber : ℤ → Type 0
@@ -66,30 +69,33 @@ pub record IsDrawnWire (w : WireStatement) : Type 0 where
   pub min : IsDrawn w.min
   pub max : IsDrawn w.max
 
+-- by this version of the language
 abbrev mutual
-  pub IsDrawnStatement : Statement → Type 0
-  IsDrawnStatement (Use u) = IsDrawnUse u
-  IsDrawnStatement (Wire w) = IsDrawnWire w
-  IsDrawnStatement (If test behind_then behind_else place) = IsDrawn test × AreDrawn behind_then × IsDrawnOtherwise behind_else
+  pub IsDrawnStatement : Edition → Statement → Type 0
+  IsDrawnStatement v (Use u) = IsDrawnUse u
+  IsDrawnStatement v (Wire w) = IsDrawnWire w
+  IsDrawnStatement v (If test behind_then behind_else place) = IsDrawn test × AreDrawn v behind_then × IsDrawnOtherwise v behind_else
+  IsDrawnStatement v (For var first last body place) =
+      (v ≡ Second) × IsFreeWord var × IsDrawn first × IsDrawn last × AreDrawn v body
 
-  pub AreDrawn : Statements → Type 0
-  AreDrawn nil = ⊤
-  AreDrawn (cons s ss) = IsDrawnStatement s × AreDrawn ss
+  pub AreDrawn : Edition → Statements → Type 0
+  AreDrawn v nil = ⊤
+  AreDrawn v (cons s ss) = IsDrawnStatement v s × AreDrawn v ss
 
-  pub IsDrawnOtherwise : Otherwise → Type 0
-  IsDrawnOtherwise no_else = ⊤
-  IsDrawnOtherwise (else_ ss) = AreDrawn ss
+  pub IsDrawnOtherwise : Edition → Otherwise → Type 0
+  IsDrawnOtherwise v no_else = ⊤
+  IsDrawnOtherwise v (else_ ss) = AreDrawn v ss
 
 pub record IsDrawnFormal (f : Formal) : Type 0 where
   pub base : IsBase f.base
   pub range : IfSome f.range IsDrawnRange
 
-pub record IsDrawnMacro (m : Macro) : Type 0 where
+pub record IsDrawnMacro (v : Edition) (m : Macro) : Type 0 where
   pub name : IsFreeWord m.name
   pub params : AllByRecursion IsDrawnAssignment m.params
   pub ins : AllByRecursion IsDrawnFormal m.ins
   pub outs : AllByRecursion IsDrawnFormal m.outs
-  pub body : AreDrawn m.body
+  pub body : AreDrawn v m.body
 
 -- Greater numbers are drawn as the greatest of 32 bits.
 pub record IsDrawnEntry (e : CaseEntry) : Type 0 where
@@ -101,10 +107,16 @@ pub record IsDrawnCase (c : CaseStmt) : Type 0 where
   pub some : HasOne c.entries
   pub entries : AllByRecursion IsDrawnEntry c.entries
 
+-- the version of the language that it is written in
+abbrev pub written_in : Drawing → Edition
+written_in d = edition_by (pos d.version)
+
 pub record IsDrawnDrawing (d : Drawing) : Type 0 where
-  pub version : d.version ≡ 1
+  pub version : (d.version ≡ 1) ⊎ (d.version ≡ 2)
+  pub consts : AllByRecursion IsDrawnAssignment d.consts
+  pub no_consts : written_in d ≡ First → d.consts ≡ []
   pub header : IsHeader d.header
   pub name : IsFreeWord d.name
-  pub macros : AllByRecursion IsDrawnMacro d.macros
-  pub body : AreDrawn d.body
+  pub macros : AllByRecursion (IsDrawnMacro (written_in d)) d.macros
+  pub body : AreDrawn (written_in d) d.body
   pub cases : AllByRecursion IsDrawnCase d.cases

@@ -7,7 +7,8 @@ use Rattle.scald_base.specs.declared.refusal.Stop.{Stop}
 use Rattle.scald_base.specs.declared.refusal.Stop.TheVariants.{Refused, NoMemory}
 use Rattle.drawing_tree.specs.Tree as tree
 use Rattle.drawing_grammar.specs.Lexeme.{Lexeme}
-use Rattle.drawing_grammar.specs.Header.{judged}
+use Rattle.drawing_grammar.specs.Edition.{edition_of}
+use Rattle.drawing_grammar.specs.Header.{natural, judged}
 use Rattle.drawing_grammar.specs.Names.{Naming, names, names_from, AreGood, IsBadName, IsNameStop}
 use Rattle.drawing_grammar.specs.DoubleNames.{IsDistinct, IsDoubleName, IsDoubleStop}
 use Rattle.drawing_grammar.specs.Sketch.{Sketch}
@@ -22,7 +23,7 @@ text_of ts s r = record { spelled = r.spelled; within = r.within }
 
 -- the names of what is written are those of its tokens
 names_are : (ts : List Lexeme) (s : Sketch) (r : Reads ts s) → names_from false ts ≡ names r.written
-names_are ts s r = sym (names_of_text r.written ∙ ap (λ (xs : List Lexeme). names_from false xs) r.spelled)
+names_are ts s r = sym (names_of_text (edition_of ts) r.written ∙ ap (λ (xs : List Lexeme). names_from false xs) r.spelled)
 
 pub stop_of_grammar : (ts : List Lexeme) (s : Stop) → IsStop ts s → IsWrongStop ts s
 stop_of_grammar ts (Refused r) found = grammar found
@@ -47,14 +48,23 @@ double_wrong ts s h (Refused r) reads e good found =
     let F : Sketch → Type 0 = λ x. IsDoubleName (declared_by x) r in
     double reads.written h (text_of ts s reads) (ap (λ (x : Sketch). judged x.header) reads.stands ∙ e) (good_names ts s h reads good) (subst F (sym reads.stands) found)
 
--- all is good: the drawing has the header that was judged, and version 1
+-- all is good: the drawing has the header that was judged, and the version that is written
 pub draws_it : (ts : List Lexeme) (s : Sketch) (h : Header) (d : tree.Drawing) → Reads ts s → judged s.header ≡ Ok h →
     AreGood h (names_from false ts) → IsDistinct (declared_by s) →
-    d ≡ record { version = 1; header = h; macros = s.macros.macros; name = s.name; body = s.body; cases = s.cases } → Draws ts d
+    d ≡ record {
+      version = natural s.header.version;
+      header = h;
+      consts = s.consts.constants;
+      const_places = s.consts.places;
+      macros = s.macros.macros;
+      name = s.name;
+      body = s.body;
+      cases = s.cases;
+    } → Draws ts d
 draws_it ts s h d reads e good distinct is =
     let said = judged_ok s.header h e in
     let F : Sketch → Type 0 = λ x. IsDistinct (declared_by x) in
-    let one : drawing_of_sketch s ≡ d = let p = said.0 in let q = said.1 in cc in
+    let one : drawing_of_sketch s ≡ d = let p = said.0 in cc in
     let D : tree.Drawing → Type 0 = λ x. Draws ts x in
     subst D (sym is) (record {
       written = reads.written;

@@ -3,19 +3,22 @@ use Rattle.std.proofs.Common.{◌≡◌, ℕ, Bool, true, false, not, ◌&&◌, 
 use Rattle.std.proofs.lemmas.Bool.{and_parts, not-true}
 use Rattle.drawing_grammar.specs.declared.terminal.Terminal.{Terminal}
 use Rattle.drawing_grammar.specs.declared.terminal.Terminal.TheVariants as is
+use Rattle.drawing_grammar.specs.declared.edition.Edition.{Edition}
+use Rattle.drawing_grammar.specs.declared.edition.Edition.TheVariants.{First, Second}
 use Rattle.drawing_grammar.specs.Lexeme.{Lexeme, terminal}
-use Rattle.drawing_grammar.specs.Grammar.{Part, Group, Need, mark, item, letter, fresh, part, group, Choice, opening, following, lead, others}
+use Rattle.drawing_grammar.specs.Grammar.{Part, Group, Need, mark, item, keyword, fresh, part, group, Choice, opening, following, lead, others}
 use Rattle.drawing_grammar.specs.Grammar as g
-use Rattle.drawing_grammar.specs.Written.{Written, nothing, marked, token, lettered, begun, chosen, left_out, grouped, lacking, spelling}
+use Rattle.drawing_grammar.specs.Written.{Written, nothing, marked, token, worded, begun, chosen, left_out, grouped, lacking, spelling}
 use Rattle.drawing_grammar.specs.Draws.{whole}
 use Rattle.drawing_grammar.specs.Machine.{same}
-use Rattle.drawing_grammar.proofs.Choices.{is_same}
+use Rattle.drawing_grammar.proofs.Terminals.{is_same}
+use Rattle.drawing_grammar.proofs.Choices.{opens_so}
 
 abbrev pub is_end : Terminal → Bool
 is_end l = same l is.EndOfText
 
 abbrev is_whole : Part → Bool
-is_whole g.Text = true
+is_whole (g.Text v) = true
 is_whole _ = false
 
 -- the end is not among these
@@ -23,7 +26,7 @@ abbrev inner : List Need → Bool
 inner [] = true
 inner (mark l ∷ rest) = not (is_end l) && inner rest
 inner (item l ∷ rest) = not (is_end l) && inner rest
-inner (letter x ∷ rest) = inner rest
+inner (keyword x ∷ rest) = inner rest
 inner (fresh ∷ rest) = inner rest
 inner (part p n ∷ rest) = not (is_whole p) && inner rest
 inner (group h n ∷ rest) = inner rest
@@ -33,7 +36,7 @@ abbrev pub Tidy : List Need → Type 0
 Tidy [] = Unit {0}
 Tidy (mark l ∷ rest) = (is_end l ≡ true → rest ≡ []) × Tidy rest
 Tidy (item l ∷ rest) = (is_end l ≡ false) × Tidy rest
-Tidy (letter x ∷ rest) = Tidy rest
+Tidy (keyword x ∷ rest) = Tidy rest
 Tidy (fresh ∷ rest) = Tidy rest
 Tidy (part p n ∷ rest) = (is_whole p ≡ false) × Tidy rest
 Tidy (group h n ∷ rest) = Tidy rest
@@ -42,7 +45,7 @@ tidy_on : (xs rest : List Need) → inner xs ≡ true → Tidy rest → Tidy (xs
 tidy_on [] rest e t = t
 tidy_on (mark l ∷ xs) rest e t = let k = and_parts (not (is_end l)) (inner xs) e in (λ f. let h = not-true (is_end l) k.0 in absurd cc, tidy_on xs rest k.1 t)
 tidy_on (item l ∷ xs) rest e t = let k = and_parts (not (is_end l)) (inner xs) e in (not-true (is_end l) k.0, tidy_on xs rest k.1 t)
-tidy_on (letter x ∷ xs) rest e t = tidy_on xs rest e t
+tidy_on (keyword x ∷ xs) rest e t = tidy_on xs rest e t
 tidy_on (fresh ∷ xs) rest e t = tidy_on xs rest e t
 tidy_on (part p n ∷ xs) rest e t = let k = and_parts (not (is_whole p)) (inner xs) e in (not-true (is_whole p) k.0, tidy_on xs rest k.1 t)
 tidy_on (group h n ∷ xs) rest e t = tidy_on xs rest e t
@@ -82,9 +85,11 @@ choice_inner g.next_term n e = refl
 choice_inner g.hold n e = refl
 choice_inner g.next_conn n e = refl
 choice_inner g.outputs n e = refl
+choice_inner g.constant n e = refl
 choice_inner g.use_ n e = refl
 choice_inner g.wire n e = refl
 choice_inner g.if_ n e = refl
+choice_inner g.for_ n e = refl
 choice_inner g.else_ n e = refl
 choice_inner g.macro n e = refl
 choice_inner g.index n e = refl
@@ -131,9 +136,11 @@ opens_no_end g.next_term = refl
 opens_no_end g.hold = refl
 opens_no_end g.next_conn = refl
 opens_no_end g.outputs = refl
+opens_no_end g.constant = refl
 opens_no_end g.use_ = refl
 opens_no_end g.wire = refl
 opens_no_end g.if_ = refl
+opens_no_end g.for_ = refl
 opens_no_end g.else_ = refl
 opens_no_end g.macro = refl
 opens_no_end g.index = refl
@@ -156,8 +163,9 @@ lead_inner g.SomeFormals = refl
 lead_inner g.Assigns = refl
 lead_inner g.Entries = refl
 lead_inner g.Formals = refl
-lead_inner g.Statements = refl
-lead_inner g.Macros = refl
+lead_inner g.Constants = refl
+lead_inner (g.Statements v) = refl
+lead_inner (g.Macros v) = refl
 lead_inner g.Cases = refl
 
 others_inner : (h : Group) (n : ℕ) → inner (others h n) ≡ true
@@ -171,8 +179,9 @@ others_inner g.SomeFormals n = refl
 others_inner g.Assigns n = refl
 others_inner g.Entries n = refl
 others_inner g.Formals n = refl
-others_inner g.Statements n = refl
-others_inner g.Macros n = refl
+others_inner g.Constants n = refl
+others_inner (g.Statements v) n = refl
+others_inner (g.Macros v) n = refl
 others_inner g.Cases n = refl
 
 -- a token before others that is the end, in what is spelled
@@ -194,7 +203,7 @@ end_last (marked {l = l} {rest = rest} u h w) before e x more t f k =
     alone nothing e = refl
     alone (marked t h w) e = absurd cc
     alone (token t h w) e = absurd cc
-    alone (lettered t h i w) e = absurd cc
+    alone (worded t h i w) e = absurd cc
     alone (begun w) e = absurd cc
     alone (chosen c t h w) e = absurd cc
     alone (left_out v h w) e = absurd cc
@@ -202,40 +211,29 @@ end_last (marked {l = l} {rest = rest} u h w) before e x more t f k =
     alone (lacking v h w) e = absurd cc
 end_last (token {l = l} u h w) before e x more t f k = behind_first u (spelling w) before e x more (λ z. let i =
     is_same l is.EndOfText (sym h ∙ z) in let j = t.0 in absurd cc) f (λ b. end_last w b e x more t.1 f) k
-end_last (lettered u h i w) before e x more t f k = behind_first u (spelling w) before e x more (λ z. absurd (word_end (sym h ∙ z))) f (λ b. end_last w b e x more t f) k
+end_last (worded u h i w) before e x more t f k = behind_first u (spelling w) before e x more (λ z. absurd (word_end (sym h ∙ z))) f (λ b. end_last w b e x more t f) k
   where
     word_end : is.Word ≡ is.EndOfText → ⊥
     word_end z = cc
 end_last (begun w) before e x more t f k = end_last w before e x more t f k
 end_last (chosen {p = p} {n = n} {rest = rest} c u h w) before e x more t f k =
-    behind_first u (spelling w) before e x more (λ z. let i = is_same (opening c) is.EndOfText (sym h ∙ z) in let j =
+    behind_first u (spelling w) before e x more (λ z. let i = is_same (opening c) is.EndOfText (sym (opens_so c u h) ∙ z) in let j =
     opens_no_end c in absurd cc) f (λ b. end_last w b e x more (tidy_on (following c n) rest (choice_inner c n t.0) t.1) f) k
 end_last (left_out v h w) before e x more t f k = end_last w before e x more t.1 f k
 end_last (grouped {g = g} {n = n} {rest = rest} w) before e x more t f k = end_last w before e x more (lead_inner g, tidy_on (others g n) rest (others_inner g n) t) f k
 end_last (lacking v h w) before e x more t f k = end_last w before e x more t f k
 
-pub text_end_last : (w : Written whole) (before : List Lexeme) (e x : Lexeme) (more : List Lexeme) → terminal e ≡ is.EndOfText → spelling w ≡ before ++ e ∷ x ∷ more → ⊥
-text_end_last (chosen g.text u h w) before e x more f k =
+text_tidy : (v : Edition) (n : ℕ) → Tidy (following (g.text {v = v}) n ++ [])
+text_tidy First n = (
+  refl,
+  ((λ z. absurd cc), (refl, (refl, (refl, ((λ z. absurd cc), (refl, (refl, (refl, ((λ z. absurd cc), (refl, ((λ z. absurd cc), ((λ z. absurd cc), ((λ z. absurd cc), ((λ z. refl), tt)))))))))))))),
+)
+text_tidy Second n = text_tidy First n
+
+pub text_end_last : (v : Edition) (w : Written (whole v)) (before : List Lexeme) (e x : Lexeme) (more : List Lexeme) →
+    terminal e ≡ is.EndOfText → spelling w ≡ before ++ e ∷ x ∷ more → ⊥
+text_end_last v (chosen g.text u h w) before e x more f k =
     behind_first u (spelling w) before e x more (λ z. let i =
-    is_same (opening g.text) is.EndOfText (sym h ∙ z) in
-    absurd cc) f (λ b. end_last w
-    b e x more (
-      refl,
-      (
-        (λ z. absurd cc),
-        (
-          refl,
-          (
-            refl,
-            (
-              refl,
-              (
-                (λ z. absurd cc),
-                (refl, (refl, (refl, ((λ z. absurd cc), (refl, ((λ z. absurd cc), ((λ z. absurd cc), ((λ z. absurd cc), ((λ z. refl), tt))))))))),
-              ),
-            ),
-          ),
-        ),
-      ),
-    ) f) k
-text_end_last (left_out v h w) before e x more f k = absurd cc
+    is_same (opening (g.text {v = v})) is.EndOfText (sym h ∙ z) in
+    absurd cc) f (λ b. end_last w b e x more (text_tidy v 0) f) k
+text_end_last v (left_out o h w) before e x more f k = absurd cc

@@ -4,11 +4,12 @@ use Rattle.std.specs.Prelude.{is_some}
 use Rattle.std.specs.List.{list_any}
 use Rattle.drawing_grammar.specs.declared.terminal.Terminal.{Terminal}
 use Rattle.drawing_grammar.specs.declared.terminal.Terminal.TheVariants as is
-use Rattle.drawing_grammar.specs.Grammar.{Part, Group, Need, mark, item, letter, fresh, part, group, Choice, following, lead, others}
+use Rattle.drawing_grammar.specs.declared.edition.Edition.TheVariants.{First, Second}
+use Rattle.drawing_grammar.specs.Grammar.{Part, Group, Need, mark, item, keyword, fresh, part, group, Choice, following, lead, others}
 use Rattle.drawing_grammar.specs.Grammar as g
 use Rattle.drawing_grammar.specs.Sketch.{absent_value, absent_group}
 use Rattle.drawing_grammar.specs.Machine.{same, choice}
-use Rattle.drawing_grammar.proofs.Choices.{at_each}
+use Rattle.drawing_grammar.proofs.Terminals.{at_each}
 
 -- the terminals with which a part would go on
 abbrev pub extends : Part → List Terminal
@@ -33,9 +34,10 @@ extends g.MoreTerms = is.Ampersand ∷ is.Less ∷ []
 extends g.Hold = is.Exclamation ∷ []
 extends g.MoreConns = is.Comma ∷ is.Ampersand ∷ is.Exclamation ∷ is.Less ∷ []
 extends g.Outputs = is.Arrow ∷ []
-extends g.Statement = []
-extends g.Otherwise = is.Else ∷ is.Word ∷ is.Wire ∷ is.If ∷ []
-extends g.Macro = []
+extends g.Constant = []
+extends (g.Statement v) = []
+extends (g.Otherwise v) = is.Else ∷ is.Word ∷ is.Wire ∷ is.If ∷ []
+extends (g.Macro v) = []
 extends g.Index = is.Less ∷ []
 extends g.Entry = []
 extends g.MoreEntries = is.Comma ∷ []
@@ -43,7 +45,7 @@ extends g.CaseStatement = []
 extends g.WireBounds = is.Wire ∷ []
 extends g.PrecisionSkew = is.Pskew ∷ []
 extends g.ClockSkew = is.Cskew ∷ []
-extends g.Text = []
+extends (g.Text v) = []
 
 abbrev pub extends_group : Group → List Terminal
 extends_group g.Product = is.Star ∷ is.Slash ∷ []
@@ -56,8 +58,9 @@ extends_group g.Assigns = is.Star ∷ is.Slash ∷ is.Plus ∷ is.Minus ∷ is.C
 extends_group g.Entries = is.Comma ∷ []
 extends_group g.Conns = is.Less ∷ is.Ampersand ∷ is.Exclamation ∷ is.Comma ∷ is.Minus ∷ is.Zero ∷ is.One ∷ is.Name ∷ []
 extends_group g.Formals = is.Less ∷ is.Comma ∷ is.Name ∷ []
-extends_group g.Statements = is.Word ∷ is.Wire ∷ is.If ∷ []
-extends_group g.Macros = is.Macro ∷ []
+extends_group g.Constants = is.Word ∷ []
+extends_group (g.Statements v) = is.Word ∷ is.Wire ∷ is.If ∷ []
+extends_group (g.Macros v) = is.Macro ∷ []
 extends_group g.Cases = is.Case ∷ []
 
 abbrev pub among : List Terminal → Terminal → Bool
@@ -68,7 +71,7 @@ abbrev pub starts : List Need → (Terminal → Bool) → Terminal → Bool
 starts [] f l = f l
 starts (mark k ∷ rest) f l = same l k
 starts (item k ∷ rest) f l = same l k
-starts (letter word ∷ rest) f l = same l is.Word
+starts (keyword word ∷ rest) f l = same l is.Word
 starts (fresh ∷ rest) f l = starts rest f l
 starts (part p n ∷ rest) f l = is_some (choice p l) || (is_some (absent_value p) && starts rest f l)
 starts (group h n ∷ rest) f l = is_some (choice (lead h) l) || (is_some (absent_group h) && starts rest f l)
@@ -82,7 +85,7 @@ abbrev pub well_chained : List Need → List Terminal → Bool
 well_chained [] behind = true
 well_chained (mark k ∷ rest) behind = well_chained rest behind
 well_chained (item k ∷ rest) behind = well_chained rest behind
-well_chained (letter word ∷ rest) behind = well_chained rest behind
+well_chained (keyword word ∷ rest) behind = well_chained rest behind
 well_chained (fresh ∷ rest) behind = well_chained rest behind
 well_chained (part p n ∷ rest) behind = apart (extends p) rest behind && well_chained rest behind
 well_chained (group h n ∷ rest) behind = apart (extends_group h) rest behind && well_chained rest behind
@@ -122,9 +125,11 @@ choice_chained g.next_term n = refl
 choice_chained g.hold n = refl
 choice_chained g.next_conn n = refl
 choice_chained g.outputs n = refl
+choice_chained g.constant n = refl
 choice_chained g.use_ n = refl
 choice_chained g.wire n = refl
 choice_chained g.if_ n = refl
+choice_chained g.for_ n = refl
 choice_chained g.else_ n = refl
 choice_chained g.macro n = refl
 choice_chained g.index n = refl
@@ -134,7 +139,8 @@ choice_chained g.case_ n = refl
 choice_chained g.wire_bounds n = refl
 choice_chained g.precision_skew n = refl
 choice_chained g.clock_skew n = refl
-choice_chained g.text n = refl
+choice_chained (g.text {v = First}) n = refl
+choice_chained (g.text {v = Second}) n = refl
 
 pub group_chained : (h : Group) (n : ℕ) → well_chained (part (lead h) n ∷ others h n) (extends_group h) ≡ true
 group_chained g.Product n = refl
@@ -147,8 +153,9 @@ group_chained g.SomeFormals n = refl
 group_chained g.Assigns n = refl
 group_chained g.Entries n = refl
 group_chained g.Formals n = refl
-group_chained g.Statements n = refl
-group_chained g.Macros n = refl
+group_chained g.Constants n = refl
+group_chained (g.Statements v) n = refl
+group_chained (g.Macros v) n = refl
 group_chained g.Cases n = refl
 
 -- a part that may be left out goes on with what it begins with
@@ -177,9 +184,10 @@ part_goes_on g.MoreTerms = refl
 part_goes_on g.Hold = refl
 part_goes_on g.MoreConns = refl
 part_goes_on g.Outputs = refl
-part_goes_on g.Statement = refl
-part_goes_on g.Otherwise = refl
-part_goes_on g.Macro = refl
+part_goes_on g.Constant = refl
+part_goes_on (g.Statement v) = refl
+part_goes_on (g.Otherwise v) = refl
+part_goes_on (g.Macro v) = refl
 part_goes_on g.Index = refl
 part_goes_on g.Entry = refl
 part_goes_on g.MoreEntries = refl
@@ -187,7 +195,7 @@ part_goes_on g.CaseStatement = refl
 part_goes_on g.WireBounds = refl
 part_goes_on g.PrecisionSkew = refl
 part_goes_on g.ClockSkew = refl
-part_goes_on g.Text = refl
+part_goes_on (g.Text v) = refl
 
 abbrev pub group_goes : Group → Terminal → Bool
 group_goes h l = if is_some (absent_group h) && is_some (choice (lead h) l) then among (extends_group h) l else true
@@ -203,8 +211,9 @@ group_goes_on g.SomeFormals = refl
 group_goes_on g.Assigns = refl
 group_goes_on g.Entries = refl
 group_goes_on g.Formals = refl
-group_goes_on g.Statements = refl
-group_goes_on g.Macros = refl
+group_goes_on g.Constants = refl
+group_goes_on (g.Statements v) = refl
+group_goes_on (g.Macros v) = refl
 group_goes_on g.Cases = refl
 
 pub leads : (h : Group) → absent_value (lead h) ≡ None
@@ -218,6 +227,7 @@ leads g.SomeFormals = refl
 leads g.Assigns = refl
 leads g.Entries = refl
 leads g.Formals = refl
-leads g.Statements = refl
-leads g.Macros = refl
+leads g.Constants = refl
+leads (g.Statements v) = refl
+leads (g.Macros v) = refl
 leads g.Cases = refl

@@ -1,7 +1,7 @@
 -- What a text within the rules draws: its drawing is well formed, and one that canonical texts draw.
-use Rattle.std.proofs.Common.{◌≡◌, ℕ, true, false, List, ◌++◌, ℤ, pos, negsuc, Option, Some, None, map, arith, sym, subst}
-use Rattle.std.specs.Prelude.{IfSome, All, Ok}
-use Rattle.std.proofs.lemmas.Bool.Decides.{nat_tests}
+use Rattle.std.proofs.Common.{◌≡◌, ℕ, ◌≤◌, zero, suc, true, false, List, ◌++◌, ℤ, pos, negsuc, Option, Some, None, ◌⊎◌, inl, inr, refl, map, arith, sym, subst}
+use Rattle.std.specs.Prelude.{IfSome, All, Ok, int_le}
+use Rattle.std.proofs.lemmas.Bool.{and_parts, leb-true}
 use Rattle.std.specs.List.{AllByRecursion}
 use Rattle.std.proofs.lemmas.List.Elements.{All-from_recursion}
 use Rattle.scald_base.specs.Time.{Header, IsHeader}
@@ -15,6 +15,8 @@ use Rattle.drawing_tree.specs.declared.drawing.CaseStmt.{CaseStmt}
 use Rattle.drawing_tree.specs.Tree as tree
 use Rattle.drawing_tree.specs.WellFormed as well
 use Rattle.drawing_tree.specs.WellFormed.{IsGoodName, IsGoodExpression, IsGoodRange}
+use Rattle.drawing_grammar.specs.declared.edition.Edition.{Edition}
+use Rattle.drawing_grammar.specs.Edition.{edition_by}
 use Rattle.drawing_grammar.specs.Lexeme.{lexemes}
 use Rattle.drawing_grammar.specs.declared.header.WrittenHeader.{WrittenHeader}
 use Rattle.drawing_grammar.specs.Header.{natural, is_version, is_clock, is_bounds, is_skew, judged, header_of}
@@ -25,7 +27,8 @@ use Rattle.drawing_grammar.specs.Draws.{whole}
 use Rattle.drawing_grammar.specs.Names.{names_from, AreGood}
 use Rattle.drawing_grammar.proofs.Drawable as drawn
 use Rattle.drawing_grammar.proofs.Drawable.{IsDrawn, IsDrawnRange}
-use Rattle.drawing_grammar.proofs.Proper.{IsItemOf, IsTermOf, IsConnectionOf, IsUseOf, IsWireOf, IsStatementOf, AreStatementsOf, IsOtherwiseOf, IsMacroOf, IsEntryOf, IsCaseOf, IsSketchOf, AreProper, values_of}
+use Rattle.drawing_grammar.proofs.ProperTrees.{IsItemOf, IsTermOf, IsConnectionOf, IsUseOf, IsWireOf, IsStatementOf, AreStatementsOf, IsOtherwiseOf, IsMacroOf, IsEntryOf, IsCaseOf, IsSketchOf}
+use Rattle.drawing_grammar.proofs.Proper.{AreProper, values_of}
 use Rattle.drawing_grammar.proofs.ProperTokens.{tokens_proper}
 use Rattle.drawing_grammar.proofs.Judging.{passed, passed_pair}
 use Rattle.drawing_grammar.proofs.SpelledLists.{all_map}
@@ -35,15 +38,15 @@ use Rattle.drawing_grammar.proofs.SpelledLists.{all_map}
 good_name : (h : Header) (n : SignalName) → IsGoodName h n → IsName n
 good_name h n good = good.is_name
 
-pub sketch_proper : (h : Header) (text : List ℕ) (tokens : List lex.Token) (w : Written whole) → AreTokens text tokens →
-    spelling w ≡ lexemes text tokens → AreGood h (names_from false (lexemes text tokens)) → IsSketchOf (λ n. IsGoodName h n) (values w).0
-sketch_proper h text tokens w are spelled good =
+pub sketch_proper : (v : Edition) (h : Header) (text : List ℕ) (tokens : List lex.Token) (w : Written (whole v)) → AreTokens text tokens →
+    spelling w ≡ lexemes text tokens → AreGood h (names_from false (lexemes text tokens)) → IsSketchOf (λ n. IsGoodName h n) v (values w).0
+sketch_proper v h text tokens w are spelled good =
     let G : SignalName → Type 0 = λ n. IsGoodName h n in
     (values_of G (good_name h) w (subst (AreProper G) (sym spelled) (tokens_proper h text tokens are good))).0
 
 -- ---- drawn
 
-module _ (G : SignalName → Type 0) (k : (n : SignalName) → G n → IsName n) where
+module _ (G : SignalName → Type 0) (k : (n : SignalName) → G n → IsName n) (v : Edition) where
   item_drawn : (i : tree.Item) → IsItemOf G i → drawn.IsDrawnItem i
   item_drawn tree.Zero a = tt
   item_drawn tree.One a = tt
@@ -68,20 +71,21 @@ module _ (G : SignalName → Type 0) (k : (n : SignalName) → G n → IsName n)
   wire_drawn w a = record { name = k w.name a.name; range = a.range; min = a.min; max = a.max }
 
   mutual
-    statement_drawn : (s : tree.Statement) → IsStatementOf G s → drawn.IsDrawnStatement s
+    statement_drawn : (s : tree.Statement) → IsStatementOf G v s → drawn.IsDrawnStatement v s
     statement_drawn (tree.Use u) a = use_drawn u a
     statement_drawn (tree.Wire w) a = wire_drawn w a
     statement_drawn (tree.If test ss other place) a = (a.0, statements_drawn ss a.1, otherwise_drawn other a.2)
+    statement_drawn (tree.For var first last ss place) a = (a.0, a.1, a.2, a.3, statements_drawn ss a.4)
 
-    statements_drawn : (ss : tree.Statements) → AreStatementsOf G ss → drawn.AreDrawn ss
+    statements_drawn : (ss : tree.Statements) → AreStatementsOf G v ss → drawn.AreDrawn v ss
     statements_drawn tree.nil a = tt
     statements_drawn (tree.cons s ss) a = (statement_drawn s a.0, statements_drawn ss a.1)
 
-    otherwise_drawn : (o : tree.Otherwise) → IsOtherwiseOf G o → drawn.IsDrawnOtherwise o
+    otherwise_drawn : (o : tree.Otherwise) → IsOtherwiseOf G v o → drawn.IsDrawnOtherwise v o
     otherwise_drawn tree.no_else a = tt
     otherwise_drawn (tree.else_ ss) a = statements_drawn ss a
 
-  macro_drawn : (m : tree.Macro) → IsMacroOf G m → drawn.IsDrawnMacro m
+  macro_drawn : (m : tree.Macro) → IsMacroOf G v m → drawn.IsDrawnMacro v m
   macro_drawn m a = record { name = a.name; params = a.params; ins = a.ins; outs = a.outs; body = statements_drawn m.body a.body }
 
   entry_drawn : (e : CaseEntry) → IsEntryOf G e → drawn.IsDrawnEntry e
@@ -90,10 +94,10 @@ module _ (G : SignalName → Type 0) (k : (n : SignalName) → G n → IsName n)
   case_drawn : (c : CaseStmt) → IsCaseOf G c → drawn.IsDrawnCase c
   case_drawn c a = record { some = a.some; entries = all_map (IsEntryOf G) drawn.IsDrawnEntry entry_drawn c.entries a.entries }
 
-  pub macros_drawn : (ms : List tree.Macro) → AllByRecursion (IsMacroOf G) ms → AllByRecursion drawn.IsDrawnMacro ms
-  macros_drawn ms a = all_map (IsMacroOf G) drawn.IsDrawnMacro macro_drawn ms a
+  pub macros_drawn : (ms : List tree.Macro) → AllByRecursion (IsMacroOf G v) ms → AllByRecursion drawn.IsDrawnMacro v ms
+  macros_drawn ms a = all_map (IsMacroOf G v) drawn.IsDrawnMacro v macro_drawn ms a
 
-  pub body_drawn : (ss : tree.Statements) → AreStatementsOf G ss → drawn.AreDrawn ss
+  pub body_drawn : (ss : tree.Statements) → AreStatementsOf G v ss → drawn.AreDrawn v ss
   body_drawn ss a = statements_drawn ss a
 
   pub cases_drawn : (cs : List CaseStmt) → AllByRecursion (IsCaseOf G) cs → AllByRecursion drawn.IsDrawnCase cs
@@ -132,10 +136,13 @@ delays_good (Some d) fall a = ((expression_good d.0 a.0.0, expression_good d.1 a
 assignment_good : (x : tree.Assignment) → drawn.IsDrawnAssignment x → well.IsGoodAssignment x
 assignment_good x a = record { name = a.name; value = expression_good x.value a.value }
 
+pub consts_good : (cs : List tree.Assignment) → AllByRecursion drawn.IsDrawnAssignment cs → All well.IsGoodAssignment cs
+consts_good cs a = all_of drawn.IsDrawnAssignment well.IsGoodAssignment assignment_good cs a
+
 formal_good : (f : tree.Formal) → drawn.IsDrawnFormal f → well.IsGoodFormal f
 formal_good f a = record { base = a.base; range = some_range_good f.range a.range }
 
-module _ (h : Header) where
+module _ (h : Header) (v : Edition) where
   abbrev Good : SignalName → Type 0
   Good n = IsGoodName h n
 
@@ -161,23 +168,25 @@ module _ (h : Header) where
   wire_good w a = record { name = a.name; range = some_range_good w.range a.range; min = expression_good w.min a.min; max = expression_good w.max a.max }
 
   mutual
-    statement_good : (s : tree.Statement) → IsStatementOf Good s → well.IsGoodStatement h s
+    statement_good : (s : tree.Statement) → IsStatementOf Good v s → well.IsGoodStatement h s
     statement_good (tree.Use u) a = use_good u a
     statement_good (tree.Wire w) a = wire_good w a
     statement_good (tree.If test ss other place) a = (expression_good test a.0, statements_good ss a.1, otherwise_good other a.2)
+    statement_good (tree.For var first last ss place) a =
+        (a.1, expression_good first a.2, expression_good last a.3, statements_good ss a.4)
 
-    statements_good : (ss : tree.Statements) → AreStatementsOf Good ss → well.AreGoodStatements h ss
+    statements_good : (ss : tree.Statements) → AreStatementsOf Good v ss → well.AreGoodStatements h ss
     statements_good tree.nil a = tt
     statements_good (tree.cons s ss) a = (statement_good s a.0, statements_good ss a.1)
 
-    otherwise_good : (o : tree.Otherwise) → IsOtherwiseOf Good o → well.IsGoodOtherwise h o
+    otherwise_good : (o : tree.Otherwise) → IsOtherwiseOf Good v o → well.IsGoodOtherwise h o
     otherwise_good tree.no_else a = tt
     otherwise_good (tree.else_ ss) a = statements_good ss a
 
-  pub body_good : (ss : tree.Statements) → AreStatementsOf Good ss → well.AreDifferent (well.labels ss) → well.IsGoodBody h ss
+  pub body_good : (ss : tree.Statements) → AreStatementsOf Good v ss → well.AreDifferent (well.labels ss) → well.IsGoodBody h ss
   body_good ss a d = record { statements = statements_good ss a; labels = d }
 
-  pub macro_good : (m : tree.Macro) → IsMacroOf Good m → well.AreDifferent (map (λ p. p.name) m.params) →
+  pub macro_good : (m : tree.Macro) → IsMacroOf Good v m → well.AreDifferent (map (λ p. p.name) m.params) →
       well.AreDifferent (map (λ f. f.base) (m.ins ++ m.outs)) → well.AreDifferent (well.labels m.body) → well.IsGoodMacro h m
   macro_good m a params formals labels = record {
     name = a.name;
@@ -194,12 +203,26 @@ module _ (h : Header) where
 
 -- ---- the header
 
-version_one : (n : ℤ) → is_version n ≡ true → natural n ≡ 1
-version_one (pos n) e = grind (arith, nat_tests)
-version_one (negsuc n) e = absurd cc
+one_or_two : (n : ℕ) → 1 ≤ n → n ≤ 2 → (n ≡ 1) ⊎ (n ≡ 2)
+one_or_two zero a b = absurd (omega arith)
+one_or_two (suc zero) a b = inl refl
+one_or_two (suc (suc zero)) a b = inr refl
+one_or_two (suc (suc (suc n))) a b = absurd (omega arith)
+
+version_known : (n : ℤ) → is_version n ≡ true → (natural n ≡ 1) ⊎ (natural n ≡ 2)
+version_known (pos n) e =
+    let k = and_parts (int_le (pos 1) (pos n)) (int_le (pos n) (pos 2)) e in
+    one_or_two n (leb-true 1 n k.0) (leb-true n 2 k.1)
+version_known (negsuc n) e = absurd cc
+
+-- The version that a text names is the one of its drawing.
+edition_natural : (n : ℤ) → is_version n ≡ true → edition_by (pos (natural n)) ≡ edition_by n
+edition_natural (pos n) e = refl
+edition_natural (negsuc n) e = absurd cc
 
 -- a header that is not refused is the one that its numbers give
-pub judged_ok : (w : WrittenHeader) (h : Header) → judged w ≡ Ok h → (header_of w ≡ h) × (natural w.version ≡ 1)
+pub judged_ok : (w : WrittenHeader) (h : Header) → judged w ≡ Ok h →
+    (header_of w ≡ h) × ((natural w.version ≡ 1) ⊎ (natural w.version ≡ 2)) × (edition_by (pos (natural w.version)) ≡ edition_by w.version)
 judged_ok w h e =
     let first = passed (is_version w.version) w.place _ h e in
     let second = passed (is_clock w.clock.first w.clock.second) w.clock.place _ h first.1 in
@@ -207,19 +230,25 @@ judged_ok w h e =
     let fourth = (passed_pair is_skew w.pskew _ h third).1 in
     let last = (passed_pair is_skew w.cskew _ h fourth).1 in
     let same : header_of w ≡ h = cc in
-    (same, version_one w.version first.0)
+    (same, version_known w.version first.0, edition_natural w.version first.0)
 
 -- ---- drawn by canonical texts
 
-pub sketch_drawn : (h : Header) (s : Sketch) → IsHeader h → judged s.header ≡ Ok h → IsSketchOf (λ n. IsGoodName h n) s → drawn.IsDrawnDrawing (drawing_of_sketch s)
-sketch_drawn h s is_header e a =
+pub sketch_drawn : (h : Header) (s : Sketch) → IsHeader h → judged s.header ≡ Ok h →
+    IsSketchOf (λ n. IsGoodName h n) (edition_by s.header.version) s → drawn.IsDrawnDrawing (drawing_of_sketch s)
+sketch_drawn h s is_header e b =
     let G : SignalName → Type 0 = λ n. IsGoodName h n in
     let said = judged_ok s.header h e in
+    let v = drawn.written_in (drawing_of_sketch s) in
+    let P : Edition → Type 0 = λ x. IsSketchOf G x s in
+    let a : IsSketchOf G v s = subst P (sym said.2) b in
     record {
       version = said.1;
+      consts = a.consts.constants;
+      no_consts = a.no_consts;
       header = subst IsHeader (sym said.0) is_header;
       name = a.name;
-      macros = macros_drawn G (good_name h) s.macros.macros a.macros.macros;
-      body = body_drawn G (good_name h) s.body a.body;
-      cases = cases_drawn G (good_name h) s.cases a.cases;
+      macros = macros_drawn G (good_name h) v s.macros.macros a.macros.macros;
+      body = body_drawn G (good_name h) v s.body a.body;
+      cases = cases_drawn G (good_name h) v s.cases a.cases;
     }

@@ -1,8 +1,9 @@
 -- What may stand in the head of a macro, and what outside of it.
 use Rattle.std.proofs.Common.{◌≡◌, ℕ, Bool, true, false, ◌&&◌, List, [], ◌∷◌, ◌++◌, refl}
+use Rattle.drawing_grammar.specs.declared.edition.Edition.TheVariants.{First, Second}
 use Rattle.drawing_grammar.specs.declared.terminal.Terminal.TheVariants as is
 use Rattle.drawing_grammar.specs.Lexeme.{Lexeme}
-use Rattle.drawing_grammar.specs.Grammar.{Part, Group, Need, mark, item, letter, fresh, part, group, Choice, opening, following, others, lead}
+use Rattle.drawing_grammar.specs.Grammar.{Part, Group, Need, mark, item, keyword, fresh, part, group, Choice, opening, following, others, lead}
 use Rattle.drawing_grammar.specs.Grammar as g
 use Rattle.drawing_grammar.specs.Names.{choice_names, names_at, head_behind}
 
@@ -51,7 +52,7 @@ stands in_head (item is.Name) = name_stands in_head
 stands in_head (item is.Macro) = false
 stands in_head (item is.Semicolon) = false
 stands in_head (item _) = true
-stands in_head (letter x) = true
+stands in_head (keyword x) = true
 stands in_head fresh = true
 stands in_head (part p n) = part_stands in_head p
 stands in_head (group h n) = group_stands in_head h
@@ -94,6 +95,8 @@ choice_stands true _ n rest h = absurd cc
 choice_stands false g.formal n rest h = absurd cc
 choice_stands false g.next_formal n rest h = absurd cc
 choice_stands false g.formal_outputs n rest h = absurd cc
+choice_stands false (g.text {v = First}) n rest h = h
+choice_stands false (g.text {v = Second}) n rest h = h
 choice_stands false _ n rest h = h
 
 pub choice_named : (in_head : Bool) {p : Part} (c : Choice p) (n : ℕ) (rest : List Need) (t : Lexeme) → stand in_head (part p n ∷ rest) ≡ true → names_at in_head (opening c) t ≡ choice_names c t

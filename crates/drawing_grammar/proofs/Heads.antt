@@ -3,11 +3,13 @@ use Rattle.std.proofs.Common.{◌≡◌, Bool, true, false, List, [], ◌∷◌,
 use Rattle.std.proofs.lemmas.Bool.{and_parts}
 use Rattle.drawing_grammar.specs.declared.terminal.Terminal.{Terminal}
 use Rattle.drawing_grammar.specs.declared.terminal.Terminal.TheVariants as is
+use Rattle.drawing_grammar.specs.declared.edition.Edition.{Edition}
 use Rattle.drawing_grammar.specs.Lexeme.{Lexeme, terminal}
 use Rattle.drawing_grammar.specs.Grammar.{Need, mark, item, opening}
-use Rattle.drawing_grammar.specs.Written.{Written, nothing, marked, token, lettered, begun, chosen, left_out, grouped, lacking, spelling}
+use Rattle.drawing_grammar.specs.Written.{Written, nothing, marked, token, worded, begun, chosen, left_out, grouped, lacking, spelling}
 use Rattle.drawing_grammar.specs.Draws.{whole}
 use Rattle.drawing_grammar.specs.Names.{Naming, choice_names, item_names, names, names_at, head_behind, names_from}
+use Rattle.drawing_grammar.proofs.Choices.{opens_so}
 use Rattle.drawing_grammar.proofs.HeadNeeds.{part_stands, group_stands, stand, choice_stands, choice_named, group_parts}
 
 -- ---- single tokens
@@ -54,14 +56,14 @@ names_found in_head (marked {l = l} {rest = rest} t e w) h = one_more in_head l 
     (spelling w) e (mark_named in_head l rest t h) (names_found (head_behind in_head l) w (mark_stands in_head l rest h))
 names_found in_head (token {l = l} {rest = rest} t e w) h = one_more in_head l t (item_names l t)
     (names w) (spelling w) e (item_named in_head l rest t h) (names_found (head_behind in_head l) w (item_stands in_head l rest h))
-names_found in_head (lettered t e f w) h = one_more in_head is.Word t [] (names w) (spelling w) e refl (names_found in_head w h)
+names_found in_head (worded t e f w) h = one_more in_head is.Word t [] (names w) (spelling w) e refl (names_found in_head w h)
 names_found in_head (begun w) h = names_found in_head w h
 names_found in_head (chosen {p = p} {n = n} {rest = rest} c t e w) h = one_more in_head (opening c) t (choice_names c t)
-    (names w) (spelling w) e (choice_named in_head c n rest t h) (names_found (head_behind in_head (opening c)) w (choice_stands in_head c n rest h))
+    (names w) (spelling w) (opens_so c t e) (choice_named in_head c n rest t h) (names_found (head_behind in_head (opening c)) w (choice_stands in_head c n rest h))
 names_found in_head (left_out {p = p} v e w) h = names_found in_head w (and_parts (part_stands in_head p) _ h).1
 names_found in_head (grouped {g = k} {n = n} {rest = rest} w) h = names_found in_head w (group_parts in_head k n rest h)
 names_found in_head (lacking {g = k} v e w) h = names_found in_head w (and_parts (group_stands in_head k) _ h).1
 
 -- The names of a text are those of its tokens.
-pub names_of_text : (w : Written whole) → names w ≡ names_from false (spelling w)
-names_of_text w = names_found false w refl
+pub names_of_text : (v : Edition) (w : Written (whole v)) → names w ≡ names_from false (spelling w)
+names_of_text v w = names_found false w refl

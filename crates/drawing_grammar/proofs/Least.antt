@@ -3,15 +3,16 @@ use Rattle.std.proofs.Common.{◌≡◌, ℕ, pos, List, [], ◌∷◌, Option, 
 use Rattle.std.specs.Prelude.{codes}
 use Rattle.scald_lex.specs.declared.token.TokenKind.{TokenKind}
 use Rattle.scald_lex.specs.declared.token.TokenKind.TheVariants as kind
-use Rattle.drawing_grammar.specs.declared.terminal.Letter.{Letter}
-use Rattle.drawing_grammar.specs.declared.terminal.Letter.TheVariants.{By, Hazard}
+use Rattle.drawing_grammar.specs.declared.terminal.Keyword.{Keyword}
+use Rattle.drawing_grammar.specs.declared.terminal.Keyword.TheVariants.{By, Hazard, Const, For, To, Do}
 use Rattle.drawing_grammar.specs.declared.terminal.Terminal.{Terminal}
 use Rattle.drawing_grammar.specs.declared.terminal.Terminal.TheVariants as is
+use Rattle.drawing_grammar.specs.declared.edition.Edition.TheVariants.{First, Second}
 use Rattle.drawing_grammar.specs.Lexeme.{Lexeme, terminal, word_terminal, symbol_terminal}
-use Rattle.drawing_grammar.specs.Grammar.{Part, Group, letter_text, Need, mark, item, letter, fresh, part, group}
+use Rattle.drawing_grammar.specs.Grammar.{Part, Group, keyword_text, Need, mark, item, keyword, fresh, part, group}
 use Rattle.drawing_grammar.specs.Grammar as g
 use Rattle.drawing_grammar.specs.Sketch.{Meaning, GroupMeaning, Values, absent_value, absent_group}
-use Rattle.drawing_grammar.specs.Written.{Written, nothing, marked, token, lettered, begun, chosen, left_out, grouped, lacking, spelling, values}
+use Rattle.drawing_grammar.specs.Written.{Written, nothing, marked, token, worded, begun, chosen, left_out, grouped, lacking, spelling, values}
 use Rattle.drawing_grammar.specs.Machine.{Verdict, Complete, Refused, given, finish, finish_part, finish_group, nowhere}
 use Rattle.drawing_grammar.proofs.Follow.{leads}
 
@@ -101,10 +102,14 @@ sampled is.Ampersand = refl
 sampled is.Exclamation = refl
 sampled is.EndOfText = refl
 
-lettered_word : (x : Letter) → terminal (word (letter_text x)) ≡ is.Word
+worded_word : (x : Keyword) → terminal (word (keyword_text x)) ≡ is.Word
 unfolding word_terminal
-lettered_word By = refl
-lettered_word Hazard = refl
+worded_word By = refl
+worded_word Hazard = refl
+worded_word Const = refl
+worded_word For = refl
+worded_word To = refl
+worded_word Do = refl
 
 abbrev m : (l : Terminal) {rest : List Need} → Written rest → Written (mark l ∷ rest)
 m l w = marked (sample l) (sampled l) w
@@ -135,12 +140,15 @@ least_part g.MoreTerms n rest w = left_out _ refl w
 least_part g.Hold n rest w = left_out _ refl w
 least_part g.MoreConns n rest w = left_out _ refl w
 least_part g.Outputs n rest w = left_out _ refl w
-least_part g.Statement n rest w =
+least_part g.Constant n rest w =
+    chosen g.constant (word (codes "CONST")) (worded_word Const, refl) (i is.Word
+    (m is.Equals (begun (grouped (chosen g.number (sample is.Number) (sampled is.Number) (left_out _ refl (left_out _ refl (m is.Semicolon (w)))))))))
+least_part (g.Statement v) n rest w =
     chosen g.use_ (sample is.Word) (sampled is.Word)
     (m is.Colon (i is.Word (left_out _
     refl (left_out _ refl (m is.OpenParenthesis (lacking _ refl (m is.CloseParenthesis (left_out _ refl (m is.Semicolon (w))))))))))
-least_part g.Otherwise n rest w = left_out _ refl w
-least_part g.Macro n rest w =
+least_part (g.Otherwise v) n rest w = left_out _ refl w
+least_part (g.Macro v) n rest w =
     chosen g.macro (sample is.Macro) (sampled is.Macro)
     (i is.Word (left_out _ refl (m is.OpenParenthesis
     (lacking _ refl (m is.CloseParenthesis (left_out _ refl (m is.Semicolon (lacking _ refl (m is.End (m is.Semicolon (w)))))))))))
@@ -152,15 +160,24 @@ least_part g.CaseStatement n rest w = chosen g.case_ (sample is.Case) (sampled i
 least_part g.WireBounds n rest w = left_out _ refl w
 least_part g.PrecisionSkew n rest w = left_out _ refl w
 least_part g.ClockSkew n rest w = left_out _ refl w
-least_part g.Text n rest w =
+least_part (g.Text First) n rest w =
     chosen g.text (sample is.Scald) (sampled is.Scald)
     (i is.Number (m is.Semicolon
     (i is.Clock (i is.Number
-    (lettered {x = By} (word (codes "x")) (lettered_word By)
+    (worded {x = By} (word (codes "x")) (worded_word By)
     refl (i is.Number (m is.Semicolon
     (left_out _ refl (left_out _
     refl (left_out _ refl (lacking _
     refl (m is.Drawing (i is.Word (m is.Semicolon (lacking _ refl (m is.End (m is.Semicolon (lacking _ refl (m is.EndOfText (w))))))))))))))))))))
+least_part (g.Text Second) n rest w =
+    chosen g.text (sample is.Scald) (sampled is.Scald)
+    (i is.Number (m is.Semicolon
+    (i is.Clock (i is.Number
+    (worded {x = By} (word (codes "x")) (worded_word By)
+    refl (i is.Number (m is.Semicolon
+    (left_out _ refl (left_out _
+    refl (left_out _ refl (lacking _ refl (lacking _
+    refl (m is.Drawing (i is.Word (m is.Semicolon (lacking _ refl (m is.End (m is.Semicolon (lacking _ refl (m is.EndOfText (w)))))))))))))))))))))
 
 abbrev operand : (n : ℕ) {rest : List Need} → Written rest → Written (part g.Unary n ∷ rest)
 operand n w = chosen g.number (sample is.Number) (sampled is.Number) w
@@ -179,8 +196,9 @@ least_group g.Assigns n rest w = grouped (least_part g.Assign n _ (left_out _ re
 least_group g.Entries n rest w = grouped (least_part g.Entry n _ (left_out _ refl w))
 least_group g.Conns n rest w = lacking _ refl w
 least_group g.Formals n rest w = lacking _ refl w
-least_group g.Statements n rest w = lacking _ refl w
-least_group g.Macros n rest w = lacking _ refl w
+least_group g.Constants n rest w = lacking _ refl w
+least_group (g.Statements v) n rest w = lacking _ refl w
+least_group (g.Macros v) n rest w = lacking _ refl w
 least_group g.Cases n rest w = lacking _ refl w
 
 -- something that is written there
@@ -188,7 +206,7 @@ pub least : (needs : List Need) → Written needs
 least [] = nothing
 least (mark l ∷ rest) = m l (least rest)
 least (item l ∷ rest) = i l (least rest)
-least (letter x ∷ rest) = lettered (word (letter_text x)) (lettered_word x) refl (least rest)
+least (keyword x ∷ rest) = worded (word (keyword_text x)) (worded_word x) refl (least rest)
 least (fresh ∷ rest) = begun (least rest)
 least (part p n ∷ rest) = least_part p n rest (least rest)
 least (group h n ∷ rest) = least_group h n rest (least rest)
@@ -233,7 +251,7 @@ part_needs g.MoreConns n rest w e = absurd cc
 part_needs g.Outputs n rest w e = absurd cc
 part_needs g.Statement n rest w e = more (least_part g.Statement n rest w) _ _ refl
 part_needs g.Otherwise n rest w e = absurd cc
-part_needs g.Macro n rest w e = more (least_part g.Macro n rest w) _ _ refl
+part_needs g.Macro n rest w e = more (least_part (g.Macro v) n rest w) _ _ refl
 part_needs g.Index n rest w e = absurd cc
 part_needs g.Entry n rest w e = more (least_part g.Entry n rest w) _ _ refl
 part_needs g.MoreEntries n rest w e = absurd cc
@@ -241,7 +259,8 @@ part_needs g.CaseStatement n rest w e = more (least_part g.CaseStatement n rest 
 part_needs g.WireBounds n rest w e = absurd cc
 part_needs g.PrecisionSkew n rest w e = absurd cc
 part_needs g.ClockSkew n rest w e = absurd cc
-part_needs g.Text n rest w e = more (least_part g.Text n rest w) _ _ refl
+part_needs (g.Text First) n rest w e = more (least_part (g.Text First) n rest w) _ _ refl
+part_needs (g.Text Second) n rest w e = more (least_part (g.Text Second) n rest w) _ _ refl
 
 group_needs : (h : Group) (n : ℕ) (rest : List Need) → Written rest → absent_group h ≡ None → NeedsMore (group h n ∷ rest)
 group_needs g.Product n rest w e = more (least_group g.Product n rest w) _ _ refl
@@ -254,8 +273,9 @@ group_needs g.SomeFormals n rest w e = more (least_group g.SomeFormals n rest w)
 group_needs g.Formals n rest w e = absurd cc
 group_needs g.Assigns n rest w e = more (least_group g.Assigns n rest w) _ _ refl
 group_needs g.Entries n rest w e = more (least_group g.Entries n rest w) _ _ refl
-group_needs g.Statements n rest w e = absurd cc
-group_needs g.Macros n rest w e = absurd cc
+group_needs g.Constants n rest w e = absurd cc
+group_needs (g.Statements v) n rest w e = absurd cc
+group_needs (g.Macros v) n rest w e = absurd cc
 group_needs g.Cases n rest w e = absurd cc
 
 -- what needs more behind needs more
@@ -279,7 +299,7 @@ pub unfinished : (needs : List Need) → IsRefused (finish needs) → NeedsMore 
 unfinished [] r = absurd r
 unfinished (mark l ∷ rest) r = more (m l (least rest)) _ _ refl
 unfinished (item l ∷ rest) r = more (i l (least rest)) _ _ refl
-unfinished (letter x ∷ rest) r = more (lettered (word (letter_text x)) (lettered_word x) refl (least rest)) _ _ refl
+unfinished (keyword x ∷ rest) r = more (worded (word (keyword_text x)) (worded_word x) refl (least rest)) _ _ refl
 unfinished (fresh ∷ rest) r = fresh_more rest (finish rest) (unfinished rest) r
 unfinished (part p n ∷ rest) r = part_more p n rest (absent_value p) refl (finish rest) (unfinished rest) r
 unfinished (group h n ∷ rest) r = group_more h n rest (absent_group h) refl (finish rest) (unfinished rest) r
@@ -313,7 +333,7 @@ pub finished : (needs : List Need) → DoneAt needs (finish needs)
 finished [] = record { written = nothing; spelled = refl; valued = refl }
 finished (mark l ∷ rest) = tt
 finished (item l ∷ rest) = tt
-finished (letter x ∷ rest) = tt
+finished (keyword x ∷ rest) = tt
 finished (fresh ∷ rest) = fresh_done rest (finish rest) (finished rest)
 finished (part p n ∷ rest) = part_done p n rest (absent_value p) refl (finish rest) (finished rest)
 finished (group h n ∷ rest) = group_done h n rest (absent_group h) refl (finish rest) (finished rest)
@@ -323,7 +343,7 @@ pub empty : {needs : List Need} (w : Written needs) → spelling w ≡ [] → fi
 empty nothing e = refl
 empty (marked t h w) e = absurd cc
 empty (token t h w) e = absurd cc
-empty (lettered t h i w) e = absurd cc
+empty (worded t h i w) e = absurd cc
 empty (begun {rest = rest} w) e = ap (λ (x : Verdict rest). given {needs = fresh ∷ rest} (λ v. v) x) (empty w e)
 empty (chosen c t h w) e = absurd cc
 empty (left_out {p = p} {n = n} {rest = rest} v h w) e = ap (λ (o : Option (Meaning p)). finish_part {p = p} {n = n} o (finish rest)) h

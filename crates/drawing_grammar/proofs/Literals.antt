@@ -57,6 +57,10 @@ pub equals_closes : Closes (codes "=") equals
 unfolding piece_at
 equals_closes = literal (codes "=") (Lexeme (Symbol 61) 1 ∷ []) equals refl (λ rest. (refl, refl)) (λ rest. refl)
 
+pub wide_equals_closes : Closes (codes " = ") equals
+unfolding piece_at
+wide_equals_closes = literal (codes " = ") (Space ∷ Lexeme (Symbol 61) 1 ∷ Space ∷ []) equals refl (λ rest. (refl, (refl, (refl, refl)))) (λ rest. refl)
+
 pub ampersand_closes : Closes (codes " & ") ampersand
 unfolding piece_at
 ampersand_closes = literal (codes " & ") (Space ∷ Lexeme (Symbol 38) 1 ∷ Space ∷ []) ampersand refl (λ rest. (refl, (refl, (refl, refl)))) (λ rest. refl)
@@ -210,6 +214,18 @@ pub if_closes : Closes (codes "IF ") (word (codes "IF"))
 unfolding piece_at word_at
 if_closes = spaced (codes "IF") refl (λ rest. (refl, (refl, refl))) (λ rest. refl)
 
+pub const_closes : Closes (codes "CONST ") (word (codes "CONST"))
+unfolding piece_at word_at
+const_closes = spaced (codes "CONST") refl (λ rest. (refl, (refl, refl))) (λ rest. refl)
+
+pub for_closes : Closes (codes "FOR ") (word (codes "FOR"))
+unfolding piece_at word_at
+for_closes = spaced (codes "FOR") refl (λ rest. (refl, (refl, refl))) (λ rest. refl)
+
+pub to_closes : Closes (codes " TO ") (word (codes "TO"))
+unfolding piece_at word_at
+to_closes = literal (codes " TO ") (Space ∷ Lexeme Word 2 ∷ Space ∷ []) (word (codes "TO")) refl (λ rest. (refl, (refl, (refl, refl)))) (λ rest. refl)
+
 pub end_closes : Closes (codes "END;") (word (codes "END") ++ semicolon)
 unfolding piece_at word_at
 end_closes = literal (codes "END;") (Lexeme Word 3 ∷ Lexeme (Symbol 59) 1 ∷ []) (word (codes "END") ++ semicolon) refl (λ rest. (refl, (refl, refl))) (λ rest. refl)
@@ -228,6 +244,9 @@ else_spells = short_word (codes "ELSE") refl refl
 
 pub then_spells : Spells (codes " THEN") (word (codes "THEN"))
 then_spells = before (codes " ") (codes "THEN") [] (word (codes "THEN")) one_space (short_word (codes "THEN") refl refl)
+
+pub do_spells : Spells (codes " DO") (word (codes "DO"))
+do_spells = before (codes " ") (codes "DO") [] (word (codes "DO")) one_space (short_word (codes "DO") refl refl)
 
 mark_closes : Closes (codes " !") exclamation
 unfolding piece_at

@@ -1,4 +1,4 @@
--- What a text within the limits stands for: how many operators its expressions have, and how many IFs hold one another.
+-- What a text within the limits stands for: how many operators its expressions have, and how many IFs and FORs hold one another.
 use Rattle.std.proofs.Common.{◌≡◌, ℕ, suc, ◌+◌, ◌≤◌, List, [], ◌∷◌, ◌++◌, Some, refl, sym, subst, arith}
 use Rattle.std.specs.Prelude.{IfSome, ⊤}
 use Rattle.std.specs.List.{AllByRecursion}
@@ -9,11 +9,13 @@ use Rattle.scald_expr.specs.declared.expr.Op.{Op}
 use Rattle.scald_expr.specs.declared.expr.Op.TheVariants as op
 use Rattle.drawing_tree.specs.Tree as tree
 use Rattle.drawing_grammar.specs.Nesting.{operators}
+use Rattle.drawing_grammar.specs.declared.edition.Edition.{Edition}
+use Rattle.drawing_grammar.specs.declared.edition.Edition.TheVariants.{First, Second}
 use Rattle.drawing_grammar.specs.Lexeme.{Lexeme}
-use Rattle.drawing_grammar.specs.Grammar.{Part, Group, Need, mark, item, letter, fresh, part, group, Choice, following, others, lead, cost}
+use Rattle.drawing_grammar.specs.Grammar.{Part, Group, Need, mark, item, keyword, fresh, part, group, Choice, following, others, lead, cost}
 use Rattle.drawing_grammar.specs.Grammar as g
 use Rattle.drawing_grammar.specs.Sketch.{Sketch, Meaning, GroupMeaning, Values, front, behind, binary, less_or, greater_or, choice_value, absent_value, group_value, absent_group}
-use Rattle.drawing_grammar.specs.Written.{Written, nothing, marked, token, lettered, begun, chosen, left_out, grouped, lacking, spelling, weights, weight, counted, values, limit, Within}
+use Rattle.drawing_grammar.specs.Written.{Written, nothing, marked, token, worded, begun, chosen, left_out, grouped, lacking, spelling, weights, weight, counted, values, limit, Within}
 
 -- ---- trees within the limits
 
@@ -46,12 +48,13 @@ pub record IsFewWire (w : tree.WireStatement) : Type 0 where
   pub min : IsFew w.min
   pub max : IsFew w.max
 
--- where n IFs are open
+-- where n IFs and FORs are open
 abbrev mutual
   pub IsModestStatement : ℕ → tree.Statement → Type 0
   IsModestStatement n (tree.Use u) = IsFewUse u
   IsModestStatement n (tree.Wire w) = IsFewWire w
   IsModestStatement n (tree.If test ss other place) = (suc n ≤ limit) × IsFew test × AreModest (suc n) ss × IsModestOtherwise (suc n) other
+  IsModestStatement n (tree.For var first last ss place) = (suc n ≤ limit) × IsFew first × IsFew last × AreModest (suc n) ss
 
   pub AreModest : ℕ → tree.Statements → Type 0
   AreModest n tree.nil = ⊤
@@ -71,6 +74,7 @@ pub record IsModestMacro (m : tree.Macro) : Type 0 where
   pub body : AreModest 0 m.body
 
 pub record IsModestSketch (s : Sketch) : Type 0 where
+  pub consts : AllByRecursion IsFewAssignment s.consts.constants
   pub macros : AllByRecursion IsModestMacro s.macros.macros
   pub body : AreModest 0 s.body
 
@@ -108,9 +112,10 @@ IsPartOk g.MoreTerms n v a b = AllByRecursion (λ t. IsFewItem t.item) v
 IsPartOk g.Hold n v a b = ⊤
 IsPartOk g.MoreConns n v a b = AllByRecursion IsFewConnection v
 IsPartOk g.Outputs n v a b = AllByRecursion IsFewConnection v
-IsPartOk g.Statement n v a b = IsModestStatement n v
-IsPartOk g.Otherwise n v a b = IsModestOtherwise n v
-IsPartOk g.Macro n v a b = IsModestMacro v.macro
+IsPartOk g.Constant n v a b = IsFewAssignment v.constant
+IsPartOk (g.Statement i) n v a b = IsModestStatement n v
+IsPartOk (g.Otherwise i) n v a b = IsModestOtherwise n v
+IsPartOk (g.Macro i) n v a b = IsModestMacro v.macro
 IsPartOk g.Index n v a b = ⊤
 IsPartOk g.Entry n v a b = ⊤
 IsPartOk g.MoreEntries n v a b = ⊤
@@ -118,7 +123,7 @@ IsPartOk g.CaseStatement n v a b = ⊤
 IsPartOk g.WireBounds n v a b = ⊤
 IsPartOk g.PrecisionSkew n v a b = ⊤
 IsPartOk g.ClockSkew n v a b = ⊤
-IsPartOk g.Text n v a b = IsModestSketch v
+IsPartOk (g.Text i) n v a b = IsModestSketch v
 
 abbrev IsGroupOk : (h : Group) → ℕ → GroupMeaning h → ℕ → ℕ → Type 0
 IsGroupOk g.Product n v a b = Counts v a b
@@ -131,15 +136,16 @@ IsGroupOk g.SomeFormals n v a b = AllByRecursion IsFewFormal v.items
 IsGroupOk g.Formals n v a b = AllByRecursion IsFewFormal v.items
 IsGroupOk g.Assigns n v a b = AllByRecursion IsFewAssignment v.items
 IsGroupOk g.Entries n v a b = ⊤
-IsGroupOk g.Statements n v a b = AreModest n v
-IsGroupOk g.Macros n v a b = AllByRecursion IsModestMacro v.macros
+IsGroupOk g.Constants n v a b = AllByRecursion IsFewAssignment v.constants
+IsGroupOk (g.Statements i) n v a b = AreModest n v
+IsGroupOk (g.Macros i) n v a b = AllByRecursion IsModestMacro v.macros
 IsGroupOk g.Cases n v a b = ⊤
 
 abbrev Moderate : (needs : List Need) → Values needs → ℕ → ℕ → Type 0
 Moderate [] v a b = a ≡ b
 Moderate (mark l ∷ rest) v a b = Moderate rest v a b
 Moderate (item l ∷ rest) v a b = Moderate rest v.1 a b
-Moderate (letter x ∷ rest) v a b = Moderate rest v a b
+Moderate (keyword x ∷ rest) v a b = Moderate rest v a b
 Moderate (fresh ∷ rest) v a b = Moderate rest v 0 b
 Moderate (part p n ∷ rest) v a b = (c : ℕ) × IsPartOk p n v.0 a c × Moderate rest v.1 c b
 Moderate (group h n ∷ rest) v a b = (c : ℕ) × IsGroupOk h n v.0 a c × Moderate rest v.1 c b
@@ -153,7 +159,7 @@ split : (needs rest : List Need) (v : Values (needs ++ rest)) (a b : ℕ) → Mo
 split [] rest v a b m = record { middle = a; first = refl; second = m }
 split (mark l ∷ needs) rest v a b m = let s = split needs rest v a b m in record { middle = s.middle; first = s.first; second = s.second }
 split (item l ∷ needs) rest v a b m = let s = split needs rest v.1 a b m in record { middle = s.middle; first = s.first; second = s.second }
-split (letter x ∷ needs) rest v a b m = let s = split needs rest v a b m in record { middle = s.middle; first = s.first; second = s.second }
+split (keyword x ∷ needs) rest v a b m = let s = split needs rest v a b m in record { middle = s.middle; first = s.first; second = s.second }
 split (fresh ∷ needs) rest v a b m = let s = split needs rest v 0 b m in record { middle = s.middle; first = s.first; second = s.second }
 split (part p n ∷ needs) rest v a b m = let s = split needs rest v.1 m.0 b m.2 in record { middle = s.middle; first = (m.0, m.1, s.first); second = s.second }
 split (group h n ∷ needs) rest v a b m = let s = split needs rest v.1 m.0 b m.2 in record { middle = s.middle; first = (m.0, m.1, s.first); second = s.second }
@@ -248,9 +254,11 @@ choice_ok g.next_term n t v a b l m = (m.1, m.2.1)
 choice_ok g.hold n t v a b l m = tt
 choice_ok g.next_conn n t v a b l m = (m.1, m.2.1)
 choice_ok g.outputs n t v a b l m = m.1
+choice_ok g.constant n t v a b l m = few_of v.1.0 m.0 m.1
 choice_ok g.use_ n t v a b l m = record { delays = m.1; params = m.2.1; ins = m.2.2.1; outs = m.2.2.2.1 }
 choice_ok g.wire n t v a b l m = record { range = m.1; min = few_of v.1.1.0 m.2.0 m.2.1; max = few_of v.1.1.1.0 m.2.2.0 m.2.2.1 }
 choice_ok g.if_ n t v a b l m = (l, few_of v.0 m.0 m.1, m.2.1, m.2.2.1)
+choice_ok g.for_ n t v a b l m = (l, few_of v.1.0 m.0 m.1, few_of v.1.1.0 m.2.0 m.2.1, m.2.2.1)
 choice_ok g.else_ n t v a b l m = m.1
 choice_ok g.macro n t v a b l m = record { params = m.1; ins = m.2.1; outs = m.2.2.1; body = m.2.2.2.1 }
 choice_ok g.index n t v a b l m = tt
@@ -260,7 +268,8 @@ choice_ok g.case_ n t v a b l m = tt
 choice_ok g.wire_bounds n t v a b l m = tt
 choice_ok g.precision_skew n t v a b l m = tt
 choice_ok g.clock_skew n t v a b l m = tt
-choice_ok g.text n t v a b l m = record { macros = m.2.2.2.1; body = m.2.2.2.2.1 }
+choice_ok (g.text {v = First}) n t v a b l m = record { consts = tt; macros = m.2.2.2.1; body = m.2.2.2.2.1 }
+choice_ok (g.text {v = Second}) n t v a b l m = record { consts = m.2.2.2.1; macros = m.2.2.2.2.1; body = m.2.2.2.2.2.1 }
 
 group_ok : (h : Group) (n : ℕ) (first : Meaning (lead h)) (v : Values (others h n)) (a c b : ℕ) →
     IsPartOk (lead h) n first a c → Moderate (others h n) v c b → IsGroupOk h n (group_value h n first v) a b
@@ -276,8 +285,9 @@ group_ok g.SomeFormals n first v a c b p m = (p, m.1)
 group_ok g.Formals n first v a c b p m = (p, m.1)
 group_ok g.Assigns n first v a c b p m = (p, m.1)
 group_ok g.Entries n first v a c b p m = tt
-group_ok g.Statements n first v a c b p m = (p, m.1)
-group_ok g.Macros n first v a c b p m = (p, m.1)
+group_ok g.Constants n first v a c b p m = (p, m.1)
+group_ok (g.Statements i) n first v a c b p m = (p, m.1)
+group_ok (g.Macros i) n first v a c b p m = (p, m.1)
 group_ok g.Cases n first v a c b p m = tt
 
 -- ---- what is left out
@@ -304,9 +314,10 @@ absent_ok g.MoreTerms n v a h = subst (λ (o : Meaning g.MoreTerms). IsPartOk g.
 absent_ok g.Hold n v a h = tt
 absent_ok g.MoreConns n v a h = subst (λ (o : Meaning g.MoreConns). IsPartOk g.MoreConns n o a a) (same_Some _ v h) tt
 absent_ok g.Outputs n v a h = subst (λ (o : Meaning g.Outputs). IsPartOk g.Outputs n o a a) (same_Some _ v h) tt
-absent_ok g.Statement n v a h = absurd cc
-absent_ok g.Otherwise n v a h = subst (λ (o : Meaning g.Otherwise). IsPartOk g.Otherwise n o a a) (same_Some _ v h) tt
-absent_ok g.Macro n v a h = absurd cc
+absent_ok g.Constant n v a h = absurd cc
+absent_ok (g.Statement i) n v a h = absurd cc
+absent_ok (g.Otherwise i) n v a h = subst (λ (o : Meaning (g.Otherwise i)). IsPartOk (g.Otherwise i) n o a a) (same_Some _ v h) tt
+absent_ok (g.Macro i) n v a h = absurd cc
 absent_ok g.Index n v a h = tt
 absent_ok g.Entry n v a h = absurd cc
 absent_ok g.MoreEntries n v a h = tt
@@ -314,7 +325,7 @@ absent_ok g.CaseStatement n v a h = absurd cc
 absent_ok g.WireBounds n v a h = tt
 absent_ok g.PrecisionSkew n v a h = tt
 absent_ok g.ClockSkew n v a h = tt
-absent_ok g.Text n v a h = absurd cc
+absent_ok (g.Text i) n v a h = absurd cc
 
 lacking_ok : (h : Group) (n : ℕ) (v : GroupMeaning h) (a : ℕ) → absent_group h ≡ Some v → IsGroupOk h n v a a
 lacking_ok g.Product n v a h = absurd cc
@@ -327,8 +338,9 @@ lacking_ok g.SomeFormals n v a h = absurd cc
 lacking_ok g.Formals n v a h = subst (λ (o : GroupMeaning g.Formals). IsGroupOk g.Formals n o a a) (same_Some _ v h) tt
 lacking_ok g.Assigns n v a h = absurd cc
 lacking_ok g.Entries n v a h = tt
-lacking_ok g.Statements n v a h = subst (λ (o : GroupMeaning g.Statements). IsGroupOk g.Statements n o a a) (same_Some _ v h) tt
-lacking_ok g.Macros n v a h = subst (λ (o : GroupMeaning g.Macros). IsGroupOk g.Macros n o a a) (same_Some _ v h) tt
+lacking_ok g.Constants n v a h = subst (λ (o : GroupMeaning g.Constants). IsGroupOk g.Constants n o a a) (same_Some _ v h) tt
+lacking_ok (g.Statements i) n v a h = subst (λ (o : GroupMeaning (g.Statements i)). IsGroupOk (g.Statements i) n o a a) (same_Some _ v h) tt
+lacking_ok (g.Macros i) n v a h = subst (λ (o : GroupMeaning (g.Macros i)). IsGroupOk (g.Macros i) n o a a) (same_Some _ v h) tt
 lacking_ok g.Cases n v a h = tt
 
 -- ---- all of it
@@ -341,7 +353,7 @@ reaches : {needs : List Need} (w : Written needs) (a : ℕ) → Within (spelling
 reaches nothing a h = record { end = a; moderate = refl }
 reaches (marked t e w) a h = let r = reaches w a h.1 in record { end = r.end; moderate = r.moderate }
 reaches (token t e w) a h = let r = reaches w a h.1 in record { end = r.end; moderate = r.moderate }
-reaches (lettered t e f w) a h = let r = reaches w a h.1 in record { end = r.end; moderate = r.moderate }
+reaches (worded t e f w) a h = let r = reaches w a h.1 in record { end = r.end; moderate = r.moderate }
 reaches (begun w) a h = let r = reaches w 0 h in record { end = r.end; moderate = r.moderate }
 reaches (chosen {n = n} {rest = rest} c t e w) a h =
     let r = reaches w (counted (cost c) a) h.1 in
@@ -355,5 +367,5 @@ reaches (grouped {g = k} {n = n} {rest = rest} w) a h =
     record { end = r.end; moderate = (s.middle, group_ok k n (values w).0 (front (others k n) rest (values w).1) a m.0 s.middle m.1 s.first, s.second) }
 reaches (lacking {g = k} {n = n} v e w) a h = let r = reaches w a h in record { end = r.end; moderate = (a, lacking_ok k n v a e, r.moderate) }
 
-pub sketch_modest : (w : Written (part g.Text 0 ∷ [])) → Within (spelling w) (weights w 0) → IsModestSketch (values w).0
-sketch_modest w h = let r = reaches w 0 h in let m = r.moderate in m.1
+pub sketch_modest : (e : Edition) (w : Written (part (g.Text e) 0 ∷ [])) → Within (spelling w) (weights w 0) → IsModestSketch (values w).0
+sketch_modest e w h = let r = reaches w 0 h in let m = r.moderate in m.1

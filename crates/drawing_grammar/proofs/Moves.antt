@@ -9,17 +9,17 @@ use Rattle.scald_base.specs.declared.refusal.Refusal.{Refusal}
 use Rattle.scald_base.specs.declared.refusal.RefusalKind.TheVariants.{Syntax, TooDeep}
 use Rattle.scald_base.specs.declared.refusal.Stop.{Stop}
 use Rattle.scald_base.specs.declared.refusal.Stop.TheVariants as stop
-use Rattle.drawing_grammar.specs.declared.terminal.Letter.{Letter}
+use Rattle.drawing_grammar.specs.declared.terminal.Keyword.{Keyword}
 use Rattle.drawing_grammar.specs.declared.terminal.Terminal.{Terminal}
 use Rattle.drawing_grammar.specs.declared.terminal.Terminal.TheVariants as is
 use Rattle.drawing_grammar.specs.Lexeme.{Lexeme, terminal}
-use Rattle.drawing_grammar.specs.Grammar.{Part, Group, letter_text, Need, mark, item, letter, fresh, part, group, Choice, opening, following, lead, others, cost}
-use Rattle.drawing_grammar.specs.Grammar as g
+use Rattle.drawing_grammar.specs.Grammar.{Part, Group, keyword_text, Need, mark, item, keyword, fresh, part, group, Choice, following, lead, others, cost}
 use Rattle.drawing_grammar.specs.Sketch.{Meaning, GroupMeaning, Values, front, behind, choice_value, absent_value, group_value, absent_group}
 use Rattle.drawing_grammar.specs.Written.{weight, counted, limit}
-use Rattle.drawing_grammar.specs.Machine.{same, choice, Step, Next, Stuck, passed, entered, group_entered, step, Verdict, Complete, Refused, given, refusal, finish, finish_part, finish_group, go_on, verdict, Moves, Says, Fails}
-use Rattle.drawing_grammar.specs.Front.{first_terminal, first_place, Lettered}
-use Rattle.drawing_grammar.proofs.Choices.{same_is, is_same, chooses}
+use Rattle.drawing_grammar.specs.Machine.{same, choice, choice_at, Step, Next, Stuck, passed, entered, group_entered, step, Verdict, Complete, Refused, given, refusal, finish, finish_part, finish_group, go_on, verdict, Moves, Says, Fails}
+use Rattle.drawing_grammar.specs.Front.{first_terminal, first_choice, first_place, AtKeyword, At}
+use Rattle.drawing_grammar.proofs.Terminals.{same_is, is_same}
+use Rattle.drawing_grammar.proofs.Choices.{is_constant, no_choice_at, at_choice, still_some}
 use Rattle.drawing_grammar.proofs.Follow.{leads}
 
 -- ---- one step after another
@@ -72,46 +72,46 @@ unfolding verdict
 item_stops l a [] h rest = refl
 item_stops l a (t ∷ ts) h rest = ap (λ (b : Bool). go_on {needs = item l ∷ rest} (if b then Next rest a 0 (λ v. (t, v)) else Stuck) (verdict ts) t.place) (other (terminal t) l h)
 
-pub letter_moves : (x : Letter) (a : ℕ) (ts us : List Lexeme) (t : Lexeme) → ts ≡ t ∷ us → terminal t ≡ is.Word →
-    t.text ≡ letter_text x → (rest : List Need) → verdict ts (letter x ∷ rest) a ≡ given (λ v. v) (verdict us rest a)
+pub keyword_moves : (x : Keyword) (a : ℕ) (ts us : List Lexeme) (t : Lexeme) → ts ≡ t ∷ us → terminal t ≡ is.Word →
+    t.text ≡ keyword_text x → (rest : List Need) → verdict ts (keyword x ∷ rest) a ≡ given (λ v. v) (verdict us rest a)
 unfolding verdict
-letter_moves x a ts us t e h i rest =
-    ap (λ (ys : List Lexeme). verdict ys (letter x ∷ rest) a) e
-    ∙ (ap (λ (b : Bool). go_on {needs = letter x ∷ rest} (if b && bytes_eq t.text (letter_text x) then Next rest a 0 (λ v. v) else Stuck) (verdict us)
+keyword_moves x a ts us t e h i rest =
+    ap (λ (ys : List Lexeme). verdict ys (keyword x ∷ rest) a) e
+    ∙ (ap (λ (b : Bool). go_on {needs = keyword x ∷ rest} (if b && bytes_eq t.text (keyword_text x) then Next rest a 0 (λ v. v) else Stuck) (verdict us)
     t.place) (is_same (terminal t) is.Word h) ∙ ap (λ (b : Bool). go_on {needs =
-    letter x ∷ rest} (if b then Next rest a 0 (λ v. v) else Stuck) (verdict us) t.place) ((bytes_eq-Decides t.text (letter_text x)).1 i))
+    keyword x ∷ rest} (if b then Next rest a 0 (λ v. v) else Stuck) (verdict us) t.place) ((bytes_eq-Decides t.text (keyword_text x)).1 i))
 
-pub letter_stops : (x : Letter) (a : ℕ) (ts : List Lexeme) → ¬ Lettered x ts → (rest : List Need) → verdict ts (letter x ∷ rest) a ≡ Refused (refusal Syntax (first_place ts))
+pub keyword_stops : (x : Keyword) (a : ℕ) (ts : List Lexeme) → ¬ AtKeyword x ts → (rest : List Need) → verdict ts (keyword x ∷ rest) a ≡ Refused (refusal Syntax (first_place ts))
 unfolding verdict
-letter_stops x a [] h rest = refl
-letter_stops x a (t ∷ ts) h rest = one (same (terminal t) is.Word) (bytes_eq t.text (letter_text x)) refl refl
+keyword_stops x a [] h rest = refl
+keyword_stops x a (t ∷ ts) h rest = one (same (terminal t) is.Word) (bytes_eq t.text (keyword_text x)) refl refl
   where
-    one : (b c : Bool) → same (terminal t) is.Word ≡ b → bytes_eq t.text (letter_text x) ≡ c →
-        go_on {needs = letter x ∷ rest} (if b && c then Next rest a 0 (λ v. v) else Stuck) (verdict ts) t.place ≡ Refused (refusal Syntax t.place)
-    one true true e f = absurd (h (same_is (terminal t) is.Word e, (bytes_eq-Decides t.text (letter_text x)).0 f))
+    one : (b c : Bool) → same (terminal t) is.Word ≡ b → bytes_eq t.text (keyword_text x) ≡ c →
+        go_on {needs = keyword x ∷ rest} (if b && c then Next rest a 0 (λ v. v) else Stuck) (verdict ts) t.place ≡ Refused (refusal Syntax t.place)
+    one true true e f = absurd (h (same_is (terminal t) is.Word e, (bytes_eq-Decides t.text (keyword_text x)).0 f))
     one true false e f = refl
     one false c e f = refl
 
 -- ---- parts
 
-pub enters : {p : Part} (c : Choice p) (n a : ℕ) (ts us : List Lexeme) (t : Lexeme) → ts ≡ t ∷ us → terminal t ≡ opening c →
+pub enters : {p : Part} (c : Choice p) (n a : ℕ) (ts us : List Lexeme) (t : Lexeme) → ts ≡ t ∷ us → At c (t ∷ us) →
     weight (cost c) n a ≤ limit → (rest : List Need) →
     verdict ts (part p n ∷ rest) a ≡ given (λ v. (choice_value c n t (front (following c n) rest v), behind (following c n) rest v))
     (verdict us (following c n ++ rest) (counted (cost c) a))
 unfolding verdict
 enters {p} c n a ts us t e h w rest =
     ap (λ (ys : List Lexeme). verdict ys (part p n ∷ rest) a) e
-    ∙ (ap (λ (o : Option (Choice p)). go_on (entered p n rest a t o (absent_value p) (step rest a t)) (verdict us) t.place) (chooses c (terminal t) h)
+    ∙ (ap (λ (o : Option (Choice p)). go_on (entered p n rest a t o (absent_value p) (step rest a t us)) (verdict us) t.place) (at_choice c t us h)
     ∙ ap (λ (b : Bool). if b then given {needs =
     part p n ∷ rest} (λ v. (choice_value c n t (front (following c n) rest v), behind (following c n) rest v))
     (verdict us (following c n ++ rest) (counted (cost c) a)) else Refused (refusal TooDeep t.place)) (le-leb (weight (cost c) n a) limit w))
 
-pub too_deep : {p : Part} (c : Choice p) (n a : ℕ) (ts us : List Lexeme) (t : Lexeme) → ts ≡ t ∷ us → terminal t ≡ opening c →
+pub too_deep : {p : Part} (c : Choice p) (n a : ℕ) (ts us : List Lexeme) (t : Lexeme) → ts ≡ t ∷ us → At c (t ∷ us) →
     limit < weight (cost c) n a → (rest : List Need) → verdict ts (part p n ∷ rest) a ≡ Refused (refusal TooDeep t.place)
 unfolding verdict
 too_deep {p} c n a ts us t e h w rest =
     ap (λ (ys : List Lexeme). verdict ys (part p n ∷ rest) a) e
-    ∙ (ap (λ (o : Option (Choice p)). go_on (entered p n rest a t o (absent_value p) (step rest a t)) (verdict us) t.place) (chooses c (terminal t) h)
+    ∙ (ap (λ (o : Option (Choice p)). go_on (entered p n rest a t o (absent_value p) (step rest a t us)) (verdict us) t.place) (at_choice c t us h)
     ∙ ap (λ (b : Bool). if b then given {needs =
     part p n ∷ rest} (λ v. (choice_value c n t (front (following c n) rest v), behind (following c n) rest v))
     (verdict us (following c n ++ rest) (counted (cost c) a)) else Refused (refusal TooDeep t.place)) (lt-leb (weight (cost c) n a) limit w))
@@ -127,27 +127,35 @@ pass needs later f (Next more a m build) us place = one (nat_le m limit) (verdic
     one false x = refl
 pass needs later f Stuck us place = refl
 
-pub skips : (p : Part) (n a : ℕ) (ts : List Lexeme) (v : Meaning p) → choice p (first_terminal ts) ≡ None →
+pub skips_at : (p : Part) (n a : ℕ) (ts : List Lexeme) (v : Meaning p) → first_choice p ts ≡ None →
     absent_value p ≡ Some v → (rest : List Need) → verdict ts (part p n ∷ rest) a ≡ given (λ w. (v, w)) (verdict ts rest a)
 unfolding verdict
-skips p n a [] v e h rest = ap (λ (o : Option (Meaning p)). finish_part {p = p} {n = n} o (finish rest)) h
-skips p n a (t ∷ us) v e h rest =
-    ap (λ (o : Option (Choice p)). go_on (entered p n rest a t o (absent_value p) (step rest a t)) (verdict us) t.place) e
-    ∙ (ap (λ (o : Option (Meaning p)). go_on (entered p n rest a t None o (step rest a t)) (verdict us) t.place) h
-    ∙ pass (part p n ∷ rest) rest (λ w. (v, w)) (step rest a t) us t.place)
+skips_at p n a [] v e h rest = ap (λ (o : Option (Meaning p)). finish_part {p = p} {n = n} o (finish rest)) h
+skips_at p n a (t ∷ us) v e h rest =
+    ap (λ (o : Option (Choice p)). go_on (entered p n rest a t o (absent_value p) (step rest a t us)) (verdict us) t.place) e
+    ∙ (ap (λ (o : Option (Meaning p)). go_on (entered p n rest a t None o (step rest a t us)) (verdict us) t.place) h
+    ∙ pass (part p n ∷ rest) rest (λ w. (v, w)) (step rest a t us) us t.place)
+
+pub skips : (p : Part) (n a : ℕ) (ts : List Lexeme) (v : Meaning p) → choice p (first_terminal ts) ≡ None →
+    absent_value p ≡ Some v → (rest : List Need) → verdict ts (part p n ∷ rest) a ≡ given (λ w. (v, w)) (verdict ts rest a)
+skips p n a ts v e h rest = skips_at p n a ts v (no_choice_at p ts e) h rest
+
+pub stuck_at : (p : Part) (n a : ℕ) (ts : List Lexeme) → first_choice p ts ≡ None →
+    absent_value p ≡ None → (rest : List Need) → verdict ts (part p n ∷ rest) a ≡ Refused (refusal Syntax (first_place ts))
+unfolding verdict
+stuck_at p n a [] e h rest = ap (λ (o : Option (Meaning p)). finish_part {p = p} {n = n} o (finish rest)) h
+stuck_at p n a (t ∷ us) e h rest = ap (λ (o : Option (Choice p)). go_on (entered p n rest a t o (absent_value p) (step rest a t us)) (verdict us) t.place) e
+    ∙ ap (λ (o : Option (Meaning p)). go_on (entered p n rest a t None o (step rest a t us)) (verdict us) t.place) h
 
 pub stuck : (p : Part) (n a : ℕ) (ts : List Lexeme) → choice p (first_terminal ts) ≡ None →
     absent_value p ≡ None → (rest : List Need) → verdict ts (part p n ∷ rest) a ≡ Refused (refusal Syntax (first_place ts))
-unfolding verdict
-stuck p n a [] e h rest = ap (λ (o : Option (Meaning p)). finish_part {p = p} {n = n} o (finish rest)) h
-stuck p n a (t ∷ us) e h rest = ap (λ (o : Option (Choice p)). go_on (entered p n rest a t o (absent_value p) (step rest a t)) (verdict us) t.place) e
-    ∙ ap (λ (o : Option (Meaning p)). go_on (entered p n rest a t None o (step rest a t)) (verdict us) t.place) h
+stuck p n a ts e h rest = stuck_at p n a ts (no_choice_at p ts e) h rest
 
 -- an expression of its own
 pub begins : (a : ℕ) (ts : List Lexeme) (rest : List Need) → verdict ts (fresh ∷ rest) a ≡ given (λ v. v) (verdict ts rest 0)
 unfolding verdict
 begins a [] rest = refl
-begins a (t ∷ us) rest = pass (fresh ∷ rest) rest (λ v. v) (step rest 0 t) us t.place
+begins a (t ∷ us) rest = pass (fresh ∷ rest) rest (λ v. v) (step rest 0 t us) us t.place
 
 -- ---- groups
 
@@ -169,38 +177,32 @@ group_next h n a us t rest c true (Complete v) = refl
 group_next h n a us t rest c true (Refused r) = refl
 group_next h n a us t rest c false x = refl
 
--- whether a group is left out
+-- whether a group begins here
 abbrev pub Leads : Group → List Lexeme → Type 0
-Leads h ts = is_some (choice (lead h) (first_terminal ts)) ≡ true
+Leads h ts = is_some (first_choice (lead h) ts) ≡ true
 
 group_one : (h : Group) (n a : ℕ) (us : List Lexeme) (t : Lexeme) (rest : List Need) (o : Option (Choice (lead h))) → is_some o ≡ true →
-    go_on (group_entered h n rest a t o (absent_group h) (step rest a t)) (verdict us) t.place
+    go_on (group_entered h n rest a t o (absent_group h) (step rest a t us)) (verdict us) t.place
     ≡ given (λ v. (group_value h n v.0 (front (others h n) rest v.1), behind (others h n) rest v.1))
-    (go_on (entered (lead h) n (others h n ++ rest) a t o (absent_value (lead h)) (step (others h n ++ rest) a t)) (verdict us) t.place)
+    (go_on (entered (lead h) n (others h n ++ rest) a t o (absent_value (lead h)) (step (others h n ++ rest) a t us)) (verdict us) t.place)
 group_one h n a us t rest None e = absurd cc
 group_one h n a us t rest (Some c) e = group_next h n a us t rest c (nat_le (weight (cost c) n a) limit) (verdict us (following c n ++ (others h n ++ rest)) (counted (cost c) a))
+
+no_end : (p : Part) → is_some (choice p is.EndOfText) ≡ false
+no_end _ = refl
+
+-- It does where its first part may begin so, unless that is a constant.
+pub leads_by : (h : Group) (ts : List Lexeme) → is_constant (lead h) ≡ false →
+    is_some (choice (lead h) (first_terminal ts)) ≡ true → Leads h ts
+leads_by h [] k e = let z = no_end (lead h) in absurd cc
+leads_by h (t ∷ us) k e = still_some (lead h) t us k e
 
 pub leads_on : (h : Group) (n a : ℕ) (ts : List Lexeme) → Leads h ts → (rest : List Need) →
     verdict ts (group h n ∷ rest) a ≡ given (λ v. (group_value h n v.0 (front (others h n) rest v.1), behind (others h n) rest v.1))
     (verdict ts (part (lead h) n ∷ (others h n ++ rest)) a)
 unfolding verdict
-leads_on h n a [] e rest = absurd (let z = at_end h in cc)
-  where
-    at_end : (h : Group) → is_some (choice (lead h) is.EndOfText) ≡ false
-    at_end g.Product = refl
-    at_end g.Sum = refl
-    at_end g.Expr = refl
-    at_end g.Conn = refl
-    at_end g.Conns = refl
-    at_end g.SomeConns = refl
-    at_end g.SomeFormals = refl
-    at_end g.Assigns = refl
-    at_end g.Entries = refl
-    at_end g.Formals = refl
-    at_end g.Statements = refl
-    at_end g.Macros = refl
-    at_end g.Cases = refl
-leads_on h n a (t ∷ us) e rest = group_one h n a us t rest (choice (lead h) (terminal t)) e
+leads_on h n a [] e rest = absurd cc
+leads_on h n a (t ∷ us) e rest = group_one h n a us t rest (choice_at (lead h) t us) e
 
 -- a group that is never left out
 pub always : (h : Group) (n a : ℕ) (ts : List Lexeme) → absent_group h ≡ None → (rest : List Need) →
@@ -211,26 +213,30 @@ always h n a [] e rest = ap (λ (o : Option (GroupMeaning h)). finish_group {h =
     ∙ ap (λ (o : Option (Meaning (lead h))). given {needs =
     group h n ∷ rest} (λ v. (group_value h n v.0 (front (others h n) rest v.1), behind (others h n) rest v.1))
     (finish_part {p = lead h} {n = n} o (finish (others h n ++ rest)))) (sym (leads h))
-always h n a (t ∷ us) e rest = one (choice (lead h) (terminal t))
+always h n a (t ∷ us) e rest = one (choice_at (lead h) t us)
   where
     one : (o : Option (Choice (lead h))) →
-        go_on (group_entered h n rest a t o (absent_group h) (step rest a t)) (verdict us) t.place
+        go_on (group_entered h n rest a t o (absent_group h) (step rest a t us)) (verdict us) t.place
         ≡ given (λ v. (group_value h n v.0 (front (others h n) rest v.1), behind (others h n) rest v.1))
-        (go_on (entered (lead h) n (others h n ++ rest) a t o (absent_value (lead h)) (step (others h n ++ rest) a t)) (verdict us) t.place)
+        (go_on (entered (lead h) n (others h n ++ rest) a t o (absent_value (lead h)) (step (others h n ++ rest) a t us)) (verdict us) t.place)
     one (Some c) = group_one h n a us t rest (Some c) refl
-    one None = ap (λ (o : Option (GroupMeaning h)). go_on (group_entered h n rest a t None o (step rest a t)) (verdict us) t.place) e
+    one None = ap (λ (o : Option (GroupMeaning h)). go_on (group_entered h n rest a t None o (step rest a t us)) (verdict us) t.place) e
         ∙ ap (λ (o : Option (Meaning (lead h))). given {needs =
         group h n ∷ rest} (λ v. (group_value h n v.0 (front (others h n) rest v.1), behind (others h n) rest v.1))
-        (go_on (entered (lead h) n (others h n ++ rest) a t None o (step (others h n ++ rest) a t)) (verdict us) t.place)) (sym (leads h))
+        (go_on (entered (lead h) n (others h n ++ rest) a t None o (step (others h n ++ rest) a t us)) (verdict us) t.place)) (sym (leads h))
+
+pub skips_group_at : (h : Group) (n a : ℕ) (ts : List Lexeme) (v : GroupMeaning h) → first_choice (lead h) ts ≡ None →
+    absent_group h ≡ Some v → (rest : List Need) → verdict ts (group h n ∷ rest) a ≡ given (λ w. (v, w)) (verdict ts rest a)
+unfolding verdict
+skips_group_at h n a [] v e i rest = ap (λ (o : Option (GroupMeaning h)). finish_group {h = h} {n = n} o (finish rest)) i
+skips_group_at h n a (t ∷ us) v e i rest =
+    ap (λ (o : Option (Choice (lead h))). go_on (group_entered h n rest a t o (absent_group h) (step rest a t us)) (verdict us) t.place) e
+    ∙ (ap (λ (o : Option (GroupMeaning h)). go_on (group_entered h n rest a t None o (step rest a t us)) (verdict us) t.place) i
+    ∙ pass (group h n ∷ rest) rest (λ w. (v, w)) (step rest a t us) us t.place)
 
 pub skips_group : (h : Group) (n a : ℕ) (ts : List Lexeme) (v : GroupMeaning h) → choice (lead h) (first_terminal ts) ≡ None →
     absent_group h ≡ Some v → (rest : List Need) → verdict ts (group h n ∷ rest) a ≡ given (λ w. (v, w)) (verdict ts rest a)
-unfolding verdict
-skips_group h n a [] v e i rest = ap (λ (o : Option (GroupMeaning h)). finish_group {h = h} {n = n} o (finish rest)) i
-skips_group h n a (t ∷ us) v e i rest =
-    ap (λ (o : Option (Choice (lead h))). go_on (group_entered h n rest a t o (absent_group h) (step rest a t)) (verdict us) t.place) e
-    ∙ (ap (λ (o : Option (GroupMeaning h)). go_on (group_entered h n rest a t None o (step rest a t)) (verdict us) t.place) i
-    ∙ pass (group h n ∷ rest) rest (λ w. (v, w)) (step rest a t) us t.place)
+skips_group h n a ts v e i rest = skips_group_at h n a ts v (no_choice_at (lead h) ts e) i rest
 
 -- ---- two ways to the same tokens
 

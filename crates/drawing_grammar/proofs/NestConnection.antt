@@ -4,19 +4,19 @@ use Rattle.std.specs.Prelude.{codes, is_some}
 use Rattle.std.specs.List.{AllByRecursion, flat_map, join_by}
 use Rattle.assertion_syntax.specs.Name.{name_text}
 use Rattle.drawing_tree.specs.Tree as tree
-use Rattle.drawing_grammar.specs.declared.terminal.Letter.TheVariants.{Hazard}
+use Rattle.drawing_grammar.specs.declared.terminal.Keyword.TheVariants.{Hazard}
 use Rattle.drawing_grammar.specs.declared.terminal.Terminal.{Terminal}
 use Rattle.drawing_grammar.specs.declared.terminal.Terminal.TheVariants as token
 use Rattle.drawing_grammar.specs.CanonicalDraws.{IsShallowItem, IsShallowConnection}
 use Rattle.drawing_grammar.specs.Lexeme.{word_terminal, symbol_terminal}
-use Rattle.drawing_grammar.specs.Grammar.{Need, mark, item, letter, fresh, part, group}
+use Rattle.drawing_grammar.specs.Grammar.{Need, mark, item, keyword, fresh, part, group}
 use Rattle.drawing_grammar.specs.Grammar as g
 use Rattle.drawing_grammar.specs.Machine.{choice}
 use Rattle.drawing_grammar.proofs.Cutting.{Bare}
 use Rattle.drawing_grammar.proofs.Leaves as leaf
 use Rattle.drawing_grammar.proofs.CanonicalTokens.{comma, ampersand, close_parenthesis, range_tokens, item_tokens, minus_tokens, term_tokens, hold_tokens, connection_tokens, listed_tokens, inputs_tokens, outputs_tokens}
 use Rattle.drawing_grammar.proofs.Drawable.{IsDrawnItem, IsDrawnTerm, IsDrawnConnection, HasOne}
-use Rattle.drawing_grammar.proofs.LeftOver.{LeftOver, first_of, take_mark, take_letter, take_choice, pass_part, into_group, into_leading, pass_group}
+use Rattle.drawing_grammar.proofs.LeftOver.{LeftOver, first_of, take_mark, take_keyword, take_choice, pass_part, into_group, into_leading, pass_group}
 use Rattle.drawing_grammar.proofs.PhraseParameters.{arrow_bare}
 use Rattle.drawing_grammar.proofs.PhraseSteps.{bare_symbol}
 use Rattle.drawing_grammar.proofs.NestRange.{Held, shift, range_held}
@@ -101,7 +101,7 @@ unfolding symbol_terminal word_terminal
 hold_held false more rest none b = pass_part g.Hold 0 false more rest none refl b
 hold_held true more rest none b =
     let o = take_choice g.hold 0 (bare_symbol 33) (leaf.word (codes "H") ∷ more) rest refl b in
-    take_letter (leaf.word (codes "H")) more Hazard rest refl refl o.left
+    take_keyword (leaf.word (codes "H")) more Hazard rest refl refl o.left
 
 abbrev more_tokens : List tree.Term → List Bare
 more_tokens xs = flat_map (λ t. ampersand ++ term_tokens t) xs
@@ -273,7 +273,7 @@ inputs_held (c ∷ cs) is more rest b =
     let x = shift inner close_parenthesis more needs (take_mark (bare_symbol 40)
     ((inner ++ close_parenthesis) ++ more) token.OpenParenthesis needs refl b) in
     let i = into_leading g.Conns 0 (inner ++ (bare_symbol 41 ∷ more))
-    (mark token.CloseParenthesis ∷ rest) (starts_term c cs is.0 (bare_symbol 41 ∷ more)) x in
+    (mark token.CloseParenthesis ∷ rest) refl (starts_term c cs is.0 (bare_symbol 41 ∷ more)) x in
     let r = listed c cs is more (mark token.CloseParenthesis ∷ rest) i in
     record {
       holds = r.holds;

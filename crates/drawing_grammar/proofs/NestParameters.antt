@@ -5,7 +5,7 @@ use Rattle.drawing_tree.specs.Tree as tree
 use Rattle.drawing_grammar.specs.declared.terminal.Terminal.TheVariants as token
 use Rattle.drawing_grammar.specs.CanonicalDraws.{IsShallowAssignment, IsShallowFormal}
 use Rattle.drawing_grammar.specs.Lexeme.{symbol_terminal}
-use Rattle.drawing_grammar.specs.Grammar.{Need, mark, item, letter, fresh, part, group}
+use Rattle.drawing_grammar.specs.Grammar.{Need, mark, item, keyword, fresh, part, group}
 use Rattle.drawing_grammar.specs.Grammar as g
 use Rattle.drawing_grammar.specs.Machine.{choice}
 use Rattle.drawing_grammar.specs.Sketch.{no_items}
@@ -149,7 +149,7 @@ formals_held (f ∷ xs) is more rest b =
     let x = shift inner close_parenthesis more needs (take_mark (bare_symbol 40)
     ((inner ++ close_parenthesis) ++ more) token.OpenParenthesis needs refl b) in
     let i = into_leading g.Formals 0 (inner ++ (bare_symbol 41 ∷ more))
-    (mark token.CloseParenthesis ∷ rest) refl x in
+    (mark token.CloseParenthesis ∷ rest) refl refl x in
     let r = listed_formals f xs is more (mark token.CloseParenthesis ∷ rest) i in
     record {
       holds = r.holds;

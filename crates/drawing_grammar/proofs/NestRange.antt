@@ -6,7 +6,7 @@ use Rattle.drawing_tree.specs.Tree as tree
 use Rattle.drawing_grammar.specs.declared.terminal.Terminal.TheVariants as token
 use Rattle.drawing_grammar.specs.CanonicalDraws.{IsShallow, IsShallowRange}
 use Rattle.drawing_grammar.specs.Lexeme.{symbol_terminal}
-use Rattle.drawing_grammar.specs.Grammar.{Need, mark, item, letter, fresh, part, group}
+use Rattle.drawing_grammar.specs.Grammar.{Need, mark, item, keyword, fresh, part, group}
 use Rattle.drawing_grammar.specs.Grammar as g
 use Rattle.drawing_grammar.specs.Machine.{choice}
 use Rattle.drawing_grammar.proofs.Cutting.{Bare}

@@ -1,25 +1,30 @@
 -- Statements of a canonical text that is read are shallow.
-use Rattle.std.proofs.Common.{◌≡◌, ℕ, suc, true, List, [], ◌∷◌, ◌++◌, Option, Some, None, refl, ap, ◌∙◌, arith, append_assoc}
+use Rattle.std.proofs.Common.{◌≡◌, ℕ, suc, true, List, [], ◌∷◌, ◌++◌, Option, Some, None, refl, ap, subst, ◌∙◌, arith, append_assoc}
 use Rattle.std.specs.Prelude.{codes, IfSome, is_some}
+use Rattle.scald_base.specs.declared.refusal.Place.{Place}
 use Rattle.scald_expr.specs.Expression.{Expression}
 use Rattle.assertion_syntax.specs.Name.{name_text}
 use Rattle.drawing_tree.specs.Tree as tree
+use Rattle.drawing_tree.specs.WellFormed.{IsFreeWord}
+use Rattle.drawing_grammar.specs.declared.edition.Edition.{Edition}
+use Rattle.drawing_grammar.specs.declared.edition.Edition.TheVariants.{Second}
+use Rattle.drawing_grammar.specs.declared.terminal.Keyword.TheVariants.{To, Do}
 use Rattle.drawing_grammar.specs.declared.terminal.Terminal.{Terminal}
 use Rattle.drawing_grammar.specs.declared.terminal.Terminal.TheVariants as token
 use Rattle.drawing_grammar.specs.CanonicalDraws.{IsShallow, IsShallowTest, IsShallowUse, IsShallowWire, IsShallowStatement, AreShallow, IsShallowOtherwise}
 use Rattle.drawing_grammar.specs.Lexeme.{word_terminal, symbol_terminal}
-use Rattle.drawing_grammar.specs.Grammar.{Need, mark, item, letter, fresh, part, group}
+use Rattle.drawing_grammar.specs.Grammar.{Need, mark, item, keyword, fresh, part, group}
 use Rattle.drawing_grammar.specs.Grammar as g
 use Rattle.drawing_grammar.specs.Machine.{choice}
 use Rattle.drawing_grammar.specs.Sketch.{no_delays}
 use Rattle.drawing_grammar.proofs.Cutting.{Bare}
 use Rattle.drawing_grammar.proofs.Leaves as leaf
-use Rattle.drawing_grammar.proofs.CanonicalTokens.{word, semicolon, colon, close_bracket, condition_tokens, sum_tokens, bounds_tokens, range_tokens, connection_tokens, inputs_tokens, outputs_tokens, params_tokens, fall_tokens, delay_tokens, use_tokens, wire_tokens, end_tokens, statement_tokens, statements_tokens, else_tokens, body_tokens}
+use Rattle.drawing_grammar.proofs.CanonicalTokens.{word, for_tokens, semicolon, colon, close_bracket, condition_tokens, sum_tokens, bounds_tokens, range_tokens, connection_tokens, inputs_tokens, outputs_tokens, params_tokens, fall_tokens, delay_tokens, use_tokens, wire_tokens, end_tokens, statement_tokens, statements_tokens, else_tokens, body_tokens}
 use Rattle.drawing_grammar.proofs.Drawable.{IsDrawn, IsDrawnUse, IsDrawnWire, IsDrawnStatement, AreDrawn, IsDrawnOtherwise}
-use Rattle.drawing_grammar.proofs.LeftOver.{LeftOver, first_of, take_mark, take_item, take_choice, pass_part, pass_fresh, pass_group, into_group, into_leading}
+use Rattle.drawing_grammar.proofs.LeftOver.{LeftOver, first_of, take_mark, take_item, take_keyword, take_choice, pass_part, pass_fresh, pass_group, into_group, into_leading}
 use Rattle.drawing_grammar.proofs.Matching.{free_word}
 use Rattle.drawing_grammar.proofs.NestForms.{forms}
-use Rattle.drawing_grammar.proofs.NestRange.{Held, shift, bounds_held, no_range_first, range_held}
+use Rattle.drawing_grammar.proofs.NestRange.{Held, shift, bound, bounds_held, no_range_first, range_held}
 use Rattle.drawing_grammar.proofs.NestConnection.{inputs_held, outputs_held}
 use Rattle.drawing_grammar.proofs.NestParameters.{params_held}
 use Rattle.drawing_grammar.proofs.PhraseSteps.{bare_symbol}
@@ -99,17 +104,17 @@ pub after_inputs : {A : Type 0} (tokens : A → List Bare) (p : g.Part) (xs : Li
 unfolding symbol_terminal
 after_inputs tokens p xs more e = e
 
-use_held : (u : tree.UseStatement) → IsDrawnUse u → (n : ℕ) (more : List Bare) (rest : List Need) →
-    LeftOver (use_tokens u ++ more) (part g.Statement n ∷ rest) → Held (IsShallowUse u) more rest
+use_held : (v : Edition) (u : tree.UseStatement) → IsDrawnUse u → (n : ℕ) (more : List Bare) (rest : List Need) →
+    LeftOver (use_tokens u ++ more) (part (g.Statement v) n ∷ rest) → Held (IsShallowUse u) more rest
 unfolding symbol_terminal
-use_held u is n more rest b =
+use_held v u is n more rest b =
     let delay = delay_tokens u.delay u.fall in
     let params = params_tokens u.params in
     let ins = inputs_tokens connection_tokens u.ins in
     let outs = outputs_tokens connection_tokens u.outs in
     let end = bare_symbol 59 ∷ more in
     let kinded = bare_word u.label ∷ bare_symbol 58 ∷ bare_word u.kind ∷ [] in
-    let top : List Need = part g.Statement n ∷ rest in
+    let top : List Need = part (g.Statement v) n ∷ rest in
     let x0 = shift (kinded ++ delay ++ params ++ ins ++ outs) semicolon more top b in
     let x1 = shift (kinded ++ delay ++ params ++ ins) outs end top x0 in
     let x2 = shift (kinded ++ delay ++ params) ins (outs ++ end) top x1 in
@@ -118,7 +123,7 @@ use_held u is n more rest b =
     let details : List Need = part g.Delay 0 ∷ part g.Parameters 0 ∷ mark token.OpenParenthesis ∷ group
     g.Conns 0 ∷ mark token.CloseParenthesis ∷ part g.Outputs 0 ∷ mark token.Semicolon ∷ rest in
     let o = take_choice g.use_ n (bare_word u.label) (bare_symbol 58 ∷ bare_word u.kind ∷
-    (delay ++ tail)) rest (free_word u.label is.label.is_free) x3 in
+    (delay ++ tail)) rest (free_word u.label is.label.is_free, refl) x3 in
     let x4 = take_mark (bare_symbol 58) (bare_word u.kind ∷ (delay ++ tail)) token.Colon
     (item token.Word ∷ details) refl o.left in
     let x5 = take_item (bare_word u.kind) (delay ++ tail) token.Word details
@@ -153,17 +158,17 @@ no_range_bound a b is more =
     ∙ append_assoc (sum_tokens a) colon (sum_tokens b ++ more))
     ∙ no_range_first a is (colon ++ (sum_tokens b ++ more))
 
-wire_held : (w : tree.WireStatement) → IsDrawnWire w → (n : ℕ) (more : List Bare)
-    (rest : List Need) → LeftOver (wire_tokens w ++ more) (part g.Statement n ∷ rest) →
+wire_held : (v : Edition) (w : tree.WireStatement) → IsDrawnWire w → (n : ℕ) (more : List Bare)
+    (rest : List Need) → LeftOver (wire_tokens w ++ more) (part (g.Statement v) n ∷ rest) →
     Held (IsShallowWire w) more rest
 unfolding symbol_terminal word_terminal
-wire_held w is n more rest b =
+wire_held v w is n more rest b =
     let begin = bare_word (codes "WIRE") in
     let named = leaf.name (name_text w.name) in
     let range = range_tokens w.range in
     let inner = bounds_tokens w.min w.max in
     let end = bare_symbol 59 ∷ more in
-    let top : List Need = part g.Statement n ∷ rest in
+    let top : List Need = part (g.Statement v) n ∷ rest in
     let bounded : List Need = fresh ∷ group g.Sum 0 ∷ mark token.Colon ∷ fresh ∷ group g.Sum 0 ∷ mark
     token.Semicolon ∷ rest in
     let x0 = shift (begin ∷ named ∷ range ++ inner) semicolon more top b in
@@ -186,21 +191,22 @@ free_label : (u : tree.UseStatement) → IsDrawnUse u → word_terminal u.label 
 free_label u is = free_word u.label is.label.is_free
 
 -- What stands behind the statements of an IF begins none.
-ends_statements : (o : tree.Otherwise) (more : List Bare) →
-    choice g.Statement (first_of more) ≡ None → choice g.Statement
+ends_statements : (v : Edition) (o : tree.Otherwise) (more : List Bare) →
+    choice (g.Statement v) (first_of more) ≡ None → choice g.Statement
     (first_of (else_tokens o ++ more)) ≡ None
 unfolding else_tokens word_terminal
-ends_statements tree.no_else more none = none
-ends_statements (tree.else_ ss) more none = refl
+ends_statements v tree.no_else more none = none
+ends_statements v (tree.else_ ss) more none = refl
 
 -- A statement begins with a token by which it is known.
-statement_starts : (s : tree.Statement) → IsDrawnStatement s → (more : List Bare) →
-    is_some (choice g.Statement (first_of (statement_tokens s ++ more))) ≡ true
+statement_starts : (v : Edition) (s : tree.Statement) → IsDrawnStatement v s → (more : List Bare) →
+    is_some (choice (g.Statement v) (first_of (statement_tokens s ++ more))) ≡ true
 unfolding statement_tokens word_terminal
-statement_starts (tree.Use u) is more = ap (λ (l : Terminal). is_some (choice g.Statement l))
+statement_starts v (tree.Use u) is more = ap (λ (l : Terminal). is_some (choice (g.Statement v) l))
     (free_label u is)
-statement_starts (tree.Wire w) is more = refl
-statement_starts (tree.If test ss other place) is more = refl
+statement_starts v (tree.Wire w) is more = refl
+statement_starts v (tree.If test ss other place) is more = refl
+statement_starts v (tree.For var first last ss place) is more = refl
 
 end_held : (more : List Bare) (rest : List Need) → LeftOver (end_tokens ++ more)
     (mark token.End ∷ mark token.Semicolon ∷ rest) → LeftOver more rest
@@ -230,21 +236,21 @@ condition_held x is more rest b =
 mutual
   unfolding statement_tokens statements_tokens else_tokens word_terminal symbol_terminal
 
-  statement_held : (s : tree.Statement) → IsDrawnStatement s →
+  statement_held : (v : Edition) (s : tree.Statement) → IsDrawnStatement v s →
       (n : ℕ) (more : List Bare) (rest : List Need) → LeftOver (statement_tokens s ++ more)
-      (part g.Statement n ∷ rest) → Held (IsShallowStatement s) more rest
-  statement_held (tree.Use u) is n more rest b = let r = use_held u is n more rest b in
+      (part (g.Statement v) n ∷ rest) → Held (IsShallowStatement s) more rest
+  statement_held v (tree.Use u) is n more rest b = let r = use_held v u is n more rest b in
       record { holds = r.holds; left = r.left }
-  statement_held (tree.Wire w) is n more rest b = let r = wire_held w is n more rest b in
+  statement_held v (tree.Wire w) is n more rest b = let r = wire_held v w is n more rest b in
       record { holds = r.holds; left = r.left }
-  statement_held (tree.If test ss other place) is n more rest b =
+  statement_held v (tree.If test ss other place) is n more rest b =
       let begin = bare_word (codes "IF") in
       let condition = condition_tokens test in
       let behind_then = statements_tokens ss in
       let behind_else = else_tokens other in
       let end = end_tokens ++ more in
       let then_ = bare_word (codes "THEN") ∷ (behind_then ++ (behind_else ++ end)) in
-      let top : List Need = part g.Statement n ∷ rest in
+      let top : List Need = part (g.Statement v) n ∷ rest in
       let x0 = shift (((begin ∷ condition) ++ word (codes "THEN")) ++ behind_then ++ behind_else)
       end_tokens more top b in
       let x1 = shift (((begin ∷ condition) ++ word (codes "THEN")) ++ behind_then) behind_else end
@@ -253,57 +259,98 @@ mutual
       top x1 in
       let x3 = shift (begin ∷ condition) (word (codes "THEN")) (behind_then ++ (behind_else ++ end))
       top x2 in
-      let body : List Need = group g.Statements (suc n) ∷ part g.Otherwise (suc n) ∷ mark token.End ∷
+      let body : List Need = group (g.Statements v) (suc n) ∷ part (g.Otherwise v) (suc n) ∷ mark token.End ∷
       mark token.Semicolon ∷ rest in
       let o = take_choice g.if_ n begin (condition ++ then_) rest refl x3 in
       let one = condition_held test is.0 (behind_then ++ (behind_else ++ end)) body o.left in
-      let two = statements_held ss is.1 (suc n) (behind_else ++ end)
-      (part g.Otherwise (suc n) ∷ mark token.End ∷ mark token.Semicolon ∷ rest)
-      (ends_statements other end refl) one.left in
-      let three = otherwise_held other is.2 (suc n) more (mark token.End ∷ mark token.Semicolon ∷ rest)
+      let two = statements_held v ss is.1 (suc n) (behind_else ++ end)
+      (part (g.Otherwise v) (suc n) ∷ mark token.End ∷ mark token.Semicolon ∷ rest)
+      (ends_statements v other end refl) one.left in
+      let three = otherwise_held v other is.2 (suc n) more (mark token.End ∷ mark token.Semicolon ∷ rest)
       two.left in
       record { holds = (one.holds, two.holds, three.holds); left = end_held more rest three.left }
+  statement_held v (tree.For var first last ss place) is n more rest b =
+      let L : Edition → Type 0 = λ e. LeftOver (statement_tokens (tree.For var first last ss place) ++ more)
+      (part (g.Statement e) n ∷ rest) in
+      let D : Edition → Type 0 = λ e. AreDrawn e ss in
+      for_held var first last ss place is.1 is.2 is.3 (subst D is.0 is.4) n more rest (subst L is.0 b)
 
-  statements_held : (ss : tree.Statements) → AreDrawn ss →
-      (n : ℕ) (more : List Bare) (rest : List Need) → choice g.Statement (first_of more) ≡ None →
-      LeftOver (statements_tokens ss ++ more) (group g.Statements n ∷ rest) →
+  for_held : (var : List ℕ) (first last : Expression) (ss : tree.Statements) (place : Place) → IsFreeWord var →
+      IsDrawn first → IsDrawn last → AreDrawn Second ss → (n : ℕ) (more : List Bare) (rest : List Need) →
+      LeftOver (statement_tokens (tree.For var first last ss place) ++ more) (part (g.Statement Second) n ∷ rest) →
+      Held (IsShallowStatement (tree.For var first last ss place)) more rest
+  for_held var first last ss place free low high drawn n more rest b =
+      let begin = bare_word (codes "FOR") in
+      let inside = statements_tokens ss in
+      let end = end_tokens ++ more in
+      let named = begin ∷ bare_word var ∷ bare_symbol 61 ∷ [] in
+      let behind = bare_word (codes "DO") ∷ (inside ++ end) in
+      let highs = sum_tokens last ++ behind in
+      let to = bare_word (codes "TO") ∷ highs in
+      let top : List Need = part (g.Statement Second) n ∷ rest in
+      let x0 = shift (for_tokens var first last ++ inside) end_tokens more top b in
+      let x1 = shift (for_tokens var first last) inside end top x0 in
+      let x2 = shift (((named ++ sum_tokens first) ++ word (codes "TO")) ++ sum_tokens last) (word (codes "DO"))
+      (inside ++ end) top x1 in
+      let x3 = shift ((named ++ sum_tokens first) ++ word (codes "TO")) (sum_tokens last) behind top x2 in
+      let x4 = shift (named ++ sum_tokens first) (word (codes "TO")) highs top x3 in
+      let x5 = shift named (sum_tokens first) to top x4 in
+      let after : List Need = mark token.End ∷ mark token.Semicolon ∷ rest in
+      let body : List Need = group (g.Statements Second) (suc n) ∷ after in
+      let second : List Need = fresh ∷ group g.Sum 0 ∷ keyword Do ∷ body in
+      let one_needs : List Need = fresh ∷ group g.Sum 0 ∷ keyword To ∷ second in
+      let o = take_choice g.for_ n begin (bare_word var ∷ bare_symbol 61 ∷ (sum_tokens first ++ to)) rest
+      ((refl, refl), free_word var free.is_free) x5 in
+      let x6 = take_item (bare_word var) (bare_symbol 61 ∷ (sum_tokens first ++ to)) token.Word (mark token.Equals ∷ one_needs)
+      (free_word var free.is_free) o.left in
+      let x7 = take_mark (bare_symbol 61) (sum_tokens first ++ to) token.Equals one_needs refl x6 in
+      let one = bound first low to (keyword To ∷ second) refl refl x7 in
+      let x8 = take_keyword (bare_word (codes "TO")) highs To second refl refl one.left in
+      let two = bound last high behind (keyword Do ∷ body) refl refl x8 in
+      let x9 = take_keyword (bare_word (codes "DO")) (inside ++ end) Do body refl refl two.left in
+      let three = statements_held Second ss drawn (suc n) end after refl x9 in
+      record { holds = (one.holds, two.holds, three.holds); left = end_held more rest three.left }
+
+  statements_held : (v : Edition) (ss : tree.Statements) → AreDrawn v ss →
+      (n : ℕ) (more : List Bare) (rest : List Need) → choice (g.Statement v) (first_of more) ≡ None →
+      LeftOver (statements_tokens ss ++ more) (group (g.Statements v) n ∷ rest) →
       Held (AreShallow ss) more rest
-  statements_held tree.nil is n more rest none b = record {
+  statements_held v tree.nil is n more rest none b = record {
     holds = tt;
     left =
-        pass_group g.Statements n tree.nil more rest none refl b;
+        pass_group (g.Statements v) n tree.nil more rest none refl b;
   }
-  statements_held (tree.cons s ss) is n more rest none b =
+  statements_held v (tree.cons s ss) is n more rest none b =
       let tail = statements_tokens ss ++ more in
-      let x = shift (statement_tokens s) (statements_tokens ss) more (group g.Statements n ∷ rest)
+      let x = shift (statement_tokens s) (statements_tokens ss) more (group (g.Statements v) n ∷ rest)
       b in
-      let i = into_leading g.Statements n (statement_tokens s ++ tail) rest
-      (statement_starts s is.0 tail) x in
-      let one = statement_held s is.0 n tail (group g.Statements n ∷ rest) i in
-      let two = statements_held ss is.1 n more rest none one.left in
+      let i = into_leading (g.Statements v) n (statement_tokens s ++ tail) rest refl
+      (statement_starts v s is.0 tail) x in
+      let one = statement_held v s is.0 n tail (group (g.Statements v) n ∷ rest) i in
+      let two = statements_held v ss is.1 n more rest none one.left in
       record { holds = (one.holds, two.holds); left = two.left }
 
-  otherwise_held : (o : tree.Otherwise) → IsDrawnOtherwise o →
+  otherwise_held : (v : Edition) (o : tree.Otherwise) → IsDrawnOtherwise v o →
       (n : ℕ) (more : List Bare) (rest : List Need) → LeftOver
-      (else_tokens o ++ (end_tokens ++ more)) (part g.Otherwise n ∷ rest) →
+      (else_tokens o ++ (end_tokens ++ more)) (part (g.Otherwise v) n ∷ rest) →
       Held (IsShallowOtherwise o) (end_tokens ++ more) rest
-  otherwise_held tree.no_else is n more rest b = record {
+  otherwise_held v tree.no_else is n more rest b = record {
     holds = tt;
     left =
-        pass_part g.Otherwise n tree.no_else (end_tokens ++ more) rest refl refl b;
+        pass_part (g.Otherwise v) n tree.no_else (end_tokens ++ more) rest refl refl b;
   }
-  otherwise_held (tree.else_ ss) is n more rest b =
+  otherwise_held v (tree.else_ ss) is n more rest b =
       let o = take_choice g.else_ n (bare_word (codes "ELSE"))
       (statements_tokens ss ++ (end_tokens ++ more)) rest refl b in
-      let r = statements_held ss is n (end_tokens ++ more) rest refl o.left in
+      let r = statements_held v ss is n (end_tokens ++ more) rest refl o.left in
       record { holds = r.holds; left = r.left }
 
-pub body_held : (ss : tree.Statements) → AreDrawn ss → (more : List Bare) (rest : List Need) →
-    LeftOver (body_tokens ss ++ more) (group g.Statements 0 ∷ mark token.End ∷ mark token.Semicolon ∷
+pub body_held : (v : Edition) (ss : tree.Statements) → AreDrawn v ss → (more : List Bare) (rest : List Need) →
+    LeftOver (body_tokens ss ++ more) (group (g.Statements v) 0 ∷ mark token.End ∷ mark token.Semicolon ∷
     rest) → Held (AreShallow ss) more rest
 unfolding word_terminal
-body_held ss is more rest b =
-    let needs : List Need = group g.Statements 0 ∷ mark token.End ∷ mark token.Semicolon ∷ rest in
-    let r = statements_held ss is 0 (end_tokens ++ more) (mark token.End ∷ mark token.Semicolon ∷ rest)
+body_held v ss is more rest b =
+    let needs : List Need = group (g.Statements v) 0 ∷ mark token.End ∷ mark token.Semicolon ∷ rest in
+    let r = statements_held v ss is 0 (end_tokens ++ more) (mark token.End ∷ mark token.Semicolon ∷ rest)
     refl (shift (statements_tokens ss) end_tokens more needs b) in
     record { holds = r.holds; left = end_held more rest r.left }

@@ -2,6 +2,7 @@
 use Rattle.std.proofs.Common.{◌≡◌, ◌≢◌, None, refl}
 use Rattle.drawing_grammar.specs.declared.terminal.Terminal.{Terminal}
 use Rattle.drawing_grammar.specs.declared.terminal.Terminal.TheVariants as is
+use Rattle.drawing_grammar.specs.declared.edition.Edition.{Edition}
 use Rattle.drawing_grammar.specs.Grammar as g
 use Rattle.drawing_grammar.specs.Machine.{choice}
 
@@ -102,19 +103,23 @@ pub no_outputs : (l : Terminal) → l ≢ is.Arrow → choice g.Outputs l ≡ No
 no_outputs is.Arrow h0 = absurd (h0 refl)
 no_outputs _ h0 = refl
 
-pub no_statement : (l : Terminal) → l ≢ is.Word → l ≢ is.Wire → l ≢ is.If → choice g.Statement l ≡ None
-no_statement is.Word h0 h1 h2 = absurd (h0 refl)
-no_statement is.Wire h0 h1 h2 = absurd (h1 refl)
-no_statement is.If h0 h1 h2 = absurd (h2 refl)
-no_statement _ h0 h1 h2 = refl
+pub no_constant : (l : Terminal) → l ≢ is.Word → choice g.Constant l ≡ None
+no_constant is.Word h0 = absurd (h0 refl)
+no_constant _ h0 = refl
 
-pub no_otherwise : (l : Terminal) → l ≢ is.Else → choice g.Otherwise l ≡ None
-no_otherwise is.Else h0 = absurd (h0 refl)
-no_otherwise _ h0 = refl
+pub no_statement : (v : Edition) (l : Terminal) → l ≢ is.Word → l ≢ is.Wire → l ≢ is.If → choice (g.Statement v) l ≡ None
+no_statement v is.Word h0 h1 h2 = absurd (h0 refl)
+no_statement v is.Wire h0 h1 h2 = absurd (h1 refl)
+no_statement v is.If h0 h1 h2 = absurd (h2 refl)
+no_statement v _ h0 h1 h2 = refl
 
-pub no_macro : (l : Terminal) → l ≢ is.Macro → choice g.Macro l ≡ None
-no_macro is.Macro h0 = absurd (h0 refl)
-no_macro _ h0 = refl
+pub no_otherwise : (v : Edition) (l : Terminal) → l ≢ is.Else → choice (g.Otherwise v) l ≡ None
+no_otherwise v is.Else h0 = absurd (h0 refl)
+no_otherwise v _ h0 = refl
+
+pub no_macro : (v : Edition) (l : Terminal) → l ≢ is.Macro → choice (g.Macro v) l ≡ None
+no_macro v is.Macro h0 = absurd (h0 refl)
+no_macro v _ h0 = refl
 
 pub no_index : (l : Terminal) → l ≢ is.Less → choice g.Index l ≡ None
 no_index is.Less h0 = absurd (h0 refl)
@@ -144,6 +149,6 @@ pub no_clock_skew : (l : Terminal) → l ≢ is.Cskew → choice g.ClockSkew l �
 no_clock_skew is.Cskew h0 = absurd (h0 refl)
 no_clock_skew _ h0 = refl
 
-pub no_text : (l : Terminal) → l ≢ is.Scald → choice g.Text l ≡ None
-no_text is.Scald h0 = absurd (h0 refl)
-no_text _ h0 = refl
+pub no_text : (v : Edition) (l : Terminal) → l ≢ is.Scald → choice (g.Text v) l ≡ None
+no_text v is.Scald h0 = absurd (h0 refl)
+no_text v _ h0 = refl

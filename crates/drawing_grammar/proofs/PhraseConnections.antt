@@ -10,7 +10,7 @@ use Rattle.drawing_grammar.specs.Lexeme.{Lexeme, terminal, symbol_terminal, word
 use Rattle.drawing_grammar.specs.Grammar.{Group, Need, part, group, Term, MoreTerms, Hold, MoreConns, SomeConns, Conns}
 use Rattle.drawing_grammar.specs.Grammar as g
 use Rattle.drawing_grammar.specs.Sketch.{GroupMeaning, Values, Placed, connection}
-use Rattle.drawing_grammar.specs.Written.{Written, chosen, lettered, left_out, grouped, lacking, spelling, values}
+use Rattle.drawing_grammar.specs.Written.{Written, chosen, worded, left_out, grouped, lacking, spelling, values}
 use Rattle.drawing_grammar.proofs.Leaves as leaf
 use Rattle.drawing_grammar.proofs.CanonicalTokens.{word, comma, ampersand, exclamation, term_tokens, hold_tokens, connection_tokens, listed_tokens}
 use Rattle.drawing_grammar.proofs.Drawable.{HasOne}
@@ -74,7 +74,7 @@ hold_built true ts are rest w =
     let opens : terminal t.token ≡ g.opening g.hold = terminal_is t.token (bare_symbol 33) t.is in
     let next : terminal u.token ≡ Word = terminal_is u.token (leaf.word (codes "H")) u.is in
     record {
-      written = chosen g.hold t.token opens (lettered u.token next (text_is u.token (leaf.word (codes "H")) u.is) w);
+      written = chosen g.hold t.token opens (worded u.token next (text_is u.token (leaf.word (codes "H")) u.is) w);
       spelled = pair_spelled ts two.first two.second t.token u.token (spelling w) two.whole t.whole u.whole;
       stands = refl;
       others = refl;

@@ -6,6 +6,7 @@ use Rattle.drawing_tree.specs.Tree as tree
 use Rattle.drawing_tree.specs.Places.{unplaced_statements, unplaced_macro}
 use Rattle.drawing_tree.specs.WellFormed.{IsFreeWord}
 use Rattle.drawing_grammar.specs.declared.terminal.Terminal.TheVariants.{End, Semicolon, OpenParenthesis, CloseParenthesis}
+use Rattle.drawing_grammar.specs.declared.edition.Edition.{Edition}
 use Rattle.drawing_grammar.specs.Lexeme.{Lexeme, terminal, symbol_terminal, word_terminal}
 use Rattle.drawing_grammar.specs.Grammar.{Need, mark, part, group, Statements, Formals, FormalOutputs, Macro, Macros}
 use Rattle.drawing_grammar.specs.Grammar as g
@@ -23,8 +24,8 @@ use Rattle.drawing_grammar.proofs.PhraseFormals.{IsShortFormal, all_formals, for
 
 -- ---- a body and the END behind it
 
-pub record BodyBuilt (ss : tree.Statements) (ts : List Lexeme) (rest : List Need) (w : Written rest) : Type 0 where
-  pub written : Written (group Statements 0 ∷ mark End ∷ mark Semicolon ∷ rest)
+pub record BodyBuilt (edition : Edition) (ss : tree.Statements) (ts : List Lexeme) (rest : List Need) (w : Written rest) : Type 0 where
+  pub written : Written (group (Statements edition) 0 ∷ mark End ∷ mark Semicolon ∷ rest)
   pub spelled : spelling written ≡ ts ++ spelling w
   pub stands : unplaced_statements (values written).0 ≡ unplaced_statements ss
   pub others : (values written).1 ≡ values w
@@ -34,16 +35,17 @@ body_spelled : (ts before last first second : List Lexeme) (t u : Lexeme) (rest 
     ts ≡ before ++ last → last ≡ first ++ second → first ≡ t ∷ [] → second ≡ u ∷ [] → before ++ t ∷ u ∷ rest ≡ ts ++ rest
 body_spelled ts before last first second t u rest a b c d = rw (a, b, c, d) (sym (append_assoc before (t ∷ u ∷ []) rest))
 
-pub body_built : (ss : tree.Statements) → AreShort 0 ss → (ts : List Lexeme) → Are ts (body_tokens ss) → (rest : List Need) (w : Written rest) → BodyBuilt ss ts rest w
+pub body_built : (edition : Edition) (ss : tree.Statements) → AreShort edition 0 ss → (ts : List Lexeme) → Are ts (body_tokens ss) →
+    (rest : List Need) (w : Written rest) → BodyBuilt edition ss ts rest w
 unfolding symbol_terminal word_terminal
-body_built ss is ts are rest w =
+body_built edition ss is ts are rest w =
     let two = parts ts (statements_tokens ss) end_tokens are in
     let ends = parts two.second (word (codes "END")) semicolon two.back in
     let t = single ends.first (leaf.word (codes "END")) ends.front in
     let u = single ends.second (bare_symbol 59) ends.back in
     let end : terminal t.token ≡ End = terminal_is t.token (leaf.word (codes "END")) t.is in
     let stop : terminal u.token ≡ Semicolon = terminal_is u.token (bare_symbol 59) u.is in
-    let b = statements_built ss 0 is two.first two.front (mark End ∷ mark Semicolon ∷ rest) (marked t.token end (marked u.token stop w)) in
+    let b = statements_built edition ss 0 is two.first two.front (mark End ∷ mark Semicolon ∷ rest) (marked t.token end (marked u.token stop w)) in
     record {
       written = b.written;
       spelled = b.spelled ∙ body_spelled ts two.first two.second ends.first ends.second t.token u.token (spelling w) two.whole ends.whole t.whole u.whole;
@@ -81,12 +83,12 @@ ins_built fs is ts are rest w =
 
 -- ---- one macro
 
-pub record IsShortMacro (m : tree.Macro) : Type 0 where
+pub record IsShortMacro (edition : Edition) (m : tree.Macro) : Type 0 where
   pub name : IsFreeWord m.name
   pub params : AllByRecursion IsShortAssignment m.params
   pub ins : AllByRecursion IsShortFormal m.ins
   pub outs : AllByRecursion IsShortFormal m.outs
-  pub body : AreShort 0 m.body
+  pub body : AreShort edition 0 m.body
 
 -- It holds this macro, places aside.
 abbrev pub IsMacro : tree.Macro → HeadedMacro → Type 0
@@ -106,9 +108,10 @@ macro_spelled ts head body z0 semi z1 outs z2 ins z3 params begin name t n s res
     ∙ (append_assoc (params ++ ins) outs (s ∷ (body ++ rest))
     ∙ append_assoc params ins (outs ++ s ∷ (body ++ rest)))))))
 
-pub macro_built : (m : tree.Macro) → IsShortMacro m → (ts : List Lexeme) → Are ts (macro_tokens m) → (rest : List Need) (w : Written rest) → PartBuilt Macro (IsMacro m) ts rest w
+pub macro_built : (edition : Edition) (m : tree.Macro) → IsShortMacro edition m → (ts : List Lexeme) → Are ts (macro_tokens m) →
+    (rest : List Need) (w : Written rest) → PartBuilt (Macro edition) (IsMacro m) ts rest w
 unfolding symbol_terminal word_terminal
-macro_built m is ts are rest w =
+macro_built edition m is ts are rest w =
     let outs_bare = outputs_tokens formal_tokens m.outs in
     let ins_bare = inputs_tokens formal_tokens m.ins in
     let p3 = word (codes "MACRO") ++ word m.name in
@@ -125,17 +128,17 @@ macro_built m is ts are rest w =
     let s = single a0.second (bare_symbol 59) a0.back in
     let opens : terminal t.token ≡ g.opening g.macro = terminal_is t.token (leaf.word (codes "MACRO")) t.is in
     let ends : terminal s.token ≡ Semicolon = terminal_is s.token (bare_symbol 59) s.is in
-    let body = body_built m.body is.body a.second a.back rest w in
-    let outs = formal_outputs_built m.outs is.outs a1.second a1.back (mark Semicolon ∷ group Statements 0 ∷ mark End ∷ mark Semicolon ∷ rest) (marked s.token ends body.written) in
-    let ins = ins_built m.ins is.ins a2.second a2.back (part FormalOutputs 0 ∷ mark Semicolon ∷ group Statements 0 ∷ mark End ∷ mark Semicolon ∷ rest) outs.written in
+    let body = body_built edition m.body is.body a.second a.back rest w in
+    let outs = formal_outputs_built m.outs is.outs a1.second a1.back (mark Semicolon ∷ group (Statements edition) 0 ∷ mark End ∷ mark Semicolon ∷ rest) (marked s.token ends body.written) in
+    let ins = ins_built m.ins is.ins a2.second a2.back (part FormalOutputs 0 ∷ mark Semicolon ∷ group (Statements edition) 0 ∷ mark End ∷ mark Semicolon ∷ rest) outs.written in
     let params = params_built m.params is.params a3.second a3.back (mark OpenParenthesis ∷ group Formals
-    0 ∷ mark CloseParenthesis ∷ part FormalOutputs 0 ∷ mark Semicolon ∷ group Statements 0 ∷ mark End ∷ mark Semicolon ∷ rest) ins.written in
+    0 ∷ mark CloseParenthesis ∷ part FormalOutputs 0 ∷ mark Semicolon ∷ group (Statements edition) 0 ∷ mark End ∷ mark Semicolon ∷ rest) ins.written in
     let v = values params.written in
     let e1 : v.1 ≡ values ins.written = params.others in
     let e2 : v.1.1 ≡ values outs.written =
     ap (λ (y : Values (group Formals 0 ∷ mark CloseParenthesis ∷ part FormalOutputs
-    0 ∷ mark Semicolon ∷ group Statements 0 ∷ mark End ∷ mark Semicolon ∷ rest)). y.1) e1 ∙ ins.others in
-    let e3 : v.1.1.1 ≡ values body.written = ap (λ (y : Values (part FormalOutputs 0 ∷ mark Semicolon ∷ group Statements 0 ∷ mark End ∷ mark Semicolon ∷ rest)). y.1) e2 ∙ outs.others in
+    0 ∷ mark Semicolon ∷ group (Statements edition) 0 ∷ mark End ∷ mark Semicolon ∷ rest)). y.1) e1 ∙ ins.others in
+    let e3 : v.1.1.1 ≡ values body.written = ap (λ (y : Values (part FormalOutputs 0 ∷ mark Semicolon ∷ group (Statements edition) 0 ∷ mark End ∷ mark Semicolon ∷ rest)). y.1) e2 ∙ outs.others in
     record {
       written = chosen g.macro t.token opens (token n.token (word_is_free n.token m.name n.is is.name) params.written);
       spelled =
@@ -146,10 +149,11 @@ macro_built m is ts are rest w =
           ∙ macro_spelled ts a.first a.second a0.first a0.second a1.first a1.second a2.first a2.second a3.first a3.second a4.first a4.second t.token n.token s.token (spelling w)
           a.whole a0.whole a1.whole a2.whole a3.whole a4.whole t.whole n.whole s.whole;
       stands = macro_stands m n.token v.0 v.1.0 v.1.1.0 v.1.1.1.0 (text_is n.token (leaf.word m.name) n.is) params.stands
-          (ap (λ (y : Values (group Formals 0 ∷ mark CloseParenthesis ∷ part FormalOutputs 0 ∷ mark Semicolon ∷ group Statements 0 ∷ mark End ∷ mark Semicolon ∷ rest)). y.0.items) e1 ∙ ins.stands)
-          (ap (λ (y : Values (part FormalOutputs 0 ∷ mark Semicolon ∷ group Statements 0 ∷ mark End ∷ mark Semicolon ∷ rest)). y.0.items) e2 ∙ outs.stands)
-          (ap (λ (y : Values (group Statements 0 ∷ mark End ∷ mark Semicolon ∷ rest)). unplaced_statements y.0) e3 ∙ body.stands);
-      others = ap (λ (y : Values (group Statements 0 ∷ mark End ∷ mark Semicolon ∷ rest)). y.1) e3 ∙ body.others;
+          (ap (λ (y : Values (group Formals 0 ∷ mark CloseParenthesis ∷ part FormalOutputs 0 ∷ mark Semicolon ∷
+          group (Statements edition) 0 ∷ mark End ∷ mark Semicolon ∷ rest)). y.0.items) e1 ∙ ins.stands)
+          (ap (λ (y : Values (part FormalOutputs 0 ∷ mark Semicolon ∷ group (Statements edition) 0 ∷ mark End ∷ mark Semicolon ∷ rest)). y.0.items) e2 ∙ outs.stands)
+          (ap (λ (y : Values (group (Statements edition) 0 ∷ mark End ∷ mark Semicolon ∷ rest)). unplaced_statements y.0) e3 ∙ body.stands);
+      others = ap (λ (y : Values (group (Statements edition) 0 ∷ mark End ∷ mark Semicolon ∷ rest)). y.1) e3 ∙ body.others;
       fits = λ f b. (omega arith, (omega arith, params.fits (λ c. ins.fits (λ d. outs.fits (λ h. (omega arith, body.fits f h)) d) c) b));
     }
 
@@ -162,9 +166,9 @@ AreMacros ms v = map unplaced_macro v.macros ≡ map unplaced_macro ms
 macros_stand : (m : tree.Macro) (ms : List tree.Macro) (first : HeadedMacro) (more : HeadedMacros) → IsMacro m first → AreMacros ms more → AreMacros (m ∷ ms) (with_macro first more)
 macros_stand m ms first more a b = rw (a, b) refl
 
-pub macros_built : (ms : List tree.Macro) → AllByRecursion IsShortMacro ms → (ts : List Lexeme) →
-    Are ts (flat_map macro_tokens ms) → (rest : List Need) (w : Written rest) → GroupBuilt Macros (AreMacros ms) ts rest w
-macros_built [] is ts are rest w = record {
+pub macros_built : (edition : Edition) (ms : List tree.Macro) → AllByRecursion (IsShortMacro edition) ms → (ts : List Lexeme) →
+    Are ts (flat_map macro_tokens ms) → (rest : List Need) (w : Written rest) → GroupBuilt (Macros edition) (AreMacros ms) ts rest w
+macros_built edition [] is ts are rest w = record {
   written = lacking (record { macros = []; heads = [] }) refl w;
   spelled =
       nothing_spelled ts (spelling w) are;
@@ -172,14 +176,14 @@ macros_built [] is ts are rest w = record {
   others = refl;
   fits = λ f a. f a;
 }
-macros_built (m ∷ ms) is ts are rest w =
+macros_built edition (m ∷ ms) is ts are rest w =
     let two = parts ts (macro_tokens m) (flat_map macro_tokens ms) are in
-    let more = macros_built ms is.1 two.second two.back rest w in
-    let b = macro_built m is.0 two.first two.front (group Macros 0 ∷ rest) more.written in
+    let more = macros_built edition ms is.1 two.second two.back rest w in
+    let b = macro_built edition m is.0 two.first two.front (group (Macros edition) 0 ∷ rest) more.written in
     record {
       written = grouped b.written;
       spelled = b.spelled ∙ (ap (λ (us : List Lexeme). two.first ++ us) more.spelled ∙ spelled_two ts two.first two.second (spelling w) two.whole);
-      stands = macros_stand m ms (values b.written).0 (values b.written).1.0 b.stands (ap (λ (v : Values (group Macros 0 ∷ rest)). map unplaced_macro v.0.macros) b.others ∙ more.stands);
-      others = ap (λ (v : Values (group Macros 0 ∷ rest)). v.1) b.others ∙ more.others;
+      stands = macros_stand m ms (values b.written).0 (values b.written).1.0 b.stands (ap (λ (v : Values (group (Macros edition) 0 ∷ rest)). map unplaced_macro v.0.macros) b.others ∙ more.stands);
+      others = ap (λ (v : Values (group (Macros edition) 0 ∷ rest)). v.1) b.others ∙ more.others;
       fits = λ f a. b.fits (λ c. more.fits f c) a;
     }

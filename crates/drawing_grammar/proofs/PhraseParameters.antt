@@ -26,7 +26,7 @@ pub record IsShortAssignment (a : tree.Assignment) : Type 0 where
 
 -- ---- one parameter
 
-assigned : (a : tree.Assignment) (name : List ℕ) (value : Expression) → name ≡ a.name → value ≡ a.value → (let x : tree.Assignment = record { name = name; value = value } in x) ≡ a
+pub assigned : (a : tree.Assignment) (name : List ℕ) (value : Expression) → name ≡ a.name → value ≡ a.value → (let x : tree.Assignment = record { name = name; value = value } in x) ≡ a
 assigned a name value e f = rw (e, f) refl
 
 assign_built : (a : tree.Assignment) → IsShortAssignment a → (ts : List Lexeme) → Are ts (assignment_tokens a) → (rest : List Need) (w : Written rest) → PartBuilt Assign (λ v. v.item ≡ a) ts rest w

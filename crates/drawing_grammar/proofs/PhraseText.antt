@@ -1,185 +1,41 @@
 -- The phrase of a whole canonical text.
-use Rattle.std.proofs.Common.{◌≡◌, ℕ, pos, List, [], ◌∷◌, ◌++◌, map, Option, Some, None, refl, sym, ap, subst, ◌∙◌, arith, append_assoc}
+use Rattle.std.proofs.Common.{◌≡◌, ℕ, pos, List, [], ◌∷◌, ◌++◌, map, refl, sym, ap, subst, ◌∙◌, arith, append_assoc}
 use Rattle.std.specs.Prelude.{codes}
-use Rattle.std.specs.List.{AllByRecursion}
+use Rattle.std.specs.List.{flat_map, AllByRecursion}
 use Rattle.scald_lex.specs.declared.token.TokenKind.TheVariants.{End}
 use Rattle.drawing_tree.specs.Tree as tree
 use Rattle.drawing_tree.specs.Places.{unplaced_statements, unplaced_macro, unplaced_case}
 use Rattle.drawing_tree.specs.WellFormed.{IsFreeWord}
-use Rattle.drawing_grammar.specs.declared.header.NumberPair.{NumberPair}
+use Rattle.drawing_grammar.specs.declared.edition.Edition.{Edition}
+use Rattle.drawing_grammar.specs.declared.edition.Edition.TheVariants.{First, Second}
 use Rattle.drawing_grammar.specs.declared.terminal.Terminal.TheVariants as is
 use Rattle.drawing_grammar.specs.Lexeme.{Lexeme, terminal, symbol_terminal, word_terminal, number_of}
-use Rattle.drawing_grammar.specs.Grammar.{Need, mark, item, part, group, bounds, WireBounds, PrecisionSkew, ClockSkew, Macros, Statements, Cases}
+use Rattle.drawing_grammar.specs.Grammar.{Need, mark, item, group, constants, from_macros, Statements, Cases}
 use Rattle.drawing_grammar.specs.Grammar as g
-use Rattle.drawing_grammar.specs.Sketch.{Sketch, Values}
-use Rattle.drawing_grammar.specs.Written.{Written, nothing, marked, token, lettered, chosen, spelling, values}
+use Rattle.drawing_grammar.specs.Sketch.{Sketch, Values, number_pair, constants_of, behind_constants}
+use Rattle.drawing_grammar.specs.Written.{Written, nothing, marked, token, chosen, spelling, values}
 use Rattle.drawing_grammar.specs.Draws.{whole}
-use Rattle.drawing_grammar.proofs.Cutting.{Bare}
 use Rattle.drawing_grammar.proofs.Leaves as leaf
-use Rattle.drawing_grammar.proofs.CanonicalTokens.{word, number, semicolon, pair_tokens, drawing_tokens, end_of_text}
+use Rattle.drawing_grammar.proofs.CanonicalTokens.{word, semicolon, macro_tokens, body_tokens, case_tokens, drawing_tokens, end_of_text}
 use Rattle.drawing_grammar.proofs.Drawable.{IsDrawnCase}
-use Rattle.drawing_grammar.proofs.Matching.{bare, Are, parts, single, terminal_is, text_is, word_is_free}
+use Rattle.drawing_grammar.proofs.Matching.{bare, Are, single, terminal_is, text_is, word_is_free}
 use Rattle.drawing_grammar.proofs.DrawingParts.{drawing_parts}
 use Rattle.drawing_grammar.proofs.PhraseSteps.{Fits, bare_symbol}
-use Rattle.drawing_grammar.proofs.PhraseConnection.{PartBuilt}
 use Rattle.drawing_grammar.proofs.PhraseStatement.{AreShort}
 use Rattle.drawing_grammar.proofs.PhraseMacro.{IsShortMacro, AreMacros, body_built, macros_built}
-use Rattle.drawing_grammar.proofs.PhraseCase.{AreCases, number_is, cases_built}
-
--- ---- the first token
-
-record Next (ts : List Lexeme) (x : Bare) (bs : List Bare) : Type 0 where
-  token : Lexeme
-  rest : List Lexeme
-  whole : ts ≡ token ∷ rest
-  is : bare token ≡ x
-  behind : Are rest bs
-
-next : (ts : List Lexeme) (x : Bare) (bs : List Bare) → Are ts (x ∷ bs) → Next ts x bs
-next [] x bs e = absurd cc
-next (t ∷ ts) x bs e = let head : bare t ≡ x = cc in let tail : map bare ts ≡ bs = cc in record { token = t; rest = ts; whole = refl; is = head; behind = tail }
-
-none_left : (ts : List Lexeme) → Are ts [] → ts ≡ []
-none_left [] e = refl
-none_left (t ∷ ts) e = absurd cc
-
--- ---- statements of two numbers
-
-record Line (text : List ℕ) (a b : ℕ) (ts : List Lexeme) (rest : List Need) (w : Written rest) : Type 0 where
-  begin : Lexeme
-  is_begin : bare begin ≡ leaf.word text
-  written : Written (bounds rest)
-  spelled : begin ∷ spelling written ≡ ts ++ spelling w
-  first : number_of (values written).0 ≡ pos a
-  second : number_of (values written).1.0 ≡ pos b
-  others : (values written).1.1 ≡ values w
-  fits : ((d : ℕ) → Fits w d) → (d : ℕ) → Fits written d
-
-joined : (ts r0 r1 r2 r3 r4 : List Lexeme) (t0 t1 t2 t3 t4 : Lexeme) → ts ≡ t0 ∷ r0 → r0 ≡ t1 ∷ r1 → r1 ≡ t2 ∷ r2 → r2 ≡ t3 ∷ r3 → r3 ≡ t4 ∷ r4 → r4 ≡ [] → ts ≡ t0 ∷ t1 ∷ t2 ∷ t3 ∷ t4 ∷ []
-joined ts r0 r1 r2 r3 r4 t0 t1 t2 t3 t4 a b c d e f = rw (a, b, c, d, e, f) refl
-
-line : (text : List ℕ) (a b : ℕ) (ts : List Lexeme) (rest : List Need) (w : Written rest) → Are ts (word text ++ pair_tokens a b ++ semicolon) → Line text a b ts rest w
-unfolding symbol_terminal
-line text a b ts rest w are =
-    let n0 = next ts (leaf.word text) (leaf.number a ∷ bare_symbol 58 ∷ leaf.number b ∷ bare_symbol 59 ∷ []) are in
-    let n1 = next n0.rest (leaf.number a) (bare_symbol 58 ∷ leaf.number b ∷ bare_symbol 59 ∷ []) n0.behind in
-    let n2 = next n1.rest (bare_symbol 58) (leaf.number b ∷ bare_symbol 59 ∷ []) n1.behind in
-    let n3 = next n2.rest (leaf.number b) (bare_symbol 59 ∷ []) n2.behind in
-    let n4 = next n3.rest (bare_symbol 59) [] n3.behind in
-    let firsts : terminal n1.token ≡ is.Number = terminal_is n1.token (leaf.number a) n1.is in
-    let middles : terminal n2.token ≡ is.Colon = terminal_is n2.token (bare_symbol 58) n2.is in
-    let seconds : terminal n3.token ≡ is.Number = terminal_is n3.token (leaf.number b) n3.is in
-    let ends : terminal n4.token ≡ is.Semicolon = terminal_is n4.token (bare_symbol 59) n4.is in
-    let whole = joined ts n0.rest n1.rest n2.rest n3.rest n4.rest n0.token n1.token n2.token n3.token n4.token n0.whole n1.whole n2.whole n3.whole n4.whole (none_left n4.rest n4.behind) in
-    record {
-      begin = n0.token;
-      is_begin = n0.is;
-      written = token n1.token firsts (marked n2.token middles (token n3.token seconds (marked n4.token ends w)));
-      spelled = ap (λ (us : List Lexeme). us ++ spelling w) (sym whole);
-      first = number_is n1.token a n1.is;
-      second = number_is n3.token b n3.is;
-      others = refl;
-      fits = λ f c. (omega arith, (omega arith, (omega arith, (omega arith, f c))));
-    }
-
--- these two numbers are written
-abbrev pub IsPair : ℕ → ℕ → Option NumberPair → Type 0
-IsPair a b None = ⊥
-IsPair a b (Some pair) = (pair.first ≡ pos a) × (pair.second ≡ pos b)
-
-module _ (a b : ℕ) (ts : List Lexeme) (rest : List Need) (w : Written rest) where
-  wire_line : Are ts (word (codes "WIRE") ++ pair_tokens a b ++ semicolon) → PartBuilt WireBounds (IsPair a b) ts rest w
-  unfolding word_terminal
-  wire_line are =
-      let l = line (codes "WIRE") a b ts rest w are in
-      let begins : terminal l.begin ≡ g.opening g.wire_bounds = terminal_is l.begin (leaf.word (codes "WIRE")) l.is_begin in
-      record { written = chosen g.wire_bounds l.begin begins l.written; spelled = l.spelled; stands = (l.first, l.second); others = l.others; fits = λ f c. (omega arith, l.fits f c) }
-
-  precision_line : Are ts (word (codes "PSKEW") ++ pair_tokens a b ++ semicolon) → PartBuilt PrecisionSkew (IsPair a b) ts rest w
-  unfolding word_terminal
-  precision_line are =
-      let l = line (codes "PSKEW") a b ts rest w are in
-      let begins : terminal l.begin ≡ g.opening g.precision_skew = terminal_is l.begin (leaf.word (codes "PSKEW")) l.is_begin in
-      record { written = chosen g.precision_skew l.begin begins l.written; spelled = l.spelled; stands = (l.first, l.second); others = l.others; fits = λ f c. (omega arith, l.fits f c) }
-
-  clock_line : Are ts (word (codes "CSKEW") ++ pair_tokens a b ++ semicolon) → PartBuilt ClockSkew (IsPair a b) ts rest w
-  unfolding word_terminal
-  clock_line are =
-      let l = line (codes "CSKEW") a b ts rest w are in
-      let begins : terminal l.begin ≡ g.opening g.clock_skew = terminal_is l.begin (leaf.word (codes "CSKEW")) l.is_begin in
-      record { written = chosen g.clock_skew l.begin begins l.written; spelled = l.spelled; stands = (l.first, l.second); others = l.others; fits = λ f c. (omega arith, l.fits f c) }
-
--- ---- the first two lines
-
-record Front (version units ticks : ℕ) (ts : List Lexeme) : Type 0 where
-  scald : Lexeme
-  version_ : Lexeme
-  stop : Lexeme
-  clock : Lexeme
-  units_ : Lexeme
-  by : Lexeme
-  ticks_ : Lexeme
-  end : Lexeme
-  whole : ts ≡ scald ∷ version_ ∷ stop ∷ clock ∷ units_ ∷ by ∷ ticks_ ∷ end ∷ []
-  is_scald : bare scald ≡ leaf.word (codes "SCALD")
-  is_version : bare version_ ≡ leaf.number version
-  is_stop : bare stop ≡ bare_symbol 59
-  is_clock : bare clock ≡ leaf.word (codes "CLOCK")
-  is_units : bare units_ ≡ leaf.number units
-  is_by : bare by ≡ leaf.word (codes "x")
-  is_ticks : bare ticks_ ≡ leaf.number ticks
-  is_end : bare end ≡ bare_symbol 59
-
-all_joined : (ts r0 r1 r2 r3 r4 r5 r6 r7 : List Lexeme) (t0 t1 t2 t3 t4 t5 t6 t7 : Lexeme) → ts ≡ t0 ∷ r0 → r0 ≡ t1 ∷ r1 → r1 ≡ t2 ∷ r2 →
-    r2 ≡ t3 ∷ r3 → r3 ≡ t4 ∷ r4 → r4 ≡ t5 ∷ r5 → r5 ≡ t6 ∷ r6 → r6 ≡ t7 ∷ r7 → r7 ≡ [] → ts ≡ t0 ∷ t1 ∷ t2 ∷ t3 ∷ t4 ∷ t5 ∷ t6 ∷ t7 ∷ []
-all_joined ts r0 r1 r2 r3 r4 r5 r6 r7 t0 t1 t2 t3 t4 t5 t6 t7 a b c d e f h i j = rw (a, b, c, d, e, f, h, i, j) refl
-
-front : (version units ticks : ℕ) (ts : List Lexeme) →
-    Are ts ((word (codes "SCALD") ++ number version ++ semicolon) ++ (word (codes "CLOCK")
-    ++ number units ++ word (codes "x") ++ number ticks ++ semicolon)) → Front version units ticks ts
-front version units ticks ts are =
-    let b7 = bare_symbol 59 ∷ [] in
-    let b6 = leaf.number ticks ∷ b7 in
-    let b5 = leaf.word (codes "x") ∷ b6 in
-    let b4 = leaf.number units ∷ b5 in
-    let b3 = leaf.word (codes "CLOCK") ∷ b4 in
-    let b2 = bare_symbol 59 ∷ b3 in
-    let b1 = leaf.number version ∷ b2 in
-    let n0 = next ts (leaf.word (codes "SCALD")) b1 are in
-    let n1 = next n0.rest (leaf.number version) b2 n0.behind in
-    let n2 = next n1.rest (bare_symbol 59) b3 n1.behind in
-    let n3 = next n2.rest (leaf.word (codes "CLOCK")) b4 n2.behind in
-    let n4 = next n3.rest (leaf.number units) b5 n3.behind in
-    let n5 = next n4.rest (leaf.word (codes "x")) b6 n4.behind in
-    let n6 = next n5.rest (leaf.number ticks) b7 n5.behind in
-    let n7 = next n6.rest (bare_symbol 59) [] n6.behind in
-    record {
-      scald = n0.token;
-      version_ = n1.token;
-      stop = n2.token;
-      clock = n3.token;
-      units_ = n4.token;
-      by = n5.token;
-      ticks_ = n6.token;
-      end = n7.token;
-      whole = all_joined ts n0.rest n1.rest n2.rest n3.rest n4.rest n5.rest n6.rest n7.rest n0.token n1.token n2.token n3.token
-          n4.token n5.token n6.token n7.token n0.whole n1.whole n2.whole n3.whole n4.whole n5.whole n6.whole n7.whole (none_left n7.rest n7.behind);
-      is_scald = n0.is;
-      is_version = n1.is;
-      is_stop = n2.is;
-      is_clock = n3.is;
-      is_units = n4.is;
-      is_by = n5.is;
-      is_ticks = n6.is;
-      is_end = n7.is;
-    }
+use Rattle.drawing_grammar.proofs.PhraseParameters.{IsShortAssignment}
+use Rattle.drawing_grammar.proofs.PhraseConstant.{constants_of_text}
+use Rattle.drawing_grammar.proofs.PhraseHeader.{next, none_left, IsPair, header_needs, header_built}
+use Rattle.drawing_grammar.proofs.PhraseCase.{AreCases, cases_built}
 
 -- ---- the whole text
 
-pub record IsShortDrawing (d : tree.Drawing) : Type 0 where
+pub record IsShortDrawing (v : Edition) (d : tree.Drawing) : Type 0 where
   pub name : IsFreeWord d.name
-  pub macros : AllByRecursion IsShortMacro d.macros
-  pub body : AreShort 0 d.body
+  pub consts : AllByRecursion IsShortAssignment d.consts
+  pub no_consts : v ≡ First → d.consts ≡ []
+  pub macros : AllByRecursion (IsShortMacro v) d.macros
+  pub body : AreShort v 0 d.body
   pub cases : AllByRecursion IsDrawnCase d.cases
 
 -- The text stands for this drawing, places aside.
@@ -190,19 +46,18 @@ pub record IsAgain (d : tree.Drawing) (s : Sketch) : Type 0 where
   pub wire : IsPair d.header.wire.min d.header.wire.max s.header.wire
   pub pskew : IsPair d.header.pskew.0 d.header.pskew.1 s.header.pskew
   pub cskew : IsPair d.header.cskew.0 d.header.cskew.1 s.header.cskew
+  pub consts : s.consts.constants ≡ d.consts
   pub macros : AreMacros d.macros s.macros
   pub name : s.name ≡ d.name
   pub body : unplaced_statements s.body ≡ unplaced_statements d.body
   pub cases : AreCases d.cases s.cases
 
-pub record TextBuilt (d : tree.Drawing) (ts : List Lexeme) : Type 0 where
-  pub written : Written whole
+-- a text of this version
+pub record TextBuilt (v : Edition) (d : tree.Drawing) (ts : List Lexeme) : Type 0 where
+  pub written : Written (whole v)
   pub spelled : spelling written ≡ ts
   pub again : IsAgain d (values written).0
   pub fits : Fits written 0
-
-pair_again : (a b : ℕ) (o p : Option NumberPair) → o ≡ p → IsPair a b p → IsPair a b o
-pair_again a b o p e h = subst (IsPair a b) (sym e) h
 
 record Title (name : List ℕ) (ts : List Lexeme) : Type 0 where
   begin : Lexeme
@@ -231,18 +86,7 @@ title name ts are =
       is_end = n2.is;
     }
 
-text_spelled : (ts z0 end z1 cases z2 body z3 title z4 macros z5 clocks z6 precisions begin wires : List Lexeme) (t0 t1 t2 t3 t4 t5 t6 t7 k n s z : Lexeme) →
-    ts ≡ z0 ++ end → z0 ≡ z1 ++ cases → z1 ≡ z2 ++ body → z2 ≡ z3 ++ title → z3 ≡ z4 ++ macros → z4 ≡ z5 ++ clocks →
-    z5 ≡ z6 ++ precisions → z6 ≡ begin ++ wires → title ≡ k ∷ n ∷ s ∷ [] → end ≡ z ∷ [] → begin ≡ t0 ∷ t1 ∷ t2 ∷ t3 ∷ t4 ∷ t5 ∷ t6 ∷ t7 ∷ [] →
-    t0 ∷ t1 ∷ t2 ∷ t3 ∷ t4 ∷ t5 ∷ t6 ∷ t7 ∷ (wires ++ (precisions ++ (clocks ++ (macros ++ k ∷ n ∷ s ∷ (body ++ (cases ++ z ∷ [])))))) ≡ ts
-text_spelled ts z0 end z1 cases z2 body z3 title z4 macros z5 clocks z6 precisions begin wires t0 t1 t2 t3 t4 t5 t6 t7 k n s z a b c d e f h i j l m =
-    rw (a, b, c, d, e, f, h, i, j, l, m) (ap (λ (us : List Lexeme). t0 ∷ t1 ∷ t2 ∷ t3 ∷ t4 ∷ t5 ∷ t6 ∷ t7 ∷ us)
-    (sym (append_assoc (wires ++ precisions ++ clocks ++ macros ++ k ∷ n ∷ s ∷ [] ++ body) cases (z ∷ [])
-    ∙ (append_assoc (wires ++ precisions ++ clocks ++ macros ++ k ∷ n ∷ s ∷ []) body (cases ++ z ∷ [])
-    ∙ (append_assoc (wires ++ precisions ++ clocks ++ macros) (k ∷ n ∷ s ∷ []) (body ++ (cases ++ z ∷ []))
-    ∙ (append_assoc (wires ++ precisions ++ clocks) macros (k ∷ n ∷ s ∷ (body ++ (cases ++ z ∷ [])))
-    ∙ (append_assoc (wires ++ precisions) clocks (macros ++ k ∷ n ∷ s ∷ (body ++ (cases ++ z ∷ [])))
-    ∙ append_assoc wires precisions (clocks ++ (macros ++ k ∷ n ∷ s ∷ (body ++ (cases ++ z ∷ [])))))))))))
+-- ---- from the macros on
 
 abbrev end_needs : List Need
 end_needs = mark is.EndOfText ∷ []
@@ -250,119 +94,138 @@ end_needs = mark is.EndOfText ∷ []
 abbrev cases_needs : List Need
 cases_needs = group Cases 0 ∷ end_needs
 
-abbrev body_needs : List Need
-body_needs = group Statements 0 ∷ mark is.End ∷ mark is.Semicolon ∷ cases_needs
+abbrev title_needs : Edition → List Need
+title_needs v = mark is.Drawing ∷ item is.Word ∷ mark is.Semicolon ∷ group (Statements v) 0 ∷ mark is.End ∷ mark is.Semicolon ∷ cases_needs
 
-abbrev title_needs : List Need
-title_needs = mark is.Drawing ∷ item is.Word ∷ mark is.Semicolon ∷ body_needs
+record RestBuilt (v : Edition) (d : tree.Drawing) (macros : List Lexeme) (k n s : Lexeme) (body cases : List Lexeme) (z : Lexeme) : Type 0 where
+  written : Written (from_macros v)
+  spelled : spelling written ≡ macros ++ k ∷ n ∷ s ∷ (body ++ (cases ++ z ∷ []))
+  is_macros : AreMacros d.macros (values written).0
+  is_name : (values written).1.0.text ≡ d.name
+  is_body : unplaced_statements (values written).1.1.0 ≡ unplaced_statements d.body
+  is_cases : map unplaced_case (values written).1.1.1.0 ≡ map unplaced_case d.cases
+  fits : (a : ℕ) → Fits written a
 
-abbrev macros_needs : List Need
-macros_needs = group Macros 0 ∷ title_needs
-
-abbrev clock_needs : List Need
-clock_needs = part ClockSkew 0 ∷ macros_needs
-
-abbrev precision_needs : List Need
-precision_needs = part PrecisionSkew 0 ∷ clock_needs
-
-pub text_built : (d : tree.Drawing) → IsShortDrawing d → (ts : List Lexeme) → Are ts (drawing_tokens d ++ end_of_text) → TextBuilt d ts
+rest_built : (v : Edition) (d : tree.Drawing) → IsShortDrawing v d → (macros_are body_are cases_are : List Lexeme) (z : Lexeme)
+    (name_are : List Lexeme) (t : Title d.name name_are) → Are macros_are (flat_map macro_tokens d.macros) →
+    Are body_are (body_tokens d.body) → Are cases_are (flat_map case_tokens d.cases) → terminal z ≡ is.EndOfText →
+    RestBuilt v d macros_are t.begin t.named t.end body_are cases_are z
 unfolding symbol_terminal word_terminal
-text_built d short ts are =
-    let h = d.header in
-    let p7 = (word (codes "SCALD") ++ number d.version ++ semicolon) ++ (word (codes "CLOCK") ++ number h.units ++ word (codes "x") ++ number h.ticks ++ semicolon) in
-    let b6 = word (codes "WIRE") ++ pair_tokens h.wire.min h.wire.max ++ semicolon in
-    let p6 = p7 ++ b6 in
-    let b5 = word (codes "PSKEW") ++ pair_tokens h.pskew.0 h.pskew.1 ++ semicolon in
-    let p5 = p6 ++ b5 in
-    let b4 = word (codes "CSKEW") ++ pair_tokens h.cskew.0 h.cskew.1 ++ semicolon in
+rest_built v d short macros_are body_are cases_are z name_are t a b c ends =
+    let cases = cases_built d.cases short.cases cases_are c end_needs (marked z ends nothing) in
+    let body = body_built v d.body short.body body_are b cases_needs cases.written in
+    let t_begin : terminal t.begin ≡ is.Drawing = terminal_is t.begin (leaf.word (codes "DRAWING")) t.is_begin in
+    let t_named : terminal t.named ≡ is.Word = word_is_free t.named d.name t.is_named short.name in
+    let t_end : terminal t.end ≡ is.Semicolon = terminal_is t.end (bare_symbol 59) t.is_end in
+    let titled : Written (title_needs v) = marked t.begin t_begin (token t.named t_named (marked t.end t_end body.written)) in
+    let macros = macros_built v d.macros short.macros macros_are a (title_needs v) titled in
+    let e1 : (values macros.written).1 ≡ values titled = macros.others in
+    let e2 : (values macros.written).1.1.1 ≡ values cases.written = ap (λ (y : Values (title_needs v)). y.1.1) e1 ∙ body.others in
+    record {
+      written = macros.written;
+      spelled = macros.spelled ∙ ap (λ (us : List Lexeme). macros_are ++ t.begin ∷ t.named ∷ t.end ∷ us)
+          (body.spelled ∙ ap (λ (us : List Lexeme). body_are ++ us) cases.spelled);
+      is_macros = macros.stands;
+      is_name = ap (λ (y : Values (title_needs v)). y.0.text) e1 ∙ text_is t.named (leaf.word d.name) t.is_named;
+      is_body = ap (λ (y : Values (title_needs v)). unplaced_statements y.1.0) e1 ∙ body.stands;
+      is_cases = ap (λ (y : Values cases_needs). map unplaced_case y.0) e2 ∙ cases.stands;
+      fits = λ i. macros.fits (λ l. (omega arith, (omega arith, (omega arith, body.fits (λ m. cases.fits (λ n. (omega arith, tt)) m) l)))) i;
+    }
+
+-- ---- the whole text
+
+text_spelled : (ts z0 end z1 cases z2 body z3 title z4 macros header consts : List Lexeme) (k n s z : Lexeme) →
+    ts ≡ z0 ++ end → z0 ≡ z1 ++ cases → z1 ≡ z2 ++ body → z2 ≡ z3 ++ title → z3 ≡ z4 ++ macros → z4 ≡ header ++ consts →
+    title ≡ k ∷ n ∷ s ∷ [] → end ≡ z ∷ [] → header ++ (consts ++ (macros ++ k ∷ n ∷ s ∷ (body ++ (cases ++ z ∷ [])))) ≡ ts
+text_spelled ts z0 end z1 cases z2 body z3 title z4 macros header consts k n s z a b c d e f h i =
+    rw (a, b, c, d, e, f, h, i)
+    (sym (append_assoc (header ++ consts ++ macros ++ k ∷ n ∷ s ∷ [] ++ body) cases (z ∷ [])
+    ∙ (append_assoc (header ++ consts ++ macros ++ k ∷ n ∷ s ∷ []) body (cases ++ z ∷ [])
+    ∙ (append_assoc (header ++ consts ++ macros) (k ∷ n ∷ s ∷ []) (body ++ (cases ++ z ∷ []))
+    ∙ (append_assoc (header ++ consts) macros (k ∷ n ∷ s ∷ (body ++ (cases ++ z ∷ [])))
+    ∙ append_assoc header consts (macros ++ k ∷ n ∷ s ∷ (body ++ (cases ++ z ∷ []))))))))
+
+-- what is written, by the version: a text of version 1 has no place for constants
+text_written : (v : Edition) (t : Lexeme) → terminal t ≡ is.Scald → Written (header_needs (constants v (from_macros v))) → Written (whole v)
+text_written First t e w = chosen (g.text {v = First}) t e w
+text_written Second t e w = chosen (g.text {v = Second}) t e w
+
+text_spells : (v : Edition) (t : Lexeme) (e : terminal t ≡ is.Scald) (w : Written (header_needs (constants v (from_macros v)))) →
+    spelling (text_written v t e w) ≡ t ∷ spelling w
+text_spells First t e w = refl
+text_spells Second t e w = refl
+
+text_fits : (v : Edition) (t : Lexeme) (e : terminal t ≡ is.Scald) (w : Written (header_needs (constants v (from_macros v)))) →
+    Fits w 0 → Fits (text_written v t e w) 0
+text_fits First t e w f = (omega arith, f)
+text_fits Second t e w f = (omega arith, f)
+
+-- the sketch of these values
+abbrev sketch_by : (v : Edition) → Lexeme → Values (header_needs (constants v (from_macros v))) → Sketch
+sketch_by v t x =
+    let consts = constants_of v (from_macros v) x.1.1.1.1.1.1.1 in
+    let behind_consts = behind_constants v (from_macros v) x.1.1.1.1.1.1.1 in
+    record {
+      header = record {
+        version = number_of x.0;
+        place = t.place;
+        clock = number_pair x.1.0 x.1.1.0 x.1.1.1.0;
+        wire = x.1.1.1.1.0;
+        pskew = x.1.1.1.1.1.0;
+        cskew = x.1.1.1.1.1.1.0;
+      };
+      consts = consts;
+      macros = behind_consts.0;
+      name = behind_consts.1.0.text;
+      body = behind_consts.1.1.0;
+      cases = behind_consts.1.1.1.0;
+    }
+
+text_values : (v : Edition) (t : Lexeme) (e : terminal t ≡ is.Scald) (w : Written (header_needs (constants v (from_macros v)))) →
+    (values (text_written v t e w)).0 ≡ sketch_by v t (values w)
+text_values First t e w = refl
+text_values Second t e w = refl
+
+pub text_built : (v : Edition) (d : tree.Drawing) → IsShortDrawing v d → (ts : List Lexeme) → Are ts (drawing_tokens d ++ end_of_text) → TextBuilt v d ts
+unfolding symbol_terminal word_terminal
+text_built v d short ts are =
     let cut = drawing_parts d ts are in
     let a0 = cut.end in
     let a1 = cut.cases in
     let a2 = cut.body in
     let a3 = cut.title in
     let a4 = cut.macros in
-    let a5 = parts a4.first p5 b4 a4.front in
-    let a6 = parts a5.first p6 b5 a5.front in
-    let a7 = parts a6.first p7 b6 a6.front in
-    let f = front d.version h.units h.ticks a7.first a7.front in
+    let a5 = cut.consts in
     let t = title d.name a3.second a3.back in
     let z = single a0.second (record { kind = End; text = [] }) a0.back in
     let ends : terminal z.token ≡ is.EndOfText = terminal_is z.token (record { kind = End; text = [] }) z.is in
-    let cases = cases_built d.cases short.cases a1.second a1.back end_needs (marked z.token ends nothing) in
-    let body = body_built d.body short.body a2.second a2.back cases_needs cases.written in
-    let t_begin : terminal t.begin ≡ is.Drawing = terminal_is t.begin (leaf.word (codes "DRAWING")) t.is_begin in
-    let t_named : terminal t.named ≡ is.Word = word_is_free t.named d.name t.is_named short.name in
-    let t_end : terminal t.end ≡ is.Semicolon = terminal_is t.end (bare_symbol 59) t.is_end in
-    let titled : Written title_needs = marked t.begin t_begin (token t.named t_named (marked t.end t_end body.written)) in
-    let macros = macros_built d.macros short.macros a4.second a4.back title_needs titled in
-    let cskew = clock_line h.cskew.0 h.cskew.1 a5.second macros_needs macros.written a5.back in
-    let pskew = precision_line h.pskew.0 h.pskew.1 a6.second clock_needs cskew.written a6.back in
-    let wire = wire_line h.wire.min h.wire.max a7.second precision_needs pskew.written a7.back in
-    let f_scald : terminal f.scald ≡ g.opening g.text = terminal_is f.scald (leaf.word (codes "SCALD")) f.is_scald in
-    let f_version : terminal f.version_ ≡ is.Number = terminal_is f.version_ (leaf.number d.version) f.is_version in
-    let f_stop : terminal f.stop ≡ is.Semicolon = terminal_is f.stop (bare_symbol 59) f.is_stop in
-    let f_clock : terminal f.clock ≡ is.Clock = terminal_is f.clock (leaf.word (codes "CLOCK")) f.is_clock in
-    let f_units : terminal f.units_ ≡ is.Number = terminal_is f.units_ (leaf.number h.units) f.is_units in
-    let f_by : terminal f.by ≡ is.Word = terminal_is f.by (leaf.word (codes "x")) f.is_by in
-    let f_ticks : terminal f.ticks_ ≡ is.Number = terminal_is f.ticks_ (leaf.number h.ticks) f.is_ticks in
-    let f_end : terminal f.end ≡ is.Semicolon = terminal_is f.end (bare_symbol 59) f.is_end in
-    let e1 : (values wire.written).1 ≡ values pskew.written = wire.others in
-    let e2 : (values wire.written).1.1 ≡ values cskew.written = ap (λ (v : Values precision_needs). v.1) e1 ∙ pskew.others in
-    let e3 : (values wire.written).1.1.1 ≡ values macros.written = ap (λ (v : Values clock_needs). v.1) e2 ∙ cskew.others in
-    let e4 : (values wire.written).1.1.1.1 ≡ values titled = ap (λ (v : Values macros_needs). v.1) e3 ∙ macros.others in
-    let e5 : (values wire.written).1.1.1.1.1.1 ≡ values cases.written = ap (λ (v : Values title_needs). v.1.1) e4 ∙ body.others in
+    let rest = rest_built v d short a4.second a2.second a1.second z.token a3.second t a4.back a2.back a1.back ends in
+    let consts = constants_of_text v d.consts short.consts short.no_consts a5.second a5.back (from_macros v) rest.written in
+    let header = header_built d a5.first a5.front (constants v (from_macros v)) consts.written in
+    let w = header.written in
+    let n = from_macros v in
+    let e1 : (values w).1.1.1.1.1.1.1 ≡ values consts.written = header.others in
+    let e2 : behind_constants v n (values w).1.1.1.1.1.1.1 ≡ values rest.written =
+    ap (λ (y : Values (constants v n)). behind_constants v n y) e1 ∙ consts.others in
+    let A : Sketch → Type 0 = λ s. IsAgain d s in
     record {
-      written = chosen g.text f.scald f_scald
-          (token f.version_ f_version
-          (marked f.stop f_stop (token f.clock f_clock (token f.units_ f_units
-          (lettered f.by f_by (text_is f.by (leaf.word (codes "x")) f.is_by) (token f.ticks_ f_ticks (marked f.end f_end wire.written)))))));
-      spelled =
-          ap (λ (us : List Lexeme). f.scald ∷ f.version_ ∷ f.stop ∷ f.clock ∷ f.units_ ∷ f.by ∷ f.ticks_ ∷ f.end ∷ us)
-          (wire.spelled ∙ ap (λ (us : List Lexeme). a7.second ++ us)
-          (pskew.spelled ∙ ap (λ (us : List Lexeme). a6.second ++ us)
-          (cskew.spelled ∙ ap (λ (us : List Lexeme). a5.second ++ us)
-          (macros.spelled ∙ ap (λ (us : List Lexeme). a4.second ++ t.begin ∷ t.named ∷ t.end ∷ us)
-          (body.spelled ∙ ap (λ (us : List Lexeme). a2.second ++ us) cases.spelled)))))
+      written = text_written v header.begin header.is_begin w;
+      spelled = text_spells v header.begin header.is_begin w
+          ∙ (header.spelled ∙ (ap (λ (us : List Lexeme). a5.first ++ us) (consts.spelled ∙ ap (λ (us : List Lexeme). a5.second ++ us) rest.spelled)
           ∙ text_spelled ts a0.first a0.second a1.first a1.second a2.first a2.second a3.first a3.second a4.first a4.second a5.first a5.second
-          a6.first a6.second a7.first a7.second f.scald f.version_ f.stop f.clock f.units_ f.by f.ticks_ f.end t.begin t.named t.end z.token
-          a0.whole a1.whole a2.whole a3.whole a4.whole a5.whole a6.whole a7.whole t.whole z.whole f.whole;
-      again = record {
-        version = number_is f.version_ d.version f.is_version;
-        units = number_is f.units_ h.units f.is_units;
-        ticks = number_is f.ticks_ h.ticks f.is_ticks;
-        wire = wire.stands;
-        pskew = pair_again h.pskew.0 h.pskew.1 (values wire.written).1.0 (values pskew.written).0 (ap (λ (v : Values precision_needs). v.0) e1) pskew.stands;
-        cskew = pair_again h.cskew.0 h.cskew.1 (values wire.written).1.1.0 (values cskew.written).0 (ap (λ (v : Values clock_needs). v.0) e2) cskew.stands;
-        macros = ap (λ (v : Values macros_needs). map unplaced_macro v.0.macros) e3 ∙ macros.stands;
-        name = ap (λ (v : Values title_needs). v.0.text) e4 ∙ text_is t.named (leaf.word d.name) t.is_named;
-        body = ap (λ (v : Values title_needs). unplaced_statements v.1.0) e4 ∙ body.stands;
-        cases = ap (λ (v : Values cases_needs). map unplaced_case v.0) e5 ∙ cases.stands;
-      };
-      fits = (
-        omega arith,
-        (
-          omega arith,
-          (
-            omega arith,
-            (
-              omega arith,
-              (
-                omega arith,
-                (
-                  omega arith,
-                  (
-                    omega arith,
-                    (
-                      omega arith,
-                      wire.fits (λ i. pskew.fits
-                          (λ j. cskew.fits (λ k. macros.fits
-                          (λ l. (omega arith, (omega arith, (omega arith, body.fits (λ m. cases.fits (λ n. (omega arith, tt)) m) l)))) k) j) i) 0,
-                    ),
-                  ),
-                ),
-              ),
-            ),
-          ),
-        ),
-      );
+          t.begin t.named t.end z.token a0.whole a1.whole a2.whole a3.whole a4.whole a5.whole t.whole z.whole));
+      again = subst A (sym (text_values v header.begin header.is_begin w)) (record {
+        version = header.version;
+        units = header.units;
+        ticks = header.ticks;
+        wire = header.wire;
+        pskew = header.pskew;
+        cskew = header.cskew;
+        consts = ap (λ (y : Values (constants v n)). (constants_of v n y).constants) e1 ∙ consts.stands;
+        macros = ap (λ (y : Values n). map unplaced_macro y.0.macros) e2 ∙ rest.is_macros;
+        name = ap (λ (y : Values n). y.1.0.text) e2 ∙ rest.is_name;
+        body = ap (λ (y : Values n). unplaced_statements y.1.1.0) e2 ∙ rest.is_body;
+        cases = ap (λ (y : Values n). map unplaced_case y.1.1.1.0) e2 ∙ rest.is_cases;
+      });
+      fits = text_fits v header.begin header.is_begin w (header.fits (λ a. consts.fits rest.fits a) 0);
     }

@@ -7,6 +7,7 @@ use Rattle.drawing_tree.specs.Tree as tree
 use Rattle.drawing_tree.specs.Places.{unplaced_connection, unplaced_use}
 use Rattle.drawing_tree.specs.WellFormed.{IsFreeWord}
 use Rattle.drawing_grammar.specs.declared.terminal.Terminal.TheVariants.{Colon, Semicolon, CloseBracket, OpenParenthesis, CloseParenthesis}
+use Rattle.drawing_grammar.specs.declared.edition.Edition.{Edition}
 use Rattle.drawing_grammar.specs.Lexeme.{Lexeme, terminal, symbol_terminal}
 use Rattle.drawing_grammar.specs.Grammar.{Need, mark, fresh, part, group, Sum, Delay, Fall, Parameters, Outputs, Conns, Statement}
 use Rattle.drawing_grammar.specs.Grammar as g
@@ -133,9 +134,9 @@ use_spelled ts z0 semi z1 outs z2 ins z3 params z4 delay z5 kind label colons t 
     ∙ (append_assoc (delay ++ params) ins (outs ++ s ∷ rest)
     ∙ append_assoc delay params (ins ++ (outs ++ s ∷ rest)))))))
 
--- a use, where n IFs are open
-pub record UseBuilt (u : tree.UseStatement) (n : ℕ) (ts : List Lexeme) (rest : List Need) (w : Written rest) : Type 0 where
-  pub written : Written (part Statement n ∷ rest)
+-- a use, where n IFs and FORs are open
+pub record UseBuilt (v : Edition) (u : tree.UseStatement) (n : ℕ) (ts : List Lexeme) (rest : List Need) (w : Written rest) : Type 0 where
+  pub written : Written (part (Statement v) n ∷ rest)
   pub spelled : spelling written ≡ ts ++ spelling w
   pub found : tree.UseStatement
   pub is : (values written).0 ≡ tree.Use found
@@ -143,9 +144,9 @@ pub record UseBuilt (u : tree.UseStatement) (n : ℕ) (ts : List Lexeme) (rest :
   pub others : (values written).1 ≡ values w
   pub fits : ((a : ℕ) → Fits w a) → (a : ℕ) → Fits written a
 
-pub use_built : (u : tree.UseStatement) → IsShortUse u → (n : ℕ) (ts : List Lexeme) → Are ts (use_tokens u) → (rest : List Need) (w : Written rest) → UseBuilt u n ts rest w
+pub use_built : (edition : Edition) (u : tree.UseStatement) → IsShortUse u → (n : ℕ) (ts : List Lexeme) → Are ts (use_tokens u) → (rest : List Need) (w : Written rest) → UseBuilt edition u n ts rest w
 unfolding symbol_terminal
-use_built u is n ts are rest w =
+use_built edition u is n ts are rest w =
     let outs_bare = outputs_tokens connection_tokens u.outs in
     let ins_bare = inputs_tokens connection_tokens u.ins in
     let p5 = word u.label ++ colon in

@@ -14,13 +14,14 @@ use Rattle.drawing_grammar.specs.declared.header.WrittenHeader.{WrittenHeader}
 use Rattle.drawing_grammar.specs.declared.terminal.Terminal.{Terminal}
 use Rattle.drawing_grammar.specs.declared.terminal.Terminal.TheVariants as is
 use Rattle.drawing_grammar.specs.Lexeme.{Lexeme, terminal}
+use Rattle.drawing_grammar.specs.Edition.{edition_of}
 use Rattle.drawing_grammar.specs.Header.{is_version, is_clock, is_bounds, is_skew, refused_at, judged_statement, judged_pair, judged}
 use Rattle.drawing_grammar.specs.Names.{Naming, names, names_at, head_behind, names_from, IsBadName}
-use Rattle.drawing_grammar.specs.DoubleNames.{Declaration, parameters, formals, statement_labels, labels, else_labels, head_declared, macros_declared, IsDoubleName}
+use Rattle.drawing_grammar.specs.DoubleNames.{Declaration, constants, parameters, formals, statement_labels, labels, else_labels, head_declared, macros_declared, IsDoubleName}
 use Rattle.drawing_grammar.specs.Sketch.{Sketch}
-use Rattle.drawing_grammar.specs.Written.{Written, values}
-use Rattle.drawing_grammar.specs.Draws.{whole, IsRefused, syntax, too_deep}
-use Rattle.drawing_grammar.specs.Drawing.{declared_by, IsText, Draws, IsWrong, grammar, header, name, double}
+use Rattle.drawing_grammar.specs.Written.{values}
+use Rattle.drawing_grammar.specs.Draws.{IsRefused, syntax, too_deep}
+use Rattle.drawing_grammar.specs.Drawing.{WrittenBy, declared_by, IsText, Draws, IsWrong, grammar, header, name, double}
 use Rattle.drawing_grammar.specs.Laws.{places_of, WrongAtTokens, DrawnAtTokens}
 use Rattle.drawing_grammar.proofs.Heads.{names_of_text}
 use Rattle.drawing_grammar.proofs.SpelledLists.{all_map}
@@ -74,6 +75,11 @@ bad_name_at P h ns r a bad = subst P (sym bad.place) (every_between (IsNamingAt 
 abbrev IsDeclarationAt : (Place → Type 0) → Declaration → Type 0
 IsDeclarationAt P d = P d.place
 
+constants_at : (P : Place → Type 0) (cs : List tree.Assignment) (places : List Place) → AllByRecursion P places → AllByRecursion (IsDeclarationAt P) (constants cs places)
+constants_at P [] places a = tt
+constants_at P (c ∷ cs) [] a = tt
+constants_at P (c ∷ cs) (place ∷ places) a = (a.0, constants_at P cs places a.1)
+
 parameters_at : (P : Place → Type 0) (scope : ℕ) (ps : List tree.Assignment) (places : List Place) → AllByRecursion P places → AllByRecursion (IsDeclarationAt P) (parameters scope ps places)
 parameters_at P scope [] places a = tt
 parameters_at P scope (p ∷ ps) [] a = tt
@@ -92,6 +98,7 @@ mutual
   statement_labels_at P scope (tree.Wire w) a = tt
   statement_labels_at P scope (tree.If test ss other place) a =
       every_append (IsDeclarationAt P) (labels scope ss) (else_labels scope other) (labels_at P scope ss a.1) (else_labels_at P scope other a.2)
+  statement_labels_at P scope (tree.For var first last ss place) a = labels_at P scope ss a.1
 
   labels_at : (P : Place → Type 0) (scope : ℕ) (ss : tree.Statements) → AreStatementsAt P ss → AllByRecursion (IsDeclarationAt P) (labels scope ss)
   labels_at P scope tree.nil a = tt
@@ -124,7 +131,10 @@ declared_at : (P : Place → Type 0) (s : Sketch) → IsSketchAt P s → AllByRe
 declared_at P s a =
     let ms = s.macros.macros in
     let hs = s.macros.heads in
-    every_append (IsDeclarationAt P) (macros_declared 0 ms hs) (labels (length ms) s.body) (macros_at P 0 ms hs a.macros.macros a.macros.heads) (labels_at P (length ms) s.body a.body)
+    let cs = s.consts in
+    every_append (IsDeclarationAt P) (constants cs.constants cs.name_places) (macros_declared 0 ms hs ++ labels (length ms) s.body)
+    (constants_at P cs.constants cs.name_places a.consts.name_places)
+    (every_append (IsDeclarationAt P) (macros_declared 0 ms hs) (labels (length ms) s.body) (macros_at P 0 ms hs a.macros.macros a.macros.heads) (labels_at P (length ms) s.body a.body))
 
 double_name_at : (P : Place → Type 0) (ds : List Declaration) (r : Refusal) → AllByRecursion (IsDeclarationAt P) ds → IsDoubleName ds r → P r.place
 double_name_at P ds r a wrong =
@@ -133,20 +143,20 @@ double_name_at P ds r a wrong =
 
 -- ---- drawings and refusals, by what holds of the place of each token
 
-pub sketch_at : (P : Place → Type 0) (ts : List Lexeme) (w : Written whole) → AllByRecursion (λ (t : Lexeme). P t.place) ts → IsText ts w → IsSketchAt P (values w).0
+pub sketch_at : (P : Place → Type 0) (ts : List Lexeme) (w : WrittenBy ts) → AllByRecursion (λ (t : Lexeme). P t.place) ts → IsText ts w → IsSketchAt P (values w).0
 sketch_at P ts w a text = (values_at P w (subst (AllByRecursion (IsTokenAt P)) (sym text.spelled) a)).0
 
-names_all_at : (P : Place → Type 0) (ts : List Lexeme) (w : Written whole) → AllByRecursion (IsTokenAt P) ts → IsText ts w → AllByRecursion (IsNamingAt P) (names w)
+names_all_at : (P : Place → Type 0) (ts : List Lexeme) (w : WrittenBy ts) → AllByRecursion (IsTokenAt P) ts → IsText ts w → AllByRecursion (IsNamingAt P) (names w)
 names_all_at P ts w a text =
-    let same : names w ≡ names_from false ts = names_of_text w ∙ ap (λ (xs : List Lexeme). names_from false xs) text.spelled in
+    let same : names w ≡ names_from false ts = names_of_text (edition_of ts) w ∙ ap (λ (xs : List Lexeme). names_from false xs) text.spelled in
     subst (AllByRecursion (IsNamingAt P)) (sym same) (names_placed P false ts a)
 
 token_at : (P : Place → Type 0) (ts before : List Lexeme) (t : Lexeme) (after : List Lexeme) → ts ≡ before ++ t ∷ after → AllByRecursion (IsTokenAt P) ts → P t.place
 token_at P ts before t after e a = every_between (IsTokenAt P) before t after (subst (AllByRecursion (IsTokenAt P)) e a)
 
 refused_token_at : (P : Place → Type 0) (ts : List Lexeme) (r : Refusal) → AllByRecursion (IsTokenAt P) ts → IsRefused ts r → P r.place
-refused_token_at P ts r a (syntax before t after parts begins none e) = subst (λ (x : Refusal). P x.place) (sym e) (token_at P ts before t after parts a)
-refused_token_at P ts r a (too_deep before t after parts begins beyond e) = subst (λ (x : Refusal). P x.place) (sym e) (token_at P ts before t after parts a)
+refused_token_at P ts r a (syntax before t after parts begins near none e) = subst (λ (x : Refusal). P x.place) (sym e) (token_at P ts before t after parts a)
+refused_token_at P ts r a (too_deep before t after parts near deep e) = subst (λ (x : Refusal). P x.place) (sym e) (token_at P ts before t after parts a)
 
 pub wrong_at : (P : Place → Type 0) (ts : List Lexeme) (r : Refusal) → AllByRecursion (λ (t : Lexeme). P t.place) ts → IsWrong ts r → P r.place
 wrong_at P ts r a (grammar wrong) = refused_token_at P ts r a wrong
@@ -157,7 +167,7 @@ wrong_at P ts r a (double w h text e good wrong) = double_name_at P (declared_by
 pub drawn_at : (P : Place → Type 0) (ts : List Lexeme) (d : tree.Drawing) → AllByRecursion (λ (t : Lexeme). P t.place) ts → Draws ts d → EachPlace P d
 drawn_at P ts d a draws =
     let s = sketch_at P ts draws.written a draws.text in
-    subst (EachPlace P) draws.stands (record { macros = s.macros.macros; body = s.body; cases = s.cases })
+    subst (EachPlace P) draws.stands (record { consts = s.consts.places; macros = s.macros.macros; body = s.body; cases = s.cases })
 
 -- ---- by the places of the tokens
 

@@ -1,23 +1,22 @@
 -- What a text stands for is made of words, numbers and names as its tokens are.
-use Rattle.std.proofs.Common.{◌≡◌, ℕ, ◌<◌, ◌^◌, suc, List, [], ◌∷◌, ◌++◌, length, Some, refl, ap, subst, arith}
+use Rattle.std.proofs.Common.{◌≡◌, ℕ, ◌<◌, ◌^◌, suc, List, [], ◌∷◌, ◌++◌, Some, refl, ap, subst, arith}
 use Rattle.std.specs.Prelude.{IfSome, ⊤}
 use Rattle.std.specs.List.{AllByRecursion}
 use Rattle.std.proofs.lemmas.Option.{same_Some}
 use Rattle.scald_expr.specs.Expression.{Expression}
 use Rattle.assertion_syntax.specs.declared.name.SignalName.{SignalName}
 use Rattle.assertion_syntax.specs.Name.{IsName}
-use Rattle.drawing_tree.specs.declared.drawing.CaseEntry.{CaseEntry}
-use Rattle.drawing_tree.specs.declared.drawing.CaseStmt.{CaseStmt}
 use Rattle.drawing_tree.specs.Tree as tree
 use Rattle.drawing_tree.specs.WellFormed.{IsFreeWord}
 use Rattle.drawing_grammar.specs.declared.terminal.Terminal.{Terminal}
 use Rattle.drawing_grammar.specs.declared.terminal.Terminal.TheVariants as is
-use Rattle.drawing_grammar.specs.declared.head.Head.{Head}
+use Rattle.drawing_grammar.specs.declared.edition.Edition.TheVariants.{First, Second}
 use Rattle.drawing_grammar.specs.Lexeme.{Lexeme, terminal, number_of}
-use Rattle.drawing_grammar.specs.Grammar.{Part, Group, Need, mark, item, letter, fresh, part, group, Choice, opening, following, others, lead}
+use Rattle.drawing_grammar.specs.Grammar.{Part, Group, Need, mark, item, keyword, fresh, part, group, Choice, following, others, lead}
 use Rattle.drawing_grammar.specs.Grammar as g
-use Rattle.drawing_grammar.specs.Sketch.{Placed, PlacedList, HeadedMacro, HeadedMacros, Sketch, Meaning, GroupMeaning, Values, front, behind, choice_value, absent_value, group_value, absent_group, signal_of, capped}
-use Rattle.drawing_grammar.specs.Written.{Written, nothing, marked, token, lettered, begun, chosen, left_out, grouped, lacking, spelling, values}
+use Rattle.drawing_grammar.specs.Sketch.{Placed, PlacedList, Meaning, GroupMeaning, Values, front, behind, choice_value, absent_value, group_value, absent_group, signal_of, capped}
+use Rattle.drawing_grammar.specs.Written.{MayOpen, Written, nothing, marked, token, worded, begun, chosen, left_out, grouped, lacking, spelling, values}
+use Rattle.drawing_grammar.proofs.ProperTrees.{IsItemOf, IsTermOf, IsConnectionOf, IsStatementOf, AreStatementsOf, IsOtherwiseOf, IsEntryOf, IsCaseOf, IsHeadedOf, AreMacrosOf, AreConstantsOf, IsSketchOf, AllPlaced}
 use Rattle.drawing_grammar.proofs.Drawable.{IsDrawnNumber, HasOne, IsDrawn, IsBeside, IsDrawnRange, IsDrawnAssignment, IsDrawnFormal}
 
 -- ---- tokens
@@ -31,96 +30,6 @@ pub record IsProper (G : SignalName → Type 0) (t : Lexeme) : Type 0 where
 pub record IsTokenOf (G : SignalName → Type 0) (l : Terminal) (t : Lexeme) : Type 0 where
   pub is : terminal t ≡ l
   pub proper : IsProper G t
-
--- ---- trees whose names are good
-
-abbrev pub IsItemOf : (SignalName → Type 0) → tree.Item → Type 0
-IsItemOf G tree.Zero = ⊤
-IsItemOf G tree.One = ⊤
-IsItemOf G (tree.Named name range) = G name × IfSome range IsDrawnRange
-
-abbrev pub IsTermOf : (SignalName → Type 0) → tree.Term → Type 0
-IsTermOf G t = IsItemOf G t.item
-
-pub record IsConnectionOf (G : SignalName → Type 0) (c : tree.Connection) : Type 0 where
-  pub some : HasOne c.terms
-  pub terms : AllByRecursion (IsTermOf G) c.terms
-
-pub record IsUseOf (G : SignalName → Type 0) (u : tree.UseStatement) : Type 0 where
-  pub label : IsFreeWord u.label
-  pub kind : IsFreeWord u.kind
-  pub delays : tree.EachDelay IsDrawn u.delay u.fall
-  pub beside : IsBeside u.delay u.fall
-  pub params : AllByRecursion IsDrawnAssignment u.params
-  pub ins : AllByRecursion (IsConnectionOf G) u.ins
-  pub outs : AllByRecursion (IsConnectionOf G) u.outs
-
-pub record IsWireOf (G : SignalName → Type 0) (w : tree.WireStatement) : Type 0 where
-  pub name : G w.name
-  pub range : IfSome w.range IsDrawnRange
-  pub min : IsDrawn w.min
-  pub max : IsDrawn w.max
-
-abbrev mutual
-  pub IsStatementOf : (SignalName → Type 0) → tree.Statement → Type 0
-  IsStatementOf G (tree.Use u) = IsUseOf G u
-  IsStatementOf G (tree.Wire w) = IsWireOf G w
-  IsStatementOf G (tree.If test ss other place) = IsDrawn test × AreStatementsOf G ss × IsOtherwiseOf G other
-
-  pub AreStatementsOf : (SignalName → Type 0) → tree.Statements → Type 0
-  AreStatementsOf G tree.nil = ⊤
-  AreStatementsOf G (tree.cons s ss) = IsStatementOf G s × AreStatementsOf G ss
-
-  pub IsOtherwiseOf : (SignalName → Type 0) → tree.Otherwise → Type 0
-  IsOtherwiseOf G tree.no_else = ⊤
-  IsOtherwiseOf G (tree.else_ ss) = AreStatementsOf G ss
-
-pub record IsMacroOf (G : SignalName → Type 0) (m : tree.Macro) : Type 0 where
-  pub name : IsFreeWord m.name
-  pub params : AllByRecursion IsDrawnAssignment m.params
-  pub ins : AllByRecursion IsDrawnFormal m.ins
-  pub outs : AllByRecursion IsDrawnFormal m.outs
-  pub body : AreStatementsOf G m.body
-
-pub record IsEntryOf (G : SignalName → Type 0) (e : CaseEntry) : Type 0 where
-  pub name : G e.name
-  pub bit : e.bit < 2 ^ 32
-  pub value : e.value < 2 ^ 32
-
-pub record IsCaseOf (G : SignalName → Type 0) (c : CaseStmt) : Type 0 where
-  pub some : HasOne c.entries
-  pub entries : AllByRecursion (IsEntryOf G) c.entries
-
--- with a place beside each item
-pub record AllPlaced {A : Type 0} (P : A → Type 0) (xs : PlacedList A) : Type 0 where
-  pub items : AllByRecursion P xs.items
-  pub places : length xs.places ≡ length xs.items
-
--- a head has a place for each name
-pub record IsHeadOf (m : tree.Macro) (h : Head) : Type 0 where
-  pub parameters : length h.parameters ≡ length m.params
-  pub ins : length h.ins ≡ length m.ins
-  pub outs : length h.outs ≡ length m.outs
-
-pub record IsHeadedOf (G : SignalName → Type 0) (m : HeadedMacro) : Type 0 where
-  pub macro : IsMacroOf G m.macro
-  pub head : IsHeadOf m.macro m.head
-
-abbrev pub AreHeads : List tree.Macro → List Head → Type 0
-AreHeads [] [] = ⊤
-AreHeads [] (h ∷ hs) = ⊥
-AreHeads (m ∷ ms) [] = ⊥
-AreHeads (m ∷ ms) (h ∷ hs) = IsHeadOf m h × AreHeads ms hs
-
-pub record AreMacrosOf (G : SignalName → Type 0) (ms : HeadedMacros) : Type 0 where
-  pub macros : AllByRecursion (IsMacroOf G) ms.macros
-  pub heads : AreHeads ms.macros ms.heads
-
-pub record IsSketchOf (G : SignalName → Type 0) (s : Sketch) : Type 0 where
-  pub macros : AreMacrosOf G s.macros
-  pub name : IsFreeWord s.name
-  pub body : AreStatementsOf G s.body
-  pub cases : AllByRecursion (IsCaseOf G) s.cases
 
 -- ---- what parts, groups and needs stand for
 
@@ -149,9 +58,10 @@ IsPartOf G g.MoreTerms v = AllByRecursion (IsTermOf G) v
 IsPartOf G g.Hold v = ⊤
 IsPartOf G g.MoreConns v = AllByRecursion (IsConnectionOf G) v
 IsPartOf G g.Outputs v = AllByRecursion (IsConnectionOf G) v
-IsPartOf G g.Statement v = IsStatementOf G v
-IsPartOf G g.Otherwise v = IsOtherwiseOf G v
-IsPartOf G g.Macro v = IsHeadedOf G v
+IsPartOf G g.Constant v = IsDrawnAssignment v.constant
+IsPartOf G (g.Statement e) v = IsStatementOf G e v
+IsPartOf G (g.Otherwise e) v = IsOtherwiseOf G e v
+IsPartOf G (g.Macro e) v = IsHeadedOf G e v
 IsPartOf G g.Index v = v < 2 ^ 32
 IsPartOf G g.Entry v = IsEntryOf G v
 IsPartOf G g.MoreEntries v = AllByRecursion (IsEntryOf G) v
@@ -159,7 +69,7 @@ IsPartOf G g.CaseStatement v = IsCaseOf G v
 IsPartOf G g.WireBounds v = ⊤
 IsPartOf G g.PrecisionSkew v = ⊤
 IsPartOf G g.ClockSkew v = ⊤
-IsPartOf G g.Text v = IsSketchOf G v
+IsPartOf G (g.Text e) v = IsSketchOf G e v
 
 abbrev pub IsGroupOf : (SignalName → Type 0) → (h : Group) → GroupMeaning h → Type 0
 IsGroupOf G g.Product v = IsDrawn v
@@ -172,15 +82,16 @@ IsGroupOf G g.SomeFormals v = AllPlaced IsDrawnFormal v
 IsGroupOf G g.Formals v = AllPlaced IsDrawnFormal v
 IsGroupOf G g.Assigns v = AllPlaced IsDrawnAssignment v
 IsGroupOf G g.Entries v = HasOne v × AllByRecursion (IsEntryOf G) v
-IsGroupOf G g.Statements v = AreStatementsOf G v
-IsGroupOf G g.Macros v = AreMacrosOf G v
+IsGroupOf G g.Constants v = AreConstantsOf v
+IsGroupOf G (g.Statements e) v = AreStatementsOf G e v
+IsGroupOf G (g.Macros e) v = AreMacrosOf G e v
 IsGroupOf G g.Cases v = AllByRecursion (IsCaseOf G) v
 
 abbrev pub AreOf : (SignalName → Type 0) → (needs : List Need) → Values needs → Type 0
 AreOf G [] v = ⊤
 AreOf G (mark l ∷ rest) v = AreOf G rest v
 AreOf G (item l ∷ rest) v = IsTokenOf G l v.0 × AreOf G rest v.1
-AreOf G (letter x ∷ rest) v = AreOf G rest v
+AreOf G (keyword x ∷ rest) v = AreOf G rest v
 AreOf G (fresh ∷ rest) v = AreOf G rest v
 AreOf G (part p n ∷ rest) v = IsPartOf G p v.0 × AreOf G rest v.1
 AreOf G (group h n ∷ rest) v = IsGroupOf G h v.0 × AreOf G rest v.1
@@ -189,7 +100,7 @@ front_of : (G : SignalName → Type 0) (needs rest : List Need) (v : Values (nee
 front_of G [] rest v a = tt
 front_of G (mark l ∷ needs) rest v a = front_of G needs rest v a
 front_of G (item l ∷ needs) rest v a = (a.0, front_of G needs rest v.1 a.1)
-front_of G (letter x ∷ needs) rest v a = front_of G needs rest v a
+front_of G (keyword x ∷ needs) rest v a = front_of G needs rest v a
 front_of G (fresh ∷ needs) rest v a = front_of G needs rest v a
 front_of G (part p n ∷ needs) rest v a = (a.0, front_of G needs rest v.1 a.1)
 front_of G (group h n ∷ needs) rest v a = (a.0, front_of G needs rest v.1 a.1)
@@ -198,7 +109,7 @@ behind_of : (G : SignalName → Type 0) (needs rest : List Need) (v : Values (ne
 behind_of G [] rest v a = a
 behind_of G (mark l ∷ needs) rest v a = behind_of G needs rest v a
 behind_of G (item l ∷ needs) rest v a = behind_of G needs rest v.1 a.1
-behind_of G (letter x ∷ needs) rest v a = behind_of G needs rest v a
+behind_of G (keyword x ∷ needs) rest v a = behind_of G needs rest v a
 behind_of G (fresh ∷ needs) rest v a = behind_of G needs rest v a
 behind_of G (part p n ∷ needs) rest v a = behind_of G needs rest v.1 a.1
 behind_of G (group h n ∷ needs) rest v a = behind_of G needs rest v.1 a.1
@@ -212,7 +123,7 @@ with_item_of : {A : Type 0} (P : A → Type 0) (x : Placed A) (xs : PlacedList A
 with_item_of P x xs p ps = record { items = (p, ps.items); places = ap suc ps.places }
 
 choice_of : (G : SignalName → Type 0) → ((name : SignalName) → G name → IsName name) → {p : Part} (c : Choice p) (n : ℕ) (t : Lexeme)
-    (v : Values (following c n)) → IsProper G t → terminal t ≡ opening c → AreOf G (following c n) v → IsPartOf G p (choice_value c n t v)
+    (v : Values (following c n)) → IsProper G t → MayOpen c t → AreOf G (following c n) v → IsPartOf G p (choice_value c n t v)
 choice_of G k g.number n t v p e a = p.number e
 choice_of G k g.parameter n t v p e a = p.word e
 choice_of G k g.negated n t v p e a = a.0
@@ -247,9 +158,11 @@ choice_of G k g.next_term n t v p e a = (a.0, a.1.0)
 choice_of G k g.hold n t v p e a = tt
 choice_of G k g.next_conn n t v p e a = (a.0, a.1.0)
 choice_of G k g.outputs n t v p e a = a.0
+choice_of G k g.constant n t v p e a = record { name = a.0.proper.word a.0.is; value = a.1.0 }
 choice_of G k g.use_ n t v p e a = record { label = p.word e; kind = a.0.proper.word a.0.is; delays = a.1.0.0; beside = a.1.0.1; params = a.1.1.0.items; ins = a.1.1.1.0; outs = a.1.1.1.1.0 }
 choice_of G k g.wire n t v p e a = record { name = a.0.proper.name a.0.is; range = a.1.0; min = a.1.1.0; max = a.1.1.1.0 }
 choice_of G k g.if_ n t v p e a = (a.0, a.1.0, a.1.1.0)
+choice_of G k g.for_ n t v p e a = (refl, a.0.proper.word a.0.is, a.1.0, a.1.1.0, a.1.1.1.0)
 choice_of G k g.else_ n t v p e a = a.0
 choice_of G k g.macro n t v p e a =
     record {
@@ -270,7 +183,26 @@ choice_of G k g.case_ n t v p e a = record { some = a.0.0; entries = a.0.1 }
 choice_of G k g.wire_bounds n t v p e a = tt
 choice_of G k g.precision_skew n t v p e a = tt
 choice_of G k g.clock_skew n t v p e a = tt
-choice_of G k g.text n t v p e a = record { macros = a.1.1.1.1.1.1.1.0; name = a.1.1.1.1.1.1.1.1.0.proper.word a.1.1.1.1.1.1.1.1.0.is; body = a.1.1.1.1.1.1.1.1.1.0; cases = a.1.1.1.1.1.1.1.1.1.1.0 }
+choice_of G k (g.text {v = First}) n t v p e a =
+    let b = a.1.1.1.1.1.1.1 in
+    record {
+      consts = record { constants = tt; places = refl; name_places = refl };
+      no_consts = λ i. refl;
+      macros = b.0;
+      name = b.1.0.proper.word b.1.0.is;
+      body = b.1.1.0;
+      cases = b.1.1.1.0;
+    }
+choice_of G k (g.text {v = Second}) n t v p e a =
+    let b = a.1.1.1.1.1.1.1 in
+    record {
+      consts = b.0;
+      no_consts = λ i. absurd cc;
+      macros = b.1.0;
+      name = b.1.1.0.proper.word b.1.1.0.is;
+      body = b.1.1.1.0;
+      cases = b.1.1.1.1.0;
+    }
 
 -- ---- each group
 
@@ -286,8 +218,13 @@ group_of G g.SomeFormals n first v p a = with_item_of IsDrawnFormal first v.0 p 
 group_of G g.Formals n first v p a = with_item_of IsDrawnFormal first v.0 p a.0
 group_of G g.Assigns n first v p a = with_item_of IsDrawnAssignment first v.0 p a.0
 group_of G g.Entries n first v p a = (tt, (p, a.0))
-group_of G g.Statements n first v p a = (p, a.0)
-group_of G g.Macros n first v p a = record { macros = (p.macro, a.0.macros); heads = (p.head, a.0.heads) }
+group_of G g.Constants n first v p a = record {
+  constants = (p, a.0.constants);
+  places = ap suc a.0.places;
+  name_places = ap suc a.0.name_places;
+}
+group_of G (g.Statements e) n first v p a = (p, a.0)
+group_of G (g.Macros e) n first v p a = record { macros = (p.macro, a.0.macros); heads = (p.head, a.0.heads) }
 group_of G g.Cases n first v p a = (p, a.0)
 
 -- ---- what is left out
@@ -314,9 +251,10 @@ absent_of G g.MoreTerms v e = subst (IsPartOf G g.MoreTerms) (same_Some _ v e) t
 absent_of G g.Hold v e = tt
 absent_of G g.MoreConns v e = subst (IsPartOf G g.MoreConns) (same_Some _ v e) tt
 absent_of G g.Outputs v e = subst (IsPartOf G g.Outputs) (same_Some _ v e) tt
-absent_of G g.Statement v e = absurd cc
-absent_of G g.Otherwise v e = subst (IsPartOf G g.Otherwise) (same_Some _ v e) tt
-absent_of G g.Macro v e = absurd cc
+absent_of G g.Constant v e = absurd cc
+absent_of G (g.Statement i) v e = absurd cc
+absent_of G (g.Otherwise i) v e = subst (IsPartOf G (g.Otherwise i)) (same_Some _ v e) tt
+absent_of G (g.Macro i) v e = absurd cc
 absent_of G g.Index v e = subst (IsPartOf G g.Index) (same_Some _ v e) (omega arith)
 absent_of G g.Entry v e = absurd cc
 absent_of G g.MoreEntries v e = subst (IsPartOf G g.MoreEntries) (same_Some _ v e) tt
@@ -324,7 +262,7 @@ absent_of G g.CaseStatement v e = absurd cc
 absent_of G g.WireBounds v e = tt
 absent_of G g.PrecisionSkew v e = tt
 absent_of G g.ClockSkew v e = tt
-absent_of G g.Text v e = absurd cc
+absent_of G (g.Text i) v e = absurd cc
 
 lacking_of : (G : SignalName → Type 0) (h : Group) (v : GroupMeaning h) → absent_group h ≡ Some v → IsGroupOf G h v
 lacking_of G g.Product v e = absurd cc
@@ -337,8 +275,9 @@ lacking_of G g.SomeFormals v e = absurd cc
 lacking_of G g.Formals v e = subst (IsGroupOf G g.Formals) (same_Some _ v e) (record { items = tt; places = refl })
 lacking_of G g.Assigns v e = absurd cc
 lacking_of G g.Entries v e = absurd cc
-lacking_of G g.Statements v e = subst (IsGroupOf G g.Statements) (same_Some _ v e) tt
-lacking_of G g.Macros v e = subst (IsGroupOf G g.Macros) (same_Some _ v e) (record { macros = tt; heads = tt })
+lacking_of G g.Constants v e = subst (IsGroupOf G g.Constants) (same_Some _ v e) (record { constants = tt; places = refl; name_places = refl })
+lacking_of G (g.Statements i) v e = subst (IsGroupOf G (g.Statements i)) (same_Some _ v e) tt
+lacking_of G (g.Macros i) v e = subst (IsGroupOf G (g.Macros i)) (same_Some _ v e) (record { macros = tt; heads = tt })
 lacking_of G g.Cases v e = subst (IsGroupOf G g.Cases) (same_Some _ v e) tt
 
 -- ---- all of it
@@ -351,7 +290,7 @@ pub values_of : (G : SignalName → Type 0) → ((name : SignalName) → G name 
 values_of G k nothing ps = tt
 values_of G k (marked t e w) ps = values_of G k w ps.1
 values_of G k (token t e w) ps = (record { is = e; proper = ps.0 }, values_of G k w ps.1)
-values_of G k (lettered t e f w) ps = values_of G k w ps.1
+values_of G k (worded t e f w) ps = values_of G k w ps.1
 values_of G k (begun w) ps = values_of G k w ps
 values_of G k (chosen {n = n} {rest = rest} c t e w) ps =
     let a = values_of G k w ps.1 in

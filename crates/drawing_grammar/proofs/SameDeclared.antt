@@ -5,9 +5,10 @@ use Rattle.scald_base.specs.declared.refusal.Place.{Place}
 use Rattle.drawing_tree.specs.Tree as tree
 use Rattle.drawing_tree.specs.Places.{unplaced_statement, unplaced_statements, unplaced_otherwise, unplaced_macro}
 use Rattle.drawing_grammar.specs.declared.head.Head.{Head}
-use Rattle.drawing_grammar.specs.declared.declared.Kind.TheVariants.{Macro, Parameter, Formal}
-use Rattle.drawing_grammar.specs.DoubleNames.{Key, key, Declaration, parameters, formals, statement_labels, labels, else_labels, head_declared, macros_declared, declared, primitives, keys_of, AreDifferent, IsDistinct}
-use Rattle.drawing_grammar.proofs.Proper.{IsHeadOf, AreHeads}
+use Rattle.drawing_grammar.specs.declared.declared.Kind.TheVariants.{Constant, Macro, Parameter, Formal}
+use Rattle.drawing_grammar.specs.Sketch.{PlacedConstants}
+use Rattle.drawing_grammar.specs.DoubleNames.{Key, key, Declaration, constants, parameters, formals, statement_labels, labels, else_labels, head_declared, macros_declared, declared, primitives, keys_of, AreDifferent, IsDistinct}
+use Rattle.drawing_grammar.proofs.ProperTrees.{IsHeadOf, AreHeads, AreConstantsOf}
 
 abbrev pub the_key : Declaration → Key
 the_key d = d.key
@@ -25,6 +26,7 @@ mutual
   statement_again scope (tree.Wire w) = refl
   statement_again scope (tree.If test ss other place) = both (labels scope (unplaced_statements ss)) (else_labels scope (unplaced_otherwise other))
       (labels scope ss) (else_labels scope other) (statements_again scope ss) (otherwise_again scope other)
+  statement_again scope (tree.For var first last ss place) = statements_again scope ss
 
   statements_again : (scope : ℕ) (ss : tree.Statements) → keys_of (labels scope (unplaced_statements ss)) ≡ keys_of (labels scope ss)
   statements_again scope tree.nil = refl
@@ -42,6 +44,14 @@ parameter_keys scope ps = map (λ p. key scope Parameter p.name) ps
 
 abbrev pub formal_keys : ℕ → List tree.Formal → List Key
 formal_keys scope fs = map (λ f. key scope Formal f.base) fs
+
+abbrev pub constant_keys : List tree.Assignment → List Key
+constant_keys cs = map (λ c. key 0 Constant c.name) cs
+
+pub constants_are : (cs : List tree.Assignment) (places : List Place) → length places ≡ length cs → keys_of (constants cs places) ≡ constant_keys cs
+constants_are [] places e = refl
+constants_are (c ∷ cs) [] e = absurd cc
+constants_are (c ∷ cs) (place ∷ places) e = let k : length places ≡ length cs = cc in ap (λ (ks : List Key). key 0 Constant c.name ∷ ks) (constants_are cs places k)
 
 parameters_are : (scope : ℕ) (ps : List tree.Assignment) (places : List Place) → length places ≡ length ps → keys_of (parameters scope ps places) ≡ parameter_keys scope ps
 parameters_are scope [] places e = refl
@@ -91,16 +101,24 @@ same_labels : (scope : ℕ) (ss us : tree.Statements) → unplaced_statements us
 same_labels scope ss us e = sym (statements_again scope us) ∙ (ap (λ (x : tree.Statements). keys_of (labels scope x)) e ∙ statements_again scope ss)
 
 same_keys : (ms us : List tree.Macro) (hs ks : List Head) (body again : tree.Statements) → AreHeads ms hs → AreHeads us ks → map unplaced_macro
-    us ≡ map unplaced_macro ms → unplaced_statements again ≡ unplaced_statements body → keys_of (declared us ks again) ≡ keys_of (declared ms hs body)
+    us ≡ map unplaced_macro ms → unplaced_statements again ≡ unplaced_statements body →
+    keys_of (macros_declared 0 us ks ++ labels (length us) again) ≡ keys_of (macros_declared 0 ms hs ++ labels (length ms) body)
 same_keys ms us hs ks body again h k e f =
     let count : length us ≡ length ms = sym (length-map us unplaced_macro) ∙ (ap length e ∙ length-map ms unplaced_macro) in
     both (macros_declared 0 us ks) (labels (length us) again) (macros_declared 0 ms hs) (labels (length ms) body)
     (macros_are 0 us ks k ∙ (ap (λ (xs : List tree.Macro). all_keys 0 xs) e ∙ sym (macros_are 0 ms hs h)))
     (ap (λ (n : ℕ). keys_of (labels n again)) count ∙ same_labels (length ms) body again f)
 
-pub distinct_again : (ms us : List tree.Macro) (hs ks : List Head) (body again : tree.Statements) → AreHeads ms hs → AreHeads us ks →
+-- two texts with the same constants
+pub distinct_again : (cs ds : PlacedConstants) (ms us : List tree.Macro) (hs ks : List Head) (body again : tree.Statements) →
+    AreConstantsOf cs → AreConstantsOf ds → AreHeads ms hs → AreHeads us ks → ds.constants ≡ cs.constants →
     map unplaced_macro us ≡ map unplaced_macro ms → unplaced_statements again ≡ unplaced_statements body →
-    IsDistinct (declared ms hs body) → IsDistinct (declared us ks again)
-distinct_again ms us hs ks body again h k e f is =
+    IsDistinct (declared cs.constants cs.name_places ms hs body) → IsDistinct (declared ds.constants ds.name_places us ks again)
+distinct_again cs ds ms us hs ks body again a b h k c e f is =
     let F : List Key → Type 0 = λ keys. AreDifferent (primitives ++ keys) in
-    subst F (sym (same_keys ms us hs ks body again h k e f)) is
+    let consts : keys_of (constants ds.constants ds.name_places) ≡ keys_of (constants cs.constants cs.name_places) =
+    constants_are ds.constants ds.name_places b.name_places
+    ∙ (ap (λ (xs : List tree.Assignment). constant_keys xs) c ∙ sym (constants_are cs.constants cs.name_places a.name_places)) in
+    subst F (sym (both (constants ds.constants ds.name_places) (macros_declared 0 us ks ++ labels (length us) again)
+    (constants cs.constants cs.name_places) (macros_declared 0 ms hs ++ labels (length ms) body) consts
+    (same_keys ms us hs ks body again h k e f))) is

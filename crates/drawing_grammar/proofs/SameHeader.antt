@@ -1,5 +1,5 @@
 -- The header of a canonical text is the one that it is made from.
-use Rattle.std.proofs.Common.{◌≡◌, ℕ, zero, suc, ◌*◌, ◌≤◌, Bool, true, false, ℤ, pos, negsuc, Option, Some, None, refl, ap, ◌∙◌, subst, arith}
+use Rattle.std.proofs.Common.{◌≡◌, ℕ, zero, suc, ◌*◌, ◌≤◌, Bool, true, false, ℤ, pos, negsuc, Option, Some, None, ◌⊎◌, inl, inr, refl, ap, ◌∙◌, subst, arith}
 use Rattle.std.specs.Prelude.{IfSome, Result, Ok}
 use Rattle.std.proofs.lemmas.Bool.Decides.{nat_tests}
 use Rattle.scald_base.specs.Time.{Header, IsHeader, IsDelay, IsSkew}
@@ -8,7 +8,7 @@ use Rattle.scald_base.specs.declared.refusal.Refusal.{Refusal}
 use Rattle.drawing_grammar.specs.declared.header.NumberPair.{NumberPair}
 use Rattle.drawing_grammar.specs.declared.header.WrittenHeader.{WrittenHeader}
 use Rattle.drawing_grammar.specs.Header.{natural, is_version, is_clock, is_bounds, is_skew, judged_statement, judged_pair, judged, header_of, pair_of, bounds_of}
-use Rattle.drawing_grammar.proofs.PhraseText.{IsPair}
+use Rattle.drawing_grammar.proofs.PhraseHeader.{IsPair}
 use Rattle.drawing_grammar.proofs.Judging.{passed, passed_pair}
 
 good_clock : (u t : ℕ) → 2 ≤ u * t → u * t ≤ 4096 → is_clock (pos u) (pos t) ≡ true
@@ -78,16 +78,20 @@ header_same : (h : Header) (u t wa wb pa pb ca cb : ℕ) → u ≡ h.units → t
     (let x : Header = record { units = u; ticks = t; wire = record { min = wa; max = wb }; pskew = (pa, pb); cskew = (ca, cb) } in x) ≡ h
 header_same h u t wa wb pa pb ca cb a b c d e f i j = rw (a, b, c, d, e, f, i, j) refl
 
-pub judged_again : (w : WrittenHeader) (version : ℕ) (h : Header) → IsHeader h → version ≡ 1 → w.version ≡ pos version → w.clock.first ≡ pos h.units →
+is_known : (version : ℕ) → (version ≡ 1) ⊎ (version ≡ 2) → is_version (pos version) ≡ true
+is_known version (inl e) = ap (λ (n : ℕ). is_version (pos n)) e
+is_known version (inr e) = ap (λ (n : ℕ). is_version (pos n)) e
+
+pub judged_again : (w : WrittenHeader) (version : ℕ) (h : Header) → IsHeader h → (version ≡ 1) ⊎ (version ≡ 2) → w.version ≡ pos version → w.clock.first ≡ pos h.units →
     w.clock.second ≡ pos h.ticks → IsPair h.wire.min h.wire.max w.wire →
     IsPair h.pskew.0 h.pskew.1 w.pskew → IsPair h.cskew.0 h.cskew.1 w.cskew → judged w ≡ Ok h
-judged_again w version h is one v u t wire pskew cskew =
+judged_again w version h is known v u t wire pskew cskew =
     let W = pair_is h.wire.min h.wire.max w.wire wire in
     let P = pair_is h.pskew.0 h.pskew.1 w.pskew pskew in
     let C = pair_is h.cskew.0 h.cskew.1 w.cskew cskew in
     let same : header_of w ≡ h = header_same h (natural w.clock.first) (natural w.clock.second) (pair_of w.wire).0 (pair_of w.wire).1
     (pair_of w.pskew).0 (pair_of w.pskew).1 (pair_of w.cskew).0 (pair_of w.cskew).1 (ap natural u) (ap natural t) W.0 W.1 P.0 P.1 C.0 C.1 in
-    let versions : is_version w.version ≡ true = ap is_version (v ∙ ap (λ (n : ℕ). pos n) one) in
+    let versions : is_version w.version ≡ true = ap is_version v ∙ is_known version known in
     let clocks : is_clock w.clock.first w.clock.second ≡ true = ap (λ (m : ℤ). is_clock m w.clock.second) u
     ∙ (ap (λ (n : ℤ). is_clock (pos h.units) n) t ∙ good_clock h.units h.ticks is.shortest is.longest) in
     passes (is_version w.version) w.place _ (Ok h) versions

@@ -16,6 +16,7 @@ use Rattle.drawing_tree.specs.declared.drawing.CaseStmt.{CaseStmt}
 use Rattle.drawing_tree.specs.Tree as tree
 use Rattle.drawing_tree.specs.ExpressionText.{left_enclosed, right_enclosed, minus_enclosed, is_comparison}
 use Rattle.drawing_tree.specs.WellFormed.{IsFreeWord, IsGoodName}
+use Rattle.drawing_grammar.specs.declared.edition.Edition.{Edition}
 use Rattle.drawing_grammar.specs.declared.terminal.Terminal.{Terminal}
 use Rattle.drawing_grammar.specs.declared.terminal.Terminal.TheVariants as terminal
 use Rattle.drawing_grammar.specs.Lexeme as lexeme
@@ -24,13 +25,13 @@ use Rattle.drawing_grammar.specs.Names.{naming, names_at, head_behind, names_fro
 use Rattle.drawing_grammar.specs.Sketch.{unquoted}
 use Rattle.drawing_grammar.proofs.Cutting.{Bare}
 use Rattle.drawing_grammar.proofs.Leaves as leaf
-use Rattle.drawing_grammar.proofs.CanonicalTokens.{word, number, semicolon, colon, comma, ampersand, less, greater, open_parenthesis, close_parenthesis, open_bracket, close_bracket, open_brace, close_brace, arrow, end_of_text, enclosed_tokens, op_tokens, condition_tokens, sum_tokens, bounds_tokens, last_tokens, range_tokens, signal_tokens, item_tokens, minus_tokens, term_tokens, hold_tokens, connection_tokens, listed_tokens, inputs_tokens, outputs_tokens, assignment_tokens, params_tokens, fall_tokens, delay_tokens, use_tokens, wire_tokens, end_tokens, statement_tokens, statements_tokens, else_tokens, body_tokens, pair_tokens, header_tokens, formal_tokens, entry_tokens, case_tokens}
+use Rattle.drawing_grammar.proofs.CanonicalTokens.{word, for_tokens, constant_tokens, number, semicolon, colon, comma, ampersand, less, greater, open_parenthesis, close_parenthesis, open_bracket, close_bracket, open_brace, close_brace, arrow, end_of_text, enclosed_tokens, op_tokens, condition_tokens, sum_tokens, bounds_tokens, last_tokens, range_tokens, signal_tokens, item_tokens, minus_tokens, term_tokens, hold_tokens, connection_tokens, listed_tokens, inputs_tokens, outputs_tokens, assignment_tokens, params_tokens, fall_tokens, delay_tokens, use_tokens, wire_tokens, end_tokens, statement_tokens, statements_tokens, else_tokens, body_tokens, pair_tokens, header_tokens, formal_tokens, entry_tokens, case_tokens}
 use Rattle.drawing_grammar.proofs.Drawable.{IsDrawn, IsDrawnRange, IsDrawnAssignment, IsDrawnFormal}
 use Rattle.drawing_grammar.proofs.Matching.{bare, free_word}
 use Rattle.drawing_grammar.proofs.GoodNames.{good_both}
 use Rattle.drawing_grammar.proofs.PhraseConnection.{unquoted_again}
 use Rattle.drawing_grammar.proofs.PhraseFormals.{plain_name}
-use Rattle.drawing_grammar.proofs.Proper.{IsItemOf, IsTermOf, IsConnectionOf, IsUseOf, IsWireOf, IsStatementOf, AreStatementsOf, IsOtherwiseOf, IsMacroOf, IsEntryOf, IsCaseOf}
+use Rattle.drawing_grammar.proofs.ProperTrees.{IsItemOf, IsTermOf, IsConnectionOf, IsUseOf, IsWireOf, IsStatementOf, AreStatementsOf, IsOtherwiseOf, IsMacroOf, IsEntryOf, IsCaseOf}
 
 -- ---- tokens that neither begin nor end a head, and whose names are good
 
@@ -275,31 +276,45 @@ module _ (h : Header) where
   unfolding word_terminal
   ends = (other false _ terminal.End refl refl refl, stop)
 
+  -- the first line of a FOR
+  for_head : (var : List ℕ) (first last : Expression) → IsFreeWord var → IsDrawn first → IsDrawn last → AreCalm h false (for_tokens var first last)
+  unfolding word_terminal symbol_terminal
+  for_head var x y named low high =
+      let begin = word (codes "FOR") ++ word var ++ equals in
+      joined false (begin ++ sum_tokens x ++ word (codes "TO") ++ sum_tokens y) (word (codes "DO"))
+      (joined false (begin ++ sum_tokens x ++ word (codes "TO")) (sum_tokens y)
+      (joined false (begin ++ sum_tokens x) (word (codes "TO"))
+      (joined false begin (sum_tokens x) (other false _ terminal.Word refl refl refl, (free false var named, (other false _ terminal.Equals refl refl refl, tt)))
+      (sum false x low)) (other false _ terminal.Word refl refl refl, tt)) (sum false y high)) (other false _ terminal.Word refl refl refl, tt)
+
   mutual
     unfolding statement_tokens statements_tokens else_tokens word_terminal
 
-    statement : (s : tree.Statement) → IsStatementOf Good s → AreCalm h false (statement_tokens s)
-    statement (tree.Use u) p = use_ u p
-    statement (tree.Wire w) p = wire w p
-    statement (tree.If test ss o place) p =
+    statement : (v : Edition) (s : tree.Statement) → IsStatementOf Good v s → AreCalm h false (statement_tokens s)
+    statement v (tree.Use u) p = use_ u p
+    statement v (tree.Wire w) p = wire w p
+    statement v (tree.If test ss o place) p =
         let first = word (codes "IF") ++ condition_tokens test ++ word (codes "THEN") in
         joined false (first ++ statements_tokens ss ++ else_tokens o) end_tokens
         (joined false (first ++ statements_tokens ss) (else_tokens o)
         (joined false first (statements_tokens ss)
         (joined false (word (codes "IF") ++ condition_tokens test) (word (codes "THEN"))
         (other false _ terminal.If refl refl refl, condition false test p.0) (other false _ terminal.Then refl refl refl, tt))
-        (statements ss p.1)) (otherwise o p.2)) ends
+        (statements v ss p.1)) (otherwise v o p.2)) ends
+    statement v (tree.For var first last ss place) p =
+        joined false (for_tokens var first last ++ statements_tokens ss) end_tokens
+        (joined false (for_tokens var first last) (statements_tokens ss) (for_head var first last p.1 p.2 p.3) (statements v ss p.4)) ends
 
-    statements : (ss : tree.Statements) → AreStatementsOf Good ss → AreCalm h false (statements_tokens ss)
-    statements tree.nil p = tt
-    statements (tree.cons s ss) p = joined false (statement_tokens s) (statements_tokens ss) (statement s p.0) (statements ss p.1)
+    statements : (v : Edition) (ss : tree.Statements) → AreStatementsOf Good v ss → AreCalm h false (statements_tokens ss)
+    statements v tree.nil p = tt
+    statements v (tree.cons s ss) p = joined false (statement_tokens s) (statements_tokens ss) (statement v s p.0) (statements v ss p.1)
 
-    otherwise : (o : tree.Otherwise) → IsOtherwiseOf Good o → AreCalm h false (else_tokens o)
-    otherwise tree.no_else p = tt
-    otherwise (tree.else_ ss) p = (other false _ terminal.Else refl refl refl, statements ss p)
+    otherwise : (v : Edition) (o : tree.Otherwise) → IsOtherwiseOf Good v o → AreCalm h false (else_tokens o)
+    otherwise v tree.no_else p = tt
+    otherwise v (tree.else_ ss) p = (other false _ terminal.Else refl refl refl, statements v ss p)
 
-  pub body : (ss : tree.Statements) → AreStatementsOf Good ss → AreCalm h false (body_tokens ss)
-  body ss p = joined false (statements_tokens ss) end_tokens (statements ss p) ends
+  pub body : (v : Edition) (ss : tree.Statements) → AreStatementsOf Good v ss → AreCalm h false (body_tokens ss)
+  body v ss p = joined false (statements_tokens ss) end_tokens (statements v ss p) ends
 
   -- ---- heads of macros
 
@@ -310,8 +325,8 @@ module _ (h : Header) where
   abbrev pub head_tokens : tree.Macro → List Bare
   head_tokens m = word m.name ++ params_tokens m.params ++ inputs_tokens formal_tokens m.ins ++ outputs_tokens formal_tokens m.outs
 
-  pub head : (m : tree.Macro) → IsMacroOf Good m → AreCalm h true (head_tokens m)
-  head m p =
+  pub head : (v : Edition) (m : tree.Macro) → IsMacroOf Good v m → AreCalm h true (head_tokens m)
+  head v m p =
       let ps = params_tokens m.params in
       let ins = inputs_tokens formal_tokens m.ins in
       let outs = outputs_tokens formal_tokens m.outs in
@@ -321,7 +336,16 @@ module _ (h : Header) where
       (inputs true IsDrawnFormal formal_tokens formal m.ins p.ins))
       (outputs true IsDrawnFormal formal_tokens formal m.outs p.outs)
 
-  -- ---- the header, the title and the cases
+  -- ---- the header, the constants, the title and the cases
+
+  constant : (c : tree.Assignment) → IsDrawnAssignment c → AreCalm h false (constant_tokens c)
+  unfolding word_terminal symbol_terminal
+  constant c p =
+      let front = (other false _ terminal.Word refl refl refl, (free false c.name p.name, (other false _ terminal.Equals refl refl refl, sum false c.value p.value))) in
+      joined false (word (codes "CONST") ++ word c.name ++ equals ++ sum_tokens c.value) semicolon front stop
+
+  pub constants : (cs : List tree.Assignment) → AllByRecursion IsDrawnAssignment cs → AreCalm h false (flat_map constant_tokens cs)
+  constants cs p = one_by false IsDrawnAssignment constant_tokens constant cs p
 
   pair : (a b : ℕ) → AreCalm h false (pair_tokens a b)
   unfolding symbol_terminal

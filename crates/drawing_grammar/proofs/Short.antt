@@ -4,10 +4,11 @@ use Rattle.std.specs.Prelude.{IfSome}
 use Rattle.std.specs.List.{AllByRecursion}
 use Rattle.scald_expr.specs.Expression.{Expression}
 use Rattle.drawing_tree.specs.Tree as tree
+use Rattle.drawing_grammar.specs.declared.edition.Edition.{Edition}
 use Rattle.drawing_grammar.specs.Sketch.{Sketch}
 use Rattle.drawing_grammar.specs.Drawing.{drawing_of_sketch}
 use Rattle.drawing_grammar.specs.CanonicalDraws.{IsShallow, IsShallowRange, IsShallowItem, IsShallowConnection, IsShallowAssignment, IsShallowUse, IsShallowStatement, AreShallow, IsShallowOtherwise, IsShallowFormal, IsShallowMacro, IsShallowDrawing}
-use Rattle.drawing_grammar.proofs.Drawable.{IsDrawn, IsDrawnRange, IsDrawnItem, IsDrawnTerm, IsDrawnConnection, IsDrawnAssignment, IsDrawnUse, IsDrawnStatement, AreDrawn, IsDrawnOtherwise, IsDrawnFormal, IsDrawnMacro, IsDrawnDrawing}
+use Rattle.drawing_grammar.proofs.Drawable.{IsDrawn, IsDrawnRange, IsDrawnItem, IsDrawnTerm, IsDrawnConnection, IsDrawnAssignment, IsDrawnUse, IsDrawnStatement, AreDrawn, IsDrawnOtherwise, IsDrawnFormal, IsDrawnMacro, written_in, IsDrawnDrawing}
 use Rattle.drawing_grammar.proofs.Modest.{IsFew, IsFewRange, IsFewItem, IsFewConnection, IsFewAssignment, IsFewUse, IsModestStatement, AreModest, IsModestOtherwise, IsFewFormal, IsModestMacro, IsModestSketch}
 use Rattle.drawing_grammar.proofs.PhraseConnection.{IsShort, IsShortRange, IsShortItem}
 use Rattle.drawing_grammar.proofs.PhraseConnections.{IsShortConnection}
@@ -72,35 +73,46 @@ use_short u p q r = record {
 }
 
 mutual
-  statement_short : (n : ℕ) (s : tree.Statement) → IsDrawnStatement s → IsShallowStatement s → IsModestStatement n s → IsShortStatement n s
-  statement_short n (tree.Use u) p q r = use_short u p q r
-  statement_short n (tree.Wire w) p q r = record { name = p.name; range = range_short w.range p.range q.range r.range; min = short w.min p.min q.min r.min; max = short w.max p.max q.max r.max }
-  statement_short n (tree.If test ss other place) p q r = (r.0, record { drawn = p.0; nests = q.0; few = r.1 }, statements_short (suc n) ss p.1 q.1 r.2, otherwise_short (suc n) other p.2 q.2 r.3)
+  statement_short : (v : Edition) (n : ℕ) (s : tree.Statement) → IsDrawnStatement v s → IsShallowStatement s → IsModestStatement n s → IsShortStatement v n s
+  statement_short v n (tree.Use u) p q r = use_short u p q r
+  statement_short v n (tree.Wire w) p q r = record { name = p.name; range = range_short w.range p.range q.range r.range; min = short w.min p.min q.min r.min; max = short w.max p.max q.max r.max }
+  statement_short v n (tree.If test ss other place) p q r = (
+    r.0,
+    record { drawn = p.0; nests = q.0; few = r.1 },
+    statements_short v (suc n) ss p.1 q.1 r.2,
+    otherwise_short v (suc n) other p.2 q.2 r.3,
+  )
+  statement_short v n (tree.For var first last ss place) p q r =
+      (p.0, r.0, p.1, short first p.2 q.0 r.1, short last p.3 q.1 r.2, statements_short v (suc n) ss p.4 q.2 r.3)
 
-  statements_short : (n : ℕ) (ss : tree.Statements) → AreDrawn ss → AreShallow ss → AreModest n ss → AreShort n ss
-  statements_short n tree.nil p q r = tt
-  statements_short n (tree.cons s ss) p q r = (statement_short n s p.0 q.0 r.0, statements_short n ss p.1 q.1 r.1)
+  statements_short : (v : Edition) (n : ℕ) (ss : tree.Statements) → AreDrawn v ss → AreShallow ss → AreModest n ss → AreShort v n ss
+  statements_short v n tree.nil p q r = tt
+  statements_short v n (tree.cons s ss) p q r = (statement_short v n s p.0 q.0 r.0, statements_short v n ss p.1 q.1 r.1)
 
-  otherwise_short : (n : ℕ) (o : tree.Otherwise) → IsDrawnOtherwise o → IsShallowOtherwise o → IsModestOtherwise n o → IsShortOtherwise n o
-  otherwise_short n tree.no_else p q r = tt
-  otherwise_short n (tree.else_ ss) p q r = statements_short n ss p q r
+  otherwise_short : (v : Edition) (n : ℕ) (o : tree.Otherwise) → IsDrawnOtherwise v o → IsShallowOtherwise o → IsModestOtherwise n o → IsShortOtherwise v n o
+  otherwise_short v n tree.no_else p q r = tt
+  otherwise_short v n (tree.else_ ss) p q r = statements_short v n ss p q r
 
 formal_short : (f : tree.Formal) → IsDrawnFormal f → IsShallowFormal f → IsFewFormal f → IsShortFormal f
 formal_short f p q r = record { base = p.base; range = range_short f.range p.range q r }
 
-macro_short : (m : tree.Macro) → IsDrawnMacro m → IsShallowMacro m → IsModestMacro m → IsShortMacro m
-macro_short m p q r = record {
+macro_short : (v : Edition) (m : tree.Macro) → IsDrawnMacro v m → IsShallowMacro m → IsModestMacro m → IsShortMacro v m
+macro_short v m p q r = record {
   name = p.name;
   params = three IsDrawnAssignment IsShallowAssignment IsFewAssignment IsShortAssignment assignment_short m.params p.params q.params r.params;
   ins = three IsDrawnFormal IsShallowFormal IsFewFormal IsShortFormal formal_short m.ins p.ins q.ins r.ins;
   outs = three IsDrawnFormal IsShallowFormal IsFewFormal IsShortFormal formal_short m.outs p.outs q.outs r.outs;
-  body = statements_short 0 m.body p.body q.body r.body;
+  body = statements_short v 0 m.body p.body q.body r.body;
 }
 
-pub drawing_short : (s : Sketch) → IsDrawnDrawing (drawing_of_sketch s) → IsShallowDrawing (drawing_of_sketch s) → IsModestSketch s → IsShortDrawing (drawing_of_sketch s)
-drawing_short s p q r = record {
-  name = p.name;
-  macros = three IsDrawnMacro IsShallowMacro IsModestMacro IsShortMacro macro_short s.macros.macros p.macros q.macros r.macros;
-  body = statements_short 0 s.body p.body q.body r.body;
-  cases = p.cases;
-}
+pub drawing_short : (s : Sketch) → IsDrawnDrawing (drawing_of_sketch s) → IsShallowDrawing (drawing_of_sketch s) → IsModestSketch s →
+    IsShortDrawing (written_in (drawing_of_sketch s)) (drawing_of_sketch s)
+drawing_short s p q r =
+    let v = written_in (drawing_of_sketch s) in record {
+      name = p.name;
+      consts = three IsDrawnAssignment IsShallowAssignment IsFewAssignment IsShortAssignment assignment_short s.consts.constants p.consts q.consts r.consts;
+      no_consts = p.no_consts;
+      macros = three (IsDrawnMacro v) IsShallowMacro IsModestMacro (IsShortMacro v) (macro_short v) s.macros.macros p.macros q.macros r.macros;
+      body = statements_short v 0 s.body p.body q.body r.body;
+      cases = p.cases;
+    }

@@ -1,5 +1,5 @@
 -- The tokens of a whole canonical text.
-use Rattle.std.proofs.Common.{◌≡◌, ℕ, zero, suc, ◌*◌, ◌≤◌, List, [], ◌++◌, decimal, refl, arith}
+use Rattle.std.proofs.Common.{◌≡◌, ℕ, zero, suc, ◌*◌, ◌≤◌, List, [], ◌++◌, ◌⊎◌, inl, inr, decimal, refl, arith}
 use Rattle.std.specs.Prelude.{codes}
 use Rattle.std.specs.List.{flat_map, AllByRecursion}
 use Rattle.std.proofs.Math.Nat.{le-mul_of_pos_right, mul_comm}
@@ -8,17 +8,20 @@ use Rattle.scald_lex.specs.Piece.{greatest_number}
 use Rattle.assertion_syntax.specs.Name.{name_text}
 use Rattle.drawing_tree.specs.declared.drawing.CaseEntry.{CaseEntry}
 use Rattle.drawing_tree.specs.declared.drawing.CaseStmt.{CaseStmt}
-use Rattle.drawing_tree.specs.Tree.{Formal, Macro, Drawing}
-use Rattle.drawing_tree.specs.Canonical.{quoted, range_text, assignment_text, params_text, inputs_text, outputs_text, line, pair_text, header_lines, formal_text, macro_head, macro_lines, body_lines, entry_text, case_lines, listed_text, canonical}
+use Rattle.drawing_tree.specs.Tree.{Assignment, Formal, Macro, Drawing}
+use Rattle.drawing_tree.specs.ExpressionText.{sum_text}
+use Rattle.drawing_tree.specs.Canonical.{quoted, range_text, assignment_text, params_text, inputs_text, outputs_text, line, pair_text, header_lines, constant_line, formal_text, macro_head, macro_lines, body_lines, entry_text, case_lines, listed_text, canonical}
+use Rattle.drawing_grammar.specs.declared.edition.Edition.{Edition}
 use Rattle.drawing_grammar.proofs.Cutting.{Bare, Spells, Closes, closed, nothing_closes, before, before_closed, then_, then_closed}
 use Rattle.drawing_grammar.proofs.Leaves.{word_spells, number_spells, name_closes}
 use Rattle.drawing_grammar.proofs.NameBytes.{base_holds, name_holds}
-use Rattle.drawing_grammar.proofs.Literals.{semicolon_closes, colon_closes, less_closes, index_end_closes, scald_closes, clock_closes, by_closes, wire_closes, pskew_closes, cskew_closes, macro_closes, drawing_closes, case_closes}
+use Rattle.drawing_grammar.proofs.Literals.{semicolon_closes, colon_closes, less_closes, index_end_closes, scald_closes, clock_closes, by_closes, wire_closes, pskew_closes, cskew_closes, const_closes, wide_equals_closes, macro_closes, drawing_closes, case_closes}
+use Rattle.drawing_grammar.proofs.SpelledExpression.{sum_spells}
 use Rattle.drawing_grammar.proofs.SpelledLists.{all_map, Each, listed_spells, each_closes}
 use Rattle.drawing_grammar.proofs.SpelledConnection.{range_closes, assignment_spells, params_close, params_stop}
 use Rattle.drawing_grammar.proofs.SpelledStatement.{line_closes, ins_close, ins_break, outs_close, body_closes}
-use Rattle.drawing_grammar.proofs.CanonicalTokens.{word, number, name, semicolon, colon, less, greater, equals, range_tokens, assignment_tokens, params_tokens, inputs_tokens, outputs_tokens, pair_tokens, header_tokens, formal_tokens, macro_tokens, body_tokens, entry_tokens, case_tokens, listed_tokens, drawing_tokens}
-use Rattle.drawing_grammar.proofs.Drawable.{IsDrawnAssignment, IsDrawnFormal, IsDrawnMacro, IsDrawnEntry, IsDrawnCase, IsDrawnDrawing}
+use Rattle.drawing_grammar.proofs.CanonicalTokens.{word, number, name, semicolon, colon, less, greater, equals, sum_tokens, range_tokens, assignment_tokens, params_tokens, inputs_tokens, outputs_tokens, pair_tokens, header_tokens, constant_tokens, formal_tokens, macro_tokens, body_tokens, entry_tokens, case_tokens, listed_tokens, drawing_tokens}
+use Rattle.drawing_grammar.proofs.Drawable.{IsDrawnAssignment, IsDrawnFormal, IsDrawnMacro, IsDrawnEntry, IsDrawnCase, written_in, IsDrawnDrawing}
 
 -- ---- the header
 
@@ -81,6 +84,23 @@ header_closes version h v is =
     (ended (codes "CSKEW " ++ pair_text h.cskew.0 h.cskew.1) (word (codes "CSKEW") ++ pair_tokens h.cskew.0 h.cskew.1)
     (pair_spells (codes "CSKEW ") (word (codes "CSKEW")) h.cskew.0 h.cskew.1 cskew_closes (omega (arith, is.cskew.early)) (omega (arith, is.cskew.late))))
 
+version_fits : (n : ℕ) → (n ≡ 1) ⊎ (n ≡ 2) → n ≤ greatest_number
+version_fits n (inl e) = omega arith
+version_fits n (inr e) = omega arith
+
+-- ---- constants
+
+constant_closes : (c : Assignment) → IsDrawnAssignment c → Closes (constant_line c) (constant_tokens c)
+unfolding constant_line
+constant_closes c is =
+    let named = codes "CONST " ++ c.name in
+    let named_words = word (codes "CONST") ++ word c.name in
+    ended (named ++ codes " = " ++ sum_text c.value) (named_words ++ equals ++ sum_tokens c.value)
+    (before (named ++ codes " = ") (sum_text c.value) (named_words ++ equals) (sum_tokens c.value)
+    (then_closed named (codes " = ") named_words equals
+    (before (codes "CONST ") c.name (word (codes "CONST")) (word c.name) const_closes (word_spells c.name is.name.is_word)) wide_equals_closes refl)
+    (sum_spells c.value is.value))
+
 -- ---- macros
 
 formal_spells : (f : Formal) → IsDrawnFormal f → Spells (formal_text f) (formal_tokens f)
@@ -95,9 +115,9 @@ formals_spell fs is = all_map IsDrawnFormal (λ f. Spells (formal_text f) (forma
 abbrev macro_head_tokens : Macro → List Bare
 macro_head_tokens m = word (codes "MACRO") ++ word m.name ++ params_tokens m.params ++ inputs_tokens formal_tokens m.ins ++ outputs_tokens formal_tokens m.outs ++ semicolon
 
-head_closes : (m : Macro) → IsDrawnMacro m → Closes (macro_head m) (macro_head_tokens m)
+head_closes : (v : Edition) (m : Macro) → IsDrawnMacro v m → Closes (macro_head m) (macro_head_tokens m)
 unfolding macro_head
-head_closes m is =
+head_closes v m is =
     let named = codes "MACRO " ++ m.name in
     let ins = inputs_text formal_text m.ins in
     let outs = outputs_text formal_text m.outs in
@@ -112,11 +132,11 @@ head_closes m is =
     (ins_close formal_text formal_tokens m.ins (formals_spell m.ins is.ins)) (ins_break formal_text m.ins))
     (outs_close formal_text formal_tokens m.outs (formals_spell m.outs is.outs))) semicolon_closes
 
-macro_lines_close : (m : Macro) → IsDrawnMacro m → Closes (macro_lines m) (macro_tokens m)
+macro_lines_close : (v : Edition) (m : Macro) → IsDrawnMacro v m → Closes (macro_lines m) (macro_tokens m)
 unfolding macro_lines
-macro_lines_close m is =
+macro_lines_close v m is =
     before_closed (line [] (macro_head m)) (body_lines m.body) (macro_head_tokens m) (body_tokens m.body)
-    (line_closes [] (macro_head m) (macro_head_tokens m) nothing_closes (closed (macro_head m) (macro_head_tokens m) (head_closes m is))) (body_closes m.body is.body)
+    (line_closes [] (macro_head m) (macro_head_tokens m) nothing_closes (closed (macro_head m) (macro_head_tokens m) (head_closes v m is))) (body_closes v m.body is.body)
 
 -- ---- cases
 
@@ -141,19 +161,24 @@ case_lines_close c is =
 
 pub canonical_closes : (d : Drawing) → IsDrawnDrawing d → Closes (canonical d) (drawing_tokens d)
 canonical_closes d is =
+    let v = written_in d in
     let header = header_lines d.version d.header in
+    let consts = flat_map constant_line d.consts in
     let macros = flat_map macro_lines d.macros in
     let title = line [] (codes "DRAWING " ++ d.name ++ codes ";") in
     let body = body_lines d.body in
     let headers = header_tokens d.version d.header in
+    let const_words = flat_map constant_tokens d.consts in
     let macro_words = flat_map macro_tokens d.macros in
     let titles = word (codes "DRAWING") ++ word d.name ++ semicolon in
-    before_closed (header ++ macros ++ title ++ body) (flat_map case_lines d.cases) (headers ++ macro_words ++ titles ++ body_tokens d.body) (flat_map case_tokens d.cases)
-    (before_closed (header ++ macros ++ title) body (headers ++ macro_words ++ titles) (body_tokens d.body)
-    (before_closed (header ++ macros) title (headers ++ macro_words) titles
-    (before_closed header macros headers macro_words (header_closes d.version d.header (omega (arith, is.version)) is.header)
-    (each_closes macro_lines macro_tokens d.macros (all_map IsDrawnMacro (λ m. Closes (macro_lines m) (macro_tokens m)) macro_lines_close d.macros is.macros)))
+    before_closed (header ++ consts ++ macros ++ title ++ body) (flat_map case_lines d.cases) (headers ++ const_words ++ macro_words ++ titles ++ body_tokens d.body) (flat_map case_tokens d.cases)
+    (before_closed (header ++ consts ++ macros ++ title) body (headers ++ const_words ++ macro_words ++ titles) (body_tokens d.body)
+    (before_closed (header ++ consts ++ macros) title (headers ++ const_words ++ macro_words) titles
+    (before_closed (header ++ consts) macros (headers ++ const_words) macro_words
+    (before_closed header consts headers const_words (header_closes d.version d.header (version_fits d.version is.version) is.header)
+    (each_closes constant_line constant_tokens d.consts (all_map IsDrawnAssignment (λ c. Closes (constant_line c) (constant_tokens c)) constant_closes d.consts is.consts)))
+    (each_closes macro_lines macro_tokens d.macros (all_map (IsDrawnMacro v) (λ m. Closes (macro_lines m) (macro_tokens m)) (macro_lines_close v) d.macros is.macros)))
     (ended (codes "DRAWING " ++ d.name) (word (codes "DRAWING") ++ word d.name)
     (before (codes "DRAWING ") d.name (word (codes "DRAWING")) (word d.name) drawing_closes (word_spells d.name is.name.is_word))))
-    (body_closes d.body is.body))
+    (body_closes v d.body is.body))
     (each_closes case_lines case_tokens d.cases (all_map IsDrawnCase (λ c. Closes (case_lines c) (case_tokens c)) case_lines_close d.cases is.cases))

@@ -5,6 +5,7 @@ use Rattle.std.proofs.lemmas.List.Elements.{All-from_recursion}
 use Rattle.scald_base.specs.Time.{Header}
 use Rattle.assertion_syntax.specs.declared.name.SignalName.{SignalName}
 use Rattle.assertion_syntax.specs.Name.{IsTextOf}
+use Rattle.drawing_grammar.specs.Edition.{edition_of}
 use Rattle.drawing_grammar.specs.Lexeme.{Lexeme, terminal}
 use Rattle.drawing_grammar.specs.Names.{Naming, naming, names, head_behind, names_from, IsGood, AreGood}
 use Rattle.drawing_grammar.specs.Sketch.{unquoted, signal_of}
@@ -28,5 +29,5 @@ all_spelled h in_head (t ∷ ts) good =
 pub names_are_spelled : NamesAreSpelled
 names_are_spelled ts d draws =
     let F : List Naming → Type 0 = λ ns. AreGood d.header ns in
-    let same : names draws.written ≡ names_from false ts = names_of_text draws.written ∙ ap (λ (xs : List Lexeme). names_from false xs) draws.text.spelled in
+    let same : names draws.written ≡ names_from false ts = names_of_text (edition_of ts) draws.written ∙ ap (λ (xs : List Lexeme). names_from false xs) draws.text.spelled in
     All-from_recursion IsSpelled ts (all_spelled d.header false ts (subst F same draws.names))

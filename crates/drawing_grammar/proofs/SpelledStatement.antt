@@ -3,17 +3,20 @@ use Rattle.std.proofs.Common.{◌≡◌, ℕ, true, List, [], ◌∷◌, ◌++�
 use Rattle.std.specs.Prelude.{codes}
 use Rattle.std.specs.List.{AllByRecursion}
 use Rattle.std.proofs.lemmas.List.{append-nil}
-use Rattle.drawing_tree.specs.Tree.{Connection, UseStatement, WireStatement, Statement, Use, Wire, If, Statements, nil, cons, Otherwise, no_else, else_}
-use Rattle.drawing_tree.specs.ExpressionText.{condition_text}
-use Rattle.drawing_tree.specs.Canonical.{bracketed, signal_text, bounds_text, assignment_text, connection_text, inputs_text, outputs_text, params_text, delay_text, use_head, use_text, wire_text, line, deeper, statement_lines, statements_lines, else_lines, body_lines}
+use Rattle.drawing_tree.specs.Tree.{Connection, UseStatement, WireStatement, Statement, Use, Wire, If, For, Statements, nil, cons, Otherwise, no_else, else_}
+use Rattle.drawing_tree.specs.ExpressionText.{condition_text, sum_text}
+use Rattle.drawing_tree.specs.Canonical.{bracketed, signal_text, bounds_text, assignment_text, connection_text, inputs_text, outputs_text, params_text, delay_text, use_head, use_text, wire_text, line, for_text, deeper, statement_lines, statements_lines, else_lines, body_lines}
+use Rattle.scald_expr.specs.Expression.{Expression}
+use Rattle.drawing_tree.specs.WellFormed.{IsFreeWord}
+use Rattle.drawing_grammar.specs.declared.edition.Edition.{Edition}
 use Rattle.drawing_grammar.proofs.Cutting.{Bare, breaks, Spells, Closes, closed, nothing_closes, before, before_closed, then_, then_closed}
 use Rattle.drawing_grammar.proofs.Leaves.{word_spells}
-use Rattle.drawing_grammar.proofs.Literals.{two_spaces, one_space, line_end, semicolon_closes, wide_colon_closes, wide_parenthesis_closes, close_parenthesis_closes, arrow_closes, wire_closes, if_closes, then_spells, else_spells, end_closes}
-use Rattle.drawing_grammar.proofs.SpelledExpression.{condition_spells, bounds_spell}
+use Rattle.drawing_grammar.proofs.Literals.{two_spaces, one_space, line_end, semicolon_closes, wide_colon_closes, wide_parenthesis_closes, close_parenthesis_closes, arrow_closes, wire_closes, if_closes, for_closes, to_closes, do_spells, wide_equals_closes, then_spells, else_spells, end_closes}
+use Rattle.drawing_grammar.proofs.SpelledExpression.{condition_spells, sum_spells, bounds_spell}
 use Rattle.drawing_grammar.proofs.SpelledLists.{all_map, Each, bracketed_closes, bracketed_if_some_closes}
 use Rattle.drawing_grammar.proofs.SpelledConnection.{signal_closes, connection_spells, assignment_spells, params_close, params_stop, delay_closes, delay_stops}
-use Rattle.drawing_grammar.proofs.CanonicalTokens.{word, semicolon, colon, open_parenthesis, close_parenthesis, arrow, condition_tokens, bounds_tokens, signal_tokens, connection_tokens, inputs_tokens, outputs_tokens, assignment_tokens, params_tokens, delay_tokens, use_tokens, wire_tokens, end_tokens, statement_tokens, statements_tokens, else_tokens, body_tokens}
-use Rattle.drawing_grammar.proofs.Drawable.{IsDrawnConnection, IsDrawnAssignment, IsDrawnUse, IsDrawnWire, IsDrawnStatement, AreDrawn, IsDrawnOtherwise}
+use Rattle.drawing_grammar.proofs.CanonicalTokens.{word, semicolon, colon, equals, sum_tokens, for_tokens, open_parenthesis, close_parenthesis, arrow, condition_tokens, bounds_tokens, signal_tokens, connection_tokens, inputs_tokens, outputs_tokens, assignment_tokens, params_tokens, delay_tokens, use_tokens, wire_tokens, end_tokens, statement_tokens, statements_tokens, else_tokens, body_tokens}
+use Rattle.drawing_grammar.proofs.Drawable.{IsDrawn, IsDrawnConnection, IsDrawnAssignment, IsDrawnUse, IsDrawnWire, IsDrawnStatement, AreDrawn, IsDrawnOtherwise}
 
 -- ---- one statement
 
@@ -85,16 +88,36 @@ line_closes margin s ts m is =
     subst (λ (us : List Bare). Closes (line margin s) us) (append-nil ts)
     (then_closed (margin ++ s) (10 ∷ []) ts [] (before margin s [] ts m is) line_end refl)
 
+-- the first line of a FOR
+for_spells : (var : List ℕ) (first last : Expression) → IsFreeWord var → IsDrawn first → IsDrawn last →
+    Spells (for_text var first last) (for_tokens var first last)
+for_spells var first last v a b =
+    let named = codes "FOR " ++ var in
+    let from = named ++ codes " = " in
+    let first_text = from ++ sum_text first in
+    let to = first_text ++ codes " TO " in
+    let named_words = word (codes "FOR") ++ word var in
+    let from_words = named_words ++ equals in
+    let first_words = from_words ++ sum_tokens first in
+    let to_words = first_words ++ word (codes "TO") in
+    then_ (to ++ sum_text last) (codes " DO") (to_words ++ sum_tokens last) (word (codes "DO"))
+    (before to (sum_text last) to_words (sum_tokens last)
+    (then_closed first_text (codes " TO ") first_words (word (codes "TO"))
+    (before from (sum_text first) from_words (sum_tokens first)
+    (then_closed named (codes " = ") named_words equals
+    (before (codes "FOR ") var (word (codes "FOR")) (word var) for_closes (word_spells var v.is_word)) wide_equals_closes refl)
+    (sum_spells first a)) to_closes refl) (sum_spells last b)) do_spells refl
+
 deeper_closes : (margin : List ℕ) → Closes margin [] → Closes (deeper margin) []
 deeper_closes margin m = before_closed margin (codes "  ") [] [] m two_spaces
 
 mutual
   unfolding statement_lines statement_tokens
 
-  pub statement_closes : (margin : List ℕ) (s : Statement) → Closes margin [] → IsDrawnStatement s → Closes (statement_lines margin s) (statement_tokens s)
-  statement_closes margin (Use u) m is = line_closes margin (use_text u) (use_tokens u) m (closed (use_text u) (use_tokens u) (use_closes u is))
-  statement_closes margin (Wire w) m is = line_closes margin (wire_text w) (wire_tokens w) m (closed (wire_text w) (wire_tokens w) (wire_closed w is))
-  statement_closes margin (If test ss other place) m is =
+  pub statement_closes : (v : Edition) (margin : List ℕ) (s : Statement) → Closes margin [] → IsDrawnStatement v s → Closes (statement_lines margin s) (statement_tokens s)
+  statement_closes v margin (Use u) m is = line_closes margin (use_text u) (use_tokens u) m (closed (use_text u) (use_tokens u) (use_closes u is))
+  statement_closes v margin (Wire w) m is = line_closes margin (wire_text w) (wire_tokens w) m (closed (wire_text w) (wire_tokens w) (wire_closed w is))
+  statement_closes v margin (If test ss other place) m is =
       let first = line margin (codes "IF " ++ condition_text test ++ codes " THEN") in
       let tokens = word (codes "IF") ++ condition_tokens test ++ word (codes "THEN") in
       let inside = statements_lines (deeper margin) ss in
@@ -105,24 +128,32 @@ mutual
       (line_closes margin (codes "IF " ++ condition_text test ++ codes " THEN") tokens m
       (then_ (codes "IF " ++ condition_text test) (codes " THEN") (word (codes "IF") ++ condition_tokens test) (word (codes "THEN"))
       (before (codes "IF ") (condition_text test) (word (codes "IF")) (condition_tokens test) if_closes (condition_spells test is.0)) then_spells refl))
-      (statements_close (deeper margin) ss (deeper_closes margin m) is.1))
-      (else_closes margin other m is.2))
+      (statements_close v (deeper margin) ss (deeper_closes margin m) is.1))
+      (else_closes v margin other m is.2))
+      (line_closes margin (codes "END;") end_tokens m (closed (codes "END;") end_tokens end_closes))
+  statement_closes v margin (For var first last ss place) m is =
+      let head = line margin (for_text var first last) in
+      let inside = statements_lines (deeper margin) ss in
+      before_closed (head ++ inside) (line margin (codes "END;")) (for_tokens var first last ++ statements_tokens ss) end_tokens
+      (before_closed head inside (for_tokens var first last) (statements_tokens ss)
+      (line_closes margin (for_text var first last) (for_tokens var first last) m (for_spells var first last is.1 is.2 is.3))
+      (statements_close v (deeper margin) ss (deeper_closes margin m) is.4))
       (line_closes margin (codes "END;") end_tokens m (closed (codes "END;") end_tokens end_closes))
 
-  pub statements_close : (margin : List ℕ) (ss : Statements) → Closes margin [] → AreDrawn ss → Closes (statements_lines margin ss) (statements_tokens ss)
-  statements_close margin nil m is = nothing_closes
-  statements_close margin (cons s ss) m is =
+  pub statements_close : (v : Edition) (margin : List ℕ) (ss : Statements) → Closes margin [] → AreDrawn v ss → Closes (statements_lines margin ss) (statements_tokens ss)
+  statements_close v margin nil m is = nothing_closes
+  statements_close v margin (cons s ss) m is =
       before_closed (statement_lines margin s) (statements_lines margin ss) (statement_tokens s) (statements_tokens ss)
-      (statement_closes margin s m is.0) (statements_close margin ss m is.1)
+      (statement_closes v margin s m is.0) (statements_close v margin ss m is.1)
 
-  pub else_closes : (margin : List ℕ) (other : Otherwise) → Closes margin [] → IsDrawnOtherwise other → Closes (else_lines margin other) (else_tokens other)
-  else_closes margin no_else m is = nothing_closes
-  else_closes margin (else_ ss) m is =
+  pub else_closes : (v : Edition) (margin : List ℕ) (other : Otherwise) → Closes margin [] → IsDrawnOtherwise v other → Closes (else_lines margin other) (else_tokens other)
+  else_closes v margin no_else m is = nothing_closes
+  else_closes v margin (else_ ss) m is =
       before_closed (line margin (codes "ELSE")) (statements_lines (deeper margin) ss) (word (codes "ELSE")) (statements_tokens ss)
-      (line_closes margin (codes "ELSE") (word (codes "ELSE")) m else_spells) (statements_close (deeper margin) ss (deeper_closes margin m) is)
+      (line_closes margin (codes "ELSE") (word (codes "ELSE")) m else_spells) (statements_close v (deeper margin) ss (deeper_closes margin m) is)
 
-pub body_closes : (body : Statements) → AreDrawn body → Closes (body_lines body) (body_tokens body)
+pub body_closes : (v : Edition) (body : Statements) → AreDrawn v body → Closes (body_lines body) (body_tokens body)
 unfolding body_lines
-body_closes body is =
+body_closes v body is =
     before_closed (statements_lines (codes "  ") body) (line [] (codes "END;")) (statements_tokens body) end_tokens
-    (statements_close (codes "  ") body two_spaces is) (line_closes [] (codes "END;") end_tokens nothing_closes (closed (codes "END;") end_tokens end_closes))
+    (statements_close v (codes "  ") body two_spaces is) (line_closes [] (codes "END;") end_tokens nothing_closes (closed (codes "END;") end_tokens end_closes))

@@ -9,14 +9,16 @@ use Rattle.assertion_syntax.specs.declared.name.SignalName.{SignalName}
 use Rattle.assertion_syntax.proofs.Names.{names_one}
 use Rattle.drawing_tree.specs.Tree as tree
 use Rattle.drawing_grammar.specs.Lexeme.{Lexeme}
+use Rattle.drawing_grammar.specs.declared.edition.Edition.{Edition}
+use Rattle.drawing_grammar.specs.Edition.{edition_of}
 use Rattle.drawing_grammar.specs.Header.{judged}
 use Rattle.drawing_grammar.specs.Names.{Naming, names, names_from, IsGood, IsNameFault, no_formal, no_interval, overlapping, IsFault, no_name, bad_name, AreGood, IsBadName}
 use Rattle.drawing_grammar.specs.DoubleNames.{Key, Declaration, primitives, keys_of, AreDifferent, IsDistinct, IsDoubleName, double_at}
 use Rattle.drawing_grammar.specs.Sketch.{Sketch, Values}
 use Rattle.drawing_grammar.specs.Machine.{Verdict, Complete, Refused, verdict}
-use Rattle.drawing_grammar.specs.Written.{Written, values}
+use Rattle.drawing_grammar.specs.Written.{values}
 use Rattle.drawing_grammar.specs.Draws.{whole, IsRefused}
-use Rattle.drawing_grammar.specs.Drawing.{drawing_of_sketch, declared_by, IsText, Draws, IsWrong, grammar, header, name, double}
+use Rattle.drawing_grammar.specs.Drawing.{WrittenBy, drawing_of_sketch, declared_by, IsText, Draws, IsWrong, grammar, header, name, double}
 use Rattle.drawing_grammar.proofs.First.{first_one, different_front, not_different}
 use Rattle.drawing_grammar.proofs.Heads.{names_of_text}
 use Rattle.drawing_grammar.proofs.Places.{complete}
@@ -24,27 +26,27 @@ use Rattle.drawing_grammar.proofs.Whole.{chained_whole, refused_so}
 
 -- ---- one sketch
 
-completes : (ts : List Lexeme) (w : Written whole) → IsText ts w → verdict ts whole 0 ≡ Complete (values w)
-completes ts w text = complete ts whole 0 w chained_whole text.spelled text.within
+completes : (ts : List Lexeme) (w : WrittenBy ts) → IsText ts w → verdict ts (whole (edition_of ts)) 0 ≡ Complete (values w)
+completes ts w text = complete ts (whole (edition_of ts)) 0 w (chained_whole (edition_of ts)) text.spelled text.within
 
-one_complete : (v u : Values whole) → ◌≡◌ {A = Verdict whole} (Complete v) (Complete u) → v.0 ≡ u.0
-one_complete v u e = let k : v ≡ u = cc in ap (λ (w : Values whole). w.0) k
+one_complete : (e : Edition) (v u : Values (whole e)) → ◌≡◌ {A = Verdict (whole e)} (Complete v) (Complete u) → v.0 ≡ u.0
+one_complete e v u h = let k : v ≡ u = cc in ap (λ (w : Values (whole e)). w.0) k
 
-sketches : (ts : List Lexeme) (w u : Written whole) → IsText ts w → IsText ts u → (values w).0 ≡ (values u).0
-sketches ts w u a b = one_complete (values w) (values u) (sym (completes ts w a) ∙ completes ts u b)
+sketches : (ts : List Lexeme) (w u : WrittenBy ts) → IsText ts w → IsText ts u → (values w).0 ≡ (values u).0
+sketches ts w u a b = one_complete (edition_of ts) (values w) (values u) (sym (completes ts w a) ∙ completes ts u b)
 
-pub not_refused : (v : Values whole) (r : Refusal) → ◌≡◌ {A = Verdict whole} (Complete v) (Refused r) → ⊥
-not_refused v r e = cc
+pub not_refused : (e : Edition) (v : Values (whole e)) (r : Refusal) → ◌≡◌ {A = Verdict (whole e)} (Complete v) (Refused r) → ⊥
+not_refused e v r h = cc
 
-pub one_refused : (r s : Refusal) → ◌≡◌ {A = Verdict whole} (Refused r) (Refused s) → r ≡ s
-one_refused r s e = cc
+pub one_refused : (e : Edition) (r s : Refusal) → ◌≡◌ {A = Verdict (whole e)} (Refused r) (Refused s) → r ≡ s
+one_refused e r s h = cc
 
-written_not_refused : (ts : List Lexeme) (w : Written whole) (r : Refusal) → IsText ts w → IsRefused ts r → ⊥
-written_not_refused ts w r text wrong = not_refused (values w) r (sym (completes ts w text) ∙ refused_so ts r wrong)
+written_not_refused : (ts : List Lexeme) (w : WrittenBy ts) (r : Refusal) → IsText ts w → IsRefused ts r → ⊥
+written_not_refused ts w r text wrong = not_refused (edition_of ts) (values w) r (sym (completes ts w text) ∙ refused_so ts r wrong)
 
-same_names : (ts : List Lexeme) (w u : Written whole) → IsText ts w → IsText ts u → names w ≡ names u
+same_names : (ts : List Lexeme) (w u : WrittenBy ts) → IsText ts w → IsText ts u → names w ≡ names u
 same_names ts w u a b =
-    names_of_text w ∙ (ap (λ (xs : List Lexeme). names_from false xs) (a.spelled ∙ sym b.spelled) ∙ sym (names_of_text u))
+    names_of_text (edition_of ts) w ∙ (ap (λ (xs : List Lexeme). names_from false xs) (a.spelled ∙ sym b.spelled) ∙ sym (names_of_text (edition_of ts) u))
 
 pub one_refusal_by : (r s : Refusal) → r.kind ≡ s.kind → r.place ≡ s.place → r ≡ s
 one_refusal_by r s k p =
@@ -140,7 +142,7 @@ one_double ds r s a b =
 
 -- ---- one drawing, or one refusal
 
-judged_same : (ts : List Lexeme) (w u : Written whole) → IsText ts w → IsText ts u → judged (values w).0.header ≡ judged (values u).0.header
+judged_same : (ts : List Lexeme) (w u : WrittenBy ts) → IsText ts w → IsText ts u → judged (values w).0.header ≡ judged (values u).0.header
 judged_same ts w u a b = ap (λ (s : Sketch). judged s.header) (sketches ts w u a b)
 
 ok_err : (j : Result Header Refusal) (h : Header) (r : Refusal) → j ≡ Ok h → j ≡ Err r → ⊥
@@ -156,7 +158,7 @@ pub one_drawing : (ts : List Lexeme) (d e : tree.Drawing) → Draws ts d → Dra
 one_drawing ts d e a b = sym a.stands ∙ (ap drawing_of_sketch (sketches ts a.written b.written a.text b.text) ∙ b.stands)
 
 -- the names of the one are as good as those of the other, by one header
-good_same : (ts : List Lexeme) (w u : Written whole) (h k : Header) → IsText ts w → IsText ts u →
+good_same : (ts : List Lexeme) (w u : WrittenBy ts) (h k : Header) → IsText ts w → IsText ts u →
     judged (values w).0.header ≡ Ok h → judged (values u).0.header ≡ Ok k → AreGood h (names w) → AreGood k (names u)
 good_same ts w u h k a b e f good =
     let one : h ≡ k = ok_ok (judged (values u).0.header) h k (sym (judged_same ts w u a b) ∙ e) f in
@@ -164,7 +166,7 @@ good_same ts w u h k a b e f good =
     let G : Header → Type 0 = λ x. AreGood x (names u) in
     subst G one (subst F (same_names ts w u a b) good)
 
-bad_same : (ts : List Lexeme) (w u : Written whole) (h k : Header) (r : Refusal) → IsText ts w → IsText ts u →
+bad_same : (ts : List Lexeme) (w u : WrittenBy ts) (h k : Header) (r : Refusal) → IsText ts w → IsText ts u →
     judged (values w).0.header ≡ Ok h → judged (values u).0.header ≡ Ok k → IsBadName h (names w) r → IsBadName k (names u) r
 bad_same ts w u h k r a b e f bad =
     let one : h ≡ k = ok_ok (judged (values u).0.header) h k (sym (judged_same ts w u a b) ∙ e) f in
@@ -182,7 +184,7 @@ draws_is_not_wrong ts d r a (double w h text e good wrong) =
     not_distinct (declared_by (values w).0) r wrong (subst F (sketches ts a.written w a.text text) a.distinct)
 
 pub one_wrong : (ts : List Lexeme) (r s : Refusal) → IsWrong ts r → IsWrong ts s → r ≡ s
-one_wrong ts r s (grammar a) (grammar b) = one_refused r s (sym (refused_so ts r a) ∙ refused_so ts s b)
+one_wrong ts r s (grammar a) (grammar b) = one_refused (edition_of ts) r s (sym (refused_so ts r a) ∙ refused_so ts s b)
 one_wrong ts r s (grammar a) (header w text e) = absurd (written_not_refused ts w r text a)
 one_wrong ts r s (grammar a) (name w h text e bad) = absurd (written_not_refused ts w r text a)
 one_wrong ts r s (grammar a) (double w h text e good wrong) = absurd (written_not_refused ts w r text a)

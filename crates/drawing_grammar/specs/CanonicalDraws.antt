@@ -51,6 +51,7 @@ abbrev mutual
   IsShallowStatement (tree.Use u) = IsShallowUse u
   IsShallowStatement (tree.Wire w) = IsShallowWire w
   IsShallowStatement (tree.If test ss other place) = IsShallowTest test × AreShallow ss × IsShallowOtherwise other
+  IsShallowStatement (tree.For var first last ss place) = IsShallow first × IsShallow last × AreShallow ss
 
   pub AreShallow : tree.Statements → Type 0
   AreShallow tree.nil = ⊤
@@ -70,6 +71,7 @@ pub record IsShallowMacro (m : tree.Macro) : Type 0 where
   pub body : AreShallow m.body
 
 pub record IsShallowDrawing (d : tree.Drawing) : Type 0 where
+  pub consts : AllByRecursion IsShallowAssignment d.consts
   pub macros : AllByRecursion IsShallowMacro d.macros
   pub body : AreShallow d.body
 

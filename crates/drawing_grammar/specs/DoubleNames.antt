@@ -10,10 +10,10 @@ use Rattle.drawing_tree.specs.Tree.{Statement, Statements, nil, cons, Otherwise,
 use Rattle.drawing_tree.specs.WellFormed.{primitive_names}
 use Rattle.drawing_grammar.specs.declared.head.Head.{Head}
 use Rattle.drawing_grammar.specs.declared.declared.Kind.{Kind}
-use Rattle.drawing_grammar.specs.declared.declared.Kind.TheVariants.{Macro, Parameter, Formal, Label}
+use Rattle.drawing_grammar.specs.declared.declared.Kind.TheVariants.{Constant, Macro, Parameter, Formal, Label}
 
--- A name as a kind of thing in a scope. Each macro is a scope, and after all macros the drawing itself; macros are
--- all of scope 0.
+-- A name as a kind of thing in a scope. Each macro is a scope, and after all macros the drawing itself; constants
+-- and macros are all of scope 0.
 pub record Key : Type 0 where
   pub scope : ℕ
   pub kind : Kind
@@ -33,6 +33,11 @@ abbrev pub declaration : ℕ → Kind → List ℕ → Place → Declaration
 declaration scope kind name place = record { key = key scope kind name; place = place }
 
 -- Each stands at the place beside it; one without a place is left out.
+abbrev pub constants : List tree.Assignment → List Place → List Declaration
+constants [] places = []
+constants (c ∷ consts) [] = []
+constants (c ∷ consts) (place ∷ places) = declaration 0 Constant c.name place ∷ constants consts places
+
 abbrev pub parameters : ℕ → List tree.Assignment → List Place → List Declaration
 parameters scope [] places = []
 parameters scope (p ∷ params) [] = []
@@ -43,12 +48,13 @@ formals scope [] places = []
 formals scope (f ∷ fs) [] = []
 formals scope (f ∷ fs) (place ∷ places) = declaration scope Formal f.base place ∷ formals scope fs places
 
--- the labels of a body, those inside of IFs too
+-- the labels of a body, those inside of IFs and FORs too
 unfoldable mutual
   pub statement_labels : ℕ → Statement → List Declaration
   statement_labels scope (tree.Use u) = declaration scope Label u.label u.place ∷ []
   statement_labels scope (tree.Wire w) = []
   statement_labels scope (tree.If test behind_then behind_else place) = labels scope behind_then ++ else_labels scope behind_else
+  statement_labels scope (tree.For var first last body place) = labels scope body
 
   pub labels : ℕ → Statements → List Declaration
   labels scope nil = []
@@ -70,9 +76,10 @@ macros_declared scope [] heads = []
 macros_declared scope (m ∷ macros) [] = []
 macros_declared scope (m ∷ macros) (h ∷ heads) = (head_declared scope m h ++ labels scope m.body) ++ macros_declared (suc scope) macros heads
 
--- what a drawing of these macros and this body declares
-abbrev pub declared : List tree.Macro → List Head → Statements → List Declaration
-declared macros heads body = macros_declared 0 macros heads ++ labels (length macros) body
+-- what a drawing of these constants, these macros and this body declares
+abbrev pub declared : List tree.Assignment → List Place → List tree.Macro → List Head → Statements → List Declaration
+declared consts places macros heads body =
+    constants consts places ++ (macros_declared 0 macros heads ++ labels (length macros) body)
 
 -- the primitives, which each drawing has
 unfoldable pub primitives : List Key

@@ -1,7 +1,12 @@
--- The grammar of drawings: what each part of a text begins with, and what follows.
+-- The grammar of drawings: what each part of a text begins with, and what follows. One table has both versions
+-- of the language. Statements, macros and the text itself are parts of a version: a choice of such a part in the
+-- second version alone is marked so, and constants stand in a text of that version alone.
 use Rattle.std.specs.Prelude.{ℕ, suc, List, [], ◌∷◌, codes}
-use Rattle.drawing_grammar.specs.declared.terminal.Letter.{Letter}
-use Rattle.drawing_grammar.specs.declared.terminal.Letter.TheVariants.{By, Hazard}
+use Rattle.drawing_grammar.specs.declared.terminal.Keyword.{Keyword}
+use Rattle.drawing_grammar.specs.declared.terminal.Keyword.TheVariants.{By, Hazard, Const, To, Do}
+use Rattle.drawing_grammar.specs.declared.terminal.Keyword.TheVariants.{For as ForWord}
+use Rattle.drawing_grammar.specs.declared.edition.Edition.{Edition}
+use Rattle.drawing_grammar.specs.declared.edition.Edition.TheVariants.{First, Second}
 use Rattle.drawing_grammar.specs.declared.terminal.Terminal.{Terminal}
 use Rattle.drawing_grammar.specs.declared.terminal.Terminal.TheVariants.{Scald, Clock, Wire, Pskew, Cskew, Drawing, Case, If, Then, Else, End, Zero, One, Word, Number, Name, Arrow, Semicolon, Colon, Comma, OpenParenthesis, CloseParenthesis, Less, Greater, OpenBracket, CloseBracket, OpenBrace, CloseBrace, Equals, Plus, Minus, Star, Slash, Ampersand, Exclamation, EndOfText}
 use Rattle.drawing_grammar.specs.declared.terminal.Terminal.TheVariants.{Macro as MacroWord}
@@ -29,9 +34,10 @@ pub data Part : Type 0 where
   Hold : Part
   MoreConns : Part
   Outputs : Part
-  Statement : Part
-  Otherwise : Part
-  Macro : Part
+  Constant : Part
+  Statement : Edition → Part
+  Otherwise : Edition → Part
+  Macro : Edition → Part
   Index : Part
   Entry : Part
   MoreEntries : Part
@@ -39,7 +45,7 @@ pub data Part : Type 0 where
   WireBounds : Part
   PrecisionSkew : Part
   ClockSkew : Part
-  Text : Part
+  Text : Edition → Part
 
 -- Parts of a text that begin as the first of their members does.
 pub data Group : Type 0 where
@@ -53,21 +59,26 @@ pub data Group : Type 0 where
   Formals : Group
   Assigns : Group
   Entries : Group
-  Statements : Group
-  Macros : Group
+  Constants : Group
+  Statements : Edition → Group
+  Macros : Edition → Group
   Cases : Group
 
--- the letters that are words of their own
-abbrev pub letter_text : Letter → List ℕ
-letter_text By = codes "x"
-letter_text Hazard = codes "H"
+-- the words that stand for themselves where they are asked for, and are not reserved
+abbrev pub keyword_text : Keyword → List ℕ
+keyword_text By = codes "x"
+keyword_text Hazard = codes "H"
+keyword_text Const = codes "CONST"
+keyword_text ForWord = codes "FOR"
+keyword_text To = codes "TO"
+keyword_text Do = codes "DO"
 
--- What has to be written: a token that stands for itself, one whose text counts, a word of one letter, an
--- expression of its own, or a part or a group where so many parentheses and minus signs, or IFs, are open.
+-- What has to be written: a token that stands for itself, one whose text counts, a keyword, an expression of its
+-- own, or a part or a group where so many parentheses and minus signs, or IFs and FORs, are open.
 pub data Need : Type 0 where
   mark : Terminal → Need
   item : Terminal → Need
-  letter : Letter → Need
+  keyword : Keyword → Need
   fresh : Need
   part : Part → ℕ → Need
   group : Group → ℕ → Need
@@ -108,11 +119,13 @@ pub data Choice : Part → Type 0 where
   hold : Choice Hold
   next_conn : Choice MoreConns
   outputs : Choice Outputs
-  use_ : Choice Statement
-  wire : Choice Statement
-  if_ : Choice Statement
-  else_ : Choice Otherwise
-  macro : Choice Macro
+  constant : Choice Constant
+  use_ : {v : Edition} → Choice (Statement v)
+  wire : {v : Edition} → Choice (Statement v)
+  if_ : {v : Edition} → Choice (Statement v)
+  for_ : Choice (Statement Second)
+  else_ : {v : Edition} → Choice (Otherwise v)
+  macro : {v : Edition} → Choice (Macro v)
   index : Choice Index
   entry : Choice Entry
   next_entry : Choice MoreEntries
@@ -120,7 +133,7 @@ pub data Choice : Part → Type 0 where
   wire_bounds : Choice WireBounds
   precision_skew : Choice PrecisionSkew
   clock_skew : Choice ClockSkew
-  text : Choice Text
+  text : {v : Edition} → Choice (Text v)
 
 -- the token that a choice begins with
 abbrev pub opening : {p : Part} → Choice p → Terminal
@@ -158,9 +171,11 @@ opening next_term = Ampersand
 opening hold = Exclamation
 opening next_conn = Comma
 opening outputs = Arrow
+opening constant = Word
 opening use_ = Word
 opening wire = Wire
 opening if_ = If
+opening for_ = Word
 opening else_ = Else
 opening macro = MacroWord
 opening index = Less
@@ -179,6 +194,17 @@ own_sum rest = fresh ∷ group Sum 0 ∷ rest
 -- two numbers
 abbrev pub bounds : List Need → List Need
 bounds rest = item Number ∷ mark Colon ∷ item Number ∷ mark Semicolon ∷ rest
+
+-- the constants of a text, which version 2 has, before these
+abbrev pub constants : Edition → List Need → List Need
+constants First rest = rest
+constants Second rest = group Constants 0 ∷ rest
+
+-- a text from its macros on
+abbrev pub from_macros : Edition → List Need
+from_macros v =
+    group (Macros v) 0 ∷ mark Drawing ∷ item Word ∷ mark Semicolon ∷ group (Statements v) 0 ∷ mark End
+    ∷ mark Semicolon ∷ group Cases 0 ∷ mark EndOfText ∷ []
 
 -- What follows that token, where n are open.
 abbrev pub following : {p : Part} → Choice p → ℕ → List Need
@@ -213,15 +239,21 @@ following zero_atom n = []
 following one_atom n = []
 following named_atom n = part Range 0 ∷ []
 following next_term n = part Term 0 ∷ part MoreTerms 0 ∷ []
-following hold n = letter Hazard ∷ []
+following hold n = keyword Hazard ∷ []
 following next_conn n = group Conn 0 ∷ part MoreConns 0 ∷ []
 following outputs n = mark OpenParenthesis ∷ group SomeConns 0 ∷ mark CloseParenthesis ∷ []
+following constant n = item Word ∷ mark Equals ∷ own_sum (mark Semicolon ∷ [])
 following use_ n = mark Colon ∷ item Word ∷ part Delay 0 ∷ part Parameters 0 ∷ mark OpenParenthesis ∷ group Conns 0 ∷ mark CloseParenthesis ∷ part Outputs 0 ∷ mark Semicolon ∷ []
 following wire n = item Name ∷ part Range 0 ∷ own_sum (mark Colon ∷ own_sum (mark Semicolon ∷ []))
-following if_ n = fresh ∷ group Expr 0 ∷ mark Then ∷ group Statements (suc n) ∷ part Otherwise (suc n) ∷ mark End ∷ mark Semicolon ∷ []
-following else_ n = group Statements n ∷ []
-following macro n = item Word ∷ part Parameters 0 ∷ mark OpenParenthesis ∷ group Formals
-    0 ∷ mark CloseParenthesis ∷ part FormalOutputs 0 ∷ mark Semicolon ∷ group Statements 0 ∷ mark End ∷ mark Semicolon ∷ []
+following (if_ {v = v}) n =
+    fresh ∷ group Expr 0 ∷ mark Then ∷ group (Statements v) (suc n) ∷ part (Otherwise v) (suc n)
+    ∷ mark End ∷ mark Semicolon ∷ []
+following for_ n =
+    item Word ∷ mark Equals ∷ own_sum (keyword To ∷ own_sum (keyword Do
+    ∷ group (Statements Second) (suc n) ∷ mark End ∷ mark Semicolon ∷ []))
+following (else_ {v = v}) n = group (Statements v) n ∷ []
+following (macro {v = v}) n = item Word ∷ part Parameters 0 ∷ mark OpenParenthesis ∷ group Formals
+    0 ∷ mark CloseParenthesis ∷ part FormalOutputs 0 ∷ mark Semicolon ∷ group (Statements v) 0 ∷ mark End ∷ mark Semicolon ∷ []
 following index n = item Number ∷ mark Greater ∷ []
 following entry n = part Index 0 ∷ mark Equals ∷ item Number ∷ []
 following next_entry n = part Entry 0 ∷ part MoreEntries 0 ∷ []
@@ -229,10 +261,9 @@ following case_ n = group Entries 0 ∷ mark Semicolon ∷ []
 following wire_bounds n = bounds []
 following precision_skew n = bounds []
 following clock_skew n = bounds []
-following text n =
-    item Number ∷ mark Semicolon ∷ item Clock ∷ item Number ∷ letter By ∷ item Number ∷ mark Semicolon
-    ∷ part WireBounds 0 ∷ part PrecisionSkew 0 ∷ part ClockSkew 0 ∷ group Macros 0
-    ∷ mark Drawing ∷ item Word ∷ mark Semicolon ∷ group Statements 0 ∷ mark End ∷ mark Semicolon ∷ group Cases 0 ∷ mark EndOfText ∷ []
+following (text {v = v}) n =
+    item Number ∷ mark Semicolon ∷ item Clock ∷ item Number ∷ keyword By ∷ item Number ∷ mark Semicolon
+    ∷ part WireBounds 0 ∷ part PrecisionSkew 0 ∷ part ClockSkew 0 ∷ constants v (from_macros v)
 
 -- what a group begins with
 abbrev pub lead : Group → Part
@@ -246,8 +277,9 @@ lead SomeFormals = Formal
 lead Formals = Formal
 lead Assigns = Assign
 lead Entries = Entry
-lead Statements = Statement
-lead Macros = Macro
+lead Constants = Constant
+lead (Statements v) = Statement v
+lead (Macros v) = Macro v
 lead Cases = CaseStatement
 
 -- and what follows it
@@ -262,11 +294,12 @@ others SomeFormals n = part MoreFormals n ∷ []
 others Formals n = part MoreFormals n ∷ []
 others Assigns n = part MoreAssigns n ∷ []
 others Entries n = part MoreEntries n ∷ []
-others Statements n = group Statements n ∷ []
-others Macros n = group Macros n ∷ []
+others Constants n = group Constants n ∷ []
+others (Statements v) n = group (Statements v) n ∷ []
+others (Macros v) n = group (Macros v) n ∷ []
 others Cases n = group Cases n ∷ []
 
--- What a choice costs: it opens one more parenthesis, minus sign or IF, it is a binary operator, or nothing.
+-- What a choice costs: it opens one more parenthesis, minus sign, IF or FOR, it is a binary operator, or nothing.
 pub data Cost : Type 0 where
   plain : Cost
   opens : Cost
@@ -307,9 +340,11 @@ cost next_term = plain
 cost hold = plain
 cost next_conn = plain
 cost outputs = plain
+cost constant = plain
 cost use_ = plain
 cost wire = plain
 cost if_ = opens
+cost for_ = opens
 cost else_ = plain
 cost macro = plain
 cost index = plain

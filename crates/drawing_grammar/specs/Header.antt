@@ -11,7 +11,7 @@ use Rattle.drawing_grammar.specs.declared.header.WrittenHeader.{WrittenHeader}
 
 -- the number of the language
 abbrev pub is_version : ℤ → Bool
-is_version n = int_le (pos 1) n && int_le n (pos 1)
+is_version n = int_le (pos 1) n && int_le n (pos 2)
 
 -- units and ticks are not 0, and the period is 2 to 4,096 ticks
 abbrev pub is_clock : ℤ → ℤ → Bool

@@ -1,4 +1,5 @@
 pub mod Lexeme
+pub mod Edition
 pub mod Grammar
 pub mod Sketch
 pub mod Written

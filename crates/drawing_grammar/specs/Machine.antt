@@ -1,5 +1,6 @@
--- What has still to come, token by token.
-use Rattle.std.specs.Prelude.{◌≡◌, ℕ, Bool, ◌&&◌, ◌==◌, nat_le, List, [], ◌∷◌, ◌++◌, Option, Some, None, Result, Ok, Err, ⊤, if◌then◌else◌}
+-- What has still to come, token by token. A step looks at one token, and where a statement begins with the word
+-- FOR at the next one too.
+use Rattle.std.specs.Prelude.{◌≡◌, ℕ, Bool, false, not, ◌&&◌, ◌==◌, nat_le, List, [], ◌∷◌, ◌++◌, Option, Some, None, Result, Ok, Err, ⊤, if◌then◌else◌}
 use Rattle.std.specs.Str.{bytes_eq}
 use Rattle.scald_base.specs.declared.refusal.Place.{Place}
 use Rattle.scald_base.specs.declared.refusal.Refusal.{Refusal}
@@ -9,8 +10,11 @@ use Rattle.scald_base.specs.declared.refusal.Stop.{Stop}
 use Rattle.scald_base.specs.declared.refusal.Stop.TheVariants as stop
 use Rattle.drawing_grammar.specs.declared.terminal.Terminal.{Terminal}
 use Rattle.drawing_grammar.specs.declared.terminal.Terminal.TheVariants as is
+use Rattle.drawing_grammar.specs.declared.terminal.Keyword.{Keyword}
+use Rattle.drawing_grammar.specs.declared.terminal.Keyword.TheVariants.{Const, For}
+use Rattle.drawing_grammar.specs.declared.edition.Edition.TheVariants.{Second}
 use Rattle.drawing_grammar.specs.Lexeme.{Lexeme, terminal}
-use Rattle.drawing_grammar.specs.Grammar.{Part, Group, letter_text, Need, mark, item, letter, fresh, part, group, Choice, following, lead, others, cost}
+use Rattle.drawing_grammar.specs.Grammar.{Part, Group, keyword_text, Need, mark, item, keyword, fresh, part, group, Choice, following, lead, others, cost}
 use Rattle.drawing_grammar.specs.Grammar as g
 use Rattle.drawing_grammar.specs.Sketch.{Meaning, GroupMeaning, Values, front, behind, choice_value, absent_value, group_value, absent_group}
 use Rattle.drawing_grammar.specs.Written.{weight, counted, limit}
@@ -58,7 +62,23 @@ code is.EndOfText = 36
 abbrev pub same : Terminal → Terminal → Bool
 same k l = code k == code l
 
--- the choice of a part that begins with it
+-- ---- what stands first
+
+-- the token is this keyword
+abbrev pub is_keyword : Keyword → Lexeme → Bool
+is_keyword x t = same (terminal t) is.Word && bytes_eq t.text (keyword_text x)
+
+-- a token follows, and it is no colon
+abbrev pub no_colon : List Lexeme → Bool
+no_colon [] = false
+no_colon (t ∷ ts) = not (same (terminal t) is.Colon)
+
+-- FOR, and a token behind it that is no colon
+abbrev pub is_loop : Lexeme → List Lexeme → Bool
+is_loop t ts = is_keyword For t && no_colon ts
+
+-- The choice of a part that may begin with it. A statement that begins with a word may be a FOR as well, in version 2,
+-- and a constant begins with one word alone.
 abbrev pub choice : (p : Part) → Terminal → Option (Choice p)
 choice g.Unary is.Number = Some g.number
 choice g.Unary is.Word = Some g.parameter
@@ -94,11 +114,12 @@ choice g.MoreTerms is.Ampersand = Some g.next_term
 choice g.Hold is.Exclamation = Some g.hold
 choice g.MoreConns is.Comma = Some g.next_conn
 choice g.Outputs is.Arrow = Some g.outputs
-choice g.Statement is.Word = Some g.use_
-choice g.Statement is.Wire = Some g.wire
-choice g.Statement is.If = Some g.if_
-choice g.Otherwise is.Else = Some g.else_
-choice g.Macro is.Macro = Some g.macro
+choice g.Constant is.Word = Some g.constant
+choice (g.Statement v) is.Word = Some g.use_
+choice (g.Statement v) is.Wire = Some g.wire
+choice (g.Statement v) is.If = Some g.if_
+choice (g.Otherwise v) is.Else = Some g.else_
+choice (g.Macro v) is.Macro = Some g.macro
 choice g.Index is.Less = Some g.index
 choice g.Entry is.Name = Some g.entry
 choice g.MoreEntries is.Comma = Some g.next_entry
@@ -106,8 +127,15 @@ choice g.CaseStatement is.Case = Some g.case_
 choice g.WireBounds is.Wire = Some g.wire_bounds
 choice g.PrecisionSkew is.Pskew = Some g.precision_skew
 choice g.ClockSkew is.Cskew = Some g.clock_skew
-choice g.Text is.Scald = Some g.text
+choice (g.Text v) is.Scald = Some g.text
 choice _ _ = None
+
+-- The choice of a part that begins with this token, before these. Where a constant may stand, the word CONST begins
+-- one; where a statement may stand, the word FOR begins a FOR, unless a colon follows and it is a label.
+abbrev pub choice_at : (p : Part) → Lexeme → List Lexeme → Option (Choice p)
+choice_at g.Constant t ts = if is_keyword Const t then Some g.constant else None
+choice_at (g.Statement Second) t ts = if is_loop t ts then Some g.for_ else choice (g.Statement Second) (terminal t)
+choice_at p t ts = choice p (terminal t)
 
 -- What a token does to what is needed: other needs, of which the token has this weight, or nothing that is needed
 -- begins with it.
@@ -137,14 +165,15 @@ group_entered h n rest a t (Some c) absent skip =
 group_entered h n rest a t None (Some v) skip = passed skip (λ w. (v, w))
 group_entered h n rest a t None None skip = Stuck
 
-abbrev pub step : (needs : List Need) → ℕ → Lexeme → Step needs
-step [] a t = Stuck
-step (mark l ∷ rest) a t = if same (terminal t) l then Next rest a 0 (λ v. v) else Stuck
-step (item l ∷ rest) a t = if same (terminal t) l then Next rest a 0 (λ v. (t, v)) else Stuck
-step (letter x ∷ rest) a t = if same (terminal t) is.Word && bytes_eq t.text (letter_text x) then Next rest a 0 (λ v. v) else Stuck
-step (fresh ∷ rest) a t = passed (step rest 0 t) (λ v. v)
-step (part p n ∷ rest) a t = entered p n rest a t (choice p (terminal t)) (absent_value p) (step rest a t)
-step (group h n ∷ rest) a t = group_entered h n rest a t (choice (lead h) (terminal t)) (absent_group h) (step rest a t)
+-- of a token, before these
+abbrev pub step : (needs : List Need) → ℕ → Lexeme → List Lexeme → Step needs
+step [] a t ts = Stuck
+step (mark l ∷ rest) a t ts = if same (terminal t) l then Next rest a 0 (λ v. v) else Stuck
+step (item l ∷ rest) a t ts = if same (terminal t) l then Next rest a 0 (λ v. (t, v)) else Stuck
+step (keyword x ∷ rest) a t ts = if is_keyword x t then Next rest a 0 (λ v. v) else Stuck
+step (fresh ∷ rest) a t ts = passed (step rest 0 t ts) (λ v. v)
+step (part p n ∷ rest) a t ts = entered p n rest a t (choice_at p t ts) (absent_value p) (step rest a t ts)
+step (group h n ∷ rest) a t ts = group_entered h n rest a t (choice_at (lead h) t ts) (absent_group h) (step rest a t ts)
 
 -- all that is needed has come, or the text is refused
 pub data Verdict (needs : List Need) : Type 0 where
@@ -174,7 +203,7 @@ abbrev pub finish : (needs : List Need) → Verdict needs
 finish [] = Complete tt
 finish (mark l ∷ rest) = Refused (refusal Syntax nowhere)
 finish (item l ∷ rest) = Refused (refusal Syntax nowhere)
-finish (letter x ∷ rest) = Refused (refusal Syntax nowhere)
+finish (keyword x ∷ rest) = Refused (refusal Syntax nowhere)
 finish (fresh ∷ rest) = given (λ v. v) (finish rest)
 finish (part p n ∷ rest) = finish_part (absent_value p) (finish rest)
 finish (group h n ∷ rest) = finish_group (absent_group h) (finish rest)
@@ -186,7 +215,7 @@ go_on Stuck next place = Refused (refusal Syntax place)
 -- What the tokens give of what is needed, where a binary operators of the expression came before.
 unfoldable pub verdict : List Lexeme → (needs : List Need) → ℕ → Verdict needs
 verdict [] needs a = finish needs
-verdict (t ∷ ts) needs a = go_on (step needs a t) (verdict ts) t.place
+verdict (t ∷ ts) needs a = go_on (step needs a t ts) (verdict ts) t.place
 
 -- The tokens before a step give what those after it give, and this of them.
 pub record Moves {needs later : List Need} (before : Verdict needs) (after : Verdict later) (f : Values later → Values needs) : Type 0 where

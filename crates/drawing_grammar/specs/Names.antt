@@ -18,7 +18,7 @@ use Rattle.drawing_grammar.specs.Lexeme.{Lexeme, terminal}
 use Rattle.drawing_grammar.specs.Grammar.{Need, Choice}
 use Rattle.drawing_grammar.specs.Grammar as g
 use Rattle.drawing_grammar.specs.Sketch.{unquoted}
-use Rattle.drawing_grammar.specs.Written.{Written, nothing, marked, token, lettered, begun, chosen, left_out, grouped, lacking}
+use Rattle.drawing_grammar.specs.Written.{Written, nothing, marked, token, worded, begun, chosen, left_out, grouped, lacking}
 
 -- a name as it is written, without its quotes, and whether it is a formal's
 pub record Naming : Type 0 where
@@ -74,9 +74,11 @@ choice_names g.next_term t = []
 choice_names g.hold t = []
 choice_names g.next_conn t = []
 choice_names g.outputs t = []
+choice_names g.constant t = []
 choice_names g.use_ t = []
 choice_names g.wire t = []
 choice_names g.if_ t = []
+choice_names g.for_ t = []
 choice_names g.else_ t = []
 choice_names g.macro t = []
 choice_names g.index t = []
@@ -97,7 +99,7 @@ abbrev pub names : {needs : List Need} → Written needs → List Naming
 names nothing = []
 names (marked t e w) = names w
 names (token {l = l} t e w) = item_names l t ++ names w
-names (lettered t e f w) = names w
+names (worded t e f w) = names w
 names (begun w) = names w
 names (chosen c t e w) = choice_names c t ++ names w
 names (left_out v e w) = names w

@@ -16,8 +16,10 @@ use Rattle.drawing_grammar.specs.declared.header.NumberPair.{NumberPair}
 use Rattle.drawing_grammar.specs.declared.header.WrittenHeader.{WrittenHeader}
 use Rattle.drawing_grammar.specs.Header.{natural}
 use Rattle.drawing_grammar.specs.Lexeme.{Lexeme, number_of}
-use Rattle.drawing_grammar.specs.Grammar.{Part, Group, Need, mark, item, letter, fresh, part, group, Choice, following, others, lead}
+use Rattle.drawing_grammar.specs.Grammar.{Part, Group, Need, mark, item, keyword, fresh, part, group, Choice, constants, from_macros, following, others, lead}
 use Rattle.drawing_grammar.specs.Grammar as g
+use Rattle.drawing_grammar.specs.declared.edition.Edition.{Edition}
+use Rattle.drawing_grammar.specs.declared.edition.Edition.TheVariants.{First, Second}
 
 -- ---- what tokens stand for
 
@@ -65,6 +67,28 @@ pub record Delays : Type 0 where
 abbrev pub no_delays : Delays
 no_delays = record { delay = None; fall = None }
 
+-- a constant, with the place of its word CONST and that of its name
+pub record PlacedConstant : Type 0 where
+  pub constant : tree.Assignment
+  pub place : Place
+  pub name_place : Place
+
+-- constants, with these places beside them
+pub record PlacedConstants : Type 0 where
+  pub constants : List tree.Assignment
+  pub places : List Place
+  pub name_places : List Place
+
+abbrev pub no_constants : PlacedConstants
+no_constants = record { constants = []; places = []; name_places = [] }
+
+abbrev pub with_constant : PlacedConstant → PlacedConstants → PlacedConstants
+with_constant first more = record {
+  constants = first.constant ∷ more.constants;
+  places = first.place ∷ more.places;
+  name_places = first.name_place ∷ more.name_places;
+}
+
 -- a macro, and where its head names what it declares
 pub record HeadedMacro : Type 0 where
   pub macro : tree.Macro
@@ -77,6 +101,7 @@ pub record HeadedMacros : Type 0 where
 -- A text's drawing, before its numbers and names are judged.
 pub record Sketch : Type 0 where
   pub header : WrittenHeader
+  pub consts : PlacedConstants
   pub macros : HeadedMacros
   pub name : List ℕ
   pub body : tree.Statements
@@ -105,9 +130,10 @@ Meaning g.MoreTerms = List tree.Term
 Meaning g.Hold = Bool
 Meaning g.MoreConns = List tree.Connection
 Meaning g.Outputs = List tree.Connection
-Meaning g.Statement = tree.Statement
-Meaning g.Otherwise = tree.Otherwise
-Meaning g.Macro = HeadedMacro
+Meaning g.Constant = PlacedConstant
+Meaning (g.Statement v) = tree.Statement
+Meaning (g.Otherwise v) = tree.Otherwise
+Meaning (g.Macro v) = HeadedMacro
 Meaning g.Index = ℕ
 Meaning g.Entry = CaseEntry
 Meaning g.MoreEntries = List CaseEntry
@@ -115,7 +141,7 @@ Meaning g.CaseStatement = CaseStmt
 Meaning g.WireBounds = Option NumberPair
 Meaning g.PrecisionSkew = Option NumberPair
 Meaning g.ClockSkew = Option NumberPair
-Meaning g.Text = Sketch
+Meaning (g.Text v) = Sketch
 
 abbrev pub GroupMeaning : Group → Type 0
 GroupMeaning g.Product = Expression
@@ -128,8 +154,9 @@ GroupMeaning g.SomeFormals = PlacedList tree.Formal
 GroupMeaning g.Formals = PlacedList tree.Formal
 GroupMeaning g.Assigns = PlacedList tree.Assignment
 GroupMeaning g.Entries = List CaseEntry
-GroupMeaning g.Statements = tree.Statements
-GroupMeaning g.Macros = HeadedMacros
+GroupMeaning g.Constants = PlacedConstants
+GroupMeaning (g.Statements v) = tree.Statements
+GroupMeaning (g.Macros v) = HeadedMacros
 GroupMeaning g.Cases = List CaseStmt
 
 -- what all that is needed stands for, one after another
@@ -137,7 +164,7 @@ abbrev pub Values : List Need → Type 0
 Values [] = Unit {0}
 Values (mark l ∷ rest) = Values rest
 Values (item l ∷ rest) = Lexeme × Values rest
-Values (letter w ∷ rest) = Values rest
+Values (keyword w ∷ rest) = Values rest
 Values (fresh ∷ rest) = Values rest
 Values (part p n ∷ rest) = Meaning p × Values rest
 Values (group g n ∷ rest) = GroupMeaning g × Values rest
@@ -147,7 +174,7 @@ abbrev pub front : (needs rest : List Need) → Values (needs ++ rest) → Value
 front [] rest v = tt
 front (mark l ∷ needs) rest v = front needs rest v
 front (item l ∷ needs) rest v = (v.0, front needs rest v.1)
-front (letter w ∷ needs) rest v = front needs rest v
+front (keyword w ∷ needs) rest v = front needs rest v
 front (fresh ∷ needs) rest v = front needs rest v
 front (part p n ∷ needs) rest v = (v.0, front needs rest v.1)
 front (group g n ∷ needs) rest v = (v.0, front needs rest v.1)
@@ -156,10 +183,19 @@ abbrev pub behind : (needs rest : List Need) → Values (needs ++ rest) → Valu
 behind [] rest v = v
 behind (mark l ∷ needs) rest v = behind needs rest v
 behind (item l ∷ needs) rest v = behind needs rest v.1
-behind (letter w ∷ needs) rest v = behind needs rest v
+behind (keyword w ∷ needs) rest v = behind needs rest v
 behind (fresh ∷ needs) rest v = behind needs rest v
 behind (part p n ∷ needs) rest v = behind needs rest v.1
 behind (group g n ∷ needs) rest v = behind needs rest v.1
+
+-- what a text's constants stand for, and what follows them
+abbrev pub constants_of : (v : Edition) (rest : List Need) → Values (constants v rest) → PlacedConstants
+constants_of First rest x = no_constants
+constants_of Second rest x = x.0
+
+abbrev pub behind_constants : (v : Edition) (rest : List Need) → Values (constants v rest) → Values rest
+behind_constants First rest x = x
+behind_constants Second rest x = x.1
 
 -- ---- the trees
 
@@ -192,6 +228,13 @@ headed_macro name params ins outs body = record {
 
 abbrev pub with_macro : HeadedMacro → HeadedMacros → HeadedMacros
 with_macro first more = record { macros = first.macro ∷ more.macros; heads = first.head ∷ more.heads }
+
+abbrev pub placed_constant : Lexeme → Lexeme → Expression → PlacedConstant
+placed_constant begin name value = record {
+  constant = record { name = name.text; value = value };
+  place = begin.place;
+  name_place = name.place;
+}
 
 -- What a choice stands for: its first token, and the values of what follows.
 abbrev pub choice_value : {p : Part} (c : Choice p) (n : ℕ) → Lexeme → Values (following c n) → Meaning p
@@ -229,9 +272,11 @@ choice_value g.next_term n t v = v.0.item ∷ v.1.0
 choice_value g.hold n t v = true
 choice_value g.next_conn n t v = v.0 ∷ v.1.0
 choice_value g.outputs n t v = v.0
+choice_value g.constant n t v = placed_constant t v.0 v.1.0
 choice_value g.use_ n t v = tree.Use (record { label = t.text; kind = v.0.text; delay = v.1.0.delay; fall = v.1.0.fall; params = v.1.1.0.items; ins = v.1.1.1.0; outs = v.1.1.1.1.0; place = t.place })
 choice_value g.wire n t v = tree.Wire (record { name = signal_of v.0; range = v.1.0; min = v.1.1.0; max = v.1.1.1.0; place = t.place })
 choice_value g.if_ n t v = tree.If v.0 v.1.0 v.1.1.0 t.place
+choice_value g.for_ n t v = tree.For v.0.text v.1.0 v.1.1.0 v.1.1.1.0 t.place
 choice_value g.else_ n t v = tree.else_ v.0
 choice_value g.macro n t v = headed_macro v.0 v.1.0 v.1.1.0 v.1.1.1.0 v.1.1.1.1.0
 choice_value g.index n t v = capped v.0
@@ -241,20 +286,24 @@ choice_value g.case_ n t v = record { entries = v.0; place = t.place }
 choice_value g.wire_bounds n t v = Some (number_pair t v.0 v.1.0)
 choice_value g.precision_skew n t v = Some (number_pair t v.0 v.1.0)
 choice_value g.clock_skew n t v = Some (number_pair t v.0 v.1.0)
-choice_value g.text n t v = record {
-  header = record {
-    version = number_of v.0;
-    place = t.place;
-    clock = number_pair v.1.0 v.1.1.0 v.1.1.1.0;
-    wire = v.1.1.1.1.0;
-    pskew = v.1.1.1.1.1.0;
-    cskew = v.1.1.1.1.1.1.0;
-  };
-  macros = v.1.1.1.1.1.1.1.0;
-  name = v.1.1.1.1.1.1.1.1.0.text;
-  body = v.1.1.1.1.1.1.1.1.1.0;
-  cases = v.1.1.1.1.1.1.1.1.1.1.0;
-}
+choice_value (g.text {v = e}) n t v =
+    let consts = constants_of e (from_macros e) v.1.1.1.1.1.1.1 in
+    let behind_consts = behind_constants e (from_macros e) v.1.1.1.1.1.1.1 in
+    record {
+      header = record {
+        version = number_of v.0;
+        place = t.place;
+        clock = number_pair v.1.0 v.1.1.0 v.1.1.1.0;
+        wire = v.1.1.1.1.0;
+        pskew = v.1.1.1.1.1.0;
+        cskew = v.1.1.1.1.1.1.0;
+      };
+      consts = consts;
+      macros = behind_consts.0;
+      name = behind_consts.1.0.text;
+      body = behind_consts.1.1.0;
+      cases = behind_consts.1.1.1.0;
+    }
 
 -- What a part stands for where it is left out; a part without such a value is never left out.
 abbrev pub absent_value : (p : Part) → Option (Meaning p)
@@ -279,9 +328,10 @@ absent_value g.MoreTerms = Some []
 absent_value g.Hold = Some false
 absent_value g.MoreConns = Some []
 absent_value g.Outputs = Some []
-absent_value g.Statement = None
-absent_value g.Otherwise = Some tree.no_else
-absent_value g.Macro = None
+absent_value g.Constant = None
+absent_value (g.Statement v) = None
+absent_value (g.Otherwise v) = Some tree.no_else
+absent_value (g.Macro v) = None
 absent_value g.Index = Some 0
 absent_value g.Entry = None
 absent_value g.MoreEntries = Some []
@@ -289,7 +339,7 @@ absent_value g.CaseStatement = None
 absent_value g.WireBounds = Some None
 absent_value g.PrecisionSkew = Some None
 absent_value g.ClockSkew = Some None
-absent_value g.Text = None
+absent_value (g.Text v) = None
 
 abbrev pub group_value : (g : Group) (n : ℕ) → Meaning (lead g) → Values (others g n) → GroupMeaning g
 group_value g.Product n first v = v.0 first
@@ -302,8 +352,9 @@ group_value g.SomeFormals n first v = with_item first v.0
 group_value g.Formals n first v = with_item first v.0
 group_value g.Assigns n first v = with_item first v.0
 group_value g.Entries n first v = first ∷ v.0
-group_value g.Statements n first v = tree.cons first v.0
-group_value g.Macros n first v = with_macro first v.0
+group_value g.Constants n first v = with_constant first v.0
+group_value (g.Statements e) n first v = tree.cons first v.0
+group_value (g.Macros e) n first v = with_macro first v.0
 group_value g.Cases n first v = first ∷ v.0
 
 -- What a group stands for where it is left out; a group without such a value is never left out.
@@ -318,6 +369,7 @@ absent_group g.SomeFormals = None
 absent_group g.Formals = Some no_items
 absent_group g.Assigns = None
 absent_group g.Entries = None
-absent_group g.Statements = Some tree.nil
-absent_group g.Macros = Some (record { macros = []; heads = [] })
+absent_group g.Constants = Some no_constants
+absent_group (g.Statements v) = Some tree.nil
+absent_group (g.Macros v) = Some (record { macros = []; heads = [] })
 absent_group g.Cases = Some []

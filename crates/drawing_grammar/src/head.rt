@@ -1,9 +1,6 @@
 //! The places of what a macro's head declares.
 
-use scald_base::{List, Place};
-
-/// Places of tokens.
-pub type Places = List<Place>;
+use drawing_tree::Places;
 
 /// Where a macro's head names its parameters, its inputs and its outputs.
 #[derive(Drop, PartialEq, Eq, Debug)]

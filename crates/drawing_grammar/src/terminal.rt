@@ -1,7 +1,7 @@
 //! What the grammar distinguishes among tokens.
 
 ghost use Rattle.std.specs.Prelude.{◌≡◌};
-ghost use Rattle.drawing_grammar.specs.Grammar.{letter_text};
+ghost use Rattle.drawing_grammar.specs.Grammar.{keyword_text};
 ghost use Rattle.drawing_grammar.specs.Lexeme.{is_first, begins_reserved, word_terminal, symbol_terminal};
 
 use scald_base::same_bytes;
@@ -52,23 +52,35 @@ pub enum Terminal {
     EndOfText,
 }
 
-/// A letter that is a word of its own.
+/// A word that is not reserved, and stands for itself where the grammar asks for it.
 #[derive(Clone, Copy, PartialEq, Eq, Debug)]
-pub enum Letter {
+pub enum Keyword {
     /// `x`, between two numbers.
     By,
     /// `H`, after an exclamation mark.
     Hazard,
+    /// `CONST`, first in a constant.
+    Const,
+    /// `FOR`, first in a statement.
+    For,
+    /// `TO`, between two sums.
+    To,
+    /// `DO`, after two sums.
+    Do,
 }
 
-impl Letter {
+impl Keyword {
     /// Its text.
     pub fn text(self) -> &'static [u8]
-        ensures { result.now ≡ letter_text self }
+        ensures { result.now ≡ keyword_text self }
     {
         match self {
-            Letter::By => b"x",
-            Letter::Hazard => b"H",
+            Keyword::By => b"x",
+            Keyword::Hazard => b"H",
+            Keyword::Const => b"CONST",
+            Keyword::For => b"FOR",
+            Keyword::To => b"TO",
+            Keyword::Do => b"DO",
         }
     }
 }
