@@ -8,6 +8,8 @@ use Rattle.scald_base.specs.declared.refusal.Stop.TheVariants as stop
 use Rattle.scald_lex.specs.declared.token.Token as lex
 use Rattle.drawing_grammar.specs.declared.terminal.Terminal.TheVariants as is
 use Rattle.drawing_reader.specs.declared.reader.Sketch as code
+use Rattle.drawing_grammar.specs.declared.edition.Edition.{Edition}
+use Rattle.drawing_grammar.specs.Edition.{edition_of}
 use Rattle.drawing_grammar.specs.Lexeme.{Lexeme, lexeme_of, lexemes}
 use Rattle.drawing_reader.specs.declared.cursor.Cursor.{Cursor}
 use Rattle.drawing_reader.specs.Reader.{tokens_at, ahead, first_token, other_tokens}
@@ -24,8 +26,8 @@ use Rattle.drawing_grammar.proofs.Places.{complete}
 use Rattle.drawing_grammar.proofs.Whole.{refused_so, Ending, is_refused, is_read, chained_whole}
 use Rattle.drawing_grammar.proofs.Unique.{not_refused, one_refused}
 
-one_sketch : (s u : Sketch) (v : Values whole) → ◌≡◌ {A = Verdict whole} (Complete (s, tt)) (Complete v) → v.0 ≡ u → s ≡ u
-one_sketch s u v e h = let k : (let p : Values whole = (s, tt) in p) ≡ v = cc in ap (λ (w : Values whole). w.0) k ∙ h
+one_sketch : (i : Edition) (s u : Sketch) (v : Values (whole i)) → ◌≡◌ {A = Verdict (whole i)} (Complete (s, tt)) (Complete v) → v.0 ≡ u → s ≡ u
+one_sketch i s u v e h = let k : (let p : Values (whole i) = (s, tt) in p) ≡ v = cc in ap (λ (w : Values (whole i)). w.0) k ∙ h
 
 pub found_so : (ts : List Lexeme) (x : Result code.Sketch Stop) → Answers x ts → IfOk x (λ s. Reads ts (sketch_of s))
 found_so ts (Ok s) h = is_read ts (sketch_of s) h
@@ -37,29 +39,29 @@ stops_so ts (Err (stop.Refused r)) n h = is_refused ts r n h
 stops_so ts (Err stop.NoMemory) n h = tt
 
 pub only_sketch : (ts : List Lexeme) (x : Result code.Sketch Stop) → Answers x ts → (s : Sketch) → Reads ts s → GivesSketch s x
-only_sketch ts x h s r = one x h (complete ts whole 0 r.written chained_whole r.spelled r.within)
+only_sketch ts x h s r = one x h (complete ts (whole (edition_of ts)) 0 r.written (chained_whole (edition_of ts)) r.spelled r.within)
   where
-    one : (x : Result code.Sketch Stop) → Answers x ts → verdict ts whole 0 ≡ Complete (values r.written) → GivesSketch s x
-    one (Ok f) h e = one_sketch (sketch_of f) s (values r.written) (sym h ∙ e) r.stands
+    one : (x : Result code.Sketch Stop) → Answers x ts → verdict ts (whole (edition_of ts)) 0 ≡ Complete (values r.written) → GivesSketch s x
+    one (Ok f) h e = one_sketch (edition_of ts) (sketch_of f) s (values r.written) (sym h ∙ e) r.stands
     one (Err stop.NoMemory) h e = refl
-    one (Err (stop.Refused q)) h e = absurd (not_refused (values r.written) q (sym e ∙ h))
+    one (Err (stop.Refused q)) h e = absurd (not_refused (edition_of ts) (values r.written) q (sym e ∙ h))
 
 pub only_refusal : (ts : List Lexeme) (x : Result code.Sketch Stop) → Answers x ts → (r : Refusal) → IsRefused ts r → GivesRefusal r x
 only_refusal ts x h r i = one x h (refused_so ts r i)
   where
-    one : (x : Result code.Sketch Stop) → Answers x ts → verdict ts whole 0 ≡ Refused r → GivesRefusal r x
-    one (Ok f) h e = not_refused (sketch_of f, tt) r (sym h ∙ e)
+    one : (x : Result code.Sketch Stop) → Answers x ts → verdict ts (whole (edition_of ts)) 0 ≡ Refused r → GivesRefusal r x
+    one (Ok f) h e = not_refused (edition_of ts) (sketch_of f, tt) r (sym h ∙ e)
     one (Err stop.NoMemory) h e = inr refl
-    one (Err (stop.Refused q)) h e = inl (ap (λ (p : Refusal). stop.Refused p) (one_refused q r (sym h ∙ e)))
+    one (Err (stop.Refused q)) h e = inl (ap (λ (p : Refusal). stop.Refused p) (one_refused (edition_of ts) q r (sym h ∙ e)))
 
 -- ---- at the end of the reader
 
-pub answers_stop : (old : Cursor) (e : Stop) → old.operators ≡ 0 → Fails (ahead old whole) e → Says (verdict (tokens_at old) whole 0) e
-answers_stop old e z f = subst (λ (a : ℕ). Says (verdict (tokens_at old) whole a) e) z f.is
+pub answers_stop : (i : Edition) (old : Cursor) (e : Stop) → old.operators ≡ 0 → Fails (ahead old (whole i)) e → Says (verdict (tokens_at old) (whole i) 0) e
+answers_stop i old e z f = subst (λ (a : ℕ). Says (verdict (tokens_at old) (whole i) a) e) z f.is
 
-pub answers_end : (old end : Cursor) {f : Values (mark is.EndOfText ∷ []) → Values whole} → old.operators ≡ 0 → Moves (ahead old whole)
-    (ahead end (mark is.EndOfText ∷ [])) f → ahead end (mark is.EndOfText ∷ []) ≡ Complete tt → verdict (tokens_at old) whole 0 ≡ Complete (f tt)
-answers_end old end {f} z m e = ap (λ (a : ℕ). verdict (tokens_at old) whole a) (sym z) ∙ (m.is ∙ ap (λ (v : Verdict (mark is.EndOfText ∷ [])). given {needs = whole} f v) e)
+pub answers_end : (i : Edition) (old end : Cursor) {f : Values (mark is.EndOfText ∷ []) → Values (whole i)} → old.operators ≡ 0 → Moves (ahead old (whole i))
+    (ahead end (mark is.EndOfText ∷ [])) f → ahead end (mark is.EndOfText ∷ []) ≡ Complete tt → verdict (tokens_at old) (whole i) 0 ≡ Complete (f tt)
+answers_end i old end {f} z m e = ap (λ (a : ℕ). verdict (tokens_at old) (whole i) a) (sym z) ∙ (m.is ∙ ap (λ (v : Verdict (mark is.EndOfText ∷ [])). given {needs = whole i} f v) e)
 
 pub none_left : (text : List ℕ) (ts : List lex.Token) → first_token ts ≡ None → lexemes text ts ≡ []
 none_left text [] e = refl

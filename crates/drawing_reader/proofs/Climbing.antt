@@ -9,8 +9,8 @@ use Rattle.scald_base.specs.declared.refusal.Place.{Place}
 use Rattle.drawing_tree.specs.Tree as tree
 use Rattle.drawing_tree.specs.Tree.{Statement, Statements, nil, cons, Otherwise, no_else, else_}
 use Rattle.drawing_grammar.specs.declared.head.Head.{Head}
-use Rattle.drawing_grammar.specs.declared.declared.Kind.TheVariants.{Macro, Parameter, Formal, Label}
-use Rattle.drawing_grammar.specs.DoubleNames.{Key, key, Declaration, declaration, parameters, formals, labels, statement_labels, else_labels, head_declared, macros_declared, primitives, keys_of, IsDistinct, Declares}
+use Rattle.drawing_grammar.specs.declared.declared.Kind.TheVariants.{Constant, Macro, Parameter, Formal, Label}
+use Rattle.drawing_grammar.specs.DoubleNames.{Key, key, Declaration, declaration, constants, parameters, formals, labels, statement_labels, else_labels, head_declared, macros_declared, primitives, keys_of, IsDistinct, Declares}
 use Rattle.drawing_grammar.proofs.Doubles.{declares_none, declares_both, declares_one}
 use Rattle.drawing_grammar.proofs.Distinct.{distinct_given}
 use Rattle.drawing_tree.specs.WellFormed.{primitive_names}
@@ -75,6 +75,12 @@ lacks_more k d ds other rest (suc n, below, e) = rest (n, omega arith, e)
 lacks_both : (k : Key) (ds es : List Declaration) → Lacks k ds → Lacks k es → Lacks k (ds ++ es)
 lacks_both k ds es f g found = neither_has (keys_of ds) (keys_of es) k f g (subst (λ (ks : List Key). Contains ks k) (map-append (λ d. d.key) ds es) found)
 
+no_constant : (n : ℕ) (name : List ℕ) (cs : List tree.Assignment) (places : List Place) → Lacks (key n Label name) (constants cs places)
+no_constant n name [] places = lacks_none (key n Label name)
+no_constant n name (c ∷ cs) [] = lacks_none (key n Label name)
+no_constant n name (c ∷ cs) (place ∷ places) =
+    lacks_more (key n Label name) (declaration 0 Constant c.name place) (constants cs places) (λ e. let kinds = ap (λ (k : Key). k.kind) e in cc) (no_constant n name cs places)
+
 no_parameter : (scope n : ℕ) (name : List ℕ) (ps : List tree.Assignment) (places : List Place) → Lacks (key n Label name) (parameters scope ps places)
 no_parameter scope n name [] places = lacks_none (key n Label name)
 no_parameter scope n name (p ∷ ps) [] = lacks_none (key n Label name)
@@ -96,6 +102,7 @@ mutual
   no_statement_label scope n name other (tree.Wire w) = lacks_none (key n Label name)
   no_statement_label scope n name other (tree.If test behind_then behind_else place) = lacks_both (key n Label name) (labels scope behind_then)
       (else_labels scope behind_else) (no_label scope n name other behind_then) (no_else_label scope n name other behind_else)
+  no_statement_label scope n name other (tree.For var first last body place) = no_label scope n name other body
 
   no_label : (scope n : ℕ) (name : List ℕ) → (scope ≡ n → ⊥) → (ss : Statements) → Lacks (key n Label name) (labels scope ss)
   no_label scope n name other nil = lacks_none (key n Label name)
@@ -131,15 +138,19 @@ unfolding primitives
 no_primitive n name found = let kinds = (taken_key primitive_names n Label name found).1 in cc
 
 -- The body of a drawing declares nothing again, where its labels are in their order.
-pub body_fresh : (ms : List tree.Macro) (hs : List Head) (ss : Statements) (now : List Key) → AreFresh (length ms) (labels (length ms) ss) →
-    Declares primitives now (macros_declared 0 ms hs) →
-    Declares primitives (now ++ keys_of (labels (length ms) ss)) (macros_declared 0 ms hs ++ labels (length ms) ss)
-body_fresh ms hs ss now is first =
+pub body_fresh : (cs : List tree.Assignment) (places : List Place) (ms : List tree.Macro) (hs : List Head) (ss : Statements) (mid now : List Key) →
+    AreFresh (length ms) (labels (length ms) ss) → Declares primitives mid (constants cs places) → Declares mid now (macros_declared 0 ms hs) →
+    Declares primitives (now ++ keys_of (labels (length ms) ss)) (constants cs places ++ (macros_declared 0 ms hs ++ labels (length ms) ss))
+body_fresh cs places ms hs ss mid now is first second =
+    let own = constants cs places in
     let before = macros_declared 0 ms hs in
     let body = labels (length ms) ss in
-    declares_both primitives now (now ++ keys_of body) before body first
-    (is now (λ name found. neither_has primitives (keys_of before) (key (length ms) Label name) (no_primitive (length ms) name) (no_macro_label 0 (length ms) name ms hs (omega arith))
-    (subst (λ (ks : List Key). Contains ks (key (length ms) Label name)) first.added found)))
+    declares_both primitives mid (now ++ keys_of body) own (before ++ body) first (declares_both mid now (now ++ keys_of body) before body second
+    (is now (λ name found. neither_has mid (keys_of before) (key (length ms) Label name)
+    (λ there. neither_has primitives (keys_of own) (key (length ms) Label name) (no_primitive (length ms) name) (no_constant (length ms) name cs places)
+    (subst (λ (ks : List Key). Contains ks (key (length ms) Label name)) first.added there))
+    (no_macro_label 0 (length ms) name ms hs (omega arith))
+    (subst (λ (ks : List Key). Contains ks (key (length ms) Label name)) second.added found))))
 
 pub distinct_made : (now : List Key) (ds : List Declaration) → Declares primitives now ds → IsDistinct ds
 distinct_made now ds made = distinct_given {A = ℕ} (Ok 0) now ds made

@@ -7,19 +7,29 @@ use Rattle.drawing_tree.specs.declared.statement.Assign.{Assign}
 use Rattle.drawing_tree.specs.declared.statement.UseStmt.{UseStmt}
 use Rattle.drawing_tree.specs.declared.statement.WireStmt.{WireStmt}
 use Rattle.drawing_tree.specs.declared.statement.IfStmt.{IfStmt}
+use Rattle.drawing_tree.specs.declared.statement.ForStmt.{ForStmt}
 use Rattle.drawing_tree.specs.declared.statement.Stmt.{Stmt}
 use Rattle.drawing_tree.specs.declared.statement.Stmt.TheVariants as stmt
 use Rattle.drawing_tree.specs.declared.drawing.Formal as written
 use Rattle.drawing_tree.specs.declared.drawing.MacroDef.{MacroDef}
 use Rattle.drawing_grammar.specs.declared.head.Head.{Head}
-use Rattle.drawing_tree.specs.Tree.{macro_of, assignment_of, formal_of, statement_of, statements_of, if_of, else_of}
-use Rattle.drawing_tree.proofs.Views.{view_use, view_wire, view_choice, view_if}
-use Rattle.drawing_grammar.specs.declared.declared.Kind.TheVariants.{Parameter, Formal, Label}
-use Rattle.drawing_grammar.specs.DoubleNames.{declaration, parameters, formals, labels, statement_labels, else_labels, head_declared, macros_declared}
+use Rattle.drawing_tree.specs.Tree.{macro_of, assignment_of, formal_of, statement_of, statements_of, if_of, for_of, else_of}
+use Rattle.drawing_tree.proofs.Views.{view_use, view_wire, view_choice, view_if, view_repeated, view_for}
+use Rattle.drawing_grammar.specs.declared.declared.Kind.TheVariants.{Constant, Parameter, Formal, Label}
+use Rattle.drawing_grammar.specs.DoubleNames.{declaration, constants, parameters, formals, labels, statement_labels, else_labels, head_declared, macros_declared}
 
 -- the item at a place, and those behind it
 pub dropped : {A : Type 0} (xs : List A) (i : ℕ) (x : A) → i < length xs → x ≡ get_or xs i x → drop i xs ≡ x ∷ drop (i + 1) xs
 dropped {A = A} xs i x below is = drop-cons xs i x below ∙ (ap (λ (y : A). y ∷ drop (suc i) xs) (sym is) ∙ ap (λ (n : ℕ). x ∷ drop n xs) (sym (add-one i)))
+
+pub next_constant : (xs : List Assign) (i : ℕ) (x : Assign) (name : List ℕ) (places : List Place) (place : Place) (more : List Place) →
+    i < length xs → x ≡ get_or xs i x → name ≡ x.name → places ≡ place ∷ more → constants (map assignment_of (drop i xs))
+    places ≡ (declaration 0 Constant name place ∷ []) ++ constants (map assignment_of (drop (i + 1) xs)) more
+next_constant xs i x name places place more below is named split =
+    let behind = constants (map assignment_of (drop (i + 1) xs)) more in
+    ap (λ (ps : List Place). constants (map assignment_of (drop i xs)) ps) split
+    ∙ (ap (λ (ys : List Assign). constants (map assignment_of ys) (place ∷ more)) (dropped xs i x below is)
+    ∙ ap (λ (n : List ℕ). declaration 0 Constant n place ∷ behind) (sym named))
 
 pub next_parameter : (scope : ℕ) (xs : List Assign) (i : ℕ) (x : Assign) (name : List ℕ) (places : List Place) (place : Place) (more : List Place) →
     i < length xs → x ≡ get_or xs i x → name ≡ x.name → places ≡ place ∷ more → parameters scope (map assignment_of (drop i xs))
@@ -55,8 +65,15 @@ wire_labels scope w = ap (statement_labels scope) (view_wire w)
 pub choice_labels : (scope : ℕ) (s : IfStmt) → statement_labels scope (statement_of (stmt.If s)) ≡ statement_labels scope (if_of s)
 choice_labels scope s = ap (statement_labels scope) (view_choice s)
 
+pub repeated_labels : (scope : ℕ) (s : ForStmt) → statement_labels scope (statement_of (stmt.For s)) ≡ statement_labels scope (for_of s)
+repeated_labels scope s = ap (statement_labels scope) (view_repeated s)
+
 -- the labels of a statement, by its kind
-pub ruleset labels_by_kind = (use_labels, wire_labels, choice_labels)
+pub ruleset labels_by_kind = (use_labels, wire_labels, choice_labels, repeated_labels)
+
+pub for_labels : (scope : ℕ) (s : ForStmt) → statement_labels scope (for_of s) ≡ labels scope (statements_of s.body.items)
+unfolding statement_labels
+for_labels scope s = ap (statement_labels scope) (view_for s)
 
 pub if_labels : (scope : ℕ) (s : IfStmt) → statement_labels scope (if_of s) ≡ labels scope (statements_of s.yes.items) ++ else_labels scope (else_of s.no)
 unfolding statement_labels

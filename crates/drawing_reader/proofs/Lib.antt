@@ -7,6 +7,8 @@ pub mod Labels
 pub mod Naming
 pub mod Bare
 pub mod Answered
+pub mod Sketches
+pub mod Behind
 pub mod Given
 pub mod Slices
 pub mod Climbing

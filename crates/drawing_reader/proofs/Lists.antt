@@ -2,6 +2,7 @@
 use Rattle.std.proofs.Common.{◌≡◌, Bool, List, [], ◌∷◌, ◌++◌, map, refl, ap, append_assoc}
 use Rattle.std.proofs.lemmas.List.{append-nil}
 use Rattle.scald_base.specs.declared.refusal.Place.{Place}
+use Rattle.drawing_tree.specs.declared.statement.Assign.{Assign}
 use Rattle.drawing_tree.specs.declared.statement.Stmt.{Stmt}
 use Rattle.drawing_tree.specs.declared.drawing.MacroDef.{MacroDef}
 use Rattle.drawing_tree.specs.Tree as tree
@@ -32,6 +33,23 @@ macros_more xs x hs h more = rw (more_mapped tree.macro_of xs x more.macros, app
 
 pub macros_all : (xs : List tree.Macro) (hs : List Head) → ◌≡◌ {A = s.HeadedMacros} (record { macros = xs ++ []; heads = hs ++ [] }) (record { macros = xs; heads = hs })
 macros_all xs hs = rw (append-nil xs, append-nil hs) refl
+
+pub constants_more : (xs : List Assign) (x : Assign) (ps : List Place) (p : Place) (qs : List Place) (q : Place) (more : s.PlacedConstants) →
+    ◌≡◌ {A = s.PlacedConstants} (record {
+      constants = map tree.assignment_of xs ++ tree.assignment_of x ∷ more.constants;
+      places = ps ++ p ∷ more.places;
+      name_places = qs ++ q ∷ more.name_places;
+    }) (record {
+      constants = map tree.assignment_of (xs ++ x ∷ []) ++ more.constants;
+      places = (ps ++ p ∷ []) ++ more.places;
+      name_places = (qs ++ q ∷ []) ++ more.name_places;
+    })
+constants_more xs x ps p qs q more = rw (more_mapped tree.assignment_of xs x more.constants, append_assoc) refl
+
+pub constants_all : (xs : List tree.Assignment) (ps qs : List Place) →
+    ◌≡◌ {A = s.PlacedConstants} (record { constants = xs ++ []; places = ps ++ []; name_places = qs ++ [] })
+    (record { constants = xs; places = ps; name_places = qs })
+constants_all xs ps qs = rw (append-nil xs, append-nil ps, append-nil qs) refl
 
 pub statements_more : (xs : List Stmt) (x : Stmt) (more : tree.Statements) →
     followed (map tree.statement_of xs) (tree.cons (tree.statement_of x) more) ≡ followed (map tree.statement_of (xs ++ x ∷ [])) more

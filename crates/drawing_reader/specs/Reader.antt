@@ -9,12 +9,15 @@ use Rattle.assertion_syntax.specs.declared.name.SignalName.{SignalName}
 use Rattle.drawing_tree.specs.declared.connection.RangeExpr.{RangeExpr}
 use Rattle.drawing_tree.specs.declared.statement.Stmt.{Stmt}
 use Rattle.drawing_tree.specs.Tree.{range_of, assignment_of, both_of, connection_of, statements_of}
-use Rattle.drawing_grammar.specs.declared.terminal.Letter.TheVariants.{By}
-use Rattle.drawing_grammar.specs.declared.terminal.Terminal.TheVariants.{Clock, Drawing, End, Word, Number, Name, Semicolon, OpenParenthesis, CloseParenthesis, EndOfText}
+use Rattle.drawing_grammar.specs.declared.terminal.Keyword.TheVariants.{By, To, Do}
+use Rattle.drawing_grammar.specs.declared.edition.Edition.{Edition}
+use Rattle.scald_expr.specs.declared.expr.Expr.{Expr}
+use Rattle.scald_expr.specs.Expression.{expression_of}
+use Rattle.drawing_grammar.specs.declared.terminal.Terminal.TheVariants.{Clock, Drawing, End, Word, Number, Name, Semicolon, Equals, OpenParenthesis, CloseParenthesis, EndOfText}
 use Rattle.drawing_reader.specs.declared.statement.Details.{Details}
 use Rattle.drawing_reader.specs.declared.cursor.Cursor.{Cursor}
 use Rattle.drawing_grammar.specs.Lexeme.{Lexeme, lexeme_of, lexemes, number_of}
-use Rattle.drawing_grammar.specs.Grammar.{Need, mark, item, letter, part, group, bounds, Range, Delay, Parameters, Conns, Outputs, Statements}
+use Rattle.drawing_grammar.specs.Grammar.{Need, mark, item, keyword, part, group, own_sum, bounds, Range, Delay, Parameters, Conns, Outputs, Statements}
 use Rattle.drawing_grammar.specs.Sketch.{signal_of, number_pair}
 use Rattle.drawing_grammar.specs.Machine.{Verdict, Complete, verdict, Moves, Fails}
 
@@ -51,7 +54,7 @@ PairAt (Err s) place old new = (rest : List Need) → Fails (ahead old (bounds r
 
 -- The units and ticks of the clock.
 abbrev pub clock_needs : List Need → List Need
-clock_needs rest = item Clock ∷ item Number ∷ letter By ∷ item Number ∷ mark Semicolon ∷ rest
+clock_needs rest = item Clock ∷ item Number ∷ keyword By ∷ item Number ∷ mark Semicolon ∷ rest
 
 abbrev pub ClockAt : Result NumberPair Stop → Cursor → Cursor → Type 0
 ClockAt (Ok x) old new = (c : Lexeme) × (a : Lexeme) × (b : Lexeme) × (x ≡ number_pair c a b) × ((rest : List Need) → Moves (ahead old (clock_needs rest)) (ahead new rest) (λ v. (c, (a, (b, v)))))
@@ -61,6 +64,16 @@ ClockAt (Err s) old new = (rest : List Need) → Fails (ahead old (clock_needs r
 abbrev pub NetAt : Result (SignalName × Option RangeExpr) Stop → Cursor → Cursor → Type 0
 NetAt (Ok x) old new = (t : Lexeme) × (x.0 ≡ signal_of t) × ((rest : List Need) → Moves (ahead old (item Name ∷ part Range 0 ∷ rest)) (ahead new rest) (λ v. (t, (option_map range_of x.1, v))))
 NetAt (Err s) old new = (rest : List Need) → Fails (ahead old (item Name ∷ part Range 0 ∷ rest)) s
+
+-- The variable of a FOR, and the first and the last value that it takes.
+abbrev pub value_needs : List Need → List Need
+value_needs rest = item Word ∷ mark Equals ∷ own_sum (keyword To ∷ own_sum (keyword Do ∷ rest))
+
+abbrev pub ValuesAt : Result (List ℕ × Expr × Expr) Stop → Cursor → Cursor → Type 0
+ValuesAt (Ok x) old new = (t : Lexeme) × (x.0 ≡ t.text) × ((rest : List Need) →
+    Moves (ahead old (value_needs rest)) (ahead new rest)
+    (λ v. (t, (expression_of x.1, (expression_of x.2, v)))))
+ValuesAt (Err s) old new = (rest : List Need) → Fails (ahead old (value_needs rest)) s
 
 -- What stands between the kind of a use and its end, wherever its parameters are named.
 abbrev pub details : List Need → List Need
@@ -77,13 +90,13 @@ DetailsAt (Ok x) old new =
 DetailsAt (Err s) old new = (rest : List Need) → Fails (ahead old (details rest)) s
 
 -- The statements of a macro or of a drawing, from the semicolon in front of them to the END after them.
-abbrev pub body : List Need → List Need
-body rest = mark Semicolon ∷ group Statements 0 ∷ mark End ∷ mark Semicolon ∷ rest
+abbrev pub body : Edition → List Need → List Need
+body e rest = mark Semicolon ∷ group (Statements e) 0 ∷ mark End ∷ mark Semicolon ∷ rest
 
 -- The name of a drawing, and its statements.
-abbrev pub DrawingAt : Result (List ℕ × Vec Stmt) Stop → Cursor → Cursor → Type 0
-DrawingAt (Ok x) old new = (t : Lexeme) × (x.0 ≡ t.text) × ((rest : List Need) → Moves (ahead old (mark Drawing ∷ item Word ∷ body rest)) (ahead new rest) (λ v. (t, (statements_of x.1.items, v))))
-DrawingAt (Err s) old new = (rest : List Need) → Fails (ahead old (mark Drawing ∷ item Word ∷ body rest)) s
+abbrev pub DrawingAt : Edition → Result (List ℕ × Vec Stmt) Stop → Cursor → Cursor → Type 0
+DrawingAt e (Ok x) old new = (t : Lexeme) × (x.0 ≡ t.text) × ((rest : List Need) → Moves (ahead old (mark Drawing ∷ item Word ∷ body e rest)) (ahead new rest) (λ v. (t, (statements_of x.1.items, v))))
+DrawingAt e (Err s) old new = (rest : List Need) → Fails (ahead old (mark Drawing ∷ item Word ∷ body e rest)) s
 
 -- The cursor is at the end and nothing follows, or reading stops so.
 abbrev pub EndAt : {X : Type 0} → Result X Stop → Cursor → Type 0

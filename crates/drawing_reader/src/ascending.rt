@@ -27,7 +27,7 @@ fn is_behind(last: &[u8], label: &[u8]) -> bool
 }
 
 /// The label of a statement, where it comes after the last one; of a statement without labels the last one again.
-/// An IF has no answer.
+/// An IF and a FOR have no answer.
 fn climbed<'a>(last: &'a [u8], statement: &'a Stmt) -> Option<&'a [u8]>
     ensures { IfSome result (λ next.
         (scope : ℕ) → Climbs scope last.now next.now (statement_labels scope (statement_of statement.now))) }
@@ -41,7 +41,7 @@ fn climbed<'a>(last: &'a [u8], statement: &'a Stmt) -> Option<&'a [u8]>
             Some(label)
         }
         Stmt::Wire(_) => Some(last),
-        Stmt::If(_) => None,
+        Stmt::If(_) | Stmt::For(_) => None,
     }
 }
 

@@ -11,7 +11,7 @@ ghost use Rattle.drawing_grammar.specs.Front.{first_terminal};
 use crate::cursor::{Cursor, text_of};
 use crate::signal::signal;
 use assertion_syntax::SignalName;
-use drawing_grammar::{Letter, Terminal};
+use drawing_grammar::{Keyword, Terminal};
 use drawing_tree::{Conn, Conns, Item, RangeExpr, Term, Terms};
 use scald_base::{Place, RefusalKind, Stop};
 use scald_expr::Expr;
@@ -139,7 +139,7 @@ impl<'a> Cursor<'a> {
             return Ok(false);
         }
         self.bump();
-        self.letter(Letter::Hazard)?;
+        self.keyword(Keyword::Hazard)?;
         Ok(true)
     }
 

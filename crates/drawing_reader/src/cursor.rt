@@ -1,15 +1,15 @@
 //! The tokens that are still to be read.
 
-ghost use Rattle.std.specs.Prelude.{◌≡◌, ◌≢◌, ◌≤◌, ◌<◌, List, [], ◌∷◌, length, OnOk, IsTrue, IsFalse, Some, None, slice_range};
+ghost use Rattle.std.specs.Prelude.{◌≡◌, ◌≢◌, ◌≤◌, ◌<◌, List, [], ◌∷◌, length, OnOk, IfOk, IsTrue, IsFalse, Some, None, slice_range};
 ghost use Rattle.scald_lex.specs.declared.token.TokenKind.TheVariants.{End};
 ghost use Rattle.drawing_grammar.specs.declared.terminal.Terminal.TheVariants.{EndOfText};
 ghost use Rattle.drawing_grammar.specs.Lexeme.{lexeme_of, terminal};
-ghost use Rattle.drawing_grammar.specs.Grammar.{Need, mark, item, letter as letter_need};
-ghost use Rattle.drawing_grammar.specs.Machine.{Gives, refusal};
+ghost use Rattle.drawing_grammar.specs.Grammar.{Need, mark, item, keyword as keyword_need};
+ghost use Rattle.drawing_grammar.specs.Machine.{Gives, refusal, no_colon};
 ghost use Rattle.drawing_reader.specs.Reader.{tokens_at, ahead, at, first_token, other_tokens};
-ghost use Rattle.drawing_grammar.specs.Front.{first_terminal, first_place, first_text, Lettered};
+ghost use Rattle.drawing_grammar.specs.Front.{first_terminal, first_place, first_text, behind_first, AtKeyword, at_loop};
 
-use drawing_grammar::{Letter, Terminal, symbol_terminal, word_terminal};
+use drawing_grammar::{Edition, Keyword, Terminal, symbol_terminal, word_terminal};
 use scald_base::{Place, RefusalKind, Stop};
 use scald_lex::{Token, TokenKind};
 
@@ -145,6 +145,7 @@ impl<'a> Cursor<'a> {
         requires { terminal ≢ EndOfText }
         ensures reads { (rest : List Need) →
             Gives result (λ t v. (at self.old t, v)) (ahead self.old (item terminal ∷ rest)) (ahead self.new rest) }
+        ensures taken { IfOk result (λ t. tokens_at self.old ≡ at self.old t ∷ tokens_at self.new) }
         ensures shorter { OnOk result (length self.new.rest.now < length self.old.rest.now) }
         ensures no_longer { length self.new.rest.now ≤ length self.old.rest.now }
         ensures text { self.new.text.now ≡ self.old.text.now }
@@ -164,23 +165,73 @@ impl<'a> Cursor<'a> {
         }
     }
 
-    fn at_letter(&self, letter: Letter) -> bool
-        ensures yes { IsTrue result → Lettered letter (tokens_at self.now) }
-        ensures no { IsFalse result → ¬ Lettered letter (tokens_at self.now) }
+    /// Whether the next token is this keyword.
+    pub fn at_keyword(&self, keyword: Keyword) -> bool
+        ensures yes { IsTrue result → AtKeyword keyword (tokens_at self.now) }
+        ensures no { IsFalse result → ¬ AtKeyword keyword (tokens_at self.now) }
     {
         if !self.starts(Terminal::Word) {
             return false;
         }
-        self.first_text() == letter.text()
+        self.first_text() == keyword.text()
     }
 
-    /// Takes a word that has to be this letter; where the next token is not, `Syntax` comes at its place.
-    pub fn letter(&mut self, letter: Letter) -> Result<(), Stop>
+    /// Whether no token is left.
+    pub fn is_done(&self) -> bool
+        ensures yes { IsTrue result → tokens_at self.now ≡ [] }
+        ensures no { IsFalse result → tokens_at self.now ≢ [] }
+    {
+        match self.peek() {
+            None => true,
+            Some(_) => false,
+        }
+    }
+
+    /// Whether a token follows the next one, and is no colon. It is the one place where reading looks further than
+    /// at the next token.
+    fn no_colon_follows(&self) -> bool
+        ensures { result ≡ no_colon (behind_first (tokens_at self.now)) }
+    {
+        let mut behind = Cursor {
+            text: self.text,
+            rest: self.rest,
+            operators: self.operators,
+        };
+        behind.advance();
+        if behind.is_done() {
+            return false;
+        }
+        !behind.starts(Terminal::Colon)
+    }
+
+    /// Whether the word FOR stands next, and no colon behind it.
+    fn at_for(&self) -> bool
+        ensures { result ≡ at_loop Edition.Second (tokens_at self.now) }
+    {
+        if !self.at_keyword(Keyword::For) {
+            return false;
+        }
+        self.no_colon_follows()
+    }
+
+    /// Whether a FOR begins here, where a statement of this version may stand: a label begins so too, but a colon
+    /// follows it.
+    pub fn at_loop(&self, edition: Edition) -> bool
+        ensures { result ≡ at_loop edition (tokens_at self.now) }
+    {
+        match edition {
+            Edition::First => false,
+            Edition::Second => self.at_for(),
+        }
+    }
+
+    /// Takes a word that has to be this keyword; where the next token is not, `Syntax` comes at its place.
+    pub fn keyword(&mut self, keyword: Keyword) -> Result<(), Stop>
         ensures reads { (rest : List Need) →
-            Gives result (λ _ v. v) (ahead self.old (letter_need letter ∷ rest)) (ahead self.new rest) }
+            Gives result (λ _ v. v) (ahead self.old (keyword_need keyword ∷ rest)) (ahead self.new rest) }
         ensures no_longer { length self.new.rest.now ≤ length self.old.rest.now }
     {
-        if !self.at_letter(letter) {
+        if !self.at_keyword(keyword) {
             return Err(self.refused(RefusalKind::Syntax));
         }
         self.bump();

@@ -3,14 +3,15 @@
 ghost use Rattle.std.specs.Prelude.{◌≡◌, ◌↔◌, ◌++◌, [], ◌∷◌, map, IsTrue, Contains, MatchResult};
 ghost use Rattle.std.specs.List.{list_any};
 ghost use Rattle.std.specs.Str.{bytes_eq};
-ghost use Rattle.drawing_tree.specs.Tree.{assignment_of, formal_of, statements_of, statement_of, if_of, macro_of};
+ghost use Rattle.drawing_tree.specs.Tree.{assignment_of, formal_of, statements_of, statement_of, if_of, for_of, macro_of};
 ghost use Rattle.drawing_tree.specs.WellFormed.{primitive_names};
-ghost use Rattle.drawing_grammar.specs.DoubleNames.{key, declaration, parameters, formals, labels, statement_labels, head_declared, macros_declared, declared, primitives, Declares, IsStopAt, IsDistinct, IsDoubleStop};
+ghost use Rattle.drawing_grammar.specs.DoubleNames.{key, declaration, constants, parameters, formals, labels, statement_labels, head_declared, macros_declared, declared, primitives, Declares, IsStopAt, IsDistinct, IsDoubleStop};
 
 use crate::ascending::are_ascending;
+use crate::constants::Constants;
 use crate::declared::Declared;
 use drawing_grammar::{Head, Kind};
-use drawing_tree::{Assign, Formal, IfStmt, MacroDef, MacroDefs, Stmt};
+use drawing_tree::{Assign, ForStmt, Formal, IfStmt, MacroDef, MacroDefs, Stmt};
 use element_kinds::is_kind_name;
 use indexmap::IndexSet;
 use scald_base::{Place, RefusalKind, Stop};
@@ -86,6 +87,23 @@ impl<'a> Declarations<'a> {
         Ok(())
     }
 
+    /// Takes constants, each at the place beside it.
+    fn constants(&mut self, consts: &'a [Assign], places: &[Place]) -> Result<(), Stop>
+        ensures { MatchResult result (λ _.
+            Declares self.old self.new (constants (map assignment_of consts.now) places.now))
+            (IsStopAt self.old (constants (map assignment_of consts.now) places.now)) }
+    {
+        let mut rest = places;
+        'consts: for constant in consts {
+            let Some((place, more)) = rest.split_first() else {
+                return Ok(());
+            };
+            self.declare(0, Kind::Constant, constant.name.as_slice(), *place)?;
+            rest = more;
+        }
+        Ok(())
+    }
+
     /// Takes parameters, each at the place beside it.
     fn parameters(
         &mut self,
@@ -125,7 +143,7 @@ impl<'a> Declarations<'a> {
         Ok(())
     }
 
-    /// Takes the label of a use, or those inside of an IF.
+    /// Takes the label of a use, or those inside of an IF or a FOR.
     #[cycle(labels)]
     #[tactic(auto, using(crate::proofs::Labels::labels_by_kind))]
     fn statement(&mut self, scope: usize, statement: &'a Stmt) -> Result<(), Stop>
@@ -137,6 +155,7 @@ impl<'a> Declarations<'a> {
             Stmt::Use(u) => self.declare(scope, Kind::Label, u.label.as_slice(), u.place),
             Stmt::Wire(_) => Ok(()),
             Stmt::If(choice) => self.choice(scope, choice),
+            Stmt::For(repeated) => self.repeated(scope, repeated),
         }
     }
 
@@ -151,6 +170,15 @@ impl<'a> Declarations<'a> {
             None => Ok(()),
             Some(otherwise) => self.statements(scope, otherwise.as_slice()),
         }
+    }
+
+    /// Takes the labels inside of a FOR.
+    #[cycle(labels)]
+    fn repeated(&mut self, scope: usize, repeated: &'a ForStmt) -> Result<(), Stop>
+        ensures { MatchResult result (λ _. Declares self.old self.new (statement_labels scope (for_of repeated.now)))
+            (IsStopAt self.old (statement_labels scope (for_of repeated.now))) }
+    {
+        self.statements(scope, repeated.body.as_slice())
     }
 
     /// Takes the labels of statements.
@@ -217,20 +245,24 @@ impl<'a> Declarations<'a> {
     }
 }
 
-/// Whether nothing is declared twice: a macro whose name another macro or a primitive has, a parameter or
-/// a formal's base twice in a macro, a label twice in a body. `DoubleName` comes at the first name of the
-/// text that repeats.
+/// Whether nothing is declared twice: a constant of another's name, a macro whose name another macro or a primitive
+/// has, a parameter or a formal's base twice in a macro, a label twice in a body. `DoubleName` comes at the first
+/// name of the text that repeats.
 pub fn distinct_names(
     alloc: Global,
+    consts: &Constants,
     macros: &MacroDefs,
     heads: &[Head],
     body: &[Stmt],
 ) -> Result<(), Stop>
     ensures { MatchResult result (λ _.
-        IsDistinct (declared (map macro_of macros.now) heads.now (statements_of body.now)))
-        (IsDoubleStop (declared (map macro_of macros.now) heads.now (statements_of body.now))) }
+        IsDistinct (declared (map assignment_of consts.now.consts) consts.now.name_places
+        (map macro_of macros.now) heads.now (statements_of body.now)))
+        (IsDoubleStop (declared (map assignment_of consts.now.consts) consts.now.name_places
+        (map macro_of macros.now) heads.now (statements_of body.now))) }
 {
     let mut declarations = Declarations::new(alloc);
+    declarations.constants(consts.consts.as_slice(), consts.name_places.as_slice())?;
     declarations.definitions(macros.as_slice(), heads)?;
     // No memory is taken for labels that are seen to differ by their order alone, as most are where there are many.
     if are_ascending(body) {

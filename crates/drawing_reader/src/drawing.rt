@@ -13,7 +13,7 @@ ghost use Rattle.drawing_grammar.specs.Drawing.{Draws, IsWrong, IsWrongStop};
 ghost use Rattle.drawing_reader.specs.Sketched.{GivesDrawing, GivesRefusal, IsStopAt};
 
 use crate::double_names::distinct_names;
-use crate::header::judged_header;
+use crate::header::{judged_header, version_of};
 use crate::names::judged_names;
 use crate::reader::{Sketch, read_sketch};
 use drawing_tree::Drawing;
@@ -59,6 +59,7 @@ fn judged_drawing(alloc: Global, text: &[u8], tokens: &TokenList) -> Result<Draw
     }
     if let Err(stop) = distinct_names(
         alloc,
+        &sketch.constants,
         &sketch.macros,
         sketch.heads.as_slice(),
         sketch.body.as_slice(),
@@ -66,7 +67,8 @@ fn judged_drawing(alloc: Global, text: &[u8], tokens: &TokenList) -> Result<Draw
         return Err(stop);
     }
     let Sketch {
-        header: _,
+        header: written,
+        constants,
         macros,
         heads: _,
         name,
@@ -74,8 +76,10 @@ fn judged_drawing(alloc: Global, text: &[u8], tokens: &TokenList) -> Result<Draw
         cases,
     } = sketch;
     Ok(Drawing {
-        version: 1,
+        version: version_of(&written),
         header,
+        consts: constants.consts,
+        const_places: constants.places,
         macros,
         name,
         body,

@@ -5,7 +5,7 @@ ghost use Rattle.scald_expr.specs.Expression.{expression_of};
 ghost use Rattle.scald_expr.specs.Expression as Expression;
 ghost use Rattle.drawing_grammar.specs.declared.terminal.Terminal.TheVariants.{EndOfText};
 ghost use Rattle.drawing_grammar.specs.Lexeme.{kind_number};
-ghost use Rattle.drawing_grammar.specs.Grammar.{Need, part, group, fresh, Unary, Factors, Terms, OrEqual, Product, Sum, Expr as Whole};
+ghost use Rattle.drawing_grammar.specs.Grammar.{Need, mark, part, group, fresh, own_sum, Unary, Factors, Terms, OrEqual, Product, Sum, Expr as Whole};
 ghost use Rattle.drawing_grammar.specs.Sketch.{less_or, greater_or};
 ghost use Rattle.drawing_grammar.specs.Machine.{Gives, Moves, choice, refusal};
 ghost use Rattle.drawing_reader.specs.Reader.{tokens_at, ahead, Taken};
@@ -291,6 +291,18 @@ impl<'a> Cursor<'a> {
         }
         let sum = self.sum(alloc, 0)?;
         Ok(sum)
+    }
+
+    /// Two sums with a colon between them.
+    pub fn two_sums(&mut self, alloc: Global) -> Result<(Expr, Expr), Stop>
+        ensures reads { (rest : List Need) → Gives result (λ x v. (expression_of x.0, (expression_of x.1, v)))
+            (ahead self.old (own_sum (mark Terminal.Colon ∷ own_sum rest))) (ahead self.new rest) }
+        ensures no_longer { length self.new.rest.now ≤ length self.old.rest.now }
+    {
+        let min = self.own_sum(alloc)?;
+        self.mark(Terminal::Colon)?;
+        let max = self.own_sum(alloc)?;
+        Ok((min, max))
     }
 
     /// An expression, which may be a comparison.

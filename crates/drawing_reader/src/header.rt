@@ -1,18 +1,18 @@
 //! The header of a drawing, once its numbers are judged.
 
-ghost use Rattle.std.specs.Prelude.{◌≡◌, true, Ok, SomeIff};
+ghost use Rattle.std.specs.Prelude.{◌≡◌, ◌⊎◌, true, Ok, SomeIff};
 ghost use Rattle.drawing_grammar.specs.Header.{is_clock, is_bounds, is_skew, natural, pair_of, bounds_of, refused_at, judged_pair, judged};
 
 use drawing_grammar::{NumberPair, WrittenHeader};
 use scald_base::{Delay, Header, Place, Refusal, RefusalKind};
 
 /// The header, or `BadHeader` at the first token of the first statement that has a number which is
-/// refused: the version is not 1; units or ticks are 0, or their product is outside 2 to 4,096; a wire
+/// refused: the version is neither 1 nor 2; units or ticks are 0, or their product is outside 2 to 4,096; a wire
 /// bound's least is above its greatest, or that above 4,095; a skew is above 4,095.
 pub fn judged_header(written: &WrittenHeader) -> Result<Header, Refusal>
     ensures { result ≡ judged written.now }
 {
-    if written.version != 1 {
+    if written.version < 1 || written.version > 2 {
         return Err(refused(written.place));
     }
     let Some((units, ticks)) = clock(written.clock) else {
@@ -28,6 +28,17 @@ pub fn judged_header(written: &WrittenHeader) -> Result<Header, Refusal>
         pskew,
         cskew,
     })
+}
+
+/// The version of a header whose numbers are judged.
+pub fn version_of(written: &WrittenHeader) -> u8
+    ensures { (natural written.now.version ≡ 1) ⊎ (natural written.now.version ≡ 2) →
+        result ≡ natural written.now.version }
+{
+    if written.version == 2 {
+        return 2;
+    }
+    1
 }
 
 fn refused(place: Place) -> Refusal

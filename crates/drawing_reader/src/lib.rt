@@ -13,6 +13,7 @@ mod cursor;
 // what the grammar reads, from the least part to the whole text
 mod cases;
 mod connection;
+mod constants;
 mod expression;
 mod macros;
 mod reader;

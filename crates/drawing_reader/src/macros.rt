@@ -8,8 +8,8 @@ ghost use Rattle.drawing_reader.specs.Reader.{ahead};
 
 use crate::cursor::Cursor;
 use assertion_syntax::SignalName;
-use drawing_grammar::{Head, Places, Terminal};
-use drawing_tree::{Assigns, Formal, Formals, MacroDef, MacroDefs};
+use drawing_grammar::{Edition, Head, Terminal};
+use drawing_tree::{Assigns, Formal, Formals, MacroDef, MacroDefs, Places};
 use scald_base::{List, Place, RefusalKind, Stop};
 use std::alloc::Global;
 
@@ -131,9 +131,9 @@ impl<'a> Cursor<'a> {
         Ok((Declares { params, ins, outs }, head))
     }
 
-    fn definition(&mut self, alloc: Global) -> Result<(MacroDef, Head), Stop>
+    fn definition(&mut self, alloc: Global, edition: Edition) -> Result<(MacroDef, Head), Stop>
         ensures reads { (rest : List Need) → Gives result (λ x v. (record { macro = macro_of x.0; head = x.1 }, v))
-            (ahead self.old (part MacroPart 0 ∷ rest)) (ahead self.new rest) }
+            (ahead self.old (part (MacroPart edition) 0 ∷ rest)) (ahead self.new rest) }
         ensures shorter { OnOk result (length self.new.rest.now < length self.old.rest.now) }
         ensures no_longer { length self.new.rest.now ≤ length self.old.rest.now }
     {
@@ -143,7 +143,7 @@ impl<'a> Cursor<'a> {
         self.bump();
         let (token, name) = self.next_word(alloc)?;
         let (declares, head) = self.head(alloc)?;
-        let body = self.body(alloc)?;
+        let body = self.body(alloc, edition)?;
         let definition = MacroDef {
             name,
             params: declares.params,
@@ -156,16 +156,20 @@ impl<'a> Cursor<'a> {
     }
 
     /// The macros, and where their heads name what they declare.
-    pub fn definitions(&mut self, alloc: Global) -> Result<(MacroDefs, List<Head>), Stop>
+    pub fn definitions(
+        &mut self,
+        alloc: Global,
+        edition: Edition,
+    ) -> Result<(MacroDefs, List<Head>), Stop>
         ensures reads { (rest : List Need) →
             Gives result (λ x v. (record { macros = map macro_of x.0; heads = x.1 }, v))
-            (ahead self.old (group MacrosGroup 0 ∷ rest)) (ahead self.new rest) }
+            (ahead self.old (group (MacrosGroup edition) 0 ∷ rest)) (ahead self.new rest) }
         ensures no_longer { length self.new.rest.now ≤ length self.old.rest.now }
     {
         let mut all = MacroDefs::new(alloc);
         let mut heads = List::new(alloc);
         'each: while self.starts(Terminal::Macro) {
-            let (next, head) = self.definition(alloc)?;
+            let (next, head) = self.definition(alloc, edition)?;
             all.push(next)?;
             heads.push(head)?;
         }

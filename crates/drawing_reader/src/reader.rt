@@ -1,7 +1,9 @@
 //! Reads a whole text.
 
-ghost use Rattle.std.specs.Prelude.{◌≡◌, ◌≢◌, IsTrue, IsFalse, ◌<◌, List, [], ◌∷◌, Option, Some, None, IfOk, IfErr};
+ghost use Rattle.std.specs.Prelude.{◌≡◌, ◌<◌, List, ◌∷◌, Option, Some, None, IfOk, IfErr};
 ghost use Rattle.drawing_grammar.specs.Lexeme.{kind_number, lexemes};
+ghost use Rattle.drawing_grammar.specs.Edition.{edition_by, edition_of};
+ghost use Rattle.drawing_grammar.specs.declared.edition.Edition.{Edition as Version};
 ghost use Rattle.drawing_grammar.specs.Grammar.{Need, mark, part, Text, WireBounds, PrecisionSkew, ClockSkew};
 ghost use Rattle.drawing_grammar.specs.declared.terminal.Terminal.TheVariants.{EndOfText};
 ghost use Rattle.drawing_grammar.specs.Machine.{Gives};
@@ -13,8 +15,9 @@ ghost use Rattle.drawing_grammar.specs.Draws.{Reads, IsRefused};
 ghost use Rattle.drawing_reader.specs.Sketched.{sketch_of, behind_header, headed, GivesSketch, GivesRefusal, Answers};
 ghost use Rattle.drawing_grammar.specs.Draws.{IsStop};
 
+use crate::constants::Constants;
 use crate::cursor::Cursor;
-use drawing_grammar::{Head, Letter, NumberPair, Terminal, WrittenHeader};
+use drawing_grammar::{Edition, Head, Keyword, NumberPair, Terminal, WrittenHeader};
 use drawing_tree::{CaseStmts, MacroDefs, Stmts};
 use scald_base::{Bytes, List, Place, RefusalKind, Stop};
 use scald_lex::{TokenKind, TokenList};
@@ -24,6 +27,7 @@ use std::alloc::Global;
 #[derive(Drop)]
 pub struct Sketch {
     pub header: WrittenHeader,
+    pub constants: Constants,
     pub macros: MacroDefs,
     /// Where the macros' heads name what they declare.
     pub heads: List<Head>,
@@ -49,6 +53,16 @@ fn value_of(kind: TokenKind) -> i64
         TokenKind::Number(value) => value,
         _ => 0,
     }
+}
+
+/// The version by which a text with this number after SCALD is read.
+fn edition_by(version: i64) -> Edition
+    ensures { result ≡ edition_by version }
+{
+    if version == 2 {
+        return Edition::Second;
+    }
+    Edition::First
 }
 
 fn written(
@@ -126,17 +140,6 @@ impl<'a> Cursor<'a> {
         Ok(Some(pair))
     }
 
-    /// Whether no token is left.
-    fn is_done(&self) -> bool
-        ensures yes { IsTrue result → tokens_at self.now ≡ [] }
-        ensures no { IsFalse result → tokens_at self.now ≢ [] }
-    {
-        match self.peek() {
-            None => true,
-            Some(_) => false,
-        }
-    }
-
     /// The end of the text.
     fn finish(&mut self) -> Result<(), Stop>
         ensures reads { EndAt result self.old }
@@ -161,15 +164,17 @@ impl<'a> Cursor<'a> {
     {
         let clock = self.item(Terminal::Clock)?;
         let units = self.item(Terminal::Number)?;
-        self.letter(Letter::By)?;
+        self.keyword(Keyword::By)?;
         let ticks = self.item(Terminal::Number)?;
         self.mark(Terminal::Semicolon)?;
         Ok(pair_of(units.kind, ticks.kind, clock.place))
     }
 
+    /// The header. Its version is the one that the tokens name.
     fn header(&mut self) -> Result<WrittenHeader, Stop>
-        ensures reads { (rest : List Need) → Gives result (λ x v.
-            headed rest x v) (ahead self.old (part Text 0 ∷ rest)) (ahead self.new (behind_header rest)) }
+        ensures reads { (e : Version) (rest : List Need) → Gives result (λ x v.
+            headed e rest x v) (ahead self.old (part (Text e) 0 ∷ rest)) (ahead self.new (behind_header e rest)) }
+        ensures version { IfOk result (λ x. edition_by x.version ≡ edition_of (tokens_at self.old)) }
     {
         if !self.starts(Terminal::Scald) {
             return Err(self.refused(RefusalKind::Syntax));
@@ -185,26 +190,30 @@ impl<'a> Cursor<'a> {
     }
 
     /// The name of the drawing and its statements.
-    fn drawing(&mut self, alloc: Global) -> Result<(Bytes, Stmts), Stop>
-        ensures reads { DrawingAt result self.old self.new }
+    fn drawing(&mut self, alloc: Global, edition: Edition) -> Result<(Bytes, Stmts), Stop>
+        ensures reads { DrawingAt edition result self.old self.new }
     {
         self.mark(Terminal::Drawing)?;
         let (_, name) = self.next_word(alloc)?;
-        let body = self.body(alloc)?;
+        let body = self.body(alloc, edition)?;
         Ok((name, body))
     }
 
     /// All but the end of the text.
     fn sketch(&mut self, alloc: Global) -> Result<Sketch, Stop>
         ensures reads { (rest : List Need) → Gives result (λ x v.
-            (sketch_of x, v)) (ahead self.old (part Text 0 ∷ rest)) (ahead self.new (mark EndOfText ∷ rest)) }
+            (sketch_of x, v)) (ahead self.old (part (Text (edition_of (tokens_at self.old))) 0 ∷ rest))
+            (ahead self.new (mark EndOfText ∷ rest)) }
     {
         let header = self.header()?;
-        let (macros, heads) = self.definitions(alloc)?;
-        let (name, body) = self.drawing(alloc)?;
+        let edition = edition_by(header.version);
+        let constants = self.constants(alloc, edition)?;
+        let (macros, heads) = self.definitions(alloc, edition)?;
+        let (name, body) = self.drawing(alloc, edition)?;
         let cases = self.cases(alloc)?;
         Ok(Sketch {
             header,
+            constants,
             macros,
             heads,
             name,

@@ -1,6 +1,6 @@
-//! Reads statements. Each function is told how many IFs are open.
+//! Reads statements. Each function is told by which version of the language, and how many IFs and FORs are open.
 
-ghost use Rattle.std.specs.Prelude.{◌≡◌, ◌≢◌, ◌≤◌, ◌<◌, ℕ, List, [], ◌∷◌, ◌++◌, map, length, OnOk, option_map, Some, None};
+ghost use Rattle.std.specs.Prelude.{◌≡◌, ◌≢◌, ◌≤◌, ◌<◌, true, false, ℕ, List, [], ◌∷◌, ◌++◌, map, length, OnOk, option_map, Some, None};
 ghost use Rattle.scald_expr.specs.Expression.{expression_of};
 ghost use Rattle.drawing_tree.specs.Tree as tree;
 ghost use Rattle.drawing_tree.specs.Tree.{assignment_of, both_of, connection_of, use_of, wire_of, statement_of, statements_of, else_of};
@@ -8,13 +8,16 @@ ghost use Rattle.drawing_grammar.specs.Grammar.{Need, fresh, mark, part, group, 
 ghost use Rattle.std.specs.Prelude.{is_some};
 ghost use Rattle.drawing_grammar.specs.declared.terminal.Terminal.TheVariants.{EndOfText};
 ghost use Rattle.drawing_grammar.specs.Machine.{Gives, choice};
-ghost use Rattle.drawing_reader.specs.Reader.{tokens_at, ahead, body, DetailsAt};
-ghost use Rattle.drawing_grammar.specs.Front.{first_terminal};
+ghost use Rattle.drawing_reader.specs.Reader.{tokens_at, ahead, body, DetailsAt, ValuesAt};
+ghost use Rattle.drawing_grammar.specs.Front.{first_terminal, at_loop};
+ghost use Rattle.drawing_grammar.specs.declared.edition.Edition.{Edition as Version};
 
 use crate::cursor::Cursor;
-use drawing_grammar::{Places, Terminal};
-use drawing_tree::{Assign, Assigns, Conns, IfStmt, Stmt, Stmts, UseStmt, WireStmt};
-use scald_base::{NoMemory, Place, RefusalKind, Stop};
+use drawing_grammar::{Edition, Keyword, Terminal};
+use drawing_tree::{
+    Assign, Assigns, Conns, ForStmt, IfStmt, Places, Stmt, Stmts, UseStmt, WireStmt,
+};
+use scald_base::{Bytes, NoMemory, Place, RefusalKind, Stop};
 use scald_expr::Expr;
 use std::alloc::Global;
 
@@ -94,18 +97,6 @@ impl<'a> Cursor<'a> {
         let all = self.assigns(alloc)?;
         self.mark(Terminal::CloseBrace)?;
         Ok(all)
-    }
-
-    /// Two sums with a colon between them.
-    fn two_sums(&mut self, alloc: Global) -> Result<(Expr, Expr), Stop>
-        ensures reads { (rest : List Need) → Gives result (λ x v. (expression_of x.0, (expression_of x.1, v)))
-            (ahead self.old (own_sum (mark Terminal.Colon ∷ own_sum rest))) (ahead self.new rest) }
-        ensures no_longer { length self.new.rest.now ≤ length self.old.rest.now }
-    {
-        let min = self.own_sum(alloc)?;
-        self.mark(Terminal::Colon)?;
-        let max = self.own_sum(alloc)?;
-        Ok((min, max))
     }
 
     /// Two sums with a colon between them, and what closes them.
@@ -192,8 +183,9 @@ impl<'a> Cursor<'a> {
 
     fn use_statement(&mut self, alloc: Global) -> Result<UseStmt, Stop>
         requires { first_terminal (tokens_at self.old) ≡ Terminal.Word }
-        ensures reads { (n : ℕ) (rest : List Need) → Gives result (λ x v.
-            (tree.Use (use_of x), v)) (ahead self.old (part StatementPart n ∷ rest)) (ahead self.new rest) }
+        ensures reads { (e : Version) (n : ℕ) (rest : List Need) → at_loop e (tokens_at self.old) ≡ false →
+            Gives result (λ x v. (tree.Use (use_of x), v))
+            (ahead self.old (part (StatementPart e) n ∷ rest)) (ahead self.new rest) }
         ensures shorter { OnOk result (length self.new.rest.now < length self.old.rest.now) }
         ensures no_longer { length self.new.rest.now ≤ length self.old.rest.now }
     {
@@ -216,8 +208,8 @@ impl<'a> Cursor<'a> {
 
     fn wire_statement(&mut self, alloc: Global) -> Result<WireStmt, Stop>
         requires { first_terminal (tokens_at self.old) ≡ Terminal.Wire }
-        ensures reads { (n : ℕ) (rest : List Need) → Gives result (λ x v.
-            (tree.Wire (wire_of x), v)) (ahead self.old (part StatementPart n ∷ rest)) (ahead self.new rest) }
+        ensures reads { (e : Version) (n : ℕ) (rest : List Need) → Gives result (λ x v.
+            (tree.Wire (wire_of x), v)) (ahead self.old (part (StatementPart e) n ∷ rest)) (ahead self.new rest) }
         ensures shorter { OnOk result (length self.new.rest.now < length self.old.rest.now) }
         ensures no_longer { length self.new.rest.now ≤ length self.old.rest.now }
     {
@@ -256,19 +248,33 @@ impl<'a> Cursor<'a> {
         Ok(())
     }
 
+    /// The variable of a FOR, and the first and the last value that it takes.
+    fn values(&mut self, alloc: Global) -> Result<(Bytes, Expr, Expr), Stop>
+        ensures reads { ValuesAt result self.old self.new }
+        ensures no_longer { length self.new.rest.now ≤ length self.old.rest.now }
+    {
+        let (_, var) = self.next_word(alloc)?;
+        self.mark(Terminal::Equals)?;
+        let first = self.own_sum(alloc)?;
+        self.keyword(Keyword::To)?;
+        let last = self.own_sum(alloc)?;
+        self.keyword(Keyword::Do)?;
+        Ok((var, first, last))
+    }
+
     #[cycle(statement)]
-    fn if_statement(&mut self, alloc: Global, depth: usize) -> Result<Stmt, Stop>
+    fn if_statement(&mut self, alloc: Global, edition: Edition, depth: usize) -> Result<Stmt, Stop>
         requires { first_terminal (tokens_at self.old) ≡ Terminal.If }
         ensures reads { (rest : List Need) → Gives result (λ x v.
-            (statement_of x, v)) (ahead self.old (part StatementPart depth ∷ rest)) (ahead self.new rest) }
+            (statement_of x, v)) (ahead self.old (part (StatementPart edition) depth ∷ rest)) (ahead self.new rest) }
         ensures shorter { OnOk result (length self.new.rest.now < length self.old.rest.now) }
         ensures no_longer { length self.new.rest.now ≤ length self.old.rest.now }
     {
         let inner = self.deeper(depth)?;
         let token = self.bump();
         let test = self.condition(alloc)?;
-        let yes = self.statements(alloc, inner)?;
-        let no = self.otherwise(alloc, inner)?;
+        let yes = self.statements(alloc, edition, inner)?;
+        let no = self.otherwise(alloc, edition, inner)?;
         self.end()?;
         Ok(Stmt::If(IfStmt {
             test,
@@ -279,12 +285,37 @@ impl<'a> Cursor<'a> {
     }
 
     #[cycle(statement)]
-    fn statement(&mut self, alloc: Global, depth: usize) -> Result<Stmt, Stop>
-        ensures reads { (rest : List Need) → Gives result (λ x v.
-            (statement_of x, v)) (ahead self.old (part StatementPart depth ∷ rest)) (ahead self.new rest) }
+    fn for_statement(&mut self, alloc: Global, depth: usize) -> Result<Stmt, Stop>
+        requires { at_loop Edition.Second (tokens_at self.old) ≡ true }
+        ensures reads { (rest : List Need) → Gives result (λ x v. (statement_of x, v))
+            (ahead self.old (part (StatementPart Edition.Second) depth ∷ rest)) (ahead self.new rest) }
         ensures shorter { OnOk result (length self.new.rest.now < length self.old.rest.now) }
         ensures no_longer { length self.new.rest.now ≤ length self.old.rest.now }
     {
+        let inner = self.deeper(depth)?;
+        let token = self.bump();
+        let (var, first, last) = self.values(alloc)?;
+        let body = self.statements(alloc, Edition::Second, inner)?;
+        self.end()?;
+        Ok(Stmt::For(ForStmt {
+            var,
+            first,
+            last,
+            body,
+            place: token.place,
+        }))
+    }
+
+    #[cycle(statement)]
+    fn statement(&mut self, alloc: Global, edition: Edition, depth: usize) -> Result<Stmt, Stop>
+        ensures reads { (rest : List Need) → Gives result (λ x v.
+            (statement_of x, v)) (ahead self.old (part (StatementPart edition) depth ∷ rest)) (ahead self.new rest) }
+        ensures shorter { OnOk result (length self.new.rest.now < length self.old.rest.now) }
+        ensures no_longer { length self.new.rest.now ≤ length self.old.rest.now }
+    {
+        if self.at_loop(edition) {
+            return self.for_statement(alloc, depth);
+        }
         match self.look() {
             Terminal::Word => {
                 let part = self.use_statement(alloc)?;
@@ -295,58 +326,64 @@ impl<'a> Cursor<'a> {
                 Ok(Stmt::Wire(wire))
             }
             Terminal::If => {
-                let choice = self.if_statement(alloc, depth)?;
+                let choice = self.if_statement(alloc, edition, depth)?;
                 Ok(choice)
             }
             _ => Err(self.refused(RefusalKind::Syntax)),
         }
     }
 
-    /// Whether a statement stands here.
-    fn at_statement(&self) -> bool
-        ensures { result ≡ is_some (choice StatementPart (first_terminal (tokens_at self.now))) }
+    /// Whether a statement of this version may begin here. FOR is one of the words that may, as a label or not.
+    fn at_statement(&self, edition: Edition) -> bool
+        ensures { result ≡ is_some (choice (StatementPart edition) (first_terminal (tokens_at self.now))) }
     {
         matches!(self.look(), Terminal::Word | Terminal::Wire | Terminal::If)
     }
 
     /// The statements of a macro or of a drawing, from the semicolon in front of them to the END after them.
-    pub fn body(&mut self, alloc: Global) -> Result<Stmts, Stop>
+    pub fn body(&mut self, alloc: Global, edition: Edition) -> Result<Stmts, Stop>
         ensures reads { (rest : List Need) →
-            Gives result (λ x v. (statements_of x.items, v)) (ahead self.old (body rest)) (ahead self.new rest) }
+            Gives result (λ x v. (statements_of x.items, v))
+            (ahead self.old (body edition rest)) (ahead self.new rest) }
         ensures no_longer { length self.new.rest.now ≤ length self.old.rest.now }
     {
         self.mark(Terminal::Semicolon)?;
-        let all = self.statements(alloc, 0)?;
+        let all = self.statements(alloc, edition, 0)?;
         self.end()?;
         Ok(all)
     }
 
     /// Statements, as many as stand here.
     #[cycle(statement)]
-    fn statements(&mut self, alloc: Global, depth: usize) -> Result<Stmts, Stop>
-        ensures reads { (rest : List Need) → Gives result (λ x v.
-            (statements_of x.items, v)) (ahead self.old (group StatementsGroup depth ∷ rest)) (ahead self.new rest) }
+    fn statements(&mut self, alloc: Global, edition: Edition, depth: usize) -> Result<Stmts, Stop>
+        ensures reads { (rest : List Need) → Gives result (λ x v. (statements_of x.items, v))
+            (ahead self.old (group (StatementsGroup edition) depth ∷ rest)) (ahead self.new rest) }
         ensures no_longer { length self.new.rest.now ≤ length self.old.rest.now }
     {
         let mut all = Stmts::new(alloc);
-        'each: while self.at_statement() {
-            let next = self.statement(alloc, depth)?;
+        'each: while self.at_statement(edition) {
+            let next = self.statement(alloc, edition, depth)?;
             put(&mut all, next)?;
         }
         Ok(all)
     }
 
     #[cycle(statement)]
-    fn otherwise(&mut self, alloc: Global, depth: usize) -> Result<Option<Stmts>, Stop>
+    fn otherwise(
+        &mut self,
+        alloc: Global,
+        edition: Edition,
+        depth: usize,
+    ) -> Result<Option<Stmts>, Stop>
         ensures reads { (rest : List Need) → Gives result (λ x v.
-            (else_of x, v)) (ahead self.old (part OtherwisePart depth ∷ rest)) (ahead self.new rest) }
+            (else_of x, v)) (ahead self.old (part (OtherwisePart edition) depth ∷ rest)) (ahead self.new rest) }
         ensures no_longer { length self.new.rest.now ≤ length self.old.rest.now }
     {
         if !self.starts(Terminal::Else) {
             return Ok(None);
         }
         self.bump();
-        let no = self.statements(alloc, depth)?;
+        let no = self.statements(alloc, edition, depth)?;
         Ok(Some(no))
     }
 }

@@ -1,6 +1,7 @@
 use Rattle.std.proofs.Common.{sym, refl}
 use Rattle.drawing_reader.specs.Sketched.{sketch_of}
 use Rattle.drawing_grammar.proofs.Drawn.{stop_of_grammar, header_wrong, name_wrong, double_wrong, draws_it}
+use Rattle.drawing_grammar.proofs.Formed.{judged_ok}
 use Rattle.drawing_reader.proofs.Slices.{names_of_slice, good_of_slice, double_of_slices, distinct_of_slices}
 use Rattle.drawing_reader.proofs.drawing.judged_drawing.Goals as goal
 
@@ -19,10 +20,11 @@ pub returns-in-Err-distinct_names-clause-refused : goal.returns-in-Err-distinct_
 returns-in-Err-distinct_names-clause-refused c =
     double_wrong _ (sketch_of c.in-Ok.sketch) _ _ c.in-Ok.ensures.found (sym c.in-Ok-judged_header.ensures)
     (good_of_slice _ _ _ _ c.as_slice.ensures c.in_default.ensures)
-    (double_of_slices _ _ _ _ _ _ c.as_slice-2.ensures c.as_slice-3.ensures.value c.in-Err-distinct_names.ensures)
+    (double_of_slices _ _ _ _ _ _ _ _ c.as_slice-2.ensures c.as_slice-3.ensures.value c.in-Err-distinct_names.ensures)
 
 pub returns-clause-drawn : goal.returns-clause-drawn
 returns-clause-drawn c =
+    let said = judged_ok (sketch_of c.in-Ok.sketch).header _ (sym c.in-Ok-judged_header.ensures) in
     draws_it _ (sketch_of c.in-Ok.sketch) _ _ c.in-Ok.ensures.found (sym c.in-Ok-judged_header.ensures)
     (good_of_slice _ _ _ _ c.as_slice.ensures c.in_default.ensures)
-    (distinct_of_slices _ _ _ _ _ c.as_slice-2.ensures c.as_slice-3.ensures.value c.in_default-distinct_names.ensures) refl
+    (distinct_of_slices _ _ _ _ _ _ _ c.as_slice-2.ensures c.as_slice-3.ensures.value c.in_default-distinct_names.ensures) (rw (c.version_of.ensures said.1) refl)

@@ -9,6 +9,9 @@ use Rattle.drawing_reader.proofs.cursor.Cursor.+statement.Given as goal
 abbrev pub decreases-if_statement : goal.decreases-if_statement
 decreases-if_statement l = 4 * (64 - l.depth) + 1
 
+abbrev pub decreases-for_statement : goal.decreases-for_statement
+decreases-for_statement l = 4 * (64 - l.depth) + 1
+
 abbrev pub decreases-statement : goal.decreases-statement
 decreases-statement l = 4 * (64 - l.depth) + 2
 
@@ -20,7 +23,8 @@ decreases-otherwise l = 4 * (64 - l.depth) + 4
 
 abbrev pub invariant-statements-each : goal.invariant-statements-each
 invariant-statements-each l = record {
-  reads : (rest : List Need) → Moves (ahead l.fn.self (group Statements l.depth ∷ rest)) (ahead l.self (group Statements l.depth ∷ rest)) (λ v. (followed (map statement_of l.all.items) v.0, v.1));
+  reads : (rest : List Need) → Moves (ahead l.fn.self (group (Statements l.edition) l.depth ∷ rest)) (ahead l.self (group (Statements l.edition) l.depth ∷ rest))
+      (λ v. (followed (map statement_of l.all.items) v.0, v.1));
   no_longer : length l.self.rest.now ≤ length l.fn.self.rest.now;
 }
 

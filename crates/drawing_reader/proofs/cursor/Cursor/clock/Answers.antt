@@ -12,16 +12,16 @@ returns-in_err-units c = record {
       rw (p.1, p.2) (λ rest. stops (c.in_ok-clock.ensures.reads _) (c.in_err-units.ensures.reads _));
 }
 
-pub returns-in_err-letter : goal.returns-in_err-letter
-returns-in_err-letter c = record {
-  reads = let p = err_from_is_err_and c.from_residual-in_err-letter.result c.from_residual-in_err-letter.ensures.1 in
-      rw (p.1, p.2) (λ rest. stops (moves (c.in_ok-clock.ensures.reads _) (c.in_ok-units.ensures.reads _)) (c.in_err-letter.ensures.reads _));
+pub returns-in_err-keyword : goal.returns-in_err-keyword
+returns-in_err-keyword c = record {
+  reads = let p = err_from_is_err_and c.from_residual-in_err-keyword.result c.from_residual-in_err-keyword.ensures.1 in
+      rw (p.1, p.2) (λ rest. stops (moves (c.in_ok-clock.ensures.reads _) (c.in_ok-units.ensures.reads _)) (c.in_err-keyword.ensures.reads _));
 }
 
 pub returns-in_err-ticks : goal.returns-in_err-ticks
 returns-in_err-ticks c = record {
   reads = let p = err_from_is_err_and c.from_residual-in_err-ticks.result c.from_residual-in_err-ticks.ensures.1 in
-      rw (p.1, p.2) (λ rest. stops (moves (moves (c.in_ok-clock.ensures.reads _) (c.in_ok-units.ensures.reads _)) (c.in_ok-letter.ensures.reads _))
+      rw (p.1, p.2) (λ rest. stops (moves (moves (c.in_ok-clock.ensures.reads _) (c.in_ok-units.ensures.reads _)) (c.in_ok-keyword.ensures.reads _))
       (c.in_err-ticks.ensures.reads _));
 }
 
@@ -29,7 +29,7 @@ pub returns-in_err-mark : goal.returns-in_err-mark
 returns-in_err-mark c = record {
   reads = let p = err_from_is_err_and c.from_residual-in_err-mark.result c.from_residual-in_err-mark.ensures.1 in
       rw (p.1, p.2) (λ rest. stops (moves (moves (moves (c.in_ok-clock.ensures.reads _) (c.in_ok-units.ensures.reads _))
-      (c.in_ok-letter.ensures.reads _)) (c.in_ok-ticks.ensures.reads _)) (c.in_err-mark.ensures.reads _));
+      (c.in_ok-keyword.ensures.reads _)) (c.in_ok-ticks.ensures.reads _)) (c.in_err-mark.ensures.reads _));
 }
 
 pub returns : goal.returns
@@ -37,9 +37,9 @@ returns c = record {
   reads = (
     at c.args.self.now c.in_ok-clock.clock,
     at c.item.new.self c.in_ok-units.units,
-    at c.letter.new.self c.in_ok-ticks.ticks,
+    at c.keyword.new.self c.in_ok-ticks.ticks,
     c.pair_of.ensures,
-    λ rest. moves (moves (moves (moves (c.in_ok-clock.ensures.reads _) (c.in_ok-units.ensures.reads _)) (c.in_ok-letter.ensures.reads _))
+    λ rest. moves (moves (moves (moves (c.in_ok-clock.ensures.reads _) (c.in_ok-units.ensures.reads _)) (c.in_ok-keyword.ensures.reads _))
         (c.in_ok-ticks.ensures.reads _)) (c.in_ok-mark.ensures.reads _),
   );
 }

@@ -8,7 +8,7 @@ use Rattle.drawing_reader.proofs.cursor.Cursor.definitions.Given as goal
 
 abbrev pub invariant-each : goal.invariant-each
 invariant-each l = record {
-  reads : (rest : List Need) → Moves (ahead l.fn.self (group g.Macros 0 ∷ rest)) (ahead l.self (group g.Macros 0 ∷ rest))
+  reads : (rest : List Need) → Moves (ahead l.fn.self (group (g.Macros l.edition) 0 ∷ rest)) (ahead l.self (group (g.Macros l.edition) 0 ∷ rest))
       (λ v. (record { macros = map tree.macro_of l.all ++ v.0.macros; heads = l.heads ++ v.0.heads }, v.1));
   no_longer : length l.self.rest.now ≤ length l.fn.self.rest.now;
 }

@@ -1,6 +1,6 @@
 use Rattle.std.proofs.Common.{false, refl}
 use Rattle.std.proofs.lemmas.Result.{err_from_is_err_and}
-use Rattle.drawing_grammar.specs.Grammar.{Need, part, group, fresh, mark, item, letter}
+use Rattle.drawing_grammar.specs.Grammar.{Need, part, group, fresh, mark, item, keyword}
 use Rattle.drawing_grammar.specs.Grammar as g
 use Rattle.drawing_reader.specs.Reader.{tokens_at}
 use Rattle.drawing_grammar.specs.Front.{first_terminal}
@@ -12,12 +12,12 @@ use Rattle.drawing_reader.proofs.cursor.Cursor.hold.Goals as goal
 pub returns-then-not-starts-clause-reads : goal.returns-then-not-starts-clause-reads
 returns-then-not-starts-clause-reads c = λ rest. left_out g.Hold 0 c.args.self.now false (none.no_hold (first_terminal (tokens_at c.args.self.now)) (c.starts.ensures.no (cc))) refl rest
 
-pub returns-in_err-letter-clause-reads : goal.returns-in_err-letter-clause-reads
-returns-in_err-letter-clause-reads c = let p =
+pub returns-in_err-keyword-clause-reads : goal.returns-in_err-keyword-clause-reads
+returns-in_err-keyword-clause-reads c = let p =
     err_from_is_err_and c.from_residual.result c.from_residual.ensures.1 in
     rw (p.1, p.2) (λ rest. stops (plainly g.hold 0 c.args.self.now c.bump.new.self c.bump.result
-    refl (c.starts.ensures.yes (cc)) c.bump.ensures.taken c.bump.ensures.operators rest) (c.in_err-letter.ensures.reads _))
+    refl (c.starts.ensures.yes (cc)) c.bump.ensures.taken c.bump.ensures.operators rest) (c.in_err-keyword.ensures.reads _))
 
 pub returns-clause-reads : goal.returns-clause-reads
 returns-clause-reads c = λ rest. moves (plainly g.hold 0 c.args.self.now c.bump.new.self c.bump.result
-    refl (c.starts.ensures.yes (cc)) c.bump.ensures.taken c.bump.ensures.operators rest) (c.in_ok-letter.ensures.reads _)
+    refl (c.starts.ensures.yes (cc)) c.bump.ensures.taken c.bump.ensures.operators rest) (c.in_ok-keyword.ensures.reads _)

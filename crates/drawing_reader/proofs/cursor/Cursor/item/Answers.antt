@@ -10,5 +10,8 @@ returns-then-not-starts-clause-reads c = λ rest. rw c.refused.ensures (refuses 
 pub returns-clause-reads : goal.returns-clause-reads
 returns-clause-reads c = λ rest. items c.args.terminal c.args.self.now c.bump.new.self c.bump.result c.requires (c.starts.ensures.yes (cc)) c.bump.ensures.taken c.bump.ensures.operators rest
 
+pub returns-clause-taken : goal.returns-clause-taken
+returns-clause-taken c = c.bump.ensures.taken (λ z. c.requires (sym (c.starts.ensures.yes (cc)) ∙ z))
+
 pub returns-clause-shorter : goal.returns-clause-shorter
 returns-clause-shorter c = let h = c.bump.ensures.shorter (λ z. c.requires (sym (c.starts.ensures.yes (cc)) ∙ z)) in omega arith

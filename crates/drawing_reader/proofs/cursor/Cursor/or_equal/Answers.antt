@@ -1,5 +1,5 @@
 use Rattle.std.proofs.Common.{false, refl}
-use Rattle.drawing_grammar.specs.Grammar.{Need, part, group, fresh, mark, item, letter}
+use Rattle.drawing_grammar.specs.Grammar.{Need, part, group, fresh, mark, item, keyword}
 use Rattle.drawing_grammar.specs.Grammar as g
 use Rattle.drawing_reader.specs.Reader.{tokens_at}
 use Rattle.drawing_grammar.specs.Front.{first_terminal}

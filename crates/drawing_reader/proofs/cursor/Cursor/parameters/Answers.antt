@@ -1,6 +1,6 @@
 use Rattle.std.proofs.Common.{refl}
 use Rattle.std.proofs.lemmas.Result.{err_from_is_err_and}
-use Rattle.drawing_grammar.specs.Grammar.{Need, part, group, fresh, mark, item, letter}
+use Rattle.drawing_grammar.specs.Grammar.{Need, part, group, fresh, mark, item, keyword}
 use Rattle.drawing_grammar.specs.Grammar as g
 use Rattle.drawing_grammar.specs.Sketch as s
 use Rattle.drawing_reader.specs.Reader.{tokens_at}

@@ -1,10 +1,10 @@
 use Rattle.std.proofs.Common.{[], ◌∷◌, ◌++◌, ◌+◌, drop, sym, ap, ◌∙◌}
 use Rattle.std.proofs.lemmas.Result.{err_from_is_err_and}
-use Rattle.drawing_tree.specs.Tree.{statements_of, statement_of, if_of, else_of}
+use Rattle.drawing_tree.specs.Tree.{statements_of, statement_of, if_of, for_of, else_of}
 use Rattle.drawing_grammar.specs.declared.declared.Kind.TheVariants.{Label}
 use Rattle.drawing_grammar.specs.DoubleNames.{declaration, labels, statement_labels, else_labels}
 use Rattle.drawing_grammar.proofs.Doubles.{goes_on, goes_end, stop_there, stop_first, declares_none, declared_as, stopped_as, given_as, given_later}
-use Rattle.drawing_reader.proofs.Labels.{next_statement, no_labels, if_labels, then_labels, both_labels, label_of, no_label}
+use Rattle.drawing_reader.proofs.Labels.{next_statement, no_labels, if_labels, for_labels, then_labels, both_labels, label_of, no_label}
 use Rattle.drawing_reader.proofs.double_names.Declarations.+labels.Goals as goal
 
 pub statements-returns-in_err-statement : goal.statements-returns-in_err-statement
@@ -63,3 +63,10 @@ pub statement-returns-in-Wire : goal.statement-returns-in-Wire
 statement-returns-in-Wire t c =
     declared_as c.args.self.now c.args.self.now [] (statement_labels c.args.scope (statement_of c.args.statement.now))
     (no_label c.args.scope c.in-Wire.field-0 c.args.statement.now c.in-Wire.is) (declares_none c.args.self.now)
+
+pub repeated-returns : goal.repeated-returns
+repeated-returns t c =
+    let ds = labels c.args.scope (statements_of c.as_slice.result.now) in
+    given_as c.statements.result c.args.self.now c.statements.new.self ds (statement_labels c.args.scope (for_of c.args.repeated.now))
+    (for_labels c.args.scope c.args.repeated.now ∙ ap (λ xs. labels c.args.scope (statements_of xs)) (sym c.as_slice.ensures.value))
+    c.statements.ensures

@@ -1,0 +1,24 @@
+use Rattle.std.proofs.Common.{◌≤◌, List, ◌∷◌, ◌++◌, length, map}
+use Rattle.drawing_tree.specs.Tree as tree
+use Rattle.drawing_grammar.specs.Grammar.{Need, group}
+use Rattle.drawing_grammar.specs.Grammar as g
+use Rattle.drawing_grammar.specs.Machine.{Moves}
+use Rattle.drawing_reader.specs.Reader.{ahead}
+use Rattle.drawing_reader.proofs.cursor.Cursor.some_constants.Given as goal
+
+abbrev pub invariant-each : goal.invariant-each
+invariant-each l = record {
+  reads : (rest : List Need) → Moves (ahead l.fn.self (group g.Constants 0 ∷ rest)) (ahead l.self (group g.Constants 0 ∷ rest))
+      (λ v. (
+        record {
+          constants = map tree.assignment_of l.consts ++ v.0.constants;
+          places = l.places ++ v.0.places;
+          name_places = l.name_places ++ v.0.name_places;
+        },
+        v.1,
+      ));
+  no_longer : length l.self.rest.now ≤ length l.fn.self.rest.now;
+}
+
+abbrev pub decreases-each : goal.decreases-each
+decreases-each l = length l.self.rest.now
