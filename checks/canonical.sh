@@ -18,16 +18,19 @@ formats() {
     fi
 }
 
+# the version of the language in which drawn and statement write
+version=1
+
 # drawn NAME TEXT LINE ..: the lines of a text after a header of two statements
 drawn() {
     name=$1
     text=$2
     shift 2
     {
-        printf 'SCALD 1;\nCLOCK 8 x 50;\nWIRE 0:0;\nPSKEW 0:0;\nCSKEW 0:0;\n'
+        printf 'SCALD %s;\nCLOCK 8 x 50;\nWIRE 0:0;\nPSKEW 0:0;\nCSKEW 0:0;\n' "$version"
         printf '%s\n' "$@"
     } >"$work/want"
-    formats "$name" "SCALD 1;CLOCK 8 x 50;$text"
+    formats "$name" "SCALD $version;CLOCK 8 x 50;$text"
 }
 
 # statement NAME TEXT LINE ..: the lines of a statement in a drawing, without the two spaces that begin each
@@ -36,11 +39,11 @@ statement() {
     text=$2
     shift 2
     {
-        printf 'SCALD 1;\nCLOCK 8 x 50;\nWIRE 0:0;\nPSKEW 0:0;\nCSKEW 0:0;\nDRAWING D;\n'
+        printf 'SCALD %s;\nCLOCK 8 x 50;\nWIRE 0:0;\nPSKEW 0:0;\nCSKEW 0:0;\nDRAWING D;\n' "$version"
         printf '  %s\n' "$@"
         printf 'END;\n'
     } >"$work/want"
-    formats "$name" "SCALD 1;CLOCK 8 x 50;DRAWING D;${text}END;"
+    formats "$name" "SCALD $version;CLOCK 8 x 50;DRAWING D;${text}END;"
 }
 
 # --- expressions
@@ -104,5 +107,39 @@ printf '%s\n' 'SCALD 1;' 'CLOCK 10 x 5;' 'WIRE 1:2;' 'PSKEW 3:4;' 'CSKEW 5:6;' '
 formats 'all statements of a header' 'SCALD 1;CLOCK 10 x 5;WIRE 1:2;PSKEW 3:4;CSKEW 5:6;DRAWING D;END;'
 printf '%s\n' 'SCALD 1;' 'CLOCK 8 x 50;' 'WIRE 0:0;' 'PSKEW 0:0;' 'CSKEW 0:0;' 'DRAWING T;' '  b1 : BUF [0:0] (-"A") -> ("B");' 'END;' >"$work/want"
 formats 'a drawing on one line' 'SCALD 1; CLOCK 8 x 50; DRAWING T; b1:BUF[0:0](-"A")->("B"); END;'
+
+# --- version 2, and its words in version 1
+statement 'words of version 2 in version 1' 'FOR:TO{DO=CONST}("X"<FOR>);' 'FOR : TO {DO=CONST} ("X"<FOR>);'
+drawn 'names of version 2 in version 1' 'MACRO FOR{TO=DO}();END;DRAWING CONST;END;' 'MACRO FOR {TO=DO} ();' 'END;' 'DRAWING CONST;' 'END;'
+version=2
+drawn 'a drawing of version 2' 'DRAWING D;END;' 'DRAWING D;' 'END;'
+drawn 'a constant' 'CONST N=4;DRAWING D;END;' 'CONST N = 4;' 'DRAWING D;' 'END;'
+drawn 'constants before macros' 'CONST A=1;CONST TO=-(A)+2*(A)-(1<A);MACRO M();END;DRAWING D;END;' \
+    'CONST A = 1;' 'CONST TO = -A + 2 * A - (1 < A);' 'MACRO M ();' 'END;' 'DRAWING D;' 'END;'
+drawn 'a FOR in a macro' 'MACRO M{N=1}();FOR I=1 TO N DO a:B();END;END;DRAWING D;END;' \
+    'MACRO M {N=1} ();' '  FOR I = 1 TO N DO' '    a : B ();' '  END;' 'END;' 'DRAWING D;' 'END;'
+drawn 'names in version 2' 'CONST CONST=1;MACRO FOR{TO=DO}();END;DRAWING CONST;END;' \
+    'CONST CONST = 1;' 'MACRO FOR {TO=DO} ();' 'END;' 'DRAWING CONST;' 'END;'
+statement 'a FOR' 'FOR I=1 TO N DO a:B("X"<I>);END;' 'FOR I = 1 TO N DO' '  a : B ("X"<I>);' 'END;'
+statement 'a FOR of nothing' 'FOR I=(0)TO-1 DO END;' 'FOR I = 0 TO -1 DO' 'END;'
+statement 'a comparison as the last value' 'FOR I=A-(B-1)TO(A=1)DO END;' 'FOR I = A - (B - 1) TO (A = 1) DO' 'END;'
+statement 'a FOR within a FOR' 'FOR I=0 TO 1 DO FOR J=I TO 2*I DO a:B();END;b:B();END;' \
+    'FOR I = 0 TO 1 DO' '  FOR J = I TO 2 * I DO' '    a : B ();' '  END;' '  b : B ();' 'END;'
+statement 'FORs within an IF' 'IF A THEN FOR I=0 TO 1 DO END;ELSE FOR I=0 TO 1 DO IF I THEN END;END;END;' \
+    'IF A THEN' '  FOR I = 0 TO 1 DO' '  END;' 'ELSE' '  FOR I = 0 TO 1 DO' '    IF I THEN' '    END;' '  END;' 'END;'
+statement 'a use with the label FOR' 'FOR:BUF();' 'FOR : BUF ();'
+statement 'words of a FOR as names' 'FOR FOR=DO TO DO DO FOR:TO{CONST=FOR}();END;FOR TO=TO TO TO DO END;' \
+    'FOR FOR = DO TO DO DO' '  FOR : TO {CONST=FOR} ();' 'END;' 'FOR TO = TO TO TO DO' 'END;'
+awk 'BEGIN {
+    print "SCALD 2;\nCLOCK 8 x 50;\nWIRE 0:0;\nPSKEW 0:0;\nCSKEW 0:0;\nDRAWING D;"
+    for (i = 0; i < 64; i++) { margin = margin "  "; print margin "FOR I = 0 TO 0 DO" }
+    print margin "  FOR : BUF ();"
+    for (; i > 0; i--) print substr(margin, 1, 2 * i) "END;"
+    print "END;"
+}' >"$work/want"
+formats 'the label FOR in 64 FORs' \
+    "SCALD 2;CLOCK 8 x 50;DRAWING D;$(many 64 'FOR I=0 TO 0 DO ')FOR:BUF();$(many 64 'END;')END;"
+printf '%s\n' 'SCALD 2;' 'CLOCK 8 x 50;' 'WIRE 0:0;' 'PSKEW 0:0;' 'CSKEW 0:0;' 'DRAWING D;' 'END;' >"$work/want"
+formats 'zeros before a version' 'SCALD 002;CLOCK 8 x 50;DRAWING D;END;'
 
 ended

@@ -52,6 +52,16 @@ drawing() {
     drawing_of "$@" | unexpanded "$want"
 }
 
+# second WANT LINE ..: a text of version 2 of these lines from line 3 on, refused before the expansion
+second() {
+    want=$1
+    shift
+    {
+        printf 'SCALD 2;\nCLOCK 8 x 50;\n'
+        printf '%s\n' "$@"
+    } | refused "$want"
+}
+
 # macro WANT HEAD LINE ..: a macro M with this head and body from line 3 on, refused where it is used, or before
 macro() {
     command=$1
@@ -97,7 +107,10 @@ early '15 TooDeep 4:641' "$(many 65 'IF 1 THEN ')b1 : BUF [0:0] (\"A\") -> (\"X\
 
 # --- header
 text '3 Syntax 2:13' 'SCALD 2;' 'CLOCK 8 x 0;;'
-text '4 BadHeader 1:1' 'SCALD 2;' 'CLOCK 8 x 50;' 'DRAWING ROW;' 'END;'
+text '4 BadHeader 1:1' 'SCALD 3;' 'CLOCK 8 x 50;' 'DRAWING ROW;' 'END;'
+text '4 BadHeader 1:1' 'SCALD 0;' 'CLOCK 8 x 50;' 'DRAWING ROW;' 'END;'
+text '4 BadHeader 1:1' 'SCALD 21;' 'CLOCK 8 x 50;' 'DRAWING ROW;' 'END;'
+text '4 BadHeader 2:1' 'SCALD 2;' 'CLOCK 8 x 0;' 'DRAWING ROW;' 'END;'
 text '4 BadHeader 2:1' 'SCALD 1;' 'CLOCK 8 x 0;' 'DRAWING ROW;' 'END;'
 text '4 BadHeader 2:1' 'SCALD 1;' 'CLOCK 1 x 1;' 'DRAWING ROW;' 'END;'
 text '4 BadHeader 2:1' 'SCALD 1;' 'CLOCK 4097 x 1;' 'DRAWING ROW;' 'END;'
@@ -126,6 +139,37 @@ macro refused '5 DoubleName 5:7' 'MACRO M ();' 'END;' 'MACRO M ();' 'END;' 'DRAW
 macro refused '5 DoubleName 3:7' 'MACRO BUF ();' 'END;' 'DRAWING ROW;' 'END;'
 macro refused '5 DoubleName 3:15' 'MACRO M {N=1, N=2} ();' 'END;' 'DRAWING ROW;' 'END;'
 macro refused '5 DoubleName 3:19' 'MACRO M ("A") -> ("A");' 'END;' 'DRAWING ROW;' 'END;'
+
+# --- version 2
+early '3 Syntax 4:5' 'FOR I = 0 TO 1 DO' 'END;'
+text '3 Syntax 3:1' 'SCALD 1;' 'CLOCK 8 x 50;' 'CONST N = 4;' 'DRAWING ROW;' 'END;'
+text '3 Syntax 3:1' 'SCALD 3;' 'CLOCK 8 x 50;' 'CONST N = 4;' 'DRAWING ROW;' 'END;'
+second '3 Syntax 5:1' 'MACRO M ();' 'END;' 'CONST N = 4;' 'DRAWING ROW;' 'END;'
+second '3 Syntax 4:7' 'DRAWING ROW;' 'CONST N = 4;' 'END;'
+second '3 Syntax 3:7' 'CONST IF = 4;' 'DRAWING ROW;' 'END;'
+second '3 Syntax 3:9' 'CONST N : 4;' 'DRAWING ROW;' 'END;'
+second '3 Syntax 3:13' 'CONST N = 4 = 4;' 'DRAWING ROW;' 'END;'
+second '15 TooDeep 3:140' "CONST N = 0$(many 65 '+1');" 'DRAWING ROW;' 'END;'
+second '3 Syntax 4:4' 'DRAWING ROW;' 'FOR;' 'END;'
+second '3 Syntax 4:5' 'DRAWING ROW;' 'FOR IF = 0 TO 1 DO' 'END;' 'END;'
+second '3 Syntax 4:7' 'DRAWING ROW;' 'FOR I : BUF [0:0] ("A") -> ("X");' 'END;'
+second '3 Syntax 4:11' 'DRAWING ROW;' 'FOR : FOR = 0 TO 1 DO' 'END;' 'END;'
+second '3 Syntax 4:11' 'DRAWING ROW;' 'FOR I = 0 = 1 TO 1 DO' 'END;' 'END;'
+second '3 Syntax 4:11' 'DRAWING ROW;' 'FOR I = 0 1 DO' 'END;' 'END;'
+second '3 Syntax 4:11' 'DRAWING ROW;' 'FOR I = 0 DO' 'END;' 'END;'
+second '3 Syntax 4:16' 'DRAWING ROW;' 'FOR I = 0 TO 1 THEN' 'END;' 'END;'
+second '3 Syntax 4:19' 'DRAWING ROW;' 'FOR I = 0 TO 1 DO ELSE' 'END;' 'END;'
+second '15 TooDeep 4:271' 'DRAWING ROW;' "FOR I = 0$(many 64 '+1') TO 0$(many 65 '+1') DO" 'END;' 'END;'
+second '15 TooDeep 4:1153' 'DRAWING ROW;' "$(many 65 'FOR I = 0 TO 0 DO ')$(many 65 'END;')" 'END;'
+second '15 TooDeep 4:897' 'DRAWING ROW;' "$(many 33 'IF 1 THEN FOR I = 0 TO 0 DO ')$(many 66 'END;')" 'END;'
+second '15 TooDeep 4:897' 'DRAWING ROW;' "$(many 33 'FOR I = 0 TO 0 DO IF 1 THEN ')$(many 66 'END;')" 'END;'
+second '15 TooDeep 4:1153' 'DRAWING ROW;' "$(many 64 'FOR I = 0 TO 0 DO ')FOR;$(many 64 'END;')" 'END;'
+second '3 Syntax 4:1159' 'DRAWING ROW;' "$(many 64 'FOR I = 0 TO 0 DO ')FOR : IF;$(many 64 'END;')" 'END;'
+second '4 BadHeader 3:1' 'PSKEW 4096:0;' 'CONST N = 1;' 'CONST N = 2;' 'DRAWING ROW;' 'END;'
+second '7 BadName 4:34' 'DRAWING ROW;' 'FOR I = 0 TO 1 DO a : BUF [0:0] ("CK .P2-9") -> ("X"); END;' 'END;'
+second '5 DoubleName 4:7' 'CONST N = 1;' 'CONST N = 2;' 'MACRO BUF ();' 'END;' 'DRAWING ROW;' 'END;'
+second '5 DoubleName 5:19' 'DRAWING ROW;' 'a : BUF [0:0] ("A") -> ("X");' 'FOR I = 0 TO 1 DO a : BUF [0:0] ("B") -> ("Y"); END;' 'END;'
+second '5 DoubleName 4:47' 'DRAWING ROW;' 'FOR I = 0 TO 1 DO a : M (); FOR J = 0 TO 1 DO a : M (); END; END;' 'END;'
 
 # --- the expansion, in the order in which one statement is looked at
 macro unexpanded '16 TooMany 6:1' 'MACRO E {N=1} ();' 'IF N > 0 THEN' 'a : E {N=N-1} ();' 'b : E {N=N-1} ();' 'END;' 'END;' \
