@@ -60,6 +60,26 @@ closes_of kind = by_row (λ name form inputs closes. closes) kind
 abbrev pub row_of : Kind → KindRow
 row_of kind = row (name_of kind) (form_of kind) (inputs_of kind) (closes_of kind)
 
+-- ---- selects
+
+-- how many of its input connections, from the first on, select among those that follow
+abbrev pub selects_of : Kind → ℕ
+selects_of Buf = 0
+selects_of And = 0
+selects_of Or = 0
+selects_of Xor = 0
+selects_of Mux2 = 1
+selects_of Mux4 = 2
+selects_of Mux8 = 3
+selects_of Chg = 0
+selects_of Reg = 0
+selects_of RegRs = 0
+selects_of Latch = 0
+selects_of LatchRs = 0
+selects_of SetupHold = 0
+selects_of RiseFall = 0
+selects_of MinPulse = 0
+
 -- ---- names
 
 -- all kinds, in the order of their rows

@@ -59,7 +59,7 @@ pub const KINDS: [Kind; 15] = [
 
 impl Kind {
     ghost use Rattle.std.specs.Prelude.{◌≡◌};
-    ghost use Rattle.element_kinds.specs.Kinds.{check_of, checks_points, checks_pulses, closes_of, form_of, has_output, inputs_of, is_change, listens, may_be_marked, may_split, name_of, row_of};
+    ghost use Rattle.element_kinds.specs.Kinds.{check_of, checks_points, checks_pulses, closes_of, form_of, has_output, inputs_of, is_change, listens, may_be_marked, may_split, name_of, row_of, selects_of};
 
     /// The kind's row.
     pub fn row(self) -> Row
@@ -154,6 +154,18 @@ impl Kind {
         ensures { result ≡ listens self place }
     {
         self.form().listens_in(place)
+    }
+
+    /// How many of its input connections, from the first on, select among those that follow.
+    pub fn selects(self) -> usize
+        ensures { result ≡ selects_of self }
+    {
+        match self {
+            Kind::Mux2 => 1,
+            Kind::Mux4 => 2,
+            Kind::Mux8 => 3,
+            _ => 0,
+        }
     }
 
     /// Whether it may change after any of its pins did.

@@ -191,18 +191,18 @@ module _ (names : List Name) where
       (bound_of names) output_bound_ref output_bound output_bound_map [] (zip shapes outs))
 
   abbrev scope_with : List ℕ → List Binding → List numbered_bound.Bound → Scope
-  scope_with path env fs = record { path = path; env = env; formals = map (bound_of names) fs }
+  scope_with path env fs = record { path = path; suffix = []; env = env; formals = map (bound_of names) fs }
 
   outputs_then : (path : List ℕ) (env : List Binding) (inputs : List numbered_bound.Bound) (j k : Judged (List numbered_bound.Bound))
       (j' : Judged (List Bound)) → j' ≡ jmap (map (bound_of names)) j → k ≡ jmap (λ fs. inputs ++ fs) j →
-      judging j' (λ outputs. Ok (record { path = path; env = env; formals = map (bound_of names) inputs ++ outputs })) ≡ jmap (scope_with path env) k
+      judging j' (λ outputs. Ok (record { path = path; suffix = []; env = env; formals = map (bound_of names) inputs ++ outputs })) ≡ jmap (scope_with path env) k
   outputs_then path env inputs (Ok fs) k j' e q = rw (e, q) (rw (map-append (bound_of names) inputs fs) refl)
   outputs_then path env inputs (Err kind) k j' e q = rw (e, q) refl
 
   inputs_then : (path : List ℕ) (inside : Inside) (outs : List numbered_joined.Joined) (j : Judged (List numbered_bound.Bound)) (j' : Judged (List Bound)) →
       j' ≡ jmap (map (bound_of names)) j →
       judging j' (λ inputs. judging (collected output_bound [] (zip inside.outs (map (joined_of names) outs)))
-      (λ outputs. Ok (record { path = path; env = inside.env; formals = inputs ++ outputs })))
+      (λ outputs. Ok (record { path = path; suffix = []; env = inside.env; formals = inputs ++ outputs })))
       ≡ jmap (scope_with path inside.env) (judging j (λ inputs. collected output_bound_ref inputs (zip inside.outs outs)))
   inputs_then path inside outs (Ok inputs) j' e =
       rw e
@@ -251,26 +251,26 @@ module _ (nets : ℕ) where
 
 -- ---- the scope of a body
 
-module _ (m : Macro) (given : List Binding) (s : numbered_scope.Scope) (u : UseStatement) (e : Expansion) where
-  pub inside_failed : (stop : Stop) → IsJudgedRefusal u.place stop (inside_of m given) → Failed stop (inner_scope m given (scope_of (names_in e) s) u (state_of e))
+module _ (consts : List Binding) (m : Macro) (given : List Binding) (s : numbered_scope.Scope) (u : UseStatement) (e : Expansion) where
+  pub inside_failed : (stop : Stop) → IsJudgedRefusal u.place stop (inside_of consts m given) → Failed stop (inner_scope consts m given (scope_of (names_in e) s) u (state_of e))
   unfolding inner_scope
   inside_failed stop h = record { told = λ r is. rw (h.told r is, sym (h.here r is)) refl }
 
-  module _ (inside : Inside) (inside_is : inside_of m given ≡ Ok inside) where
-    pub wires_of_failed : (stop : Stop) → Failed stop (wires_of (scope_of (names_in e) s) u (state_of e)) → Failed stop (inner_scope m given (scope_of (names_in e) s) u (state_of e))
+  module _ (inside : Inside) (inside_is : inside_of consts m given ≡ Ok inside) where
+    pub wires_of_failed : (stop : Stop) → Failed stop (wires_of (scope_of (names_in e) s) u (state_of e)) → Failed stop (inner_scope consts m given (scope_of (names_in e) s) u (state_of e))
     unfolding inner_scope
     wires_of_failed stop h = record { told = λ r is. rw (inside_is, h.told r is) refl }
 
     module _ (f : Expansion) (w : numbered_wires.Wires) (g : GivesWires e f w (wires_of (scope_of (names_in e) s) u (state_of e))) where
-      pub formals_failed : (stop : Stop) → IsJudgedRefusal u.place stop (bound_formals_ref inside w) → Failed stop (inner_scope m given (scope_of (names_in e) s) u (state_of e))
+      pub formals_failed : (stop : Stop) → IsJudgedRefusal u.place stop (bound_formals_ref inside w) → Failed stop (inner_scope consts m given (scope_of (names_in e) s) u (state_of e))
       unfolding inner_scope
-      formals_failed stop h = record { told = λ r is. rw (inside_is, g.is, bound_scope_map (names_in f) (inner_path s.path u.label) inside w, h.told r is, sym (h.here r is)) refl }
+      formals_failed stop h = record { told = λ r is. rw (inside_is, g.is, bound_scope_map (names_in f) (inner_path (scope_of (names_in e) s) u.label) inside w, h.told r is, sym (h.here r is)) refl }
 
       pub scope_given : (fs : List numbered_bound.Bound) → bound_formals_ref inside w ≡ Ok fs → GivesScope e f
-          (record { path = inner_path s.path u.label; env = inside.env; formals = fs }) (inner_scope m given (scope_of (names_in e) s) u (state_of e))
+          (record { path = inner_path (scope_of (names_in e) s) u.label; suffix = []; env = inside.env; formals = fs }) (inner_scope consts m given (scope_of (names_in e) s) u (state_of e))
       unfolding inner_scope
       scope_given fs h = record {
-        is = rw (inside_is, g.is, bound_scope_map (names_in f) (inner_path s.path u.label) inside w, h) refl;
+        is = rw (inside_is, g.is, bound_scope_map (names_in f) (inner_path (scope_of (names_in e) s) u.label) inside w, h) refl;
         grows = g.grows;
         exists = record { formals = formals_exist (nets_in f) inside w fs g.ins g.outs h };
       }

@@ -43,7 +43,7 @@ range : Expression → Expression → Option Range
 range first last = Some (record { first = first; last = Some last })
 
 drawing : List Macro → Statements → Drawing
-drawing macros body = record { version = 1; header = header; macros = macros; name = codes "ROW"; body = body; cases = [] }
+drawing macros body = record { version = 1; header = header; consts = []; const_places = []; macros = macros; name = codes "ROW"; body = body; cases = [] }
 
 simple : List ℕ → List ℕ → Option (Expression × Expression) → List Connection → List Connection → ℕ → Statement
 simple label kind delay ins outs line = Use (record { label = label; kind = kind; delay = delay; fall = None; params = []; ins = ins; outs = outs; place = at line })

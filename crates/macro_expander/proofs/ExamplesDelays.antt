@@ -132,6 +132,8 @@ header = record { units = 8; ticks = 50; wire = record { min = 0; max = 0 }; psk
 abbrev drawing : Drawing
 drawing = record {
   version = 1;
+  consts = [];
+  const_places = [];
   header = header;
   macros = [];
   name = codes "ROW";

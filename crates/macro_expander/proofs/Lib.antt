@@ -1,5 +1,6 @@
 mod Examples
 mod ExamplesDelays
+mod ExamplesTurns
 pub mod Lists
 pub mod Alike
 pub mod Nets
@@ -15,9 +16,12 @@ pub mod Joints
 pub mod Uses
 pub mod Adding
 pub mod Facts
+pub mod PinOrder
 pub mod PrimitiveUses
 pub mod WireBounds
 pub mod Statements
+pub mod ConstantValues
+pub mod Turns
 pub mod Whole
 pub mod Only
 pub mod Standing

@@ -1,5 +1,5 @@
 -- The use of a primitive, step by step.
-use Rattle.std.proofs.Common.{◌≡◌, ℕ, ◌≤◌, Bool, true, false, cond, List, [], ◌∷◌, map, Result, Ok, Err, refl, sym, ◌∙◌, subst, arith}
+use Rattle.std.proofs.Common.{◌≡◌, ℕ, ◌≤◌, Bool, true, false, cond, List, [], ◌∷◌, length, map, Result, Ok, Err, refl, sym, ◌∙◌, subst, arith}
 use Rattle.std.specs.List.{All}
 use Rattle.std.proofs.lemmas.List.{length-map}
 use Rattle.std.proofs.lemmas.List.Elements.{All-head, All-tail}
@@ -11,7 +11,7 @@ use Rattle.scald_base.specs.declared.refusal.RefusalKind.TheVariants.{Width}
 use Rattle.scald_base.specs.declared.refusal.Stop.{Stop}
 use Rattle.scald_base.specs.declared.refusal.Stop.TheVariants.{Refused}
 use Rattle.element_kinds.specs.declared.kind.Kind.{Kind}
-use Rattle.element_kinds.specs.Kinds.{has_output}
+use Rattle.element_kinds.specs.Kinds.{has_output, selects_of}
 use Rattle.flat_circuit.specs.Name.{Name}
 use Rattle.flat_circuit.specs.Instances.{InstanceFits}
 use Rattle.drawing_tree.specs.declared.statement.UseStmt.{UseStmt}
@@ -23,12 +23,14 @@ use Rattle.macro_expander.specs.declared.connection.Joined as numbered_joined
 use Rattle.macro_expander.specs.declared.connection.Wires as numbered_wires
 use Rattle.macro_expander.specs.Outcome.{Outcome, Fails}
 use Rattle.macro_expander.specs.Steps.{IsJudgedRefusal}
-use Rattle.macro_expander.specs.Terms.{Joined, Wires, wires_of}
-use Rattle.macro_expander.specs.Primitives.{width, greatest, width_of, width_in, inputs_fit, plan_of, all_added, primitive_use}
-use Rattle.macro_expander.specs.Numbered.{bit_of, joined_of, bits_in, instance_ref, scope_of, named_wires, names_in, nets_in, state_of, Failed, Grows, GivesWires, DoneAt}
+use Rattle.macro_expander.specs.Terms.{Joined, Wires, labelled, wires_of}
+use Rattle.macro_expander.specs.Setting.{Setting}
+use Rattle.macro_expander.specs.Primitives.{width, greatest, width_of, width_in, inputs_fit, in_pin_order, is_least_first, plan_of, all_added, primitive_use}
+use Rattle.macro_expander.specs.Numbered.{bit_of, joined_of, bits_in, instance_ref, scope_of, named_wires, names_in, nets_in, state_of, JoinedExists, Failed, Grows, GivesWires, DoneAt}
 use Rattle.macro_expander.proofs.Nets.{grows_trans}
-use Rattle.macro_expander.proofs.Joints.{HasWidth, AreWires, are_wires}
-use Rattle.macro_expander.proofs.Facts.{plan_fits, bit_fits}
+use Rattle.macro_expander.proofs.Joints.{HasWidth, AreJoined, AreWires, are_wires}
+use Rattle.macro_expander.proofs.Facts.{plan_fits, counted, bit_fits}
+use Rattle.macro_expander.proofs.PinOrder.{in_pin_order_map, in_pin_order_are, joined_turned, selects_few}
 
 pub done_later : (d e f : Expansion) (r : Result (Unit {0}) Stop) (o o' : Outcome (Unit {0})) → Grows d e → o' ≡ o → DoneAt e f r o → DoneAt d f r o'
 done_later d e f (Ok done) o o' g is h = record { is = is ∙ h.is; grows = grows_trans d e f g h.grows }
@@ -51,15 +53,15 @@ width_few : (b : Bool) (ins outs : List Joined) → All HasWidth ins → All Has
 width_few true ins outs h k = greatest_few outs k
 width_few false ins outs h k = greatest_few ins h
 
-module _ (e : Expansion) (ticks : ℕ) (kind : Kind) (s : numbered_scope.Scope) (u : UseStmt) where
+module _ (e : Expansion) (setting : Setting) (kind : Kind) (s : numbered_scope.Scope) (u : UseStmt) where
   abbrev the_use : Outcome (Unit {0})
-  the_use = primitive_use ticks kind (scope_of (names_in e) s) (use_of u) (state_of e)
+  the_use = primitive_use setting kind (scope_of (names_in e) s) (use_of u) (state_of e)
 
-  pub use_refused : (stop : Stop) → IsJudgedRefusal u.place stop (plan_of ticks kind s.env (use_of u)) → Failed stop the_use
+  pub use_refused : (stop : Stop) → IsJudgedRefusal u.place stop (plan_of setting.ticks kind s.env (use_of u)) → Failed stop the_use
   unfolding primitive_use
   use_refused stop h = record { told = λ r is. rw (h.told r is, h.here r is) refl }
 
-  module _ (plan : Plan) (was : plan_of ticks kind s.env (use_of u) ≡ Ok plan) where
+  module _ (plan : Plan) (was : plan_of setting.ticks kind s.env (use_of u) ≡ Ok plan) where
     pub use_cut : (stop : Stop) → Failed stop (wires_of (scope_of (names_in e) s) (use_of u) (state_of e)) → Failed stop the_use
     unfolding primitive_use
     use_cut stop h = record { told = λ r is. rw (was, h.told r is) refl }
@@ -79,13 +81,20 @@ module _ (e : Expansion) (ticks : ℕ) (kind : Kind) (s : numbered_scope.Scope) 
       unfolding primitive_use
       use_narrow h = rw (was, g.is, width_is, widths_are, h) refl
 
+      -- the input connections in the order of the pins
+      abbrev turned : List numbered_joined.Joined
+      turned = in_pin_order (is_least_first setting.version) kind w.ins
+
+      turned_named : map (joined_of (names_in e1)) turned ≡ in_pin_order (is_least_first setting.version) kind wires.ins
+      turned_named = in_pin_order_map (joined_of (names_in e1)) (is_least_first setting.version) kind w.ins
+
       pub use_done : (e2 : Expansion) (r : Result (Unit {0}) Stop) (path : List ℕ) (i3 o3 : List numbered_joined.Joined) →
-          path ≡ s.path → i3 ≡ w.ins → o3 ≡ w.outs → inputs_fit kind n (map bits_in i2) ≡ true →
+          path ≡ labelled (scope_of (names_in e) s) u.label → i3 ≡ turned → o3 ≡ w.outs → inputs_fit kind n (map bits_in i2) ≡ true →
           DoneAt e1 e2 r (all_added path (use_of u) kind plan n (map (joined_of (names_in e1)) i3) (map (joined_of (names_in e1)) o3) (state_of e1)) → DoneAt e e2 r the_use
       unfolding primitive_use
       use_done e2 r path i3 o3 p q t fits h =
           let is : the_use ≡ all_added path (use_of u) kind plan n (map (joined_of (names_in e1)) i3)
-          (map (joined_of (names_in e1)) o3) (state_of e1) = rw (was, g.is, width_is, widths_are, fits, p, q, t) refl in
+          (map (joined_of (names_in e1)) o3) (state_of e1) = rw (was, g.is, width_is, widths_are, fits, p, q, t, turned_named) refl in
           done_later e e1 e2 r (all_added path (use_of u) kind plan n (map (joined_of (names_in e1)) i3) (map (joined_of (names_in e1)) o3) (state_of e1)) the_use g.grows is h
 
       are : AreWires (use_of u) wires
@@ -94,13 +103,24 @@ module _ (e : Expansion) (ticks : ℕ) (kind : Kind) (s : numbered_scope.Scope) 
       pub use_few : n ≤ 256
       use_few = subst (λ (m : ℕ). m ≤ 256) width_is (width_few (has_output kind) wires.ins wires.outs are.ins.wide are.outs.wide)
 
-      pub use_fits : (k : ℕ) (path : List ℕ) (i3 o3 : List numbered_joined.Joined) → i3 ≡ w.ins →
-          o3 ≡ w.outs → ticks ≡ period e.builder.header →
+      -- as many connections as the kind has selects
+      pub use_selects : setting.ticks ≡ period e.builder.header → selects_of kind ≤ length w.ins
+      use_selects p =
+          let was' : plan_of (period e.builder.header) kind s.env (use_of u) ≡ Ok plan = subst (λ (x : ℕ). plan_of x kind s.env (use_of u) ≡ Ok plan) p was in
+          let fits = plan_fits e.builder.header kind s.env (use_of u) plan was' in
+          let c = counted e.builder.header (names_in e1) kind (use_of u) plan w.ins w.outs fits are.ins are.outs in
+          omega (arith, c.least, selects_few kind)
+
+      pub use_fits : (k : ℕ) (path : List ℕ) (i3 o3 : List numbered_joined.Joined) → i3 ≡ turned →
+          o3 ≡ w.outs → setting.ticks ≡ period e.builder.header →
           InstanceFits e1.builder.header (nets_in e1) (instance_ref path u kind plan i3 o3 k)
       use_fits k path i3 o3 q t p =
           let was' : plan_of (period e.builder.header) kind s.env (use_of u) ≡ Ok plan = subst (λ (x : ℕ). plan_of x kind s.env (use_of u) ≡ Ok plan) p was in
-          rw (q, t, g.grows.header) (bit_fits e.builder.header (names_in e1) kind (use_of u) plan w.ins
-          w.outs (plan_fits e.builder.header kind s.env (use_of u) plan was') are.ins are.outs (nets_in e1) k path u g.ins g.outs)
+          let pins : AreJoined (use_of u).ins (map (joined_of (names_in e1)) turned) =
+          rw turned_named (joined_turned (use_of u).ins wires.ins (is_least_first setting.version) kind are.ins) in
+          rw (q, t, g.grows.header) (bit_fits e.builder.header (names_in e1) kind (use_of u) plan turned
+          w.outs (plan_fits e.builder.header kind s.env (use_of u) plan was') pins are.outs (nets_in e1) k path u
+          (in_pin_order_are (JoinedExists (nets_in e1)) (is_least_first setting.version) kind w.ins g.ins) g.outs)
 
 -- a refusal that a call makes
 pub failed_so : {A : Type 0} (stop : Stop) (o : Outcome A) (kind : RefusalKind) (place : Place) →

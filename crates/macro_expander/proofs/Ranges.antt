@@ -98,16 +98,18 @@ all_ranges env got (f ∷ formals) out g e =
     all_ranges env (got ++ a.0 ∷ []) formals out (All-push IsRange got a.0 g (shape_range env f a.0 a.1)) a.2
 
 -- the formals that a body is expanded with
-pub shapes_are : (m : Macro) (given : List Binding) (inside : Inside) → inside_of m given ≡ Ok inside → All IsRange inside.ins × All IsRange inside.outs
+pub shapes_are : (consts : List Binding) (m : Macro) (given : List Binding) (inside : Inside) → inside_of consts m given ≡ Ok inside →
+    All IsRange inside.ins × All IsRange inside.outs
 unfolding inside_of
-shapes_are m given inside e =
-    let env = both_give (parameters_of given m.params) (λ env. judging (shapes_of env m.ins)
-    (λ ins. judging (shapes_of env m.outs) (λ outs. Ok (record { env = env; ins = ins; outs = outs })))) inside e in
-    let ins = both_give (shapes_of env.0 m.ins) (λ ins. judging (shapes_of env.0 m.outs) (λ outs. Ok (record { env = env.0; ins = ins; outs = outs }))) inside env.2 in
-    let outs = both_give (shapes_of env.0 m.outs) (λ outs. Ok (record { env = env.0; ins = ins.0; outs = outs })) inside ins.2 in
-    let made : Inside = record { env = env.0; ins = ins.0; outs = outs.0 } in
+shapes_are consts m given inside e =
+    let params = both_give (parameters_of consts given m.params) (λ params. judging (shapes_of (params ++ consts) m.ins)
+    (λ ins. judging (shapes_of (params ++ consts) m.outs) (λ outs. Ok (record { env = params ++ consts; ins = ins; outs = outs })))) inside e in
+    let env = params.0 ++ consts in
+    let ins = both_give (shapes_of env m.ins) (λ ins. judging (shapes_of env m.outs) (λ outs. Ok (record { env = env; ins = ins; outs = outs }))) inside params.2 in
+    let outs = both_give (shapes_of env m.outs) (λ outs. Ok (record { env = env; ins = ins.0; outs = outs })) inside ins.2 in
+    let made : Inside = record { env = env; ins = ins.0; outs = outs.0 } in
     let is : made ≡ inside = cc in
-    subst (λ (i : Inside). All IsRange i.ins × All IsRange i.outs) {x = made} is (all_ranges env.0 [] m.ins ins.0 (All-nil IsRange) ins.1, all_ranges env.0 [] m.outs outs.0 (All-nil IsRange) outs.1)
+    subst (λ (i : Inside). All IsRange i.ins × All IsRange i.outs) {x = made} is (all_ranges env [] m.ins ins.0 (All-nil IsRange) ins.1, all_ranges env [] m.outs outs.0 (All-nil IsRange) outs.1)
 
 -- ---- what is bound to them keeps their numbers
 

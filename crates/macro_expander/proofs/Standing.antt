@@ -2,7 +2,7 @@
 use Rattle.std.proofs.Common.{◌≡◌, ℕ, zero, suc, ◌+◌, ℤ, Bool, true, false, if◌then◌else◌, nat_lt, List, [], ◌∷◌, ◌++◌, length, map, Option, Some, None, Result, Ok, Err, inl, inr, sym, subst}
 use Rattle.std.specs.Prelude.{IfSome, ⊤, slice_get}
 use Rattle.std.specs.List.{AllByRecursion, range_with_len}
-use Rattle.scald_base.specs.Time.{Bounds, period}
+use Rattle.scald_base.specs.Time.{Bounds}
 use Rattle.scald_base.specs.declared.assertion.AssertSpec.{AssertSpec}
 use Rattle.scald_base.specs.declared.refusal.Place.{Place}
 use Rattle.scald_base.specs.declared.refusal.Refusal.{Refusal}
@@ -19,16 +19,18 @@ use Rattle.element_kinds.specs.declared.kind.Kind.{Kind}
 use Rattle.element_kinds.specs.Kinds.{kind_of}
 use Rattle.drawing_tree.specs.declared.drawing.CaseEntry.{CaseEntry}
 use Rattle.drawing_tree.specs.declared.drawing.CaseStmt.{CaseStmt}
-use Rattle.drawing_tree.specs.Tree.{Item, Zero, One, Named, Term, Connection, UseStatement, WireStatement, Statement, Use, Wire, If, Statements, nil, cons, Otherwise, no_else, else_, Macro, Drawing}
+use Rattle.drawing_tree.specs.Tree.{Item, Zero, One, Named, Term, Connection, UseStatement, WireStatement, Statement, Use, Wire, If, For, Statements, nil, cons, Otherwise, no_else, else_, Assignment, Macro, Drawing}
 use Rattle.drawing_tree.specs.EachPlace.{IsStatementAt, AreStatementsAt, IsOtherwiseAt, IsMacroAt, IsEntryAt, IsCaseAt, EachPlace}
 use Rattle.drawing_tree.proofs.Every.{every_append, every_mapped, every_find, every_get}
 use Rattle.macro_expander.specs.declared.primitive.Plan.{Plan}
 use Rattle.macro_expander.specs.Named.{Where, On, Fixed, Bit, NamedInstance, State}
 use Rattle.macro_expander.specs.Outcome.{Outcome, Gives, Fails, after, Judged, judged, gathered, each}
-use Rattle.macro_expander.specs.Terms.{Bound, Scope, Joined, formal_of, net_text, valued, written_ends, numbers_of, formal_term, clashes, with_net, naming, net_bit, net_bits, meant, named_bits, item_bits, term_bits, has_width, terms_bits, joined, all_joined, wires_of}
-use Rattle.macro_expander.specs.Primitives.{plan_of, inputs_fit, width, width_in, instance_at, are_few, with_instance, adding, all_added, primitive_use, delay_between}
+use Rattle.macro_expander.specs.Terms.{Bound, Scope, labelled, Joined, formal_of, net_text, valued, written_ends, numbers_of, formal_term, clashes, with_net, naming, net_bit, net_bits, meant, named_bits, item_bits, term_bits, has_width, terms_bits, joined, all_joined, wires_of}
+use Rattle.macro_expander.specs.Primitives.{plan_of, inputs_fit, in_pin_order, is_least_first, width, width_in, instance_at, are_few, with_instance, adding, all_added, primitive_use, delay_between}
 use Rattle.macro_expander.specs.Macros.{macro_of, given_to, inside_of, inner_path, bound_scope, inner_scope}
-use Rattle.macro_expander.specs.Flat.{Act, with_wire, with_wires, wire_act, expanded, macro_use, use_act_of, use_act, most_statements, counted, is_zero, statement_act, statements_act, otherwise_act, body_at, deepest, top, nothing_yet, flat}
+use Rattle.macro_expander.specs.Flat.{Act, with_wire, with_wires, wire_act, expanded, macro_use, use_act_of, use_act, most_statements, counted, is_zero, turn_act, statement_act, statements_act, otherwise_act, body_at, deepest, const_values, setting_of, top, nothing_yet, flat}
+use Rattle.macro_expander.specs.Setting.{Setting}
+use Rattle.macro_expander.specs.Loops.{binding, in_turn, loop_ends, values_between}
 use Rattle.macro_expander.specs.Cases.{CaseBit, may_set, entry_bit, case_bits, with_case, cases_behind, most_cases, unless_many, cases_of}
 use Rattle.macro_expander.specs.Numbered.{instance_of}
 use Rattle.macro_expander.specs.Stands.{BreaksRule, IsStopOf}
@@ -141,13 +143,15 @@ module _ (P : Place → Type 0) where
   all_added_at path u kind plan n ins outs s p h =
       each_at (λ k. adding (instance_at path u kind plan ins outs k)) (λ k s' h'. adding_at (instance_at path u kind plan ins outs k) s' p h') (range_with_len 0 n) s h
 
-  primitive_use_at : (ticks : ℕ) (kind : Kind) (u : UseStatement) → P u.place → (scope : Scope) (s : State) → IsStateAt P s → IsOutcomeAt P (primitive_use ticks kind scope u s)
+  primitive_use_at : (setting : Setting) (kind : Kind) (u : UseStatement) → P u.place → (scope : Scope) (s : State) → IsStateAt P s → IsOutcomeAt P (primitive_use setting kind scope u s)
   unfolding primitive_use
-  primitive_use_at ticks kind u p scope s h =
-      judged_at (plan_of ticks kind scope.env u) u.place _ p (λ plan.
+  primitive_use_at setting kind u p scope s h =
+      judged_at (plan_of setting.ticks kind scope.env u) u.place _ p (λ plan.
       after_at (wires_of scope u s) _ (wires_of_at scope u s p h) (λ w s1 h1.
-      either_at (inputs_fit kind (width_in kind w) (map width w.ins)) (all_added scope.path u kind plan (width_in kind w) w.ins w.outs s1) (Fails Width u.place)
-      (all_added_at scope.path u kind plan (width_in kind w) w.ins w.outs s1 p h1) p))
+      let ins = in_pin_order (is_least_first setting.version) kind w.ins in
+      either_at (inputs_fit kind (width_in kind w) (map width w.ins))
+      (all_added (labelled scope u.label) u kind plan (width_in kind w) ins w.outs s1) (Fails Width u.place)
+      (all_added_at (labelled scope u.label) u kind plan (width_in kind w) ins w.outs s1 p h1) p))
 
   -- ---- WIRE
 
@@ -170,27 +174,31 @@ module _ (P : Place → Type 0) where
 
   -- ---- the uses of macros
 
-  inner_scope_at : (m : Macro) (given : List Binding) (scope : Scope) (u : UseStatement) (s : State) → P u.place → IsStateAt P s → IsOutcomeAt P (inner_scope m given scope u s)
+  inner_scope_at : (consts : List Binding) (m : Macro) (given : List Binding) (scope : Scope) (u : UseStatement) (s : State) →
+      P u.place → IsStateAt P s → IsOutcomeAt P (inner_scope consts m given scope u s)
   unfolding inner_scope
-  inner_scope_at m given scope u s p h =
-      judged_at (inside_of m given) u.place _ p (λ inside.
+  inner_scope_at consts m given scope u s p h =
+      judged_at (inside_of consts m given) u.place _ p (λ inside.
       after_at (wires_of scope u s) _ (wires_of_at scope u s p h) (λ w s1 h1.
-      judged_at (bound_scope (inner_path scope.path u.label) inside w.ins w.outs) u.place _ p (λ inner. h1)))
+      judged_at (bound_scope (inner_path scope u.label) inside w.ins w.outs) u.place _ p (λ inner. h1)))
 
-  expanded_at : (body : Option (Macro → Act)) (m : Macro) (given : List Binding) (u : UseStatement) → IsBodyAt P body → IsMacroAt P m → P u.place → IsActAt P (expanded body m given u)
-  expanded_at None m given u b a p scope s h = p
-  expanded_at (Some body) m given u b a p scope s h = after_at (inner_scope m given scope u s) _ (inner_scope_at m given scope u s p h) (λ inner s1 h1. b m a inner s1 h1)
+  expanded_at : (setting : Setting) (body : Option (Macro → Act)) (m : Macro) (given : List Binding) (u : UseStatement) →
+      IsBodyAt P body → IsMacroAt P m → P u.place → IsActAt P (expanded setting body m given u)
+  expanded_at setting None m given u b a p scope s h = p
+  expanded_at setting (Some body) m given u b a p scope s h =
+      after_at (inner_scope setting.consts m given scope u s) _ (inner_scope_at setting.consts m given scope u s p h) (λ inner s1 h1. b m a inner s1 h1)
 
-  macro_use_at : (body : Option (Macro → Act)) (found : Option Macro) (u : UseStatement) → IsBodyAt P body → IfSome found (IsMacroAt P) → P u.place → IsActAt P (macro_use body found u)
-  macro_use_at body None u b a p scope s h = p
-  macro_use_at body (Some m) u b a p scope s h = judged_at (given_to m scope.env u) u.place _ p (λ given. expanded_at body m given u b a p scope s h)
+  macro_use_at : (setting : Setting) (body : Option (Macro → Act)) (found : Option Macro) (u : UseStatement) →
+      IsBodyAt P body → IfSome found (IsMacroAt P) → P u.place → IsActAt P (macro_use setting body found u)
+  macro_use_at setting body None u b a p scope s h = p
+  macro_use_at setting body (Some m) u b a p scope s h = judged_at (given_to m scope.env u) u.place _ p (λ given. expanded_at setting body m given u b a p scope s h)
 
-  module _ (ticks : ℕ) (macros : List Macro) (ms : AllByRecursion (IsMacroAt P) macros) where
-    use_act_of_at : (found : Option Kind) (body : Option (Macro → Act)) (u : UseStatement) → IsBodyAt P body → P u.place → IsActAt P (use_act_of found ticks macros body u)
-    use_act_of_at (Some kind) body u b p scope s h = primitive_use_at ticks kind u p scope s h
-    use_act_of_at None body u b p scope s h = macro_use_at body (macro_of u.kind macros) u b (every_find (IsMacroAt P) _ macros ms) p scope s h
+  module _ (setting : Setting) (ms : AllByRecursion (IsMacroAt P) setting.macros) where
+    use_act_of_at : (found : Option Kind) (body : Option (Macro → Act)) (u : UseStatement) → IsBodyAt P body → P u.place → IsActAt P (use_act_of found setting body u)
+    use_act_of_at (Some kind) body u b p scope s h = primitive_use_at setting kind u p scope s h
+    use_act_of_at None body u b p scope s h = macro_use_at setting body (macro_of u.kind setting.macros) u b (every_find (IsMacroAt P) _ setting.macros ms) p scope s h
 
-    use_act_at : (body : Option (Macro → Act)) (u : UseStatement) → IsBodyAt P body → P u.place → IsActAt P (use_act ticks macros body u)
+    use_act_at : (body : Option (Macro → Act)) (u : UseStatement) → IsBodyAt P body → P u.place → IsActAt P (use_act setting body u)
     unfolding use_act
     use_act_at body u b p scope s h = use_act_of_at (kind_of u.kind) body u b p scope s h
 
@@ -205,35 +213,54 @@ module _ (P : Place → Type 0) where
     chosen_at true x y h k = h
     chosen_at false x y h k = k
 
+    turn_at : (var : List ℕ) (place : Place) (body : Act) → P place → IsActAt P body → (v : ℤ) → IsActAt P (turn_act var place body v)
+    turn_at var place body p k v scope s h = counted_at place (λ around. body (in_turn var v around)) p (λ around s1 h1. k (in_turn var v around) s1 h1) scope s h
+
     mutual
-      statement_at : (body : Option (Macro → Act)) (s : Statement) → IsBodyAt P body → IsStatementAt P s → IsActAt P (statement_act ticks macros body s)
-      statement_at body (Use u) b a = counted_at u.place (use_act ticks macros body u) a.place (use_act_at body u b a.place)
+      statement_at : (body : Option (Macro → Act)) (s : Statement) → IsBodyAt P body → IsStatementAt P s → IsActAt P (statement_act setting body s)
+      statement_at body (Use u) b a = counted_at u.place (use_act setting body u) a.place (use_act_at body u b a.place)
       statement_at body (Wire w) b a = counted_at w.place (wire_act w) a (wire_act_at w a)
       statement_at body (If test taken other place) b a =
           let yes = statements_at body taken b a.1 in
           let no = otherwise_at body other b a.2 in
           counted_at place _ a.0 (λ scope s h.
-          judged_at (valued scope.env test) place _ a.0 (λ v. chosen_at (is_zero v) (otherwise_act ticks macros body other) (statements_act ticks macros body taken) no yes scope s h))
+          judged_at (valued scope.env test) place _ a.0 (λ v. chosen_at (is_zero v) (otherwise_act setting body other) (statements_act setting body taken) no yes scope s h))
+      statement_at body (For var first last ss place) b a =
+          counted_at place _ a.0 (λ scope s h.
+          judged_at (loop_ends scope.env first last) place _ a.0 (λ ends.
+          each_at (λ v. turn_act var place (statements_act setting body ss) v scope)
+          (λ v s1 h1. turn_at var place (statements_act setting body ss) a.0 (statements_at body ss b a.1) v scope s1 h1)
+          (values_between ends.0 ends.1) s h))
 
-      statements_at : (body : Option (Macro → Act)) (ss : Statements) → IsBodyAt P body → AreStatementsAt P ss → IsActAt P (statements_act ticks macros body ss)
+      statements_at : (body : Option (Macro → Act)) (ss : Statements) → IsBodyAt P body → AreStatementsAt P ss → IsActAt P (statements_act setting body ss)
       statements_at body nil b a scope s h = h
       statements_at body (cons first others) b a scope s h =
-          after_at (statement_act ticks macros body first scope s) _ (statement_at body first b a.0 scope s h) (λ _ s1 h1. statements_at body others b a.1 scope s1 h1)
+          after_at (statement_act setting body first scope s) _ (statement_at body first b a.0 scope s h) (λ _ s1 h1. statements_at body others b a.1 scope s1 h1)
 
-      otherwise_at : (body : Option (Macro → Act)) (o : Otherwise) → IsBodyAt P body → IsOtherwiseAt P o → IsActAt P (otherwise_act ticks macros body o)
+      otherwise_at : (body : Option (Macro → Act)) (o : Otherwise) → IsBodyAt P body → IsOtherwiseAt P o → IsActAt P (otherwise_act setting body o)
       otherwise_at body no_else b a scope s h = h
       otherwise_at body (else_ ss) b a scope s h = statements_at body ss b a scope s h
 
-    bodies_at : (n : ℕ) → IsBodyAt P (body_at ticks macros n)
+    bodies_at : (n : ℕ) → IsBodyAt P (body_at setting n)
     unfolding body_at
     bodies_at zero = tt
-    bodies_at (suc n) = λ m a. statements_at (body_at ticks macros n) m.body (bodies_at n) a.body
+    bodies_at (suc n) = λ m a. statements_at (body_at setting n) m.body (bodies_at n) a.body
+
+  const_values_at : (known : List Binding) (cs : List Assignment) (places : List Place) (s : State) → AllByRecursion P places → IsStateAt P s →
+      IsOutcomeAt P (const_values known cs places s)
+  const_values_at known [] places s a h = h
+  const_values_at known (c ∷ cs) [] s a h = h
+  const_values_at known (c ∷ cs) (place ∷ places) s a h =
+      judged_at (valued known c.value) place _ a.0 (λ v. const_values_at (known ++ binding c.name v ∷ []) cs places s a.1 h)
 
   flat_at : (d : Drawing) → EachPlace P d → IsOutcomeAt P (flat d)
   unfolding flat
   flat_at d a =
-      let n : ℕ = period d.header in
-      statements_at n d.macros a.macros (body_at n d.macros deepest) d.body (bodies_at n d.macros a.macros deepest) a.body top (nothing_yet d.header) tt
+      after_at (const_values [] d.consts d.const_places (nothing_yet d.header)) _
+      (const_values_at [] d.consts d.const_places (nothing_yet d.header) a.consts tt)
+      (λ consts s h.
+      let setting = setting_of d consts in
+      statements_at setting a.macros (body_at setting deepest) d.body (bodies_at setting a.macros deepest) a.body (top consts) s h)
 
   -- ---- rules of the circuit
 

@@ -11,14 +11,16 @@ use Rattle.flat_circuit.specs.Builder.{Built, IsBuilt, IsRefusal, empty}
 use Rattle.flat_circuit.specs.Builder.{Stands as Finished}
 use Rattle.drawing_tree.specs.declared.drawing.Drawing as written_drawing
 use Rattle.drawing_tree.specs.declared.statement.Stmt.{Stmt}
-use Rattle.drawing_tree.specs.Tree.{Item, Zero, One, Named, Term, Connection, UseStatement, Statement, Use, Wire, If, Statements, nil, cons, Otherwise, no_else, else_, Drawing, statements_of, drawing_of, macro_of}
+use Rattle.drawing_tree.specs.Tree.{Item, Zero, One, Named, Term, Connection, UseStatement, Statement, Use, Wire, If, For, Statements, nil, cons, Otherwise, no_else, else_, Drawing, assignment_of, statements_of, drawing_of, macro_of}
 use Rattle.drawing_tree.specs.WellFormed.{IsGoodItem, IsGoodConnection, IsGoodUse, IsGoodStatement, AreGoodStatements, IsGoodOtherwise, IsGoodMacro, IsWellFormed}
 use Rattle.macro_expander.specs.declared.expansion.Expansion.{Expansion}
 use Rattle.macro_expander.specs.declared.library.Library.{Library}
 use Rattle.macro_expander.specs.declared.scope.Scope as numbered_scope
 use Rattle.macro_expander.specs.Outcome.{Outcome, Gives}
 use Rattle.macro_expander.specs.Fitting.{ItemFits, TermFits, ConnectionFits, UseFits, StatementFits, StatementsFit, OtherwiseFits, MacroFits, DrawingFits}
-use Rattle.macro_expander.specs.Flat.{flat, deepest}
+use Rattle.scald_expr.specs.declared.environment.Binding.{Binding}
+use Rattle.macro_expander.specs.Named.{State}
+use Rattle.macro_expander.specs.Flat.{flat, const_values, nothing_yet, deepest}
 use Rattle.macro_expander.specs.Library.{HoldsMacros, IsLibrary}
 use Rattle.macro_expander.specs.Numbered.{Failed, GivesDone, state_of, scope_of}
 use Rattle.macro_expander.specs.Statements.{statements_in}
@@ -45,6 +47,7 @@ mutual
   statement_fits h (Use u) g = use_fits h u g
   statement_fits h (Wire w) g = g.name.fits
   statement_fits h (If test taken other place) g = (statements_fit h taken g.1, otherwise_fits h other g.2)
+  statement_fits h (For var first last ss place) g = statements_fit h ss g.2.2.1
 
   statements_fit : (h : Header) (ss : Statements) → AreGoodStatements h ss → StatementsFit h ss
   statements_fit h nil g = tt
@@ -93,8 +96,21 @@ expansion_stops d (Refused r) h = inl (h.told r refl)
 
 -- ---- the beginning
 
-module _ (d : written_drawing.Drawing) (ticks : ℕ) (l : Library) (ticks_are : ticks ≡ period d.header) (holds : HoldsMacros ticks d.macros l)
-    (b : Built) (b_is : b ≡ empty d.header) (s : numbered_scope.Scope) (s_is : s ≡ record { path = []; env = []; formals = [] }) (ss : List Stmt) (ss_are : ss ≡ d.body.items) where
+-- the scope of the drawing's own statements, with a copy of the constants
+pub top_is : {s : numbered_scope.Scope} {copy consts : List Binding} → s ≡ record { path = []; suffix = []; env = copy; formals = [] } → copy ≡ consts →
+    s ≡ record { path = []; suffix = []; env = consts; formals = [] }
+top_is is same = rw (is, same) refl
+
+-- where a constant has no value
+pub consts_stop : (d : written_drawing.Drawing) (stop : Stop) →
+    ((s : State) → Failed stop (const_values [] (map assignment_of d.consts) d.const_places s)) → IsStopOf (drawing_of d) stop
+unfolding flat
+consts_stop d stop h = expansion_stops (drawing_of d) stop (record { told = λ r is. rw ((h (nothing_yet d.header)).told r is) refl })
+
+module _ (d : written_drawing.Drawing) (ticks : ℕ) (l : Library) (ticks_are : ticks ≡ period d.header) (consts : List Binding)
+    (consts_are : (s : State) → const_values [] (map assignment_of d.consts) d.const_places s ≡ Gives consts s)
+    (holds : HoldsMacros d.version ticks consts d.macros l) (b : Built) (b_is : b ≡ empty d.header) (s : numbered_scope.Scope)
+    (s_is : s ≡ record { path = []; suffix = []; env = consts; formals = [] }) (ss : List Stmt) (ss_are : ss ≡ d.body.items) where
   abbrev begun : Expansion
   begun = record { statements = 0; builder = b }
 
@@ -112,7 +128,7 @@ module _ (d : written_drawing.Drawing) (ticks : ℕ) (l : Library) (ticks_are : 
 
   act_is : the_act ≡ flat (drawing_of d)
   unfolding flat
-  act_is = rw (b_is, s_is, ss_are, holds.ticks, ticks_are, holds.macros) refl
+  act_is = rw (b_is, s_is, ss_are, holds.version, holds.ticks, ticks_are, holds.consts, holds.macros, consts_are (nothing_yet d.header)) refl
 
   pub body_stops : (stop : Stop) → Failed stop the_act → IsStopOf (drawing_of d) stop
   body_stops stop h = expansion_stops (drawing_of d) stop (subst (λ (o : Outcome (Unit {0})). Failed stop o) act_is h)

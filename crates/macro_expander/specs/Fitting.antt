@@ -3,7 +3,7 @@ use Rattle.std.specs.Prelude.{⊤}
 use Rattle.std.specs.List.{All}
 use Rattle.scald_base.specs.Time.{Header}
 use Rattle.scald_base.specs.Fitting.{Fits}
-use Rattle.drawing_tree.specs.Tree.{Item, Zero, One, Named, Term, Connection, UseStatement, Statement, Use, Wire, If, Statements, nil, cons, Otherwise, no_else, else_, Macro, Drawing}
+use Rattle.drawing_tree.specs.Tree.{Item, Zero, One, Named, Term, Connection, UseStatement, Statement, Use, Wire, If, For, Statements, nil, cons, Otherwise, no_else, else_, Macro, Drawing}
 
 abbrev pub ItemFits : Header → Item → Type 0
 ItemFits h Zero = ⊤
@@ -25,6 +25,7 @@ abbrev mutual
   StatementFits h (Use u) = UseFits h u
   StatementFits h (Wire w) = Fits h w.name.spec
   StatementFits h (If test taken other place) = StatementsFit h taken × OtherwiseFits h other
+  StatementFits h (For var first last ss place) = StatementsFit h ss
 
   pub StatementsFit : Header → Statements → Type 0
   StatementsFit h nil = ⊤

@@ -2,12 +2,15 @@ pub mod Named
 pub mod Outcome
 pub mod Assertions
 pub mod Terms
+pub mod Setting
 pub mod Primitives
 pub mod Macros
+pub mod Loops
 pub mod Flat
 pub mod Steps
 pub mod Numbered
 pub mod Cases
+pub mod Constants
 pub mod Stands
 pub mod Fitting
 pub mod Library

@@ -10,7 +10,7 @@ use Rattle.macro_expander.specs.declared.formal.Shape.{Shape}
 use Rattle.macro_expander.specs.declared.formal.Inside.{Inside}
 use Rattle.macro_expander.specs.Named.{Bit, State}
 use Rattle.macro_expander.specs.Outcome.{Outcome, Gives, after, Judged, judging, judged, or_refuse, collected}
-use Rattle.macro_expander.specs.Terms.{Bound, Scope, Joined, wires_of, valued, written_ends, numbers_of}
+use Rattle.macro_expander.specs.Terms.{Bound, Scope, labelled, Joined, wires_of, valued, written_ends, numbers_of}
 use Rattle.macro_expander.specs.Primitives.{assigns, are_of, demanded, values_given, is_named, marks}
 
 -- the macro of a name
@@ -36,16 +36,17 @@ given_to m env u =
 abbrev pub value_given : List Binding → List ℕ → Option ℤ
 value_given given name = option_map (λ (b : Binding). b.value) (find (is_named name) given)
 
--- A parameter has the value that is given, or else its default, in which no parameter has a value.
-abbrev pub value_or_default : Option ℤ → Assignment → Judged ℤ
-value_or_default (Some v) param = Ok v
-value_or_default None param = valued [] param.value
+-- A parameter has the value that is given, or else its default, in which the constants alone have values.
+abbrev pub value_or_default : List Binding → Option ℤ → Assignment → Judged ℤ
+value_or_default consts (Some v) param = Ok v
+value_or_default consts None param = valued consts param.value
 
-abbrev pub parameter : List Binding → Assignment → Judged Binding
-parameter given param = judging (value_or_default (value_given given param.name) param) (λ v. Ok (record { name = param.name; value = v }))
+abbrev pub parameter : List Binding → List Binding → Assignment → Judged Binding
+parameter consts given param =
+    judging (value_or_default consts (value_given given param.name) param) (λ v. Ok (record { name = param.name; value = v }))
 
-abbrev pub parameters_of : List Binding → List Assignment → Judged (List Binding)
-parameters_of given params = collected (parameter given) [] params
+abbrev pub parameters_of : List Binding → List Binding → List Assignment → Judged (List Binding)
+parameters_of consts given params = collected (parameter consts given) [] params
 
 -- a formal has its name, and the numbers of its bits
 abbrev pub shape_of : List Binding → Formal → Judged Shape
@@ -57,13 +58,14 @@ shape_of env f =
 abbrev pub shapes_of : List Binding → List Formal → Judged (List Shape)
 shapes_of env formals = collected (shape_of env) [] formals
 
--- what a body is expanded with, before anything is bound to its formals: the parameters' values, and the formals
-unfoldable pub inside_of : Macro → List Binding → Judged Inside
-inside_of m given =
-    judging (parameters_of given m.params) (λ env.
-    judging (shapes_of env m.ins) (λ ins.
-    judging (shapes_of env m.outs) (λ outs.
-    Ok (record { env = env; ins = ins; outs = outs }))))
+-- What a body is expanded with, before anything is bound to its formals: the values of the parameters and of the
+-- constants, which a parameter of the same name hides; and the formals.
+unfoldable pub inside_of : List Binding → Macro → List Binding → Judged Inside
+inside_of consts m given =
+    judging (parameters_of consts given m.params) (λ params.
+    judging (shapes_of (params ++ consts) m.ins) (λ ins.
+    judging (shapes_of (params ++ consts) m.outs) (λ outs.
+    Ok (record { env = params ++ consts; ins = ins; outs = outs }))))
 
 -- so many bits: these, where they are so many, and one bit again and again
 abbrev pub repeated : {B : Type 0} → List B → ℕ → Option (List B)
@@ -89,19 +91,19 @@ input_bound pair = judging (input_bits pair.0 pair.1.bits) (λ bits. Ok (bound p
 abbrev pub output_bound : Shape × Joined → Judged Bound
 output_bound pair = judging (output_bits pair.0 pair.1.bits) (λ bits. Ok (bound pair.0 bits))
 
-abbrev pub inner_path : List ℕ → List ℕ → List ℕ
-inner_path path label = path ++ label ++ codes "/"
+abbrev pub inner_path : Scope → List ℕ → List ℕ
+inner_path scope label = labelled scope label ++ codes "/"
 
 unfoldable pub bound_scope : List ℕ → Inside → List Joined → List Joined → Judged Scope
 bound_scope path inside ins outs =
     judging (collected input_bound [] (zip inside.ins ins)) (λ inputs.
     judging (collected output_bound [] (zip inside.outs outs)) (λ outputs.
-    Ok (record { path = path; env = inside.env; formals = inputs ++ outputs })))
+    Ok (record { path = path; suffix = []; env = inside.env; formals = inputs ++ outputs })))
 
--- the scope of a macro's body at a use: its formals, the connections, their widths
-unfoldable pub inner_scope : Macro → List Binding → Scope → UseStatement → State → Outcome Scope
-inner_scope m given scope u s =
-    judged (inside_of m given) u.place (λ inside.
+-- The scope of a macro's body at a use: its formals, the connections, their widths. No FOR is around the body.
+unfoldable pub inner_scope : List Binding → Macro → List Binding → Scope → UseStatement → State → Outcome Scope
+inner_scope consts m given scope u s =
+    judged (inside_of consts m given) u.place (λ inside.
     after (wires_of scope u s) (λ w s1.
-    judged (bound_scope (inner_path scope.path u.label) inside w.ins w.outs) u.place (λ inner.
+    judged (bound_scope (inner_path scope u.label) inside w.ins w.outs) u.place (λ inner.
     Gives inner s1)))

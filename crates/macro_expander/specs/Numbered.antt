@@ -99,7 +99,7 @@ inverted_ref (Some b) = b.inverted
 
 abbrev pub instance_ref : List ℕ → UseStmt → Kind → Plan → List numbered_joined.Joined → List numbered_joined.Joined → ℕ → Instance
 instance_ref path u kind plan ins outs k = record {
-  path = path ++ u.label;
+  path = path;
   bit = k;
   kind = kind;
   delay = plan.delay;
@@ -133,7 +133,7 @@ abbrev pub bound_of : List Name → numbered_bound.Bound → Bound
 bound_of names f = record { base = f.base; numbers = f.numbers; bits = map (bit_of names) f.bits }
 
 abbrev pub scope_of : List Name → numbered_scope.Scope → Scope
-scope_of names s = record { path = s.path; env = s.env; formals = map (bound_of names) s.formals }
+scope_of names s = record { path = s.path; suffix = s.suffix; env = s.env; formals = map (bound_of names) s.formals }
 
 -- ---- the formals of a use, by numbers
 

@@ -1,5 +1,5 @@
 -- The uses of primitives: what each kind takes, and the instance and checker bits that a use makes.
-use Rattle.std.specs.Prelude.{ℕ, ◌+◌, Bool, true, false, not, ◌&&◌, ◌||◌, List, [], ◌∷◌, ◌++◌, length, map, count_by, sum_by, nat_le, ◌==◌, if◌then◌else◌, slice_index_or, Option, Some, None, is_some, Ok, Err, ℤ, pos, negsuc, codes, max}
+use Rattle.std.specs.Prelude.{ℕ, ◌+◌, Bool, true, false, not, ◌&&◌, ◌||◌, List, [], ◌∷◌, ◌++◌, length, map, take, drop, reverse, count_by, sum_by, nat_le, ◌==◌, if◌then◌else◌, slice_index_or, Option, Some, None, is_some, Ok, Err, ℤ, pos, negsuc, codes, max}
 use Rattle.std.specs.List.{find, list_any, list_all, flat_map, range_with_len}
 use Rattle.std.specs.Option.{option_map_or}
 use Rattle.std.specs.Str.{bytes_eq}
@@ -11,7 +11,7 @@ use Rattle.scald_expr.specs.Expression.{Expression}
 use Rattle.element_kinds.specs.declared.kind.Kind.{Kind}
 use Rattle.element_kinds.specs.declared.form.Check.{Check}
 use Rattle.element_kinds.specs.declared.form.Check.TheVariants.{SetupHold as AboutRise, RiseFall as RiseToFall, MinPulse as Widths}
-use Rattle.element_kinds.specs.Kinds.{inputs_of, has_output, is_change, check_of, greatest_marks, may_split}
+use Rattle.element_kinds.specs.Kinds.{inputs_of, has_output, is_change, check_of, greatest_marks, may_split, selects_of}
 use Rattle.flat_circuit.specs.declared.split.Split.{Split}
 use Rattle.flat_circuit.specs.Split.{either_delay}
 use Rattle.flat_circuit.specs.Instances.{most_bits, most_pins}
@@ -19,7 +19,8 @@ use Rattle.drawing_tree.specs.Tree.{Assignment, Connection, UseStatement}
 use Rattle.macro_expander.specs.declared.primitive.Plan.{Plan}
 use Rattle.macro_expander.specs.Named.{Where, Fixed, Bit, NamedPin, NamedInstance, State}
 use Rattle.macro_expander.specs.Outcome.{Outcome, Gives, Fails, after, Judged, judging, judged, collected, each}
-use Rattle.macro_expander.specs.Terms.{Scope, valued, Joined, Wires, wires_of, plain}
+use Rattle.macro_expander.specs.Terms.{Scope, labelled, valued, Joined, Wires, wires_of, plain}
+use Rattle.macro_expander.specs.Setting.{Setting}
 
 -- ---- kinds
 
@@ -204,6 +205,20 @@ can_have n width = width == n || width == 1
 abbrev pub inputs_fit : Kind → ℕ → List ℕ → Bool
 inputs_fit kind n widths = if is_change kind then true else list_all (can_have n) widths
 
+-- ---- the order of selects
+
+-- so many in reverse order, and then the others as they stand
+abbrev pub first_reversed : {X : Type 0} → ℕ → List X → List X
+first_reversed n xs = reverse (take n xs) ++ drop n xs
+
+-- Pins have the most significant select first. In version 2 of the language the connections have the least significant first.
+abbrev pub is_least_first : ℕ → Bool
+is_least_first version = version == 2
+
+abbrev pub in_pin_order : {X : Type 0} → Bool → Kind → List X → List X
+in_pin_order true kind ins = first_reversed (selects_of kind) ins
+in_pin_order false kind ins = ins
+
 -- ---- instance bits
 
 -- bit k of a connection, which one bit is for every k
@@ -247,7 +262,7 @@ inverted_of (Some b) = b.inverted
 
 abbrev pub instance_at : List ℕ → UseStatement → Kind → Plan → List Joined → List Joined → ℕ → NamedInstance
 instance_at path u kind plan ins outs k = record {
-  path = path ++ u.label;
+  path = path;
   bit = k;
   kind = kind;
   delay = plan.delay;
@@ -285,11 +300,13 @@ all_added path u kind plan n ins outs s = each (λ k. adding (instance_at path u
 abbrev pub width_in : Kind → Wires → ℕ
 width_in kind w = width_of kind (map width w.ins) (map width w.outs)
 
--- the use of a primitive, once it is counted
-unfoldable pub primitive_use : ℕ → Kind → Scope → UseStatement → State → Outcome (Unit {0})
-primitive_use period kind scope u s =
-    judged (plan_of period kind scope.env u) u.place (λ plan.
+-- The use of a primitive, once it is counted. Its connections are looked at in the order of the text, whatever that of
+-- its pins is.
+unfoldable pub primitive_use : Setting → Kind → Scope → UseStatement → State → Outcome (Unit {0})
+primitive_use setting kind scope u s =
+    judged (plan_of setting.ticks kind scope.env u) u.place (λ plan.
     after (wires_of scope u s) (λ w s1.
     if inputs_fit kind (width_in kind w) (map width w.ins)
-    then all_added scope.path u kind plan (width_in kind w) w.ins w.outs s1
+    then all_added (labelled scope u.label) u kind plan (width_in kind w)
+    (in_pin_order (is_least_first setting.version) kind w.ins) w.outs s1
     else Fails Width u.place))

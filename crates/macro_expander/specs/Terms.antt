@@ -31,12 +31,18 @@ pub record Bound : Type 0 where
   pub numbers : List ℕ
   pub bits : List Bit
 
--- the labels of the uses from the drawing down, each with a slash after it, the parameters with their values, and the
--- formals
+-- The labels of the uses from the drawing down, each with a slash after it; what follows each label of the body, for
+-- the FORs around it; the names that have values, the innermost first: the variables of those FORs, the parameters and
+-- the constants; and the formals.
 pub record Scope : Type 0 where
   pub path : List ℕ
+  pub suffix : List ℕ
   pub env : List Binding
   pub formals : List Bound
+
+-- the whole text of a label
+abbrev pub labelled : Scope → List ℕ → List ℕ
+labelled scope label = scope.path ++ label ++ scope.suffix
 
 -- the formal that a name means: a global name means none
 abbrev pub formal_of : List Bound → SignalName → Option Bound

@@ -5,6 +5,7 @@ ghost use Rattle.drawing_tree.specs.Tree.{drawing_of};
 ghost use Rattle.drawing_tree.specs.WellFormed.{IsWellFormed};
 ghost use Rattle.macro_expander.specs.Stands.{IsCircuitOf, IsStopOf};
 
+use crate::constants::{constants, copied_env};
 use crate::expansion::Expansion;
 use crate::library::Library;
 use crate::scope::Scope;
@@ -17,19 +18,22 @@ use std::alloc::Global;
 /// How deep uses of macros may go.
 const DEEPEST: u32 = 64;
 
-/// The circuit of a drawing: its statements in the order of the text, each macro's body at its uses, and
-/// then the circuit's own rules. A refusal of expansion stands at the statement that is expanded, and that
-/// of a rule at the statement whose bit breaks it; `NoMemory` comes where memory runs out.
+/// The circuit of a drawing: its constants, then its statements in the order of the text, each macro's
+/// body at its uses and each FOR's body once for each value, and then the circuit's own rules. A refusal
+/// of a constant stands at its word CONST, one of expansion at the statement that is expanded, and that of
+/// a rule at the statement whose bit breaks it; `NoMemory` comes where memory runs out.
 pub fn expand(alloc: Global, drawing: &Drawing) -> Result<Circuit, Stop>
     requires { IsWellFormed (drawing_of drawing.now) }
     ensures { MatchResult result (IsCircuitOf (drawing_of drawing.now)) (IsStopOf (drawing_of drawing.now)) }
 {
-    let library = Library::of(alloc, drawing.header.period(), &drawing.macros)?;
+    let consts = constants(alloc, &drawing.consts, &drawing.const_places)?;
+    let top = Scope::top(alloc, copied_env(alloc, &consts)?);
+    let period = drawing.header.period();
+    let library = Library::of(alloc, drawing.version, period, consts, &drawing.macros)?;
     let mut expansion = Expansion {
         statements: 0,
         builder: Builder::new(alloc, drawing.header),
     };
-    let top = Scope::top(alloc);
     body(
         &mut expansion,
         alloc,

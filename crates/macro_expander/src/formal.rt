@@ -11,6 +11,7 @@ use crate::parameter::{comes_again, values_given};
 use crate::places::{Called, FEW, led, named, places};
 use crate::primitive::marks;
 use crate::range::{at, numbers, value, written_ends};
+use crate::turn::add_bindings;
 use drawing_tree::{Assign, Assigns, Defaults, Formal, Formals, MacroDef, UseStmt};
 use indexmap::IndexMap;
 use scald_base::{Bytes, List, NoMemory, Place, RefusalKind, Stop};
@@ -45,60 +46,65 @@ fn value_given(given: &Env, places: &IndexMap<Vec<u8>, usize>, name: &[u8]) -> O
 }
 
 fn value_or_default(
-    alloc: Global,
+    consts: &Env,
     given: Option<i64>,
     param: &Assign,
     place: Place,
 ) -> Result<i64, Stop>
-    ensures { JudgedAt place result (spec_value_or_default given (assignment_of param.now)) }
+    ensures { JudgedAt place result (spec_value_or_default consts.now given (assignment_of param.now)) }
 {
     match given {
         Some(value) => Ok(value),
-        None => {
-            let nothing: Env = List::new(alloc);
-            at(place, value(&param.value, &nothing))
-        }
+        None => at(place, value(&param.value, consts)),
     }
 }
 
 fn parameter(
     alloc: Global,
+    consts: &Env,
     given: &Env,
     places: &IndexMap<Vec<u8>, usize>,
     param: &Assign,
     place: Place,
 ) -> Result<Binding, Stop>
     requires { LeadWhereMany binding_name places.now.entries given.now }
-    ensures { JudgedAt place result (spec_parameter given.now (assignment_of param.now)) }
+    ensures { JudgedAt place result (spec_parameter consts.now given.now (assignment_of param.now)) }
 {
     let told = value_given(given, places, param.name.as_slice());
-    let value = value_or_default(alloc, told, param, place)?;
+    let value = value_or_default(consts, told, param, place)?;
     let name = Bytes::of(alloc, param.name.as_slice())?;
     Ok(Binding { name, value })
 }
 
 fn parameters_by(
     alloc: Global,
+    consts: &Env,
     given: &Env,
     places: &IndexMap<Vec<u8>, usize>,
     params: &Defaults,
     place: Place,
 ) -> Result<Env, Stop>
     requires { LeadWhereMany binding_name places.now.entries given.now }
-    ensures { JudgedAt place result (parameters_of given.now (map assignment_of params.now)) }
+    ensures { JudgedAt place result (parameters_of consts.now given.now (map assignment_of params.now)) }
 {
     let mut env = List::new(alloc);
     for param in params.as_slice() {
-        env.push(parameter(alloc, given, places, param, place)?)?;
+        env.push(parameter(alloc, consts, given, places, param, place)?)?;
     }
     Ok(env)
 }
 
-fn parameters(alloc: Global, given: &Env, params: &Defaults, place: Place) -> Result<Env, Stop>
-    ensures { JudgedAt place result (parameters_of given.now (map assignment_of params.now)) }
+fn parameters(
+    alloc: Global,
+    consts: &Env,
+    given: &Env,
+    params: &Defaults,
+    place: Place,
+) -> Result<Env, Stop>
+    ensures { JudgedAt place result (parameters_of consts.now given.now (map assignment_of params.now)) }
 {
     let places = places(alloc, given.as_slice())?;
-    parameters_by(alloc, given, &places, params, place)
+    parameters_by(alloc, consts, given, &places, params, place)
 }
 
 fn shaped(alloc: Global, env: &Env, formal: &Formal, place: Place) -> Result<Shape, Stop>
@@ -121,17 +127,19 @@ fn shapes(alloc: Global, env: &Env, formals: &Formals, place: Place) -> Result<L
 }
 
 /// What a macro's body is expanded with where a use gives these values: the defaults of the parameters
-/// that are not given, which name no parameter, and then the formals' ranges.
+/// that are not given, which name no parameter but may name constants, and then the formals' ranges.
 #[tactic(auto, unfolding(crate::specs::Macros::inside_of))]
 pub(crate) fn inside_of(
     alloc: Global,
+    consts: &Env,
     definition: &MacroDef,
     given: &Env,
     place: Place,
 ) -> Result<Inside, Stop>
-    ensures { JudgedAt place result (spec_inside_of (macro_of definition.now) given.now) }
+    ensures { JudgedAt place result (spec_inside_of consts.now (macro_of definition.now) given.now) }
 {
-    let env = parameters(alloc, given, &definition.params, place)?;
+    let mut env = parameters(alloc, consts, given, &definition.params, place)?;
+    add_bindings(alloc, &mut env, consts.as_slice())?;
     let ins = shapes(alloc, &env, &definition.ins, place)?;
     let outs = shapes(alloc, &env, &definition.outs, place)?;
     Ok(Inside { env, ins, outs })

@@ -156,7 +156,7 @@ fn inverted(bit: Option<BitRef>) -> bool
     }
 }
 
-/// The connections of a use, with what it says of its bits.
+/// The connections of a use, with what it says of its bits and the whole text of its label.
 #[derive(Clone, Copy)]
 pub(crate) struct Wiring<'a> {
     pub(crate) path: &'a [u8],
@@ -167,14 +167,6 @@ pub(crate) struct Wiring<'a> {
     pub(crate) outs: &'a [Joined],
 }
 
-fn path_of(alloc: Global, path: &[u8], label: &[u8]) -> Result<Bytes, NoMemory>
-    ensures { IfOk result (λ whole. whole ≡ path.now ++ label.now) }
-{
-    let mut whole = Bytes::of(alloc, path)?;
-    whole.extend(label)?;
-    Ok(whole)
-}
-
 /// Bit k of a use.
 fn instance(alloc: Global, wiring: &Wiring, k: u16) -> Result<Instance, NoMemory>
     ensures { IfOk result (λ j. j ≡ instance_ref wiring.now.path.now
@@ -182,7 +174,7 @@ fn instance(alloc: Global, wiring: &Wiring, k: u16) -> Result<Instance, NoMemory
 {
     let output = output(wiring.outs, k as usize);
     Ok(Instance {
-        path: path_of(alloc, wiring.path, wiring.statement.label.as_slice())?,
+        path: Bytes::of(alloc, wiring.path)?,
         bit: k,
         kind: wiring.kind,
         delay: wiring.plan.delay,

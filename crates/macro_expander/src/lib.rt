@@ -4,13 +4,15 @@
 //! names, with each refusal and its place; `specs/Stands` what a circuit is that stands for it, and
 //! `specs/Cases` what the cases of a drawing are. Inside, nets have numbers, and `specs/Numbered` says
 //! what the numbers stand for while a circuit grows. `circuit` begins and ends an expansion, `statement`
-//! goes down the statements and the bodies of macros, and the other modules are the steps on the way:
-//! the bits of names, terms and connections, the use of a primitive, the scope of a macro's body, WIRE.
+//! goes down the statements and the bodies of macros and FORs, and the other modules are the steps on
+//! the way: constants, the bits of names, terms and connections, the use of a primitive, the scope of a
+//! macro's body and of a FOR's turn, WIRE.
 //! [`laws`] has where a drawing is refused.
 #![tactic(auto)]
 
 mod circuit;
 mod connection;
+mod constants;
 mod expansion;
 mod formal;
 mod instance_bits;
@@ -26,6 +28,7 @@ mod range;
 mod scope;
 mod statement;
 mod term;
+mod turn;
 mod wire;
 
 pub use circuit::expand;

@@ -1,4 +1,4 @@
-//! The macros of a drawing by their names.
+//! The macros of a drawing by their names, and what else its bodies are expanded with.
 
 ghost use Rattle.std.specs.Prelude.{◌≡◌, IfOk, option_map};
 ghost use Rattle.std.specs.Option.{option_copied};
@@ -10,12 +10,16 @@ use crate::places::{Called, named, places};
 use drawing_tree::{MacroDef, MacroDefs};
 use indexmap::IndexMap;
 use scald_base::NoMemory;
+use scald_expr::Env;
 use std::alloc::Global;
 
-/// The macros of a drawing, to be found by their names, and the ticks of the drawing's period.
+/// The macros of a drawing, to be found by their names; and the version of its language, the ticks of
+/// its period, and its constants with their values.
 #[derive(Drop)]
 pub struct Library<'a> {
+    pub(crate) version: u8,
     pub(crate) ticks: u16,
+    pub(crate) consts: Env,
     pub(crate) macros: &'a MacroDefs,
     /// The place of each name's first macro, where there are many.
     pub(crate) places: IndexMap<Vec<u8>, usize>,
@@ -30,17 +34,22 @@ impl Called for MacroDef {
 }
 
 impl<'a> Library<'a> {
-    /// The library of these macros, in a drawing with a period of so many ticks.
+    /// The library of these macros, in a drawing of this version, with a period of so many ticks and
+    /// these constants.
     pub(crate) fn of(
         alloc: Global,
+        version: u8,
         ticks: u16,
+        consts: Env,
         macros: &'a MacroDefs,
     ) -> Result<Library<'a>, NoMemory>
-        ensures { IfOk result (HoldsMacros ticks macros.now) }
+        ensures { IfOk result (HoldsMacros version ticks consts macros.now) }
     {
         let places = places(alloc, macros.as_slice())?;
         Ok(Library {
+            version,
             ticks,
+            consts,
             macros,
             places,
         })

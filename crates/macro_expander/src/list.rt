@@ -1,6 +1,7 @@
 //! Rows: lists with room for all of their items from the start.
 
-ghost use Rattle.std.specs.Prelude.{◌≡◌, ◌∷◌, ◌++◌, [], IfOk, OnOk, OnErr};
+ghost use Rattle.std.specs.Prelude.{◌≡◌, ◌∷◌, ◌++◌, ◌≤◌, [], length, IfOk, OnOk, OnErr};
+ghost use Rattle.macro_expander.specs.Primitives.{first_reversed};
 
 use scald_base::{List, NoMemory};
 use std::alloc::Global;
@@ -44,6 +45,15 @@ impl<T> Row<T> {
         ensures { result.now ≡ self.now }
     {
         self.items.as_slice()
+    }
+
+    /// Puts the first items, so many, in reverse order.
+    pub(crate) fn reverse_first(&mut self, count: usize)
+        requires { count ≤ length self.old }
+        ensures { self.new ≡ first_reversed count self.old }
+    {
+        let (first, _) = self.items.as_mut_slice().split_at_mut(count);
+        first.reverse();
     }
 }
 

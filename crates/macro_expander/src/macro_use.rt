@@ -1,11 +1,11 @@
 //! The scope of a macro's body at a use.
 
-ghost use Rattle.std.specs.Prelude.{◌≡◌, IfOk};
+ghost use Rattle.std.specs.Prelude.{◌≡◌, ◌++◌, IfOk, codes};
 ghost use Rattle.std.specs.List.{All, zip};
 ghost use Rattle.drawing_tree.specs.Tree.{macro_of, use_of};
 ghost use Rattle.macro_expander.specs.Fitting.{UseFits};
 ghost use Rattle.macro_expander.specs.Outcome.{collected};
-ghost use Rattle.macro_expander.specs.Macros.{inner_path as spec_inner_path, inner_scope as spec_inner_scope};
+ghost use Rattle.macro_expander.specs.Macros.{inner_scope as spec_inner_scope};
 ghost use Rattle.macro_expander.specs.Numbered.{ScopeAt, state_of, scope_of, ScopeExists, nets_in, names_in, IsRange, bound_ref, input_bound_ref, output_bound_ref, bound_formals_ref};
 ghost use Rattle.macro_expander.specs.Steps.{JudgedAt};
 
@@ -119,19 +119,20 @@ fn bound_formals(
     Ok(Formals::of(alloc, formals)?)
 }
 
-fn inner_path(alloc: Global, path: &[u8], label: &[u8]) -> Result<Bytes, NoMemory>
-    ensures { IfOk result (λ inner. inner ≡ spec_inner_path path.now label.now) }
+fn inner_path(alloc: Global, scope: &Scope, label: &[u8]) -> Result<Bytes, NoMemory>
+    ensures { IfOk result (λ inner. inner ≡ (scope.now.path ++ label.now ++ scope.now.suffix) ++ codes "/") }
 {
-    let mut inner = Bytes::of(alloc, path)?;
-    inner.extend(label)?;
+    let mut inner = scope.labelled(alloc, label)?;
     inner.extend(b"/".as_slice())?;
     Ok(inner)
 }
 
-/// The scope of a macro's body at a use: its formals, bound to the connections' bits.
+/// The scope of a macro's body at a use: its formals, bound to the connections' bits. No FOR is around
+/// the body.
 pub(crate) fn inner_scope(
     expansion: &mut Expansion,
     alloc: Global,
+    consts: &Env,
     definition: &MacroDef,
     given: &Env,
     scope: &Scope,
@@ -139,18 +140,23 @@ pub(crate) fn inner_scope(
 ) -> Result<Scope, Stop>
     requires fits { UseFits expansion.old.builder.header (use_of statement.now) }
     requires exists { ScopeExists (nets_in expansion.old) scope.now }
-    ensures { ScopeAt expansion.old expansion.new result (spec_inner_scope (macro_of definition.now)
+    ensures { ScopeAt expansion.old expansion.new result (spec_inner_scope consts.now (macro_of definition.now)
         given.now (scope_of (names_in expansion.old) scope.now) (use_of statement.now) (state_of expansion.old)) }
 {
     let place = statement.place;
-    let inside = inside_of(alloc, definition, given, place)?;
+    let inside = inside_of(alloc, consts, definition, given, place)?;
     let wires = all_wires(expansion, alloc, scope, statement)?;
     let formals = bound_formals(alloc, &inside, &wires, place)?;
-    let path = inner_path(alloc, scope.path.as_slice(), statement.label.as_slice())?;
+    let path = inner_path(alloc, scope, statement.label.as_slice())?;
     let Inside {
         env,
         ins: _,
         outs: _,
     } = inside;
-    Ok(Scope { path, env, formals })
+    Ok(Scope {
+        path,
+        suffix: Bytes::new(alloc),
+        env,
+        formals,
+    })
 }

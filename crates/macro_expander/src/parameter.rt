@@ -30,7 +30,13 @@ impl Called for Binding {
     }
 }
 
-fn assigned(alloc: Global, param: &Assign, env: &Env, place: Place) -> Result<Binding, Stop>
+/// The name of a parameter or a constant with its value.
+pub(crate) fn assigned(
+    alloc: Global,
+    param: &Assign,
+    env: &Env,
+    place: Place,
+) -> Result<Binding, Stop>
     ensures { JudgedAt place result (spec_assigned env.now (assignment_of param.now)) }
 {
     let value = at(place, value(&param.value, env))?;

@@ -1,6 +1,6 @@
 //! What names mean in the body that is expanded.
 
-ghost use Rattle.std.specs.Prelude.{◌≡◌, ◌==◌, [], position, Ok, IfOk, IfSome};
+ghost use Rattle.std.specs.Prelude.{◌≡◌, ◌==◌, ◌++◌, [], position, Ok, IfOk, IfSome};
 ghost use Rattle.std.specs.Option.{option_copied};
 ghost use Rattle.std.specs.List.{All, find};
 ghost use Rattle.std.specs.Str.{bytes_eq};
@@ -25,6 +25,18 @@ pub struct Bound {
     pub(crate) base: Bytes,
     pub(crate) numbers: Indices,
     pub(crate) bits: Bits,
+}
+
+impl Bound {
+    fn copy(&self, alloc: Global) -> Result<Bound, NoMemory>
+        ensures { IfOk result (λ copy. copy ≡ self.now) }
+    {
+        Ok(Bound {
+            base: Bytes::of(alloc, self.base.as_slice())?,
+            numbers: copied(alloc, self.numbers.as_slice())?,
+            bits: copied(alloc, self.bits.as_slice())?,
+        })
+    }
 }
 
 impl Called for Bound {
@@ -76,6 +88,17 @@ impl Formals {
         Ok(Formals { items, places })
     }
 
+    /// A copy of the formals.
+    pub(crate) fn copy(&self, alloc: Global) -> Result<Formals, NoMemory>
+        ensures { IfOk result (λ copy. copy ≡ self.now) }
+    {
+        let mut items = Row::with_room(alloc, self.items.as_slice().len())?;
+        for item in self.items.as_slice() {
+            items.push(item.copy(alloc)?)?;
+        }
+        Formals::of(alloc, items)
+    }
+
     /// The first formal of a base name.
     pub(crate) fn find(&self, base: &[u8]) -> Option<&Bound>
         ensures first { option_copied result ≡ find (λ f. bytes_eq f.base base.now) self.now }
@@ -85,25 +108,38 @@ impl Formals {
     }
 }
 
-/// The labels of the uses from the drawing down, each with a slash after it, the parameters with their
-/// values, and the formals.
+/// The labels of the uses from the drawing down, each with a slash after it; what follows each label of
+/// the body, for the FORs around it; the names that have values, the innermost first: the variables of
+/// those FORs, the parameters and the constants; and the formals.
 #[derive(Drop)]
 pub struct Scope {
     pub(crate) path: Bytes,
+    pub(crate) suffix: Bytes,
     pub(crate) env: Env,
     pub(crate) formals: Formals,
 }
 
 impl Scope {
     /// The scope of a drawing's own statements.
-    pub(crate) fn top(alloc: Global) -> Scope
-        ensures { result ≡ record { path = []; env = []; formals = [] } }
+    pub(crate) fn top(alloc: Global, consts: Env) -> Scope
+        ensures { result ≡ record { path = []; suffix = []; env = consts; formals = [] } }
     {
         Scope {
             path: Bytes::new(alloc),
-            env: List::new(alloc),
+            suffix: Bytes::new(alloc),
+            env: consts,
             formals: Formals::new(alloc),
         }
+    }
+
+    /// The whole text of a label.
+    pub(crate) fn labelled(&self, alloc: Global, label: &[u8]) -> Result<Bytes, NoMemory>
+        ensures { IfOk result (λ whole. whole ≡ self.now.path ++ label.now ++ self.now.suffix) }
+    {
+        let mut whole = Bytes::of(alloc, self.path.as_slice())?;
+        whole.extend(label)?;
+        whole.extend(self.suffix.as_slice())?;
+        Ok(whole)
     }
 }
 

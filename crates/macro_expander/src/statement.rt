@@ -1,10 +1,10 @@
 //! Statements, in the order of the text, with a macro's body at each of its uses.
 
 ghost use Rattle.std.specs.Prelude.{◌≡◌, IfErr, OnOk, Some, MatchResult};
-ghost use Rattle.drawing_tree.specs.Tree.{statement_of, statements_of, if_of, macro_of, use_of};
+ghost use Rattle.drawing_tree.specs.Tree.{statement_of, statements_of, if_of, for_of, macro_of, use_of};
 ghost use Rattle.macro_expander.specs.Fitting.{UseFits, StatementFits, StatementsFit, MacroFits};
-ghost use Rattle.macro_expander.specs.Flat.{use_act, macro_use};
-ghost use Rattle.macro_expander.specs.Library.{IsLibrary, macros_in};
+ghost use Rattle.macro_expander.specs.Flat.{counted, use_act, macro_use};
+ghost use Rattle.macro_expander.specs.Library.{IsLibrary, setting_in};
 ghost use Rattle.macro_expander.specs.Numbered.{DoneAt, state_of, scope_of, ScopeExists, nets_in, names_in};
 ghost use Rattle.macro_expander.specs.Statements.{place_of as spec_place_of, bodies_in, statements_in, statement_in, uncounted_in, Reached, IsOneTooMany, Chooses, IsUnchosen};
 
@@ -16,8 +16,9 @@ use crate::primitive::primitive;
 use crate::primitive_use::primitive_use;
 use crate::range::{at, value};
 use crate::scope::Scope;
+use crate::turn::{in_turn, loop_ends, turn_to};
 use crate::wire::wire_bounds;
-use drawing_tree::{IfStmt, MacroDef, Stmt, UseStmt};
+use drawing_tree::{ForStmt, IfStmt, MacroDef, Stmt, UseStmt};
 use scald_base::{Place, RefusalKind, Stop};
 use scald_expr::Env;
 use std::alloc::Global;
@@ -45,6 +46,7 @@ fn place_of(statement: &Stmt) -> Place
         Stmt::Use(used) => used.place,
         Stmt::Wire(wire) => wire.place,
         Stmt::If(choice) => choice.place,
+        Stmt::For(repeated) => repeated.place,
     }
 }
 
@@ -105,6 +107,7 @@ fn one(
         Stmt::Use(used) => expand_use(expansion, alloc, library, used, scope, levels),
         Stmt::Wire(wire) => wire_bounds(expansion, alloc, scope, wire),
         Stmt::If(choice) => expand_if(expansion, alloc, library, choice, scope, levels),
+        Stmt::For(repeated) => expand_for(expansion, alloc, library, repeated, scope, levels),
     }
 }
 
@@ -128,6 +131,66 @@ fn expand_if(
     body(expansion, alloc, library, statements, scope, levels)
 }
 
+/// A FOR, once it is counted: its body for each value, upwards.
+#[cycle(statement)]
+fn expand_for(
+    expansion: &mut Expansion,
+    alloc: Global,
+    library: &Library,
+    repeated: &ForStmt,
+    scope: &Scope,
+    levels: u32,
+) -> Result<(), Stop>
+    requires library { IsLibrary expansion.old.builder.header library.now }
+    requires fits { StatementFits expansion.old.builder.header (for_of repeated.now) }
+    requires exists { ScopeExists (nets_in expansion.old) scope.now }
+    ensures { DoneAt expansion.old expansion.new result (uncounted_in library.now
+        levels (for_of repeated.now) (scope_of (names_in expansion.old) scope.now) (state_of expansion.old)) }
+{
+    let ends = loop_ends(repeated, &scope.env)?;
+    let first = ends.0;
+    let last = ends.1;
+    if first > last {
+        return Ok(());
+    }
+    let mut inner = in_turn(alloc, scope, repeated.var.as_slice(), first)?;
+    let mut value = first;
+    'turns: while value < last {
+        turn(expansion, alloc, library, repeated, &inner, levels)?;
+        value += 1;
+        turn_to(alloc, &mut inner, scope, repeated.var.as_slice(), value)?;
+    }
+    turn(expansion, alloc, library, repeated, &inner, levels)
+}
+
+/// The body of a FOR for one value, which counts by itself.
+#[cycle(statement)]
+fn turn(
+    expansion: &mut Expansion,
+    alloc: Global,
+    library: &Library,
+    repeated: &ForStmt,
+    inner: &Scope,
+    levels: u32,
+) -> Result<(), Stop>
+    requires library { IsLibrary expansion.old.builder.header library.now }
+    requires fits { StatementFits expansion.old.builder.header (for_of repeated.now) }
+    requires exists { ScopeExists (nets_in expansion.old) inner.now }
+    ensures { DoneAt expansion.old expansion.new result (counted repeated.now.place
+        (statements_in library.now levels (statements_of repeated.now.body.items))
+        (scope_of (names_in expansion.old) inner.now) (state_of expansion.old)) }
+{
+    count(expansion, repeated.place)?;
+    body(
+        expansion,
+        alloc,
+        library,
+        repeated.body.as_slice(),
+        inner,
+        levels,
+    )
+}
+
 /// The use of a primitive or of a macro, once it is counted.
 #[cycle(statement)]
 fn expand_use(
@@ -142,11 +205,11 @@ fn expand_use(
     requires fits { UseFits expansion.old.builder.header (use_of used.now) }
     requires exists { ScopeExists (nets_in expansion.old) scope.now }
     ensures { DoneAt expansion.old expansion.new
-        result (use_act library.now.ticks (macros_in library.now) (bodies_in library.now levels)
+        result (use_act (setting_in library.now) (bodies_in library.now levels)
         (use_of used.now) (scope_of (names_in expansion.old) scope.now) (state_of expansion.old)) }
 {
     if let Some(kind) = primitive(used.kind.as_slice()) {
-        return primitive_use(expansion, alloc, library.ticks, kind, scope, used);
+        return primitive_use(expansion, alloc, library, kind, scope, used);
     }
     match library.find(used.kind.as_slice()) {
         Some(definition) => {
@@ -172,14 +235,22 @@ fn expand_macro(
     requires fits { UseFits expansion.old.builder.header (use_of used.now) }
     requires exists { ScopeExists (nets_in expansion.old) scope.now }
     ensures { DoneAt expansion.old expansion.new result
-        (macro_use (bodies_in library.now levels) (Some (macro_of definition.now))
+        (macro_use (setting_in library.now) (bodies_in library.now levels) (Some (macro_of definition.now))
         (use_of used.now) (scope_of (names_in expansion.old) scope.now) (state_of expansion.old)) }
 {
     let given = given_to(alloc, definition, &scope.env, used)?;
     if levels == 0 {
         return Err(Stop::refused(RefusalKind::TooDeep, used.place));
     }
-    let inner = inner_scope(expansion, alloc, definition, &given, scope, used)?;
+    let inner = inner_scope(
+        expansion,
+        alloc,
+        &library.consts,
+        definition,
+        &given,
+        scope,
+        used,
+    )?;
     body(
         expansion,
         alloc,

@@ -5,19 +5,21 @@ use Rattle.scald_base.specs.Time.{Header}
 use Rattle.element_kinds.specs.declared.kind.Kind.{Kind}
 use Rattle.element_kinds.specs.Kinds.{kind_of}
 use Rattle.scald_base.specs.declared.refusal.RefusalKind.TheVariants.{TooDeep, UnknownKind}
-use Rattle.drawing_tree.specs.Tree.{statement_of, statements_of, macro_of, use_of, Macro}
+use Rattle.scald_expr.specs.Expression.{expression_of}
+use Rattle.drawing_tree.specs.Tree.{statement_of, statements_of, for_of, macro_of, use_of, Macro}
 use Rattle.macro_expander.specs.Terms.{Scope}
 use Rattle.macro_expander.specs.Primitives.{primitive_use}
 use Rattle.macro_expander.specs.Macros.{macro_of as first_called}
-use Rattle.macro_expander.specs.Flat.{use_act, macro_use}
+use Rattle.macro_expander.specs.Flat.{turn_act, use_act, macro_use}
 use Rattle.macro_expander.specs.Fitting.{StatementFits, MacroFits}
-use Rattle.macro_expander.specs.Library.{macros_in}
-use Rattle.macro_expander.specs.Numbered.{Failed, GivesDone, scope_of, names_in, state_of}
-use Rattle.macro_expander.specs.Statements.{bodies_in, statements_in, statement_in}
+use Rattle.macro_expander.specs.Library.{macros_in, setting_in}
+use Rattle.macro_expander.specs.Numbered.{Failed, GivesDone, DoneAt, scope_of, names_in, nets_in, state_of}
+use Rattle.macro_expander.specs.Statements.{bodies_in, statements_in, statement_in, uncounted_in}
 use Rattle.macro_expander.proofs.Nets.{grows_refl}
 use Rattle.macro_expander.proofs.Gathered.{scope_stays, scope_exists_stays}
 use Rattle.macro_expander.proofs.PrimitiveUses.{done_later, failed_so}
 use Rattle.macro_expander.proofs.Statements.{library_stays, item_fits, through_more, through_failed, primitive_act, macro_act, found_is, macro_too_deep, macro_cut, macro_done}
+use Rattle.macro_expander.proofs.Turns.{for_refused, for_none, turns_begun, turns_more, turns_failed, turns_done, turn_exists}
 use Rattle.macro_expander.proofs.statement.+statement.Goals as goal
 
 pub body-one-requires : goal.body-one-requires
@@ -44,7 +46,7 @@ body-returns-in_err-one t c =
     let x = c.statement-item.result in
     let scope = scope_of (names_in start) c.args.scope.now in
     let p = err_from_is_err_and c.from_residual.result c.from_residual.ensures.1 in
-    rw (p.1, p.2) (through_failed l.ticks (macros_in l) (bodies_in l c.args.levels) scope start (statements_in l c.args.levels (statements_of all)
+    rw (p.1, p.2) (through_failed (setting_in l) (bodies_in l c.args.levels) scope start (statements_in l c.args.levels (statements_of all)
     scope (state_of start)) all c.statements.statement-index e x c.statements-test.true c.statement-item.is c.in_err-one.field-0.0
     (subst (λ (z : Scope). Failed c.in_err-one.field-0.0 (statement_in l c.args.levels (statement_of x) z (state_of e)))
     (scope_stays start e c.args.scope.now c.statements.invariant.grows c.requires.exists) c.in_err-one.ensures)
@@ -58,7 +60,7 @@ body-statements-preserved t c =
     let all = c.args.statements.now in
     let x = c.statement-item.result in
     let scope = scope_of (names_in start) c.args.scope.now in
-    through_more l.ticks (macros_in l) (bodies_in l c.args.levels) scope start (statements_in l c.args.levels (statements_of all)
+    through_more (setting_in l) (bodies_in l c.args.levels) scope start (statements_in l c.args.levels (statements_of all)
     scope (state_of start)) all c.statements.statement-index e x c.statements-test.true c.statement-item.is c.one.new.expansion
     (subst (λ (z : Scope). GivesDone e c.one.new.expansion (statement_in l c.args.levels (statement_of x) z (state_of e)))
     (scope_stays start e c.args.scope.now c.statements.invariant.grows c.requires.exists) c.in_ok-one.ensures)
@@ -68,7 +70,7 @@ pub expand_macro-returns-then-levels-eq0 : goal.expand_macro-returns-then-levels
 expand_macro-returns-then-levels-eq0 t c =
     let l = c.args.library.now in
     failed_so c.refused.result _ TooDeep c.args.used.now.place c.refused.ensures
-    (macro_too_deep l.ticks (macros_in l) c.args.levels c.args.expansion.now c.args.scope.now
+    (macro_too_deep (setting_in l) c.args.levels c.args.expansion.now c.args.scope.now
     (macro_of c.args.definition.now) (use_of c.args.used.now) c.in_ok-given.given c.in_ok-given.ensures c.if-levels-eq0.true)
 
 pub expand_macro-returns-in_err-inner : goal.expand_macro-returns-in_err-inner
@@ -76,7 +78,7 @@ expand_macro-returns-in_err-inner t c =
     let l = c.args.library.now in
     let deep : c.args.levels ≢ 0 = omega arith in
     let p = err_from_is_err_and c.from_residual-in_err-inner.result c.from_residual-in_err-inner.ensures.1 in
-    rw (p.1, p.2) (macro_cut l.ticks (macros_in l) c.args.levels c.args.expansion.now c.args.scope.now (macro_of c.args.definition.now)
+    rw (p.1, p.2) (macro_cut (setting_in l) c.args.levels c.args.expansion.now c.args.scope.now (macro_of c.args.definition.now)
     (use_of c.args.used.now) c.in_ok-given.given c.in_ok-given.ensures deep c.in_err-inner.field-0.0 c.in_err-inner.ensures)
 
 pub expand_macro-returns : goal.expand_macro-returns
@@ -84,7 +86,7 @@ expand_macro-returns t c =
     let l = c.args.library.now in
     let deep : c.args.levels ≢ 0 = omega arith in
     let done = rw c.deref.ensures.value at c.body.ensures in
-    macro_done l.ticks (macros_in l) c.args.levels c.args.expansion.now c.args.scope.now (macro_of c.args.definition.now) (use_of c.args.used.now)
+    macro_done (setting_in l) c.args.levels c.args.expansion.now c.args.scope.now (macro_of c.args.definition.now) (use_of c.args.used.now)
     c.in_ok-given.given c.in_ok-given.ensures deep c.inner_scope.new.expansion
     c.body.new.expansion c.in_ok-inner.inner c.body.result c.in_ok-inner.ensures done
 
@@ -97,8 +99,8 @@ expand_use-returns-in-Some t c =
     let u = use_of c.args.used.now in
     let known = subst (λ (name : List ℕ). Some c.in-Some.kind ≡ kind_of name) c.as_slice.ensures c.in-Some.ensures in
     done_later e e c.primitive_use.new.expansion c.primitive_use.result
-    (primitive_use l.ticks c.in-Some.kind scope u (state_of e)) (use_act l.ticks (macros_in l) below u scope (state_of e)) (grows_refl e)
-    (primitive_act l.ticks (macros_in l) below u scope (state_of e) c.in-Some.kind known) c.primitive_use.ensures
+    (primitive_use l.ticks c.in-Some.kind scope u (state_of e)) (use_act (setting_in l) below u scope (state_of e)) (grows_refl e)
+    (primitive_act (setting_in l) below u scope (state_of e) c.in-Some.kind known) c.primitive_use.ensures
 
 pub expand_use-expand_macro-requires : goal.expand_use-expand_macro-requires
 expand_use-expand_macro-requires t c =
@@ -125,8 +127,8 @@ expand_use-returns-in-Some-find t c =
     let m = macro_of c.in-Some-find.definition.now in
     let unknown = subst (λ (name : List ℕ). let none : Option Kind = None in none ≡ kind_of name) c.as_slice.ensures c.in_default.ensures in
     let first = subst (λ (name : List ℕ). Some m ≡ first_called name (macros_in l)) c.as_slice-2.ensures c.in-Some-find.ensures in
-    done_later e e c.expand_macro.new.expansion c.expand_macro.result (macro_use below (Some m) u scope (state_of e)) (use_act l.ticks (macros_in l) below u scope (state_of e)) (grows_refl e)
-    (macro_act l.ticks (macros_in l) below u scope (state_of e) (Some m) unknown first) c.expand_macro.ensures
+    done_later e e c.expand_macro.new.expansion c.expand_macro.result (macro_use (setting_in l) below (Some m) u scope (state_of e)) (use_act (setting_in l) below u scope (state_of e)) (grows_refl e)
+    (macro_act (setting_in l) below u scope (state_of e) (Some m) unknown first) c.expand_macro.ensures
 
 pub expand_use-returns-in-None : goal.expand_use-returns-in-None
 expand_use-returns-in-None t c =
@@ -137,5 +139,124 @@ expand_use-returns-in-None t c =
     let u = use_of c.args.used.now in
     let unknown = subst (λ (name : List ℕ). let none : Option Kind = None in none ≡ kind_of name) c.as_slice.ensures c.in_default.ensures in
     let nowhere = subst (λ (name : List ℕ). let none : Option Macro = None in none ≡ first_called name (macros_in l)) c.as_slice-2.ensures c.in-None.ensures in
-    failed_so c.refused.result (use_act l.ticks (macros_in l) below u scope (state_of e)) UnknownKind c.args.used.now.place c.refused.ensures
-    (macro_act l.ticks (macros_in l) below u scope (state_of e) None unknown nowhere)
+    failed_so c.refused.result (use_act (setting_in l) below u scope (state_of e)) UnknownKind c.args.used.now.place c.refused.ensures
+    (macro_act (setting_in l) below u scope (state_of e) None unknown nowhere)
+
+-- ---- FOR
+
+pub expand_for-returns-in_err-ends : goal.expand_for-returns-in_err-ends
+expand_for-returns-in_err-ends t c =
+    let l = c.args.library.now in
+    let loop = c.args.repeated.now in
+    let p = err_from_is_err_and c.from_residual.result c.from_residual.ensures.1 in
+    rw (p.1, p.2) (for_refused loop.var loop.place (statements_in l c.args.levels (statements_of loop.body.items))
+    (expression_of loop.first) (expression_of loop.last) (scope_of (names_in c.args.expansion.now) c.args.scope.now) c.args.expansion.now
+    c.in_err-ends.field-0.0 c.in_err-ends.ensures)
+
+pub expand_for-returns-then-first-gt-last : goal.expand_for-returns-then-first-gt-last
+expand_for-returns-then-first-gt-last t c =
+    let l = c.args.library.now in
+    let loop = c.args.repeated.now in
+    for_none loop.var loop.place (statements_in l c.args.levels (statements_of loop.body.items))
+    (expression_of loop.first) (expression_of loop.last) (scope_of (names_in c.args.expansion.now) c.args.scope.now) c.args.expansion.now
+    c.in_ok-ends.ends.0 c.in_ok-ends.ends.1 c.in_ok-ends.ensures c.if-first-gt-last.true
+
+pub expand_for-turns-init : goal.expand_for-turns-init
+expand_for-turns-init t c =
+    let l = c.args.library.now in
+    let loop = c.args.repeated.now in
+    record {
+      went =
+          turns_begun loop.var loop.place (statements_in l c.args.levels (statements_of loop.body.items))
+          (expression_of loop.first) (expression_of loop.last) (scope_of (names_in c.args.expansion.now) c.args.scope.now) c.args.expansion.now
+          c.in_ok-ends.ends.0 c.in_ok-ends.ends.1 c.in_ok-ends.ensures;
+      inner = c.in_ok-inner.ensures;
+      within = omega (arith, c.if-first-gt-last.false);
+    }
+
+pub expand_for-turn-requires : goal.expand_for-turn-requires
+expand_for-turn-requires t c =
+    let start = c.args.expansion.now in
+    let went = c.turns.invariant in
+    let grows = went.went.grows in (
+      omega (arith, c.decreases, grows.statements),
+      (
+        library_stays start.builder.header c.turns.expansion.builder.header c.args.library.now grows.header c.requires.library,
+        (
+          subst (λ (h : Header). StatementFits h (for_of c.args.repeated.now)) (sym grows.header) c.requires.fits,
+          turn_exists (nets_in c.turns.expansion) c.args.repeated.now.var c.turns.value c.args.scope.now c.turns.inner went.inner
+              (scope_exists_stays start c.turns.expansion c.args.scope.now grows c.requires.exists),
+        ),
+      ),
+    )
+
+pub expand_for-returns-in_err-turn : goal.expand_for-returns-in_err-turn
+expand_for-returns-in_err-turn t c =
+    let start = c.args.expansion.now in
+    let e = c.turns.expansion in
+    let l = c.args.library.now in
+    let loop = c.args.repeated.now in
+    let went = c.turns.invariant in
+    let body = statements_in l c.args.levels (statements_of loop.body.items) in
+    let scope = scope_of (names_in start) c.args.scope.now in
+    let p = err_from_is_err_and c.from_residual-in_err-turn.result c.from_residual-in_err-turn.ensures.1 in
+    rw (p.1, p.2) (turns_failed (λ v. turn_act loop.var loop.place body v scope) start
+    (uncounted_in l c.args.levels (for_of loop) scope (state_of start)) c.in_ok-ends.ends.1 e c.turns.value c.in_err-turn.field-0.0 c.turns-test.true
+    (subst (λ (z : Scope). Failed c.in_err-turn.field-0.0 (turn_act loop.var loop.place body c.turns.value z (state_of e)))
+    (scope_stays start e c.args.scope.now went.went.grows c.requires.exists) (rw went.inner at c.in_err-turn.ensures))
+    went.went)
+
+pub expand_for-turns-preserved : goal.expand_for-turns-preserved
+expand_for-turns-preserved t c =
+    let start = c.args.expansion.now in
+    let e = c.turns.expansion in
+    let l = c.args.library.now in
+    let loop = c.args.repeated.now in
+    let went = c.turns.invariant in
+    let body = statements_in l c.args.levels (statements_of loop.body.items) in
+    let scope = scope_of (names_in start) c.args.scope.now in
+    record {
+      went =
+          turns_more (λ v. turn_act loop.var loop.place body v scope) start (uncounted_in l c.args.levels (for_of loop) scope (state_of start))
+          c.in_ok-ends.ends.1 e c.turns.value c.turn.new.expansion c.turns-test.true
+          (subst (λ (z : Scope). GivesDone e c.turn.new.expansion (turn_act loop.var loop.place body c.turns.value z (state_of e)))
+          (scope_stays start e c.args.scope.now went.went.grows c.requires.exists) (rw went.inner at c.in_ok-turn.ensures))
+          went.went;
+      inner = c.in_ok-turn_to.ensures;
+      within = omega (arith, c.turns-test.true);
+    }
+
+pub expand_for-turn_to-requires : goal.expand_for-turn_to-requires
+expand_for-turn_to-requires t c = record { value = c.turns.value; is = c.turns.invariant.inner }
+
+pub expand_for-turn-requires-2 : goal.expand_for-turn-requires-2
+expand_for-turn-requires-2 t c =
+    let start = c.args.expansion.now in
+    let went = c.turns.invariant in
+    let grows = went.went.grows in (
+      omega (arith, c.decreases, grows.statements),
+      (
+        library_stays start.builder.header c.turns.expansion.builder.header c.args.library.now grows.header c.requires.library,
+        (
+          subst (λ (h : Header). StatementFits h (for_of c.args.repeated.now)) (sym grows.header) c.requires.fits,
+          turn_exists (nets_in c.turns.expansion) c.args.repeated.now.var c.turns.value c.args.scope.now c.turns.inner went.inner
+              (scope_exists_stays start c.turns.expansion c.args.scope.now grows c.requires.exists),
+        ),
+      ),
+    )
+
+pub expand_for-returns : goal.expand_for-returns
+expand_for-returns t c =
+    let start = c.args.expansion.now in
+    let e = c.turns.expansion in
+    let l = c.args.library.now in
+    let loop = c.args.repeated.now in
+    let went = c.turns.invariant in
+    let body = statements_in l c.args.levels (statements_of loop.body.items) in
+    let scope = scope_of (names_in start) c.args.scope.now in
+    let at_last : c.turns.value ≡ c.in_ok-ends.ends.1 = omega (arith, c.turns-test.false, went.within) in
+    turns_done (λ v. turn_act loop.var loop.place body v scope) start (uncounted_in l c.args.levels (for_of loop) scope (state_of start))
+    c.in_ok-ends.ends.1 e c.turns.value c.turn-2.result c.turn-2.new.expansion at_last
+    (subst (λ (z : Scope). DoneAt e c.turn-2.new.expansion c.turn-2.result (turn_act loop.var loop.place body c.in_ok-ends.ends.1 z (state_of e)))
+    (scope_stays start e c.args.scope.now went.went.grows c.requires.exists) (rw (went.inner, at_last) at c.turn-2.ensures))
+    went.went

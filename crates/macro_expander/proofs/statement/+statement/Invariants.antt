@@ -1,7 +1,10 @@
 use Rattle.std.proofs.Common.{◌+◌, ◌-◌, ◌*◌, drop}
-use Rattle.drawing_tree.specs.Tree.{statements_of}
-use Rattle.macro_expander.specs.Library.{macros_in}
-use Rattle.macro_expander.specs.Statements.{bodies_in, statements_in, WentThrough}
+use Rattle.std.specs.Prelude.{◌≡◌, true, ◌-ℤ◌, int_le}
+use Rattle.drawing_tree.specs.Tree.{statements_of, for_of}
+use Rattle.macro_expander.specs.Library.{setting_in}
+use Rattle.macro_expander.specs.Loops.{count_of}
+use Rattle.macro_expander.specs.Flat.{turn_act}
+use Rattle.macro_expander.specs.Statements.{bodies_in, statements_in, uncounted_in, turned_scope, WentThrough, WentTurns}
 use Rattle.macro_expander.specs.Numbered.{scope_of, names_in, state_of}
 use Rattle.macro_expander.proofs.Statements.{act}
 use Rattle.macro_expander.proofs.statement.+statement.Given as goal
@@ -9,6 +12,12 @@ use Rattle.macro_expander.proofs.statement.+statement.Given as goal
 -- the statements that may still be reached, and then how far a call is from the next count
 abbrev pub decreases-body : goal.decreases-body
 decreases-body l = 5 * (262144 - l.expansion.now.statements) + 2
+
+abbrev pub decreases-expand_for : goal.decreases-expand_for
+decreases-expand_for l = 5 * (262144 - l.expansion.now.statements) + 3
+
+abbrev pub decreases-turn : goal.decreases-turn
+decreases-turn l = 5 * (262144 - l.expansion.now.statements) + 1
 
 abbrev pub decreases-expand_if : goal.decreases-expand_if
 decreases-expand_if l = 5 * (262144 - l.expansion.now.statements) + 3
@@ -27,4 +36,20 @@ invariant-body-statements l =
     let start = l.fn.expansion in
     let scope = scope_of (names_in start) l.scope in
     let want = statements_in l.library l.levels (statements_of l.statements) scope (state_of start) in
-    WentThrough (act l.library.ticks (macros_in l.library) (bodies_in l.library l.levels) scope) start want (drop l.statement-index l.statements) l.expansion
+    WentThrough (act (setting_in l.library) (bodies_in l.library l.levels) scope) start want (drop l.statement-index l.statements) l.expansion
+
+-- the values that are left
+abbrev pub decreases-expand_for-turns : goal.decreases-expand_for-turns
+decreases-expand_for-turns l = count_of (l.last -ℤ l.value)
+
+abbrev pub invariant-expand_for-turns : goal.invariant-expand_for-turns
+invariant-expand_for-turns l =
+    let start = l.fn.expansion in
+    let scope = scope_of (names_in start) l.scope in
+    let body = statements_in l.library l.levels (statements_of l.repeated.body.items) in
+    record {
+      went : WentTurns (λ v. turn_act l.repeated.var l.repeated.place body v scope) start
+          (uncounted_in l.library l.levels (for_of l.repeated) scope (state_of start)) l.value l.last l.expansion;
+      inner : l.inner ≡ turned_scope l.repeated.var l.value l.scope;
+      within : int_le l.value l.last ≡ true;
+    }

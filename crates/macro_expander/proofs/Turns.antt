@@ -1,0 +1,111 @@
+-- FOR, value by value: what the values that are left do is what the whole does.
+use Rattle.std.proofs.Common.{◌≡◌, ℕ, suc, List, [], ◌∷◌, ℤ, pos, Result, Ok, Err, refl, sym, ◌∙◌, subst, arith}
+use Rattle.std.proofs.lemmas.List.{append-nil}
+use Rattle.std.specs.Prelude.{◌+ℤ◌, ◌-ℤ◌, int_lt, true}
+use Rattle.scald_base.specs.declared.refusal.Place.{Place}
+use Rattle.scald_base.specs.declared.refusal.Stop.{Stop}
+use Rattle.scald_expr.specs.Expression.{Expression}
+use Rattle.flat_circuit.specs.Name.{Name}
+use Rattle.macro_expander.specs.declared.expansion.Expansion.{Expansion}
+use Rattle.macro_expander.specs.declared.scope.Scope as numbered_scope
+use Rattle.macro_expander.specs.Named.{State}
+use Rattle.macro_expander.specs.Outcome.{Outcome, Fails, each}
+use Rattle.macro_expander.specs.Steps.{IsJudgedRefusal}
+use Rattle.macro_expander.specs.Terms.{Scope}
+use Rattle.macro_expander.specs.Loops.{count_of, in_turn, loop_ends, values_between, for_act}
+use Rattle.macro_expander.specs.Flat.{Act, counted, turn_act}
+use Rattle.macro_expander.specs.Numbered.{Failed, GivesDone, DoneAt, ScopeExists, Grows, scope_of, names_in, state_of}
+use Rattle.macro_expander.specs.Statements.{Reached, WentTurns, turned_scope}
+use Rattle.macro_expander.proofs.Nets.{grows_refl, grows_trans}
+use Rattle.macro_expander.proofs.PrimitiveUses.{done_later}
+
+-- ---- values
+
+-- as long as there are values, the first is one of them, and the others are those from the next on
+counts_down : (v last : ℤ) → int_lt v last ≡ true →
+    count_of ((last +ℤ pos 1) -ℤ v) ≡ suc (count_of ((last +ℤ pos 1) -ℤ (v +ℤ pos 1)))
+counts_down v last h = omega arith
+
+pub values_more : (v last : ℤ) → int_lt v last ≡ true → values_between v last ≡ v ∷ values_between (v +ℤ pos 1) last
+values_more v last h = rw (counts_down v last h) refl
+
+counts_one : (last : ℤ) → count_of ((last +ℤ pos 1) -ℤ last) ≡ 1
+counts_one last = omega arith
+
+pub values_one : (last : ℤ) → values_between last last ≡ last ∷ []
+values_one last = rw (counts_one last) refl
+
+counts_none : (first last : ℤ) → int_lt last first ≡ true → count_of ((last +ℤ pos 1) -ℤ first) ≡ 0
+counts_none first last h = omega arith
+
+pub values_none : (first last : ℤ) → int_lt last first ≡ true → values_between first last ≡ []
+values_none first last h = rw (counts_none first last h) refl
+
+-- ---- the whole of a FOR
+
+module _ (var : List ℕ) (place : Place) (body : Act) (first last : Expression) (scope : Scope) (e : Expansion) where
+  abbrev the_for : Outcome (Unit {0})
+  the_for = for_act (turn_act var place body) first last place scope (state_of e)
+
+  abbrev step : ℤ → State → Outcome (Unit {0})
+  step v = turn_act var place body v scope
+
+  pub for_refused : (stop : Stop) → IsJudgedRefusal place stop (loop_ends scope.env first last) → Failed stop the_for
+  for_refused stop h = record { told = λ r is. rw (h.told r is, sym (h.here r is)) refl }
+
+  module _ (a b : ℤ) (are : loop_ends scope.env first last ≡ Ok (a, b)) where
+    pub for_none : int_lt b a ≡ true → GivesDone e e the_for
+    for_none h = record { is = rw (are, values_none a b h) refl; grows = grows_refl e }
+
+    pub turns_begun : WentTurns step e the_for a b e
+    turns_begun = record { told = rw are refl; grows = grows_refl e }
+
+-- ---- value by value
+
+module _ (step : ℤ → State → Outcome (Unit {0})) (start : Expansion) (want : Outcome (Unit {0})) (last : ℤ) (e : Expansion) where
+  pub turns_more : (v : ℤ) (f : Expansion) → int_lt v last ≡ true → GivesDone e f (step v (state_of e)) →
+      WentTurns step start want v last e → WentTurns step start want (v +ℤ pos 1) last f
+  turns_more v f h g w =
+      let next : each step (values_between (v +ℤ pos 1) last) (state_of f) ≡ each step (values_between v last) (state_of e) =
+      rw (values_more v last h, g.is) refl in
+      record { told = next ∙ w.told; grows = grows_trans start e f w.grows g.grows }
+
+  pub turns_failed : (v : ℤ) (stop : Stop) → int_lt v last ≡ true → Failed stop (step v (state_of e)) → WentTurns step start want v last e → Failed stop want
+  turns_failed v stop h g w = record {
+    told = λ r is.
+        let failed : each step (values_between v last) (state_of e) ≡ Fails r.kind r.place = rw (values_more v last h, g.told r is) refl in
+        sym w.told ∙ failed;
+  }
+
+  last_of : (r : Result (Unit {0}) Stop) (f : Expansion) → DoneAt e f r (step last (state_of e)) → DoneAt e f r (each step (last ∷ []) (state_of e))
+  last_of (Ok done) f g = record { is = rw g.is refl; grows = g.grows }
+  last_of (Err stop) f g = record { told = λ r is. rw (g.told r is) refl }
+
+  -- the last value is all that is left
+  pub turns_done : (v : ℤ) (r : Result (Unit {0}) Stop) (f : Expansion) → v ≡ last → DoneAt e f r (step last (state_of e)) →
+      WentTurns step start want v last e → DoneAt start f r want
+  turns_done v r f same g w =
+      let one : values_between v last ≡ last ∷ [] = rw same (values_one last) in
+      let is : want ≡ each step (last ∷ []) (state_of e) =
+      sym w.told ∙ subst (λ (vs : List ℤ). each step (values_between v last) (state_of e) ≡ each step vs (state_of e)) one refl in
+      done_later start e f r (each step (last ∷ []) (state_of e)) want w.grows is (last_of r f g)
+
+-- ---- counted
+
+-- a step after one statement more is reached
+pub counted_done : (place : Place) (act : Act) (scope : Scope) (e e1 f : Expansion) (r : Result (Unit {0}) Stop) → Reached e e1 →
+    DoneAt e1 f r (act scope (state_of e1)) → DoneAt e f r (counted place act scope (state_of e))
+counted_done place act scope e e1 f r reached h =
+    let is : counted place act scope (state_of e) ≡ act scope (state_of e1) = rw (reached.is, reached.room) refl in
+    let grows : Grows e e1 = rw reached.is (record { more = []; names = sym (append-nil (names_in e)); header = refl; statements = omega arith }) in
+    done_later e e1 f r (act scope (state_of e1)) (counted place act scope (state_of e)) grows is h
+
+-- ---- scopes
+
+-- a scope in its turn is that of the names, and its nets exist
+pub turn_is : (names : List Name) (var : List ℕ) (v : ℤ) (s : numbered_scope.Scope) →
+    scope_of names (turned_scope var v s) ≡ in_turn var v (scope_of names s)
+turn_is names var v s = refl
+
+pub turn_exists : (nets : ℕ) (var : List ℕ) (v : ℤ) (s inner : numbered_scope.Scope) → inner ≡ turned_scope var v s → ScopeExists nets s → ScopeExists nets inner
+turn_exists nets var v s inner is x = rw is (record { formals = x.formals })
