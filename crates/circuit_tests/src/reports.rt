@@ -73,7 +73,7 @@ fn three_cases<W: CyclicWave<Item = Value>>(
     assert!(rt; are_fit(c, &waves));
     let faults = one_fault(alloc)?;
     let mut out = Bytes::new(alloc);
-    begin_report(c, &mut out)?;
+    begin_report(c, 1, &mut out)?;
     write_case(c, head_of(1), &waves, &faults, Mode::Full, &mut out)?;
     write_case(c, head_of(2), &waves, &faults, Mode::Waves, &mut out)?;
     write_case(c, head_of(3), &waves, &faults, Mode::Faults, &mut out)?;
@@ -122,7 +122,7 @@ fn base_report(alloc: Global, c: &Circuit) -> Result<Bytes, Fail> {
     };
     let faults = check_pulses(alloc, c, &settled.waves)?;
     let mut out = Bytes::new(alloc);
-    begin_report(c, &mut out)?;
+    begin_report(c, 2, &mut out)?;
     write_case(c, head, &settled.waves, &faults, Mode::Full, &mut out)?;
     end_report(1, &mut out)?;
     Ok(out)
@@ -132,7 +132,7 @@ fn base_report(alloc: Global, c: &Circuit) -> Result<Bytes, Fail> {
 fn two_delays(rt: HostRuntime) -> Result<(), Fail> {
     let drawn = read_circuit(rt.alloc(), &[TWO_DELAYS])?;
     let out = base_report(rt.alloc(), &drawn.circuit)?;
-    let expected = b"SCALD 1 PERIOD 400\n\
+    let expected = b"SCALD 2 PERIOD 400\n\
         NETS 2 INSTANCES 1 CHECKS 1\n\
         CASE 0 BASE 1 ROUNDS 0 T 18\n\
         WAVE CK<0> SKEW 0 0:100 R:1 1:49 F:1 0:249\n\

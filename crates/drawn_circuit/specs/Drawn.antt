@@ -34,6 +34,11 @@ pub record DrawsCircuit (text : List ℕ) (c : Circuit) (cases : List (List Case
   pub are : cases_of draws.circuit.state drawing ≡ Ok (map (bits_of c.nets) cases)
   pub listed : All (IsListed c) cases
 
+-- The same, where the drawing is of this version of the language.
+pub record DrawsAs (text : List ℕ) (version : ℕ) (c : Circuit) (cases : List (List CaseValue)) : Type 0 where
+  pub draws : DrawsCircuit text c cases
+  pub version : draws.drawing.version ≡ version
+
 -- no net of the circuit that the text draws is reached from itself through listening pins
 abbrev pub IsLoopless : List ℕ → Type 0
 IsLoopless text =

@@ -8,7 +8,7 @@ ghost use Rattle.drawing_tree.specs.WellFormed.{IsWellFormed};
 ghost use Rattle.drawing_grammar.specs.CanonicalDraws.{TextDraws};
 ghost use Rattle.drawing_grammar.specs.Refused.{IsRefusal};
 ghost use Rattle.case_analysis.specs.Case.{NetsExist};
-ghost use Rattle.drawn_circuit.specs.Drawn.{DrawsCircuit, IsTextRefused};
+ghost use Rattle.drawn_circuit.specs.Drawn.{DrawsAs, DrawsCircuit, IsTextRefused};
 
 use case_analysis::check_cases;
 use drawing_reader::read_drawing;
@@ -37,9 +37,10 @@ pub fn read_text(alloc: Global, text: &[u8]) -> Result<Drawing, Stop>
     }
 }
 
-/// A circuit and the cases in which it is evaluated.
+/// A circuit and the cases in which it is evaluated, and the version of the language that it is drawn in.
 #[derive(Drop)]
 pub struct Drawn {
+    pub version: u8,
     pub circuit: Circuit,
     pub cases: CaseList,
 }
@@ -50,6 +51,7 @@ pub struct Drawn {
 pub fn read_circuit(alloc: Global, text: &[u8]) -> Result<Drawn, Stop>
     requires { length text.now < 2 ^ 32 - 1 }
     ensures drawn { IfOk result (λ drawn. DrawsCircuit text.now drawn.circuit drawn.cases) }
+    ensures version { IfOk result (λ drawn. DrawsAs text.now drawn.version drawn.circuit drawn.cases) }
     ensures exist { IfOk result (λ drawn. All (NetsExist drawn.circuit) drawn.cases) }
     ensures few { IfOk result (λ drawn. length drawn.cases ≤ 256) }
     ensures refused { IfErr result (λ stop. (r : Refusal) → stop ≡ Stop.Refused r → IsTextRefused text.now r) }
@@ -64,7 +66,11 @@ pub fn read_circuit(alloc: Global, text: &[u8]) -> Result<Drawn, Stop>
     };
     circuit.known();
     match check_cases(alloc, &circuit, &drawing) {
-        Ok(cases) => Ok(Drawn { circuit, cases }),
+        Ok(cases) => Ok(Drawn {
+            version: drawing.version,
+            circuit,
+            cases,
+        }),
         Err(stop) => Err(stop),
     }
 }

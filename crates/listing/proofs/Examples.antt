@@ -80,7 +80,7 @@ input_cells late = replicate late C ++ (replicate (200 - late) S ++ replicate 20
 abbrev checked_waves : ℕ → ℕ → Wave Value
 checked_waves late = waves_of (skewed clock_cells 0 ∷ skewed (input_cells late) 0 ∷ [])
 
-pub clean_report : head checked ++ case_lines checked Full 0 0 0 1 (checked_waves 51) [] ++ last_line 0
+pub clean_report : head 1 checked ++ case_lines checked Full 0 0 0 1 (checked_waves 51) [] ++ last_line 0
     ≡ codes "SCALD 1 PERIOD 400\nNETS 2 INSTANCES 0 CHECKS 1\nCASE 0 BASE 0 ROUNDS 0 T 1\nWAVE CK<0> SKEW 0 0:100 R:1 1:49 F:1 0:249\nWAVE D<0> SKEW 0 C:51 S:149 C:200\nCLEAN\n"
 unfolding digits period_line counts_line stable_line case_line wave_line last_line
 clean_report = refl
@@ -128,7 +128,7 @@ pulsed = circuit (net (codes "CK") 0 clocked None ∷ net (codes "X") 0 Unassert
 abbrev late_pulse : ℕ → Wave Value
 late_pulse = waves_of (skewed clock_cells 0 ∷ skewed (replicate 110 Zero ++ R ∷ (replicate 49 One ++ F ∷ replicate 239 Zero)) 20 ∷ [])
 
-pub narrow_pulse : head pulsed ++ case_lines pulsed Full 0 1 0 62 late_pulse (Width 1 true 110 50 ∷ [])
+pub narrow_pulse : head 1 pulsed ++ case_lines pulsed Full 0 1 0 62 late_pulse (Width 1 true 110 50 ∷ [])
     ≡ codes "SCALD 1 PERIOD 400\nNETS 2 INSTANCES 1 CHECKS 1\nCASE 0 BASE 1 ROUNDS 0 T 62\n"
     ++ codes "WAVE CK<0> SKEW 0 0:100 R:1 1:49 F:1 0:249\nWAVE X<0> SKEW 20 0:110 R:1 1:49 F:1 0:239\nFAULT WIDTH w1<0> HIGH FROM 110 WIDTH 50\n"
 unfolding digits period_line counts_line stable_line case_line wave_line fault_line
@@ -162,7 +162,8 @@ unasserted =
     net (codes "/A") 0 Unasserted None ∷ net (codes "X") 0 Unasserted (Some 0) ∷ net (codes "K") 0 clocked None ∷ [])
     (element (codes "u1/a") And 3 ∷ []) (2 ∷ 4 ∷ 3 ∷ 1 ∷ 0 ∷ [])
 
-pub stable_by_name : head unasserted ≡ codes "SCALD 1 PERIOD 400\nNETS 5 INSTANCES 1 CHECKS 0\nSTABLE /A<0>\nSTABLE u1/Z<9>\nSTABLE u1/Z<10>\n"
+-- of a drawing of version 2
+pub stable_by_name : head 2 unasserted ≡ codes "SCALD 2 PERIOD 400\nNETS 5 INSTANCES 1 CHECKS 0\nSTABLE /A<0>\nSTABLE u1/Z<9>\nSTABLE u1/Z<10>\n"
 unfolding digits period_line counts_line stable_line
 stable_by_name = refl
 

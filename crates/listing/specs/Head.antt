@@ -1,4 +1,4 @@
--- The head of the report: the period, how many bits there are, and what is taken for constant.
+-- The head of the report: the version of the language and the period, how many bits there are, and what is taken for constant.
 use Rattle.std.specs.Prelude.{ℕ, not, ◌&&◌, List, [], ◌∷◌, ◌++◌, length, codes, decimal, is_none, if◌then◌else◌, slice_get, Option, Some, None, Bool, false}
 use Rattle.std.specs.List.{flat_map}
 use Rattle.scald_base.specs.Time.{period}
@@ -9,8 +9,9 @@ use Rattle.flat_circuit.specs.Circuit.{Circuit}
 use Rattle.listing.specs.Text.{line}
 use Rattle.listing.specs.Names.{net_text}
 
-unfoldable pub period_line : Circuit → List ℕ
-period_line c = line (codes "SCALD 1 PERIOD " ∷ decimal (period c.header) ∷ [])
+-- the version of the drawing's language, and the period in ticks
+unfoldable pub period_line : ℕ → Circuit → List ℕ
+period_line version c = line (codes "SCALD " ∷ decimal version ∷ codes " PERIOD " ∷ decimal (period c.header) ∷ [])
 
 -- the bits of nets, of instances with an output and of checkers
 unfoldable pub counts_line : Circuit → List ℕ
@@ -29,5 +30,5 @@ stable_line c i = if is_taken_stable (slice_get c.nets i) then line (codes "STAB
 abbrev pub stable_lines : Circuit → List ℕ
 stable_lines c = flat_map (stable_line c) c.order
 
-abbrev pub head : Circuit → List ℕ
-head c = period_line c ++ counts_line c ++ stable_lines c
+abbrev pub head : ℕ → Circuit → List ℕ
+head version c = period_line version c ++ counts_line c ++ stable_lines c

@@ -10,16 +10,18 @@ use crate::piece::{Piece, add_line};
 use flat_circuit::Circuit;
 use scald_base::{AssertSpec, Bytes, NoMemory};
 
-/// The line with the period, in ticks.
+/// The line with the version of the language and the period, in ticks.
 #[tactic(auto, unfolding(crate::specs::Head::period_line))]
-fn add_period(out: &mut Bytes, c: &Circuit) -> Result<(), NoMemory>
-    ensures ok { OnOk result (out.new ≡ out.old ++ period_line c.now) }
-    ensures err { OnErr result (HasPart out.old out.new (period_line c.now)) }
+fn add_period(out: &mut Bytes, c: &Circuit, version: u8) -> Result<(), NoMemory>
+    ensures ok { OnOk result (out.new ≡ out.old ++ period_line version c.now) }
+    ensures err { OnErr result (HasPart out.old out.new (period_line version c.now)) }
 {
     add_line(
         out,
         &[
-            Piece::Text(b"SCALD 1 PERIOD "),
+            Piece::Text(b"SCALD "),
+            Piece::Number(u64::from(version)),
+            Piece::Text(b" PERIOD "),
             Piece::Number(u64::from(c.header().period())),
         ],
     )
@@ -81,15 +83,15 @@ fn add_stables(out: &mut Bytes, c: &Circuit) -> Result<(), NoMemory>
     Ok(())
 }
 
-/// Puts the head of the report at the end of `out`: the line with the period in ticks, the line that
-/// counts the bits of nets, of instances with an output and of checkers, and a line for each net that
-/// nothing drives and of which nothing is asserted, in name order. Where memory runs out, a part
-/// of these lines may stand there.
-pub fn begin_report(c: &Circuit, out: &mut Bytes) -> Result<(), NoMemory>
-    ensures ok { OnOk result (out.new ≡ out.old ++ head c.now) }
-    ensures err { OnErr result (HasPart out.old out.new (head c.now)) }
+/// Puts the head of the report at the end of `out`: the line with the version of the drawing's language
+/// and the period in ticks, the line that counts the bits of nets, of instances with an output and of
+/// checkers, and a line for each net that nothing drives and of which nothing is asserted, in name
+/// order. Where memory runs out, a part of these lines may stand there.
+pub fn begin_report(c: &Circuit, version: u8, out: &mut Bytes) -> Result<(), NoMemory>
+    ensures ok { OnOk result (out.new ≡ out.old ++ head version c.now) }
+    ensures err { OnErr result (HasPart out.old out.new (head version c.now)) }
 {
-    add_period(out, c)?;
+    add_period(out, c, version)?;
     add_counts(out, c)?;
     add_stables(out, c)
 }

@@ -21,9 +21,11 @@ use std::alloc::Global;
 use step_values::Value;
 use wave_core::CyclicWave;
 
-/// A circuit and the cases in which it is evaluated, and the classes of its nets where they are stable.
+/// A circuit and the cases in which it is evaluated, with the version of the language that it is drawn
+/// in, and the classes of its nets where they are stable.
 #[derive(Drop)]
 pub struct Subject {
+    pub version: u8,
     pub circuit: Circuit,
     pub cases: CaseList,
     pub classes: Option<ClassMap>,
@@ -51,13 +53,19 @@ impl Subject {
     pub fn new(alloc: Global, drawn: Drawn) -> Result<Subject, NoMemory>
         requires few { length drawn.cases ≤ 256 }
         requires exist { All (NetsExist drawn.circuit) drawn.cases }
+        ensures version { IfOk result (λ subject. subject.version ≡ drawn.version) }
         ensures circuit { IfOk result (λ subject. subject.circuit ≡ drawn.circuit) }
         ensures cases { IfOk result (λ subject. subject.cases ≡ drawn.cases) }
         ensures is { IfOk result IsSubject }
     {
-        let Drawn { circuit, cases } = drawn;
+        let Drawn {
+            version,
+            circuit,
+            cases,
+        } = drawn;
         let classes = stable_classes(alloc, &circuit, &cases)?;
         Ok(Subject {
+            version,
             circuit,
             cases,
             classes,

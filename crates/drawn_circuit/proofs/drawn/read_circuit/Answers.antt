@@ -1,3 +1,4 @@
+use Rattle.std.proofs.Common.{refl}
 use Rattle.drawing_tree.specs.Tree.{drawing_of}
 use Rattle.drawn_circuit.proofs.Reading.{text_refusal, expansion_refusal, cases_refusal, listed_exist}
 use Rattle.drawn_circuit.proofs.drawn.read_circuit.Goals as goal
@@ -21,6 +22,17 @@ returns-in-Ok-check_cases-clause-drawn c = record {
   draws = record { drawn = c.in-Ok.ensures.drawn; circuit = c.in-Ok-expand.ensures; is_circuit = c.known.ensures };
   are = c.in-Ok-check_cases.ensures.is c.in-Ok-expand.ensures.state c.in-Ok-expand.ensures.stands;
   listed = c.in-Ok-check_cases.ensures.listed;
+}
+
+pub returns-in-Ok-check_cases-clause-version : goal.returns-in-Ok-check_cases-clause-version
+returns-in-Ok-check_cases-clause-version c = record {
+  draws = record {
+    drawing = drawing_of c.in-Ok.drawing;
+    draws = record { drawn = c.in-Ok.ensures.drawn; circuit = c.in-Ok-expand.ensures; is_circuit = c.known.ensures };
+    are = c.in-Ok-check_cases.ensures.is c.in-Ok-expand.ensures.state c.in-Ok-expand.ensures.stands;
+    listed = c.in-Ok-check_cases.ensures.listed;
+  };
+  version = refl;
 }
 
 pub returns-in-Ok-check_cases-clause-exist : goal.returns-in-Ok-check_cases-clause-exist

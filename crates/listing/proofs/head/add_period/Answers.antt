@@ -8,5 +8,8 @@ use Rattle.listing.proofs.head.add_period.Goals as goal
 pub returns-clause-ok : goal.returns-clause-ok
 unfolding period_line
 returns-clause-ok c =
-    subst (λ (n : ℕ). OnOk c.add_line.result (c.add_line.new.out ≡ c.args.out.now ++ line (codes "SCALD 1 PERIOD " ∷ decimal n ∷ [])))
-    (c.from.ensures ∙ c.period.ensures.is ∙ ap period c.header.ensures) c.add_line.ensures.ok
+    let v = c.args.version in
+    let told : ℕ → ℕ → Type 0 =
+    λ k n. OnOk c.add_line.result (c.add_line.new.out ≡ c.args.out.now ++ line (codes "SCALD " ∷ decimal k ∷ codes " PERIOD " ∷ decimal n ∷ [])) in
+    subst (told v) (c.from-2.ensures ∙ c.period.ensures.is ∙ ap period c.header.ensures)
+    (subst (λ (k : ℕ). told k c.from-2.result) c.from.ensures c.add_line.ensures.ok)
