@@ -15,3 +15,4 @@ pub mod Refused
 pub mod TextLaws
 pub mod Nesting
 pub mod Front
+pub mod Reordered

@@ -2,6 +2,7 @@
 
 ghost use Rattle.drawing_grammar.specs.CanonicalDraws.{CanonicalDraws};
 ghost use Rattle.drawing_grammar.specs.Laws.{DrawnAtTokens, DrawnIsWellFormed, DrawnOrRefused, NamesAreSpelled, NotBoth, OneDrawing, OneRefusal, WrongAtTokens};
+ghost use Rattle.drawing_grammar.specs.Reordered.{ReorderedDraws};
 
 /// Tokens draw one drawing alone.
 pub fn one_drawing()
@@ -32,6 +33,12 @@ pub fn names_are_spelled()
 /// too deep: at most 64 parentheses and minus signs are open at once in an expression.
 pub fn canonical_draws()
     ensures { CanonicalDraws }
+{}
+
+/// Where some text draws a drawing, the canonical text of one in version 2 that differs in the order of
+/// connections draws that, places aside, where it does not nest too deep.
+pub fn reordered_draws()
+    ensures { ReorderedDraws }
 {}
 
 /// A drawing that a text draws is well formed.

@@ -71,14 +71,14 @@ loopless_ended text c values rounds limit end (Err e) drawn same never is = tt
 
 -- ---- the numbers of a report
 
-pub measured_rested : (sections : ℕ) (mode : Mode) (c : Circuit) (values : List (List CaseValue))
+pub measured_rested : (sections : ℕ) (mode : Mode) (version : ℕ) (c : Circuit) (values : List (List CaseValue))
     (limit base : ℕ) (o : Outcome) (bytes : List ℕ) (made : Result (Reply Outcome) OutOfMemory) → RestsAt (base_round c) limit base →
-    IsReported mode c limit base (listed_cases values) o bytes → IfOk made (λ reply. reply.outcome ≡ Done) →
+    IsReported mode version c limit base (listed_cases values) o bytes → IfOk made (λ reply. reply.outcome ≡ Done) →
     IfOk made (λ reply. reply.bytes ≡ summary_line c sections base (tick (reach c) base 0) (faults_in o)) →
     IfOk made (λ reply. Concluded (measured sections) c values limit reply.outcome reply.bytes)
-measured_rested sections mode c values limit base o bytes (Ok reply) rests told outcome text =
+measured_rested sections mode version c values limit base o bytes (Ok reply) rests told outcome text =
     let count : faults_in o ≡ fault_count c told.cases = verdict_counts (fault_count c told.cases) o told.outcome in
     subst (λ (z : Outcome). Concluded (measured sections) c values limit z reply.bytes) (sym outcome)
     (subst (λ (z : List ℕ). Concluded (measured sections) c values limit Done z) (sym (text ∙ ap (summary_line c sections base (tick (reach c) base 0)) count))
     (rested base told.cases rests told.at_rest))
-measured_rested sections mode c values limit base o bytes (Err e) rests told outcome text = tt
+measured_rested sections mode version c values limit base o bytes (Err e) rests told outcome text = tt

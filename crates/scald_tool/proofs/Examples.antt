@@ -11,7 +11,7 @@ use Rattle.scald_base.specs.declared.outcome.Outcome.{Outcome}
 use Rattle.scald_base.specs.declared.outcome.Outcome.TheVariants.{Clean, Faulty, Done, Refused, Unsettled, BadWords, TooLong, ReadFault, WriteFault, NoMemory}
 use Rattle.program_call.specs.Program.{by_source, by_words}
 use Rattle.scald_tool.specs.declared.words.Command.{Command}
-use Rattle.scald_tool.specs.declared.words.Command.TheVariants.{Verify, Format, Bench}
+use Rattle.scald_tool.specs.declared.words.Command.TheVariants.{Verify, Format, Upgrade, Bench}
 use Rattle.scald_tool.specs.Words.{are_reading, command_of, reads}
 use Rattle.scald_tool.specs.Answer.{limit_for, most_bytes}
 use Rattle.scald_base.specs.Outcome.{status_of}
@@ -62,6 +62,10 @@ module _ (n : ℕ) (r : Refusal) (net round i : ℕ) where
       false ∷ false ∷ true ∷ true ∷ false ∷ false ∷ false ∷ false ∷ false ∷ false ∷ []
   given_by_format = refl
 
+  given_by_upgrade : map (may_give Upgrade) outcomes ≡
+      false ∷ false ∷ true ∷ true ∷ false ∷ false ∷ false ∷ false ∷ false ∷ false ∷ []
+  given_by_upgrade = refl
+
   given_by_bench : (sections : ℕ) → map (may_give (Bench sections)) outcomes ≡
       false ∷ false ∷ true ∷ true ∷ true ∷ false ∷ false ∷ false ∷ false ∷ false ∷ []
   given_by_bench sections = refl
@@ -82,9 +86,9 @@ one_fault_is_faulty = refl
 
 module _ (mode : Mode) (n limit : ℕ) where
   abbrev commands : List Command
-  commands = Verify mode None ∷ Verify mode (Some limit) ∷ Format ∷ Bench n ∷ []
+  commands = Verify mode None ∷ Verify mode (Some limit) ∷ Format ∷ Upgrade ∷ Bench n ∷ []
 
-  reading_forms : map reads commands ≡ true ∷ true ∷ true ∷ false ∷ []
+  reading_forms : map reads commands ≡ true ∷ true ∷ true ∷ true ∷ false ∷ []
   reading_forms = refl
 
   -- what words are read as that are of a form, or go wrong at some word
@@ -94,16 +98,16 @@ module _ (mode : Mode) (n limit : ℕ) where
   reading_no_form : (place : ℕ) → are_reading (Err place) ≡ false
   reading_no_form place = refl
 
-  verifying : map asks_verify commands ≡ true ∷ true ∷ false ∷ false ∷ []
+  verifying : map asks_verify commands ≡ true ∷ true ∷ false ∷ false ∷ false ∷ []
   verifying = refl
 
-  evaluating : map evaluates commands ≡ true ∷ true ∷ false ∷ true ∷ []
+  evaluating : map evaluates commands ≡ true ∷ true ∷ false ∷ false ∷ true ∷ []
   evaluating = refl
 
   -- without a limit of their own; the text of `bench` is not the one that is read
   limitless : (text : List ℕ) →
       map (λ (command : Command). unlimited command text) commands ≡
-      Some text ∷ None ∷ None ∷ Some (datapath n) ∷ []
+      Some text ∷ None ∷ None ∷ None ∷ Some (datapath n) ∷ []
   limitless text = refl
 
   limited : (c : Circuit) → limit_for c (Some limit) ≡ limit
@@ -137,15 +141,16 @@ verify = codes "verify"
 wrong_words :
     command_of [] ∷ command_of ([] ∷ []) ∷ command_of (codes "check" ∷ []) ∷
     command_of (codes "verify " ∷ []) ∷ command_of (codes "bench" ∷ []) ∷
-    command_of (codes "format" ∷ [] ∷ []) ∷
+    command_of (codes "format" ∷ [] ∷ []) ∷ command_of (codes "upgrade" ∷ codes "format" ∷ []) ∷
     command_of (verify ∷ codes "waves" ∷ codes "faults" ∷ []) ∷ [] ≡
-    Err 0 ∷ Err 0 ∷ Err 0 ∷ Err 0 ∷ Err 1 ∷ Err 1 ∷ Err 2 ∷ []
+    Err 0 ∷ Err 0 ∷ Err 0 ∷ Err 0 ∷ Err 1 ∷ Err 1 ∷ Err 1 ∷ Err 2 ∷ []
 wrong_words = refl
 
 words_of_forms :
     command_of (verify ∷ []) ∷ command_of (verify ∷ codes "waves" ∷ []) ∷
-    command_of (verify ∷ codes "faults" ∷ []) ∷ command_of (codes "format" ∷ []) ∷ [] ≡
-    Ok (Verify Full None) ∷ Ok (Verify Waves None) ∷ Ok (Verify Faults None) ∷ Ok Format ∷ []
+    command_of (verify ∷ codes "faults" ∷ []) ∷ command_of (codes "format" ∷ []) ∷
+    command_of (codes "upgrade" ∷ []) ∷ [] ≡
+    Ok (Verify Full None) ∷ Ok (Verify Waves None) ∷ Ok (Verify Faults None) ∷ Ok Format ∷ Ok Upgrade ∷ []
 words_of_forms = refl
 
 -- Words of a form that reads are told what the source has left, and nothing where it tells nothing.

@@ -5,6 +5,7 @@ use Rattle.scald_base.specs.Device.{Rose}
 use Rattle.program_call.specs.Program.{replied}
 use Rattle.drawing_tree.specs.Canonical.{canonical}
 use Rattle.design_gen.specs.Datapath.{datapath}
+use Rattle.format_upgrade.specs.Upgraded.{upgraded_text}
 use Rattle.scald_base.specs.declared.outcome.Outcome.{Outcome}
 use Rattle.scald_base.specs.declared.outcome.Outcome.TheVariants.{Clean, Faulty, Done, NoMemory}
 use Rattle.scald_tool.specs.declared.words.Command.{Command}
@@ -13,7 +14,7 @@ use Rattle.scald_tool.specs.Report.{verdict_of}
 use Rattle.scald_tool.specs.Answer as answer
 use Rattle.scald_tool.specs.Answer.{Telling, Evaluated, Replied, measured, reported}
 use Rattle.scald_tool.specs.Promise.{IsAnswered}
-use Rattle.scald_tool.specs.Finished.{ComesToRest, Passes, formatted, verified, benched, is_finished, IsFinished, AsksWell}
+use Rattle.scald_tool.specs.Finished.{ComesToRest, Passes, formatted, upgraded, verified, benched, is_finished, IsFinished, AsksWell}
 
 verdict_finished : (n : ℕ) → is_finished (verdict_of n) ≡ true
 verdict_finished n = either (n == 0) n
@@ -29,24 +30,29 @@ pub record Finishes (command : Command) (text : List ℕ) : Type 0 where
   pub is : Replied command text outcome bytes
   pub finished : is_finished outcome ≡ true
 
-told_at_rest : (tell : Telling) (rounds : Option ℕ) (text : List ℕ) → (rest : ComesToRest rounds text) →
-    Evaluated tell rounds text (tell rest.circuit rest.base rest.cases).0 (tell rest.circuit rest.base rest.cases).1
+-- the version of the drawing
+abbrev version_of : {rounds : Option ℕ} {text : List ℕ} → ComesToRest rounds text → ℕ
+version_of rest = rest.drawn.drawing.version
+
+told_at_rest : (tell : ℕ → Telling) (rounds : Option ℕ) (text : List ℕ) → (rest : ComesToRest rounds text) →
+    Evaluated tell rounds text (tell (version_of rest) rest.circuit rest.base rest.cases).0 (tell (version_of rest) rest.circuit rest.base rest.cases).1
 told_at_rest tell rounds text rest =
-    answer.judged rest.circuit rest.values (tell rest.circuit rest.base rest.cases).0 (tell rest.circuit rest.base rest.cases).1 rest.drawn
-    (answer.rested rest.base rest.cases rest.rests rest.at_rest)
+    let told = tell (version_of rest) rest.circuit rest.base rest.cases in
+    answer.judged rest.circuit rest.values told.0 told.1 rest.drawn (answer.rested rest.base rest.cases rest.rests rest.at_rest)
 
 finishes : (text : List ℕ) (command : Command) → Passes text command → Finishes command text
 finishes text _ (formatted d draws) = record { outcome = Done; bytes = canonical d; is = answer.drawn d draws; finished = refl }
+finishes text _ (upgraded d draws) = record { outcome = Done; bytes = upgraded_text d; is = answer.readable d draws; finished = refl }
 finishes text _ (verified mode rounds rest) = record {
-  outcome = (reported mode rest.circuit rest.base rest.cases).0;
-  bytes = (reported mode rest.circuit rest.base rest.cases).1;
+  outcome = (reported mode (version_of rest) rest.circuit rest.base rest.cases).0;
+  bytes = (reported mode (version_of rest) rest.circuit rest.base rest.cases).1;
   is = told_at_rest (reported mode) rounds text rest;
   finished = verdict_finished (fault_count rest.circuit rest.cases);
 }
 finishes text _ (benched sections rest) = record {
   outcome = Done;
   bytes = (measured sections rest.circuit rest.base rest.cases).1;
-  is = told_at_rest (measured sections) None (datapath sections) rest;
+  is = told_at_rest (λ version. measured sections) None (datapath sections) rest;
   finished = refl;
 }
 

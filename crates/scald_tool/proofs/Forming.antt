@@ -10,7 +10,7 @@ use Rattle.drawing_grammar.proofs.Leaves.{is_numeral}
 use Rattle.listing.specs.declared.case.Mode.{Mode}
 use Rattle.listing.specs.declared.case.Mode.TheVariants.{Full, Waves, Faults}
 use Rattle.scald_tool.specs.declared.words.Command.{Command}
-use Rattle.scald_tool.specs.declared.words.Command.TheVariants.{Verify, Format, Bench}
+use Rattle.scald_tool.specs.declared.words.Command.TheVariants.{Verify, Format, Upgrade, Bench}
 use Rattle.scald_tool.specs.Words.{alone, behind_mode, behind_verify, behind_bench, from_mode, limit_behind, limit_of, most_rounds, most_sections, number_in, with_limit, with_sections}
 use Rattle.scald_tool.specs.Forms.{mode_words, words_for, MayBeAsked, GoesOn, GoesWrong, AreReadAs, WordsAreRead, WordsAreKnown}
 
@@ -143,6 +143,7 @@ three_at_most (Verify Waves (Some n)) = omega arith
 three_at_most (Verify Faults None) = omega arith
 three_at_most (Verify Faults (Some n)) = omega arith
 three_at_most Format = omega arith
+three_at_most Upgrade = omega arith
 three_at_most (Bench n) = omega arith
 
 -- no word goes on behind a whole form of `verify` with a limit
@@ -154,6 +155,7 @@ past_limit Full n x (Verify Waves (Some m)) rest e = let byte : 114 ≡ 119 = ap
 past_limit Full n x (Verify Faults None) rest e = absurd (omega (arith, ap length e))
 past_limit Full n x (Verify Faults (Some m)) rest e = let byte : 114 ≡ 102 = ap (λ (ws : List (List ℕ)). byte_0 (word_1 ws)) e in absurd (omega (arith, byte))
 past_limit Full n x Format rest e = absurd (omega (arith, ap length e))
+past_limit Full n x Upgrade rest e = absurd (omega (arith, ap length e))
 past_limit Full n x (Bench m) rest e = absurd (omega (arith, ap length e))
 past_limit Waves n x command rest e = absurd (omega (arith, ap length e, three_at_most command))
 past_limit Faults n x command rest e = absurd (omega (arith, ap length e, three_at_most command))
@@ -171,6 +173,7 @@ past_mode Full w other none (Verify Full (Some m)) rest may e = none m may (ap w
 past_mode Full w other none (Verify Waves rounds) rest may e = other.0 (ap word_1 e)
 past_mode Full w other none (Verify Faults rounds) rest may e = other.1 (ap word_1 e)
 past_mode Full w other none Format rest may e = absurd (omega (arith, ap length e))
+past_mode Full w other none Upgrade rest may e = absurd (omega (arith, ap length e))
 past_mode Full w other none (Bench m) rest may e = let byte : 118 ≡ 98 = ap (λ (ws : List (List ℕ)). byte_0 (word_0 ws)) e in absurd (omega (arith, byte))
 past_mode Waves w other none (Verify Full None) rest may e = absurd (omega (arith, ap length e))
 past_mode Waves w other none (Verify Full (Some m)) rest may e = absurd (omega (arith, ap length e))
@@ -178,6 +181,7 @@ past_mode Waves w other none (Verify Waves None) rest may e = absurd (omega (ari
 past_mode Waves w other none (Verify Waves (Some m)) rest may e = none m may (ap word_2 e)
 past_mode Waves w other none (Verify Faults rounds) rest may e = let byte : 119 ≡ 102 = ap (λ (ws : List (List ℕ)). byte_0 (word_1 ws)) e in absurd (omega (arith, byte))
 past_mode Waves w other none Format rest may e = absurd (omega (arith, ap length e))
+past_mode Waves w other none Upgrade rest may e = absurd (omega (arith, ap length e))
 past_mode Waves w other none (Bench m) rest may e = absurd (omega (arith, ap length e))
 past_mode Faults w other none (Verify Full None) rest may e = absurd (omega (arith, ap length e))
 past_mode Faults w other none (Verify Full (Some m)) rest may e = absurd (omega (arith, ap length e))
@@ -185,6 +189,7 @@ past_mode Faults w other none (Verify Waves rounds) rest may e = let byte : 102 
 past_mode Faults w other none (Verify Faults None) rest may e = absurd (omega (arith, ap length e))
 past_mode Faults w other none (Verify Faults (Some m)) rest may e = none m may (ap word_2 e)
 past_mode Faults w other none Format rest may e = absurd (omega (arith, ap length e))
+past_mode Faults w other none Upgrade rest may e = absurd (omega (arith, ap length e))
 past_mode Faults w other none (Bench m) rest may e = absurd (omega (arith, ap length e))
 
 -- how many words there are up to the mode
@@ -250,31 +255,45 @@ verify_read (w ∷ ws) = by_waves (bytes_eq w (codes "waves")) refl
         any_head (x ∷ xs) = tt
     by_waves false e = by_faults (bytes_eq w (codes "faults")) refl (other_bytes w (codes "waves") e)
 
--- ---- behind `format` and `bench`
+-- ---- behind `format`, `upgrade` and `bench`
 
 past_format : (w : List ℕ) (command : Command) (rest : List (List ℕ)) → codes "format" ∷ w ∷ rest ≢ words_for command
 past_format w (Verify mode rounds) rest e = let byte : 102 ≡ 118 = ap (λ (ws : List (List ℕ)). byte_0 (word_0 ws)) e in absurd (omega (arith, byte))
 past_format w Format rest e = absurd (omega (arith, ap length e))
+past_format w Upgrade rest e = absurd (omega (arith, ap length e))
 past_format w (Bench n) rest e = let byte : 102 ≡ 98 = ap (λ (ws : List (List ℕ)). byte_0 (word_0 ws)) e in absurd (omega (arith, byte))
 
 format_read : (ws : List (List ℕ)) → AreReadAs (codes "format" ∷ ws) (alone Format 1 ws)
 format_read [] = (tt, refl)
 format_read (w ∷ ws) = wrong_at (codes "format" ∷ []) w ws 1 refl (goes_on Format tt (codes "format" ∷ []) [] refl) (λ command rest may e. past_format w command rest e)
 
+past_upgrade : (w : List ℕ) (command : Command) (rest : List (List ℕ)) → codes "upgrade" ∷ w ∷ rest ≢ words_for command
+past_upgrade w (Verify mode rounds) rest e = let byte : 117 ≡ 118 = ap (λ (ws : List (List ℕ)). byte_0 (word_0 ws)) e in absurd (omega (arith, byte))
+past_upgrade w Format rest e = absurd (omega (arith, ap length e))
+past_upgrade w Upgrade rest e = absurd (omega (arith, ap length e))
+past_upgrade w (Bench n) rest e = let byte : 117 ≡ 98 = ap (λ (ws : List (List ℕ)). byte_0 (word_0 ws)) e in absurd (omega (arith, byte))
+
+upgrade_read : (ws : List (List ℕ)) → AreReadAs (codes "upgrade" ∷ ws) (alone Upgrade 1 ws)
+upgrade_read [] = (tt, refl)
+upgrade_read (w ∷ ws) = wrong_at (codes "upgrade" ∷ []) w ws 1 refl (goes_on Upgrade tt (codes "upgrade" ∷ []) [] refl) (λ command rest may e. past_upgrade w command rest e)
+
 -- a number is missing
 bench_alone : (command : Command) → codes "bench" ∷ [] ≢ words_for command
 bench_alone (Verify mode rounds) e = let byte : 98 ≡ 118 = ap (λ (ws : List (List ℕ)). byte_0 (word_0 ws)) e in absurd (omega (arith, byte))
 bench_alone Format e = let byte : 98 ≡ 102 = ap (λ (ws : List (List ℕ)). byte_0 (word_0 ws)) e in absurd (omega (arith, byte))
+bench_alone Upgrade e = let byte : 98 ≡ 117 = ap (λ (ws : List (List ℕ)). byte_0 (word_0 ws)) e in absurd (omega (arith, byte))
 bench_alone (Bench n) e = absurd (omega (arith, ap length e))
 
 past_bench : (w : List ℕ) → IsNumber most_sections w None → (command : Command) (rest : List (List ℕ)) → MayBeAsked command → codes "bench" ∷ w ∷ rest ≢ words_for command
 past_bench w none (Verify mode rounds) rest may e = let byte : 98 ≡ 118 = ap (λ (ws : List (List ℕ)). byte_0 (word_0 ws)) e in absurd (omega (arith, byte))
 past_bench w none Format rest may e = absurd (omega (arith, ap length e))
+past_bench w none Upgrade rest may e = absurd (omega (arith, ap length e))
 past_bench w none (Bench n) rest may e = none n may (ap word_1 e)
 
 past_number : (w x : List ℕ) (command : Command) (rest : List (List ℕ)) → codes "bench" ∷ w ∷ x ∷ rest ≢ words_for command
 past_number w x (Verify mode rounds) rest e = let byte : 98 ≡ 118 = ap (λ (ws : List (List ℕ)). byte_0 (word_0 ws)) e in absurd (omega (arith, byte))
 past_number w x Format rest e = absurd (omega (arith, ap length e))
+past_number w x Upgrade rest e = absurd (omega (arith, ap length e))
 past_number w x (Bench n) rest e = absurd (omega (arith, ap length e))
 
 -- a form of `bench` may be gone on with
@@ -300,14 +319,16 @@ bench_read (w ∷ ws) = number_read (number_in most_sections w) ws (number_is mo
 
 -- ---- the first word
 
-past_none : (w : List ℕ) → w ≢ codes "verify" → w ≢ codes "format" → w ≢ codes "bench" → (command : Command) (rest : List (List ℕ)) → w ∷ rest ≢ words_for command
-past_none w v f b (Verify mode rounds) rest e = v (ap word_0 e)
-past_none w v f b Format rest e = f (ap word_0 e)
-past_none w v f b (Bench n) rest e = b (ap word_0 e)
+past_none : (w : List ℕ) → w ≢ codes "verify" → w ≢ codes "format" → w ≢ codes "upgrade" → w ≢ codes "bench" → (command : Command) (rest : List (List ℕ)) → w ∷ rest ≢ words_for command
+past_none w v f u b (Verify mode rounds) rest e = v (ap word_0 e)
+past_none w v f u b Format rest e = f (ap word_0 e)
+past_none w v f u b Upgrade rest e = u (ap word_0 e)
+past_none w v f u b (Bench n) rest e = b (ap word_0 e)
 
 none_at_all : (command : Command) → [] ≢ words_for command
 none_at_all (Verify mode rounds) e = absurd (omega (arith, ap length e))
 none_at_all Format e = absurd (omega (arith, ap length e))
+none_at_all Upgrade e = absurd (omega (arith, ap length e))
 none_at_all (Bench n) e = absurd (omega (arith, ap length e))
 
 pub words_are_read : WordsAreRead
@@ -319,16 +340,23 @@ words_are_read [] = record {
 }
 words_are_read (w ∷ ws) = by_verify (bytes_eq w (codes "verify")) refl
   where
-    by_bench : (t : Bool) → bytes_eq w (codes "bench") ≡ t → w ≢ codes "verify" → w ≢ codes "format" → AreReadAs (w ∷ ws) (cond t (behind_bench ws) (Err 0))
-    by_bench true e v f = subst (λ (z : List ℕ). AreReadAs (z ∷ ws) (behind_bench ws)) (sym (same_bytes w (codes "bench") e)) (bench_read ws)
-    by_bench false e v f = wrong_at [] w ws 0 refl (goes_on Format tt [] (codes "format" ∷ []) refl) (λ command rest may. past_none w v f (other_bytes w (codes "bench") e) command rest)
+    by_bench : (t : Bool) → bytes_eq w (codes "bench") ≡ t → w ≢ codes "verify" → w ≢ codes "format" → w ≢ codes "upgrade" → AreReadAs (w ∷ ws) (cond t (behind_bench ws) (Err 0))
+    by_bench true e v f u = subst (λ (z : List ℕ). AreReadAs (z ∷ ws) (behind_bench ws)) (sym (same_bytes w (codes "bench") e)) (bench_read ws)
+    by_bench false e v f u = wrong_at [] w ws 0 refl (goes_on Format tt [] (codes "format" ∷ []) refl) (λ command rest may. past_none w v f u (other_bytes w (codes "bench") e) command rest)
 
-    by_format : (t : Bool) → bytes_eq w (codes "format") ≡ t → w ≢ codes "verify" → AreReadAs (w ∷ ws) (cond t (alone Format 1 ws) (cond (bytes_eq w (codes "bench")) (behind_bench ws) (Err 0)))
+    by_upgrade : (t : Bool) → bytes_eq w (codes "upgrade") ≡ t → w ≢ codes "verify" → w ≢ codes "format" →
+        AreReadAs (w ∷ ws) (cond t (alone Upgrade 1 ws) (cond (bytes_eq w (codes "bench")) (behind_bench ws) (Err 0)))
+    by_upgrade true e v f = subst (λ (z : List ℕ). AreReadAs (z ∷ ws) (alone Upgrade 1 ws)) (sym (same_bytes w (codes "upgrade") e)) (upgrade_read ws)
+    by_upgrade false e v f = by_bench (bytes_eq w (codes "bench")) refl v f (other_bytes w (codes "upgrade") e)
+
+    by_format : (t : Bool) → bytes_eq w (codes "format") ≡ t → w ≢ codes "verify" →
+        AreReadAs (w ∷ ws) (cond t (alone Format 1 ws) (cond (bytes_eq w (codes "upgrade")) (alone Upgrade 1 ws) (cond (bytes_eq w (codes "bench")) (behind_bench ws) (Err 0))))
     by_format true e v = subst (λ (z : List ℕ). AreReadAs (z ∷ ws) (alone Format 1 ws)) (sym (same_bytes w (codes "format") e)) (format_read ws)
-    by_format false e v = by_bench (bytes_eq w (codes "bench")) refl v (other_bytes w (codes "format") e)
+    by_format false e v = by_upgrade (bytes_eq w (codes "upgrade")) refl v (other_bytes w (codes "format") e)
 
     by_verify : (t : Bool) → bytes_eq w (codes "verify") ≡ t →
-        AreReadAs (w ∷ ws) (cond t (behind_verify ws) (cond (bytes_eq w (codes "format")) (alone Format 1 ws) (cond (bytes_eq w (codes "bench")) (behind_bench ws) (Err 0))))
+        AreReadAs (w ∷ ws) (cond t (behind_verify ws) (cond (bytes_eq w (codes "format")) (alone Format 1 ws)
+        (cond (bytes_eq w (codes "upgrade")) (alone Upgrade 1 ws) (cond (bytes_eq w (codes "bench")) (behind_bench ws) (Err 0)))))
     by_verify true e = subst (λ (z : List ℕ). AreReadAs (z ∷ ws) (behind_verify ws)) (sym (same_bytes w (codes "verify") e)) (verify_read ws)
     by_verify false e = by_format (bytes_eq w (codes "format")) refl (other_bytes w (codes "verify") e)
 
@@ -345,4 +373,5 @@ words_are_known (Verify Full (Some n)) may = ap (λ (found : Option ℕ). with_l
 words_are_known (Verify Waves (Some n)) may = ap (λ (found : Option ℕ). with_limit Waves 2 found []) (limit_is n may)
 words_are_known (Verify Faults (Some n)) may = ap (λ (found : Option ℕ). with_limit Faults 2 found []) (limit_is n may)
 words_are_known Format may = refl
+words_are_known Upgrade may = refl
 words_are_known (Bench n) may = ap (λ (found : Option ℕ). with_sections found []) (number_of most_sections n (omega arith) may)

@@ -8,7 +8,7 @@ use Rattle.scald_base.specs.declared.outcome.Outcome.{Outcome}
 use Rattle.scald_base.specs.declared.outcome.Outcome.TheVariants.{Clean, Faulty, Done, Refused, Unsettled, BadWords, TooLong, ReadFault, WriteFault, NoMemory}
 use Rattle.program_call.specs.declared.reply.Reply.{Reply}
 use Rattle.scald_tool.specs.declared.words.Command.{Command}
-use Rattle.scald_tool.specs.declared.words.Command.TheVariants.{Verify, Format, Bench}
+use Rattle.scald_tool.specs.declared.words.Command.TheVariants.{Verify, Format, Upgrade, Bench}
 use Rattle.drawn_circuit.specs.Drawn.{IsLoopless}
 use Rattle.scald_tool.specs.Promise.{asks_verify, has_report, may_give, unlimited}
 
@@ -58,6 +58,12 @@ pub format_rests : (command : Command) (text : List ℕ) (made : Result (Reply O
 format_rests command text (Ok reply) form =
     λ evaluated place round is free. let none : unlimited Format text ≡ Some evaluated = subst (λ (k : Command). unlimited k text ≡ Some evaluated) form is in absurd (cc)
 format_rests command text (Err e) form = tt
+
+pub upgrade_rests : (command : Command) (text : List ℕ) (made : Result (Reply Outcome) OutOfMemory) → command ≡ Upgrade →
+    IfOk made (λ reply. (evaluated : List ℕ) (place round : ℕ) → unlimited command text ≡ Some evaluated → IsLoopless evaluated → reply.outcome ≢ Unsettled place round)
+upgrade_rests command text (Ok reply) form =
+    λ evaluated place round is free. let none : unlimited Upgrade text ≡ Some evaluated = subst (λ (k : Command). unlimited k text ≡ Some evaluated) form is in absurd (cc)
+upgrade_rests command text (Err e) form = tt
 
 pub bench_rests : (command : Command) (sections : ℕ) (text : List ℕ) (made : Result (Reply Outcome) OutOfMemory) → command ≡ Bench sections →
     IfOk made (λ reply. (place round : ℕ) → IsLoopless (datapath sections) → reply.outcome ≢ Unsettled place round) →

@@ -20,26 +20,26 @@ use Rattle.timing_analysis.proofs.Cases.{numbered_here, around_here, first_that_
 use Rattle.scald_tool.proofs.Telling.{Told, told_more}
 
 -- So many of the cases are told, and each has few faults.
-pub record Going (mode : Mode) (c : Circuit) (limit base : ℕ) (cases : List (List CaseValue)) (k : ℕ)
+pub record Going (mode : Mode) (version : ℕ) (c : Circuit) (limit base : ℕ) (cases : List (List CaseValue)) (k : ℕ)
     (bytes : List ℕ) (total : ℕ) : Type 0 where
-  pub told : Told mode c limit base (numbered 1 (take k cases)) bytes total
+  pub told : Told mode version c limit base (numbered 1 (take k cases)) bytes total
   pub room : total ≤ k * 458752
 
-module _ (mode : Mode) (c : Circuit) (limit base : ℕ) (cases : List (List CaseValue)) (k : ℕ) (bytes : List ℕ) (total : ℕ)
-    (inside : k < length cases) (going : Going mode c limit base cases k bytes total) where
+module _ (mode : Mode) (version : ℕ) (c : Circuit) (limit base : ℕ) (cases : List (List CaseValue)) (k : ℕ) (bytes : List ℕ) (total : ℕ)
+    (inside : k < length cases) (going : Going mode version c limit base cases k bytes total) where
   abbrev here : Listed
   here = record { number = k + 1; values = case_at cases k }
 
   pub going_more : (number rounds tick : ℕ) (ws : List (Wave Value)) (fs : List Fault) (after : List ℕ) (now : ℕ) →
       IsCaseAtRest c limit base here number rounds tick ws fs →
       after ≡ bytes ++ case_lines c mode number base rounds tick (waves_of ws) fs → now ≡ total + length fs →
-      Going mode c limit base cases (k + 1) after now
+      Going mode version c limit base cases (k + 1) after now
   going_more number rounds tick ws fs after now is text count = record {
     told =
         let next : take (k + 1) cases ≡ take k cases ++ case_at cases k ∷ [] = take_more cases k [] inside in
-        subst (λ (ls : List Listed). Told mode c limit base ls after now)
+        subst (λ (ls : List Listed). Told mode version c limit base ls after now)
         (sym (ap (numbered 1) next ∙ numbered_here cases k inside []))
-        (told_more mode c limit base (numbered 1 (take k cases)) here number rounds tick ws fs bytes after total now
+        (told_more mode version c limit base (numbered 1 (take k cases)) here number rounds tick ws fs bytes after total now
         going.told is text count);
     room = let room = going.room in let few = is.few in omega (arith, room, few, count);
   }

@@ -1,5 +1,6 @@
 -- A circuit has one judgement, and a form and a text one reply.
 use Rattle.std.proofs.Common.{◌≡◌, ℕ, suc, refl, ap, subst, ◌∙◌, List, Option, None}
+use Rattle.drawing_tree.specs.Tree.{Drawing}
 use Rattle.drawing_tree.specs.Canonical.{canonical}
 use Rattle.drawing_grammar.proofs.TextLaws.{one_drawing, not_both as no_drawing, one_refusal as one_cause}
 use Rattle.flat_circuit.specs.declared.case.CaseValue.{CaseValue}
@@ -7,15 +8,16 @@ use Rattle.flat_circuit.specs.Circuit.{Circuit}
 use Rattle.case_analysis.specs.Base.{base_round}
 use Rattle.drawn_circuit.proofs.OneText.{not_refused, one_refusal, text_draws_one_circuit}
 use Rattle.design_gen.specs.Datapath.{datapath}
+use Rattle.format_upgrade.specs.Upgraded.{upgraded_text}
 use Rattle.listing.specs.Answer.{unsettled_line}
 use Rattle.timing_analysis.specs.Case.{StopsAt, listed_cases}
 use Rattle.timing_analysis.proofs.OneRest.{one_rest, one_place, rest_in_one_way, rest_or_stop, one_stop}
 use Rattle.scald_base.specs.declared.outcome.Outcome.{Outcome}
 use Rattle.scald_base.specs.declared.outcome.Outcome.TheVariants.{Unsettled}
 use Rattle.scald_tool.specs.declared.words.Command.{Command}
-use Rattle.scald_tool.specs.declared.words.Command.TheVariants.{Verify, Format, Bench}
+use Rattle.scald_tool.specs.declared.words.Command.TheVariants.{Verify, Format, Upgrade, Bench}
 use Rattle.scald_tool.specs.Answer as answer
-use Rattle.scald_tool.specs.Answer.{Telling, limit_for, Concluded, Evaluated, measured, reported, rested, unsettled, case_unsettled, Formatted, Replied}
+use Rattle.scald_tool.specs.Answer.{Telling, limit_for, Concluded, Evaluated, measured, reported, rested, unsettled, case_unsettled, Formatted, Upgrades, Replied}
 
 -- ---- judgements
 
@@ -45,7 +47,7 @@ one_judgement tell c values limit _ _ _ _ (case_unsettled base place rests stops
 
 -- ---- answers
 
-pub one_verified : (tell : Telling) (rounds : Option ℕ) (text : List ℕ) (o o' : Outcome) (bytes bytes' : List ℕ) →
+pub one_verified : (tell : ℕ → Telling) (rounds : Option ℕ) (text : List ℕ) (o o' : Outcome) (bytes bytes' : List ℕ) →
     Evaluated tell rounds text o bytes → Evaluated tell rounds text o' bytes' → (o ≡ o') × (bytes ≡ bytes')
 one_verified tell rounds text _ _ _ _ (answer.refused r is) (answer.refused q is') =
     let same : r ≡ q = one_refusal text r q is is' in (rw same refl, rw same refl)
@@ -53,8 +55,13 @@ one_verified tell rounds text _ _ _ _ (answer.refused r is) (answer.judged c val
 one_verified tell rounds text _ _ _ _ (answer.judged c values o bytes drawn j) (answer.refused q is') = absurd (not_refused text q c values is' drawn)
 one_verified tell rounds text _ _ _ _ (answer.judged c values o bytes drawn j) (answer.judged c' values' o' bytes' drawn' j') =
     let same = text_draws_one_circuit text c' c values' values drawn' drawn in
-    one_judgement tell c values (limit_for c rounds) o o' bytes bytes' j
-    (subst (λ (vs : List (List CaseValue)). Concluded tell c vs (limit_for c rounds) o' bytes') same.1 (subst (λ (z : Circuit). Concluded tell z values' (limit_for z rounds) o' bytes') same.0 j'))
+    let drawings : drawn'.drawing ≡ drawn.drawing = one_drawing text drawn'.drawing drawn.drawing drawn'.draws.drawn drawn.draws.drawn in
+    let versions : drawn'.drawing.version ≡ drawn.drawing.version = ap (λ (d : Drawing). d.version) drawings in
+    let told = tell drawn.drawing.version in
+    one_judgement told c values (limit_for c rounds) o o' bytes bytes' j
+    (subst (λ (vs : List (List CaseValue)). Concluded told c vs (limit_for c rounds) o' bytes') same.1
+    (subst (λ (z : Circuit). Concluded told z values' (limit_for z rounds) o' bytes') same.0
+    (subst (λ (n : ℕ). Concluded (tell n) c' values' (limit_for c' rounds) o' bytes') versions j')))
 
 one_formatted : (text : List ℕ) (o o' : Outcome) (bytes bytes' : List ℕ) → Formatted text o bytes → Formatted text o' bytes' → (o ≡ o') × (bytes ≡ bytes')
 one_formatted text _ _ _ _ (answer.undrawn r is) (answer.undrawn s is') = let same : r ≡ s = one_cause text r s is is' in (rw same refl, rw same refl)
@@ -62,8 +69,15 @@ one_formatted text _ _ _ _ (answer.undrawn r is) (answer.drawn d draws) = absurd
 one_formatted text _ _ _ _ (answer.drawn d draws) (answer.undrawn r is) = absurd (no_drawing text r d is draws)
 one_formatted text _ _ _ _ (answer.drawn d draws) (answer.drawn e draws') = let same : d ≡ e = one_drawing text d e draws draws' in (refl, ap canonical same)
 
+one_upgraded : (text : List ℕ) (o o' : Outcome) (bytes bytes' : List ℕ) → Upgrades text o bytes → Upgrades text o' bytes' → (o ≡ o') × (bytes ≡ bytes')
+one_upgraded text _ _ _ _ (answer.unreadable r is) (answer.unreadable s is') = let same : r ≡ s = one_cause text r s is is' in (rw same refl, rw same refl)
+one_upgraded text _ _ _ _ (answer.unreadable r is) (answer.readable d draws) = absurd (no_drawing text r d is draws)
+one_upgraded text _ _ _ _ (answer.readable d draws) (answer.unreadable r is) = absurd (no_drawing text r d is draws)
+one_upgraded text _ _ _ _ (answer.readable d draws) (answer.readable e draws') = let same : d ≡ e = one_drawing text d e draws draws' in (refl, ap upgraded_text same)
+
 pub one_reply : (command : Command) (text : List ℕ) (o o' : Outcome) (bytes bytes' : List ℕ) →
     Replied command text o bytes → Replied command text o' bytes' → (o ≡ o') × (bytes ≡ bytes')
 one_reply (Verify mode rounds) text o o' bytes bytes' r r' = one_verified (reported mode) rounds text o o' bytes bytes' r r'
 one_reply Format text o o' bytes bytes' r r' = one_formatted text o o' bytes bytes' r r'
-one_reply (Bench sections) text o o' bytes bytes' r r' = one_verified (measured sections) None (datapath sections) o o' bytes bytes' r r'
+one_reply Upgrade text o o' bytes bytes' r r' = one_upgraded text o o' bytes bytes' r r'
+one_reply (Bench sections) text o o' bytes bytes' r r' = one_verified (λ version. measured sections) None (datapath sections) o o' bytes bytes' r r'

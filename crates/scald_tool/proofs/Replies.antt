@@ -5,13 +5,14 @@ use Rattle.scald_base.specs.declared.refusal.Refusal.{Refusal}
 use Rattle.scald_base.specs.declared.list.NoMemory.{NoMemory as OutOfMemory}
 use Rattle.drawing_tree.specs.Tree.{Drawing}
 use Rattle.drawing_tree.specs.Canonical.{canonical}
+use Rattle.format_upgrade.specs.Upgraded.{upgraded_text}
 use Rattle.drawing_grammar.specs.CanonicalDraws.{TextDraws}
 use Rattle.drawing_grammar.specs.Refused.{IsRefusal}
 use Rattle.flat_circuit.specs.declared.case.CaseValue.{CaseValue}
 use Rattle.flat_circuit.specs.Circuit.{Circuit}
 use Rattle.fixpoint_engine.specs.Rounds.{RestsAt}
 use Rattle.case_analysis.specs.Base.{base_round}
-use Rattle.drawn_circuit.specs.Drawn.{IsTextRefused, DrawsCircuit}
+use Rattle.drawn_circuit.specs.Drawn.{IsTextRefused, DrawsAs}
 use Rattle.listing.specs.declared.case.Mode.{Mode}
 use Rattle.listing.specs.Answer.{refusal_line}
 use Rattle.timing_analysis.specs.Case.{listed_cases, fault_count}
@@ -21,16 +22,16 @@ use Rattle.scald_base.specs.declared.outcome.Outcome.{Outcome}
 use Rattle.scald_base.specs.declared.outcome.Outcome.TheVariants.{Clean, Done, Refused}
 use Rattle.program_call.specs.declared.reply.Reply.{Reply}
 use Rattle.scald_tool.specs.declared.words.Command.{Command}
-use Rattle.scald_tool.specs.declared.words.Command.TheVariants.{Verify, Format, Bench}
+use Rattle.scald_tool.specs.declared.words.Command.TheVariants.{Verify, Format, Upgrade, Bench}
 use Rattle.scald_tool.specs.Answer as answer
-use Rattle.scald_tool.specs.Answer.{Telling, limit_for, Judged, Concluded, rested, Evaluated, Verified, Benched, judged, Formatted, Replied}
+use Rattle.scald_tool.specs.Answer.{Telling, limit_for, Judged, Concluded, rested, Evaluated, Verified, Benched, judged, Formatted, Upgrades, Replied}
 use Rattle.scald_tool.specs.Report.{verdict_of}
 use Rattle.scald_tool.specs.Reported.{IsReported}
 use Rattle.scald_tool.proofs.Verdict.{verdict_clean}
 
 -- ---- a refusal
 
-pub refused : (tell : Telling) (rounds : Option ℕ) (text : List ℕ) (r : Refusal) (made : Result (Reply Outcome) OutOfMemory) → IsTextRefused text r →
+pub refused : (tell : ℕ → Telling) (rounds : Option ℕ) (text : List ℕ) (r : Refusal) (made : Result (Reply Outcome) OutOfMemory) → IsTextRefused text r →
     IfOk made (λ reply. reply.outcome ≡ Refused r) → IfOk made (λ reply. reply.bytes ≡ refusal_line r) →
     IfOk made (λ reply. Evaluated tell rounds text reply.outcome reply.bytes)
 refused tell rounds text r (Ok reply) is outcome bytes =
@@ -39,41 +40,44 @@ refused tell rounds text r (Err e) is outcome bytes = tt
 
 -- ---- a circuit
 
-pub judged_rested : (mode : Mode) (c : Circuit) (values : List (List CaseValue)) (limit base : ℕ) (o : Outcome) (bytes : List ℕ) → RestsAt (base_round c) limit base →
-    IsReported mode c limit base (listed_cases values) o bytes → Judged mode c values limit o bytes
-judged_rested mode c values limit base o bytes rests told =
-    subst (λ (z : Outcome). Judged mode c values limit z bytes) (sym told.outcome)
-    (subst (λ (z : List ℕ). Judged mode c values limit (verdict_of (fault_count c told.cases)) z) (sym told.text) (rested base told.cases rests told.at_rest))
+pub judged_rested : (mode : Mode) (version : ℕ) (c : Circuit) (values : List (List CaseValue)) (limit base : ℕ) (o : Outcome) (bytes : List ℕ) → RestsAt (base_round c) limit base →
+    IsReported mode version c limit base (listed_cases values) o bytes → Judged mode version c values limit o bytes
+judged_rested mode version c values limit base o bytes rests told =
+    subst (λ (z : Outcome). Judged mode version c values limit z bytes) (sym told.outcome)
+    (subst (λ (z : List ℕ). Judged mode version c values limit (verdict_of (fault_count c told.cases)) z) (sym told.text) (rested base told.cases rests told.at_rest))
 
 -- ---- what a report promises of a text
 
-module _ (mode : Mode) (text : List ℕ) (c : Circuit) (values : List (List CaseValue)) (limit base : ℕ) (o : Outcome) (bytes : List ℕ)
-    (drawn : DrawsCircuit text c values) (rests : RestsAt (base_round c) limit base)
-    (told : IsReported mode c limit base (listed_cases values) o bytes) where
+module _ (mode : Mode) (text : List ℕ) (version : ℕ) (c : Circuit) (values : List (List CaseValue)) (limit base : ℕ) (o : Outcome) (bytes : List ℕ)
+    (drawn : DrawsAs text version c values) (rests : RestsAt (base_round c) limit base)
+    (told : IsReported mode version c limit base (listed_cases values) o bytes) where
   abbrev kept : IsSafe c values limit (IsKept c)
   kept = record { base = base; rests = rests; cases = told.cases; at_rest = told.at_rest; each = told.kept }
 
   pub reported_faultless : FaultlessNeverBreaks text
-  reported_faultless = record { circuit = c; values = values; drawn = drawn; limit = limit; never = kept }
+  reported_faultless = record { circuit = c; values = values; drawn = drawn.draws; limit = limit; never = kept }
 
   pub reported_clean : o ≡ Clean → NeverBreaks text
   reported_clean clean =
       let none : fault_count c told.cases ≡ 0 = verdict_clean (fault_count c told.cases) o told.outcome clean in
-      record { circuit = c; values = values; drawn = drawn; limit = limit; never = faultless_is_safe c values limit kept none }
+      record { circuit = c; values = values; drawn = drawn.draws; limit = limit; never = faultless_is_safe c values limit kept none }
 
   pub reported_verified : (rounds : Option ℕ) → limit ≡ limit_for c rounds → Verified mode rounds text o bytes
   reported_verified rounds same =
-      judged c values o bytes drawn (subst (λ (n : ℕ). Judged mode c values n o bytes) same
-      (judged_rested mode c values limit base o bytes rests told))
+      judged c values o bytes drawn.draws
+      (subst (λ (v : ℕ). Judged mode v c values (limit_for c rounds) o bytes) (sym drawn.version)
+      (subst (λ (n : ℕ). Judged mode version c values n o bytes) same (judged_rested mode version c values limit base o bytes rests told)))
 
 -- ---- a text that is evaluated
 
-pub accepted : (tell : Telling) (rounds : Option ℕ) (text : List ℕ) (c : Circuit) (values : List (List CaseValue))
-    (limit : ℕ) (made : Result (Reply Outcome) OutOfMemory) → DrawsCircuit text c values → limit ≡ limit_for c rounds →
-    IfOk made (λ reply. Concluded tell c values limit reply.outcome reply.bytes) → IfOk made (λ reply. Evaluated tell rounds text reply.outcome reply.bytes)
-accepted tell rounds text c values limit (Ok reply) drawn same j =
-    judged c values reply.outcome reply.bytes drawn (subst (λ (n : ℕ). Concluded tell c values n reply.outcome reply.bytes) same j)
-accepted tell rounds text c values limit (Err e) drawn same j = tt
+pub accepted : (tell : ℕ → Telling) (rounds : Option ℕ) (text : List ℕ) (version : ℕ) (c : Circuit) (values : List (List CaseValue))
+    (limit : ℕ) (made : Result (Reply Outcome) OutOfMemory) → DrawsAs text version c values → limit ≡ limit_for c rounds →
+    IfOk made (λ reply. Concluded (tell version) c values limit reply.outcome reply.bytes) → IfOk made (λ reply. Evaluated tell rounds text reply.outcome reply.bytes)
+accepted tell rounds text version c values limit (Ok reply) drawn same j =
+    judged c values reply.outcome reply.bytes drawn.draws
+    (subst (λ (v : ℕ). Concluded (tell v) c values (limit_for c rounds) reply.outcome reply.bytes) (sym drawn.version)
+    (subst (λ (n : ℕ). Concluded (tell version) c values n reply.outcome reply.bytes) same j))
+accepted tell rounds text version c values limit (Err e) drawn same j = tt
 
 -- ---- forms of words
 
@@ -84,6 +88,10 @@ by_verify command mode rounds text made form v = subst (λ (k : Command). IfOk m
 pub by_format : (command : Command) (text : List ℕ) (made : Result (Reply Outcome) OutOfMemory) → command ≡ Format →
     IfOk made (λ reply. Formatted text reply.outcome reply.bytes) → IfOk made (λ reply. Replied command text reply.outcome reply.bytes)
 by_format command text made form f = subst (λ (k : Command). IfOk made (λ reply. Replied k text reply.outcome reply.bytes)) (sym form) f
+
+pub by_upgrade : (command : Command) (text : List ℕ) (made : Result (Reply Outcome) OutOfMemory) → command ≡ Upgrade →
+    IfOk made (λ reply. Upgrades text reply.outcome reply.bytes) → IfOk made (λ reply. Replied command text reply.outcome reply.bytes)
+by_upgrade command text made form f = subst (λ (k : Command). IfOk made (λ reply. Replied k text reply.outcome reply.bytes)) (sym form) f
 
 pub by_bench : (command : Command) (sections : ℕ) (text : List ℕ) (made : Result (Reply Outcome) OutOfMemory) → command ≡ Bench sections →
     IfOk made (λ reply. Benched sections reply.outcome reply.bytes) → IfOk made (λ reply. Replied command text reply.outcome reply.bytes)
@@ -104,3 +112,19 @@ pub formatted_refusal : (text : List ℕ) (r : Refusal) (made : Result (Reply Ou
 formatted_refusal text r (Ok reply) is outcome bytes =
     subst (λ (z : Outcome). Formatted text z reply.bytes) (sym outcome) (subst (λ (z : List ℕ). Formatted text (Refused r) z) (sym bytes) (answer.undrawn r is))
 formatted_refusal text r (Err e) is outcome bytes = tt
+
+-- ---- upgraded texts
+
+pub upgraded_drawing : (text : List ℕ) (d : Drawing) (made : Result (Reply Outcome) OutOfMemory) → TextDraws text d →
+    IfOk made (λ reply. reply.outcome ≡ Done) → IfOk made (λ reply. reply.bytes ≡ upgraded_text d) →
+    IfOk made (λ reply. Upgrades text reply.outcome reply.bytes)
+upgraded_drawing text d (Ok reply) draws outcome bytes =
+    subst (λ (z : Outcome). Upgrades text z reply.bytes) (sym outcome) (subst (λ (z : List ℕ). Upgrades text Done z) (sym bytes) (answer.readable d draws))
+upgraded_drawing text d (Err e) draws outcome bytes = tt
+
+pub upgraded_refusal : (text : List ℕ) (r : Refusal) (made : Result (Reply Outcome) OutOfMemory) → IsRefusal text r →
+    IfOk made (λ reply. reply.outcome ≡ Refused r) → IfOk made (λ reply. reply.bytes ≡ refusal_line r) →
+    IfOk made (λ reply. Upgrades text reply.outcome reply.bytes)
+upgraded_refusal text r (Ok reply) is outcome bytes =
+    subst (λ (z : Outcome). Upgrades text z reply.bytes) (sym outcome) (subst (λ (z : List ℕ). Upgrades text (Refused r) z) (sym bytes) (answer.unreadable r is))
+upgraded_refusal text r (Err e) is outcome bytes = tt

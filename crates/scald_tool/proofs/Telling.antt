@@ -25,34 +25,34 @@ use Rattle.program_call.specs.declared.reply.Reply.{Reply}
 use Rattle.scald_tool.specs.Report.{case_text, verdict_of}
 use Rattle.scald_tool.specs.Reported.{IsReported}
 
-module _ (mode : Mode) (c : Circuit) (limit base : ℕ) where
+module _ (mode : Mode) (version : ℕ) (c : Circuit) (limit base : ℕ) where
   -- These cases are told, and so many faults of theirs.
   pub record Told (listed : List Listed) (bytes : List ℕ) (total : ℕ) : Type 0 where
     pub cases : List Case
     pub at_rest : AreAtRest c limit base listed cases
     pub kept : All (IsKept c base) cases
-    pub text : bytes ≡ head c ++ flat_map (case_text mode c base) cases
+    pub text : bytes ≡ head version c ++ flat_map (case_text mode c base) cases
     pub count : total ≡ fault_count c cases
 
-  pub told_start : (bytes : List ℕ) (total : ℕ) → bytes ≡ head c → total ≡ 0 → Told [] bytes total
+  pub told_start : (bytes : List ℕ) (total : ℕ) → bytes ≡ head version c → total ≡ 0 → Told [] bytes total
   told_start bytes total text count = record {
     cases = [];
     at_rest = none_at_rest c limit base;
     kept = All-nil (IsKept c base);
-    text = text ∙ sym (append-nil (head c));
+    text = text ∙ sym (append-nil (head version c));
     count = count;
   }
 
   -- the lines of one more case follow those of the others
   text_more : (cases : List Case) (case : Case) (bytes after : List ℕ) →
-      bytes ≡ head c ++ flat_map (case_text mode c base) cases → after ≡ bytes ++ case_text mode c base case →
-      after ≡ head c ++ flat_map (case_text mode c base) (cases ++ case ∷ [])
+      bytes ≡ head version c ++ flat_map (case_text mode c base) cases → after ≡ bytes ++ case_text mode c base case →
+      after ≡ head version c ++ flat_map (case_text mode c base) (cases ++ case ∷ [])
   text_more cases case bytes after before more =
       let one = case_text mode c base in
       more
       ∙ ap (λ (bs : List ℕ). bs ++ one case) before
-      ∙ append_assoc (head c) (flat_map one cases) (one case)
-      ∙ ap (λ (bs : List ℕ). head c ++ bs)
+      ∙ append_assoc (head version c) (flat_map one cases) (one case)
+      ∙ ap (λ (bs : List ℕ). head version c ++ bs)
       (sym (flat_map-append one cases (case ∷ [])
       ∙ ap (λ (bs : List ℕ). flat_map one cases ++ bs) (append-nil (one case))))
 
@@ -86,7 +86,7 @@ module _ (mode : Mode) (c : Circuit) (limit base : ℕ) where
 
   pub told_end : (listed : List Listed) (bytes : List ℕ) (total : ℕ) (o : Outcome) (whole : List ℕ) →
       Told listed bytes total → o ≡ verdict_of total → whole ≡ bytes ++ last_line total →
-      IsReported mode c limit base listed o whole
+      IsReported mode version c limit base listed o whole
   told_end listed bytes total o whole told outcome text = record {
     cases = told.cases;
     at_rest = told.at_rest;
@@ -95,13 +95,13 @@ module _ (mode : Mode) (c : Circuit) (limit base : ℕ) where
     text =
         text
         ∙ ap (λ (bs : List ℕ). bs ++ last_line total) told.text
-        ∙ ap (λ (n : ℕ). (head c ++ flat_map (case_text mode c base) told.cases) ++ last_line n) told.count;
+        ∙ ap (λ (n : ℕ). (head version c ++ flat_map (case_text mode c base) told.cases) ++ last_line n) told.count;
   }
 
   pub reported_by : (listed : List Listed) (bytes : List ℕ) (total : ℕ) (made : Result (Reply Outcome) OutOfMemory) →
       Told listed bytes total → IfOk made (λ reply. reply.outcome ≡ verdict_of total) →
       IfOk made (λ reply. reply.bytes ≡ bytes ++ last_line total) →
-      IfOk made (λ reply. IsReported mode c limit base listed reply.outcome reply.bytes)
+      IfOk made (λ reply. IsReported mode version c limit base listed reply.outcome reply.bytes)
   reported_by listed bytes total (Ok reply) told outcome text =
       told_end listed bytes total reply.outcome reply.bytes told outcome text
   reported_by listed bytes total (Err e) told outcome text = tt

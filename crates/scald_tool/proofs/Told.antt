@@ -8,7 +8,7 @@ use Rattle.program_call.specs.declared.reply.Reply.{Reply}
 use Rattle.program_call.specs.Program.{IsReplied}
 use Rattle.program_call.proofs.Answering.{read_whole, told_all}
 use Rattle.scald_tool.specs.declared.words.Command.{Command}
-use Rattle.scald_tool.specs.declared.words.Command.TheVariants.{Verify, Format, Bench}
+use Rattle.scald_tool.specs.declared.words.Command.TheVariants.{Verify, Format, Upgrade, Bench}
 use Rattle.scald_tool.specs.Words.{command_of, reads}
 use Rattle.drawn_circuit.specs.Drawn.{IsLoopless}
 use Rattle.scald_tool.specs.Answer.{most_bytes, verifier}
@@ -29,6 +29,7 @@ promised_by command text (Err e) given loopless clean faultless = tt
 report_reads : (command : Command) (o : Outcome) → may_give command o ≡ true → has_report o ≡ true → reads command ≡ true
 report_reads (Verify mode rounds) o gives has = refl
 report_reads Format o gives has = refl
+report_reads Upgrade o gives has = refl
 report_reads (Bench n) Clean gives has = absurd (cc)
 report_reads (Bench n) (Faulty k) gives has = absurd (cc)
 report_reads (Bench n) Done gives has = absurd (cc)
@@ -75,6 +76,7 @@ module _ (words : List (List ℕ)) (left left' taken taken' : Option (List ℕ))
   unlimited_by : (k : Command) (read text : List ℕ) → (reads k ≡ true → read ≡ text) → unlimited k read ≡ unlimited k text
   unlimited_by (Verify mode rounds) read text same = ap (unlimited (Verify mode rounds)) (same refl)
   unlimited_by Format read text same = refl
+  unlimited_by Upgrade read text same = refl
   unlimited_by (Bench n) read text same = refl
 
   pub loopless : (text : List ℕ) → AreTold words left text → (speaks o ≡ true → IsWritten) → RestsWithoutLoops words text o

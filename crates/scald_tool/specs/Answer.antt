@@ -17,10 +17,11 @@ use Rattle.fixpoint_engine.specs.Reach.{reach}
 use Rattle.case_analysis.specs.Tick.{tick}
 use Rattle.listing.specs.Answer.{refusal_line, summary_line, unsettled_line}
 use Rattle.design_gen.specs.Datapath.{datapath}
+use Rattle.format_upgrade.specs.Upgraded.{upgraded_text}
 use Rattle.scald_base.specs.declared.outcome.Outcome.{Outcome}
 use Rattle.scald_base.specs.declared.outcome.Outcome.TheVariants.{Done, Refused, Unsettled}
 use Rattle.scald_tool.specs.declared.words.Command.{Command}
-use Rattle.scald_tool.specs.declared.words.Command.TheVariants.{Verify, Format, Bench}
+use Rattle.scald_tool.specs.declared.words.Command.TheVariants.{Verify, Format, Upgrade, Bench}
 use Rattle.scald_tool.specs.Words.{command_of, reads}
 use Rattle.drawing_grammar.specs.Refused.{IsRefusal}
 use Rattle.drawn_circuit.specs.Drawn.{IsTextRefused, DrawsCircuit}
@@ -40,9 +41,9 @@ limit_for c None = default_limit c
 abbrev pub Telling : Type 0
 Telling = Circuit → ℕ → List Case → Outcome × List ℕ
 
--- the report, and how many faults there are
-abbrev pub reported : Mode → Telling
-reported mode c base cases = (verdict_of (fault_count c cases), report mode c base cases)
+-- the report on a circuit that is drawn in this version of the language, and how many faults there are
+abbrev pub reported : Mode → ℕ → Telling
+reported mode version c base cases = (verdict_of (fault_count c cases), report mode version c base cases)
 
 -- The numbers of the report on so many sections: the rounds of the base, the tick that is printed for case 0, which takes no
 -- rounds, and the faults.
@@ -59,13 +60,14 @@ pub data Concluded (tell : Telling) (c : Circuit) (values : List (List CaseValue
   case_unsettled : (base place : ℕ) → RestsAt (base_round c) limit base → StopsAt c limit base (listed_cases values) place →
       Concluded tell c values limit (Unsettled place limit) (unsettled_line c place limit)
 
-abbrev pub Judged : Mode → Circuit → List (List CaseValue) → ℕ → Outcome → List ℕ → Type 0
-Judged mode = Concluded (reported mode)
+abbrev pub Judged : Mode → ℕ → Circuit → List (List CaseValue) → ℕ → Outcome → List ℕ → Type 0
+Judged mode version = Concluded (reported mode version)
 
--- What is answered on a text whose circuit is evaluated.
-pub data Evaluated (tell : Telling) (rounds : Option ℕ) (text : List ℕ) : Outcome → List ℕ → Type 0 where
+-- What is answered on a text whose circuit is evaluated, by the version of its drawing.
+pub data Evaluated (tell : ℕ → Telling) (rounds : Option ℕ) (text : List ℕ) : Outcome → List ℕ → Type 0 where
   refused : (r : Refusal) → IsTextRefused text r → Evaluated tell rounds text (Refused r) (refusal_line r)
-  judged : (c : Circuit) (values : List (List CaseValue)) (o : Outcome) (bytes : List ℕ) → DrawsCircuit text c values → Concluded tell c values (limit_for c rounds) o bytes →
+  judged : (c : Circuit) (values : List (List CaseValue)) (o : Outcome) (bytes : List ℕ) (draws : DrawsCircuit text c values) →
+      Concluded (tell draws.drawing.version) c values (limit_for c rounds) o bytes →
       Evaluated tell rounds text o bytes
 
 -- What `verify` answers on a text.
@@ -75,17 +77,24 @@ Verified mode = Evaluated (reported mode)
 -- What `bench` answers, on the drawing of so many sections and at its own limit: what `verify` does where that is refused or
 -- does not rest, and else its numbers.
 abbrev pub Benched : ℕ → Outcome → List ℕ → Type 0
-Benched sections = Evaluated (measured sections) None (datapath sections)
+Benched sections = Evaluated (λ version. measured sections) None (datapath sections)
 
 -- What `format` answers on a text: the canonical text of the drawing that it draws, or why it draws none.
 pub data Formatted (text : List ℕ) : Outcome → List ℕ → Type 0 where
   undrawn : (r : Refusal) → IsRefusal text r → Formatted text (Refused r) (refusal_line r)
   drawn : (d : Drawing) → TextDraws text d → Formatted text Done (canonical d)
 
+-- What `upgrade` answers on a text: the canonical text, in the last version of the language, of the drawing that it draws,
+-- or why it draws none.
+pub data Upgrades (text : List ℕ) : Outcome → List ℕ → Type 0 where
+  unreadable : (r : Refusal) → IsRefusal text r → Upgrades text (Refused r) (refusal_line r)
+  readable : (d : Drawing) → TextDraws text d → Upgrades text Done (upgraded_text d)
+
 -- what each form answers on a text, `bench` on any
 abbrev pub Replied : Command → List ℕ → Outcome → List ℕ → Type 0
 Replied (Verify mode rounds) text = Verified mode rounds text
 Replied Format text = Formatted text
+Replied Upgrade text = Upgrades text
 Replied (Bench sections) text = Benched sections
 
 -- What the words ask for, and what is answered to a text.

@@ -11,7 +11,7 @@ use Rattle.listing.specs.declared.case.Mode.{Mode}
 use Rattle.scald_base.specs.declared.outcome.Outcome.{Outcome}
 use Rattle.scald_base.specs.declared.outcome.Outcome.TheVariants.{Clean, Faulty, Done, Refused, Unsettled, BadWords, TooLong, ReadFault, WriteFault, NoMemory}
 use Rattle.scald_tool.specs.declared.words.Command.{Command}
-use Rattle.scald_tool.specs.declared.words.Command.TheVariants.{Verify, Format, Bench}
+use Rattle.scald_tool.specs.declared.words.Command.TheVariants.{Verify, Format, Upgrade, Bench}
 use Rattle.scald_tool.specs.Words.{command_of, reads}
 use Rattle.drawn_circuit.specs.Drawn.{DrawsCircuit}
 use Rattle.timing_analysis.specs.Case.{Case, AreAtRest, listed_cases}
@@ -29,10 +29,11 @@ pub record ComesToRest (rounds : Option ℕ) (text : List ℕ) : Type 0 where
   pub cases : List Case
   pub at_rest : AreAtRest circuit (limit_for circuit rounds) base (listed_cases values) cases
 
--- The text passes every stage of a form: for `format` it draws a drawing, for `verify` it settles, and for `bench` the
+-- The text passes every stage of a form: for `format` and `upgrade` it draws a drawing, for `verify` it settles, and for `bench` the
 -- generated drawing does, whatever the text is.
 pub data Passes (text : List ℕ) : Command → Type 0 where
   formatted : (d : Drawing) → TextDraws text d → Passes text Format
+  upgraded : (d : Drawing) → TextDraws text d → Passes text Upgrade
   verified : (mode : Mode) (rounds : Option ℕ) → ComesToRest rounds text → Passes text (Verify mode rounds)
   benched : (sections : ℕ) → ComesToRest None (datapath sections) → Passes text (Bench sections)
 

@@ -3,7 +3,7 @@ use Rattle.std.specs.Prelude.{◌≡◌, ◌≢◌, ℕ, ◌+◌, ◌≤◌, ◌
 use Rattle.listing.specs.declared.case.Mode.{Mode}
 use Rattle.listing.specs.declared.case.Mode.TheVariants.{Full, Waves, Faults}
 use Rattle.scald_tool.specs.declared.words.Command.{Command}
-use Rattle.scald_tool.specs.declared.words.Command.TheVariants.{Verify, Format, Bench}
+use Rattle.scald_tool.specs.declared.words.Command.TheVariants.{Verify, Format, Upgrade, Bench}
 use Rattle.scald_tool.specs.Words.{command_of, most_rounds, most_sections}
 
 abbrev pub mode_words : Mode → List (List ℕ)
@@ -19,12 +19,14 @@ rounds_words (Some n) = (codes "rounds=" ++ decimal n) ∷ []
 abbrev pub words_for : Command → List (List ℕ)
 words_for (Verify mode rounds) = codes "verify" ∷ (mode_words mode ++ rounds_words rounds)
 words_for Format = codes "format" ∷ []
+words_for Upgrade = codes "upgrade" ∷ []
 words_for (Bench n) = codes "bench" ∷ decimal n ∷ []
 
 -- what may be asked for
 abbrev pub MayBeAsked : Command → Type 0
 MayBeAsked (Verify mode rounds) = IfSome rounds (λ n. (1 ≤ n) × (n ≤ most_rounds))
 MayBeAsked Format = ⊤
+MayBeAsked Upgrade = ⊤
 MayBeAsked (Bench n) = (1 ≤ n) × (n ≤ most_sections)
 
 -- Some form goes on from these words, or ends with them.

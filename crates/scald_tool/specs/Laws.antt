@@ -19,5 +19,5 @@ abbrev pub ReportsArePromised : Type 0
 ReportsArePromised =
     (mode : Mode) (rounds : Option ℕ) (text : List ℕ) (o : Outcome) (bytes : List ℕ) →
     Verified mode rounds text o bytes → has_report o ≡ true →
-    ((p : NeverBreaks text) → bytes ≡ report mode p.circuit p.never.base p.never.cases)
-    × ((p : FaultlessNeverBreaks text) → bytes ≡ report mode p.circuit p.never.base p.never.cases)
+    ((p : NeverBreaks text) → bytes ≡ report mode p.drawn.drawing.version p.circuit p.never.base p.never.cases)
+    × ((p : FaultlessNeverBreaks text) → bytes ≡ report mode p.drawn.drawing.version p.circuit p.never.base p.never.cases)

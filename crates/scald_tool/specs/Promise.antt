@@ -6,7 +6,7 @@ use Rattle.design_gen.specs.Datapath.{datapath}
 use Rattle.scald_base.specs.declared.outcome.Outcome.{Outcome}
 use Rattle.scald_base.specs.declared.outcome.Outcome.TheVariants.{Clean, Faulty, Done, Refused, Unsettled, BadWords, TooLong, ReadFault, WriteFault, NoMemory}
 use Rattle.scald_tool.specs.declared.words.Command.{Command}
-use Rattle.scald_tool.specs.declared.words.Command.TheVariants.{Verify, Format, Bench}
+use Rattle.scald_tool.specs.declared.words.Command.TheVariants.{Verify, Format, Upgrade, Bench}
 use Rattle.scald_tool.specs.Words.{command_of}
 use Rattle.drawn_circuit.specs.Drawn.{IsLoopless}
 use Rattle.scald_tool.specs.Answer.{Verified, verifier}
@@ -63,12 +63,14 @@ has_read = program.has_read verifier
 abbrev pub asks_verify : Command → Bool
 asks_verify (Verify mode rounds) = true
 asks_verify Format = false
+asks_verify Upgrade = false
 asks_verify (Bench sections) = false
 
 -- a circuit is evaluated: by `verify`, or by `bench`
 abbrev pub evaluates : Command → Bool
 evaluates (Verify mode rounds) = true
 evaluates Format = false
+evaluates Upgrade = false
 evaluates (Bench sections) = true
 
 -- Which outcomes a form has whose answer is written. Only `verify` judges a drawing by its faults, and only the others are
@@ -94,6 +96,7 @@ abbrev pub unlimited : Command → List ℕ → Option (List ℕ)
 unlimited (Verify mode None) text = Some text
 unlimited (Verify mode (Some limit)) text = None
 unlimited Format text = None
+unlimited Upgrade text = None
 unlimited (Bench sections) text = Some (datapath sections)
 
 -- Where the words set no limit, and the circuit of the text that is evaluated has no loop through listening pins, its waves

@@ -9,11 +9,11 @@ use Rattle.scald_base.specs.declared.outcome.Outcome.{Outcome}
 use Rattle.scald_tool.specs.Report.{report, verdict_of}
 
 -- The cases have settled, what has no fault in one is not broken there, and the outcome and the bytes are
--- those of their report.
-pub record IsReported (mode : Mode) (c : Circuit) (limit base : ℕ) (listed : List Listed)
+-- those of their report, the circuit being drawn in this version of the language.
+pub record IsReported (mode : Mode) (version : ℕ) (c : Circuit) (limit base : ℕ) (listed : List Listed)
     (o : Outcome) (bytes : List ℕ) : Type 0 where
   pub cases : List Case
   pub at_rest : AreAtRest c limit base listed cases
   pub kept : All (IsKept c base) cases
   pub outcome : o ≡ verdict_of (fault_count c cases)
-  pub text : bytes ≡ report mode c base cases
+  pub text : bytes ≡ report mode version c base cases

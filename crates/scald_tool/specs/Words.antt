@@ -1,5 +1,5 @@
 -- The forms of words that the program has: `verify`, then `waves` or `faults` where one is asked for alone, then `rounds=N`
--- where the rounds are to be so many at most; `format`; and `bench N`.
+-- where the rounds are to be so many at most; `format`; `upgrade`; and `bench N`.
 use Rattle.std.specs.Prelude.{ℕ, ◌+◌, ◌≤◌, ◌&&◌, nat_le, Bool, true, false, List, [], ◌∷◌, length, take, drop, codes, decimal, Option, Some, None, IfSome, Result, Ok, Err, if◌then◌else◌, ⊤}
 use Rattle.std.specs.Str.{bytes_eq}
 use Rattle.program_call.specs.Program as program
@@ -7,7 +7,7 @@ use Rattle.scald_lex.specs.Bytes.{value_of}
 use Rattle.listing.specs.declared.case.Mode.{Mode}
 use Rattle.listing.specs.declared.case.Mode.TheVariants.{Full, Waves, Faults}
 use Rattle.scald_tool.specs.declared.words.Command.{Command}
-use Rattle.scald_tool.specs.declared.words.Command.TheVariants.{Verify, Format, Bench}
+use Rattle.scald_tool.specs.declared.words.Command.TheVariants.{Verify, Format, Upgrade, Bench}
 
 -- the most rounds that may be asked for
 abbrev pub most_rounds : ℕ
@@ -75,6 +75,7 @@ command_of [] = Err 0
 command_of (w ∷ ws) =
     if bytes_eq w (codes "verify") then behind_verify ws
     else if bytes_eq w (codes "format") then alone Format 1 ws
+    else if bytes_eq w (codes "upgrade") then alone Upgrade 1 ws
     else if bytes_eq w (codes "bench") then behind_bench ws
     else Err 0
 
@@ -84,12 +85,14 @@ command_of (w ∷ ws) =
 abbrev pub IsWithin : Command → Type 0
 IsWithin (Verify mode rounds) = IfSome rounds (λ limit. limit ≤ most_rounds)
 IsWithin Format = ⊤
+IsWithin Upgrade = ⊤
 IsWithin (Bench n) = (1 ≤ n) × (n ≤ most_sections)
 
 -- the form reads the source
 abbrev pub reads : Command → Bool
 reads (Verify mode rounds) = true
 reads Format = true
+reads Upgrade = true
 reads (Bench n) = false
 
 -- the words are of a form that reads

@@ -9,6 +9,7 @@ ghost use Rattle.scald_tool.specs.Words.{IsWithin};
 
 use crate::bench::bench;
 use crate::format::format;
+use crate::upgrade::upgrade_text;
 use crate::verify::verify;
 use crate::words::Command;
 use program_call::Reply;
@@ -31,6 +32,7 @@ pub fn answer(alloc: Global, command: Command, text: &[u8]) -> Result<Reply<Outc
     match command {
         Command::Verify { mode, rounds } => verify::<RunWave<Value>>(alloc, text, mode, rounds),
         Command::Format => format(alloc, text),
+        Command::Upgrade => upgrade_text(alloc, text),
         Command::Bench(sections) => bench(alloc, sections),
     }
 }

@@ -14,6 +14,7 @@ mod words;
 mod bench;
 mod format;
 mod report;
+mod upgrade;
 mod verified;
 mod verify;
 

@@ -24,13 +24,13 @@ pub struct Report {
 }
 
 impl Report {
-    /// The head of a report, before any case.
-    pub fn begin(alloc: Global, circuit: &Circuit) -> Result<Report, NoMemory>
-        ensures head { IfOk result (λ report. report.bytes ≡ head circuit.now) }
+    /// The head of a report on a circuit that is drawn in this version of the language, before any case.
+    pub fn begin(alloc: Global, version: u8, circuit: &Circuit) -> Result<Report, NoMemory>
+        ensures head { IfOk result (λ report. report.bytes ≡ head version circuit.now) }
         ensures none { IfOk result (λ report. report.total ≡ 0) }
     {
         let mut bytes = Bytes::new(alloc);
-        begin_report(circuit, &mut bytes)?;
+        begin_report(circuit, version, &mut bytes)?;
         Ok(Report { bytes, total: 0 })
     }
 

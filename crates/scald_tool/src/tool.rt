@@ -15,7 +15,8 @@ use scald_base::{Outcome, Sink, Source, Words};
 use std::alloc::Global;
 
 /// Answers what the words ask for and writes it to the sink: the report on the drawing that the source
-/// gives, or its canonical text, or the numbers of the report on a generated drawing.
+/// gives, or its canonical text, or that of the same circuit in the last version of the language, or the
+/// numbers of the report on a generated drawing.
 ///
 /// Where the words are of a form that reads, the source is read to its end, or to the first byte past
 /// 4,194,304, or to its first fault. All of the answer is made before the first byte of it is written.

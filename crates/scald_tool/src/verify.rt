@@ -93,8 +93,9 @@ pub fn report_cases<W: CyclicWave<Item = Value>>(
     requires is { IsSubject subject.now }
     requires few { limit ≤ 10000000 }
     ensures rests { IfOk result (λ reported. RestsAt (base_round subject.now.circuit) limit reported.base) }
-    ensures told { IfOk result (λ reported. IsReported mode subject.now.circuit
-        limit reported.base (listed_cases subject.now.cases) reported.reply.outcome reported.reply.bytes) }
+    ensures told { IfOk result (λ reported. IsReported mode subject.now.version
+        subject.now.circuit limit reported.base
+        (listed_cases subject.now.cases) reported.reply.outcome reported.reply.bytes) }
     ensures ended { IfErr result (EndsEarly subject.now.circuit subject.now.cases limit) }
     ensures loopless { HasNoLoop subject.now.circuit →
         outputs subject.now.circuit.instances ≤ limit → IfErr result (λ end. end ≡ EngineEnd.NoMemory) }
@@ -102,7 +103,7 @@ pub fn report_cases<W: CyclicWave<Item = Value>>(
     let rested = subject.base::<W>(alloc, limit)?;
     let base = rested.base.rounds;
     let reply = if subject.cases.is_empty() {
-        only_case(alloc, &subject.circuit, mode, limit, rested)?
+        only_case(alloc, subject, mode, limit, rested)?
     } else {
         each_case(alloc, subject, mode, limit, &rested)?
     };
@@ -112,17 +113,19 @@ pub fn report_cases<W: CyclicWave<Item = Value>>(
 /// The report on a circuit for which no case is listed.
 fn only_case<W: CyclicWave<Item = Value>>(
     alloc: Global,
-    circuit: &Circuit,
+    subject: &Subject,
     mode: Mode,
     limit: u32,
     rested: Rested<W>,
 ) -> Result<Reply<Outcome>, NoMemory>
     requires few { limit ≤ 10000000 }
-    requires rest { IsBaseAtRest circuit.now limit rested.base.rounds rested.base.waves rested.known }
+    requires rest { IsBaseAtRest subject.now.circuit limit rested.base.rounds rested.base.waves rested.known }
     ensures { IfOk result (λ reply.
-        IsReported mode circuit.now limit rested.base.rounds (listed_cases []) reply.outcome reply.bytes) }
+        IsReported mode subject.now.version subject.now.circuit limit rested.base.rounds (listed_cases [])
+        reply.outcome reply.bytes) }
 {
-    let mut report = Report::begin(alloc, circuit)?;
+    let circuit = &subject.circuit;
+    let mut report = Report::begin(alloc, subject.version, circuit)?;
     let base = rested.base.rounds;
     let case = rested.only_case(alloc, circuit, limit)?;
     report.add_case(circuit, mode, base, &case)?;
@@ -142,14 +145,14 @@ fn each_case<W: CyclicWave<Item = Value>>(
     requires few { limit ≤ 10000000 }
     requires rest { IsBaseAtRest subject.now.circuit
         limit rested.now.base.rounds rested.now.base.waves rested.now.known }
-    ensures told { IfOk result (λ reply. IsReported mode subject.now.circuit
-        limit rested.now.base.rounds (numbered 1 subject.now.cases) reply.outcome reply.bytes) }
+    ensures told { IfOk result (λ reply. IsReported mode subject.now.version
+        subject.now.circuit limit rested.now.base.rounds (numbered 1 subject.now.cases) reply.outcome reply.bytes) }
     ensures ended { IfErr result
         (EndsCases subject.now.circuit limit rested.now.base.rounds (numbered 1 subject.now.cases)) }
     ensures loopless { HasNoLoop subject.now.circuit →
         outputs subject.now.circuit.instances ≤ limit → IfErr result (λ end. end ≡ EngineEnd.NoMemory) }
 {
-    let mut report = Report::begin(alloc, &subject.circuit)?;
+    let mut report = Report::begin(alloc, subject.version, &subject.circuit)?;
     for place in 0..subject.cases.len() as u32 {
         let case = subject.case(alloc, rested, place, limit)?;
         report.add_case(&subject.circuit, mode, rested.base.rounds, &case)?;

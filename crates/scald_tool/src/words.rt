@@ -22,6 +22,8 @@ pub enum Command {
     Verify { mode: Mode, rounds: Option<u32> },
     /// `format`: the canonical text of a drawing.
     Format,
+    /// `upgrade`: the canonical text of a drawing in the last version of the language.
+    Upgrade,
     /// `bench`: the numbers of the report on the generated drawing of so many sections, 1 to 200. It reads
     /// nothing.
     Bench(u16),
@@ -49,6 +51,8 @@ pub fn read_words(words: &Words) -> Result<Command, u32>
         behind_verify(others)
     } else if first.as_slice() == b"format".as_slice() {
         alone(Command::Format, 1, others)
+    } else if first.as_slice() == b"upgrade".as_slice() {
+        alone(Command::Upgrade, 1, others)
     } else if first.as_slice() == b"bench".as_slice() {
         behind_bench(others)
     } else {

@@ -1,7 +1,7 @@
 use Rattle.std.proofs.Common.{refl}
-use Rattle.scald_tool.specs.declared.words.Command.TheVariants.{Verify, Format, Bench}
-use Rattle.scald_tool.proofs.Given.{gives_by, no_report, not_clean, verify_rests, format_rests, bench_rests}
-use Rattle.scald_tool.proofs.Replies.{by_verify, by_format, by_bench}
+use Rattle.scald_tool.specs.declared.words.Command.TheVariants.{Verify, Format, Upgrade, Bench}
+use Rattle.scald_tool.proofs.Given.{gives_by, no_report, not_clean, verify_rests, format_rests, upgrade_rests, bench_rests}
+use Rattle.scald_tool.proofs.Replies.{by_verify, by_format, by_upgrade, by_bench}
 use Rattle.scald_tool.proofs.answer.answer.Goals as goal
 
 pub returns-in-Verify-clause-is : goal.returns-in-Verify-clause-is
@@ -27,6 +27,21 @@ returns-in-Format-clause-faultless c = no_report Format _ _ refl c.format.ensure
 
 pub returns-in-Format-clause-loopless : goal.returns-in-Format-clause-loopless
 returns-in-Format-clause-loopless c = format_rests c.args.command _ _ c.in-Format.is
+
+pub returns-in-Upgrade-clause-is : goal.returns-in-Upgrade-clause-is
+returns-in-Upgrade-clause-is c = by_upgrade c.args.command _ _ c.in-Upgrade.is c.upgrade_text.ensures.is
+
+pub returns-in-Upgrade-clause-given : goal.returns-in-Upgrade-clause-given
+returns-in-Upgrade-clause-given c = gives_by c.args.command Upgrade _ c.in-Upgrade.is c.upgrade_text.ensures.given
+
+pub returns-in-Upgrade-clause-clean : goal.returns-in-Upgrade-clause-clean
+returns-in-Upgrade-clause-clean c = not_clean Upgrade _ _ refl c.upgrade_text.ensures.given
+
+pub returns-in-Upgrade-clause-faultless : goal.returns-in-Upgrade-clause-faultless
+returns-in-Upgrade-clause-faultless c = no_report Upgrade _ _ refl c.upgrade_text.ensures.given
+
+pub returns-in-Upgrade-clause-loopless : goal.returns-in-Upgrade-clause-loopless
+returns-in-Upgrade-clause-loopless c = upgrade_rests c.args.command _ _ c.in-Upgrade.is
 
 pub returns-in-Bench-clause-is : goal.returns-in-Bench-clause-is
 returns-in-Bench-clause-is c = by_bench c.args.command c.in-Bench.sections _ _ c.in-Bench.is c.bench.ensures.is

@@ -13,12 +13,12 @@ read_circuit-requires c =
 pub returns-in-Ok-clause-is : goal.returns-in-Ok-clause-is
 returns-in-Ok-clause-is c =
     let same = c.as_slice.ensures ∙ c.in_ok-text.ensures in
-    let drawn = subject_is_drawn c.as_slice.result.now _ _ _ _ c.in_ok-subject-in-Ok.ensures.circuit c.in_ok-subject-in-Ok.ensures.cases c.in-Ok.ensures.drawn in
-    rw same at (accepted (measured c.args.sections) None c.as_slice.result.now _ _ _ _ drawn refl c.measured.ensures.is)
+    let drawn = subject_is_drawn c.as_slice.result.now _ _ _ _ _ _ c.in_ok-subject-in-Ok.ensures.version c.in_ok-subject-in-Ok.ensures.circuit c.in_ok-subject-in-Ok.ensures.cases c.in-Ok.ensures.version in
+    rw same at (accepted (λ version. measured c.args.sections) None c.as_slice.result.now _ _ _ _ _ drawn refl c.measured.ensures.is)
 
 pub returns-in-Err-Refused-clause-is : goal.returns-in-Err-Refused-clause-is
 returns-in-Err-Refused-clause-is c =
     let same = c.as_slice.ensures ∙ c.in_ok-text.ensures in
-    rw same at (refused (measured c.args.sections) None c.as_slice.result.now _ _
+    rw same at (refused (λ version. measured c.args.sections) None c.as_slice.result.now _ _
     (subst (IsTextRefused c.as_slice.result.now) (sym c.in-Err-Refused.refusal-is) (c.in-Err-Refused.ensures.refused c.in-Err-Refused.refusal c.in-Err-Refused.field-0-is))
     c.refused.ensures.outcome c.refused.ensures.bytes)

@@ -10,7 +10,7 @@ pub returns-in-Ok-clause-is : goal.returns-in-Ok-clause-is
 returns-in-Ok-clause-is g c =
     subst (λ (n : ℕ). IfOk c.summary.result (λ reply. Concluded (measured c.args.sections)
     c.args.subject.now.circuit c.args.subject.now.cases n reply.outcome reply.bytes)) c.default_limit-limit.ensures.is
-    (measured_rested c.args.sections _ c.args.subject.now.circuit c.args.subject.now.cases
+    (measured_rested c.args.sections _ c.args.subject.now.version c.args.subject.now.circuit c.args.subject.now.cases
     _ c.in-Ok.reported.base _ _ _ c.in-Ok.ensures.rests c.in-Ok.ensures.told c.summary.ensures.outcome c.summary.ensures.bytes)
 
 pub ended-requires : goal.ended-requires

@@ -1,0 +1,4 @@
+pub mod Upgraded
+pub mod SameCircuit
+pub mod Upgrade
+pub mod Order
