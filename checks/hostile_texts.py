@@ -27,10 +27,12 @@ EARLY = (1, 2, 3, 4, 5, 7, 20)
 UNSETTLED = re.compile(rb"UNSETTLED [^\n]+<[0-9]+> ROUND [0-9]+\n")
 NUMBERS = [b"0", b"1", b"2", b"63", b"64", b"65", b"255", b"256", b"257", b"399", b"400", b"4095", b"4096", b"65535",
            b"65536", b"9223372036854775807", b"9223372036854775808", b"007"]
-TOKENS = [b"SCALD", b"CLOCK", b"WIRE", b"PSKEW", b"CSKEW", b"MACRO", b"DRAWING", b"CASE", b"IF", b"THEN", b"ELSE",
-          b"END", b"ZERO", b"ONE", b"x", b"H", b"BUF", b"AND", b"OR", b"XOR", b"MUX2", b"MUX4", b"MUX8", b"CHG",
-          b"REG", b"LATCH", b"REG_RS", b"LATCH_RS", b"SETUP_HOLD_CHK", b"SETUP_RISE_HOLD_FALL_CHK",
-          b"MIN_PULSE_CHK", b"SETUP", b"HOLD", b"HIGH", b"LOW", b"SIZE", b";", b":", b",", b"(", b")", b"<", b">",
+TOKENS = [b"SCALD", b"CLOCK", b"WIRE", b"PSKEW", b"CSKEW", b"MACRO", b"DRAWING", b"CASE", b"IF", b"THEN",
+          b"ELSE", b"FOR", b"TO", b"DO", b"CONST", b"FOR I = 0 TO 3 DO", b"CONST N = 1;", b"END", b"ZERO",
+          b"ONE", b"x", b"H", b"BUF", b"AND", b"OR", b"XOR", b"MUX2", b"MUX4", b"MUX8", b"CHG", b"REG",
+          b"LATCH", b"REG_RS", b"LATCH_RS", b"SETUP_HOLD_CHK", b"SETUP_RISE_HOLD_FALL_CHK", b"MIN_PULSE_CHK",
+          b"SETUP", b"HOLD", b"HIGH", b"LOW", b"SIZE",
+          b";", b":", b",", b"(", b")", b"<", b">",
           b"[", b"]", b"{", b"}", b"=", b"+", b"-", b"*", b"/", b"&", b"!", b"!H", b"->", b"--", b"\n", b"\t", b"\r",
           b'"', b'"A"', b'"CK .P2-3"', b'"CK .C2-3(5,5)"', b'"CK .P0-8L"', b'"D .S0-4,4-6"', b'"/G"', b'"Q .S"',
           b"[0:0]", b"[1:4095]", b"[1:2, 0:255]", b"[255:255, 255:255]", b"[0:0, 0:256]", b", 1:2]", b'"A"<0:255>', b'"X"<3:0>', b"!", *NUMBERS]
@@ -43,7 +45,7 @@ def mutated(draw, texts):
     if kind == 0:
         return bytes(draw.randrange(256) for _ in range(draw.randrange(200)))
     if kind == 1:
-        head = b"SCALD 1;\nCLOCK 8 x 50;\nDRAWING T;\n" if draw.randrange(2) else b""
+        head = b"SCALD %d;\nCLOCK 8 x 50;\nDRAWING T;\n" % draw.choice((1, 2)) if draw.randrange(2) else b""
         return head + b" ".join(draw.choice(TOKENS) for _ in range(draw.randrange(120)))
     parts = WORD.findall(draw.choice(texts))
     for _ in range(draw.choice((1, 1, 1, 2, 3, 8))):
@@ -112,7 +114,7 @@ def wrong_form(status, said):
     faults = sum(line.startswith(b"FAULT ") for line in lines)
     if status in (0, 1):
         last = b"CLEAN" if status == 0 else b"FAULTS %d" % faults
-        good = lines[0].startswith(b"SCALD 1 PERIOD ") and lines[-2:] == [last, b""] and (faults > 0) == (status == 1)
+        good = lines[0].startswith((b"SCALD 1 PERIOD ", b"SCALD 2 PERIOD ")) and lines[-2:] == [last, b""] and (faults > 0) == (status == 1)
         return None if good else "a report of another form"
     if status == 2:
         return None if REFUSED.fullmatch(said) else "a refusal of another form"

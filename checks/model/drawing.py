@@ -195,6 +195,16 @@ class Assign:
 
 
 @dataclass
+class Const:
+    """A constant, with the place of its word CONST and that of its own."""
+
+    word: str
+    value: Expression
+    place: Optional[Place] = None
+    word_place: Optional[Place] = None
+
+
+@dataclass
 class Use:
     label: str
     kind: str
@@ -219,6 +229,17 @@ class If:
     test: Expression
     then: list
     otherwise: Optional[list] = None
+    place: Optional[Place] = None
+
+
+@dataclass
+class For:
+    """Statements once for each value of a variable."""
+
+    word: str
+    first: Expression
+    last: Expression
+    body: list
     place: Optional[Place] = None
 
 
@@ -268,22 +289,32 @@ class Header:
 
 @dataclass
 class Drawing:
+    """A drawing. Version 1 of the language has no constants and no FOR."""
+
     header: Header
     macros: list
     body: list
     cases: list
+    version: int = 1
+    constants: list = field(default_factory=list)
 
 
 # --- walks through a drawing, in the order of the text
 
 
+def bodies_in(statement):
+    """The lists of statements that a statement has."""
+    if isinstance(statement, If):
+        return [statement.then, statement.otherwise or []]
+    return [statement.body] if isinstance(statement, For) else []
+
+
 def statements(body):
-    """The statements of a body, those under IFs among them."""
+    """The statements of a body, those under IFs and FORs among them."""
     for statement in body:
         yield statement
-        if isinstance(statement, If):
-            yield from statements(statement.then)
-            yield from statements(statement.otherwise or [])
+        for inner in bodies_in(statement):
+            yield from statements(inner)
 
 
 def uses(body):
@@ -291,5 +322,5 @@ def uses(body):
 
 
 def bodies(drawing):
-    """All lists of statements that a drawing has outside of IFs."""
+    """All lists of statements that a drawing has outside of IFs and FORs."""
     return [*(macro.body for macro in drawing.macros), drawing.body]

@@ -6,7 +6,7 @@ from typing import NamedTuple
 from .assertions import spelling
 from .circuit import Bit, Circuit, Instance, Net, Split
 from .drawing import (
-    CHECKERS, ELEMENTS, MARKED_KINDS, SPLIT_KINDS, Binary, Constant, If, Minus, Number, Parameter, RefusalKind, Refused,
+    CHECKERS, ELEMENTS, MARKED_KINDS, SPLIT_KINDS, Binary, Constant, For, If, Minus, Number, Parameter, RefusalKind, Refused,
     WireStatement,
 )
 from .names import GREATEST_DELAY
@@ -16,13 +16,16 @@ GREATEST_SPLIT = 255  # of each of two delays
 GREATEST_BIT = 65535
 WIDEST = 256
 DEEPEST = 64
+# the selects of a kind that has more than one
+SELECTS = {"MUX4": 2, "MUX8": 3}
 
 
 class Scope(NamedTuple):
     """Where statements are expanded."""
 
     path: str
-    parameters: dict
+    turns: str  # what follows each label, for the FORs around it
+    parameters: dict  # and constants and variables: of each name the value that counts here
     formals: dict  # of each, the outer bits by their numbers, in the order of its declaration
     depth: int
 
@@ -121,6 +124,8 @@ class Expansion:
     """A circuit in the making."""
 
     def __init__(self, drawing):
+        self.version = drawing.version
+        self.constants = constants_of(drawing)
         self.macros = {macro.word: macro for macro in drawing.macros}
         self.circuit = Circuit(drawing.header)
 
@@ -170,6 +175,8 @@ class Expansion:
         for statement in body:
             if isinstance(statement, If):
                 self.expand_if(scope, statement)
+            elif isinstance(statement, For):
+                self.expand_for(scope, statement)
             elif isinstance(statement, WireStatement):
                 self.expand_wire(scope, statement)
             else:
@@ -178,6 +185,16 @@ class Expansion:
     def expand_if(self, scope, choice):
         is_true = value_of(choice.test, scope.parameters, choice.place) != 0
         self.expand_body(scope, choice.then if is_true else choice.otherwise or [])
+
+    def expand_for(self, scope, loop):
+        """The body for each value. Its nets are those of the scope around."""
+        first = value_of(loop.first, scope.parameters, loop.place)
+        last = value_of(loop.last, scope.parameters, loop.place)
+        for value in range(first, last + 1):
+            inner = scope._replace(
+                turns=f"{scope.turns}#{value}", parameters={**scope.parameters, loop.word: value}
+            )
+            self.expand_body(inner, loop.body)
 
     def expand_wire(self, scope, wire):
         """All expressions come first, and the bounds last."""
@@ -252,9 +269,10 @@ class Expansion:
         parameters = {
             parameter.word: given[parameter.word]
             if parameter.word in given
-            else value_of(parameter.value, {}, use.place)
+            else value_of(parameter.value, self.constants, use.place)
             for parameter in macro.parameters
         }
+        parameters = {**self.constants, **parameters}
         heads = macro.inputs + macro.outputs
         shapes = [numbers_of(formal.range, parameters, use.place) or [0] for formal in heads]
         connections = [self.connection_bits(scope, connection, use.place) for connection in use.inputs + use.outputs]
@@ -266,15 +284,20 @@ class Expansion:
             if len(bits) != len(shape):
                 raise Refused(RefusalKind.Width, use.place)
             formals[formal.name.base] = dict(zip(shape, bits))
-        path = f"{scope.path}{use.label}/"
-        self.expand_body(Scope(path, parameters, formals, scope.depth + 1), macro.body)
+        path = f"{scope.path}{use.label}{scope.turns}/"
+        self.expand_body(Scope(path, "", parameters, formals, scope.depth + 1), macro.body)
 
     # --- primitives
+
+    def in_order_of_pins(self, kind, inputs):
+        """Pins have the most significant select first; version 2 writes the least significant first."""
+        count = SELECTS.get(kind, 0) if self.version == 2 else 0
+        return inputs[:count][::-1] + inputs[count:]
 
     def expand_primitive(self, scope, use, delay, split, limits):
         connections = [self.connection_bits(scope, connection, use.place) for connection in use.inputs + use.outputs]
         width = max(len(bits) for bits in (connections[-1:] if use.kind in ELEMENTS else connections))
-        inputs = connections[: len(use.inputs)]
+        inputs = self.in_order_of_pins(use.kind, connections[: len(use.inputs)])
         outputs = connections[len(use.inputs) :]
         if use.kind != "CHG" and any(len(bits) not in (1, width) for bits in connections):
             raise Refused(RefusalKind.Width, use.place)
@@ -286,7 +309,7 @@ class Expansion:
                 pins = [bits[number] if len(bits) > 1 else bits[0] for bits in inputs]
             self.circuit.instances.append(
                 Instance(
-                    name=scope.path + use.label,
+                    name=scope.path + use.label + scope.turns,
                     bit=number,
                     kind=use.kind,
                     pins=pins,
@@ -300,8 +323,16 @@ class Expansion:
             )
 
 
+def constants_of(drawing):
+    """The constants with their values, each by those before it."""
+    values = {}
+    for constant in drawing.constants:
+        values[constant.word] = value_of(constant.value, values, constant.place)
+    return values
+
+
 def expand(drawing):
     """The circuit of a drawing, before the circuit's own rules."""
     expansion = Expansion(drawing)
-    expansion.expand_body(Scope("", {}, {}, 0), drawing.body)
+    expansion.expand_body(Scope("", "", expansion.constants, {}, 0), drawing.body)
     return expansion.circuit

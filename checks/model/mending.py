@@ -1,5 +1,5 @@
 """Makes most random drawings good again, so that more of them have waves: what is refused is left out or mended."""
-from .drawing import Delay, If, Number, RefusalKind, Refused, Use, bodies, statements
+from .drawing import Delay, Number, RefusalKind, Refused, Use, bodies, bodies_in, statements
 from .report import circuit_of
 from .writing import write_drawing
 
@@ -8,14 +8,12 @@ SHARE_LEFT = 0.06  # of what is refused, as it is
 
 
 def leave_out(body, place):
-    """Takes the statement at this place out of a body, and says whether it was there."""
+    """Takes the statement, or the constant, at this place out of a body, and says whether it was there."""
     for number, statement in enumerate(body):
         if statement.place == place:
             del body[number]
             return True
-        if isinstance(statement, If) and (
-            leave_out(statement.then, place) or leave_out(statement.otherwise or [], place)
-        ):
+        if any(leave_out(inner, place) for inner in bodies_in(statement)):
             return True
     return False
 
@@ -45,7 +43,7 @@ def mend_one(drawing, refused, random):
     if refused.kind == RefusalKind.ZeroLoop and random.random() < 0.7:
         slow_down(drawing, refused.place)
         return True
-    return any(leave_out(body, refused.place) for body in bodies(drawing))
+    return any(leave_out(body, refused.place) for body in [drawing.constants, *bodies(drawing)])
 
 
 def mend(drawing, random):

@@ -79,6 +79,7 @@ def check_once(declared, taken=()):
 
 
 def check_doubles(drawing):
+    check_once([(constant.word, constant.word_place) for constant in drawing.constants])
     macros = [(macro.word, macro.place) for macro in drawing.macros]
     for number, macro in enumerate(drawing.macros):
         check_once(macros[: number + 1], [*ELEMENTS, *CHECKERS])

@@ -1,16 +1,16 @@
 """Random drawings of two kinds: most with a small period, and others with a large one and names of many intervals.
 
 They have macros with parameters, vectors, spread bits, complements, constants, WIRE and IF statements, marks, loops,
-delays past the period, two delays, and cases. Many would be refused, so `mending` makes most of them good again.
+delays past the period, two delays, and cases. Half are of version 2, with CONST and FOR. Many would be refused, so `mending` makes most of them good again.
 """
 from typing import NamedTuple
 
 from .assertions import edges_overlap
 from .drawing import (
-    CHECKERS, ELEMENTS, MARKED_KINDS, SPLIT_KINDS, Assign, Binary, Case, Clock, Connection, Constant, Delay, Drawing, Entry, Formal,
-    Header, If, Interval, Macro, Minus, Name, Number, Parameter, Range, Still, Term, Use, WireStatement,
+    CHECKERS, ELEMENTS, MARKED_KINDS, SPLIT_KINDS, Assign, Binary, Case, Clock, Connection, Const, Constant, Delay, Drawing, Entry,
+    For, Formal, Header, If, Interval, Macro, Minus, Name, Number, Parameter, Range, Still, Term, Use, WireStatement,
 )
-from .expansion import numbers_of
+from .expansion import numbers_of, value_of
 from .patterns import haze, islet, ring, signal, tree_macro
 from .waves import Bounds
 
@@ -42,10 +42,7 @@ class Room(NamedTuple):
     inputs: list
     outputs: list
     formals: dict  # of each, the numbers of its bits, or None where it has no range
-    parameters: dict
-
-
-OUTERMOST = Room(False, [], [], {}, {})
+    parameters: dict  # and constants, with their values, and variables, each with its first value
 
 
 def widths_of(formals, parameters):
@@ -60,6 +57,9 @@ class Maker:
         self.random = random
         self.sizes = sizes
         self.header = self.make_header()
+        self.version = random.choice([1, 2])
+        self.constants = []
+        self.values = {}  # of the constants
         self.macros = []
         self.width = random.choice([1, 1, 2, 3])
         self.labels = 0
@@ -301,12 +301,15 @@ class Maker:
     def make_macro_use(self, room, label):
         """Some of the parameters are given; connections mostly have the widths that come of them."""
         macro = self.random.choice(self.macros)
-        values = {parameter.word: parameter.value.value for parameter in macro.parameters}
+        values = {
+            parameter.word: value_of(parameter.value, self.values, None) for parameter in macro.parameters
+        }
         parameters = []
         for word in values:
             if self.chance(0.5):
                 values[word] = self.random.choice([1, 2, 4] if macro.word == "TREE" else [1, 2, 3])
                 parameters.append(Assign(word, self.make_number(values[word], room.parameters)))
+        values = {**self.values, **values}
         widths = widths_of(macro.inputs, values)
         inputs = [self.make_connection(room, width if self.chance(0.9) else 1) for width in widths]
         outputs = [self.make_connection(room, width, is_output=True) for width in widths_of(macro.outputs, values)]
@@ -331,12 +334,23 @@ class Maker:
         otherwise = self.make_body(room, self.random.randrange(3), depth + 1) if self.chance(0.6) else None
         return If(self.make_test(room.parameters), then, otherwise)
 
+    def make_for(self, room, depth):
+        """Few values, none now and then, and some below 0. Names may be those of parameters and constants."""
+        word = self.random.choice(["I", "J", "N", "K1"])
+        first = self.random.choice([0, 0, 0, 1, 2, -1, -2])
+        last = first + self.random.choice([-1, 0, 1, 1, 2, 3])
+        ends = self.make_number(first, room.parameters), self.make_number(last, room.parameters)
+        inner = room._replace(parameters={**room.parameters, word: first})
+        return For(word, *ends, self.make_body(inner, self.random.randrange(3), depth + 1))
+
     def make_body(self, room, count, depth=0):
         body = []
         for _ in range(count):
             lot = self.random.random()
             if lot < 0.1 and depth < 3:
                 body.append(self.make_if(room, depth))
+            elif self.version == 2 and lot > 0.85 and depth < 3:
+                body.append(self.make_for(room, depth))
             else:
                 body.append(self.make_wire(room) if 0.1 <= lot < 0.2 else self.make_use(room))
         return body
@@ -360,13 +374,22 @@ class Maker:
 
     def make_macro(self, word):
         parameters = {name: self.random.randrange(1, 4) for name in ["N", "M_2"][: self.random.choice([0, 1, 1, 2])]}
-        inputs = self.make_formals(["I1", "I2", "D"][: self.random.choice([1, 2, 3])], parameters)
-        outputs = self.make_formals(["O1", "O2"][: self.random.choice([0, 1, 1, 2])], parameters)
-        formals = {formal.name.base: numbers_of(formal.range, parameters, None) for formal in inputs + outputs}
+        known = {**self.values, **parameters}
+        inputs = self.make_formals(["I1", "I2", "D"][: self.random.choice([1, 2, 3])], known)
+        outputs = self.make_formals(["O1", "O2"][: self.random.choice([0, 1, 1, 2])], known)
+        formals = {formal.name.base: numbers_of(formal.range, known, None) for formal in inputs + outputs}
         bases = [formal.name.base for formal in inputs], [formal.name.base for formal in outputs]
-        room = Room(True, *bases, formals, parameters)
+        room = Room(True, *bases, formals, {**self.values, **parameters})
         body = self.make_body(room, self.random.randrange(1, 4))
-        return Macro(word, [Assign(name, Number(parameters[name])) for name in parameters], inputs, outputs, body)
+        defaults = [Assign(name, self.make_number(parameters[name], self.values)) for name in parameters]
+        return Macro(word, defaults, inputs, outputs, body)
+
+    def make_constants(self):
+        """Some, each with the help of those before it; one may have the name of a parameter or of a variable."""
+        for word in self.random.sample(["K1", "K2", "N", "I"], self.random.choice([0, 1, 2, 3])):
+            value = self.random.randrange(1, 4)
+            self.constants.append(Const(word, self.make_number(value, self.values)))
+            self.values[word] = value
 
     def make_cases(self):
         """Levels for nets that are not driven mostly; some entries are not allowed."""
@@ -381,12 +404,15 @@ class Maker:
         return cases
 
     def make_drawing(self):
+        if self.version == 2:
+            self.make_constants()
+        outermost = Room(False, [], [], {}, self.values)
         if self.chance(0.1):
             kind = self.random.choice(["AND", "OR", "XOR"])
             self.macros.append(tree_macro(kind, *self.make_delays(kind, {})))
         for number in range(self.random.choice([0, 0, 1, 2])):
             self.macros.append(self.make_macro(f"MACRO_{number}"))
-        body = self.make_body(OUTERMOST, self.random.choice([1, 2, 4, 6, 9, 12]))
+        body = self.make_body(outermost, self.random.choice([1, 2, 4, 6, 9, 12]))
         if self.header.period <= 16 and self.chance(0.08):
             body += ring(self.random.randrange(1, 14), self.random.choice(["AND", "OR"]), self.header)
         if self.chance(0.04):
@@ -395,7 +421,7 @@ class Maker:
         if self.header.units == 8 and self.chance(0.1):
             body += islet(self.header.ticks_per_unit, *self.written_split({}))
         cases = self.make_cases() if self.chance(0.4) else []
-        return Drawing(self.header, self.macros, body, cases)
+        return Drawing(self.header, self.macros, body, cases, self.version, self.constants)
 
 
 def make_drawing(random, is_large):

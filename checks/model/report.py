@@ -34,9 +34,9 @@ def circuit_of(drawing):
     return circuit
 
 
-def head_lines(circuit):
+def head_lines(circuit, version):
     nets, elements, checkers = len(circuit.nets), len(circuit.elements), len(circuit.checkers)
-    yield f"SCALD 1 PERIOD {circuit.period}"
+    yield f"SCALD {version} PERIOD {circuit.period}"
     yield f"NETS {nets} INSTANCES {elements} CHECKS {checkers}"
     for net in circuit.in_name_order():
         if net not in circuit.drivers and circuit.assertion(net) is None:
@@ -48,9 +48,9 @@ def wave_line(net, wave):
     return f"WAVE {net} SKEW {wave.skew} {stretches}"
 
 
-def report(circuit, settled, mode):
+def report(circuit, version, settled, mode):
     """The lines of a report, and how many faults there are."""
-    lines = list(head_lines(circuit))
+    lines = list(head_lines(circuit, version))
     count = 0
     for case in settled.cases:
         tick = printed_tick(circuit, settled.base_rounds, case.rounds)
@@ -76,5 +76,5 @@ def verify(drawing, mode=Mode.WHOLE, rounds=None):
         return Answer(2, text, f"Refused {kind.name}")
     except Unsettled as unsettled:
         return Answer(3, f"UNSETTLED {unsettled.net} ROUND {unsettled.limit}\n", "Unsettled")
-    lines, count = report(circuit, settled, mode)
+    lines, count = report(circuit, drawing.version, settled, mode)
     return Answer(1 if count else 0, "\n".join(lines) + "\n", "Faulty" if count else "Clean")

@@ -2,7 +2,7 @@
 from copy import deepcopy
 
 from .drawing import (
-    ELEMENTS, SPLIT_KINDS, Assign, Binary, Clock, Connection, Delay, If, Interval, Minus, Name, Number, Parameter, Range,
+    ELEMENTS, SPLIT_KINDS, Assign, Binary, Clock, Connection, Const, Delay, For, If, Interval, Minus, Name, Number, Parameter, Range,
     Still, Term, Use, WireStatement, bodies, statements, uses,
 )
 from .names import names
@@ -87,6 +87,16 @@ def default_of_a_parameter(drawing, random):
             for use in uses(body):
                 if use.kind == macro.word and not any(parameter.word == other for parameter in use.parameters):
                     use.parameters.append(Assign(other, Number(2)))
+
+
+def bad_constant(drawing, random):
+    """A constant that has no value, that names itself or a later one, or that is there twice. Only version 2 has any."""
+    if drawing.version == 2:
+        place = random.randrange(len(drawing.constants) + 1)
+        later = drawing.constants[-1].word if drawing.constants else "K_9"
+        value = random.choice([bad_expression(random), Parameter("K_9"), Parameter(later)])
+        word = random.choice(["K_9", "K_9", later])
+        drawing.constants.insert(place, Const(word, value))
 
 
 def macro_named_like_a_primitive(drawing, random):
@@ -174,6 +184,8 @@ def spoilt_expression(drawing, random):
     expression = bad_expression(random)
     if isinstance(statement, If):
         statement.test = expression
+    elif isinstance(statement, For):
+        setattr(statement, random.choice(["first", "last"]), random.choice([expression, Parameter(statement.word)]))
     elif isinstance(statement, WireStatement):
         statement.delay = Delay(expression, Number(0))
     elif statement.parameters and random.random() < 0.5:
@@ -233,7 +245,7 @@ SPOILS = [
     bad_header, bad_name, bad_name, overlapping_edges, asserted_formal, double_label, double_declaration,
     default_of_a_parameter, macro_named_like_a_primitive, unknown_kind, other_delay, two_delays, two_delays, two_delays,
     bad_parameter, spoilt_expression, spoilt_expression, bad_range, bad_range, other_connections, other_connections,
-    deep_use, second_driver, bad_entry, bad_entry,
+    deep_use, second_driver, bad_entry, bad_entry, bad_constant, bad_constant,
 ]
 
 

@@ -1,6 +1,6 @@
 """The text of a drawing (docs/LANGUAGE.md, "Grammar"). Writing it gives each part of the tree its place."""
 from .assertions import spelling
-from .drawing import Binary, Constant, If, Minus, Number, Parameter, Place, WireStatement
+from .drawing import Binary, Constant, For, If, Minus, Number, Parameter, Place, WireStatement
 
 
 class Writer:
@@ -93,12 +93,19 @@ class Writer:
             self.write_body(choice.otherwise)
         self.write_line("END;")
 
+    def write_for(self, loop):
+        self.write_line(f"FOR {loop.word} = {text_of(loop.first)} TO {text_of(loop.last)} DO")
+        self.write_body(loop.body)
+        self.write_line("END;")
+
     def write_body(self, body):
         for statement in body:
             self.write(" " * 2)
             statement.place = self.here()
             if isinstance(statement, If):
                 self.write_if(statement)
+            elif isinstance(statement, For):
+                self.write_for(statement)
             elif isinstance(statement, WireStatement):
                 self.write_wire(statement)
             else:
@@ -122,8 +129,14 @@ class Writer:
         self.write_list(case.entries, self.write_entry)
         self.write_line(";")
 
-    def write_header(self, header):
-        self.write_line("SCALD 1;")
+    def write_constant(self, constant):
+        constant.place = self.here()
+        self.write("CONST ")
+        constant.word_place = self.here()
+        self.write_line(f"{constant.word} = {text_of(constant.value)};")
+
+    def write_header(self, version, header):
+        self.write_line(f"SCALD {version};")
         self.write_line(f"CLOCK {header.units} x {header.ticks_per_unit};")
         self.write_line("WIRE %d:%d;" % header.wire)
         self.write_line("PSKEW %d:%d;" % header.skew_of_p)
@@ -157,7 +170,9 @@ def text_of_range(bits):
 def write_drawing(drawing):
     """The text of a drawing, whose parts then have their places in it."""
     writer = Writer()
-    writer.write_header(drawing.header)
+    writer.write_header(drawing.version, drawing.header)
+    for constant in drawing.constants:
+        writer.write_constant(constant)
     for macro in drawing.macros:
         writer.write_macro(macro)
     writer.write_line("DRAWING ROW;")

@@ -135,7 +135,7 @@ fn a_sink_with_room(rt: HostRuntime) -> Result<(), NoMemory> {
 /// The name of a row, unrecognised words, and the number of the first with which no form continues.
 type WordRow = (&'static str, &'static [&'static [u8]], u32);
 
-const WORDS: [WordRow; 13] = [
+const WORDS: [WordRow; 14] = [
     ("no word", &[], 0),
     ("no such form", &[b"check"], 0),
     ("no such form either", &[b"upgrade"], 0),
@@ -154,6 +154,7 @@ const WORDS: [WordRow; 13] = [
         3,
     ),
     ("a mode of another form", &[b"format", b"waves"], 1),
+    ("a word past `upgrade`", &[b"upgrade", b"2"], 1),
     ("no sections", &[b"bench"], 1),
     ("too many sections", &[b"bench", b"201"], 1),
     ("a word past the last", &[b"bench", b"3", b"3"], 2),

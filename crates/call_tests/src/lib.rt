@@ -22,3 +22,7 @@ mod fault_reports;
 mod refusals;
 #[cfg(test)]
 mod reports;
+#[cfg(test)]
+mod upgrades;
+#[cfg(test)]
+mod versions;

@@ -17,7 +17,7 @@ type Row = (
 /// 65 parentheses that are open at once. On line 4, after `b1 : BUF [`, the last of them is byte 75.
 const PARENTHESES: &[u8] = b"(((((((((((((((((((((((((((((((((((((((((((((((((((((((((((((((((";
 
-/// What is refused before any expansion: `format` refuses it too.
+/// What is refused before any expansion: `format` and `upgrade` refuse it too.
 const EARLY: [Row; 13] = [
     (
         "REFUSED 1 BadByte 1:7\n",
@@ -328,10 +328,11 @@ fn is_refused(
 }
 
 #[test]
-fn refused_by_both_forms(rt: HostRuntime) -> Result<(), NoMemory> {
+fn refused_by_all_forms(rt: HostRuntime) -> Result<(), NoMemory> {
     for row in &EARLY {
         is_refused(&rt, b"verify", *row)?;
         is_refused(&rt, b"format", *row)?;
+        is_refused(&rt, b"upgrade", *row)?;
     }
     Ok(())
 }

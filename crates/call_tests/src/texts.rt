@@ -12,6 +12,11 @@ pub const FRAME: &[u8] = b"SCALD 1;\nCLOCK 8 x 50;\nDRAWING ROW;\n";
 /// The first two of them, where macros stand before the drawing.
 pub const HEAD: &[u8] = b"SCALD 1;\nCLOCK 8 x 50;\n";
 
+/// The same two frames in version 2 of the language.
+pub const FRAME_2: &[u8] = b"SCALD 2;\nCLOCK 8 x 50;\nDRAWING ROW;\n";
+
+pub const HEAD_2: &[u8] = b"SCALD 2;\nCLOCK 8 x 50;\n";
+
 /// The end of a drawing's last line, and its END.
 pub const END: &[u8] = b"\nEND;\n";
 
