@@ -19,7 +19,7 @@ use Rattle.drawing_grammar.specs.Sketch.{Sketch}
 use Rattle.drawing_grammar.specs.Written.{Written, spelling, weights, values, Within}
 use Rattle.drawing_grammar.specs.Draws.{whole}
 use Rattle.drawing_grammar.specs.Drawing.{drawing_of_sketch, declared_by}
-use Rattle.drawing_grammar.specs.CanonicalDraws.{IsShallowDrawing, DrawsAgain, CanonicalDraws}
+use Rattle.drawing_grammar.specs.CanonicalDraws.{TextDraws, IsShallowDrawing, DrawsAgain, CanonicalDraws}
 use Rattle.drawing_grammar.proofs.Cutting.{Bare}
 use Rattle.drawing_grammar.proofs.CanonicalTokens.{drawing_tokens, end_of_text}
 use Rattle.drawing_grammar.proofs.CanonicalText.{bare_at, canonical_has}
@@ -27,7 +27,7 @@ use Rattle.drawing_grammar.proofs.Drawable.{written_in, IsDrawnDrawing}
 use Rattle.drawing_grammar.proofs.Heads.{names_of_text}
 use Rattle.drawing_grammar.proofs.Formed.{judged_ok, sketch_proper, sketch_drawn}
 use Rattle.drawing_grammar.proofs.Matching.{bare, Are}
-use Rattle.drawing_grammar.proofs.Modest.{sketch_modest}
+use Rattle.drawing_grammar.proofs.Modest.{IsModestSketch, sketch_modest}
 use Rattle.drawing_grammar.proofs.ProperTrees.{IsSketchOf}
 use Rattle.drawing_grammar.proofs.Short.{drawing_short}
 use Rattle.drawing_grammar.proofs.PhraseText.{IsShortDrawing, TextBuilt, text_built}
@@ -110,33 +110,51 @@ drawn_again v h s known text tokens are built good e is =
           ∙ (ap (λ (cs : List tree.Assignment). length cs) again.consts ∙ sym known.proper.consts.places))) again.macros again.name again.body again.cases;
     })
 
-pub law : CanonicalDraws
-law text d x shallow =
+-- what holds of what a text stands for, where it draws
+pub record IsDrawnSketch (h : Header) (s : Sketch) : Type 0 where
+  pub header : judged s.header ≡ Ok h
+  pub proper : IsSketchOf (λ n. IsGoodName h n) (edition_by s.header.version) s
+  pub distinct : IsDistinct (declared_by s)
+  pub modest : IsModestSketch s
+
+pub drawn_sketch : (text : List ℕ) (d : tree.Drawing) (x : TextDraws text d) → IsDrawnSketch d.header (values x.draws.written).0
+drawn_sketch text d x =
     let ts = lexemes text x.tokens in
     let draws = x.draws in
     let w = draws.written in
-    let s : Sketch = (values w).0 in
     let h = d.header in
     let v = edition_of ts in
     let N : List Naming → Type 0 = λ ns. AreGood h ns in
     let good : AreGood h (names_from false ts) = subst N (names_spelled v w ts draws.text.spelled) draws.names in
-    let said = judged_ok s.header h draws.header in
-    let may_be : IsHeader h = header_may_be s.header h draws.header in
-    let proper : IsSketchOf (λ n. IsGoodName h n) v s = sketch_proper v h text x.tokens w x.are draws.text.spelled good in
-    let known : Known v h s = record { header = said.0; version = said.1; may_be = may_be; proper = proper; distinct = draws.distinct } in
-    let S : Edition → Type 0 = λ e. IsSketchOf (λ n. IsGoodName h n) e s in
-    let drawn : IsDrawnDrawing (drawing_of_sketch s) = sketch_drawn h s may_be draws.header (subst S (named_version v w ts draws.text.spelled) proper) in
+    let S : Edition → Type 0 = λ e. IsSketchOf (λ n. IsGoodName h n) e (values w).0 in
     let W : List Lexeme → Type 0 = λ xs. Within xs (weights w 0) in
-    let modest = sketch_modest v w (subst W (sym draws.text.spelled) draws.text.within) in
+    record {
+      header = draws.header;
+      proper = subst S (named_version v w ts draws.text.spelled) (sketch_proper v h text x.tokens w x.are draws.text.spelled good);
+      distinct = draws.distinct;
+      modest = sketch_modest v w (subst W (sym draws.text.spelled) draws.text.within);
+    }
+
+-- The canonical text of the drawing draws it, where that does not nest too deep.
+pub sketch_draws : (h : Header) (s : Sketch) → IsDrawnSketch h s → (d : tree.Drawing) → drawing_of_sketch s ≡ d → IsShallowDrawing d → DrawsAgain (canonical d) d
+sketch_draws h s is d stands shallow =
+    let v = edition_by s.header.version in
+    let said = judged_ok s.header h is.header in
+    let may_be : IsHeader h = header_may_be s.header h is.header in
+    let known : Known v h s = record { header = said.0; version = said.1; may_be = may_be; proper = is.proper; distinct = is.distinct } in
+    let drawn : IsDrawnDrawing (drawing_of_sketch s) = sketch_drawn h s may_be is.header is.proper in
     let again_in = written_in (drawing_of_sketch s) in
-    let short : IsShortDrawing again_in (drawing_of_sketch s) = drawing_short s drawn (subst IsShallowDrawing (sym draws.stands) shallow) modest in
-    let has = canonical_has d (subst IsDrawnDrawing draws.stands drawn) in
-    let B : tree.Drawing → Type 0 = λ y. Are (lexemes (canonical d) has.tokens) (drawing_tokens y ++ end_of_text) in
-    let bares : Are (lexemes (canonical d) has.tokens) (drawing_tokens (drawing_of_sketch s) ++ end_of_text) = subst B (sym draws.stands) (are_bare (canonical d) has.tokens ∙ has.bare) in
+    let short : IsShortDrawing again_in (drawing_of_sketch s) = drawing_short s drawn (subst IsShallowDrawing (sym stands) shallow) is.modest in
+    let has = canonical_has d (subst IsDrawnDrawing stands drawn) in
     let us = lexemes (canonical d) has.tokens in
+    let B : tree.Drawing → Type 0 = λ y. Are us (drawing_tokens y ++ end_of_text) in
+    let bares : Are us (drawing_tokens (drawing_of_sketch s) ++ end_of_text) = subst B (sym stands) (are_bare (canonical d) has.tokens ∙ has.bare) in
     let built = text_built again_in (drawing_of_sketch s) short us bares in
     let edition : again_in ≡ edition_of us =
     ap edition_by (sym built.again.version) ∙ sym (named_version again_in built.written us built.spelled) in
     let T : Edition → Type 0 = λ e. TextBuilt e (drawing_of_sketch s) us in
     drawn_again v h s known (canonical d) has.tokens has.are (subst T edition built)
-    (text_names v h (drawing_of_sketch s) proper.name proper.consts.constants proper.macros.macros proper.body proper.cases (lexemes (canonical d) has.tokens) bares) d (sym draws.stands)
+    (text_names v h (drawing_of_sketch s) is.proper.name is.proper.consts.constants is.proper.macros.macros is.proper.body is.proper.cases us bares) d (sym stands)
+
+pub law : CanonicalDraws
+law text d x shallow = sketch_draws d.header (values x.draws.written).0 (drawn_sketch text d x) d x.draws.stands shallow

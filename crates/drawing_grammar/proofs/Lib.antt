@@ -66,6 +66,7 @@ pub mod GoodNames
 pub mod SameNames
 pub mod SameNamesText
 pub mod Again
+pub mod Reordered
 pub mod Decided
 pub mod SpelledNames
 pub mod SameKeys

@@ -1,20 +1,13 @@
 -- Drawings that differ in the order in which uses have their input connections, the second of version 2.
-use Rattle.std.specs.Prelude.{◌≡◌, ℕ, List, [], ◌∷◌, length, ⊤}
-use Rattle.std.specs.List.{All}
-use Rattle.drawing_tree.specs.Tree.{Connection, UseStatement, Statement, Use, Wire, If, For, Statements, nil, cons, Otherwise, no_else, else_, Macro, Drawing}
+use Rattle.std.specs.Prelude.{◌≡◌, ℕ, List, [], ◌∷◌, All, Contains, ⊤}
+use Rattle.drawing_tree.specs.Tree.{UseStatement, Statement, Use, Wire, If, For, Statements, nil, cons, Otherwise, no_else, else_, Macro, Drawing}
 use Rattle.drawing_tree.specs.Canonical.{canonical}
 use Rattle.drawing_grammar.specs.CanonicalDraws.{TextDraws, IsShallowDrawing, DrawsAgain}
 
--- it is one of them
-pub data IsAmong {A : Type 0} : A → List A → Type 0 where
-  here : {x : A} {xs : List A} → IsAmong x (x ∷ xs)
-  later : {x y : A} {xs : List A} → IsAmong x xs → IsAmong x (y ∷ xs)
-
--- the same use but for the order of its input connections
+-- the same use, with input connections of the first in whatever order
 pub record IsReorderedUse (u v : UseStatement) : Type 0 where
   pub rest : record v { ins = u.ins } ≡ u
-  pub count : length v.ins ≡ length u.ins
-  pub ins : All (λ (c : Connection). IsAmong c u.ins) v.ins
+  pub ins : All (Contains u.ins) v.ins
 
 abbrev mutual
   pub IsReorderedStatement : Statement → Statement → Type 0
