@@ -183,13 +183,13 @@ abbrev pub for_layer : ForStmt-F Statement Statement Statement → Statement
 for_layer s = For s.var (expression_of s.first) (expression_of s.last) (listed s.body.items) s.place
 
 abbrev pub statement_of : Stmt → Statement
-statement_of = fold-Stmt Statement Statement Statement statement_layer if_layer for_layer
+statement_of = fold-Stmt Statement Statement Statement statement_layer for_layer if_layer
 
 abbrev pub if_of : IfStmt → Statement
-if_of = fold-IfStmt Statement Statement Statement statement_layer if_layer for_layer
+if_of = fold-IfStmt Statement Statement Statement statement_layer for_layer if_layer
 
 abbrev pub for_of : ForStmt → Statement
-for_of = fold-ForStmt Statement Statement Statement statement_layer if_layer for_layer
+for_of = fold-ForStmt Statement Statement Statement statement_layer for_layer if_layer
 
 abbrev pub statements_of : List Stmt → Statements
 statements_of ss = listed (map statement_of ss)

@@ -152,19 +152,28 @@ fn add_if_line(out: &mut Bytes, margin: &[u8], test: &Expr) -> Result<(), NoMemo
     out.extend(b" THEN\n")
 }
 
-/// Puts the first line of a FOR at the end.
-fn add_for_line(out: &mut Bytes, margin: &[u8], repeated: &ForStmt) -> Result<(), NoMemory>
-    ensures { OnOk result (out.new ≡ out.old ++ line margin.now
-        (for_text repeated.now.var (expression_of repeated.now.first) (expression_of repeated.now.last))) }
+/// Puts what stands in the first line of a FOR at the end.
+fn add_for_head(out: &mut Bytes, repeated: &ForStmt) -> Result<(), NoMemory>
+    ensures { OnOk result (out.new ≡ out.old
+        ++ for_text repeated.now.var (expression_of repeated.now.first) (expression_of repeated.now.last)) }
 {
-    out.extend(margin)?;
     out.extend(b"FOR ")?;
     out.extend(repeated.var.as_slice())?;
     out.extend(b" = ")?;
     add_sum(out, &repeated.first)?;
     out.extend(b" TO ")?;
     add_sum(out, &repeated.last)?;
-    out.extend(b" DO\n")
+    out.extend(b" DO")
+}
+
+/// Puts the first line of a FOR at the end.
+fn add_for_line(out: &mut Bytes, margin: &[u8], repeated: &ForStmt) -> Result<(), NoMemory>
+    ensures { OnOk result (out.new ≡ out.old ++ line margin.now
+        (for_text repeated.now.var (expression_of repeated.now.first) (expression_of repeated.now.last))) }
+{
+    out.extend(margin)?;
+    add_for_head(out, repeated)?;
+    out.extend(b"\n")
 }
 
 /// The margin of what an IF or a FOR holds.
