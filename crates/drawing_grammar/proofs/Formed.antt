@@ -94,8 +94,8 @@ module _ (G : SignalName → Type 0) (k : (n : SignalName) → G n → IsName n)
   case_drawn : (c : CaseStmt) → IsCaseOf G c → drawn.IsDrawnCase c
   case_drawn c a = record { some = a.some; entries = all_map (IsEntryOf G) drawn.IsDrawnEntry entry_drawn c.entries a.entries }
 
-  pub macros_drawn : (ms : List tree.Macro) → AllByRecursion (IsMacroOf G v) ms → AllByRecursion drawn.IsDrawnMacro v ms
-  macros_drawn ms a = all_map (IsMacroOf G v) drawn.IsDrawnMacro v macro_drawn ms a
+  pub macros_drawn : (ms : List tree.Macro) → AllByRecursion (IsMacroOf G v) ms → AllByRecursion (drawn.IsDrawnMacro v) ms
+  macros_drawn ms a = all_map (IsMacroOf G v) (drawn.IsDrawnMacro v) macro_drawn ms a
 
   pub body_drawn : (ss : tree.Statements) → AreStatementsOf G v ss → drawn.AreDrawn v ss
   body_drawn ss a = statements_drawn ss a

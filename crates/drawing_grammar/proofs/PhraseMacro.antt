@@ -126,7 +126,7 @@ macro_built edition m is ts are rest w =
     let t = single a4.first (leaf.word (codes "MACRO")) a4.front in
     let n = single a4.second (leaf.word m.name) a4.back in
     let s = single a0.second (bare_symbol 59) a0.back in
-    let opens : terminal t.token ≡ g.opening g.macro = terminal_is t.token (leaf.word (codes "MACRO")) t.is in
+    let opens : terminal t.token ≡ g.opening (g.macro {v = edition}) = terminal_is t.token (leaf.word (codes "MACRO")) t.is in
     let ends : terminal s.token ≡ Semicolon = terminal_is s.token (bare_symbol 59) s.is in
     let body = body_built edition m.body is.body a.second a.back rest w in
     let outs = formal_outputs_built m.outs is.outs a1.second a1.back (mark Semicolon ∷ group (Statements edition) 0 ∷ mark End ∷ mark Semicolon ∷ rest) (marked s.token ends body.written) in
@@ -140,7 +140,7 @@ macro_built edition m is ts are rest w =
     0 ∷ mark Semicolon ∷ group (Statements edition) 0 ∷ mark End ∷ mark Semicolon ∷ rest)). y.1) e1 ∙ ins.others in
     let e3 : v.1.1.1 ≡ values body.written = ap (λ (y : Values (part FormalOutputs 0 ∷ mark Semicolon ∷ group (Statements edition) 0 ∷ mark End ∷ mark Semicolon ∷ rest)). y.1) e2 ∙ outs.others in
     record {
-      written = chosen g.macro t.token opens (token n.token (word_is_free n.token m.name n.is is.name) params.written);
+      written = chosen (g.macro {v = edition}) t.token opens (token n.token (word_is_free n.token m.name n.is is.name) params.written);
       spelled =
           ap (λ (us : List Lexeme). t.token ∷ n.token ∷ us)
           (params.spelled ∙ ap (λ (us : List Lexeme). a3.second ++ us)

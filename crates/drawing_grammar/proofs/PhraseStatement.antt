@@ -139,7 +139,7 @@ wire_built edition x is n ts are rest w =
     let m = single a5.first (leaf.name (name_text x.name)) a5.front in
     let c = single a3.second (bare_symbol 58) a3.back in
     let s = single a0.second (bare_symbol 59) a0.back in
-    let opens : terminal t.token ≡ g.opening g.wire = terminal_is t.token (leaf.word (codes "WIRE")) t.is in
+    let opens : terminal t.token ≡ g.opening (g.wire {v = edition}) = terminal_is t.token (leaf.word (codes "WIRE")) t.is in
     let names : terminal m.token ≡ Name = terminal_is m.token (leaf.name (name_text x.name)) m.is in
     let colons : terminal c.token ≡ Colon = terminal_is c.token (bare_symbol 58) c.is in
     let ends : terminal s.token ≡ Semicolon = terminal_is s.token (bare_symbol 59) s.is in
@@ -151,7 +151,7 @@ wire_built edition x is n ts are rest w =
     let e2 : v.1.1 ≡ values high.written = ap (λ (y : Values (fresh ∷ group Sum 0 ∷ mark Colon ∷ fresh ∷ group Sum 0 ∷ mark Semicolon ∷ rest)). y.1) e1 ∙ low.others in
     let found : tree.WireStatement = record { name = signal_of m.token; range = v.0; min = v.1.0; max = v.1.1.0; place = t.token.place } in
     record {
-      written = chosen g.wire t.token opens (token m.token names range.written);
+      written = chosen (g.wire {v = edition}) t.token opens (token m.token names range.written);
       spelled = ap (λ (us : List Lexeme). t.token ∷ m.token ∷ us) (range.spelled
           ∙ ap (λ (us : List Lexeme). a5.second ++ us) (low.spelled ∙ ap (λ (us : List Lexeme). a3.first ++ c.token ∷ us) high.spelled))
           ∙ wire_spelled ts a0.first a0.second a1.first a1.second a2.first a2.second a3.first a3.second a4.first a4.second a5.first a5.second
@@ -181,6 +181,82 @@ for_spelled ts z0 ends z1 inside h0 dos h1 last h2 tos h3 first h4 eqs fors vars
     ∙ (append_assoc (first ++ o ∷ []) last (d ∷ (inside ++ k ∷ s ∷ rest))
     ∙ append_assoc first (o ∷ []) (last ++ d ∷ (inside ++ k ∷ s ∷ rest))))))))
 
+-- a FOR, where its statements are built so
+for_built : (var : List ℕ) (first last : Expression) (ss : tree.Statements) (place : Place) (n : ℕ) → suc n ≤ limit →
+    IsFreeWord var → IsShort first → IsShort last →
+    ((us : List Lexeme) → Are us (statements_tokens ss) → (later : List Need) (x : Written later) → StatementsBuilt Second ss (suc n) us later x) →
+    (ts : List Lexeme) → Are ts (statement_tokens (tree.For var first last ss place)) → (rest : List Need) (w : Written rest) →
+    StatementBuilt Second (tree.For var first last ss place) n ts rest w
+unfolding statement_tokens symbol_terminal word_terminal
+for_built var first last ss place n room free low_is high_is inside ts are rest w =
+    let q4 = word (codes "FOR") ++ word var in
+    let q3 = q4 ++ equals in
+    let q2 = q3 ++ sum_tokens first in
+    let q1 = q2 ++ word (codes "TO") in
+    let q0 = q1 ++ sum_tokens last in
+    let a0 = parts ts (for_tokens var first last ++ statements_tokens ss) end_tokens are in
+    let a1 = parts a0.first (for_tokens var first last) (statements_tokens ss) a0.front in
+    let h0 = parts a1.first q0 (word (codes "DO")) a1.front in
+    let h1 = parts h0.first q1 (sum_tokens last) h0.front in
+    let h2 = parts h1.first q2 (word (codes "TO")) h1.front in
+    let h3 = parts h2.first q3 (sum_tokens first) h2.front in
+    let h4 = parts h3.first q4 equals h3.front in
+    let h5 = parts h4.first (word (codes "FOR")) (word var) h4.front in
+    let a5 = parts a0.second (word (codes "END")) semicolon a0.back in
+    let t = single h5.first (leaf.word (codes "FOR")) h5.front in
+    let m = single h5.second (leaf.word var) h5.back in
+    let q = single h4.second (bare_symbol 61) h4.back in
+    let o = single h2.second (leaf.word (codes "TO")) h2.back in
+    let d = single h0.second (leaf.word (codes "DO")) h0.back in
+    let k = single a5.first (leaf.word (codes "END")) a5.front in
+    let s = single a5.second (bare_symbol 59) a5.back in
+    let opens : terminal t.token ≡ Word = terminal_is t.token (leaf.word (codes "FOR")) t.is in
+    let equal : terminal q.token ≡ Equals = terminal_is q.token (bare_symbol 61) q.is in
+    let tos : terminal o.token ≡ Word = terminal_is o.token (leaf.word (codes "TO")) o.is in
+    let dos : terminal d.token ≡ Word = terminal_is d.token (leaf.word (codes "DO")) d.is in
+    let ends : terminal k.token ≡ End = terminal_is k.token (leaf.word (codes "END")) k.is in
+    let stops : terminal s.token ≡ Semicolon = terminal_is s.token (bare_symbol 59) s.is in
+    let after : List Need = mark End ∷ mark Semicolon ∷ rest in
+    let body : List Need = keyword Do ∷ group (Statements Second) (suc n) ∷ after in
+    let b = inside a1.second a1.back after (marked k.token ends (marked s.token stops w)) in
+    let high = own_sum last high_is h1.second h1.back body (worded d.token dos (text_is d.token (leaf.word (codes "DO")) d.is) b.written) in
+    let low = own_sum first low_is h3.second h3.back (keyword To ∷ fresh ∷ group Sum 0 ∷ body)
+    (worded o.token tos (text_is o.token (leaf.word (codes "TO")) o.is) high.written) in
+    let v = values low.written in
+    let e1 : v.1 ≡ values high.written = low.others in
+    let e2 : v.1.1 ≡ values b.written = ap (λ (y : Values (fresh ∷ group Sum 0 ∷ body)). y.1) e1 ∙ high.others in
+    let e3 : v.1.1.1 ≡ values w = ap (λ (y : Values (group (Statements Second) (suc n) ∷ after)). y.1) e2 ∙ b.others in
+    record {
+      written = chosen g.for_ t.token (opens, text_is t.token (leaf.word (codes "FOR")) t.is)
+          (token m.token (word_is_free m.token var m.is free) (marked q.token equal low.written));
+      spelled = ap (λ (us : List Lexeme). t.token ∷ m.token ∷ q.token ∷ us) (low.spelled
+          ∙ ap (λ (us : List Lexeme). h3.second ++ o.token ∷ us) (high.spelled ∙ ap (λ (us : List Lexeme). h1.second ++ d.token ∷ us) b.spelled))
+          ∙ for_spelled ts a0.first a0.second a1.first a1.second h0.first h0.second h1.first h1.second h2.first h2.second h3.first h3.second
+          h4.first h4.second h5.first h5.second a5.first a5.second
+          t.token m.token q.token o.token d.token k.token s.token (spelling w)
+          a0.whole a1.whole h0.whole h1.whole h2.whole h3.whole h4.whole h5.whole a5.whole t.whole m.whole q.whole o.whole d.whole k.whole s.whole;
+      stands = for_stands var m.token.text first v.0 last v.1.0 ss v.1.1.0 place t.token.place (text_is m.token (leaf.word var) m.is) low.stands
+          (ap (λ (y : Values (fresh ∷ group Sum 0 ∷ body)). y.0) e1 ∙ high.stands)
+          (ap (λ (y : Values (group (Statements Second) (suc n) ∷ after)). unplaced_statements y.0) e2 ∙ b.stands);
+      others = e3;
+      fits = λ f a. (
+        room,
+        (
+          omega arith,
+          (
+            omega arith,
+            low.fits (λ i. (
+              omega arith,
+              high.fits (λ j. (
+                omega arith,
+                b.fits (λ l. (omega arith, (omega arith, f l))) j,
+              )) i,
+            )) a,
+          ),
+        ),
+      );
+    }
+
 mutual
   unfolding statement_tokens symbol_terminal word_terminal
 
@@ -204,7 +280,7 @@ mutual
       let h = single a3.second (leaf.word (codes "THEN")) a3.back in
       let k = single a5.first (leaf.word (codes "END")) a5.front in
       let s = single a5.second (bare_symbol 59) a5.back in
-      let opens : terminal t.token ≡ g.opening g.if_ = terminal_is t.token (leaf.word (codes "IF")) t.is in
+      let opens : terminal t.token ≡ g.opening (g.if_ {v = edition}) = terminal_is t.token (leaf.word (codes "IF")) t.is in
       let thens : terminal h.token ≡ Then = terminal_is h.token (leaf.word (codes "THEN")) h.is in
       let ends : terminal k.token ≡ End = terminal_is k.token (leaf.word (codes "END")) k.is in
       let stops : terminal s.token ≡ Semicolon = terminal_is s.token (bare_symbol 59) s.is in
@@ -218,7 +294,7 @@ mutual
       let e2 : v.1.1 ≡ values o.written = ap (λ (y : Values (group (Statements edition) (suc n) ∷ part (Otherwise edition) (suc n) ∷ mark End ∷ mark Semicolon ∷ rest)). y.1) e1 ∙ b.others in
       let e3 : v.1.1.1 ≡ values w = ap (λ (y : Values (part (Otherwise edition) (suc n) ∷ mark End ∷ mark Semicolon ∷ rest)). y.1) e2 ∙ o.others in
       record {
-        written = chosen g.if_ t.token opens c.written;
+        written = chosen (g.if_ {v = edition}) t.token opens c.written;
         spelled = ap (λ (us : List Lexeme). t.token ∷ us) (c.spelled ∙ ap (λ (us : List Lexeme). a4.second ++ h.token ∷ us) (b.spelled ∙ ap (λ (us : List Lexeme). a2.second ++ us) o.spelled))
             ∙ if_spelled ts a0.first a0.second a1.first a1.second a2.first a2.second a3.first a3.second a4.first a4.second a5.first a5.second
             t.token h.token k.token s.token (spelling w) a0.whole a1.whole a2.whole a3.whole a4.whole a5.whole t.whole h.whole k.whole s.whole;
@@ -231,80 +307,9 @@ mutual
   statement_built edition (tree.For var first last ss place) n is ts are rest w =
       let F : Edition → Type 0 = λ e. StatementBuilt e (tree.For var first last ss place) n ts rest w in
       let S : Edition → Type 0 = λ e. AreShort e (suc n) ss in
-      subst F (sym is.0) (for_built var first last ss place n is.1 is.2 is.3 is.4 (subst S is.0 is.5) ts are rest w)
-
-  for_built : (var : List ℕ) (first last : Expression) (ss : tree.Statements) (place : Place) (n : ℕ) → suc n ≤ limit →
-      IsFreeWord var → IsShort first → IsShort last → AreShort Second (suc n) ss → (ts : List Lexeme) →
-      Are ts (statement_tokens (tree.For var first last ss place)) → (rest : List Need) (w : Written rest) →
-      StatementBuilt Second (tree.For var first last ss place) n ts rest w
-  for_built var first last ss place n room free low_is high_is short ts are rest w =
-      let q4 = word (codes "FOR") ++ word var in
-      let q3 = q4 ++ equals in
-      let q2 = q3 ++ sum_tokens first in
-      let q1 = q2 ++ word (codes "TO") in
-      let q0 = q1 ++ sum_tokens last in
-      let a0 = parts ts (for_tokens var first last ++ statements_tokens ss) end_tokens are in
-      let a1 = parts a0.first (for_tokens var first last) (statements_tokens ss) a0.front in
-      let h0 = parts a1.first q0 (word (codes "DO")) a1.front in
-      let h1 = parts h0.first q1 (sum_tokens last) h0.front in
-      let h2 = parts h1.first q2 (word (codes "TO")) h1.front in
-      let h3 = parts h2.first q3 (sum_tokens first) h2.front in
-      let h4 = parts h3.first q4 equals h3.front in
-      let h5 = parts h4.first (word (codes "FOR")) (word var) h4.front in
-      let a5 = parts a0.second (word (codes "END")) semicolon a0.back in
-      let t = single h5.first (leaf.word (codes "FOR")) h5.front in
-      let m = single h5.second (leaf.word var) h5.back in
-      let q = single h4.second (bare_symbol 61) h4.back in
-      let o = single h2.second (leaf.word (codes "TO")) h2.back in
-      let d = single h0.second (leaf.word (codes "DO")) h0.back in
-      let k = single a5.first (leaf.word (codes "END")) a5.front in
-      let s = single a5.second (bare_symbol 59) a5.back in
-      let opens : terminal t.token ≡ Word = terminal_is t.token (leaf.word (codes "FOR")) t.is in
-      let equal : terminal q.token ≡ Equals = terminal_is q.token (bare_symbol 61) q.is in
-      let tos : terminal o.token ≡ Word = terminal_is o.token (leaf.word (codes "TO")) o.is in
-      let dos : terminal d.token ≡ Word = terminal_is d.token (leaf.word (codes "DO")) d.is in
-      let ends : terminal k.token ≡ End = terminal_is k.token (leaf.word (codes "END")) k.is in
-      let stops : terminal s.token ≡ Semicolon = terminal_is s.token (bare_symbol 59) s.is in
-      let after : List Need = mark End ∷ mark Semicolon ∷ rest in
-      let body : List Need = keyword Do ∷ group (Statements Second) (suc n) ∷ after in
-      let b = statements_built Second ss (suc n) short a1.second a1.back after (marked k.token ends (marked s.token stops w)) in
-      let high = own_sum last high_is h1.second h1.back body (worded d.token dos (text_is d.token (leaf.word (codes "DO")) d.is) b.written) in
-      let low = own_sum first low_is h3.second h3.back (keyword To ∷ fresh ∷ group Sum 0 ∷ body)
-      (worded o.token tos (text_is o.token (leaf.word (codes "TO")) o.is) high.written) in
-      let v = values low.written in
-      let e1 : v.1 ≡ values high.written = low.others in
-      let e2 : v.1.1 ≡ values b.written = ap (λ (y : Values (fresh ∷ group Sum 0 ∷ body)). y.1) e1 ∙ high.others in
-      let e3 : v.1.1.1 ≡ values w = ap (λ (y : Values (group (Statements Second) (suc n) ∷ after)). y.1) e2 ∙ b.others in
-      record {
-        written = chosen g.for_ t.token (opens, text_is t.token (leaf.word (codes "FOR")) t.is)
-            (token m.token (word_is_free m.token var m.is free) (marked q.token equal low.written));
-        spelled = ap (λ (us : List Lexeme). t.token ∷ m.token ∷ q.token ∷ us) (low.spelled
-            ∙ ap (λ (us : List Lexeme). h3.second ++ o.token ∷ us) (high.spelled ∙ ap (λ (us : List Lexeme). h1.second ++ d.token ∷ us) b.spelled))
-            ∙ for_spelled ts a0.first a0.second a1.first a1.second h0.first h0.second h1.first h1.second h2.first h2.second h3.first h3.second
-            h4.first h4.second h5.first h5.second a5.first a5.second
-            t.token m.token q.token o.token d.token k.token s.token (spelling w)
-            a0.whole a1.whole h0.whole h1.whole h2.whole h3.whole h4.whole h5.whole a5.whole t.whole m.whole q.whole o.whole d.whole k.whole s.whole;
-        stands = for_stands var m.token.text first v.0 last v.1.0 ss v.1.1.0 place t.token.place (text_is m.token (leaf.word var) m.is) low.stands
-            (ap (λ (y : Values (fresh ∷ group Sum 0 ∷ body)). y.0) e1 ∙ high.stands)
-            (ap (λ (y : Values (group (Statements Second) (suc n) ∷ after)). unplaced_statements y.0) e2 ∙ b.stands);
-        others = e3;
-        fits = λ f a. (
-          room,
-          (
-            omega arith,
-            (
-              omega arith,
-              low.fits (λ i. (
-                omega arith,
-                high.fits (λ j. (
-                  omega arith,
-                  b.fits (λ l. (omega arith, (omega arith, f l))) j,
-                )) i,
-              )) a,
-            ),
-          ),
-        );
-      }
+      let short : AreShort Second (suc n) ss = subst S is.0 is.5 in
+      subst F (sym is.0) (for_built var first last ss place n is.1 is.2 is.3 is.4
+      (λ us a later x. statements_built Second ss (suc n) short us a later x) ts are rest w)
 
   pub statements_built : (v : Edition) (ss : tree.Statements) (n : ℕ) → AreShort v n ss → (ts : List Lexeme) → Are ts (statements_tokens ss) →
       (rest : List Need) (w : Written rest) → StatementsBuilt v ss n ts rest w
@@ -333,10 +338,10 @@ mutual
   otherwise_built edition (tree.else_ ss) n is ts are rest w =
       let two = parts ts (word (codes "ELSE")) (statements_tokens ss) are in
       let t = single two.first (leaf.word (codes "ELSE")) two.front in
-      let opens : terminal t.token ≡ g.opening g.else_ = terminal_is t.token (leaf.word (codes "ELSE")) t.is in
+      let opens : terminal t.token ≡ g.opening (g.else_ {v = edition}) = terminal_is t.token (leaf.word (codes "ELSE")) t.is in
       let b = statements_built edition ss n is two.second two.back rest w in
       record {
-        written = chosen g.else_ t.token opens b.written;
+        written = chosen (g.else_ {v = edition}) t.token opens b.written;
         spelled = ap (λ (us : List Lexeme). t.token ∷ us) b.spelled ∙ spelled_one ts two.first two.second t.token (spelling w) two.whole t.whole;
         stands = ap (λ (x : tree.Statements). tree.else_ x) b.stands;
         others = b.others;

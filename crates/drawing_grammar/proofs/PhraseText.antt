@@ -152,11 +152,13 @@ text_written Second t e w = chosen (g.text {v = Second}) t e w
 
 text_spells : (v : Edition) (t : Lexeme) (e : terminal t ≡ is.Scald) (w : Written (header_needs (constants v (from_macros v)))) →
     spelling (text_written v t e w) ≡ t ∷ spelling w
+unfolding text_written
 text_spells First t e w = refl
 text_spells Second t e w = refl
 
 text_fits : (v : Edition) (t : Lexeme) (e : terminal t ≡ is.Scald) (w : Written (header_needs (constants v (from_macros v)))) →
     Fits w 0 → Fits (text_written v t e w) 0
+unfolding text_written
 text_fits First t e w f = (omega arith, f)
 text_fits Second t e w f = (omega arith, f)
 
@@ -183,6 +185,7 @@ sketch_by v t x =
 
 text_values : (v : Edition) (t : Lexeme) (e : terminal t ≡ is.Scald) (w : Written (header_needs (constants v (from_macros v)))) →
     (values (text_written v t e w)).0 ≡ sketch_by v t (values w)
+unfolding text_written
 text_values First t e w = refl
 text_values Second t e w = refl
 

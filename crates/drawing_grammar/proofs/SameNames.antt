@@ -25,7 +25,7 @@ use Rattle.drawing_grammar.specs.Names.{naming, names_at, head_behind, names_fro
 use Rattle.drawing_grammar.specs.Sketch.{unquoted}
 use Rattle.drawing_grammar.proofs.Cutting.{Bare}
 use Rattle.drawing_grammar.proofs.Leaves as leaf
-use Rattle.drawing_grammar.proofs.CanonicalTokens.{word, for_tokens, constant_tokens, number, semicolon, colon, comma, ampersand, less, greater, open_parenthesis, close_parenthesis, open_bracket, close_bracket, open_brace, close_brace, arrow, end_of_text, enclosed_tokens, op_tokens, condition_tokens, sum_tokens, bounds_tokens, last_tokens, range_tokens, signal_tokens, item_tokens, minus_tokens, term_tokens, hold_tokens, connection_tokens, listed_tokens, inputs_tokens, outputs_tokens, assignment_tokens, params_tokens, fall_tokens, delay_tokens, use_tokens, wire_tokens, end_tokens, statement_tokens, statements_tokens, else_tokens, body_tokens, pair_tokens, header_tokens, formal_tokens, entry_tokens, case_tokens}
+use Rattle.drawing_grammar.proofs.CanonicalTokens.{word, for_tokens, constant_tokens, number, semicolon, colon, comma, ampersand, less, greater, open_parenthesis, close_parenthesis, open_bracket, close_bracket, open_brace, close_brace, arrow, equals, end_of_text, enclosed_tokens, op_tokens, condition_tokens, sum_tokens, bounds_tokens, last_tokens, range_tokens, signal_tokens, item_tokens, minus_tokens, term_tokens, hold_tokens, connection_tokens, listed_tokens, inputs_tokens, outputs_tokens, assignment_tokens, params_tokens, fall_tokens, delay_tokens, use_tokens, wire_tokens, end_tokens, statement_tokens, statements_tokens, else_tokens, body_tokens, pair_tokens, header_tokens, formal_tokens, entry_tokens, case_tokens}
 use Rattle.drawing_grammar.proofs.Drawable.{IsDrawn, IsDrawnRange, IsDrawnAssignment, IsDrawnFormal}
 use Rattle.drawing_grammar.proofs.Matching.{bare, free_word}
 use Rattle.drawing_grammar.proofs.GoodNames.{good_both}
@@ -341,8 +341,8 @@ module _ (h : Header) where
   constant : (c : tree.Assignment) → IsDrawnAssignment c → AreCalm h false (constant_tokens c)
   unfolding word_terminal symbol_terminal
   constant c p =
-      let front = (other false _ terminal.Word refl refl refl, (free false c.name p.name, (other false _ terminal.Equals refl refl refl, sum false c.value p.value))) in
-      joined false (word (codes "CONST") ++ word c.name ++ equals ++ sum_tokens c.value) semicolon front stop
+      joined false (word (codes "CONST") ++ word c.name ++ equals ++ sum_tokens c.value) semicolon
+      (other false _ terminal.Word refl refl refl, (free false c.name p.name, (other false _ terminal.Equals refl refl refl, sum false c.value p.value))) stop
 
   pub constants : (cs : List tree.Assignment) → AllByRecursion IsDrawnAssignment cs → AreCalm h false (flat_map constant_tokens cs)
   constants cs p = one_by false IsDrawnAssignment constant_tokens constant cs p
