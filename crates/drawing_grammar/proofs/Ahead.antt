@@ -99,37 +99,37 @@ label_cost g.PrecisionSkew t ts c e f h n a = word_cost g.PrecisionSkew (termina
 label_cost g.ClockSkew t ts c e f h n a = word_cost g.ClockSkew (terminal t) c e h n a
 label_cost (g.Text v) t ts c e f h n a = word_cost (g.Text v) (terminal t) c e h n a
 
-light_if : {needs later : List Need} (a : ℕ) (f : Values later → Values needs) (b : Bool) →
+light_if : (needs later : List Need) (a : ℕ) (f : Values later → Values needs) (b : Bool) →
     IsLight {needs = needs} (if b then Next later a 0 f else Stuck)
-light_if a f true = refl
-light_if a f false = tt
+light_if needs later a f true = refl
+light_if needs later a f false = tt
 
-passed_light : {needs later : List Need} (s : Step later) (f : Values later → Values needs) → IsLight s →
+passed_light : (needs : List Need) {later : List Need} (s : Step later) (f : Values later → Values needs) → IsLight s →
     IsLight {needs = needs} (passed s f)
-passed_light (Next later a m build) f h = h
-passed_light Stuck f h = tt
+passed_light needs (Next later a m build) f h = h
+passed_light needs Stuck f h = tt
 
 entered_light : (p : Part) (n : ℕ) (rest : List Need) (a : ℕ) (t : Lexeme) (o : Option (Choice p)) (absent : Option (Meaning p))
     (s : Step rest) → ((c : Choice p) → o ≡ Some c → weight (cost c) n a ≡ 0) → IsLight s → IsLight (entered p n rest a t o absent s)
 entered_light p n rest a t (Some c) absent s h l = h c refl
-entered_light p n rest a t None (Some v) s h l = passed_light s (λ w. (v, w)) l
+entered_light p n rest a t None (Some v) s h l = passed_light (part p n ∷ rest) s (λ w. (v, w)) l
 entered_light p n rest a t None None s h l = tt
 
 group_light : (i : Group) (n : ℕ) (rest : List Need) (a : ℕ) (t : Lexeme) (o : Option (Choice (lead i)))
     (absent : Option (GroupMeaning i)) (s : Step rest) → ((c : Choice (lead i)) → o ≡ Some c → weight (cost c) n a ≡ 0) →
     IsLight s → IsLight (group_entered i n rest a t o absent s)
 group_light i n rest a t (Some c) absent s h l = h c refl
-group_light i n rest a t None (Some v) s h l = passed_light s (λ w. (v, w)) l
+group_light i n rest a t None (Some v) s h l = passed_light (group i n ∷ rest) s (λ w. (v, w)) l
 group_light i n rest a t None None s h l = tt
 
 -- A word before a colon costs nothing.
 pub label_is_light : (needs : List Need) (a : ℕ) (t : Lexeme) (ts : List Lexeme) → terminal t ≡ is.Word →
     no_colon ts ≡ false → IsLight (step needs a t ts)
 label_is_light [] a t ts e f = tt
-label_is_light (mark l ∷ rest) a t ts e f = light_if a (λ v. v) (same (terminal t) l)
-label_is_light (item l ∷ rest) a t ts e f = light_if a (λ v. (t, v)) (same (terminal t) l)
-label_is_light (keyword x ∷ rest) a t ts e f = light_if a (λ v. v) (is_keyword x t)
-label_is_light (fresh ∷ rest) a t ts e f = passed_light (step rest 0 t ts) (λ v. v) (label_is_light rest 0 t ts e f)
+label_is_light (mark l ∷ rest) a t ts e f = light_if (mark l ∷ rest) rest a (λ v. v) (same (terminal t) l)
+label_is_light (item l ∷ rest) a t ts e f = light_if (item l ∷ rest) rest a (λ v. (t, v)) (same (terminal t) l)
+label_is_light (keyword x ∷ rest) a t ts e f = light_if (keyword x ∷ rest) rest a (λ v. v) (is_keyword x t)
+label_is_light (fresh ∷ rest) a t ts e f = passed_light (fresh ∷ rest) (step rest 0 t ts) (λ v. v) (label_is_light rest 0 t ts e f)
 label_is_light (part p n ∷ rest) a t ts e f = entered_light p n rest a t (choice_at p t ts) (absent_value p) (step rest a t ts)
     (λ c h. label_cost p t ts c e f h n a) (label_is_light rest a t ts e f)
 label_is_light (group i n ∷ rest) a t ts e f = group_light i n rest a t (choice_at (lead i) t ts) (absent_group i)
@@ -146,22 +146,22 @@ stuck_by true absent rest = false
 stuck_by false true rest = rest
 stuck_by false false rest = true
 
-passed_stuck : {needs later : List Need} (s : Step later) (f : Values later → Values needs) →
+passed_stuck : (needs : List Need) {later : List Need} (s : Step later) (f : Values later → Values needs) →
     is_stuck {needs = needs} (passed s f) ≡ is_stuck s
-passed_stuck (Next later a m build) f = refl
-passed_stuck Stuck f = refl
+passed_stuck needs (Next later a m build) f = refl
+passed_stuck needs Stuck f = refl
 
 entered_stuck : (p : Part) (n : ℕ) (rest : List Need) (a : ℕ) (t : Lexeme) (o : Option (Choice p)) (absent : Option (Meaning p))
     (s : Step rest) → is_stuck (entered p n rest a t o absent s) ≡ stuck_by (is_some o) (is_some absent) (is_stuck s)
 entered_stuck p n rest a t (Some c) absent s = refl
-entered_stuck p n rest a t None (Some v) s = passed_stuck s (λ w. (v, w))
+entered_stuck p n rest a t None (Some v) s = passed_stuck (part p n ∷ rest) s (λ w. (v, w))
 entered_stuck p n rest a t None None s = refl
 
 group_stuck : (i : Group) (n : ℕ) (rest : List Need) (a : ℕ) (t : Lexeme) (o : Option (Choice (lead i)))
     (absent : Option (GroupMeaning i)) (s : Step rest) →
     is_stuck (group_entered i n rest a t o absent s) ≡ stuck_by (is_some o) (is_some absent) (is_stuck s)
 group_stuck i n rest a t (Some c) absent s = refl
-group_stuck i n rest a t None (Some v) s = passed_stuck s (λ w. (v, w))
+group_stuck i n rest a t None (Some v) s = passed_stuck (group i n ∷ rest) s (λ w. (v, w))
 group_stuck i n rest a t None None s = refl
 
 loop_or_use : (t : Lexeme) (b : Bool) →
@@ -189,8 +189,8 @@ stuck_alike (mark l ∷ rest) a t ts zs = refl
 stuck_alike (item l ∷ rest) a t ts zs = refl
 stuck_alike (keyword x ∷ rest) a t ts zs = refl
 stuck_alike (fresh ∷ rest) a t ts zs =
-    passed_stuck {needs = fresh ∷ rest} (step rest 0 t ts) (λ v. v)
-    ∙ (stuck_alike rest 0 t ts zs ∙ sym (passed_stuck {needs = fresh ∷ rest} (step rest 0 t zs) (λ v. v)))
+    passed_stuck (fresh ∷ rest) (step rest 0 t ts) (λ v. v)
+    ∙ (stuck_alike rest 0 t ts zs ∙ sym (passed_stuck (fresh ∷ rest) (step rest 0 t zs) (λ v. v)))
 stuck_alike (part p n ∷ rest) a t ts zs =
     entered_stuck p n rest a t (choice_at p t ts) (absent_value p) (step rest a t ts)
     ∙ (ap (λ (b : Bool). stuck_by b (is_some (absent_value p)) (is_stuck (step rest a t ts))) (some_alike p t ts zs)
@@ -252,7 +252,7 @@ is_that_word t (u ∷ us) e = e.0
 -- A token that is beyond a limit in something written, and no label here, is beyond it here.
 pub heavy : {needs : List Need} (w : Written needs) (a : ℕ) (t : Lexeme) (ts zs : List Lexeme) → Chained needs →
     spelling w ≡ t ∷ zs → Beyond [] (weights w a) → (MayBeLabel t ts → ⊥) → IsHeavy (step needs a t ts)
-heavy {needs} w a t ts zs c e far no = one (is_keyword For t) refl (no_colon ts) refl (no_colon zs) refl
+heavy {needs} w a t ts zs c e far unlabelled = one (is_keyword For t) refl (no_colon ts) refl (no_colon zs) refl
   where
     own : IsHeavy (step needs a t zs)
     own = forces_heavy w a zs (step needs a t zs) (forced w a t zs zs refl c e) far
@@ -266,7 +266,7 @@ heavy {needs} w a t ts zs c e far no = one (is_keyword For t) refl (no_colon ts)
     one true h true f true i = from (λ p. same_choice p t zs ts (i ∙ sym f))
     one true h true f false i = absurd (light_not_heavy (step needs a t zs)
         (label_is_light needs a t zs (keyword_is For t h).0 i) own)
-    one true h false f d i = absurd (no (label_behind t ts (keyword_is For t h).0 f))
+    one true h false f d i = absurd (unlabelled (label_behind t ts (keyword_is For t h).0 f))
 
 -- the head of what stands behind a token is the same, whatever follows the token at which both go on
 pub same_head : (before : List Lexeme) (t : Lexeme) (xs ys : List Lexeme) →

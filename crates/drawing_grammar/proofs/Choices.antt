@@ -24,6 +24,7 @@ opens_so _ t e = e
 
 -- Its part may begin with this terminal.
 pub may_begin : {p : Part} (c : Choice p) → is_some (choice p (opening c)) ≡ true
+may_begin g.number = refl
 may_begin _ = refl
 
 pub begins_part : {p : Part} (c : Choice p) (t : Lexeme) → MayOpen c t → is_some (choice p (terminal t)) ≡ true
@@ -44,7 +45,7 @@ behind_says g.use_ n rest (marked u h w) = ap (λ (l : Terminal). not (same l is
 behind_says g.for_ n rest (token u h w) = ap (λ (l : Terminal). not (same l is.Colon)) h
 behind_says _ n rest w = tt
 
-no_loop : (a b : Bool) → b ≡ false → (a && b) ≡ false
+pub no_loop : (a b : Bool) → b ≡ false → (a && b) ≡ false
 no_loop true b e = e
 no_loop false b e = refl
 

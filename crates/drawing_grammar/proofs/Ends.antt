@@ -228,7 +228,10 @@ text_tidy First n = (
   refl,
   ((λ z. absurd cc), (refl, (refl, (refl, ((λ z. absurd cc), (refl, (refl, (refl, ((λ z. absurd cc), (refl, ((λ z. absurd cc), ((λ z. absurd cc), ((λ z. absurd cc), ((λ z. refl), tt)))))))))))))),
 )
-text_tidy Second n = text_tidy First n
+text_tidy Second n = (
+  refl,
+  ((λ z. absurd cc), (refl, (refl, (refl, ((λ z. absurd cc), (refl, (refl, (refl, ((λ z. absurd cc), (refl, ((λ z. absurd cc), ((λ z. absurd cc), ((λ z. absurd cc), ((λ z. refl), tt)))))))))))))),
+)
 
 pub text_end_last : (v : Edition) (w : Written (whole v)) (before : List Lexeme) (e x : Lexeme) (more : List Lexeme) →
     terminal e ≡ is.EndOfText → spelling w ≡ before ++ e ∷ x ∷ more → ⊥

@@ -229,35 +229,35 @@ abbrev Chains : {needs : List Need} → Step needs → Type 0
 Chains (Next later b m build) = Chained later
 Chains Stuck = Unit {0}
 
-if_chains : {needs rest : List Need} (a : ℕ) (f : Values rest → Values needs) (b : Bool) → Chained rest →
+if_chains : (needs rest : List Need) (a : ℕ) (f : Values rest → Values needs) (b : Bool) → Chained rest →
     Chains {needs = needs} (if b then Next rest a 0 f else Stuck)
-if_chains a f true c = c
-if_chains a f false c = tt
+if_chains needs rest a f true c = c
+if_chains needs rest a f false c = tt
 
-passed_chains : {needs later : List Need} (s : Step later) (f : Values later → Values needs) → Chains s →
+passed_chains : (needs : List Need) {later : List Need} (s : Step later) (f : Values later → Values needs) → Chains s →
     Chains {needs = needs} (passed s f)
-passed_chains (Next later b m build) f c = c
-passed_chains Stuck f c = tt
+passed_chains needs (Next later b m build) f c = c
+passed_chains needs Stuck f c = tt
 
 entered_chains : (p : Part) (n : ℕ) (rest : List Need) (a : ℕ) (t : Lexeme) (o : Option (Choice p)) (absent : Option (Meaning p))
     (s : Step rest) → Chained (part p n ∷ rest) → Chains s → Chains (entered p n rest a t o absent s)
 entered_chains p n rest a t (Some c) absent s h k = choice_on c n rest h
-entered_chains p n rest a t None (Some v) s h k = passed_chains s (λ w. (v, w)) k
+entered_chains p n rest a t None (Some v) s h k = passed_chains (part p n ∷ rest) s (λ w. (v, w)) k
 entered_chains p n rest a t None None s h k = tt
 
 group_chains : (g : Group) (n : ℕ) (rest : List Need) (a : ℕ) (t : Lexeme) (o : Option (Choice (lead g)))
     (absent : Option (GroupMeaning g)) (s : Step rest) → Chained (group g n ∷ rest) → Chains s →
     Chains (group_entered g n rest a t o absent s)
 group_chains g n rest a t (Some c) absent s h k = choice_on c n (others g n ++ rest) (group_on g n rest h)
-group_chains g n rest a t None (Some v) s h k = passed_chains s (λ w. (v, w)) k
+group_chains g n rest a t None (Some v) s h k = passed_chains (group g n ∷ rest) s (λ w. (v, w)) k
 group_chains g n rest a t None None s h k = tt
 
 step_chains : (needs : List Need) (a : ℕ) (t : Lexeme) (ts : List Lexeme) → Chained needs → Chains (step needs a t ts)
 step_chains [] a t ts c = tt
-step_chains (mark l ∷ rest) a t ts c = if_chains a (λ v. v) (same (terminal t) l) c
-step_chains (item l ∷ rest) a t ts c = if_chains a (λ v. (t, v)) (same (terminal t) l) c
-step_chains (keyword x ∷ rest) a t ts c = if_chains a (λ v. v) (is_keyword x t) c
-step_chains (fresh ∷ rest) a t ts c = passed_chains (step rest 0 t ts) (λ v. v) (step_chains rest 0 t ts c)
+step_chains (mark l ∷ rest) a t ts c = if_chains (mark l ∷ rest) rest a (λ v. v) (same (terminal t) l) c
+step_chains (item l ∷ rest) a t ts c = if_chains (item l ∷ rest) rest a (λ v. (t, v)) (same (terminal t) l) c
+step_chains (keyword x ∷ rest) a t ts c = if_chains (keyword x ∷ rest) rest a (λ v. v) (is_keyword x t) c
+step_chains (fresh ∷ rest) a t ts c = passed_chains (fresh ∷ rest) (step rest 0 t ts) (λ v. v) (step_chains rest 0 t ts c)
 step_chains (part p n ∷ rest) a t ts c =
     entered_chains p n rest a t (choice_at p t ts) (absent_value p) (step rest a t ts) c (step_chains rest a t ts c.1)
 step_chains (group g n ∷ rest) a t ts c =

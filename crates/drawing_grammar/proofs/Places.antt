@@ -130,8 +130,8 @@ heavy_beyond m xs [] e h = absurd cc
 heavy_beyond m xs (y ∷ ys) e h = let j : y ≡ m = cc in rw j h
 
 none_far_at_first : (after : List Lexeme) (needs : List Need) (a : ℕ) → NoneFar [] after needs a
-none_far_at_first after needs a [] t between e far no = absurd cc
-none_far_at_first after needs a (b ∷ before) t between e far no = absurd cc
+none_far_at_first after needs a [] t between e far unlabelled = absurd cc
+none_far_at_first after needs a (b ∷ before) t between e far unlabelled = absurd cc
 
 -- a step further
 module _ (ts : List Lexeme) (needs : List Need) (a : ℕ) (t : Lexeme) (c : Chained needs) (later : List Need) (b m : ℕ)
@@ -172,27 +172,27 @@ module _ (ts : List Lexeme) (needs : List Need) (a : ℕ) (t : Lexeme) (c : Chai
 
     none_far_back : (before : List Lexeme) (x : Lexeme) (after : List Lexeme) → ts ≡ before ++ x ∷ after →
         NoneFar before (x ∷ after) later b → NoneFar (t ∷ before) (x ∷ after) needs a
-    none_far_back before x after e none [] y between i far no =
+    none_far_back before x after e none [] y between i far unlabelled =
         let j : t ≡ y = cc in
         let k : before ≡ between = cc in
         let spelled : spelling far.written ≡ t ∷ far.rest = far.spelled ∙ ap (λ (z : Lexeme). z ∷ far.rest) (sym j) in
-        let label : MayBeLabel t ts → ⊥ = λ l. no (subst (λ (z : Lexeme). MayBeLabel z (between ++ x ∷ after)) j
+        let label : MayBeLabel t ts → ⊥ = λ l. unlabelled (subst (λ (z : Lexeme). MayBeLabel z (between ++ x ∷ after)) j
         (subst (λ (zs : List Lexeme). MayBeLabel t zs) (e ∙ ap (λ (z : List Lexeme). z ++ x ∷ after) k) l)) in
         not_heavy (heavy far.written a t ts far.rest c spelled far.beyond label)
-    none_far_back before x after e none (b0 ∷ front) y between i far no =
+    none_far_back before x after e none (b0 ∷ front) y between i far unlabelled =
         let j : t ≡ b0 = cc in
         let k : before ≡ front ++ y ∷ between = cc in
         let whole : ts ≡ front ++ y ∷ (between ++ x ∷ after) =
         e ∙ (ap (λ (z : List Lexeme). z ++ x ∷ after) k ∙ append_assoc front (y ∷ between) (x ∷ after)) in
         let here : Far (t ∷ front) y needs a = subst (λ (z : Lexeme). Far (z ∷ front) y needs a) (sym j) far in
-        none front y between k (far_on front y (between ++ x ∷ after) whole here) no
+        none front y between k (far_on front y (between ++ x ∷ after) whole here) unlabelled
 
     one_more : (r : Refusal) → Placed ts later b r → Placed (t ∷ ts) needs a r
     one_more r (at_syntax before x after e front none stop q) = at_syntax (t ∷ before) x after (ap (λ (y : List Lexeme). t ∷ y) e)
         (front_back before front) (none_far_back before x after e none)
         (λ w zs i. let k = on w (before ++ x ∷ zs) (same_head before x zs after ∙ ap no_colon (sym e)) i in stop k.rest zs k.spelled) q
-    one_more r (at_limit before x after e none far no q) = at_limit (t ∷ before) x after (ap (λ (y : List Lexeme). t ∷ y) e)
-        (none_far_back before x after e none) (far_back before x far) no q
+    one_more r (at_limit before x after e none far unlabelled q) = at_limit (t ∷ before) x after (ap (λ (y : List Lexeme). t ∷ y) e)
+        (none_far_back before x after e none) (far_back before x far) unlabelled q
     one_more r (at_end f) = at_end (let z =
         back f.written in record { written = z.written; next = f.next; rest = f.rest; spelled = z.spelled ∙ ap (λ (y : List Lexeme). t ∷ y) f.spelled })
 

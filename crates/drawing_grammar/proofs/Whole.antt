@@ -30,18 +30,18 @@ passes needs later m build x place r h e = ap (λ (b : Bool). if b then given {n
     (le-leb m limit h) ∙ ap (λ (y : Verdict later). given {needs = needs} build y) e
 
 -- what is asked of the tokens behind the first one, where that is within the limits
-record FirstGoes (x : Lexeme) (before : List Lexeme) (t : Lexeme) (after : List Lexeme) (needs : List Need) (a : ℕ)
+pub record FirstGoes (x : Lexeme) (before : List Lexeme) (t : Lexeme) (after : List Lexeme) (needs : List Need) (a : ℕ)
     (later : List Need) (b m : ℕ) : Type 0 where
-  room : m ≤ limit
-  front : Front before later
-  none : NoneFar before (t ∷ after) later b
-  chained : Chained later
+  pub room : m ≤ limit
+  pub front : Front before later
+  pub none : NoneFar before (t ∷ after) later b
+  pub chained : Chained later
 
 -- The first of the tokens before the one that is refused.
 module _ (x : Lexeme) (before : List Lexeme) (t : Lexeme) (after : List Lexeme) (needs : List Need) (a : ℕ) (c : Chained needs)
     (f : Front (x ∷ before) needs) (none : NoneFar (x ∷ before) (t ∷ after) needs a)
   where
-    ahead : List Lexeme
+    abbrev pub ahead : List Lexeme
     ahead = before ++ t ∷ after
 
     goes_on : is_stuck (step needs a x ahead) ≡ false
@@ -88,14 +88,14 @@ module _ (x : Lexeme) (before : List Lexeme) (t : Lexeme) (after : List Lexeme) 
 
     none_on : (later : List Need) (b m : ℕ) (build : Values later → Values needs) → step needs a x ahead ≡ Next later b m build →
         NoneFar before (t ∷ after) later b
-    none_on later b m build s front y between e far no =
+    none_on later b m build s front y between e far unlabelled =
         let z = back later b m build s far.written in
         none (x ∷ front) y between (ap (λ (ys : List Lexeme). x ∷ ys) e) (record {
           written = z.written;
           rest = far.rest;
           spelled = z.spelled ∙ ap (λ (ys : List Lexeme). x ∷ ys) far.spelled;
           beyond = beyond_from front x m (weights far.written b) (weights z.written a) z.weighed far.beyond;
-        }) no
+        }) unlabelled
 
     pub first_goes : (later : List Need) (b m : ℕ) (build : Values later → Values needs) → step needs a x ahead ≡ Next later b m build →
         FirstGoes x before t after needs a later b m
@@ -134,15 +134,15 @@ pub refused_deep : (before : List Lexeme) (t : Lexeme) (after : List Lexeme) (ne
     NoneFar before (t ∷ after) needs a → Far before t needs a → (MayBeLabel t after → ⊥) →
     verdict (before ++ t ∷ after) needs a ≡ Refused (refusal TooDeep t.place)
 unfolding verdict
-refused_deep [] t after needs a c none far no = one (step needs a t after)
-    (heavy far.written a t after far.rest c far.spelled far.beyond no)
+refused_deep [] t after needs a c none far unlabelled = one (step needs a t after)
+    (heavy far.written a t after far.rest c far.spelled far.beyond unlabelled)
   where
     one : (x : Step needs) → IsHeavy x → go_on x (verdict after) t.place ≡ Refused (refusal TooDeep t.place)
     one (Next later b m build) k =
         ap (λ (q : Bool). if q then given {needs = needs} build (verdict after later b) else Refused (refusal TooDeep t.place))
         (lt-leb m limit k)
     one Stuck k = absurd k
-refused_deep (x ∷ before) t after needs a c none far no = one (λ later b d n g. refused_deep before t after later b d n g no)
+refused_deep (x ∷ before) t after needs a c none far unlabelled = one (λ later b d n g. refused_deep before t after later b d n g unlabelled)
     (step needs a x (before ++ t ∷ after)) refl
   where
     begun : Front (x ∷ before) needs
@@ -171,9 +171,9 @@ chained_whole v = (λ l e. absurd cc, tt)
 
 -- none of the first tokens of a text is beyond a limit
 far_of : (v : Edition) (first after : List Lexeme) → NoneDeep v first after → NoneFar first after (whole v) 0
-far_of v first after none before t between e far no = none before t between e (record {
+far_of v first after none before t between e far unlabelled = none before t between e (record {
   beyond = record { written = far.written; rest = far.rest; spelled = far.spelled; beyond = far.beyond };
-  no_label = no;
+  no_label = unlabelled;
 })
 
 deep_of : (v : Edition) (first after : List Lexeme) → NoneFar first after (whole v) 0 → NoneDeep v first after
@@ -228,10 +228,10 @@ is_refused ts r n e = one (placed ts (whole v) 0 r (chained_whole v) e)
     one (at_syntax before t after e f d k q) =
         syntax before t after e (record { written = f.written; rest = f.rest; spelled = f.spelled }) (deep_of v before (t ∷ after) d)
         (λ b. k b.written b.rest (b.spelled ∙ append_assoc before (t ∷ []) b.rest)) q
-    one (at_limit before t after e d k no q) =
+    one (at_limit before t after e d k unlabelled q) =
         too_deep before t after e (deep_of v before (t ∷ after) d) (record {
           beyond = record { written = k.written; rest = k.rest; spelled = k.spelled; beyond = k.beyond };
-          no_label = no;
+          no_label = unlabelled;
         }) q
     one (at_end s) = absurd (text_end_last v s.written n.before n.last s.next
         s.rest n.end (s.spelled ∙ (ap (λ (ys : List Lexeme). ys ++ s.next ∷ s.rest) n.are ∙ append_assoc n.before (n.last ∷ []) (s.next ∷ s.rest))))
