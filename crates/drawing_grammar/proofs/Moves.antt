@@ -13,7 +13,7 @@ use Rattle.drawing_grammar.specs.declared.terminal.Keyword.{Keyword}
 use Rattle.drawing_grammar.specs.declared.terminal.Terminal.{Terminal}
 use Rattle.drawing_grammar.specs.declared.terminal.Terminal.TheVariants as is
 use Rattle.drawing_grammar.specs.Lexeme.{Lexeme, terminal}
-use Rattle.drawing_grammar.specs.Grammar.{Part, Group, keyword_text, Need, mark, item, keyword, fresh, part, group, Choice, following, lead, others, cost}
+use Rattle.drawing_grammar.specs.Grammar.{Part, Unary, Group, keyword_text, Need, mark, item, keyword, fresh, part, group, Choice, following, lead, others, cost}
 use Rattle.drawing_grammar.specs.Sketch.{Meaning, GroupMeaning, Values, front, behind, choice_value, absent_value, group_value, absent_group}
 use Rattle.drawing_grammar.specs.Written.{weight, counted, limit}
 use Rattle.drawing_grammar.specs.Machine.{same, choice, choice_at, Step, Next, Stuck, passed, entered, group_entered, step, Verdict, Complete, Refused, given, refusal, finish, finish_part, finish_group, go_on, verdict, Moves, Says, Fails}
@@ -189,6 +189,7 @@ group_one h n a us t rest None e = absurd cc
 group_one h n a us t rest (Some c) e = group_next h n a us t rest c (nat_le (weight (cost c) n a) limit) (verdict us (following c n ++ (others h n ++ rest)) (counted (cost c) a))
 
 no_end : (p : Part) → is_some (choice p is.EndOfText) ≡ false
+no_end Unary = refl
 no_end _ = refl
 
 -- It does where its first part may begin so, unless that is a constant.

@@ -192,8 +192,8 @@ free_label u is = free_word u.label is.label.is_free
 
 -- What stands behind the statements of an IF begins none.
 ends_statements : (v : Edition) (o : tree.Otherwise) (more : List Bare) →
-    choice (g.Statement v) (first_of more) ≡ None → choice g.Statement
-    (first_of (else_tokens o ++ more)) ≡ None
+    choice (g.Statement v) (first_of more) ≡ None →
+    choice (g.Statement v) (first_of (else_tokens o ++ more)) ≡ None
 unfolding else_tokens word_terminal
 ends_statements v tree.no_else more none = none
 ends_statements v (tree.else_ ss) more none = refl
@@ -232,6 +232,47 @@ condition_held x is more rest b =
       left = take_mark (bare_word (codes "THEN")) more token.Then rest refl
           r.left;
     }
+
+-- a FOR, where its statements are held so
+for_held : (var : List ℕ) (first last : Expression) (ss : tree.Statements) (place : Place) → IsFreeWord var →
+    IsDrawn first → IsDrawn last →
+    ((n : ℕ) (more : List Bare) (rest : List Need) → choice (g.Statement Second) (first_of more) ≡ None →
+    LeftOver (statements_tokens ss ++ more) (group (g.Statements Second) n ∷ rest) → Held (AreShallow ss) more rest) →
+    (n : ℕ) (more : List Bare) (rest : List Need) →
+    LeftOver (statement_tokens (tree.For var first last ss place) ++ more) (part (g.Statement Second) n ∷ rest) →
+    Held (IsShallowStatement (tree.For var first last ss place)) more rest
+unfolding statement_tokens word_terminal symbol_terminal
+for_held var first last ss place free low high held n more rest b =
+    let begin = bare_word (codes "FOR") in
+    let inside = statements_tokens ss in
+    let end = end_tokens ++ more in
+    let named = begin ∷ bare_word var ∷ bare_symbol 61 ∷ [] in
+    let behind = bare_word (codes "DO") ∷ (inside ++ end) in
+    let highs = sum_tokens last ++ behind in
+    let to = bare_word (codes "TO") ∷ highs in
+    let top : List Need = part (g.Statement Second) n ∷ rest in
+    let x0 = shift (for_tokens var first last ++ inside) end_tokens more top b in
+    let x1 = shift (for_tokens var first last) inside end top x0 in
+    let x2 = shift (((named ++ sum_tokens first) ++ word (codes "TO")) ++ sum_tokens last) (word (codes "DO"))
+    (inside ++ end) top x1 in
+    let x3 = shift ((named ++ sum_tokens first) ++ word (codes "TO")) (sum_tokens last) behind top x2 in
+    let x4 = shift (named ++ sum_tokens first) (word (codes "TO")) highs top x3 in
+    let x5 = shift named (sum_tokens first) to top x4 in
+    let after : List Need = mark token.End ∷ mark token.Semicolon ∷ rest in
+    let body : List Need = group (g.Statements Second) (suc n) ∷ after in
+    let second : List Need = fresh ∷ group g.Sum 0 ∷ keyword Do ∷ body in
+    let one_needs : List Need = fresh ∷ group g.Sum 0 ∷ keyword To ∷ second in
+    let o = take_choice g.for_ n begin (bare_word var ∷ bare_symbol 61 ∷ (sum_tokens first ++ to)) rest
+    ((refl, refl), free_word var free.is_free) x5 in
+    let x6 = take_item (bare_word var) (bare_symbol 61 ∷ (sum_tokens first ++ to)) token.Word (mark token.Equals ∷ one_needs)
+    (free_word var free.is_free) o.left in
+    let x7 = take_mark (bare_symbol 61) (sum_tokens first ++ to) token.Equals one_needs refl x6 in
+    let one = bound first low to (keyword To ∷ second) refl refl x7 in
+    let x8 = take_keyword (bare_word (codes "TO")) highs To second refl refl one.left in
+    let two = bound last high behind (keyword Do ∷ body) refl refl x8 in
+    let x9 = take_keyword (bare_word (codes "DO")) (inside ++ end) Do body refl refl two.left in
+    let three = held (suc n) end after refl x9 in
+    record { holds = (one.holds, two.holds, three.holds); left = end_held more rest three.left }
 
 mutual
   unfolding statement_tokens statements_tokens else_tokens word_terminal symbol_terminal
@@ -273,43 +314,9 @@ mutual
       let L : Edition → Type 0 = λ e. LeftOver (statement_tokens (tree.For var first last ss place) ++ more)
       (part (g.Statement e) n ∷ rest) in
       let D : Edition → Type 0 = λ e. AreDrawn e ss in
-      for_held var first last ss place is.1 is.2 is.3 (subst D is.0 is.4) n more rest (subst L is.0 b)
-
-  for_held : (var : List ℕ) (first last : Expression) (ss : tree.Statements) (place : Place) → IsFreeWord var →
-      IsDrawn first → IsDrawn last → AreDrawn Second ss → (n : ℕ) (more : List Bare) (rest : List Need) →
-      LeftOver (statement_tokens (tree.For var first last ss place) ++ more) (part (g.Statement Second) n ∷ rest) →
-      Held (IsShallowStatement (tree.For var first last ss place)) more rest
-  for_held var first last ss place free low high drawn n more rest b =
-      let begin = bare_word (codes "FOR") in
-      let inside = statements_tokens ss in
-      let end = end_tokens ++ more in
-      let named = begin ∷ bare_word var ∷ bare_symbol 61 ∷ [] in
-      let behind = bare_word (codes "DO") ∷ (inside ++ end) in
-      let highs = sum_tokens last ++ behind in
-      let to = bare_word (codes "TO") ∷ highs in
-      let top : List Need = part (g.Statement Second) n ∷ rest in
-      let x0 = shift (for_tokens var first last ++ inside) end_tokens more top b in
-      let x1 = shift (for_tokens var first last) inside end top x0 in
-      let x2 = shift (((named ++ sum_tokens first) ++ word (codes "TO")) ++ sum_tokens last) (word (codes "DO"))
-      (inside ++ end) top x1 in
-      let x3 = shift ((named ++ sum_tokens first) ++ word (codes "TO")) (sum_tokens last) behind top x2 in
-      let x4 = shift (named ++ sum_tokens first) (word (codes "TO")) highs top x3 in
-      let x5 = shift named (sum_tokens first) to top x4 in
-      let after : List Need = mark token.End ∷ mark token.Semicolon ∷ rest in
-      let body : List Need = group (g.Statements Second) (suc n) ∷ after in
-      let second : List Need = fresh ∷ group g.Sum 0 ∷ keyword Do ∷ body in
-      let one_needs : List Need = fresh ∷ group g.Sum 0 ∷ keyword To ∷ second in
-      let o = take_choice g.for_ n begin (bare_word var ∷ bare_symbol 61 ∷ (sum_tokens first ++ to)) rest
-      ((refl, refl), free_word var free.is_free) x5 in
-      let x6 = take_item (bare_word var) (bare_symbol 61 ∷ (sum_tokens first ++ to)) token.Word (mark token.Equals ∷ one_needs)
-      (free_word var free.is_free) o.left in
-      let x7 = take_mark (bare_symbol 61) (sum_tokens first ++ to) token.Equals one_needs refl x6 in
-      let one = bound first low to (keyword To ∷ second) refl refl x7 in
-      let x8 = take_keyword (bare_word (codes "TO")) highs To second refl refl one.left in
-      let two = bound last high behind (keyword Do ∷ body) refl refl x8 in
-      let x9 = take_keyword (bare_word (codes "DO")) (inside ++ end) Do body refl refl two.left in
-      let three = statements_held Second ss drawn (suc n) end after refl x9 in
-      record { holds = (one.holds, two.holds, three.holds); left = end_held more rest three.left }
+      let drawn : AreDrawn Second ss = subst D is.0 is.4 in
+      for_held var first last ss place is.1 is.2 is.3 (λ m after needs none c. statements_held Second ss drawn m after needs none c)
+      n more rest (subst L is.0 b)
 
   statements_held : (v : Edition) (ss : tree.Statements) → AreDrawn v ss →
       (n : ℕ) (more : List Bare) (rest : List Need) → choice (g.Statement v) (first_of more) ≡ None →

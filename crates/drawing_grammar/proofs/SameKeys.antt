@@ -8,28 +8,38 @@ use Rattle.std.proofs.lemmas.Bool.{and_parts}
 use denote.Enum.Bare.{sameb}
 use Rattle.drawing_grammar.specs.contracts.declared.Kind.{the_type}
 use Rattle.drawing_grammar.specs.declared.declared.Kind.{Kind}
-use Rattle.drawing_grammar.specs.declared.declared.Kind.TheVariants.{Macro, Parameter, Formal, Label}
+use Rattle.drawing_grammar.specs.declared.declared.Kind.TheVariants.{Constant, Macro, Parameter, Formal, Label}
 use Rattle.drawing_grammar.specs.DoubleNames.{Key}
 
 same_kind : (a b : Kind) → sameb the_type a b ≡ true → a ≡ b
+same_kind Constant Constant h = refl
+same_kind Constant Macro h = absurd cc
+same_kind Constant Parameter h = absurd cc
+same_kind Constant Formal h = absurd cc
+same_kind Constant Label h = absurd cc
+same_kind Macro Constant h = absurd cc
 same_kind Macro Macro h = refl
 same_kind Macro Parameter h = absurd cc
 same_kind Macro Formal h = absurd cc
 same_kind Macro Label h = absurd cc
+same_kind Parameter Constant h = absurd cc
 same_kind Parameter Macro h = absurd cc
 same_kind Parameter Parameter h = refl
 same_kind Parameter Formal h = absurd cc
 same_kind Parameter Label h = absurd cc
+same_kind Formal Constant h = absurd cc
 same_kind Formal Macro h = absurd cc
 same_kind Formal Parameter h = absurd cc
 same_kind Formal Formal h = refl
 same_kind Formal Label h = absurd cc
+same_kind Label Constant h = absurd cc
 same_kind Label Macro h = absurd cc
 same_kind Label Parameter h = absurd cc
 same_kind Label Formal h = absurd cc
 same_kind Label Label h = refl
 
 kind_same : (a : Kind) → sameb the_type a a ≡ true
+kind_same Constant = refl
 kind_same Macro = refl
 kind_same Parameter = refl
 kind_same Formal = refl
