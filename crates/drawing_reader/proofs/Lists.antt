@@ -44,7 +44,8 @@ pub constants_more : (xs : List Assign) (x : Assign) (ps : List Place) (p : Plac
       places = (ps ++ p ∷ []) ++ more.places;
       name_places = (qs ++ q ∷ []) ++ more.name_places;
     })
-constants_more xs x ps p qs q more = rw (more_mapped tree.assignment_of xs x more.constants, append_assoc) refl
+constants_more xs x ps p qs q more =
+    rw (more_mapped tree.assignment_of xs x more.constants, append_assoc ps (p ∷ []) more.places, append_assoc qs (q ∷ []) more.name_places) refl
 
 pub constants_all : (xs : List tree.Assignment) (ps qs : List Place) →
     ◌≡◌ {A = s.PlacedConstants} (record { constants = xs ++ []; places = ps ++ []; name_places = qs ++ [] })

@@ -1,7 +1,8 @@
 -- What a header, constants and what follows them stand for.
-use Rattle.std.proofs.Common.{◌≡◌, ◌≢◌, ℤ, pos, negsuc, ◌⊎◌, inl, inr, Bool, true, false, ◌&&◌, List, ◌++◌, [], ◌∷◌, Result, Ok, Err, refl, sym, ap, arith}
+use Rattle.std.proofs.Common.{◌≡◌, ◌≢◌, ℕ, ℤ, pos, negsuc, ◌⊎◌, inl, inr, Bool, true, false, ◌&&◌, List, ◌++◌, [], ◌∷◌, Result, Ok, Err, refl, sym, ap, ◌∙◌, arith, w64, FitsSigned, to_z, of_z}
 use Rattle.std.specs.Prelude.{IfOk, int_le, if◌then◌else◌}
 use Rattle.std.proofs.lemmas.Bool.{leb-true}
+use Rattle.std.proofs.lemmas.Int.{to_z-of_z}
 use Rattle.drawing_grammar.specs.declared.edition.Edition.{Edition}
 use Rattle.drawing_grammar.specs.declared.edition.Edition.TheVariants.{First, Second}
 use Rattle.drawing_grammar.specs.declared.header.WrittenHeader.{WrittenHeader}
@@ -48,9 +49,9 @@ second_at First ts e = absurd cc
 second_at Second ts e = refl
 
 -- Of version 2 nothing is said of having none.
-pub none_first : {X S : Type 0} {P : X → Type 0} (r : Result X S) → IfOk r (λ x. Second ≡ First → P x)
-none_first (Ok x) = λ e. absurd cc
-none_first (Err s) = tt
+pub none_first : {X S : Type 0} (P : X → Type 0) (r : Result X S) → IfOk r (λ x. Second ≡ First → P x)
+none_first P (Ok x) = λ e. absurd cc
+none_first P (Err s) = tt
 
 -- The version by which a text is read is that of its second token.
 pub edition_at : (t u : Lexeme) (ts us : List Lexeme) → ts ≡ t ∷ us → (vs : List Lexeme) → us ≡ u ∷ vs →
@@ -59,20 +60,30 @@ edition_at t u ts us e vs h = rw (e, h) refl
 
 -- ---- the number of a version
 
+-- An i64 is 2 where its bits are.
+is_two : (n : ℤ) → FitsSigned w64 n → of_z w64 n ≡ 2 → n ≡ pos 2
+is_two n fits e = sym (to_z-of_z w64 n fits) ∙ ap (to_z w64) e
+
+pub second_by : (n : ℤ) → FitsSigned w64 n → of_z w64 n ≡ 2 → Second ≡ edition_by n
+second_by n fits e = rw (is_two n fits e) refl
+
 -- A number other than 2 names version 1.
-pub first_by : (n : ℤ) → n ≢ pos 2 → edition_by n ≡ First
-first_by (negsuc m) h = refl
-first_by (pos m) h = one (int_le (pos 2) (pos m)) (int_le (pos m) (pos 2)) refl refl
+first_of : (n : ℤ) → n ≢ pos 2 → First ≡ edition_by n
+first_of (negsuc m) h = refl
+first_of (pos m) h = one (int_le (pos 2) (pos m)) (int_le (pos m) (pos 2)) refl refl
   where
-    one : (a b : Bool) → int_le (pos 2) (pos m) ≡ a → int_le (pos m) (pos 2) ≡ b → (if a && b then Second else First) ≡ First
+    one : (a b : Bool) → int_le (pos 2) (pos m) ≡ a → int_le (pos m) (pos 2) ≡ b → First ≡ (if a && b then Second else First)
     one true true e f = let k : m ≡ 2 = omega (arith, leb-true 2 m e, leb-true m 2 f) in absurd (h (ap pos k))
     one true false e f = refl
     one false b e f = refl
 
-pub version_two : (n : ℤ) → n ≡ pos 2 → 2 ≡ natural n
-version_two n e = rw e refl
+pub first_by : (n : ℤ) → of_z w64 n ≢ 2 → First ≡ edition_by n
+first_by n h = first_of n (λ e. h (ap (of_z w64) e))
 
-pub version_one : (n : ℤ) → n ≢ pos 2 → (natural n ≡ 1) ⊎ (natural n ≡ 2) → 1 ≡ natural n
+pub version_two : (n : ℤ) → FitsSigned w64 n → of_z w64 n ≡ 2 → 2 ≡ natural n
+version_two n fits e = rw (is_two n fits e) refl
+
+pub version_one : (n : ℤ) → of_z w64 n ≢ 2 → (natural n ≡ 1) ⊎ (natural n ≡ 2) → 1 ≡ natural n
 version_one n h (inl e) = sym e
-version_one (pos m) h (inr e) = absurd (h (ap pos e))
+version_one (pos m) h (inr e) = absurd (h (ap (λ (k : ℕ). of_z w64 (pos k)) e))
 version_one (negsuc m) h (inr e) = absurd cc

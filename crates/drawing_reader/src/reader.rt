@@ -55,11 +55,11 @@ fn value_of(kind: TokenKind) -> i64
     }
 }
 
-/// The version by which a text with this number after SCALD is read.
-fn edition_by(version: i64) -> Edition
-    ensures { result ≡ edition_by version }
+/// The version by which a text with this header is read.
+fn edition_by(header: &WrittenHeader) -> Edition
+    ensures { result ≡ edition_by header.now.version }
 {
-    if version == 2 {
+    if header.version == 2 {
         return Edition::Second;
     }
     Edition::First
@@ -206,7 +206,7 @@ impl<'a> Cursor<'a> {
             (ahead self.new (mark EndOfText ∷ rest)) }
     {
         let header = self.header()?;
-        let edition = edition_by(header.version);
+        let edition = edition_by(&header);
         let constants = self.constants(alloc, edition)?;
         let (macros, heads) = self.definitions(alloc, edition)?;
         let (name, body) = self.drawing(alloc, edition)?;

@@ -108,7 +108,7 @@ for_statement-returns-clause-shorter t c = let h = c.bump-token.ensures.shorter 
 -- ---- a statement
 
 pub statement-for_statement-requires : goal.statement-for_statement-requires
-statement-for_statement-requires t c = at_second c.args.edition (tokens_at c.args.self.now) (sym c.at_loop.ensures ∙ c.if-at_loop.true)
+statement-for_statement-requires t c = (omega arith, at_second c.args.edition (tokens_at c.args.self.now) (sym c.at_loop.ensures ∙ c.if-at_loop.true))
 
 pub statement-returns-then-at_loop-clause-reads : goal.statement-returns-then-at_loop-clause-reads
 statement-returns-then-at_loop-clause-reads t c =

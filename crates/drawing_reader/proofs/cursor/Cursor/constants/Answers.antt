@@ -1,5 +1,7 @@
-use Rattle.std.proofs.Common.{◌++◌, refl}
+use Rattle.std.proofs.Common.{◌≡◌, ◌++◌, refl}
+use Rattle.drawing_grammar.specs.Sketch.{no_constants}
 use Rattle.drawing_reader.specs.Reader.{ahead}
+use Rattle.drawing_reader.specs.Sketched.{constants_of}
 use Rattle.drawing_grammar.proofs.Moves.{stays}
 use Rattle.drawing_reader.proofs.Sketches.{none_first}
 use Rattle.drawing_reader.proofs.cursor.Cursor.constants.Goals as goal
@@ -13,5 +15,5 @@ returns-in-First c = rw (c.in-First.is, c.new-consts.ensures, c.new-places.ensur
 pub returns-in-Second : goal.returns-in-Second
 returns-in-Second c = rw c.in-Second.is (record {
   reads = λ needs rest. c.some_constants.ensures.reads (needs ++ rest);
-  none = none_first _;
+  none = none_first (λ x. constants_of x ≡ no_constants) _;
 })

@@ -1,5 +1,6 @@
-use Rattle.std.proofs.Common.{sym, ◌∙◌}
+use Rattle.std.proofs.Common.{sym, ◌∙◌, map}
 use Rattle.std.proofs.lemmas.Result.{err_from_is_err_and}
+use Rattle.drawing_tree.specs.Tree.{macro_of, statements_of}
 use Rattle.drawing_grammar.specs.Edition.{edition_of}
 use Rattle.drawing_grammar.specs.Grammar.{from_macros}
 use Rattle.drawing_grammar.proofs.Moves.{moves, stops, reshaped}
@@ -64,5 +65,8 @@ returns c =
           (λ rest. reshaped _ (moves (moves (moves (moves (c.in_ok-header.ensures.reads e _)
           (c.in_ok-constants.ensures.reads (from_macros e) _)) (c.in_ok-macros.ensures.reads _)) (c.in_ok-name.ensures.reads.2 _))
           (c.in_ok-cases.ensures.reads _))
-          (λ v. headed_so e _ c.in_ok-header.header (constants_of c.in_ok-constants.constants) _ c.in_ok-constants.ensures.none));
+          (λ v. headed_so e rest c.in_ok-header.header (constants_of c.in_ok-constants.constants) (
+            record { macros = map macro_of c.in_ok-macros.macros; heads = c.in_ok-macros.heads },
+            (c.in_ok-name.ensures.reads.0, (statements_of c.in_ok-name.body.items, (c.in_ok-cases.cases, v))),
+          ) c.in_ok-constants.ensures.none));
     }

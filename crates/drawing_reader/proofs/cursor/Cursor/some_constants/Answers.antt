@@ -11,8 +11,8 @@ use Rattle.drawing_reader.proofs.Cursors.{leads_on, lacking_at}
 use Rattle.drawing_reader.proofs.Lists.{constants_more, constants_all}
 use Rattle.drawing_reader.proofs.cursor.Cursor.some_constants.Goals as goal
 
-pub each-constant-requires : goal.each-constant-requires
-each-constant-requires c = c.at_keyword.ensures.yes (cc)
+pub constant-requires : goal.constant-requires
+constant-requires c = c.at_keyword.ensures.yes (cc)
 
 pub each-init : goal.each-init
 each-init c = record {
