@@ -10,11 +10,11 @@ use Rattle.scald_base.specs.declared.refusal.Stop.{Stop}
 use Rattle.scald_base.specs.declared.refusal.Stop.TheVariants.{Refused, NoMemory}
 use Rattle.drawing_grammar.specs.DoubleNames.{Key, Declaration, primitives, AreDifferent, IsDistinct, IsDoubleStop, Declares, IsStopAt}
 
-abbrev named_in : List ℕ → List Key → Bool
+abbrev pub named_in : List ℕ → List Key → Bool
 named_in name keys = list_any (λ k. bytes_eq name k.name) keys
 
 -- no name stands twice
-abbrev all_fresh : List Key → Bool
+abbrev pub all_fresh : List Key → Bool
 all_fresh [] = true
 all_fresh (k ∷ ks) = not (named_in k.name ks) && all_fresh ks
 
@@ -30,7 +30,7 @@ not_both : (a : Bool) → not a ≡ true → a ≡ true → ⊥
 not_both true f t = cc
 not_both false f t = cc
 
-differ : (ks : List Key) → all_fresh ks ≡ true → (i j : ℕ) (d : Key) → i < j → j < length ks → get_or ks i d ≡ get_or ks j d → ⊥
+pub differ : (ks : List Key) → all_fresh ks ≡ true → (i j : ℕ) (d : Key) → i < j → j < length ks → get_or ks i d ≡ get_or ks j d → ⊥
 differ [] h i j d before below e = absurd (omega arith)
 differ (k ∷ ks) h zero zero d before below e = absurd (omega arith)
 differ (k ∷ ks) h zero (suc j) d before below e = not_both (named_in k.name ks) (and_parts (not (named_in k.name ks)) (all_fresh ks) h).0 (is_named k ks j d (omega arith) e)

@@ -75,6 +75,7 @@ pub mod PlacedDrawings
 pub mod TextLaws
 mod Examples
 mod ExamplesDelays
+mod ExamplesVersions
 pub mod LeftOver
 pub mod NestExpression
 pub mod NestForms

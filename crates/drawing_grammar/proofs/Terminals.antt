@@ -114,8 +114,6 @@ same_is k l e = sym (decoded k) ∙ (ap (λ (n : ℕ). get_or all n is.Scald) (e
 pub is_same : (k l : Terminal) → k ≡ l → same k l ≡ true
 is_same k l e = eq-eqb (code k) (code l) (ap code e)
 
--- ---- what a choice begins with
-
 -- ---- keywords
 
 pub keyword_is : (x : Keyword) (t : Lexeme) → is_keyword x t ≡ true → Is x t

@@ -51,7 +51,8 @@ abbrev mutual
   IsShallowStatement (tree.Use u) = IsShallowUse u
   IsShallowStatement (tree.Wire w) = IsShallowWire w
   IsShallowStatement (tree.If test ss other place) = IsShallowTest test × AreShallow ss × IsShallowOtherwise other
-  IsShallowStatement (tree.For var first last ss place) = IsShallow first × IsShallow last × AreShallow ss
+  IsShallowStatement (tree.For var first last ss place) =
+      IsShallow first × IsShallow last × AreShallow ss
 
   pub AreShallow : tree.Statements → Type 0
   AreShallow tree.nil = ⊤

@@ -12,8 +12,8 @@ use Rattle.drawing_grammar.specs.declared.head.Head.{Head}
 use Rattle.drawing_grammar.specs.declared.declared.Kind.{Kind}
 use Rattle.drawing_grammar.specs.declared.declared.Kind.TheVariants.{Constant, Macro, Parameter, Formal, Label}
 
--- A name as a kind of thing in a scope. Each macro is a scope, and after all macros the drawing itself; constants
--- and macros are all of scope 0.
+-- A name as a kind of thing in a scope. Each macro is a scope, and after all macros the drawing
+-- itself; constants and macros are all of scope 0.
 pub record Key : Type 0 where
   pub scope : ℕ
   pub kind : Kind
@@ -36,7 +36,8 @@ declaration scope kind name place = record { key = key scope kind name; place = 
 abbrev pub constants : List tree.Assignment → List Place → List Declaration
 constants [] places = []
 constants (c ∷ consts) [] = []
-constants (c ∷ consts) (place ∷ places) = declaration 0 Constant c.name place ∷ constants consts places
+constants (c ∷ consts) (place ∷ places) =
+    declaration 0 Constant c.name place ∷ constants consts places
 
 abbrev pub parameters : ℕ → List tree.Assignment → List Place → List Declaration
 parameters scope [] places = []
@@ -77,7 +78,8 @@ macros_declared scope (m ∷ macros) [] = []
 macros_declared scope (m ∷ macros) (h ∷ heads) = (head_declared scope m h ++ labels scope m.body) ++ macros_declared (suc scope) macros heads
 
 -- what a drawing of these constants, these macros and this body declares
-abbrev pub declared : List tree.Assignment → List Place → List tree.Macro → List Head → Statements → List Declaration
+abbrev pub declared : List tree.Assignment → List Place → List tree.Macro → List Head →
+    Statements → List Declaration
 declared consts places macros heads body =
     constants consts places ++ (macros_declared 0 macros heads ++ labels (length macros) body)
 

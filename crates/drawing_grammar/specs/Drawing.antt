@@ -30,7 +30,8 @@ drawing_of_sketch s = record {
 
 -- what it declares
 abbrev pub declared_by : Sketch → List Declaration
-declared_by s = declared s.consts.constants s.consts.name_places s.macros.macros s.macros.heads s.body
+declared_by s =
+    declared s.consts.constants s.consts.name_places s.macros.macros s.macros.heads s.body
 
 -- what is written by the version that the tokens name
 abbrev pub WrittenBy : List Lexeme → Type 0
@@ -54,8 +55,10 @@ pub record Draws (ts : List Lexeme) (d : tree.Drawing) : Type 0 where
 pub data IsWrong (ts : List Lexeme) (r : Refusal) : Type 0 where
   grammar : IsRefused ts r → IsWrong ts r
   header : (w : WrittenBy ts) → IsText ts w → judged (values w).0.header ≡ Err r → IsWrong ts r
-  name : (w : WrittenBy ts) (h : Header) → IsText ts w → judged (values w).0.header ≡ Ok h → IsBadName h (names w) r → IsWrong ts r
-  double : (w : WrittenBy ts) (h : Header) → IsText ts w → judged (values w).0.header ≡ Ok h → AreGood h (names w) → IsDoubleName (declared_by (values w).0) r → IsWrong ts r
+  name : (w : WrittenBy ts) (h : Header) → IsText ts w → judged (values w).0.header ≡ Ok h →
+      IsBadName h (names w) r → IsWrong ts r
+  double : (w : WrittenBy ts) (h : Header) → IsText ts w → judged (values w).0.header ≡ Ok h →
+      AreGood h (names w) → IsDoubleName (declared_by (values w).0) r → IsWrong ts r
 
 abbrev pub IsWrongStop : List Lexeme → Stop → Type 0
 IsWrongStop ts (Refused r) = IsWrong ts r

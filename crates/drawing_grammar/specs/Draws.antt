@@ -16,7 +16,8 @@ use Rattle.drawing_grammar.specs.Written.{Written, spelling, weights, values, Wi
 abbrev pub whole : Edition → List Need
 whole v = part (Text v) 0 ∷ []
 
--- The tokens are a text within the limits, by the version that they name, and this is what it stands for.
+-- The tokens are a text of the version that they name, within the limits, and this is what it
+-- stands for.
 pub record Reads (ts : List Lexeme) (sketch : Sketch) : Type 0 where
   pub written : Written (whole (edition_of ts))
   pub spelled : spelling written ≡ ts
@@ -41,9 +42,10 @@ abbrev pub MayBeLabel : Lexeme → List Lexeme → Type 0
 MayBeLabel t [] = terminal t ≡ Word
 MayBeLabel t (u ∷ us) = (terminal t ≡ Word) × (terminal u ≡ Colon)
 
--- The token is beyond a limit: some text that goes on with it is. The word FOR may be a label as well, which is never
--- beyond a limit, and is one where a colon follows.
-pub record IsDeep (v : Edition) (before : List Lexeme) (t : Lexeme) (after : List Lexeme) : Type 0 where
+-- The token is beyond a limit: it is in some text that goes on with it. The word FOR may be a label
+-- as well, which is never beyond a limit; it is one where a colon follows.
+pub record IsDeep (v : Edition) (before : List Lexeme) (t : Lexeme) (after : List Lexeme) :
+    Type 0 where
   pub beyond : BeginsBeyond v before t
   pub no_label : MayBeLabel t after → ⊥
 
@@ -52,12 +54,13 @@ abbrev pub NoneDeep : Edition → List Lexeme → List Lexeme → Type 0
 NoneDeep v first after = (before : List Lexeme) (t : Lexeme) (between : List Lexeme) →
     first ≡ before ++ t ∷ between → IsDeep v before t (between ++ after) → ⊥
 
--- Syntax at the first token such that the tokens up to it and with it begin no text of the version that the tokens
--- name, and TooDeep at the first token beyond a limit; whichever comes first, and Syntax where both hold.
+-- Syntax at the first token such that the tokens up to it and with it begin no text of the version
+-- that the tokens name, and TooDeep at the first token beyond a limit; whichever comes first.
 pub data IsRefused (ts : List Lexeme) (r : Refusal) : Type 0 where
   syntax : (before : List Lexeme) (t : Lexeme) (after : List Lexeme) → ts ≡ before ++ t ∷ after →
       Begins (edition_of ts) before → NoneDeep (edition_of ts) before (t ∷ after) →
-      (Begins (edition_of ts) (before ++ t ∷ []) → ⊥) → r ≡ record { kind = kind.Syntax; place = t.place } → IsRefused ts r
+      (Begins (edition_of ts) (before ++ t ∷ []) → ⊥) →
+      r ≡ record { kind = kind.Syntax; place = t.place } → IsRefused ts r
   too_deep : (before : List Lexeme) (t : Lexeme) (after : List Lexeme) → ts ≡ before ++ t ∷ after →
       NoneDeep (edition_of ts) before (t ∷ after) → IsDeep (edition_of ts) before t after →
       r ≡ record { kind = kind.TooDeep; place = t.place } → IsRefused ts r

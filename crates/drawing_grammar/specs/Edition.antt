@@ -8,8 +8,8 @@ use Rattle.drawing_grammar.specs.Lexeme.{Lexeme, number_of}
 abbrev pub edition_by : ℤ → Edition
 edition_by n = if int_le (pos 2) n && int_le n (pos 2) then Second else First
 
--- The number after SCALD chooses the grammar, whatever stands behind it. Up to that number both are alike, so
--- that it does not matter by which of them a text that has none is read.
+-- The number after SCALD chooses the grammar, whatever follows it. Up to that number both are
+-- alike, so it does not matter by which of them a text that has none is read.
 abbrev pub edition_of : List Lexeme → Edition
 edition_of [] = First
 edition_of (t ∷ []) = First

@@ -42,8 +42,8 @@ at_loop Second (t ∷ ts) = is_loop t ts
 abbrev pub AtKeyword : Keyword → List Lexeme → Type 0
 AtKeyword x ts = (first_terminal ts ≡ Word) × (first_text ts ≡ keyword_text x)
 
--- The choice stands first: a constant and a FOR are known by their words, a use by a word with which no FOR begins,
--- and any other choice by its first token.
+-- The choice stands first: a constant and a FOR are known by their words, a use by a word with
+-- which no FOR begins, and any other choice by its first token.
 abbrev pub At : {p : Part} → Choice p → List Lexeme → Type 0
 At constant ts = AtKeyword Const ts
 At for_ ts = at_loop Second ts ≡ true

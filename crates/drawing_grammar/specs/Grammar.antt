@@ -1,6 +1,6 @@
--- The grammar of drawings: what each part of a text begins with, and what follows. One table has both versions
--- of the language. Statements, macros and the text itself are parts of a version: a choice of such a part in the
--- second version alone is marked so, and constants stand in a text of that version alone.
+-- The grammar of drawings: what each part of a text begins with, and what follows. One table has
+-- both versions of the language. Statements, macros and the text itself are parts of a version: a
+-- choice that the second version alone has says so, and only a text of that version has constants.
 use Rattle.std.specs.Prelude.{ℕ, suc, List, [], ◌∷◌, codes}
 use Rattle.drawing_grammar.specs.declared.terminal.Keyword.{Keyword}
 use Rattle.drawing_grammar.specs.declared.terminal.Keyword.TheVariants.{By, Hazard, Const, To, Do}
@@ -73,8 +73,9 @@ keyword_text ForWord = codes "FOR"
 keyword_text To = codes "TO"
 keyword_text Do = codes "DO"
 
--- What has to be written: a token that stands for itself, one whose text counts, a keyword, an expression of its
--- own, or a part or a group where so many parentheses and minus signs, or IFs and FORs, are open.
+-- What has to be written: a token that stands for itself, one whose text counts, a keyword, an
+-- expression of its own, or a part or a group where so many parentheses and minus signs, or IFs and
+-- FORs, are open.
 pub data Need : Type 0 where
   mark : Terminal → Need
   item : Terminal → Need
@@ -203,8 +204,8 @@ constants Second rest = group Constants 0 ∷ rest
 -- a text from its macros on
 abbrev pub from_macros : Edition → List Need
 from_macros v =
-    group (Macros v) 0 ∷ mark Drawing ∷ item Word ∷ mark Semicolon ∷ group (Statements v) 0 ∷ mark End
-    ∷ mark Semicolon ∷ group Cases 0 ∷ mark EndOfText ∷ []
+    group (Macros v) 0 ∷ mark Drawing ∷ item Word ∷ mark Semicolon ∷ group (Statements v) 0
+    ∷ mark End ∷ mark Semicolon ∷ group Cases 0 ∷ mark EndOfText ∷ []
 
 -- What follows that token, where n are open.
 abbrev pub following : {p : Part} → Choice p → ℕ → List Need
@@ -252,8 +253,10 @@ following for_ n =
     item Word ∷ mark Equals ∷ own_sum (keyword To ∷ own_sum (keyword Do
     ∷ group (Statements Second) (suc n) ∷ mark End ∷ mark Semicolon ∷ []))
 following (else_ {v = v}) n = group (Statements v) n ∷ []
-following (macro {v = v}) n = item Word ∷ part Parameters 0 ∷ mark OpenParenthesis ∷ group Formals
-    0 ∷ mark CloseParenthesis ∷ part FormalOutputs 0 ∷ mark Semicolon ∷ group (Statements v) 0 ∷ mark End ∷ mark Semicolon ∷ []
+following (macro {v = v}) n =
+    item Word ∷ part Parameters 0 ∷ mark OpenParenthesis ∷ group Formals 0 ∷ mark CloseParenthesis
+    ∷ part FormalOutputs 0 ∷ mark Semicolon ∷ group (Statements v) 0 ∷ mark End
+    ∷ mark Semicolon ∷ []
 following index n = item Number ∷ mark Greater ∷ []
 following entry n = part Index 0 ∷ mark Equals ∷ item Number ∷ []
 following next_entry n = part Entry 0 ∷ part MoreEntries 0 ∷ []
@@ -262,8 +265,9 @@ following wire_bounds n = bounds []
 following precision_skew n = bounds []
 following clock_skew n = bounds []
 following (text {v = v}) n =
-    item Number ∷ mark Semicolon ∷ item Clock ∷ item Number ∷ keyword By ∷ item Number ∷ mark Semicolon
-    ∷ part WireBounds 0 ∷ part PrecisionSkew 0 ∷ part ClockSkew 0 ∷ constants v (from_macros v)
+    item Number ∷ mark Semicolon ∷ item Clock ∷ item Number ∷ keyword By ∷ item Number
+    ∷ mark Semicolon ∷ part WireBounds 0 ∷ part PrecisionSkew 0 ∷ part ClockSkew 0
+    ∷ constants v (from_macros v)
 
 -- what a group begins with
 abbrev pub lead : Group → Part
@@ -299,7 +303,8 @@ others (Statements v) n = group (Statements v) n ∷ []
 others (Macros v) n = group (Macros v) n ∷ []
 others Cases n = group Cases n ∷ []
 
--- What a choice costs: it opens one more parenthesis, minus sign, IF or FOR, it is a binary operator, or nothing.
+-- What a choice costs: it opens one more parenthesis, minus sign, IF or FOR, it is a binary
+-- operator, or nothing.
 pub data Cost : Type 0 where
   plain : Cost
   opens : Cost

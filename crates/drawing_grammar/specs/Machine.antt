@@ -1,5 +1,5 @@
--- What has still to come, token by token. A step looks at one token, and where a statement begins with the word
--- FOR at the next one too.
+-- What has still to come, token by token. A step looks at one token, and where a statement begins
+-- with the word FOR at the next one too.
 use Rattle.std.specs.Prelude.{◌≡◌, ℕ, Bool, false, not, ◌&&◌, ◌==◌, nat_le, List, [], ◌∷◌, ◌++◌, Option, Some, None, Result, Ok, Err, ⊤, if◌then◌else◌}
 use Rattle.std.specs.Str.{bytes_eq}
 use Rattle.scald_base.specs.declared.refusal.Place.{Place}
@@ -73,12 +73,12 @@ abbrev pub no_colon : List Lexeme → Bool
 no_colon [] = false
 no_colon (t ∷ ts) = not (same (terminal t) is.Colon)
 
--- FOR, and a token behind it that is no colon
+-- FOR, and after it a token that is no colon
 abbrev pub is_loop : Lexeme → List Lexeme → Bool
 is_loop t ts = is_keyword For t && no_colon ts
 
--- The choice of a part that may begin with it. A statement that begins with a word may be a FOR as well, in version 2,
--- and a constant begins with one word alone.
+-- The choice of a part that may begin with it. In version 2 a statement that begins with a word may
+-- be a FOR as well, and a constant begins with one word alone.
 abbrev pub choice : (p : Part) → Terminal → Option (Choice p)
 choice g.Unary is.Number = Some g.number
 choice g.Unary is.Word = Some g.parameter
@@ -130,11 +130,13 @@ choice g.ClockSkew is.Cskew = Some g.clock_skew
 choice (g.Text v) is.Scald = Some g.text
 choice _ _ = None
 
--- The choice of a part that begins with this token, before these. Where a constant may stand, the word CONST begins
--- one; where a statement may stand, the word FOR begins a FOR, unless a colon follows and it is a label.
+-- The choice of a part that begins with this token, before these. Where a constant may stand, the
+-- word CONST begins one; where a statement may stand, the word FOR begins a FOR, unless a colon
+-- follows and it is a label.
 abbrev pub choice_at : (p : Part) → Lexeme → List Lexeme → Option (Choice p)
 choice_at g.Constant t ts = if is_keyword Const t then Some g.constant else None
-choice_at (g.Statement Second) t ts = if is_loop t ts then Some g.for_ else choice (g.Statement Second) (terminal t)
+choice_at (g.Statement Second) t ts =
+    if is_loop t ts then Some g.for_ else choice (g.Statement Second) (terminal t)
 choice_at p t ts = choice p (terminal t)
 
 -- What a token does to what is needed: other needs, of which the token has this weight, or nothing that is needed
@@ -172,8 +174,10 @@ step (mark l ∷ rest) a t ts = if same (terminal t) l then Next rest a 0 (λ v.
 step (item l ∷ rest) a t ts = if same (terminal t) l then Next rest a 0 (λ v. (t, v)) else Stuck
 step (keyword x ∷ rest) a t ts = if is_keyword x t then Next rest a 0 (λ v. v) else Stuck
 step (fresh ∷ rest) a t ts = passed (step rest 0 t ts) (λ v. v)
-step (part p n ∷ rest) a t ts = entered p n rest a t (choice_at p t ts) (absent_value p) (step rest a t ts)
-step (group h n ∷ rest) a t ts = group_entered h n rest a t (choice_at (lead h) t ts) (absent_group h) (step rest a t ts)
+step (part p n ∷ rest) a t ts =
+    entered p n rest a t (choice_at p t ts) (absent_value p) (step rest a t ts)
+step (group h n ∷ rest) a t ts =
+    group_entered h n rest a t (choice_at (lead h) t ts) (absent_group h) (step rest a t ts)
 
 -- all that is needed has come, or the text is refused
 pub data Verdict (needs : List Need) : Type 0 where

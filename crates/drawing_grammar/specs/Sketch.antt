@@ -189,11 +189,13 @@ behind (part p n ∷ needs) rest v = behind needs rest v.1
 behind (group g n ∷ needs) rest v = behind needs rest v.1
 
 -- what a text's constants stand for, and what follows them
-abbrev pub constants_of : (v : Edition) (rest : List Need) → Values (constants v rest) → PlacedConstants
+abbrev pub constants_of : (v : Edition) (rest : List Need) → Values (constants v rest) →
+    PlacedConstants
 constants_of First rest x = no_constants
 constants_of Second rest x = x.0
 
-abbrev pub behind_constants : (v : Edition) (rest : List Need) → Values (constants v rest) → Values rest
+abbrev pub behind_constants : (v : Edition) (rest : List Need) → Values (constants v rest) →
+    Values rest
 behind_constants First rest x = x
 behind_constants Second rest x = x.1
 

@@ -12,8 +12,8 @@ use Rattle.drawing_grammar.specs.Sketch.{Meaning, GroupMeaning, Values, front, b
 abbrev pub Is : Keyword → Lexeme → Type 0
 Is x t = (terminal t ≡ Word) × (t.text ≡ keyword_text x)
 
--- The token may begin the choice. A constant and a FOR begin with a word of their own, any other choice with what
--- the grammar takes the token for.
+-- The token may begin the choice. A constant and a FOR begin with a word of their own, any other
+-- choice with what the grammar takes the token for.
 abbrev pub MayOpen : {p : Part} → Choice p → Lexeme → Type 0
 MayOpen constant t = Is Const t
 MayOpen for_ t = Is For t
@@ -25,9 +25,11 @@ pub data Written : List Need → Type 0 where
   nothing : Written []
   marked : {l : Terminal} {rest : List Need} (t : Lexeme) → terminal t ≡ l → Written rest → Written (mark l ∷ rest)
   token : {l : Terminal} {rest : List Need} (t : Lexeme) → terminal t ≡ l → Written rest → Written (item l ∷ rest)
-  worded : {x : Keyword} {rest : List Need} (t : Lexeme) → terminal t ≡ Word → t.text ≡ keyword_text x → Written rest → Written (keyword x ∷ rest)
+  worded : {x : Keyword} {rest : List Need} (t : Lexeme) → terminal t ≡ Word →
+      t.text ≡ keyword_text x → Written rest → Written (keyword x ∷ rest)
   begun : {rest : List Need} → Written rest → Written (fresh ∷ rest)
-  chosen : {p : Part} {n : ℕ} {rest : List Need} (c : Choice p) (t : Lexeme) → MayOpen c t → Written (following c n ++ rest) → Written (part p n ∷ rest)
+  chosen : {p : Part} {n : ℕ} {rest : List Need} (c : Choice p) (t : Lexeme) → MayOpen c t →
+      Written (following c n ++ rest) → Written (part p n ∷ rest)
   left_out : {p : Part} {n : ℕ} {rest : List Need} (v : Meaning p) → absent_value p ≡ Some v → Written rest → Written (part p n ∷ rest)
   grouped : {g : Group} {n : ℕ} {rest : List Need} → Written (part (lead g) n ∷ (others g n ++ rest)) → Written (group g n ∷ rest)
   lacking : {g : Group} {n : ℕ} {rest : List Need} (v : GroupMeaning g) → absent_group g ≡ Some v → Written rest → Written (group g n ∷ rest)
@@ -44,8 +46,8 @@ spelling (left_out v e w) = spelling w
 spelling (grouped w) = spelling w
 spelling (lacking v e w) = spelling w
 
--- how many parentheses and minus signs, or IFs and FORs, are open with a token that opens one more, and which binary operator
--- of its expression a token is, where a came before
+-- how many parentheses and minus signs, or IFs and FORs, are open with a token that opens one more,
+-- and which binary operator of its expression a token is, where a came before
 abbrev pub weight : Cost → ℕ → ℕ → ℕ
 weight plain n a = 0
 weight opens n a = suc n

@@ -105,7 +105,8 @@ line margin text = margin ++ text ++ 10 ∷ []
 -- the first line of a FOR
 abbrev pub for_text : List ℕ → Expression → Expression → List ℕ
 for_text var first last =
-    codes "FOR " ++ var ++ codes " = " ++ sum_text first ++ codes " TO " ++ sum_text last ++ codes " DO"
+    codes "FOR " ++ var ++ codes " = " ++ sum_text first
+    ++ codes " TO " ++ sum_text last ++ codes " DO"
 
 -- the margin of what an IF or a FOR holds
 abbrev pub deeper : List ℕ → List ℕ

@@ -40,8 +40,8 @@ pub record IsCaseAt (P : Place → Type 0) (c : CaseStmt) : Type 0 where
   pub place : P c.place
   pub entries : AllByRecursion (IsEntryAt P) c.entries
 
--- It holds of the place of each constant, each statement and connection, each macro, each case and each of
--- its entries.
+-- It holds of the place of each constant, each statement and connection, each macro, each case and
+-- each of its entries.
 pub record EachPlace (P : Place → Type 0) (d : Drawing) : Type 0 where
   pub consts : AllByRecursion P d.const_places
   pub macros : AllByRecursion (IsMacroAt P) d.macros

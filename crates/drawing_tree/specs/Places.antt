@@ -23,7 +23,8 @@ abbrev mutual
   unplaced_statement (Use u) = Use (unplaced_use u)
   unplaced_statement (Wire w) = Wire (unplaced_wire w)
   unplaced_statement (If test ss other place) = If test (unplaced_statements ss) (unplaced_otherwise other) nowhere
-  unplaced_statement (For var first last ss place) = For var first last (unplaced_statements ss) nowhere
+  unplaced_statement (For var first last ss place) =
+      For var first last (unplaced_statements ss) nowhere
 
   pub unplaced_statements : Statements → Statements
   unplaced_statements nil = nil

@@ -77,8 +77,8 @@ pub record WireStatement : Type 0 where
   pub max : Expression
   pub place : Place
 
--- An IF has its test, the statements after THEN, those after ELSE where ELSE is written, and its place. A
--- FOR has its variable, the first and the last value, its statements, and its place.
+-- An IF has its test, the statements after THEN, those after ELSE where ELSE is written, and its
+-- place. A FOR has its variable, the first and the last value, its statements, and its place.
 mutual
   pub data Statement : Type 0 where
     Use : UseStatement → Statement

@@ -1,10 +1,10 @@
 //! The tree of a drawing, and its canonical text.
 //!
-//! A drawing has constants, macros, statements and cases; statements put primitives and macros to use, and
-//! connections say on which bits of which nets. `print_drawing` writes a drawing canonically, as
-//! `specs/Canonical` and `specs/ExpressionText` say. `specs/Tree` sees a drawing as a tree of what it
-//! holds, of which the layers above speak, `specs/Places` says when two are alike but for the places
-//! of their parts, and `specs/WellFormed` which drawings a text can draw.
+//! A drawing has constants, macros, statements and cases; statements put primitives and macros to
+//! use, and connections say on which bits of which nets. `print_drawing` writes a drawing
+//! canonically, as `specs/Canonical` and `specs/ExpressionText` say. `specs/Tree` sees a drawing as
+//! a tree of what it holds, of which the layers above speak, `specs/Places` says when two are alike
+//! but for the places of their parts, and `specs/WellFormed` which drawings a text can draw.
 #![tactic(auto)]
 
 mod connection;

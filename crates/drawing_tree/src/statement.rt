@@ -55,8 +55,8 @@ pub struct IfStmt {
     pub place: Place,
 }
 
-/// Statements once for each value of a variable, from the first to the last, upwards, with the place
-/// of the word FOR.
+/// Statements once for each value of a variable, from the first to the last, upwards, with the
+/// place of the word FOR.
 #[cycle(stmt)]
 #[derive(Drop, PartialEq, Eq, Debug)]
 pub struct ForStmt {
