@@ -64,7 +64,7 @@ stored_obeys false xs s bit o h = h
 stored_obeys true xs s bit o h = forced_obeys (nth_signal xs 2 s) (nth_signal xs 3 s) bit o h
 
 -- a gate's bit, at a tick at which it is asked
-gate_obeys : (kind : Kind) (choice : Chosen) (xs : List Signal) (o : Bool) (t : ℕ) → 1 ≤ length choice.wires →
+pub gate_obeys : (kind : Kind) (choice : Chosen) (xs : List Signal) (o : Bool) (t : ℕ) → 1 ≤ length choice.wires →
     All (λ b. b ≤ t) (pins_before (max choice.rise choice.fall) choice.wires) → (d : Bounds) (old : Bool) → IsFixedTo (fixed Gate kind d choice xs old t) o →
     o ≡ split_bit (gate_signal kind xs) choice.rise choice.fall t
 gate_obeys kind choice xs o t some asked d old h =
@@ -72,7 +72,7 @@ gate_obeys kind choice xs o t some asked d old h =
     h ∙ waited_is (gate_signal kind xs) (are_shown 0 choice.wires) choice.rise choice.fall t far
     (λ u l. there_from u (pins_before 0 choice.wires) (shown_at (max choice.rise choice.fall) 0 t u choice.wires (λ m. omega arith) asked))
 
-same_stays : (a b : Bool) → a ≡ b → cond a b (cond b false true) ≡ true
+pub same_stays : (a b : Bool) → a ≡ b → cond a b (cond b false true) ≡ true
 same_stays true true e = refl
 same_stays true false e = absurd (cc)
 same_stays false true e = absurd (cc)
@@ -84,7 +84,7 @@ all_stay u (x ∷ xs) a =
     and_from (stays_at u x) (list_all (stays_at u) xs) (same_stays (x (u - 1)) (x u) (All-head (λ (z : Signal). z (u - 1) ≡ z u) x xs a))
     (all_stay u xs (All-tail (λ (z : Signal). z (u - 1) ≡ z u) x xs a))
 
-obeys_one : (form : Form) (kind : Kind) (d : Bounds) (choice : Chosen) (xs : List Signal) (o : Signal) (t : ℕ) → 1 ≤ length choice.wires → AsOne form None choice →
+pub obeys_one : (form : Form) (kind : Kind) (d : Bounds) (choice : Chosen) (xs : List Signal) (o : Signal) (t : ℕ) → 1 ≤ length choice.wires → AsOne form None choice →
     All (λ b. b ≤ t) (named_in form d choice) → IsFixedTo (fixed form kind d choice xs (o (t - 1)) t) (o t) → EquationOf form kind d choice.delay xs o t
 obeys_one Gate kind d choice xs o t some one asked h =
     let z = gate_signal kind xs in
@@ -112,7 +112,7 @@ fixed_obeys kind d (Some s) choice xs o t some one gate asked h =
 
 -- ---- where nothing is fixed
 
-stays_same : (a b : Bool) → cond a b (cond b false true) ≡ true → a ≡ b
+pub stays_same : (a b : Bool) → cond a b (cond b false true) ≡ true → a ≡ b
 stays_same true true e = refl
 stays_same true false e = absurd (cc)
 stays_same false true e = absurd (cc)

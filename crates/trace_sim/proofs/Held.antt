@@ -27,7 +27,7 @@ row_passes test (suc m) u l h = by (test m) refl (λ k. row_passes test m u k) h
     by false e before h = absurd (omega arith)
 
 -- and the one before it does not
-row_stops : (test : ℕ → Bool) (n : ℕ) → in_a_row test n < n → test (n - in_a_row test n - 1) ≡ false
+pub row_stops : (test : ℕ → Bool) (n : ℕ) → in_a_row test n < n → test (n - in_a_row test n - 1) ≡ false
 row_stops test zero l = absurd (omega arith)
 row_stops test (suc m) l = by (test m) refl (λ k. row_stops test m k) l
   where

@@ -1,12 +1,15 @@
+pub mod PinByPin
 pub mod Shown
 pub mod Held
 pub mod Agreeing
 pub mod Fixed
+pub mod Converse
 pub mod Chosen
 pub mod Walk
 pub mod Orders
 pub mod Turns
 pub mod Exists
+pub mod One
 pub mod Made
 pub mod Steps
 pub mod Examples

@@ -49,6 +49,12 @@ pub record PickFits (c : Circuit) (i : Instance) (pick : ℕ × ℕ) (wires : Li
   pub one : IsOneDelay i.kind (two_delays i.kind i.split) pick
   pub wire : WiresFit c.nets i.pins wires
 
+-- the picks at the instance of a number, where there are any
+abbrev pub PickFitsAt : Circuit → Choice → ℕ → Type 0
+PickFitsAt c choice k =
+    (i : Instance) (pick : ℕ × ℕ) (wires : List ℕ) → slice_get c.instances k ≡ Some i →
+    slice_get choice.delays k ≡ Some pick → slice_get choice.wires k ≡ Some wires → PickFits c i pick wires
+
 -- a bit for each net and each tick
 pub record AreTraces (nets ticks : ℕ) (bits : Bits) : Type 0 where
   pub rows : length bits ≡ nets
@@ -59,7 +65,6 @@ pub record AreTraces (nets ticks : ℕ) (bits : Bits) : Type 0 where
 pub record ChoiceFits (c : Circuit) (choice : Choice) (ticks : ℕ) : Type 0 where
   pub delays : length choice.delays ≡ length c.instances
   pub wires : length choice.wires ≡ length c.instances
-  pub fits : (k : ℕ) (i : Instance) (pick : ℕ × ℕ) (wires : List ℕ) → slice_get c.instances k ≡ Some i →
-      slice_get choice.delays k ≡ Some pick → slice_get choice.wires k ≡ Some wires → PickFits c i pick wires
+  pub fits : (k : ℕ) → PickFitsAt c choice k
   pub inputs : AreTraces (length c.nets) ticks choice.inputs
   pub free : AreTraces (length c.nets) ticks choice.free

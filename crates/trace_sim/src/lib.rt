@@ -10,6 +10,7 @@
 
 mod asked;
 mod choice;
+mod fitting;
 mod gates;
 pub mod laws;
 mod levels;
@@ -19,4 +20,5 @@ mod rows;
 mod search;
 
 pub use choice::{Choice, DelayPicks, Levels, Traces, WirePicks};
+pub use fitting::{choice_fits, pick_fits};
 pub use making::simulate;
