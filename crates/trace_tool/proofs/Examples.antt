@@ -1,0 +1,66 @@
+-- The words on outcomes and words, computed.
+use Rattle.std.proofs.Common.{◌≡◌, ℕ, List, [], ◌∷◌, map, refl, Option, Some, None}
+use Rattle.std.specs.Prelude.{codes, Result, Ok, Err}
+use Rattle.std.specs.Fmt.{digits}
+use Rattle.scald_base.specs.declared.refusal.Refusal.{Refusal}
+use Rattle.trace_tool.specs.declared.outcome.TraceOutcome.TheVariants.{Done, Broken, Refused, NotRun, BadWords, TooLong, ReadFault, WriteFault, NoMemory, BadTrace, NoCase, TooBig}
+use Rattle.trace_tool.specs.declared.words.Command.{Command}
+use Rattle.trace_tool.specs.declared.words.Command.TheVariants.{Run, Judge}
+use Rattle.trace_tool.specs.Outcome.{status_of}
+use Rattle.trace_tool.specs.Words.{command_of, number_in}
+
+-- ---- outcomes
+
+module _ (r : Refusal) (i : ℕ) where
+  statuses : map status_of (Done ∷ Broken ∷ Refused r ∷ NotRun ∷ BadWords i ∷ TooLong ∷ ReadFault ∷ WriteFault ∷ NoMemory ∷ BadTrace i ∷ NoCase i ∷ TooBig ∷ [])
+      ≡ 0 ∷ 1 ∷ 2 ∷ 3 ∷ 4 ∷ 5 ∷ 6 ∷ 7 ∷ 8 ∷ 9 ∷ 10 ∷ 11 ∷ []
+  statuses = refl
+
+-- ---- numbers
+
+abbrev numbers : ℕ → ℕ → List (List ℕ) → List (Option ℕ)
+numbers least most texts = map (number_in least most) texts
+
+seeds : numbers 0 18446744073709551615
+    (codes "0" ∷ codes "00" ∷ codes "7" ∷ codes "07" ∷ codes "18446744073709551615" ∷ codes "18446744073709551616" ∷ codes "" ∷ codes "-1" ∷ codes "1x" ∷ [])
+    ≡ Some 0 ∷ None ∷ Some 7 ∷ None ∷ Some 18446744073709551615 ∷ None ∷ None ∷ None ∷ None ∷ []
+unfolding digits number_in
+seeds = refl
+
+ticks : numbers 1 4096 (codes "0" ∷ codes "1" ∷ codes "4096" ∷ codes "4097" ∷ []) ≡ None ∷ Some 1 ∷ Some 4096 ∷ None ∷ []
+unfolding digits number_in
+ticks = refl
+
+-- ---- words
+
+abbrev commands : List (List (List ℕ)) → List (Result Command ℕ)
+commands texts = map command_of texts
+
+forms : commands (
+    (codes "run" ∷ codes "6" ∷ codes "0" ∷ [])
+    ∷ (codes "run" ∷ codes "6" ∷ codes "0" ∷ codes "case=2" ∷ [])
+    ∷ (codes "judge" ∷ codes "0" ∷ [])
+    ∷ (codes "judge" ∷ codes "4096" ∷ []) ∷ [])
+    ≡ Ok (Run 6 0 None) ∷ Ok (Run 6 0 (Some 2)) ∷ Ok (Judge 0) ∷ Ok (Judge 4096) ∷ []
+unfolding digits number_in
+forms = refl
+
+missing : commands ([] ∷ (codes "run" ∷ []) ∷ (codes "run" ∷ codes "6" ∷ []) ∷ (codes "judge" ∷ []) ∷ [])
+    ≡ Err 0 ∷ Err 1 ∷ Err 2 ∷ Err 1 ∷ []
+unfolding digits number_in
+missing = refl
+
+wrong : commands (
+    (codes "verify" ∷ [])
+    ∷ (codes "run" ∷ codes "0" ∷ codes "0" ∷ [])
+    ∷ (codes "run" ∷ codes "06" ∷ codes "0" ∷ [])
+    ∷ (codes "run" ∷ codes "6" ∷ codes "case=1" ∷ [])
+    ∷ (codes "run" ∷ codes "6" ∷ codes "0" ∷ codes "case=0" ∷ [])
+    ∷ (codes "run" ∷ codes "6" ∷ codes "0" ∷ codes "case=257" ∷ [])
+    ∷ (codes "run" ∷ codes "6" ∷ codes "0" ∷ codes "CASE=1" ∷ [])
+    ∷ (codes "run" ∷ codes "6" ∷ codes "0" ∷ codes "case=1" ∷ codes "x" ∷ [])
+    ∷ (codes "judge" ∷ codes "4097" ∷ [])
+    ∷ (codes "judge" ∷ codes "1" ∷ codes "1" ∷ []) ∷ [])
+    ≡ Err 0 ∷ Err 1 ∷ Err 1 ∷ Err 2 ∷ Err 3 ∷ Err 3 ∷ Err 3 ∷ Err 4 ∷ Err 1 ∷ Err 2 ∷ []
+unfolding digits number_in
+wrong = refl

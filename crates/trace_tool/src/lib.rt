@@ -1,0 +1,13 @@
+//! The call of the simulator: its words, and how it ends.
+//!
+//! `run T SEED` draws a run of so many ticks by the words of a generator that is seeded so, in a case
+//! where `case=K` follows; `judge F` says whether a trace is a run, and what breaks in it from tick F on.
+//! The program's main call reads its words by [`read_words`], which `specs/Words` defines, and ends with
+//! the [`trace_status`] of its [`TraceOutcome`] (`specs/Outcome`).
+#![tactic(auto)]
+
+mod outcome;
+mod words;
+
+pub use outcome::{TraceOutcome, trace_status};
+pub use words::{Command, read_words};
