@@ -25,18 +25,21 @@ zip_slots_from : {A B : Type 0} (n i : ℕ) (f : ℕ → A) (h : ℕ → B) → 
 zip_slots_from zero i f h = refl
 zip_slots_from (suc n) i f h = ap (λ l. (f i, h i) ∷ l) (zip_slots_from n (i + 1) f h)
 
-zip_cells : (xs ys : List Value) → length ys ≡ length xs → zip xs ys ≡ slots (length xs) (λ p. (cell_at values xs p, cell_at values ys p))
-zip_cells xs ys long =
-    ap (λ (l : List Value). zip l ys) (sym (own_slots xs))
-    ∙ ap (zip (slots (length xs) (cell_at values xs))) (sym (own_slots ys) ∙ ap (λ (m : ℕ). slots m (cell_at values ys)) long)
-    ∙ zip_slots_from (length xs) 0 (cell_at values xs) (cell_at values ys)
+-- what is made of two lists, slot by slot
+pub zipped : (f : Value → Value → Value) (xs ys : List Value) (n : ℕ) (x y : ℕ → Value) → xs ≡ slots n x → ys ≡ slots n y →
+    map (λ (q : Value × Value). f q.0 q.1) (zip xs ys) ≡ slots n (λ p. f (x p) (y p))
+zipped f xs ys n x y x_is y_is =
+    (λ j. map (λ (q : Value × Value). f q.0 q.1) (zip (x_is j) (y_is j)))
+    ∙ ap (map (λ (q : Value × Value). f q.0 q.1)) (zip_slots_from n 0 x y)
+    ∙ slots_map (λ (q : Value × Value). f q.0 q.1) n (λ p. (x p, y p))
+
+pub as_slots : (cells : List Value) (n : ℕ) → length cells ≡ n → cells ≡ slots n (cell_at values cells)
+as_slots cells n long = sym (own_slots cells) ∙ ap (λ (m : ℕ). slots m (cell_at values cells)) long
 
 pub both_slots : (f : List Value → Value) (xs ys : List Value) (n : ℕ) → length xs ≡ n → length ys ≡ length xs →
     map (λ (q : Value × Value). f (q.0 ∷ q.1 ∷ [])) (zip xs ys) ≡ slots n (λ p. f (cell_at values xs p ∷ cell_at values ys p ∷ []))
 both_slots f xs ys n long same =
-    ap (map (λ (q : Value × Value). f (q.0 ∷ q.1 ∷ []))) (zip_cells xs ys same)
-    ∙ slots_map (λ (q : Value × Value). f (q.0 ∷ q.1 ∷ [])) (length xs) (λ p. (cell_at values xs p, cell_at values ys p))
-    ∙ ap (λ (m : ℕ). slots m (λ p. f (cell_at values xs p ∷ cell_at values ys p ∷ []))) long
+    zipped (λ v u. f (v ∷ u ∷ [])) xs ys n (cell_at values xs) (cell_at values ys) (as_slots xs n long) (as_slots ys n (same ∙ long))
 
 -- the same, where the list of the waves has one, or has two
 

@@ -16,7 +16,8 @@ pub mod Few
 pub mod Folding
 pub mod PermitExamples
 pub mod HoldExamples
-pub mod SplitWindows
 pub mod SplitSound
 pub mod SplitCovers
+pub mod SplitWindows
+pub mod SplitSlots
 pub mod SplitExamples

@@ -1,28 +1,24 @@
 -- What the windows of two delays show in each slot is what their slots hold, and so the values made of
 -- them are those of the definition.
-use Rattle.std.proofs.Common.{◌≡◌, ℕ, zero, suc, ◌+◌, ◌-◌, ◌<◌, nat_le, Bool, true, false, not, ◌&&◌, ◌||◌, List, [], ◌∷◌, length, Option, refl, sym, ap, ◌∙◌, arith}
-use Rattle.std.specs.List.{All}
-use Rattle.std.proofs.lemmas.List.Elements.{All-nil, All-cons}
+use Rattle.std.proofs.Common.{◌≡◌, ℕ, zero, suc, ◌+◌, ◌-◌, ◌<◌, ◌≤◌, ◌⊎◌, inl, inr, nat_le, Bool, true, false, not, ◌&&◌, ◌||◌, if◌then◌else◌, List, length, refl, sym, ap, ◌∙◌, arith}
+use Rattle.std.proofs.Math.Bool.{and_self}
+use Rattle.std.proofs.lemmas.Bool.{leb-true}
 use Rattle.scald_base.specs.Clock.{back}
 use Rattle.scald_base.specs.Time.{Bounds}
-use Rattle.wave_core.specs.Slots.{slots, later, earlier}
-use Rattle.wave_core.proofs.Slots.{length_slots, get_or_slots, earlier_slots}
+use Rattle.wave_core.specs.Slots.{earlier}
 use Rattle.step_values.specs.declared.value.Value.{Value}
-use Rattle.step_values.specs.declared.value.Value.TheVariants.{U}
 use Rattle.step_values.specs.Steps.{has, join, cover_of, is_unknown}
 use Rattle.step_values.specs.Cell.{values}
 use Rattle.step_values.specs.Each.{tests_are}
-use Rattle.skew_algebra.specs.Wave.{Wave, skewed, cell_at, fold, normal}
-use Rattle.skew_algebra.proofs.Moves.{length_later}
-use Rattle.element_kinds.specs.declared.kind.Kind.{Kind}
+use Rattle.skew_algebra.specs.Wave.{skewed, fold}
 use Rattle.flat_circuit.specs.declared.split.Split.{Split}
 use Rattle.flat_circuit.specs.Split.{either_delay}
+use Rattle.gate_eval.specs.Hold.{staying}
 use Rattle.gate_eval.specs.Change.{all_to}
 use Rattle.gate_eval.specs.Window.{window}
-use Rattle.gate_eval.specs.Split.{some_to, some_before, ends_in, may_rise, may_fall, may_be, slot_before, split_value, late_by_two, split_wave}
-use Rattle.gate_eval.specs.Instance.{gate_image}
-use Rattle.gate_eval.specs.SplitWindow.{bit_seen, split_of}
-use Rattle.gate_eval.proofs.Gathered.{slots_same}
+use Rattle.gate_eval.specs.Split.{some_to, some_before, ends_in, may_rise, may_fall, may_be, may_be_one, may_be_zero, slot_before, split_value}
+use Rattle.gate_eval.specs.SplitWindow.{resting, own_bits, both_end, slow_rise_bits, slow_fall_bits, bits_seen, edges, edges_after, edges_from, output_of}
+use Rattle.gate_eval.proofs.SplitCovers.{some_bit}
 use Rattle.gate_eval.proofs.Windows.{earlier_back, test_window}
 
 -- ---- a join of values loses no step, and has none that neither has
@@ -77,83 +73,142 @@ window_some test through cells d p some =
     turns : (a b : Bool) → not (a || b) ≡ (not a && not b)
     turns a b = grind arith
 
+-- ---- the bits and the edges, and what is told by them
+
+ends_staying : (b : Bool) → ends_in true (staying b) ≡ b
+ends_staying true = refl
+ends_staying false = refl
+
+resting_low : (low high unknown : Bool) → ends_in false (resting low high unknown) ≡ low
+resting_low true true true = refl
+resting_low true true false = refl
+resting_low true false unknown = refl
+resting_low false high unknown = refl
+
+resting_high : (low high unknown : Bool) → (high ≡ true) ⊎ (low ≡ true) → ends_in true (resting low high unknown) ≡ high
+resting_high true true true some = refl
+resting_high true true false some = refl
+resting_high true false unknown some = refl
+resting_high false true unknown some = refl
+resting_high false false unknown (inl h) = sym h
+resting_high false false unknown (inr h) = sym h
+
+resting_unknown : (low high unknown : Bool) → is_unknown (resting low high unknown) ≡ (low && (high && unknown))
+resting_unknown true true true = refl
+resting_unknown true true false = refl
+resting_unknown true false unknown = refl
+resting_unknown false high unknown = refl
+
+edges_rise : (rises falls : Bool) → may_rise (edges rises falls) ≡ rises
+edges_rise true true = refl
+edges_rise true false = refl
+edges_rise false true = refl
+edges_rise false false = refl
+
+edges_fall : (rises falls : Bool) → may_fall (edges rises falls) ≡ falls
+edges_fall true true = refl
+edges_fall true false = refl
+edges_fall false true = refl
+edges_fall false false = refl
+
+-- What is unknown only counts where the output may be at both bits.
+unknown_counts : (low rises falls high unknown : Bool) →
+    cover_of low (high && rises) (low && falls) high (low && (high && unknown)) ≡ cover_of low (high && rises) (low && falls) high unknown
+unknown_counts true rises falls true unknown = refl
+unknown_counts true rises true false unknown = refl
+unknown_counts true rises false false unknown = refl
+unknown_counts false true falls true unknown = refl
+unknown_counts false false falls true unknown = refl
+unknown_counts false rises falls false unknown = refl
+
 module _ (s : Split) (cells : List Value) (some : 0 < length cells) where
   abbrev seen : Bounds → ℕ → Value
   seen d p = window (skewed cells 0) d p
 
-  bit_is : (bit is_longer : Bool) (p : ℕ) → bit_seen bit is_longer (seen (either_delay s) p) (seen s.rise p) (seen s.fall p) ≡ may_be bit is_longer s cells p
-  bit_is bit true p =
+  abbrev pub bits_in : ℕ → Value
+  bits_in p = bits_seen s (seen (either_delay s) p) (seen s.rise p) (seen s.fall p)
+
+  abbrev pub edges_in : ℕ → Value
+  edges_in p = edges_after (seen s.rise p) (seen s.fall p)
+
+  abbrev pub left_in : ℕ → Value
+  left_in p = edges_from (bits_in (slot_before cells p)) (edges_in p)
+
+  abbrev unknown_at : ℕ → Bool
+  unknown_at p = some_before is_unknown cells (either_delay s) p
+
+  either_ends : (bit : Bool) (p : ℕ) → ends_in bit (seen (either_delay s) p) ≡ may_be bit false s cells p
+  either_ends bit p = window_some (ends_in bit) (join_ends bit) cells (either_delay s) p some
+
+  both_ends : (bit : Bool) (p : ℕ) → ends_in true (both_end bit (seen s.rise p) (seen s.fall p)) ≡ may_be bit true s cells p
+  both_ends bit p =
       let rise : ends_in bit (seen s.rise p) ≡ some_before (ends_in bit) cells s.rise p = window_some (ends_in bit) (join_ends bit) cells s.rise p some in
       let fall : ends_in bit (seen s.fall p) ≡ some_before (ends_in bit) cells s.fall p = window_some (ends_in bit) (join_ends bit) cells s.fall p some in
-      λ j. rise j && fall j
-  bit_is bit false p = window_some (ends_in bit) (join_ends bit) cells (either_delay s) p some
+      ends_staying (ends_in bit (seen s.rise p) && ends_in bit (seen s.fall p)) ∙ (λ j. rise j && fall j)
 
-  -- the value that is made of the windows of a slot and of the slot before
-  value_is : (p : ℕ) →
-      split_of s (seen (either_delay s) p ∷ seen s.rise p ∷ seen s.fall p
-      ∷ seen (either_delay s) (slot_before cells p) ∷ seen s.rise (slot_before cells p) ∷ seen s.fall (slot_before cells p) ∷ [])
-      ≡ split_value s cells p
-  value_is p =
-      let one = bit_is true (nat_le s.fall.max s.rise.min) p in
-      let none = bit_is false (nat_le s.rise.max s.fall.min) p in
-      let one_before = bit_is true (nat_le s.fall.max s.rise.min) (slot_before cells p) in
-      let none_before = bit_is false (nat_le s.rise.max s.fall.min) (slot_before cells p) in
-      let rises : may_rise (seen s.rise p) ≡ some_before may_rise cells s.rise p = window_some may_rise (join_has false true) cells s.rise p some in
-      let falls : may_fall (seen s.fall p) ≡ some_before may_fall cells s.fall p = window_some may_fall (join_has true false) cells s.fall p some in
-      let unknown : is_unknown (seen (either_delay s) p) ≡ some_before is_unknown cells (either_delay s) p =
-      window_some is_unknown join_unknown cells (either_delay s) p some in
-      λ j. cover_of (none j) (one j && (none_before j && rises j)) (none j && (one_before j && falls j)) (one j) (unknown j)
+  unknown_is : (p : ℕ) → is_unknown (seen (either_delay s) p) ≡ unknown_at p
+  unknown_is p = window_some is_unknown join_unknown cells (either_delay s) p some
 
--- ---- all slots
+  module _ (rise : s.rise.min ≤ s.rise.max) (fall : s.fall.min ≤ s.fall.max) where
+    -- where each delay is the longer one whatever both are, they are one delay, and all windows are one
+    one_window : (p : ℕ) → nat_le s.fall.max s.rise.min ≡ true → nat_le s.rise.max s.fall.min ≡ true →
+        may_be false false s cells p ≡ may_be false true s cells p
+    one_window p h h' =
+        let l : s.fall.max ≤ s.rise.min = leb-true s.fall.max s.rise.min h in
+        let l' : s.rise.max ≤ s.fall.min = leb-true s.rise.max s.fall.min h' in
+        sym (and_self (may_be false false s cells p))
+        ∙ (λ j. before (same_bounds (either_delay s) s.rise (omega (arith, l, l', rise, fall)) (omega (arith, l, l', rise, fall)) j)
+        && before (same_bounds (either_delay s) s.fall (omega (arith, l, l', rise, fall)) (omega (arith, l, l', rise, fall)) j))
+      where
+        same_bounds : (d d' : Bounds) → d.min ≡ d'.min → d.max ≡ d'.max → d ≡ d'
+        same_bounds d d' low high = λ j. record { min = low j; max = high j }
 
--- a slot of a wave that is one slot later
-before_cell : (f : ℕ → Value) (n p : ℕ) → p < n → cell_at values (later values (slots n f) 1) p ≡ f (back n p 1)
-before_cell f n p below =
-    let long : length (slots n f) ≡ n = length_slots n f in
-    get_or_slots (length (slots n f)) p (λ q. earlier values (slots n f) q 1) U (omega (arith, long))
-    ∙ earlier_slots values n f p 1 (omega (arith, below))
+        before : Bounds → Bool
+        before d = some_before (ends_in false) cells d p
 
-pub split_slots : (s : Split) (cells : List Value) (period : ℕ) (either rise fall either' rise' fall' : List Value) → 0 < length cells → period ≡ length cells →
-    either ≡ slots (length cells) (window (skewed cells 0) (either_delay s)) → rise ≡ slots (length cells) (window (skewed cells 0) s.rise) →
-    fall ≡ slots (length cells) (window (skewed cells 0) s.fall) → either' ≡ later values either 1 → rise' ≡ later values rise 1 → fall' ≡ later values fall 1 →
-    slots period (λ p. split_of s (cell_at values either p ∷ cell_at values rise p ∷ cell_at values fall p
-    ∷ cell_at values either' p ∷ cell_at values rise' p ∷ cell_at values fall' p ∷ []))
-    ≡ slots (length cells) (split_value s cells)
-split_slots s cells period either rise fall either' rise' fall' some is either_is rise_is fall_is either'_is rise'_is fall'_is =
-    ap (λ (n : ℕ). slots n (λ p. split_of s (cell_at values either p ∷ cell_at values rise p ∷ cell_at values fall p
-    ∷ cell_at values either' p ∷ cell_at values rise' p ∷ cell_at values fall' p ∷ []))) is
-    ∙ slots_same (length cells)
-    (λ p. split_of s (cell_at values either p ∷ cell_at values rise p ∷ cell_at values fall p
-    ∷ cell_at values either' p ∷ cell_at values rise' p ∷ cell_at values fall' p ∷ [])) (split_value s cells)
-    (λ p below. (λ j. split_of s (here either (either_delay s) either_is p below j ∷ here rise s.rise rise_is p below j ∷ here fall s.fall fall_is p below j
-    ∷ before either either' (either_delay s) either_is either'_is p below j ∷ before rise rise' s.rise rise_is rise'_is p below j
-    ∷ before fall fall' s.fall fall_is fall'_is p below j ∷ []))
-    ∙ value_is s cells some p)
-  where
-    here : (l : List Value) (d : Bounds) → l ≡ slots (length cells) (window (skewed cells 0) d) → (p : ℕ) → p < length cells → cell_at values l p ≡ window (skewed cells 0) d p
-    here l d e p below = ap (λ m. cell_at values m p) e ∙ get_or_slots (length cells) p (window (skewed cells 0) d) U below
+    -- the bits that are seen are those of the definition
+    bits_by : (is_slow_rise is_slow_fall : Bool) (p : ℕ) →
+        (is_slow_rise ≡ true → is_slow_fall ≡ true → may_be false false s cells p ≡ may_be false true s cells p) →
+        (if is_slow_rise then slow_rise_bits (seen (either_delay s) p) (both_end true (seen s.rise p) (seen s.fall p))
+        else if is_slow_fall then slow_fall_bits (seen (either_delay s) p) (both_end false (seen s.rise p) (seen s.fall p))
+        else own_bits (seen (either_delay s) p))
+        ≡ resting (may_be false is_slow_fall s cells p) (may_be true is_slow_rise s cells p) (unknown_at p)
+    bits_by true true p same = λ j. resting ((either_ends false p ∙ same refl refl) j) (both_ends true p j) (unknown_is p j)
+    bits_by true false p same = λ j. resting (either_ends false p j) (both_ends true p j) (unknown_is p j)
+    bits_by false true p same = λ j. resting (both_ends false p j) (either_ends true p j) (unknown_is p j)
+    bits_by false false p same = λ j. resting (either_ends false p j) (either_ends true p j) (unknown_is p j)
 
-    before : (l l' : List Value) (d : Bounds) → l ≡ slots (length cells) (window (skewed cells 0) d) → l' ≡ later values l 1 → (p : ℕ) → p < length cells →
-        cell_at values l' p ≡ window (skewed cells 0) d (slot_before cells p)
-    before l l' d e e' p below =
-        ap (λ m. cell_at values m p) (e' ∙ ap (λ m. later values m 1) e) ∙ before_cell (window (skewed cells 0) d) (length cells) p below
+    bits_are : (p : ℕ) → bits_in p ≡ resting (may_be_zero s cells p) (may_be_one s cells p) (unknown_at p)
+    bits_are p = bits_by (nat_le s.fall.max s.rise.min) (nat_le s.rise.max s.fall.min) p (one_window p)
 
--- windows as long as the wave, and those one slot later
-pub window_long : (l cells : List Value) (d : Bounds) → l ≡ slots (length cells) (window (skewed cells 0) d) → length l ≡ length cells
-window_long l cells d e = ap length e ∙ length_slots (length cells) (window (skewed cells 0) d)
+    low_is : (p : ℕ) → ends_in false (bits_in p) ≡ may_be_zero s cells p
+    low_is p =
+        ap (ends_in false) (bits_are p) ∙ resting_low (may_be_zero s cells p) (may_be_one s cells p) (unknown_at p)
 
-pub before_long : (l l' cells : List Value) (d : Bounds) → l ≡ slots (length cells) (window (skewed cells 0) d) → l' ≡ later values l 1 → length l' ≡ length cells
-before_long l l' cells d e e' = ap length e' ∙ length_later values l 1 ∙ window_long l cells d e
+    high_is : (p : ℕ) → ends_in true (bits_in p) ≡ may_be_one s cells p
+    high_is p =
+        ap (ends_in true) (bits_are p)
+        ∙ resting_high (may_be_zero s cells p) (may_be_one s cells p) (unknown_at p) (some_bit s cells p rise fall)
 
-pub all_six : {A : Type 0} (P : A → Type 0) (a b c d e f : A) → P a → P b → P c → P d → P e → P f → All P (a ∷ b ∷ c ∷ d ∷ e ∷ f ∷ [])
-all_six P a b c d e f ha hb hc hd he hf =
-    All-cons P a (b ∷ c ∷ d ∷ e ∷ f ∷ []) ha (All-cons P b (c ∷ d ∷ e ∷ f ∷ []) hb (All-cons P c (d ∷ e ∷ f ∷ []) hc
-    (All-cons P d (e ∷ f ∷ []) hd (All-cons P e (f ∷ []) he (All-cons P f [] hf (All-nil P))))))
+    rise_left : (p : ℕ) → may_rise (left_in p) ≡ (may_be_zero s cells (slot_before cells p) && some_before may_rise cells s.rise p)
+    rise_left p =
+        let rises : may_rise (edges_in p) ≡ some_before may_rise cells s.rise p =
+        edges_rise (may_rise (seen s.rise p)) (may_fall (seen s.fall p)) ∙ window_some may_rise (join_has false true) cells s.rise p some in
+        edges_rise (ends_in false (bits_in (slot_before cells p)) && may_rise (edges_in p)) (ends_in true (bits_in (slot_before cells p)) && may_fall (edges_in p))
+        ∙ (λ j. low_is (slot_before cells p) j && rises j)
 
--- what is made of the image, by the cells and the skew that code has
-pub split_by : (kind : Kind) (waves : List (Wave Value)) (marked : Option ℕ) (s : Split) (cells late : List Value) (skew : ℕ) →
-    late ≡ slots (length cells) (split_value s cells) → skewed cells skew ≡ gate_image kind waves marked →
-    normal values (skewed late skew) ≡ split_wave kind waves marked s
-unfolding split_wave
-split_by kind waves marked s cells late skew is made =
-    ap (λ l. normal values (skewed l skew)) is ∙ ap (λ z. normal values (late_by_two z s)) made
+    fall_left : (p : ℕ) → may_fall (left_in p) ≡ (may_be_one s cells (slot_before cells p) && some_before may_fall cells s.fall p)
+    fall_left p =
+        let falls : may_fall (edges_in p) ≡ some_before may_fall cells s.fall p =
+        edges_fall (may_rise (seen s.rise p)) (may_fall (seen s.fall p)) ∙ window_some may_fall (join_has true false) cells s.fall p some in
+        edges_fall (ends_in false (bits_in (slot_before cells p)) && may_rise (edges_in p)) (ends_in true (bits_in (slot_before cells p)) && may_fall (edges_in p))
+        ∙ (λ j. high_is (slot_before cells p) j && falls j)
+
+    -- the value that is made of the bits of a slot, those of the slot before, and the edges
+    pub value_is : (p : ℕ) → output_of (bits_in p) (left_in p) ≡ split_value s cells p
+    value_is p =
+        let unknown : is_unknown (bits_in p) ≡ (may_be_zero s cells p && (may_be_one s cells p && unknown_at p)) =
+        ap is_unknown (bits_are p) ∙ resting_unknown (may_be_zero s cells p) (may_be_one s cells p) (unknown_at p) in
+        (λ j. cover_of (low_is p j) (high_is p j && rise_left p j) (low_is p j && fall_left p j) (high_is p j) (unknown j))
+        ∙ unknown_counts (may_be_zero s cells p) (may_be_zero s cells (slot_before cells p) && some_before may_rise cells s.rise p)
+        (may_be_one s cells (slot_before cells p) && some_before may_fall cells s.fall p) (may_be_one s cells p) (unknown_at p)

@@ -188,7 +188,7 @@ fn imaged_slots<W: CyclicWave<Item = Value>, I: Image>(
 }
 
 /// What an element makes of the waves in each slot of the period.
-pub fn imaged<W: CyclicWave<Item = Value>, I: Image>(
+fn imaged<W: CyclicWave<Item = Value>, I: Image>(
     alloc: Global,
     image: &I,
     waves: &[W],

@@ -1,17 +1,16 @@
 //! The wave of the output of a gate that has two delays.
 
-ghost use Rattle.std.specs.Prelude.{◌≡◌, ◌<◌, ◌∷◌, [], IfOk, count_by, length, map, position, true};
+ghost use Rattle.std.specs.Prelude.{◌≡◌, ◌<◌, IfOk, count_by, length, map, position, true, zip};
 ghost use Rattle.wave_core.specs.Slots.{slots};
 ghost use Rattle.step_values.specs.Steps.{cover_of};
 ghost use Rattle.element_kinds.specs.Kinds.{may_split};
 ghost use Rattle.gate_eval.specs.Meeting.{HaveOnePeriod};
 ghost use Rattle.gate_eval.specs.Instance.{CountsFit, MarkFits};
 ghost use Rattle.gate_eval.specs.Split.{IsSplitSound, SomeBitIsLeft, ends_in as ends, split_value, split_wave};
-ghost use Rattle.gate_eval.specs.SplitWindow.{one_seen as one, split_of, zero_seen as zero};
+ghost use Rattle.gate_eval.specs.SplitWindow.{bits_at, both_end, edges, edges_after, edges_from, output_of, own_bits, resting, slow_fall_bits, slow_rise_bits};
 
 use crate::change::window;
 use crate::gate::at_once;
-use crate::meeting::{Image, imaged};
 use crate::pin_wave::{PinWave, PinWaves};
 use flat_circuit::{Kind, Split};
 use scald_base::NoMemory;
@@ -33,29 +32,6 @@ fn ends_in(bit: bool, v: Value) -> bool
     })
 }
 
-/// Whether the output may be 1, by what the slots may hold from the greatest to the least of both delays
-/// before, those that the rise delay reaches, and those that the fall delay reaches.
-fn one_seen(s: &Split, either: Value, rise: Value, fall: Value) -> bool
-    ensures { result ≡ one s.now either rise fall }
-{
-    if s.fall.max <= s.rise.min {
-        ends_in(true, rise) && ends_in(true, fall)
-    } else {
-        ends_in(true, either)
-    }
-}
-
-/// Whether it may be 0, by the same.
-fn zero_seen(s: &Split, either: Value, rise: Value, fall: Value) -> bool
-    ensures { result ≡ zero s.now either rise fall }
-{
-    if s.rise.max <= s.fall.min {
-        ends_in(false, rise) && ends_in(false, fall)
-    } else {
-        ends_in(false, either)
-    }
-}
-
 /// The least value that permits the steps that are named true: U where all are, and something is
 /// unknown. Where none is, which no wave brings about, it is 1.
 fn covering(low: bool, rises: bool, falls: bool, high: bool, unknown: bool) -> Value
@@ -69,51 +45,161 @@ fn covering(low: bool, rises: bool, falls: bool, high: bool, unknown: bool) -> V
     }
 }
 
-/// What the output may do in a slot, by what the slots may hold from the greatest to the least of both
-/// delays before, those that the rise delay reaches, and those that the fall delay reaches: first of this
-/// slot, and then of the slot before.
-impl Image for Split {
-    ghost value_of = { λ split found. split_of split found };
-
-    fn value(&self, found: &[Value]) -> Value {
-        match found {
-            [either, rise, fall, either_before, rise_before, fall_before] => {
-                let one = one_seen(self, *either, *rise, *fall);
-                let zero = zero_seen(self, *either, *rise, *fall);
-                let one_before = one_seen(self, *either_before, *rise_before, *fall_before);
-                let zero_before = zero_seen(self, *either_before, *rise_before, *fall_before);
-                let rises = one && (zero_before && rise.may_rise());
-                let falls = zero && (one_before && fall.may_fall());
-                covering(zero, rises, falls, one, either.is_unknown())
-            }
-            _ => Value::U,
-        }
+/// The value of an output that stays at one of the bits that it may be at, or U where it may be at
+/// both and something is unknown. Where it may be at none, which no wave brings about, it is 1.
+fn resting(low: bool, high: bool, unknown: bool) -> Value
+    ensures { result ≡ resting low high unknown }
+{
+    match (low, high) {
+        (true, true) if unknown => Value::U,
+        (true, true) => Value::S,
+        (true, false) => Value::Zero,
+        (false, _) => Value::One,
     }
 }
 
-/// The three windows of a slot, and then those of the slot before.
-fn listed<W: CyclicWave<Item = Value>>(
-    alloc: Global,
-    either: W,
-    rise: W,
-    fall: W,
-    either_before: W,
-    rise_before: W,
-    fall_before: W,
-) -> Result<Vec<W>, NoMemory>
-    ensures { IfOk result (λ ws. ws.items ≡ either ∷ rise ∷ fall ∷ either_before ∷ rise_before ∷ fall_before ∷ []) }
+/// The bits that the output may be at, by what the slots may hold from the greatest to the least of
+/// both delays before.
+fn own_bits(either: Value) -> Value
+    ensures { result ≡ own_bits either }
 {
-    let mut windows = Vec::with_capacity(alloc, 6)?;
-    windows.push(either)?;
-    windows.push(rise)?;
-    windows.push(fall)?;
-    windows.push(either_before)?;
-    windows.push(rise_before)?;
-    windows.push(fall_before)?;
-    Ok(windows)
+    let (low, high) = (ends_in(false, either), ends_in(true, either));
+    resting(low, high, either.is_unknown())
 }
 
-/// The cells of the image of a gate's pins, late by the gate's two delays.
+/// 1 where both what the rise delay reaches and what the fall delay reaches may end in a bit, and 0
+/// where not.
+fn both_end(bit: bool, rise: Value, fall: Value) -> Value
+    ensures { result ≡ both_end bit rise fall }
+{
+    if ends_in(bit, rise) && ends_in(bit, fall) {
+        Value::One
+    } else {
+        Value::Zero
+    }
+}
+
+/// The bits that the output may be at where the rise delay is never the shorter one: it comes to 1
+/// only where both windows end in 1.
+fn slow_rise_bits(either: Value, both: Value) -> Value
+    ensures { result ≡ slow_rise_bits either both }
+{
+    let (low, high) = (ends_in(false, either), ends_in(true, both));
+    resting(low, high, either.is_unknown())
+}
+
+/// Those where the fall delay is never the shorter one: it comes to 0 only where both end in 0.
+fn slow_fall_bits(either: Value, both: Value) -> Value
+    ensures { result ≡ slow_fall_bits either both }
+{
+    let (low, high) = (ends_in(true, both), ends_in(true, either));
+    resting(low, high, either.is_unknown())
+}
+
+/// What may stay at either bit, and may rise and may fall where that is said.
+fn edges(rises: bool, falls: bool) -> Value
+    ensures { result ≡ edges rises falls }
+{
+    covering(true, rises, falls, true, false)
+}
+
+/// The edges that may come: a rise after the rise delay, and a fall after the fall delay.
+fn edges_after(rise: Value, fall: Value) -> Value
+    ensures { result ≡ edges_after rise fall }
+{
+    edges(rise.may_rise(), fall.may_fall())
+}
+
+/// Those that the bits of the slot before leave: the output rises from 0, and falls from 1.
+fn edges_from(before: Value, after: Value) -> Value
+    ensures { result ≡ edges_from before after }
+{
+    let rises = ends_in(false, before) && after.may_rise();
+    let falls = ends_in(true, before) && after.may_fall();
+    edges(rises, falls)
+}
+
+/// What the output may do, by the bits that it may be at and the edges that may lead to them.
+fn output(bits: Value, edges: Value) -> Value
+    ensures { result ≡ output_of bits edges }
+{
+    let (low, high) = (ends_in(false, bits), ends_in(true, bits));
+    let rises = high && edges.may_rise();
+    let falls = low && edges.may_fall();
+    covering(low, rises, falls, high, bits.is_unknown())
+}
+
+/// In each slot, whether both windows may end in a bit.
+fn both_ends<W: CyclicWave<Item = Value>>(
+    alloc: Global,
+    bit: bool,
+    rise: &W,
+    fall: &W,
+) -> Result<W, NoMemory>
+    requires { length (W.cells rise.now) ≡ length (W.cells fall.now) }
+    ensures { IfOk result (λ w.
+        W.cells w ≡ map (λ q. both_end bit q.0 q.1) (zip (W.cells rise.now) (W.cells fall.now))) }
+{
+    rise.zip(alloc, fall, |v, w| both_end(bit, v, w))
+}
+
+/// In each slot, the bits that the output may be at.
+fn bits<W: CyclicWave<Item = Value>>(
+    alloc: Global,
+    s: &Split,
+    either: &W,
+    rise: &W,
+    fall: &W,
+) -> Result<W, NoMemory>
+    requires rise { length (W.cells rise.now) ≡ length (W.cells either.now) }
+    requires fall { length (W.cells fall.now) ≡ length (W.cells either.now) }
+    ensures { IfOk result (λ w. W.cells w ≡ slots (length (W.cells either.now))
+        (bits_at s.now (W.cells either.now) (W.cells rise.now) (W.cells fall.now))) }
+{
+    if s.fall.max <= s.rise.min {
+        let both = both_ends(alloc, true, rise, fall)?;
+        return either.zip(alloc, &both, |v, w| slow_rise_bits(v, w));
+    }
+    if s.rise.max <= s.fall.min {
+        let both = both_ends(alloc, false, rise, fall)?;
+        return either.zip(alloc, &both, |v, w| slow_fall_bits(v, w));
+    }
+    either.map(alloc, |v| own_bits(v))
+}
+
+/// In each slot, the edges that may come after the delays.
+fn all_edges<W: CyclicWave<Item = Value>>(alloc: Global, rise: &W, fall: &W) -> Result<W, NoMemory>
+    requires { length (W.cells rise.now) ≡ length (W.cells fall.now) }
+    ensures { IfOk result (λ w.
+        W.cells w ≡ map (λ q. edges_after q.0 q.1) (zip (W.cells rise.now) (W.cells fall.now))) }
+{
+    rise.zip(alloc, fall, |v, w| edges_after(v, w))
+}
+
+/// In each slot, those that the bits of the slot before leave.
+fn edges_left<W: CyclicWave<Item = Value>>(
+    alloc: Global,
+    before: &W,
+    after: &W,
+) -> Result<W, NoMemory>
+    requires { length (W.cells before.now) ≡ length (W.cells after.now) }
+    ensures { IfOk result (λ w.
+        W.cells w ≡ map (λ q. edges_from q.0 q.1) (zip (W.cells before.now) (W.cells after.now))) }
+{
+    before.zip(alloc, after, |v, w| edges_from(v, w))
+}
+
+/// In each slot, what the output may do.
+fn outputs<W: CyclicWave<Item = Value>>(alloc: Global, bits: &W, edges: &W) -> Result<W, NoMemory>
+    requires { length (W.cells bits.now) ≡ length (W.cells edges.now) }
+    ensures { IfOk result (λ w.
+        W.cells w ≡ map (λ q. output_of q.0 q.1) (zip (W.cells bits.now) (W.cells edges.now))) }
+{
+    bits.zip(alloc, edges, |v, w| output(v, w))
+}
+
+/// The cells of the image of a gate's pins, late by the gate's two delays. Each wave here is made of
+/// others from change to change.
 fn late_by_two<W: CyclicWave<Item = Value>>(
     alloc: Global,
     wave: &W,
@@ -121,22 +207,16 @@ fn late_by_two<W: CyclicWave<Item = Value>>(
 ) -> Result<W, NoMemory>
     ensures { IfOk result (λ w. W.cells w ≡ slots (length (W.cells wave.now)) (split_value s.now (W.cells wave.now))) }
 {
+    s.rise.known();
+    s.fall.known();
     let either = window(alloc, wave, 0, s.either())?;
     let rise = window(alloc, wave, 0, s.rise)?;
     let fall = window(alloc, wave, 0, s.fall)?;
-    let either_before = either.rotate(alloc, 1)?;
-    let rise_before = rise.rotate(alloc, 1)?;
-    let fall_before = fall.rotate(alloc, 1)?;
-    let windows = listed(
-        alloc,
-        either,
-        rise,
-        fall,
-        either_before,
-        rise_before,
-        fall_before,
-    )?;
-    imaged(alloc, s, &windows, wave.period())
+    let bits = bits(alloc, s, &either, &rise, &fall)?;
+    let before = bits.rotate(alloc, 1)?;
+    let edges = all_edges(alloc, &rise, &fall)?;
+    let left = edges_left(alloc, &before, &edges)?;
+    outputs(alloc, &bits, &left)
 }
 
 /// The wave of the output of a gate with two delays.

@@ -4,7 +4,7 @@ use Rattle.std.proofs.lemmas.Result.{IfOk-weaker}
 use Rattle.step_values.specs.Cell.{values}
 use Rattle.skew_algebra.specs.Wave.{skewed, normal}
 use Rattle.gate_eval.specs.Split.{split_wave}
-use Rattle.gate_eval.proofs.SplitWindows.{split_by}
+use Rattle.gate_eval.proofs.SplitSlots.{split_by}
 use Rattle.gate_eval.proofs.split.evaluated.Goals as goal
 
 pub returns : goal.returns
