@@ -168,6 +168,7 @@ says() {
 forms='scald: these words are none of its forms, which are
     scald verify [waves|faults] [rounds=N] <DRAWING    whether the drawing keeps its constraints, with its waves and faults
     scald format <DRAWING                              the drawing in its canonical form
+    scald upgrade <DRAWING                             the drawing in version 2 of the language
     scald bench N                                      what is found in a made drawing of N sections, 1 to 200'
 
 # none WORD ..: no form has these words, and nothing is read for them: the next command still finds the first line
@@ -188,11 +189,14 @@ none verify rounds=5 faults
 none verify waves waves
 none format waves
 none format format
+none upgrade waves
+none upgrade upgrade
 # no word is trimmed, dropped or joined to another
 none ''
 none verify ''
 none '' verify
 none format ''
+none upgrade ''
 none bench ''
 none bench '' 3
 none ' verify'
@@ -203,6 +207,7 @@ none verify 'rounds=5 '
 none bench ' 3'
 none bench '3 '
 none VERIFY
+none Upgrade
 # three words at most, and two for bench
 none verify waves rounds=5 faults
 none verify waves rounds=5 rounds=5

@@ -14,6 +14,7 @@ fn forms() -> &'static str
     "scald: these words are none of its forms, which are
     scald verify [waves|faults] [rounds=N] <DRAWING    whether the drawing keeps its constraints, with its waves and faults
     scald format <DRAWING                              the drawing in its canonical form
+    scald upgrade <DRAWING                             the drawing in version 2 of the language
     scald bench N                                      what is found in a made drawing of N sections, 1 to 200"
 }
 
