@@ -1,5 +1,5 @@
 -- What a header, constants and what follows them stand for.
-use Rattle.std.proofs.Common.{◌≡◌, ◌≢◌, ℕ, ℤ, pos, negsuc, ◌⊎◌, inl, inr, Bool, true, false, ◌&&◌, List, ◌++◌, [], ◌∷◌, Result, Ok, Err, refl, sym, ap, ◌∙◌, arith, w64, FitsSigned, to_z, of_z}
+use Rattle.std.proofs.Common.{◌≡◌, ◌≢◌, ℕ, ℤ, pos, negsuc, ◌⊎◌, inl, inr, Bool, true, false, ◌&&◌, List, ◌++◌, ◌∷◌, Result, Ok, Err, refl, sym, ap, ◌∙◌, arith, w64, FitsSigned, to_z, of_z}
 use Rattle.std.specs.Prelude.{IfOk, int_le, if◌then◌else◌}
 use Rattle.std.proofs.lemmas.Bool.{leb-true}
 use Rattle.std.proofs.lemmas.Int.{to_z-of_z}
