@@ -1,10 +1,10 @@
--- Drawings that differ in the order in which uses have their input connections, the second of version 2.
+-- A drawing of version 2 that differs from another in the order of input connections alone.
 use Rattle.std.specs.Prelude.{◌≡◌, ℕ, List, [], ◌∷◌, All, Contains, ⊤}
 use Rattle.drawing_tree.specs.Tree.{UseStatement, Statement, Use, Wire, If, For, Statements, nil, cons, Otherwise, no_else, else_, Macro, Drawing}
 use Rattle.drawing_tree.specs.Canonical.{canonical}
 use Rattle.drawing_grammar.specs.CanonicalDraws.{TextDraws, IsShallowDrawing, DrawsAgain}
 
--- the same use, with input connections of the first in whatever order
+-- the same use, its input connections in whatever order
 pub record IsReorderedUse (u v : UseStatement) : Type 0 where
   pub rest : record v { ins = u.ins } ≡ u
   pub ins : All (Contains u.ins) v.ins
@@ -14,7 +14,8 @@ abbrev mutual
   IsReorderedStatement (Use u) (Use v) = IsReorderedUse u v
   IsReorderedStatement (Wire w) (Wire v) = v ≡ w
   IsReorderedStatement (If test taken other place) (If test' taken' other' place') =
-      (test' ≡ test) × AreReordered taken taken' × IsReorderedOtherwise other other' × (place' ≡ place)
+      (test' ≡ test) × AreReordered taken taken' × IsReorderedOtherwise other other'
+      × (place' ≡ place)
   IsReorderedStatement (For var first last body place) (For var' first' last' body' place') =
       (var' ≡ var) × (first' ≡ first) × (last' ≡ last) × AreReordered body body' × (place' ≡ place)
   IsReorderedStatement _ _ = ⊥
@@ -45,8 +46,8 @@ pub record IsReordered (d e : Drawing) : Type 0 where
   pub macros : AreReorderedMacros d.macros e.macros
   pub body : AreReordered d.body e.body
 
--- Where some text draws a drawing, the canonical text of one in version 2 that differs in the order of connections draws
--- that, places aside, where it does not nest too deep.
+-- Where some text draws a drawing, one of version 2 that differs from it in that order alone is
+-- drawn by its canonical text, places aside, where that does not nest too deep.
 abbrev pub ReorderedDraws : Type 0
 ReorderedDraws =
     (text : List ℕ) (d e : Drawing) → TextDraws text d → IsReordered d e → IsShallowDrawing e →

@@ -35,8 +35,9 @@ pub fn canonical_draws()
     ensures { CanonicalDraws }
 {}
 
-/// Where some text draws a drawing, the canonical text of one in version 2 that differs in the order of
-/// connections draws that, places aside, where it does not nest too deep.
+/// Where some text draws a drawing, one of version 2 that differs from it in the order of input
+/// connections alone is drawn by its canonical text, places aside, where that does not nest too
+/// deep.
 pub fn reordered_draws()
     ensures { ReorderedDraws }
 {}

@@ -94,9 +94,14 @@ abbrev pub body : Edition → List Need → List Need
 body e rest = mark Semicolon ∷ group (Statements e) 0 ∷ mark End ∷ mark Semicolon ∷ rest
 
 -- The name of a drawing, and its statements.
+abbrev pub drawing_needs : Edition → List Need → List Need
+drawing_needs e rest = mark Drawing ∷ item Word ∷ body e rest
+
 abbrev pub DrawingAt : Edition → Result (List ℕ × Vec Stmt) Stop → Cursor → Cursor → Type 0
-DrawingAt e (Ok x) old new = (t : Lexeme) × (x.0 ≡ t.text) × ((rest : List Need) → Moves (ahead old (mark Drawing ∷ item Word ∷ body e rest)) (ahead new rest) (λ v. (t, (statements_of x.1.items, v))))
-DrawingAt e (Err s) old new = (rest : List Need) → Fails (ahead old (mark Drawing ∷ item Word ∷ body e rest)) s
+DrawingAt e (Ok x) old new = (t : Lexeme) × (x.0 ≡ t.text) × ((rest : List Need) →
+    Moves (ahead old (drawing_needs e rest)) (ahead new rest)
+    (λ v. (t, (statements_of x.1.items, v))))
+DrawingAt e (Err s) old new = (rest : List Need) → Fails (ahead old (drawing_needs e rest)) s
 
 -- The cursor is at the end and nothing follows, or reading stops so.
 abbrev pub EndAt : {X : Type 0} → Result X Stop → Cursor → Type 0

@@ -40,7 +40,8 @@ sketch_of x = record {
 abbrev pub behind_header : Edition → List Need → List Need
 behind_header e rest = constants e (from_macros e) ++ rest
 
-abbrev pub headed : (e : Edition) (rest : List Need) → WrittenHeader → Values (behind_header e rest) → Values (part (Text e) 0 ∷ rest)
+abbrev pub headed : (e : Edition) (rest : List Need) → WrittenHeader →
+    Values (behind_header e rest) → Values (part (Text e) 0 ∷ rest)
 headed e rest header v =
     let inner = front (constants e (from_macros e)) rest v in
     let behind_consts = behind_constants e (from_macros e) inner in (
@@ -56,7 +57,8 @@ headed e rest header v =
     )
 
 -- the values of constants that were read, and of what follows them
-abbrev pub with_constants : (e : Edition) (needs rest : List Need) → PlacedConstants → Values (needs ++ rest) → Values (constants e needs ++ rest)
+abbrev pub with_constants : (e : Edition) (needs rest : List Need) → PlacedConstants →
+    Values (needs ++ rest) → Values (constants e needs ++ rest)
 with_constants First needs rest x v = v
 with_constants Second needs rest x v = (x, v)
 

@@ -187,8 +187,8 @@ impl<'a> Cursor<'a> {
         }
     }
 
-    /// Whether a token follows the next one, and is no colon. It is the one place where reading looks further than
-    /// at the next token.
+    /// Whether a token follows the next one, and is no colon. Nowhere else does the reader look
+    /// past the next token.
     fn no_colon_follows(&self) -> bool
         ensures { result ≡ no_colon (behind_first (tokens_at self.now)) }
     {
@@ -204,7 +204,7 @@ impl<'a> Cursor<'a> {
         !behind.starts(Terminal::Colon)
     }
 
-    /// Whether the word FOR stands next, and no colon behind it.
+    /// Whether the word FOR stands next, and no colon after it.
     fn at_for(&self) -> bool
         ensures { result ≡ at_loop Edition.Second (tokens_at self.now) }
     {
@@ -214,8 +214,8 @@ impl<'a> Cursor<'a> {
         self.no_colon_follows()
     }
 
-    /// Whether a FOR begins here, where a statement of this version may stand: a label begins so too, but a colon
-    /// follows it.
+    /// Whether a FOR begins here, where a statement of this version may stand. FOR may be a label
+    /// as well: then a colon follows.
     pub fn at_loop(&self, edition: Edition) -> bool
         ensures { result ≡ at_loop edition (tokens_at self.now) }
     {
@@ -225,7 +225,8 @@ impl<'a> Cursor<'a> {
         }
     }
 
-    /// Takes a word that has to be this keyword; where the next token is not, `Syntax` comes at its place.
+    /// Takes a word that has to be this keyword; where the next token is not, `Syntax` comes at its
+    /// place.
     pub fn keyword(&mut self, keyword: Keyword) -> Result<(), Stop>
         ensures reads { (rest : List Need) →
             Gives result (λ _ v. v) (ahead self.old (keyword_need keyword ∷ rest)) (ahead self.new rest) }

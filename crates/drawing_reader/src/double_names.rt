@@ -245,9 +245,9 @@ impl<'a> Declarations<'a> {
     }
 }
 
-/// Whether nothing is declared twice: a constant of another's name, a macro whose name another macro or a primitive
-/// has, a parameter or a formal's base twice in a macro, a label twice in a body. `DoubleName` comes at the first
-/// name of the text that repeats.
+/// Whether nothing is declared twice: a constant of another's name, a macro whose name another
+/// macro or a primitive has, a parameter or a formal's base twice in a macro, a label twice in a
+/// body. `DoubleName` comes at the first name of the text that repeats.
 pub fn distinct_names(
     alloc: Global,
     consts: &Constants,

@@ -7,8 +7,8 @@ use drawing_grammar::{NumberPair, WrittenHeader};
 use scald_base::{Delay, Header, Place, Refusal, RefusalKind};
 
 /// The header, or `BadHeader` at the first token of the first statement that has a number which is
-/// refused: the version is neither 1 nor 2; units or ticks are 0, or their product is outside 2 to 4,096; a wire
-/// bound's least is above its greatest, or that above 4,095; a skew is above 4,095.
+/// refused: the version is neither 1 nor 2; units or ticks are 0, or their product is outside 2 to
+/// 4,096; a wire bound's least is above its greatest, or that above 4,095; a skew is above 4,095.
 pub fn judged_header(written: &WrittenHeader) -> Result<Header, Refusal>
     ensures { result ≡ judged written.now }
 {

@@ -1,4 +1,4 @@
-//! Reads statements. Each function is told by which version of the language, and how many IFs and FORs are open.
+//! Reads statements of a version of the language, where so many IFs and FORs are open.
 
 ghost use Rattle.std.specs.Prelude.{◌≡◌, ◌≢◌, ◌≤◌, ◌<◌, true, false, ℕ, List, [], ◌∷◌, ◌++◌, map, length, OnOk, option_map, Some, None};
 ghost use Rattle.scald_expr.specs.Expression.{expression_of};
@@ -333,7 +333,7 @@ impl<'a> Cursor<'a> {
         }
     }
 
-    /// Whether a statement of this version may begin here. FOR is one of the words that may, as a label or not.
+    /// Whether a statement may begin here. The word FOR may begin one in both versions.
     fn at_statement(&self, edition: Edition) -> bool
         ensures { result ≡ is_some (choice (StatementPart edition) (first_terminal (tokens_at self.now))) }
     {
