@@ -31,12 +31,15 @@ first_const known c cs place places s = bound_first (valued known c.value) c.nam
 abbrev pub GoneOn : List Binding → List Assign → List Place → (State → Outcome (List Binding)) → Type 0
 GoneOn known cs places want = (s : State) → const_values known (map assignment_of cs) places s ≡ want s
 
-module _ (known : List Binding) (cs : List Assign) (places : List Place) (want : State → Outcome (List Binding)) (i : ℕ) (c : Assign) (place : Place)
-    (below : i < length cs) (here : c ≡ get_or cs i c) (inside : i < length places) (there : place ≡ get_or places i place) where
+module _ (known : List Binding) (cs : List Assign) (places : List Place) (want : State → Outcome (List Binding)) (i : ℕ) (c : Assign)
+    (below : i < length cs) (here : c ≡ get_or cs i c) (inside : i < length places) (nowhere : Place) where
+  abbrev place : Place
+  place = get_or places i nowhere
+
   split : (s : State) → const_values known (map assignment_of (drop i cs)) (drop i places) s
       ≡ judged (assigned known (assignment_of c)) place (λ b. const_values (known ++ b ∷ []) (map assignment_of (drop (i + 1) cs)) (drop (i + 1) places) s)
   split s =
-      rw (next_of assignment_of cs i c below here, drop_more places i place inside, sym there)
+      rw (next_of assignment_of cs i c below here, drop_more places i nowhere inside)
       (first_const known (assignment_of c) (map assignment_of (drop (i + 1) cs)) place (drop (i + 1) places) s)
 
   pub consts_more : (b : Binding) → assigned known (assignment_of c) ≡ Ok b → GoneOn known (drop i cs) (drop i places) want →

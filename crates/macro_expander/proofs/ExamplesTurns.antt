@@ -1,6 +1,7 @@
 -- Small drawings with constants and FOR, and the order of selects.
 use Rattle.std.proofs.Common.{◌≡◌, ℕ, pos, negsuc, List, [], ◌∷◌, Some, None, false, refl}
 use Rattle.std.specs.Prelude.{codes}
+use Rattle.std.specs.Fmt.{digits}
 use Rattle.scald_base.specs.Time.{Header}
 use Rattle.scald_base.specs.declared.refusal.Place.{Place}
 use Rattle.scald_base.specs.declared.refusal.RefusalKind.TheVariants.{UnknownName, ZeroDivisor}
@@ -31,7 +32,7 @@ none_where_the_first_is_greater = refl
 -- ---- selects
 
 selects_of_both_versions :
-    in_pin_order (is_least_first 1) Mux4 (1 ∷ 0 ∷ 5 ∷ 6 ∷ 7 ∷ 8 ∷ []) ∷ in_pin_order (is_least_first 2) Mux4 (0 ∷ 1 ∷ 5 ∷ 6 ∷ 7 ∷ 8 ∷ [])
+    in_pin_order {X = ℕ} (is_least_first 1) Mux4 (1 ∷ 0 ∷ 5 ∷ 6 ∷ 7 ∷ 8 ∷ []) ∷ in_pin_order (is_least_first 2) Mux4 (0 ∷ 1 ∷ 5 ∷ 6 ∷ 7 ∷ 8 ∷ [])
     ∷ in_pin_order (is_least_first 2) Mux8 (0 ∷ 1 ∷ 2 ∷ 5 ∷ []) ∷ in_pin_order (is_least_first 2) Mux2 (0 ∷ 5 ∷ 6 ∷ []) ∷ []
     ≡ (1 ∷ 0 ∷ 5 ∷ 6 ∷ 7 ∷ 8 ∷ []) ∷ (1 ∷ 0 ∷ 5 ∷ 6 ∷ 7 ∷ 8 ∷ []) ∷ (2 ∷ 1 ∷ 0 ∷ 5 ∷ []) ∷ (0 ∷ 5 ∷ 6 ∷ []) ∷ []
 selects_of_both_versions = refl
@@ -123,7 +124,7 @@ two_turns : flat (looped (Negate (Number (pos 1))) (Number (pos 0))) ≡ Gives t
   asserted = [];
   instances = turned_bit (codes "b#-1") ∷ turned_bit (codes "b#0") ∷ [];
 })
-unfolding flat use_act body_at primitive_use plan_of all_added named_bits term_bits joined all_joined wires_of looped turned_bit buffer alone at header
+unfolding digits flat use_act body_at primitive_use plan_of all_added named_bits term_bits joined all_joined wires_of looped turned_bit buffer alone at header
 two_turns = refl
 
 no_turn : flat (looped (Number (pos 1)) (Number (pos 0))) ≡ Gives tt (record {

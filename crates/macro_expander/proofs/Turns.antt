@@ -1,7 +1,8 @@
 -- FOR, value by value: what the values that are left do is what the whole does.
-use Rattle.std.proofs.Common.{◌≡◌, ℕ, suc, List, [], ◌∷◌, ℤ, pos, Result, Ok, Err, refl, sym, ◌∙◌, subst, arith}
+use Rattle.std.proofs.Common.{◌≡◌, ℕ, zero, suc, ◌-◌, List, [], ◌∷◌, ℤ, pos, negsuc, ◌+ℤ◌, ◌-ℤ◌, ◌<ℤ◌, Result, Ok, Err, refl, sym, ◌∙◌, subst, arith}
+use Rattle.std.proofs.lemmas.Int.{ints}
 use Rattle.std.proofs.lemmas.List.{append-nil}
-use Rattle.std.specs.Prelude.{◌+ℤ◌, ◌-ℤ◌, int_lt, true}
+use borrow.Author.Differences.{up, down}
 use Rattle.scald_base.specs.declared.refusal.Place.{Place}
 use Rattle.scald_base.specs.declared.refusal.Stop.{Stop}
 use Rattle.scald_expr.specs.Expression.{Expression}
@@ -21,24 +22,28 @@ use Rattle.macro_expander.proofs.PrimitiveUses.{done_later}
 
 -- ---- values
 
--- as long as there are values, the first is one of them, and the others are those from the next on
-counts_down : (v last : ℤ) → int_lt v last ≡ true →
-    count_of ((last +ℤ pos 1) -ℤ v) ≡ suc (count_of ((last +ℤ pos 1) -ℤ (v +ℤ pos 1)))
-counts_down v last h = omega arith
+count_is : (z : ℤ) → count_of z ≡ up z - down z
+count_is (pos n) = omega arith
+count_is (negsuc n) = omega arith
 
-pub values_more : (v last : ℤ) → int_lt v last ≡ true → values_between v last ≡ v ∷ values_between (v +ℤ pos 1) last
+counts_down : (v last : ℤ) → v <ℤ last →
+    count_of ((last +ℤ pos 1) -ℤ v) ≡ suc (count_of ((last +ℤ pos 1) -ℤ (v +ℤ pos 1)))
+counts_down v last h = omega (arith, ints, count_is)
+
+-- below the last value, the values are this one and those from the next on
+pub values_more : (v last : ℤ) → v <ℤ last → values_between v last ≡ v ∷ values_between (v +ℤ pos 1) last
 values_more v last h = rw (counts_down v last h) refl
 
-counts_one : (last : ℤ) → count_of ((last +ℤ pos 1) -ℤ last) ≡ 1
-counts_one last = omega arith
+counts_one : (last : ℤ) → count_of ((last +ℤ pos 1) -ℤ last) ≡ suc zero
+counts_one last = omega (arith, ints, count_is)
 
 pub values_one : (last : ℤ) → values_between last last ≡ last ∷ []
 values_one last = rw (counts_one last) refl
 
-counts_none : (first last : ℤ) → int_lt last first ≡ true → count_of ((last +ℤ pos 1) -ℤ first) ≡ 0
-counts_none first last h = omega arith
+counts_none : (first last : ℤ) → last <ℤ first → count_of ((last +ℤ pos 1) -ℤ first) ≡ zero
+counts_none first last h = omega (arith, ints, count_is)
 
-pub values_none : (first last : ℤ) → int_lt last first ≡ true → values_between first last ≡ []
+pub values_none : (first last : ℤ) → last <ℤ first → values_between first last ≡ []
 values_none first last h = rw (counts_none first last h) refl
 
 -- ---- the whole of a FOR
@@ -54,7 +59,7 @@ module _ (var : List ℕ) (place : Place) (body : Act) (first last : Expression)
   for_refused stop h = record { told = λ r is. rw (h.told r is, sym (h.here r is)) refl }
 
   module _ (a b : ℤ) (are : loop_ends scope.env first last ≡ Ok (a, b)) where
-    pub for_none : int_lt b a ≡ true → GivesDone e e the_for
+    pub for_none : b <ℤ a → GivesDone e e the_for
     for_none h = record { is = rw (are, values_none a b h) refl; grows = grows_refl e }
 
     pub turns_begun : WentTurns step e the_for a b e
@@ -63,32 +68,32 @@ module _ (var : List ℕ) (place : Place) (body : Act) (first last : Expression)
 -- ---- value by value
 
 module _ (step : ℤ → State → Outcome (Unit {0})) (start : Expansion) (want : Outcome (Unit {0})) (last : ℤ) (e : Expansion) where
-  pub turns_more : (v : ℤ) (f : Expansion) → int_lt v last ≡ true → GivesDone e f (step v (state_of e)) →
+  pub turns_more : (v : ℤ) (f : Expansion) → v <ℤ last → GivesDone e f (step v (state_of e)) →
       WentTurns step start want v last e → WentTurns step start want (v +ℤ pos 1) last f
   turns_more v f h g w =
       let next : each step (values_between (v +ℤ pos 1) last) (state_of f) ≡ each step (values_between v last) (state_of e) =
       rw (values_more v last h, g.is) refl in
       record { told = next ∙ w.told; grows = grows_trans start e f w.grows g.grows }
 
-  pub turns_failed : (v : ℤ) (stop : Stop) → int_lt v last ≡ true → Failed stop (step v (state_of e)) → WentTurns step start want v last e → Failed stop want
+  pub turns_failed : (v : ℤ) (stop : Stop) → v <ℤ last → Failed stop (step v (state_of e)) → WentTurns step start want v last e → Failed stop want
   turns_failed v stop h g w = record {
     told = λ r is.
         let failed : each step (values_between v last) (state_of e) ≡ Fails r.kind r.place = rw (values_more v last h, g.told r is) refl in
         sym w.told ∙ failed;
   }
 
-  last_of : (r : Result (Unit {0}) Stop) (f : Expansion) → DoneAt e f r (step last (state_of e)) → DoneAt e f r (each step (last ∷ []) (state_of e))
-  last_of (Ok done) f g = record { is = rw g.is refl; grows = g.grows }
-  last_of (Err stop) f g = record { told = λ r is. rw (g.told r is) refl }
+  alone : (v : ℤ) (r : Result (Unit {0}) Stop) (f : Expansion) → DoneAt e f r (step v (state_of e)) → DoneAt e f r (each step (v ∷ []) (state_of e))
+  alone v (Ok done) f g = record { is = rw g.is refl; grows = g.grows }
+  alone v (Err stop) f g = record { told = λ r is. rw (g.told r is) refl }
 
   -- the last value is all that is left
-  pub turns_done : (v : ℤ) (r : Result (Unit {0}) Stop) (f : Expansion) → v ≡ last → DoneAt e f r (step last (state_of e)) →
+  pub turns_done : (v : ℤ) (r : Result (Unit {0}) Stop) (f : Expansion) → v ≡ last → DoneAt e f r (step v (state_of e)) →
       WentTurns step start want v last e → DoneAt start f r want
   turns_done v r f same g w =
-      let one : values_between v last ≡ last ∷ [] = rw same (values_one last) in
-      let is : want ≡ each step (last ∷ []) (state_of e) =
+      let one : values_between v last ≡ v ∷ [] = rw same (values_one last) in
+      let is : want ≡ each step (v ∷ []) (state_of e) =
       sym w.told ∙ subst (λ (vs : List ℤ). each step (values_between v last) (state_of e) ≡ each step vs (state_of e)) one refl in
-      done_later start e f r (each step (last ∷ []) (state_of e)) want w.grows is (last_of r f g)
+      done_later start e f r (each step (v ∷ []) (state_of e)) want w.grows is (alone v r f g)
 
 -- ---- counted
 

@@ -47,7 +47,7 @@ mutual
   statement_fits h (Use u) g = use_fits h u g
   statement_fits h (Wire w) g = g.name.fits
   statement_fits h (If test taken other place) g = (statements_fit h taken g.1, otherwise_fits h other g.2)
-  statement_fits h (For var first last ss place) g = statements_fit h ss g.2.2.1
+  statement_fits h (For var first last ss place) g = statements_fit h ss g.3
 
   statements_fit : (h : Header) (ss : Statements) → AreGoodStatements h ss → StatementsFit h ss
   statements_fit h nil g = tt

@@ -21,10 +21,10 @@ abbrev pub LeadToMacros : Library → Type 0
 LeadToMacros l = LeadWhereMany (λ (m : MacroDef). m.name) l.places.entries l.macros.now
 
 -- the library of a drawing of this version, with a period of so many ticks, these constants and these macros
-pub record HoldsMacros (version ticks : ℕ) (consts : List Binding) (ms : List MacroDef) (l : Library) : Type 0 where
-  pub version : l.version ≡ version
-  pub ticks : l.ticks ≡ ticks
-  pub consts : l.consts ≡ consts
+pub record HoldsMacros (v n : ℕ) (env : List Binding) (ms : List MacroDef) (l : Library) : Type 0 where
+  pub version : l.version ≡ v
+  pub ticks : l.ticks ≡ n
+  pub consts : l.consts ≡ env
   pub macros : l.macros.now ≡ ms
   pub places : LeadToMacros l
 

@@ -47,6 +47,16 @@ impl Called for Bound {
     }
 }
 
+fn copies(alloc: Global, formals: &[Bound]) -> Result<Row<Bound>, NoMemory>
+    ensures { IfOk result (λ copies. copies ≡ formals.now) }
+{
+    let mut copies = Row::with_room(alloc, formals.len())?;
+    for formal in formals {
+        copies.push(formal.copy(alloc)?)?;
+    }
+    Ok(copies)
+}
+
 /// The formals of a macro in the order of its text, each found by its base name.
 #[derive(Drop)]
 pub struct Formals {
@@ -92,10 +102,7 @@ impl Formals {
     pub(crate) fn copy(&self, alloc: Global) -> Result<Formals, NoMemory>
         ensures { IfOk result (λ copy. copy ≡ self.now) }
     {
-        let mut items = Row::with_room(alloc, self.items.as_slice().len())?;
-        for item in self.items.as_slice() {
-            items.push(item.copy(alloc)?)?;
-        }
+        let items = copies(alloc, self.items.as_slice())?;
         Formals::of(alloc, items)
     }
 

@@ -5,4 +5,4 @@ use Rattle.macro_expander.proofs.ConstantValues.{GoneOn}
 use Rattle.macro_expander.proofs.constants.constants.Given as goal
 
 abbrev pub invariant-loop-i : goal.invariant-loop-i
-invariant-loop-i l = GoneOn l.known (drop l.i l.fn.consts) (drop l.i l.fn.places) (const_values [] (map assignment_of l.fn.consts) l.fn.places)
+invariant-loop-i l = GoneOn l.known (drop l.i l.consts) (drop l.i l.places) (const_values [] (map assignment_of l.consts) l.places)

@@ -1,4 +1,5 @@
-use Rattle.std.proofs.Common.{◌≡◌, ◌≢◌, ℕ, List, Option, Some, None, sym, subst, arith}
+use Rattle.std.proofs.Common.{◌≡◌, ◌≢◌, ℕ, ℤ, pos, ◌+ℤ◌, ◌<ℤ◌, List, Option, Some, None, to_z, of_z, w64, sym, subst, arith}
+use Rattle.std.proofs.lemmas.Int.{ints}
 use Rattle.std.specs.Str.{bytes_eq}
 use Rattle.std.proofs.lemmas.Result.{err_from_is_err_and}
 use Rattle.scald_base.specs.Time.{Header}
@@ -99,7 +100,7 @@ expand_use-returns-in-Some t c =
     let u = use_of c.args.used.now in
     let known = subst (λ (name : List ℕ). Some c.in-Some.kind ≡ kind_of name) c.as_slice.ensures c.in-Some.ensures in
     done_later e e c.primitive_use.new.expansion c.primitive_use.result
-    (primitive_use l.ticks c.in-Some.kind scope u (state_of e)) (use_act (setting_in l) below u scope (state_of e)) (grows_refl e)
+    (primitive_use (setting_in l) c.in-Some.kind scope u (state_of e)) (use_act (setting_in l) below u scope (state_of e)) (grows_refl e)
     (primitive_act (setting_in l) below u scope (state_of e) c.in-Some.kind known) c.primitive_use.ensures
 
 pub expand_use-expand_macro-requires : goal.expand_use-expand_macro-requires
@@ -153,25 +154,28 @@ expand_for-returns-in_err-ends t c =
     (expression_of loop.first) (expression_of loop.last) (scope_of (names_in c.args.expansion.now) c.args.scope.now) c.args.expansion.now
     c.in_err-ends.field-0.0 c.in_err-ends.ensures)
 
-pub expand_for-returns-then-first-gt-last : goal.expand_for-returns-then-first-gt-last
-expand_for-returns-then-first-gt-last t c =
+pub expand_for-returns-then-first-last : goal.expand_for-returns-then-first-last
+expand_for-returns-then-first-last t c =
     let l = c.args.library.now in
     let loop = c.args.repeated.now in
+    let above : c.in_ok-ends.ends.1 <ℤ c.in_ok-ends.ends.0 = omega (arith, ints, c.if-first-last.true) in
     for_none loop.var loop.place (statements_in l c.args.levels (statements_of loop.body.items))
     (expression_of loop.first) (expression_of loop.last) (scope_of (names_in c.args.expansion.now) c.args.scope.now) c.args.expansion.now
-    c.in_ok-ends.ends.0 c.in_ok-ends.ends.1 c.in_ok-ends.ensures c.if-first-gt-last.true
+    c.in_ok-ends.ends.0 c.in_ok-ends.ends.1 c.in_ok-ends.ensures above
 
 pub expand_for-turns-init : goal.expand_for-turns-init
 expand_for-turns-init t c =
     let l = c.args.library.now in
     let loop = c.args.repeated.now in
+    let first : to_z w64 (of_z w64 c.in_ok-ends.ends.0) ≡ c.in_ok-ends.ends.0 = omega (arith, ints) in
+    let last : to_z w64 (of_z w64 c.in_ok-ends.ends.1) ≡ c.in_ok-ends.ends.1 = omega (arith, ints) in
     record {
       went =
-          turns_begun loop.var loop.place (statements_in l c.args.levels (statements_of loop.body.items))
+          rw (first, last) (turns_begun loop.var loop.place (statements_in l c.args.levels (statements_of loop.body.items))
           (expression_of loop.first) (expression_of loop.last) (scope_of (names_in c.args.expansion.now) c.args.scope.now) c.args.expansion.now
-          c.in_ok-ends.ends.0 c.in_ok-ends.ends.1 c.in_ok-ends.ensures;
+          c.in_ok-ends.ends.0 c.in_ok-ends.ends.1 c.in_ok-ends.ensures);
       inner = c.in_ok-inner.ensures;
-      within = omega (arith, c.if-first-gt-last.false);
+      within = omega (arith, ints, c.if-first-last.false);
     }
 
 pub expand_for-turn-requires : goal.expand_for-turn-requires
@@ -184,7 +188,7 @@ expand_for-turn-requires t c =
         library_stays start.builder.header c.turns.expansion.builder.header c.args.library.now grows.header c.requires.library,
         (
           subst (λ (h : Header). StatementFits h (for_of c.args.repeated.now)) (sym grows.header) c.requires.fits,
-          turn_exists (nets_in c.turns.expansion) c.args.repeated.now.var c.turns.value c.args.scope.now c.turns.inner went.inner
+          turn_exists (nets_in c.turns.expansion) c.args.repeated.now.var (to_z w64 c.turns.value-bits) c.args.scope.now c.turns.inner went.inner
               (scope_exists_stays start c.turns.expansion c.args.scope.now grows c.requires.exists),
         ),
       ),
@@ -199,10 +203,13 @@ expand_for-returns-in_err-turn t c =
     let went = c.turns.invariant in
     let body = statements_in l c.args.levels (statements_of loop.body.items) in
     let scope = scope_of (names_in start) c.args.scope.now in
+    let v : ℤ = to_z w64 c.turns.value-bits in
+    let last : ℤ = to_z w64 (of_z w64 c.in_ok-ends.ends.1) in
+    let below : v <ℤ last = omega (arith, ints, c.turns-test.true) in
     let p = err_from_is_err_and c.from_residual-in_err-turn.result c.from_residual-in_err-turn.ensures.1 in
     rw (p.1, p.2) (turns_failed (λ v. turn_act loop.var loop.place body v scope) start
-    (uncounted_in l c.args.levels (for_of loop) scope (state_of start)) c.in_ok-ends.ends.1 e c.turns.value c.in_err-turn.field-0.0 c.turns-test.true
-    (subst (λ (z : Scope). Failed c.in_err-turn.field-0.0 (turn_act loop.var loop.place body c.turns.value z (state_of e)))
+    (uncounted_in l c.args.levels (for_of loop) scope (state_of start)) last e v c.in_err-turn.field-0.0 below
+    (subst (λ (z : Scope). Failed c.in_err-turn.field-0.0 (turn_act loop.var loop.place body v z (state_of e)))
     (scope_stays start e c.args.scope.now went.went.grows c.requires.exists) (rw went.inner at c.in_err-turn.ensures))
     went.went)
 
@@ -215,19 +222,23 @@ expand_for-turns-preserved t c =
     let went = c.turns.invariant in
     let body = statements_in l c.args.levels (statements_of loop.body.items) in
     let scope = scope_of (names_in start) c.args.scope.now in
+    let v : ℤ = to_z w64 c.turns.value-bits in
+    let last : ℤ = to_z w64 (of_z w64 c.in_ok-ends.ends.1) in
+    let below : v <ℤ last = omega (arith, ints, c.turns-test.true) in
+    let next : to_z w64 (of_z w64 (v +ℤ pos 1)) ≡ v +ℤ pos 1 = omega (arith, ints) in
     record {
       went =
-          turns_more (λ v. turn_act loop.var loop.place body v scope) start (uncounted_in l c.args.levels (for_of loop) scope (state_of start))
-          c.in_ok-ends.ends.1 e c.turns.value c.turn.new.expansion c.turns-test.true
-          (subst (λ (z : Scope). GivesDone e c.turn.new.expansion (turn_act loop.var loop.place body c.turns.value z (state_of e)))
+          rw next (turns_more (λ v. turn_act loop.var loop.place body v scope) start (uncounted_in l c.args.levels (for_of loop) scope (state_of start))
+          last e v c.turn.new.expansion below
+          (subst (λ (z : Scope). GivesDone e c.turn.new.expansion (turn_act loop.var loop.place body v z (state_of e)))
           (scope_stays start e c.args.scope.now went.went.grows c.requires.exists) (rw went.inner at c.in_ok-turn.ensures))
-          went.went;
+          went.went);
       inner = c.in_ok-turn_to.ensures;
-      within = omega (arith, c.turns-test.true);
+      within = omega (arith, ints);
     }
 
 pub expand_for-turn_to-requires : goal.expand_for-turn_to-requires
-expand_for-turn_to-requires t c = record { value = c.turns.value; is = c.turns.invariant.inner }
+expand_for-turn_to-requires t c = record { value = to_z w64 c.turns.value-bits; is = c.turns.invariant.inner }
 
 pub expand_for-turn-requires-2 : goal.expand_for-turn-requires-2
 expand_for-turn-requires-2 t c =
@@ -239,7 +250,7 @@ expand_for-turn-requires-2 t c =
         library_stays start.builder.header c.turns.expansion.builder.header c.args.library.now grows.header c.requires.library,
         (
           subst (λ (h : Header). StatementFits h (for_of c.args.repeated.now)) (sym grows.header) c.requires.fits,
-          turn_exists (nets_in c.turns.expansion) c.args.repeated.now.var c.turns.value c.args.scope.now c.turns.inner went.inner
+          turn_exists (nets_in c.turns.expansion) c.args.repeated.now.var (to_z w64 c.turns.value-bits) c.args.scope.now c.turns.inner went.inner
               (scope_exists_stays start c.turns.expansion c.args.scope.now grows c.requires.exists),
         ),
       ),
@@ -254,9 +265,11 @@ expand_for-returns t c =
     let went = c.turns.invariant in
     let body = statements_in l c.args.levels (statements_of loop.body.items) in
     let scope = scope_of (names_in start) c.args.scope.now in
-    let at_last : c.turns.value ≡ c.in_ok-ends.ends.1 = omega (arith, c.turns-test.false, went.within) in
+    let v : ℤ = to_z w64 c.turns.value-bits in
+    let last : ℤ = to_z w64 (of_z w64 c.in_ok-ends.ends.1) in
+    let at_last : v ≡ last = omega (arith, ints, c.turns-test.false, went.within) in
     turns_done (λ v. turn_act loop.var loop.place body v scope) start (uncounted_in l c.args.levels (for_of loop) scope (state_of start))
-    c.in_ok-ends.ends.1 e c.turns.value c.turn-2.result c.turn-2.new.expansion at_last
-    (subst (λ (z : Scope). DoneAt e c.turn-2.new.expansion c.turn-2.result (turn_act loop.var loop.place body c.in_ok-ends.ends.1 z (state_of e)))
-    (scope_stays start e c.args.scope.now went.went.grows c.requires.exists) (rw (went.inner, at_last) at c.turn-2.ensures))
+    last e v c.turn-2.result c.turn-2.new.expansion at_last
+    (subst (λ (z : Scope). DoneAt e c.turn-2.new.expansion c.turn-2.result (turn_act loop.var loop.place body v z (state_of e)))
+    (scope_stays start e c.args.scope.now went.went.grows c.requires.exists) (rw went.inner at c.turn-2.ensures))
     went.went

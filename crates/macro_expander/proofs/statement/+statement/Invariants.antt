@@ -1,8 +1,8 @@
 use Rattle.std.proofs.Common.{◌+◌, ◌-◌, ◌*◌, drop}
-use Rattle.std.specs.Prelude.{◌≡◌, true, ◌-ℤ◌, int_le}
+use Rattle.std.specs.Prelude.{◌≡◌, ◌≤ℤ◌}
+use borrow.Author.Gap.{gap}
 use Rattle.drawing_tree.specs.Tree.{statements_of, for_of}
 use Rattle.macro_expander.specs.Library.{setting_in}
-use Rattle.macro_expander.specs.Loops.{count_of}
 use Rattle.macro_expander.specs.Flat.{turn_act}
 use Rattle.macro_expander.specs.Statements.{bodies_in, statements_in, uncounted_in, turned_scope, WentThrough, WentTurns}
 use Rattle.macro_expander.specs.Numbered.{scope_of, names_in, state_of}
@@ -40,7 +40,7 @@ invariant-body-statements l =
 
 -- the values that are left
 abbrev pub decreases-expand_for-turns : goal.decreases-expand_for-turns
-decreases-expand_for-turns l = count_of (l.last -ℤ l.value)
+decreases-expand_for-turns l = gap l.value l.last
 
 abbrev pub invariant-expand_for-turns : goal.invariant-expand_for-turns
 invariant-expand_for-turns l =
@@ -51,5 +51,5 @@ invariant-expand_for-turns l =
       went : WentTurns (λ v. turn_act l.repeated.var l.repeated.place body v scope) start
           (uncounted_in l.library l.levels (for_of l.repeated) scope (state_of start)) l.value l.last l.expansion;
       inner : l.inner ≡ turned_scope l.repeated.var l.value l.scope;
-      within : int_le l.value l.last ≡ true;
+      within : l.value ≤ℤ l.last;
     }
