@@ -1,22 +1,26 @@
 -- FOR, value by value: what the values that are left do is what the whole does.
-use Rattle.std.proofs.Common.{◌≡◌, ℕ, zero, suc, ◌-◌, List, [], ◌∷◌, ℤ, pos, negsuc, ◌+ℤ◌, ◌-ℤ◌, ◌<ℤ◌, Result, Ok, Err, refl, sym, ◌∙◌, subst, arith}
+use Rattle.std.proofs.Common.{◌≡◌, ℕ, zero, suc, ◌-◌, List, [], ◌∷◌, ℤ, pos, negsuc, ◌+ℤ◌, ◌-ℤ◌, ◌<ℤ◌, Option, Result, Ok, Err, refl, ap, sym, ◌∙◌, subst, arith}
 use Rattle.std.proofs.lemmas.Int.{ints}
 use Rattle.std.proofs.lemmas.List.{append-nil}
 use borrow.Author.Differences.{up, down}
 use Rattle.scald_base.specs.declared.refusal.Place.{Place}
 use Rattle.scald_base.specs.declared.refusal.Stop.{Stop}
-use Rattle.scald_expr.specs.Expression.{Expression}
+use Rattle.scald_expr.specs.Expression.{expression_of}
 use Rattle.flat_circuit.specs.Name.{Name}
+use Rattle.drawing_tree.specs.declared.statement.ForStmt.{ForStmt}
+use Rattle.drawing_tree.specs.Tree.{Statement, Use, Wire, If, For, Macro, statements_of, for_of}
+use Rattle.drawing_tree.proofs.Views.{view_for}
 use Rattle.macro_expander.specs.declared.expansion.Expansion.{Expansion}
 use Rattle.macro_expander.specs.declared.scope.Scope as numbered_scope
 use Rattle.macro_expander.specs.Named.{State}
-use Rattle.macro_expander.specs.Outcome.{Outcome, Fails, each}
+use Rattle.macro_expander.specs.Outcome.{Outcome, Fails, judged, each}
 use Rattle.macro_expander.specs.Steps.{IsJudgedRefusal}
 use Rattle.macro_expander.specs.Terms.{Scope}
-use Rattle.macro_expander.specs.Loops.{count_of, in_turn, loop_ends, values_between, for_act}
-use Rattle.macro_expander.specs.Flat.{Act, counted, turn_act}
+use Rattle.macro_expander.specs.Setting.{Setting}
+use Rattle.macro_expander.specs.Loops.{count_of, in_turn, loop_ends, values_between}
+use Rattle.macro_expander.specs.Flat.{Act, wire_act, use_act, counted, turn_act, statement_act, statements_act}
 use Rattle.macro_expander.specs.Numbered.{Failed, GivesDone, DoneAt, ScopeExists, Grows, scope_of, names_in, state_of}
-use Rattle.macro_expander.specs.Statements.{Reached, WentTurns, turned_scope}
+use Rattle.macro_expander.specs.Statements.{uncounted_act, Reached, WentTurns, turned_scope}
 use Rattle.macro_expander.proofs.Nets.{grows_refl, grows_trans}
 use Rattle.macro_expander.proofs.PrimitiveUses.{done_later}
 
@@ -48,22 +52,27 @@ values_none first last h = rw (counts_none first last h) refl
 
 -- ---- the whole of a FOR
 
-module _ (var : List ℕ) (place : Place) (body : Act) (first last : Expression) (scope : Scope) (e : Expansion) where
-  abbrev the_for : Outcome (Unit {0})
-  the_for = for_act (turn_act var place body) first last place scope (state_of e)
+module _ (setting : Setting) (below : Option (Macro → Act)) (loop : ForStmt) (scope : Scope) (e : Expansion) where
+  abbrev pub the_for : Outcome (Unit {0})
+  the_for = uncounted_act setting below (for_of loop) scope (state_of e)
 
-  abbrev step : ℤ → State → Outcome (Unit {0})
-  step v = turn_act var place body v scope
+  -- the body for one value
+  abbrev pub step : ℤ → State → Outcome (Unit {0})
+  step v = turn_act loop.var loop.place (statements_act setting below (statements_of loop.body.items)) v scope
 
-  pub for_refused : (stop : Stop) → IsJudgedRefusal place stop (loop_ends scope.env first last) → Failed stop the_for
-  for_refused stop h = record { told = λ r is. rw (h.told r is, sym (h.here r is)) refl }
+  for_is : the_for ≡ judged (loop_ends scope.env (expression_of loop.first) (expression_of loop.last)) loop.place
+      (λ ends. each step (values_between ends.0 ends.1) (state_of e))
+  for_is = ap (λ (x : Statement). uncounted_act setting below x scope (state_of e)) (view_for loop)
 
-  module _ (a b : ℤ) (are : loop_ends scope.env first last ≡ Ok (a, b)) where
+  pub for_refused : (stop : Stop) → IsJudgedRefusal loop.place stop (loop_ends scope.env (expression_of loop.first) (expression_of loop.last)) → Failed stop the_for
+  for_refused stop h = record { told = λ r is. for_is ∙ rw (h.told r is, sym (h.here r is)) refl }
+
+  module _ (a b : ℤ) (are : loop_ends scope.env (expression_of loop.first) (expression_of loop.last) ≡ Ok (a, b)) where
     pub for_none : b <ℤ a → GivesDone e e the_for
-    for_none h = record { is = rw (are, values_none a b h) refl; grows = grows_refl e }
+    for_none h = record { is = for_is ∙ rw (are, values_none a b h) refl; grows = grows_refl e }
 
     pub turns_begun : WentTurns step e the_for a b e
-    turns_begun = record { told = rw are refl; grows = grows_refl e }
+    turns_begun = record { told = sym (for_is ∙ rw are refl); grows = grows_refl e }
 
 -- ---- value by value
 
@@ -104,6 +113,26 @@ counted_done place act scope e e1 f r reached h =
     let is : counted place act scope (state_of e) ≡ act scope (state_of e1) = rw (reached.is, reached.room) refl in
     let grows : Grows e e1 = rw reached.is (record { more = []; names = sym (append-nil (names_in e)); header = refl; statements = omega arith }) in
     done_later e e1 f r (act scope (state_of e1)) (counted place act scope (state_of e)) grows is h
+
+module _ (setting : Setting) (below : Option (Macro → Act)) where
+  counted_act : (x : Statement) (scope : Scope) (e e1 f : Expansion) (r : Result (Unit {0}) Stop) → Reached e e1 →
+      DoneAt e1 f r (uncounted_act setting below x scope (state_of e1)) → DoneAt e f r (statement_act setting below x scope (state_of e))
+  counted_act (Use u) scope e e1 f r reached h = counted_done u.place (use_act setting below u) scope e e1 f r reached h
+  counted_act (Wire w) scope e e1 f r reached h = counted_done w.place (wire_act w) scope e e1 f r reached h
+  counted_act (If test taken other place) scope e e1 f r reached h =
+      counted_done place (uncounted_act setting below (If test taken other place)) scope e e1 f r reached h
+  counted_act (For var first last ss place) scope e e1 f r reached h =
+      counted_done place (uncounted_act setting below (For var first last ss place)) scope e e1 f r reached h
+
+  -- a FOR, once it is counted
+  pub for_done : (x : Statement) (loop : ForStmt) (s : numbered_scope.Scope) (e e1 f : Expansion) (r : Result (Unit {0}) Stop) → x ≡ for_of loop → Reached e e1 →
+      DoneAt e1 f r (uncounted_act setting below (for_of loop) (scope_of (names_in e1) s) (state_of e1)) →
+      DoneAt e f r (statement_act setting below x (scope_of (names_in e) s) (state_of e))
+  for_done x loop s e e1 f r is reached h =
+      let same : names_in e1 ≡ names_in e = ap (λ (d : Expansion). d.builder.names) reached.is in
+      let done = subst (λ (names : List Name). DoneAt e1 f r (uncounted_act setting below (for_of loop) (scope_of names s) (state_of e1))) same h in
+      subst (λ (y : Statement). DoneAt e f r (statement_act setting below y (scope_of (names_in e) s) (state_of e))) (sym is)
+      (counted_act (for_of loop) (scope_of (names_in e) s) e e1 f r reached done)
 
 -- ---- scopes
 

@@ -153,12 +153,12 @@ fn expand_for(
     if first > last {
         return Ok(());
     }
-    let mut inner = in_turn(alloc, scope, repeated.var.as_slice(), first)?;
+    let mut inner = in_turn(alloc, scope, repeated, first)?;
     let mut value = first;
     'turns: while value < last {
         turn(expansion, alloc, library, repeated, &inner, levels)?;
         value += 1;
-        turn_to(alloc, &mut inner, scope, repeated.var.as_slice(), value)?;
+        turn_to(alloc, &mut inner, scope, repeated, value)?;
     }
     turn(expansion, alloc, library, repeated, &inner, levels)
 }

@@ -62,15 +62,15 @@ fn env_in_turn(alloc: Global, around: &[Binding], var: &[u8], value: i64) -> Res
 pub(crate) fn in_turn(
     alloc: Global,
     around: &Scope,
-    var: &[u8],
+    repeated: &ForStmt,
     value: i64,
 ) -> Result<Scope, NoMemory>
-    ensures { IfOk result (λ inner. inner ≡ turned_scope var.now value around.now) }
+    ensures { IfOk result (λ inner. inner ≡ turned_scope repeated.now.var value around.now) }
 {
     Ok(Scope {
         path: Bytes::of(alloc, around.path.as_slice())?,
         suffix: suffix(alloc, around.suffix.as_slice(), value)?,
-        env: env_in_turn(alloc, around.env.as_slice(), var, value)?,
+        env: env_in_turn(alloc, around.env.as_slice(), repeated.var.as_slice(), value)?,
         formals: around.formals.copy(alloc)?,
     })
 }
@@ -80,14 +80,14 @@ pub(crate) fn turn_to(
     alloc: Global,
     inner: &mut Scope,
     around: &Scope,
-    var: &[u8],
+    repeated: &ForStmt,
     value: i64,
 ) -> Result<(), NoMemory>
-    requires { IsTurn var.now around.now inner.old }
-    ensures { OnOk result (inner.new ≡ turned_scope var.now value around.now) }
+    requires { IsTurn repeated.now.var around.now inner.old }
+    ensures { OnOk result (inner.new ≡ turned_scope repeated.now.var value around.now) }
 {
     let suffix = suffix(alloc, around.suffix.as_slice(), value)?;
-    let binding = bound(alloc, var, value)?;
+    let binding = bound(alloc, repeated.var.as_slice(), value)?;
     inner.suffix = suffix;
     inner.env.set(0, binding);
     Ok(())

@@ -1,26 +1,27 @@
-use Rattle.std.proofs.Common.{◌≡◌, ◌≢◌, ℕ, ℤ, pos, ◌+ℤ◌, ◌<ℤ◌, List, Option, Some, None, to_z, of_z, w64, sym, subst, arith}
+use Rattle.std.proofs.Common.{◌≡◌, ◌≢◌, ℕ, ℤ, pos, ◌+ℤ◌, ◌<ℤ◌, List, Option, Some, None, to_z, of_z, w64, sym, ap, ◌∙◌, subst, arith}
 use Rattle.std.proofs.lemmas.Int.{ints}
+use borrow.Author.Gap.{gap_up, read_sfits}
 use Rattle.std.specs.Str.{bytes_eq}
 use Rattle.std.proofs.lemmas.Result.{err_from_is_err_and}
 use Rattle.scald_base.specs.Time.{Header}
 use Rattle.element_kinds.specs.declared.kind.Kind.{Kind}
 use Rattle.element_kinds.specs.Kinds.{kind_of}
 use Rattle.scald_base.specs.declared.refusal.RefusalKind.TheVariants.{TooDeep, UnknownKind}
-use Rattle.scald_expr.specs.Expression.{expression_of}
 use Rattle.drawing_tree.specs.Tree.{statement_of, statements_of, for_of, macro_of, use_of, Macro}
+use Rattle.drawing_tree.proofs.Views.{view_repeated}
 use Rattle.macro_expander.specs.Terms.{Scope}
 use Rattle.macro_expander.specs.Primitives.{primitive_use}
 use Rattle.macro_expander.specs.Macros.{macro_of as first_called}
-use Rattle.macro_expander.specs.Flat.{turn_act, use_act, macro_use}
+use Rattle.macro_expander.specs.Flat.{use_act, macro_use}
 use Rattle.macro_expander.specs.Fitting.{StatementFits, MacroFits}
 use Rattle.macro_expander.specs.Library.{macros_in, setting_in}
 use Rattle.macro_expander.specs.Numbered.{Failed, GivesDone, DoneAt, scope_of, names_in, nets_in, state_of}
-use Rattle.macro_expander.specs.Statements.{bodies_in, statements_in, statement_in, uncounted_in}
+use Rattle.macro_expander.specs.Statements.{bodies_in, statements_in, statement_in}
 use Rattle.macro_expander.proofs.Nets.{grows_refl}
 use Rattle.macro_expander.proofs.Gathered.{scope_stays, scope_exists_stays}
 use Rattle.macro_expander.proofs.PrimitiveUses.{done_later, failed_so}
 use Rattle.macro_expander.proofs.Statements.{library_stays, item_fits, through_more, through_failed, primitive_act, macro_act, found_is, macro_too_deep, macro_cut, macro_done}
-use Rattle.macro_expander.proofs.Turns.{for_refused, for_none, turns_begun, turns_more, turns_failed, turns_done, turn_exists}
+use Rattle.macro_expander.proofs.Turns.{the_for, step, for_refused, for_none, turns_begun, turns_more, turns_failed, turns_done, turn_exists, for_done}
 use Rattle.macro_expander.proofs.statement.+statement.Goals as goal
 
 pub body-one-requires : goal.body-one-requires
@@ -145,38 +146,45 @@ expand_use-returns-in-None t c =
 
 -- ---- FOR
 
+pub one-returns-in-For : goal.one-returns-in-For
+one-returns-in-For t c =
+    let l = c.args.library.now in
+    for_done (setting_in l) (bodies_in l c.args.levels) (statement_of c.args.statement.now) c.in-For.repeated c.args.scope.now
+    c.args.expansion.now c.count.new.expansion c.expand_for.new.expansion c.expand_for.result
+    (ap statement_of c.in-For.is ∙ view_repeated c.in-For.repeated) c.in_ok-count.ensures.reached c.expand_for.ensures
+
 pub expand_for-returns-in_err-ends : goal.expand_for-returns-in_err-ends
 expand_for-returns-in_err-ends t c =
     let l = c.args.library.now in
-    let loop = c.args.repeated.now in
     let p = err_from_is_err_and c.from_residual.result c.from_residual.ensures.1 in
-    rw (p.1, p.2) (for_refused loop.var loop.place (statements_in l c.args.levels (statements_of loop.body.items))
-    (expression_of loop.first) (expression_of loop.last) (scope_of (names_in c.args.expansion.now) c.args.scope.now) c.args.expansion.now
-    c.in_err-ends.field-0.0 c.in_err-ends.ensures)
+    rw (p.1, p.2) (for_refused (setting_in l) (bodies_in l c.args.levels) c.args.repeated.now (scope_of (names_in c.args.expansion.now) c.args.scope.now)
+    c.args.expansion.now c.in_err-ends.field-0.0 c.in_err-ends.ensures)
 
 pub expand_for-returns-then-first-last : goal.expand_for-returns-then-first-last
 expand_for-returns-then-first-last t c =
     let l = c.args.library.now in
-    let loop = c.args.repeated.now in
     let above : c.in_ok-ends.ends.1 <ℤ c.in_ok-ends.ends.0 = omega (arith, ints, c.if-first-last.true) in
-    for_none loop.var loop.place (statements_in l c.args.levels (statements_of loop.body.items))
-    (expression_of loop.first) (expression_of loop.last) (scope_of (names_in c.args.expansion.now) c.args.scope.now) c.args.expansion.now
-    c.in_ok-ends.ends.0 c.in_ok-ends.ends.1 c.in_ok-ends.ensures above
+    for_none (setting_in l) (bodies_in l c.args.levels) c.args.repeated.now (scope_of (names_in c.args.expansion.now) c.args.scope.now)
+    c.args.expansion.now c.in_ok-ends.ends.0 c.in_ok-ends.ends.1 c.in_ok-ends.ensures above
 
 pub expand_for-turns-init : goal.expand_for-turns-init
 expand_for-turns-init t c =
     let l = c.args.library.now in
-    let loop = c.args.repeated.now in
     let first : to_z w64 (of_z w64 c.in_ok-ends.ends.0) ≡ c.in_ok-ends.ends.0 = omega (arith, ints) in
     let last : to_z w64 (of_z w64 c.in_ok-ends.ends.1) ≡ c.in_ok-ends.ends.1 = omega (arith, ints) in
     record {
       went =
-          rw (first, last) (turns_begun loop.var loop.place (statements_in l c.args.levels (statements_of loop.body.items))
-          (expression_of loop.first) (expression_of loop.last) (scope_of (names_in c.args.expansion.now) c.args.scope.now) c.args.expansion.now
-          c.in_ok-ends.ends.0 c.in_ok-ends.ends.1 c.in_ok-ends.ensures);
+          rw (first, last) (turns_begun (setting_in l) (bodies_in l c.args.levels) c.args.repeated.now (scope_of (names_in c.args.expansion.now) c.args.scope.now)
+          c.args.expansion.now c.in_ok-ends.ends.0 c.in_ok-ends.ends.1 c.in_ok-ends.ensures);
       inner = c.in_ok-inner.ensures;
       within = omega (arith, ints, c.if-first-last.false);
     }
+
+pub expand_for-turns-smaller : goal.expand_for-turns-smaller
+expand_for-turns-smaller t c =
+    let v : ℤ = to_z w64 c.turns.value-bits in
+    let last : ℤ = to_z w64 (of_z w64 c.in_ok-ends.ends.1) in
+    gap_up w64 v last c.turns-test.true (read_sfits w64 c.turns.value-bits) (read_sfits w64 (of_z w64 c.in_ok-ends.ends.1))
 
 pub expand_for-turn-requires : goal.expand_for-turn-requires
 expand_for-turn-requires t c =
@@ -201,17 +209,21 @@ expand_for-returns-in_err-turn t c =
     let l = c.args.library.now in
     let loop = c.args.repeated.now in
     let went = c.turns.invariant in
-    let body = statements_in l c.args.levels (statements_of loop.body.items) in
     let scope = scope_of (names_in start) c.args.scope.now in
     let v : ℤ = to_z w64 c.turns.value-bits in
     let last : ℤ = to_z w64 (of_z w64 c.in_ok-ends.ends.1) in
     let below : v <ℤ last = omega (arith, ints, c.turns-test.true) in
     let p = err_from_is_err_and c.from_residual-in_err-turn.result c.from_residual-in_err-turn.ensures.1 in
-    rw (p.1, p.2) (turns_failed (λ v. turn_act loop.var loop.place body v scope) start
-    (uncounted_in l c.args.levels (for_of loop) scope (state_of start)) last e v c.in_err-turn.field-0.0 below
-    (subst (λ (z : Scope). Failed c.in_err-turn.field-0.0 (turn_act loop.var loop.place body v z (state_of e)))
+    rw (p.1, p.2) (turns_failed (λ v. step (setting_in l) (bodies_in l c.args.levels) loop scope start v) start
+    (the_for (setting_in l) (bodies_in l c.args.levels) loop scope start) last e v c.in_err-turn.field-0.0 below
+    (subst (λ (z : Scope). Failed c.in_err-turn.field-0.0 (step (setting_in l) (bodies_in l c.args.levels) loop z start v (state_of e)))
     (scope_stays start e c.args.scope.now went.went.grows c.requires.exists) (rw went.inner at c.in_err-turn.ensures))
     went.went)
+
+pub expand_for-returns-in_err-turn_to : goal.expand_for-returns-in_err-turn_to
+expand_for-returns-in_err-turn_to t c =
+    let p = err_from_is_err_and c.from_residual-in_err-turn_to.result c.from_residual-in_err-turn_to.ensures.1 in
+    rw (p.1, p.2) (record { told = λ r is. absurd (cc) })
 
 pub expand_for-turns-preserved : goal.expand_for-turns-preserved
 expand_for-turns-preserved t c =
@@ -220,7 +232,6 @@ expand_for-turns-preserved t c =
     let l = c.args.library.now in
     let loop = c.args.repeated.now in
     let went = c.turns.invariant in
-    let body = statements_in l c.args.levels (statements_of loop.body.items) in
     let scope = scope_of (names_in start) c.args.scope.now in
     let v : ℤ = to_z w64 c.turns.value-bits in
     let last : ℤ = to_z w64 (of_z w64 c.in_ok-ends.ends.1) in
@@ -228,9 +239,9 @@ expand_for-turns-preserved t c =
     let next : to_z w64 (of_z w64 (v +ℤ pos 1)) ≡ v +ℤ pos 1 = omega (arith, ints) in
     record {
       went =
-          rw next (turns_more (λ v. turn_act loop.var loop.place body v scope) start (uncounted_in l c.args.levels (for_of loop) scope (state_of start))
-          last e v c.turn.new.expansion below
-          (subst (λ (z : Scope). GivesDone e c.turn.new.expansion (turn_act loop.var loop.place body v z (state_of e)))
+          rw next (turns_more (λ v. step (setting_in l) (bodies_in l c.args.levels) loop scope start v) start
+          (the_for (setting_in l) (bodies_in l c.args.levels) loop scope start) last e v c.turn.new.expansion below
+          (subst (λ (z : Scope). GivesDone e c.turn.new.expansion (step (setting_in l) (bodies_in l c.args.levels) loop z start v (state_of e)))
           (scope_stays start e c.args.scope.now went.went.grows c.requires.exists) (rw went.inner at c.in_ok-turn.ensures))
           went.went);
       inner = c.in_ok-turn_to.ensures;
@@ -263,13 +274,12 @@ expand_for-returns t c =
     let l = c.args.library.now in
     let loop = c.args.repeated.now in
     let went = c.turns.invariant in
-    let body = statements_in l c.args.levels (statements_of loop.body.items) in
     let scope = scope_of (names_in start) c.args.scope.now in
     let v : ℤ = to_z w64 c.turns.value-bits in
     let last : ℤ = to_z w64 (of_z w64 c.in_ok-ends.ends.1) in
     let at_last : v ≡ last = omega (arith, ints, c.turns-test.false, went.within) in
-    turns_done (λ v. turn_act loop.var loop.place body v scope) start (uncounted_in l c.args.levels (for_of loop) scope (state_of start))
-    last e v c.turn-2.result c.turn-2.new.expansion at_last
-    (subst (λ (z : Scope). DoneAt e c.turn-2.new.expansion c.turn-2.result (turn_act loop.var loop.place body v z (state_of e)))
+    turns_done (λ v. step (setting_in l) (bodies_in l c.args.levels) loop scope start v) start
+    (the_for (setting_in l) (bodies_in l c.args.levels) loop scope start) last e v c.turn-2.result c.turn-2.new.expansion at_last
+    (subst (λ (z : Scope). DoneAt e c.turn-2.new.expansion c.turn-2.result (step (setting_in l) (bodies_in l c.args.levels) loop z start v (state_of e)))
     (scope_stays start e c.args.scope.now went.went.grows c.requires.exists) (rw went.inner at c.turn-2.ensures))
     went.went

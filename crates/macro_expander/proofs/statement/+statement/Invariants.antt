@@ -1,12 +1,12 @@
 use Rattle.std.proofs.Common.{◌+◌, ◌-◌, ◌*◌, drop}
 use Rattle.std.specs.Prelude.{◌≡◌, ◌≤ℤ◌}
 use borrow.Author.Gap.{gap}
-use Rattle.drawing_tree.specs.Tree.{statements_of, for_of}
+use Rattle.drawing_tree.specs.Tree.{statements_of}
 use Rattle.macro_expander.specs.Library.{setting_in}
-use Rattle.macro_expander.specs.Flat.{turn_act}
-use Rattle.macro_expander.specs.Statements.{bodies_in, statements_in, uncounted_in, turned_scope, WentThrough, WentTurns}
+use Rattle.macro_expander.specs.Statements.{bodies_in, statements_in, turned_scope, WentThrough, WentTurns}
 use Rattle.macro_expander.specs.Numbered.{scope_of, names_in, state_of}
 use Rattle.macro_expander.proofs.Statements.{act}
+use Rattle.macro_expander.proofs.Turns.{the_for, step}
 use Rattle.macro_expander.proofs.statement.+statement.Given as goal
 
 -- the statements that may still be reached, and then how far a call is from the next count
@@ -46,10 +46,9 @@ abbrev pub invariant-expand_for-turns : goal.invariant-expand_for-turns
 invariant-expand_for-turns l =
     let start = l.fn.expansion in
     let scope = scope_of (names_in start) l.scope in
-    let body = statements_in l.library l.levels (statements_of l.repeated.body.items) in
     record {
-      went : WentTurns (λ v. turn_act l.repeated.var l.repeated.place body v scope) start
-          (uncounted_in l.library l.levels (for_of l.repeated) scope (state_of start)) l.value l.last l.expansion;
+      went : WentTurns (λ v. step (setting_in l.library) (bodies_in l.library l.levels) l.repeated scope start v) start
+          (the_for (setting_in l.library) (bodies_in l.library l.levels) l.repeated scope start) l.value l.last l.expansion;
       inner : l.inner ≡ turned_scope l.repeated.var l.value l.scope;
       within : l.value ≤ℤ l.last;
     }
