@@ -32,9 +32,16 @@ none_where_the_first_is_greater = refl
 -- ---- selects
 
 selects_of_both_versions :
-    in_pin_order {X = ℕ} (is_least_first 1) Mux4 (1 ∷ 0 ∷ 5 ∷ 6 ∷ 7 ∷ 8 ∷ []) ∷ in_pin_order (is_least_first 2) Mux4 (0 ∷ 1 ∷ 5 ∷ 6 ∷ 7 ∷ 8 ∷ [])
-    ∷ in_pin_order (is_least_first 2) Mux8 (0 ∷ 1 ∷ 2 ∷ 5 ∷ []) ∷ in_pin_order (is_least_first 2) Mux2 (0 ∷ 5 ∷ 6 ∷ []) ∷ []
-    ≡ (1 ∷ 0 ∷ 5 ∷ 6 ∷ 7 ∷ 8 ∷ []) ∷ (1 ∷ 0 ∷ 5 ∷ 6 ∷ 7 ∷ 8 ∷ []) ∷ (2 ∷ 1 ∷ 0 ∷ 5 ∷ []) ∷ (0 ∷ 5 ∷ 6 ∷ []) ∷ []
+    in_pin_order {X = ℕ} (is_least_first 1) Mux4 (1 ∷ 0 ∷ 5 ∷ 6 ∷ 7 ∷ 8 ∷ [])
+    ∷ in_pin_order (is_least_first 2) Mux4 (0 ∷ 1 ∷ 5 ∷ 6 ∷ 7 ∷ 8 ∷ [])
+    ∷ in_pin_order (is_least_first 2) Mux8 (0 ∷ 1 ∷ 2 ∷ 5 ∷ [])
+    ∷ in_pin_order (is_least_first 2) Mux2 (0 ∷ 5 ∷ 6 ∷ [])
+    ∷ []
+    ≡ (1 ∷ 0 ∷ 5 ∷ 6 ∷ 7 ∷ 8 ∷ [])
+    ∷ (1 ∷ 0 ∷ 5 ∷ 6 ∷ 7 ∷ 8 ∷ [])
+    ∷ (2 ∷ 1 ∷ 0 ∷ 5 ∷ [])
+    ∷ (0 ∷ 5 ∷ 6 ∷ [])
+    ∷ []
 selects_of_both_versions = refl
 
 -- ---- constants
@@ -43,7 +50,13 @@ at : ℕ → Place
 at line = record { line = line; col = 1 }
 
 header : Header
-header = record { units = 8; ticks = 50; wire = record { min = 0; max = 0 }; pskew = (0, 0); cskew = (0, 0) }
+header = record {
+  units = 8;
+  ticks = 50;
+  wire = record { min = 0; max = 0 };
+  pskew = (0, 0);
+  cskew = (0, 0);
+}
 
 constant : List ℕ → Expression → Assignment
 constant name value = record { name = name; value = value }
@@ -53,14 +66,17 @@ value name n = record { name = name; value = pos n }
 
 -- each is evaluated with those before it, and no other
 constants_in_order :
-    const_values [] (constant (codes "N") (Number (pos 2)) ∷ constant (codes "M") (Binary Add (Param (codes "N")) (Number (pos 1))) ∷ []) (at 3 ∷ at 4 ∷ [])
-    (nothing_yet header)
+    const_values [] (constant (codes "N") (Number (pos 2))
+    ∷ constant (codes "M") (Binary Add (Param (codes "N")) (Number (pos 1)))
+    ∷ []) (at 3 ∷ at 4 ∷ []) (nothing_yet header)
     ≡ Gives (value (codes "N") 2 ∷ value (codes "M") 3 ∷ []) (nothing_yet header)
 unfolding constant value
 constants_in_order = refl
 
 later_constant_is_unknown :
-    const_values [] (constant (codes "N") (Param (codes "M")) ∷ constant (codes "M") (Number (pos 1)) ∷ []) (at 3 ∷ at 4 ∷ []) (nothing_yet header)
+    const_values [] (constant (codes "N") (Param (codes "M"))
+    ∷ constant (codes "M") (Number (pos 1))
+    ∷ []) (at 3 ∷ at 4 ∷ []) (nothing_yet header)
     ≡ Fails UnknownName (at 3)
 unfolding constant
 later_constant_is_unknown = refl
@@ -69,7 +85,10 @@ later_constant_is_unknown = refl
 
 alone : List ℕ → Connection
 alone base = record {
-  terms = (record { minus = false; item = Named (record { base = base; global = false; spec = Unasserted }) None }) ∷ [];
+  terms = (record {
+    minus = false;
+    item = Named (record { base = base; global = false; spec = Unasserted }) None;
+  }) ∷ [];
   hold = false;
   place = at 0;
 }
@@ -109,7 +128,11 @@ turned_bit path = record {
   delay = record { min = 0; max = 0 };
   split = None;
   limits = (0, 0);
-  pins = (record { target = On (record { text = codes "A"; bit = 0 }); inverted = false; hold = false }) ∷ [];
+  pins = (record {
+    target = On (record { text = codes "A"; bit = 0 });
+    inverted = false;
+    hold = false;
+  }) ∷ [];
   out = Some (On (record { text = codes "X"; bit = 0 }));
   out_inverted = false;
   place = at 5;
@@ -139,7 +162,9 @@ unfolding flat looped buffer alone at header
 no_turn = refl
 
 -- the ends are refused at the word FOR, and know no variable
-divided_end : flat (looped (Number (pos 0)) (Binary Div (Number (pos 1)) (Number (pos 0)))) ≡ Fails ZeroDivisor (at 4)
+divided_end :
+    flat (looped (Number (pos 0)) (Binary Div (Number (pos 1)) (Number (pos 0))))
+    ≡ Fails ZeroDivisor (at 4)
 unfolding flat looped buffer alone at header
 divided_end = refl
 

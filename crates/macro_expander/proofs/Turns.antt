@@ -13,12 +13,12 @@ use Rattle.drawing_tree.proofs.Views.{view_for}
 use Rattle.macro_expander.specs.declared.expansion.Expansion.{Expansion}
 use Rattle.macro_expander.specs.declared.scope.Scope as numbered_scope
 use Rattle.macro_expander.specs.Named.{State}
-use Rattle.macro_expander.specs.Outcome.{Outcome, Fails, judged, each}
+use Rattle.macro_expander.specs.Outcome.{Outcome, Fails, Judged, judged, each}
 use Rattle.macro_expander.specs.Steps.{IsJudgedRefusal}
 use Rattle.macro_expander.specs.Terms.{Scope}
 use Rattle.macro_expander.specs.Setting.{Setting}
 use Rattle.macro_expander.specs.Loops.{count_of, in_turn, loop_ends, values_between}
-use Rattle.macro_expander.specs.Flat.{Act, wire_act, use_act, counted, turn_act, statement_act, statements_act}
+use Rattle.macro_expander.specs.Flat.{Act, counted, turn_act, statement_act, statements_act}
 use Rattle.macro_expander.specs.Numbered.{Failed, GivesDone, DoneAt, ScopeExists, Grows, scope_of, names_in, state_of}
 use Rattle.macro_expander.specs.Statements.{uncounted_act, Reached, WentTurns, turned_scope}
 use Rattle.macro_expander.proofs.Nets.{grows_refl, grows_trans}
@@ -35,7 +35,8 @@ counts_down : (v last : ℤ) → v <ℤ last →
 counts_down v last h = omega (arith, ints, count_is)
 
 -- below the last value, the values are this one and those from the next on
-pub values_more : (v last : ℤ) → v <ℤ last → values_between v last ≡ v ∷ values_between (v +ℤ pos 1) last
+pub values_more : (v last : ℤ) → v <ℤ last →
+    values_between v last ≡ v ∷ values_between (v +ℤ pos 1) last
 values_more v last h = rw (counts_down v last h) refl
 
 counts_one : (last : ℤ) → count_of ((last +ℤ pos 1) -ℤ last) ≡ suc zero
@@ -52,87 +53,121 @@ values_none first last h = rw (counts_none first last h) refl
 
 -- ---- the whole of a FOR
 
-module _ (setting : Setting) (below : Option (Macro → Act)) (loop : ForStmt) (scope : Scope) (e : Expansion) where
+-- the body of a FOR for one value
+abbrev pub one_turn : Setting → Option (Macro → Act) → ForStmt → Scope → ℤ → State →
+    Outcome (Unit {0})
+one_turn setting below loop scope v =
+    let body = statements_act setting below (statements_of loop.body.items) in
+    turn_act loop.var loop.place body v scope
+
+abbrev ends_in : Scope → ForStmt → Judged (ℤ × ℤ)
+ends_in scope loop = loop_ends scope.env (expression_of loop.first) (expression_of loop.last)
+
+module _ (setting : Setting) (below : Option (Macro → Act)) (loop : ForStmt) (scope : Scope)
+    (e : Expansion) where
   abbrev pub the_for : Outcome (Unit {0})
   the_for = uncounted_act setting below (for_of loop) scope (state_of e)
 
-  -- the body for one value
-  abbrev pub step : ℤ → State → Outcome (Unit {0})
-  step v = turn_act loop.var loop.place (statements_act setting below (statements_of loop.body.items)) v scope
+  for_is : the_for ≡ judged (ends_in scope loop) loop.place (λ ends.
+      each (one_turn setting below loop scope) (values_between ends.0 ends.1) (state_of e))
+  for_is =
+      ap (λ (x : Statement). uncounted_act setting below x scope (state_of e)) (view_for loop)
 
-  for_is : the_for ≡ judged (loop_ends scope.env (expression_of loop.first) (expression_of loop.last)) loop.place
-      (λ ends. each step (values_between ends.0 ends.1) (state_of e))
-  for_is = ap (λ (x : Statement). uncounted_act setting below x scope (state_of e)) (view_for loop)
-
-  pub for_refused : (stop : Stop) → IsJudgedRefusal loop.place stop (loop_ends scope.env (expression_of loop.first) (expression_of loop.last)) → Failed stop the_for
+  pub for_refused : (stop : Stop) → IsJudgedRefusal loop.place stop (ends_in scope loop) →
+      Failed stop the_for
   for_refused stop h = record { told = λ r is. for_is ∙ rw (h.told r is, sym (h.here r is)) refl }
 
-  module _ (a b : ℤ) (are : loop_ends scope.env (expression_of loop.first) (expression_of loop.last) ≡ Ok (a, b)) where
+  module _ (a b : ℤ) (are : ends_in scope loop ≡ Ok (a, b)) where
     pub for_none : b <ℤ a → GivesDone e e the_for
     for_none h = record { is = for_is ∙ rw (are, values_none a b h) refl; grows = grows_refl e }
 
-    pub turns_begun : WentTurns step e the_for a b e
+    pub turns_begun : WentTurns (one_turn setting below loop scope) e the_for a b e
     turns_begun = record { told = sym (for_is ∙ rw are refl); grows = grows_refl e }
 
 -- ---- value by value
 
-module _ (step : ℤ → State → Outcome (Unit {0})) (start : Expansion) (want : Outcome (Unit {0})) (last : ℤ) (e : Expansion) where
+module _ (step : ℤ → State → Outcome (Unit {0})) (start : Expansion) (want : Outcome (Unit {0}))
+    (last : ℤ) (e : Expansion) where
+  -- what the values from one on do
+  abbrev from : ℤ → State → Outcome (Unit {0})
+  from v s = each step (values_between v last) s
+
   pub turns_more : (v : ℤ) (f : Expansion) → v <ℤ last → GivesDone e f (step v (state_of e)) →
       WentTurns step start want v last e → WentTurns step start want (v +ℤ pos 1) last f
   turns_more v f h g w =
-      let next : each step (values_between (v +ℤ pos 1) last) (state_of f) ≡ each step (values_between v last) (state_of e) =
+      let next : from (v +ℤ pos 1) (state_of f) ≡ from v (state_of e) =
       rw (values_more v last h, g.is) refl in
       record { told = next ∙ w.told; grows = grows_trans start e f w.grows g.grows }
 
-  pub turns_failed : (v : ℤ) (stop : Stop) → v <ℤ last → Failed stop (step v (state_of e)) → WentTurns step start want v last e → Failed stop want
+  pub turns_failed : (v : ℤ) (stop : Stop) → v <ℤ last → Failed stop (step v (state_of e)) →
+      WentTurns step start want v last e → Failed stop want
   turns_failed v stop h g w = record {
     told = λ r is.
-        let failed : each step (values_between v last) (state_of e) ≡ Fails r.kind r.place = rw (values_more v last h, g.told r is) refl in
+        let failed : from v (state_of e) ≡ Fails r.kind r.place =
+        rw (values_more v last h, g.told r is) refl in
         sym w.told ∙ failed;
   }
 
-  alone : (v : ℤ) (r : Result (Unit {0}) Stop) (f : Expansion) → DoneAt e f r (step v (state_of e)) → DoneAt e f r (each step (v ∷ []) (state_of e))
+  alone : (v : ℤ) (r : Result (Unit {0}) Stop) (f : Expansion) →
+      DoneAt e f r (step v (state_of e)) → DoneAt e f r (each step (v ∷ []) (state_of e))
   alone v (Ok done) f g = record { is = rw g.is refl; grows = g.grows }
   alone v (Err stop) f g = record { told = λ r is. rw (g.told r is) refl }
 
   -- the last value is all that is left
-  pub turns_done : (v : ℤ) (r : Result (Unit {0}) Stop) (f : Expansion) → v ≡ last → DoneAt e f r (step v (state_of e)) →
-      WentTurns step start want v last e → DoneAt start f r want
+  pub turns_done : (v : ℤ) (r : Result (Unit {0}) Stop) (f : Expansion) → v ≡ last →
+      DoneAt e f r (step v (state_of e)) → WentTurns step start want v last e → DoneAt start f r want
   turns_done v r f same g w =
       let one : values_between v last ≡ v ∷ [] = rw same (values_one last) in
-      let is : want ≡ each step (v ∷ []) (state_of e) =
-      sym w.told ∙ subst (λ (vs : List ℤ). each step (values_between v last) (state_of e) ≡ each step vs (state_of e)) one refl in
-      done_later start e f r (each step (v ∷ []) (state_of e)) want w.grows is (alone v r f g)
+      let only : from v (state_of e) ≡ each step (v ∷ []) (state_of e) =
+      ap (λ (vs : List ℤ). each step vs (state_of e)) one in
+      done_later start e f r (each step (v ∷ []) (state_of e)) want w.grows (sym w.told ∙ only)
+      (alone v r f g)
 
 -- ---- counted
 
 -- a step after one statement more is reached
-pub counted_done : (place : Place) (act : Act) (scope : Scope) (e e1 f : Expansion) (r : Result (Unit {0}) Stop) → Reached e e1 →
-    DoneAt e1 f r (act scope (state_of e1)) → DoneAt e f r (counted place act scope (state_of e))
+pub counted_done : (place : Place) (act : Act) (scope : Scope) (e e1 f : Expansion)
+    (r : Result (Unit {0}) Stop) → Reached e e1 → DoneAt e1 f r (act scope (state_of e1)) →
+    DoneAt e f r (counted place act scope (state_of e))
 counted_done place act scope e e1 f r reached h =
-    let is : counted place act scope (state_of e) ≡ act scope (state_of e1) = rw (reached.is, reached.room) refl in
-    let grows : Grows e e1 = rw reached.is (record { more = []; names = sym (append-nil (names_in e)); header = refl; statements = omega arith }) in
+    let is : counted place act scope (state_of e) ≡ act scope (state_of e1) =
+    rw (reached.is, reached.room) refl in
+    let grows : Grows e e1 = rw reached.is (record {
+      more = [];
+      names = sym (append-nil (names_in e));
+      header = refl;
+      statements = omega arith;
+    }) in
     done_later e e1 f r (act scope (state_of e1)) (counted place act scope (state_of e)) grows is h
 
 module _ (setting : Setting) (below : Option (Macro → Act)) where
-  counted_act : (x : Statement) (scope : Scope) (e e1 f : Expansion) (r : Result (Unit {0}) Stop) → Reached e e1 →
-      DoneAt e1 f r (uncounted_act setting below x scope (state_of e1)) → DoneAt e f r (statement_act setting below x scope (state_of e))
-  counted_act (Use u) scope e e1 f r reached h = counted_done u.place (use_act setting below u) scope e e1 f r reached h
-  counted_act (Wire w) scope e e1 f r reached h = counted_done w.place (wire_act w) scope e e1 f r reached h
+  abbrev rest : Statement → Act
+  rest x = uncounted_act setting below x
+
+  counted_act : (x : Statement) (scope : Scope) (e e1 f : Expansion)
+      (r : Result (Unit {0}) Stop) → Reached e e1 → DoneAt e1 f r (rest x scope (state_of e1)) →
+      DoneAt e f r (statement_act setting below x scope (state_of e))
+  counted_act (Use u) scope e e1 f r reached h =
+      counted_done u.place (rest (Use u)) scope e e1 f r reached h
+  counted_act (Wire w) scope e e1 f r reached h =
+      counted_done w.place (rest (Wire w)) scope e e1 f r reached h
   counted_act (If test taken other place) scope e e1 f r reached h =
-      counted_done place (uncounted_act setting below (If test taken other place)) scope e e1 f r reached h
+      counted_done place (rest (If test taken other place)) scope e e1 f r reached h
   counted_act (For var first last ss place) scope e e1 f r reached h =
-      counted_done place (uncounted_act setting below (For var first last ss place)) scope e e1 f r reached h
+      counted_done place (rest (For var first last ss place)) scope e e1 f r reached h
 
   -- a FOR, once it is counted
-  pub for_done : (x : Statement) (loop : ForStmt) (s : numbered_scope.Scope) (e e1 f : Expansion) (r : Result (Unit {0}) Stop) → x ≡ for_of loop → Reached e e1 →
-      DoneAt e1 f r (uncounted_act setting below (for_of loop) (scope_of (names_in e1) s) (state_of e1)) →
+  pub for_done : (x : Statement) (loop : ForStmt) (s : numbered_scope.Scope) (e e1 f : Expansion)
+      (r : Result (Unit {0}) Stop) → x ≡ for_of loop → Reached e e1 →
+      DoneAt e1 f r (rest (for_of loop) (scope_of (names_in e1) s) (state_of e1)) →
       DoneAt e f r (statement_act setting below x (scope_of (names_in e) s) (state_of e))
   for_done x loop s e e1 f r is reached h =
+      let scope = scope_of (names_in e) s in
       let same : names_in e1 ≡ names_in e = ap (λ (d : Expansion). d.builder.names) reached.is in
-      let done = subst (λ (names : List Name). DoneAt e1 f r (uncounted_act setting below (for_of loop) (scope_of names s) (state_of e1))) same h in
-      subst (λ (y : Statement). DoneAt e f r (statement_act setting below y (scope_of (names_in e) s) (state_of e))) (sym is)
-      (counted_act (for_of loop) (scope_of (names_in e) s) e e1 f r reached done)
+      let done = subst (λ (names : List Name).
+      DoneAt e1 f r (rest (for_of loop) (scope_of names s) (state_of e1))) same h in
+      subst (λ (y : Statement). DoneAt e f r (statement_act setting below y scope (state_of e)))
+      (sym is) (counted_act (for_of loop) scope e e1 f r reached done)
 
 -- ---- scopes
 
@@ -141,5 +176,6 @@ pub turn_is : (names : List Name) (var : List ℕ) (v : ℤ) (s : numbered_scope
     scope_of names (turned_scope var v s) ≡ in_turn var v (scope_of names s)
 turn_is names var v s = refl
 
-pub turn_exists : (nets : ℕ) (var : List ℕ) (v : ℤ) (s inner : numbered_scope.Scope) → inner ≡ turned_scope var v s → ScopeExists nets s → ScopeExists nets inner
+pub turn_exists : (nets : ℕ) (var : List ℕ) (v : ℤ) (s inner : numbered_scope.Scope) →
+    inner ≡ turned_scope var v s → ScopeExists nets s → ScopeExists nets inner
 turn_exists nets var v s inner is x = rw is (record { formals = x.formals })

@@ -1,5 +1,5 @@
--- The flat circuit of a drawing: its statements in the order of the text, a macro's body at each of its uses and a FOR's
--- body once for each value.
+-- The flat circuit of a drawing: its statements in the order of the text, a macro's body at each of
+-- its uses and a FOR's body once for each value.
 use Rattle.std.specs.Prelude.{ℕ, zero, suc, ◌+◌, Bool, false, List, [], ◌∷◌, ◌++◌, nat_lt, if◌then◌else◌, Option, Some, None, ℤ, pos}
 use Rattle.scald_base.specs.Time.{Bounds, Header, period}
 use Rattle.scald_base.specs.declared.refusal.Place.{Place}
@@ -62,7 +62,8 @@ macro_use setting body (Some m) u scope s =
 
 abbrev pub use_act_of : Option Kind → Setting → Option (Macro → Act) → UseStatement → Act
 use_act_of (Some kind) setting body u scope s = primitive_use setting kind scope u s
-use_act_of None setting body u scope s = macro_use setting body (macro_of u.kind setting.macros) u scope s
+use_act_of None setting body u scope s =
+    macro_use setting body (macro_of u.kind setting.macros) u scope s
 
 unfoldable pub use_act : Setting → Option (Macro → Act) → UseStatement → Act
 use_act setting body u scope s = use_act_of (kind_of u.kind) setting body u scope s
@@ -91,14 +92,17 @@ abbrev mutual
   statement_act setting body (If test taken other place) =
       counted place (λ scope s.
       judged (valued scope.env test) place (λ v.
-      (if is_zero v then otherwise_act setting body other else statements_act setting body taken) scope s))
+      (if is_zero v
+      then otherwise_act setting body other
+      else statements_act setting body taken) scope s))
   statement_act setting body (For var first last ss place) =
       counted place (for_act (turn_act var place (statements_act setting body ss)) first last place)
 
   pub statements_act : Setting → Option (Macro → Act) → Statements → Act
   statements_act setting body nil scope s = Gives tt s
   statements_act setting body (cons first others) scope s =
-      after (statement_act setting body first scope s) (λ _ s1. statements_act setting body others scope s1)
+      after (statement_act setting body first scope s) (λ _ s1.
+      statements_act setting body others scope s1)
 
   pub otherwise_act : Setting → Option (Macro → Act) → Otherwise → Act
   otherwise_act setting body no_else scope s = Gives tt s
@@ -115,9 +119,11 @@ deepest = 64
 -- ---- constants
 
 -- the constants with their values, each evaluated with those before it and refused at its own place
-abbrev pub const_values : List Binding → List Assignment → List Place → State → Outcome (List Binding)
+abbrev pub const_values : List Binding → List Assignment → List Place → State →
+    Outcome (List Binding)
 const_values known (c ∷ cs) (place ∷ places) s =
-    judged (valued known c.value) place (λ v. const_values (known ++ binding c.name v ∷ []) cs places s)
+    judged (valued known c.value) place (λ v.
+    const_values (known ++ binding c.name v ∷ []) cs places s)
 const_values known _ _ s = Gives known s
 
 -- ---- the whole
@@ -130,12 +136,21 @@ abbrev pub nothing_yet : Header → State
 nothing_yet header = record { header = header; statements = 0; names = []; wires = []; asserted = []; instances = [] }
 
 abbrev pub setting_of : Drawing → List Binding → Setting
-setting_of d consts = record { version = d.version; ticks = period d.header; consts = consts; macros = d.macros }
+setting_of d consts = record {
+  version = d.version;
+  ticks = period d.header;
+  consts = consts;
+  macros = d.macros;
+}
 
 -- a drawing's statements, where its constants have these values
 abbrev pub body_act : Drawing → List Binding → State → Outcome (Unit {0})
-body_act d consts s = statements_act (setting_of d consts) (body_at (setting_of d consts) deepest) d.body (top consts) s
+body_act d consts s =
+    let setting = setting_of d consts in
+    statements_act setting (body_at setting deepest) d.body (top consts) s
 
 -- the constants, before any statement, and then the drawing's statements, in the empty circuit
 unfoldable pub flat : Drawing → Outcome (Unit {0})
-flat d = after (const_values [] d.consts d.const_places (nothing_yet d.header)) (λ consts s. body_act d consts s)
+flat d =
+    after (const_values [] d.consts d.const_places (nothing_yet d.header)) (λ consts s.
+    body_act d consts s)

@@ -14,14 +14,21 @@ abbrev pub macros_in : Library → List Macro
 macros_in l = map macro_of l.macros.now
 
 abbrev pub setting_in : Library → Setting
-setting_in l = record { version = l.version; ticks = l.ticks; consts = l.consts; macros = macros_in l }
+setting_in l = record {
+  version = l.version;
+  ticks = l.ticks;
+  consts = l.consts;
+  macros = macros_in l;
+}
 
 -- each name leads to the first macro of that name, where there are many
 abbrev pub LeadToMacros : Library → Type 0
 LeadToMacros l = LeadWhereMany (λ (m : MacroDef). m.name) l.places.entries l.macros.now
 
--- the library of a drawing of this version, with a period of so many ticks, these constants and these macros
-pub record HoldsMacros (v n : ℕ) (env : List Binding) (ms : List MacroDef) (l : Library) : Type 0 where
+-- the library of a drawing of this version, with a period of so many ticks, these constants and
+-- these macros
+pub record HoldsMacros (v n : ℕ) (env : List Binding) (ms : List MacroDef)
+    (l : Library) : Type 0 where
   pub version : l.version ≡ v
   pub ticks : l.ticks ≡ n
   pub consts : l.consts ≡ env

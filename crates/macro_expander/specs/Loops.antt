@@ -35,15 +35,23 @@ binding var v = record { name = var; value = v }
 
 -- The variable has its value, whatever else has its name. Nets are those of the scope around.
 abbrev pub in_turn : List ℕ → ℤ → Scope → Scope
-in_turn var v scope = record scope { suffix = scope.suffix ++ turn_text v; env = binding var v ∷ scope.env }
+in_turn var v scope = record scope {
+  suffix = scope.suffix ++ turn_text v;
+  env = binding var v ∷ scope.env;
+}
 
 -- ---- what a FOR does
 
 -- the first and the last value, in the scope around
 abbrev pub loop_ends : List Binding → Expression → Expression → Judged (ℤ × ℤ)
-loop_ends env first last = judging (valued env first) (λ a. judging (valued env last) (λ b. Ok (a, b)))
+loop_ends env first last =
+    judging (valued env first) (λ a.
+    judging (valued env last) (λ b.
+    Ok (a, b)))
 
 -- each value in its turn
-abbrev pub for_act : (ℤ → Scope → State → Outcome (Unit {0})) → Expression → Expression → Place → Scope → State → Outcome (Unit {0})
+abbrev pub for_act : (ℤ → Scope → State → Outcome (Unit {0})) → Expression → Expression → Place →
+    Scope → State → Outcome (Unit {0})
 for_act turn first last place scope s =
-    judged (loop_ends scope.env first last) place (λ ends. each (λ v. turn v scope) (values_between ends.0 ends.1) s)
+    judged (loop_ends scope.env first last) place (λ ends.
+    each (λ v. turn v scope) (values_between ends.0 ends.1) s)

@@ -36,14 +36,16 @@ given_to m env u =
 abbrev pub value_given : List Binding → List ℕ → Option ℤ
 value_given given name = option_map (λ (b : Binding). b.value) (find (is_named name) given)
 
--- A parameter has the value that is given, or else its default, in which the constants alone have values.
+-- A parameter has the value that is given, or else its default, in which the constants alone have
+-- values.
 abbrev pub value_or_default : List Binding → Option ℤ → Assignment → Judged ℤ
 value_or_default consts (Some v) param = Ok v
 value_or_default consts None param = valued consts param.value
 
 abbrev pub parameter : List Binding → List Binding → Assignment → Judged Binding
 parameter consts given param =
-    judging (value_or_default consts (value_given given param.name) param) (λ v. Ok (record { name = param.name; value = v }))
+    judging (value_or_default consts (value_given given param.name) param) (λ v.
+    Ok (record { name = param.name; value = v }))
 
 abbrev pub parameters_of : List Binding → List Binding → List Assignment → Judged (List Binding)
 parameters_of consts given params = collected (parameter consts given) [] params
@@ -58,8 +60,8 @@ shape_of env f =
 abbrev pub shapes_of : List Binding → List Formal → Judged (List Shape)
 shapes_of env formals = collected (shape_of env) [] formals
 
--- What a body is expanded with, before anything is bound to its formals: the values of the parameters and of the
--- constants, which a parameter of the same name hides; and the formals.
+-- What a body is expanded with, before anything is bound to its formals: the values of the
+-- parameters and of the constants, which a parameter of the same name hides; and the formals.
 unfoldable pub inside_of : List Binding → Macro → List Binding → Judged Inside
 inside_of consts m given =
     judging (parameters_of consts given m.params) (λ params.
@@ -100,8 +102,10 @@ bound_scope path inside ins outs =
     judging (collected output_bound [] (zip inside.outs outs)) (λ outputs.
     Ok (record { path = path; suffix = []; env = inside.env; formals = inputs ++ outputs })))
 
--- The scope of a macro's body at a use: its formals, the connections, their widths. No FOR is around the body.
-unfoldable pub inner_scope : List Binding → Macro → List Binding → Scope → UseStatement → State → Outcome Scope
+-- The scope of a macro's body at a use: its formals, the connections, their widths. No FOR is
+-- around the body.
+unfoldable pub inner_scope : List Binding → Macro → List Binding → Scope → UseStatement → State →
+    Outcome Scope
 inner_scope consts m given scope u s =
     judged (inside_of consts m given) u.place (λ inside.
     after (wires_of scope u s) (λ w s1.

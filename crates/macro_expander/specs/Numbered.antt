@@ -133,7 +133,12 @@ abbrev pub bound_of : List Name → numbered_bound.Bound → Bound
 bound_of names f = record { base = f.base; numbers = f.numbers; bits = map (bit_of names) f.bits }
 
 abbrev pub scope_of : List Name → numbered_scope.Scope → Scope
-scope_of names s = record { path = s.path; suffix = s.suffix; env = s.env; formals = map (bound_of names) s.formals }
+scope_of names s = record {
+  path = s.path;
+  suffix = s.suffix;
+  env = s.env;
+  formals = map (bound_of names) s.formals;
+}
 
 -- ---- the formals of a use, by numbers
 

@@ -211,7 +211,8 @@ inputs_fit kind n widths = if is_change kind then true else list_all (can_have n
 abbrev pub first_reversed : {X : Type 0} → ℕ → List X → List X
 first_reversed n xs = reverse (take n xs) ++ drop n xs
 
--- Pins have the most significant select first. In version 2 of the language the connections have the least significant first.
+-- Pins have the most significant select first. In version 2 of the language the connections have
+-- the least significant first.
 abbrev pub is_least_first : ℕ → Bool
 is_least_first version = version == 2
 
@@ -300,8 +301,8 @@ all_added path u kind plan n ins outs s = each (λ k. adding (instance_at path u
 abbrev pub width_in : Kind → Wires → ℕ
 width_in kind w = width_of kind (map width w.ins) (map width w.outs)
 
--- The use of a primitive, once it is counted. Its connections are looked at in the order of the text, whatever that of
--- its pins is.
+-- The use of a primitive, once it is counted. Its connections are looked at in the order of the
+-- text, whatever that of its pins is.
 unfoldable pub primitive_use : Setting → Kind → Scope → UseStatement → State → Outcome (Unit {0})
 primitive_use setting kind scope u s =
     judged (plan_of setting.ticks kind scope.env u) u.place (λ plan.

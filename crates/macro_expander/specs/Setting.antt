@@ -3,7 +3,8 @@ use Rattle.std.specs.Prelude.{ℕ, List}
 use Rattle.scald_expr.specs.declared.environment.Binding.{Binding}
 use Rattle.drawing_tree.specs.Tree.{Macro}
 
--- the version of the language, the ticks of the period, the constants with their values, and the macros
+-- the version of the language, the ticks of the period, the constants with their values, and the
+-- macros
 pub record Setting : Type 0 where
   pub version : ℕ
   pub ticks : ℕ

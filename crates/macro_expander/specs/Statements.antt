@@ -37,7 +37,10 @@ abbrev pub uncounted_act : Setting → Option (Macro → Act) → Statement → 
 uncounted_act setting body (Use u) scope s = use_act setting body u scope s
 uncounted_act setting body (Wire w) scope s = wire_act w scope s
 uncounted_act setting body (If test taken other place) scope s =
-    judged (valued scope.env test) place (λ v. (if is_zero v then otherwise_act setting body other else statements_act setting body taken) scope s)
+    judged (valued scope.env test) place (λ v.
+    (if is_zero v
+    then otherwise_act setting body other
+    else statements_act setting body taken) scope s)
 uncounted_act setting body (For var first last ss place) scope s =
     for_act (turn_act var place (statements_act setting body ss)) first last place scope s
 
@@ -84,11 +87,15 @@ IsUnchosen env choice stop = IsJudgedRefusal choice.place stop (valued env (expr
 
 -- the first and the last value of a FOR, or the refusal of one at the word FOR
 abbrev pub AreEnds : List Binding → ForStmt → Result (ℤ × ℤ) Stop → Type 0
-AreEnds env loop ends = JudgedAt loop.place ends (loop_ends env (expression_of loop.first) (expression_of loop.last))
+AreEnds env loop ends =
+    JudgedAt loop.place ends (loop_ends env (expression_of loop.first) (expression_of loop.last))
 
 -- a scope in which the variable of a FOR has a value, within this one
 abbrev pub turned_scope : List ℕ → ℤ → numbered_scope.Scope → numbered_scope.Scope
-turned_scope var v around = record around { suffix = around.suffix ++ turn_text v; env = binding var v ∷ around.env }
+turned_scope var v around = record around {
+  suffix = around.suffix ++ turn_text v;
+  env = binding var v ∷ around.env;
+}
 
 pub record IsTurn (var : List ℕ) (around inner : numbered_scope.Scope) : Type 0 where
   pub value : ℤ
@@ -97,7 +104,8 @@ pub record IsTurn (var : List ℕ) (around inner : numbered_scope.Scope) : Type 
 -- ---- loops
 
 -- What the values that are left do is what the whole does.
-pub record WentTurns (act : ℤ → State → Outcome (Unit {0})) (start : Expansion) (want : Outcome (Unit {0})) (value last : ℤ) (e : Expansion) : Type 0 where
+pub record WentTurns (act : ℤ → State → Outcome (Unit {0})) (start : Expansion)
+    (want : Outcome (Unit {0})) (value last : ℤ) (e : Expansion) : Type 0 where
   pub told : each act (values_between value last) (state_of e) ≡ want
   pub grows : Grows start e
 

@@ -31,9 +31,9 @@ pub record Bound : Type 0 where
   pub numbers : List ℕ
   pub bits : List Bit
 
--- The labels of the uses from the drawing down, each with a slash after it; what follows each label of the body, for
--- the FORs around it; the names that have values, the innermost first: the variables of those FORs, the parameters and
--- the constants; and the formals.
+-- The labels of the uses from the drawing down, each with a slash after it; what follows each label
+-- of the body, for the FORs around it; the names that have values, the innermost first: the
+-- variables of those FORs, the parameters and the constants; and the formals.
 pub record Scope : Type 0 where
   pub path : List ℕ
   pub suffix : List ℕ

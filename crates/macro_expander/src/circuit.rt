@@ -18,10 +18,11 @@ use std::alloc::Global;
 /// How deep uses of macros may go.
 const DEEPEST: u32 = 64;
 
-/// The circuit of a drawing: its constants, then its statements in the order of the text, each macro's
-/// body at its uses and each FOR's body once for each value, and then the circuit's own rules. A refusal
-/// of a constant stands at its word CONST, one of expansion at the statement that is expanded, and that of
-/// a rule at the statement whose bit breaks it; `NoMemory` comes where memory runs out.
+/// The circuit of a drawing: its constants, then its statements in the order of the text, each
+/// macro's body at its uses and each FOR's body once for each value, and then the circuit's own
+/// rules. A refusal of a constant stands at its word CONST, one of expansion at the statement that
+/// is expanded, and that of a rule at the statement whose bit breaks it; `NoMemory` comes where
+/// memory runs out.
 pub fn expand(alloc: Global, drawing: &Drawing) -> Result<Circuit, Stop>
     requires { IsWellFormed (drawing_of drawing.now) }
     ensures { MatchResult result (IsCircuitOf (drawing_of drawing.now)) (IsStopOf (drawing_of drawing.now)) }

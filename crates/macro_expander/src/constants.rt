@@ -11,8 +11,8 @@ use scald_base::{List, NoMemory, Stop};
 use scald_expr::Env;
 use std::alloc::Global;
 
-/// The constants with their values, each evaluated with those before it; or the refusal of the first
-/// whose value is none, at its word CONST.
+/// The constants with their values, each evaluated with those before it; or the refusal of the
+/// first that has no value, at its word CONST.
 pub(crate) fn constants(alloc: Global, consts: &Assigns, places: &Places) -> Result<Env, Stop>
     requires { length places.now ≡ length consts.now }
     ensures { ConstsAt result (map assignment_of consts.now) places.now }

@@ -126,8 +126,9 @@ fn shapes(alloc: Global, env: &Env, formals: &Formals, place: Place) -> Result<L
     Ok(shapes)
 }
 
-/// What a macro's body is expanded with where a use gives these values: the defaults of the parameters
-/// that are not given, which name no parameter but may name constants, and then the formals' ranges.
+/// What a macro's body is expanded with where a use gives these values: the defaults of the
+/// parameters that are not given, which name no parameter but may name constants, and then the
+/// formals' ranges.
 #[tactic(auto, unfolding(crate::specs::Macros::inside_of))]
 pub(crate) fn inside_of(
     alloc: Global,

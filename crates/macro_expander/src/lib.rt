@@ -3,10 +3,10 @@
 //! The layer above calls `expand`. `specs/Flat` says what the flat circuit of a drawing is, by whole
 //! names, with each refusal and its place; `specs/Stands` what a circuit is that stands for it, and
 //! `specs/Cases` what the cases of a drawing are. Inside, nets have numbers, and `specs/Numbered` says
-//! what the numbers stand for while a circuit grows. `circuit` begins and ends an expansion, `statement`
-//! goes down the statements and the bodies of macros and FORs, and the other modules are the steps on
-//! the way: constants, the bits of names, terms and connections, the use of a primitive, the scope of a
-//! macro's body and of a FOR's turn, WIRE.
+//! what the numbers stand for while a circuit grows. `circuit` begins and ends an expansion,
+//! `statement` goes down the statements and the bodies of macros and FORs, and the other modules
+//! are the steps on the way: constants, the bits of names, terms and connections, the use of a
+//! primitive, the scope of a macro's body and of a FOR's turn, WIRE.
 //! [`laws`] has where a drawing is refused.
 #![tactic(auto)]
 

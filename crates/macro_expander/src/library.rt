@@ -13,8 +13,8 @@ use scald_base::NoMemory;
 use scald_expr::Env;
 use std::alloc::Global;
 
-/// The macros of a drawing, to be found by their names; and the version of its language, the ticks of
-/// its period, and its constants with their values.
+/// The macros of a drawing, to be found by their names; and the version of its language, the ticks
+/// of its period, and its constants with their values.
 #[derive(Drop)]
 pub struct Library<'a> {
     pub(crate) version: u8,
@@ -34,8 +34,8 @@ impl Called for MacroDef {
 }
 
 impl<'a> Library<'a> {
-    /// The library of these macros, in a drawing of this version, with a period of so many ticks and
-    /// these constants.
+    /// The library of these macros, in a drawing of this version, with a period of so many ticks
+    /// and these constants.
     pub(crate) fn of(
         alloc: Global,
         version: u8,

@@ -120,15 +120,16 @@ fn bound_formals(
 }
 
 fn inner_path(alloc: Global, scope: &Scope, label: &[u8]) -> Result<Bytes, NoMemory>
-    ensures { IfOk result (λ inner. inner ≡ (scope.now.path ++ label.now ++ scope.now.suffix) ++ codes "/") }
+    ensures { IfOk result (λ inner.
+        inner ≡ (scope.now.path ++ label.now ++ scope.now.suffix) ++ codes "/") }
 {
     let mut inner = scope.labelled(alloc, label)?;
     inner.extend(b"/".as_slice())?;
     Ok(inner)
 }
 
-/// The scope of a macro's body at a use: its formals, bound to the connections' bits. No FOR is around
-/// the body.
+/// The scope of a macro's body at a use: its formals, bound to the connections' bits. No FOR is
+/// around the body.
 pub(crate) fn inner_scope(
     expansion: &mut Expansion,
     alloc: Global,

@@ -20,8 +20,8 @@ use flat_circuit::Kind;
 use scald_base::{RefusalKind, Stop};
 use std::alloc::Global;
 
-/// Puts input connections in the order of the pins, which have the most significant select first: from
-/// version 2 of the language on the connections have the least significant first.
+/// Puts input connections in the order of the pins, which have the most significant select first:
+/// in version 2 of the language the connections have the least significant first.
 fn put_in_pin_order(ins: &mut Row<Joined>, version: u8, kind: Kind)
     requires { selects_of kind ≤ length ins.old }
     ensures { ins.new ≡ in_pin_order (is_least_first version) kind ins.old }

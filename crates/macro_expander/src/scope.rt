@@ -115,9 +115,9 @@ impl Formals {
     }
 }
 
-/// The labels of the uses from the drawing down, each with a slash after it; what follows each label of
-/// the body, for the FORs around it; the names that have values, the innermost first: the variables of
-/// those FORs, the parameters and the constants; and the formals.
+/// The labels of the uses from the drawing down, each with a slash after it; what follows each
+/// label of the body, for the FORs around it; the names that have values, the innermost first: the
+/// variables of those FORs, the parameters and the constants; and the formals.
 #[derive(Drop)]
 pub struct Scope {
     pub(crate) path: Bytes,

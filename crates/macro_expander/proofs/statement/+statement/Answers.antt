@@ -21,7 +21,7 @@ use Rattle.macro_expander.proofs.Nets.{grows_refl}
 use Rattle.macro_expander.proofs.Gathered.{scope_stays, scope_exists_stays}
 use Rattle.macro_expander.proofs.PrimitiveUses.{done_later, failed_so}
 use Rattle.macro_expander.proofs.Statements.{library_stays, item_fits, through_more, through_failed, primitive_act, macro_act, found_is, macro_too_deep, macro_cut, macro_done}
-use Rattle.macro_expander.proofs.Turns.{the_for, step, for_refused, for_none, turns_begun, turns_more, turns_failed, turns_done, turn_exists, for_done}
+use Rattle.macro_expander.proofs.Turns.{one_turn, the_for, for_refused, for_none, turns_begun, turns_more, turns_failed, turns_done, turn_exists, for_done}
 use Rattle.macro_expander.proofs.statement.+statement.Goals as goal
 
 pub body-one-requires : goal.body-one-requires
@@ -214,9 +214,9 @@ expand_for-returns-in_err-turn t c =
     let last : ℤ = to_z w64 (of_z w64 c.in_ok-ends.ends.1) in
     let below : v <ℤ last = omega (arith, ints, c.turns-test.true) in
     let p = err_from_is_err_and c.from_residual-in_err-turn.result c.from_residual-in_err-turn.ensures.1 in
-    rw (p.1, p.2) (turns_failed (λ v. step (setting_in l) (bodies_in l c.args.levels) loop scope start v) start
+    rw (p.1, p.2) (turns_failed (one_turn (setting_in l) (bodies_in l c.args.levels) loop scope) start
     (the_for (setting_in l) (bodies_in l c.args.levels) loop scope start) last e v c.in_err-turn.field-0.0 below
-    (subst (λ (z : Scope). Failed c.in_err-turn.field-0.0 (step (setting_in l) (bodies_in l c.args.levels) loop z start v (state_of e)))
+    (subst (λ (z : Scope). Failed c.in_err-turn.field-0.0 (one_turn (setting_in l) (bodies_in l c.args.levels) loop z v (state_of e)))
     (scope_stays start e c.args.scope.now went.went.grows c.requires.exists) (rw went.inner at c.in_err-turn.ensures))
     went.went)
 
@@ -239,9 +239,9 @@ expand_for-turns-preserved t c =
     let next : to_z w64 (of_z w64 (v +ℤ pos 1)) ≡ v +ℤ pos 1 = omega (arith, ints) in
     record {
       went =
-          rw next (turns_more (λ v. step (setting_in l) (bodies_in l c.args.levels) loop scope start v) start
+          rw next (turns_more (one_turn (setting_in l) (bodies_in l c.args.levels) loop scope) start
           (the_for (setting_in l) (bodies_in l c.args.levels) loop scope start) last e v c.turn.new.expansion below
-          (subst (λ (z : Scope). GivesDone e c.turn.new.expansion (step (setting_in l) (bodies_in l c.args.levels) loop z start v (state_of e)))
+          (subst (λ (z : Scope). GivesDone e c.turn.new.expansion (one_turn (setting_in l) (bodies_in l c.args.levels) loop z v (state_of e)))
           (scope_stays start e c.args.scope.now went.went.grows c.requires.exists) (rw went.inner at c.in_ok-turn.ensures))
           went.went);
       inner = c.in_ok-turn_to.ensures;
@@ -278,8 +278,8 @@ expand_for-returns t c =
     let v : ℤ = to_z w64 c.turns.value-bits in
     let last : ℤ = to_z w64 (of_z w64 c.in_ok-ends.ends.1) in
     let at_last : v ≡ last = omega (arith, ints, c.turns-test.false, went.within) in
-    turns_done (λ v. step (setting_in l) (bodies_in l c.args.levels) loop scope start v) start
+    turns_done (one_turn (setting_in l) (bodies_in l c.args.levels) loop scope) start
     (the_for (setting_in l) (bodies_in l c.args.levels) loop scope start) last e v c.turn-2.result c.turn-2.new.expansion at_last
-    (subst (λ (z : Scope). DoneAt e c.turn-2.new.expansion c.turn-2.result (step (setting_in l) (bodies_in l c.args.levels) loop z start v (state_of e)))
+    (subst (λ (z : Scope). DoneAt e c.turn-2.new.expansion c.turn-2.result (one_turn (setting_in l) (bodies_in l c.args.levels) loop z v (state_of e)))
     (scope_stays start e c.args.scope.now went.went.grows c.requires.exists) (rw went.inner at c.turn-2.ensures))
     went.went

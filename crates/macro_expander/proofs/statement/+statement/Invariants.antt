@@ -6,7 +6,7 @@ use Rattle.macro_expander.specs.Library.{setting_in}
 use Rattle.macro_expander.specs.Statements.{bodies_in, statements_in, turned_scope, WentThrough, WentTurns}
 use Rattle.macro_expander.specs.Numbered.{scope_of, names_in, state_of}
 use Rattle.macro_expander.proofs.Statements.{act}
-use Rattle.macro_expander.proofs.Turns.{the_for, step}
+use Rattle.macro_expander.proofs.Turns.{one_turn, the_for}
 use Rattle.macro_expander.proofs.statement.+statement.Given as goal
 
 -- the statements that may still be reached, and then how far a call is from the next count
@@ -47,7 +47,7 @@ invariant-expand_for-turns l =
     let start = l.fn.expansion in
     let scope = scope_of (names_in start) l.scope in
     record {
-      went : WentTurns (λ v. step (setting_in l.library) (bodies_in l.library l.levels) l.repeated scope start v) start
+      went : WentTurns (one_turn (setting_in l.library) (bodies_in l.library l.levels) l.repeated scope) start
           (the_for (setting_in l.library) (bodies_in l.library l.levels) l.repeated scope start) l.value l.last l.expansion;
       inner : l.inner ≡ turned_scope l.repeated.var l.value l.scope;
       within : l.value ≤ℤ l.last;
