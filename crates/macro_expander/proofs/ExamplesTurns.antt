@@ -1,5 +1,5 @@
 -- Small drawings with constants and FOR, and the order of selects.
-use Rattle.std.proofs.Common.{◌≡◌, ℕ, pos, negsuc, List, [], ◌∷◌, Some, None, false, refl}
+use Rattle.std.proofs.Common.{◌≡◌, ℕ, pos, negsuc, List, [], ◌∷◌, ◌++◌, map, Some, None, false, refl}
 use Rattle.std.specs.Prelude.{codes}
 use Rattle.std.specs.Fmt.{digits}
 use Rattle.scald_base.specs.Time.{Header}
@@ -10,12 +10,13 @@ use Rattle.scald_expr.specs.Expression.{Expression, Number, Param, Negate, Binar
 use Rattle.scald_expr.specs.declared.environment.Binding.{Binding}
 use Rattle.scald_expr.specs.declared.expr.Op.TheVariants.{Add, Div}
 use Rattle.element_kinds.specs.declared.kind.Kind.TheVariants.{Buf, Mux2, Mux4, Mux8}
-use Rattle.drawing_tree.specs.Tree.{Named, Connection, Assignment, Use, Statement, For, nil, cons, Drawing}
+use Rattle.drawing_tree.specs.Tree.{Named, Connection, Assignment, Use, Statement, For, Statements, nil, cons, Macro, Drawing}
 use Rattle.macro_expander.specs.Named.{On, NamedInstance}
-use Rattle.macro_expander.specs.Outcome.{Gives, Fails}
+use Rattle.macro_expander.specs.Outcome.{Outcome, Gives, Fails}
 use Rattle.macro_expander.specs.Loops.{values_between}
 use Rattle.macro_expander.specs.Flat.{flat, use_act, body_at, const_values, nothing_yet}
 use Rattle.macro_expander.specs.Primitives.{in_pin_order, is_least_first, primitive_use, plan_of, all_added}
+use Rattle.macro_expander.specs.Macros.{given_to, inside_of, bound_scope, inner_scope}
 use Rattle.macro_expander.specs.Terms.{term_bits, joined, all_joined, wires_of, named_bits}
 
 -- ---- values
@@ -83,6 +84,9 @@ later_constant_is_unknown = refl
 
 -- ---- FOR
 
+number : ℕ → Expression
+number n = Number (pos n)
+
 alone : List ℕ → Connection
 alone base = record {
   terms = (record {
@@ -93,12 +97,13 @@ alone base = record {
   place = at 0;
 }
 
-buffer : Statement
+-- a buffer from "A" to "X"
+buffer : List ℕ → Expression → Statement
 unfolding alone at
-buffer = Use (record {
-  label = codes "b";
+buffer label delay = Use (record {
+  label = label;
   kind = codes "BUF";
-  delay = Some (Number (pos 0), Number (pos 0));
+  delay = Some (delay, delay);
   fall = None;
   params = [];
   ins = alone (codes "A") ∷ [];
@@ -106,51 +111,68 @@ buffer = Use (record {
   place = at 5;
 })
 
-looped : Expression → Expression → Drawing
-unfolding buffer alone at header
-looped first last = record {
+loop : List ℕ → Expression → Expression → Statements → Statement
+unfolding at
+loop var first last body = For var first last body (at 4)
+
+drawn : List Assignment → List Macro → Statements → Drawing
+unfolding at header
+drawn consts macros body = record {
   version = 2;
   header = header;
-  consts = [];
-  const_places = [];
-  macros = [];
+  consts = consts;
+  const_places = map (λ (c : Assignment). at 3) consts;
+  macros = macros;
   name = codes "ROW";
-  body = cons (For (codes "I") first last (cons buffer nil) (at 4)) nil;
+  body = body;
   cases = [];
 }
 
-turned_bit : List ℕ → NamedInstance
+looped : Expression → Expression → Drawing
+unfolding drawn loop buffer number alone at header
+looped first last =
+    drawn [] [] (cons (loop (codes "I") first last (cons (buffer (codes "b") (number 0)) nil)) nil)
+
+-- the bit of a buffer in a scope
+buffered : List ℕ → List ℕ → ℕ → NamedInstance
 unfolding at
-turned_bit path = record {
-  path = path;
+buffered scope label delay = record {
+  path = scope ++ label;
   bit = 0;
   kind = Buf;
-  delay = record { min = 0; max = 0 };
+  delay = record { min = delay; max = delay };
   split = None;
   limits = (0, 0);
   pins = (record {
-    target = On (record { text = codes "A"; bit = 0 });
+    target = On (record { text = scope ++ codes "A"; bit = 0 });
     inverted = false;
     hold = false;
   }) ∷ [];
-  out = Some (On (record { text = codes "X"; bit = 0 }));
+  out = Some (On (record { text = scope ++ codes "X"; bit = 0 }));
   out_inverted = false;
   place = at 5;
 }
 
--- Each value counts, and its statement; labels have the value, nets have not.
-two_turns : flat (looped (Negate (Number (pos 1))) (Number (pos 0))) ≡ Gives tt (record {
+-- buffers in one scope, after so many statements
+circuit : ℕ → List ℕ → List NamedInstance → Outcome (Unit {0})
+unfolding header
+circuit statements scope instances = Gives tt (record {
   header = header;
-  statements = 5;
-  names = (record { text = codes "A"; bit = 0 }) ∷ (record { text = codes "X"; bit = 0 }) ∷ [];
+  statements = statements;
+  names = (record { text = scope ++ codes "A"; bit = 0 })
+      ∷ (record { text = scope ++ codes "X"; bit = 0 }) ∷ [];
   wires = header.wire ∷ header.wire ∷ [];
   asserted = [];
-  instances = turned_bit (codes "b#-1") ∷ turned_bit (codes "b#0") ∷ [];
+  instances = instances;
 })
-unfolding digits flat use_act body_at primitive_use plan_of all_added named_bits term_bits joined all_joined wires_of looped turned_bit buffer alone at header
+
+-- Each value counts, and its statement; labels have the value, nets have not.
+two_turns : flat (looped (Negate (number 1)) (number 0))
+    ≡ circuit 5 [] (buffered [] (codes "b#-1") 0 ∷ buffered [] (codes "b#0") 0 ∷ [])
+unfolding digits flat use_act body_at primitive_use plan_of all_added named_bits term_bits joined all_joined wires_of given_to inside_of bound_scope inner_scope looped drawn loop buffer buffered circuit constant number alone at header
 two_turns = refl
 
-no_turn : flat (looped (Number (pos 1)) (Number (pos 0))) ≡ Gives tt (record {
+no_turn : flat (looped (number 1) (number 0)) ≡ Gives tt (record {
   header = header;
   statements = 1;
   names = [];
@@ -158,16 +180,95 @@ no_turn : flat (looped (Number (pos 1)) (Number (pos 0))) ≡ Gives tt (record {
   asserted = [];
   instances = [];
 })
-unfolding flat looped buffer alone at header
+unfolding flat looped drawn loop buffer number alone at header
 no_turn = refl
 
 -- the ends are refused at the word FOR, and know no variable
 divided_end :
-    flat (looped (Number (pos 0)) (Binary Div (Number (pos 1)) (Number (pos 0))))
-    ≡ Fails ZeroDivisor (at 4)
-unfolding flat looped buffer alone at header
+    flat (looped (number 0) (Binary Div (number 1) (number 0))) ≡ Fails ZeroDivisor (at 4)
+unfolding flat looped drawn loop buffer number alone at header
 divided_end = refl
 
-own_variable : flat (looped (Number (pos 0)) (Param (codes "I"))) ≡ Fails UnknownName (at 4)
-unfolding flat looped buffer alone at header
+own_variable : flat (looped (number 0) (Param (codes "I"))) ≡ Fails UnknownName (at 4)
+unfolding flat looped drawn loop buffer number alone at header
 own_variable = refl
+
+-- a label has the values of all FORs around it, from the outermost
+inner_loop : Statements
+unfolding loop buffer number alone at
+inner_loop =
+    cons (loop (codes "J") (number 2) (number 3) (cons (buffer (codes "b") (number 0)) nil)) nil
+
+loop_in_loop : flat (drawn [] [] (cons (loop (codes "I") (number 1) (number 1) inner_loop) nil))
+    ≡ circuit 7 [] (buffered [] (codes "b#1#2") 0 ∷ buffered [] (codes "b#1#3") 0 ∷ [])
+unfolding digits flat use_act body_at primitive_use plan_of all_added named_bits term_bits joined all_joined wires_of given_to inside_of bound_scope inner_scope looped drawn loop buffer buffered circuit constant number alone at header inner_loop
+loop_in_loop = refl
+
+-- ---- which value a name has
+
+-- a constant I
+seven : List Assignment
+unfolding constant number
+seven = constant (codes "I") (number 7) ∷ []
+
+delayed : List ℕ → List ℕ → Statement
+unfolding buffer alone at
+delayed label name = buffer label (Param name)
+
+-- a variable hides a constant, within its FOR
+variable_or_constant : flat (drawn seven [] (
+    cons (loop (codes "I") (number 2) (number 2) (cons (delayed (codes "b") (codes "I")) nil))
+    (cons (delayed (codes "c") (codes "I")) nil)))
+    ≡ circuit 4 [] (buffered [] (codes "b#2") 2 ∷ buffered [] (codes "c") 7 ∷ [])
+unfolding digits flat use_act body_at primitive_use plan_of all_added named_bits term_bits joined all_joined wires_of given_to inside_of bound_scope inner_scope looped drawn loop buffer buffered circuit constant number alone at header seven delayed
+variable_or_constant = refl
+
+-- the use of a macro M, in a FOR
+used : Statements
+unfolding loop number at
+used = cons (loop (codes "K") (number 0) (number 0) (cons (Use (record {
+  label = codes "u";
+  kind = codes "M";
+  delay = None;
+  fall = None;
+  params = [];
+  ins = [];
+  outs = [];
+  place = at 6;
+})) nil)) nil
+
+macro : List Assignment → Statements → Macro
+unfolding at
+macro params body = record {
+  name = codes "M";
+  params = params;
+  ins = [];
+  outs = [];
+  body = body;
+  place = at 2;
+}
+
+-- a parameter hides a constant, and a variable hides that parameter
+parameter_or_variable : flat (drawn seven (macro (constant (codes "I") (number 5) ∷ []) (
+    cons (delayed (codes "b") (codes "I"))
+    (cons (loop (codes "I") (number 1) (number 1) (cons (delayed (codes "c") (codes "I")) nil))
+    nil)) ∷ []) used)
+    ≡ circuit 7 (codes "u#0/")
+    (buffered (codes "u#0/") (codes "b") 5 ∷ buffered (codes "u#0/") (codes "c#1") 1 ∷ [])
+unfolding digits flat use_act body_at primitive_use plan_of all_added named_bits term_bits joined all_joined wires_of given_to inside_of bound_scope inner_scope looped drawn loop buffer buffered circuit constant number alone at header seven delayed used macro
+parameter_or_variable = refl
+
+-- a default may name a constant, and a body too
+known_in_macros : flat (drawn seven (macro (constant (codes "P") (Param (codes "I")) ∷ []) (
+    cons (delayed (codes "b") (codes "P")) (cons (delayed (codes "c") (codes "I")) nil)) ∷ []) used)
+    ≡ circuit 5 (codes "u#0/")
+    (buffered (codes "u#0/") (codes "b") 7 ∷ buffered (codes "u#0/") (codes "c") 7 ∷ [])
+unfolding digits flat use_act body_at primitive_use plan_of all_added named_bits term_bits joined all_joined wires_of given_to inside_of bound_scope inner_scope looped drawn loop buffer buffered circuit constant number alone at header seven delayed used macro
+known_in_macros = refl
+
+-- the body of a macro does not know the variable of a FOR around its use
+variable_unseen :
+    flat (drawn [] (macro [] (cons (delayed (codes "b") (codes "K")) nil) ∷ []) used)
+    ≡ Fails UnknownName (at 5)
+unfolding digits flat use_act body_at primitive_use plan_of all_added named_bits term_bits joined all_joined wires_of given_to inside_of bound_scope inner_scope looped drawn loop buffer buffered circuit constant number alone at header delayed used macro
+variable_unseen = refl
