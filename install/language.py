@@ -1,0 +1,142 @@
+"""What docs/LANGUAGE.md names: words, statuses, kinds, reserved words and the lines of the report. Everything that is
+installed is made from this, so that no name stands in two places.
+"""
+import re
+from typing import NamedTuple
+
+
+class Row(NamedTuple):
+    """Two cells of a table, or a name and what is said of it."""
+
+    name: str
+    says: str
+
+
+class Kind(NamedTuple):
+    word: str
+    parameters: tuple
+    is_checker: bool
+
+
+class Command(NamedTuple):
+    """A word that `scald` takes, and what may stand after it."""
+
+    word: str
+    choices: tuple  # words of which one may come
+    settings: tuple  # what may come as NAME=N, by its front `NAME=`
+    takes: str  # FILES, PREFIX, N or nothing
+    says: str
+
+    @property
+    def form(self):
+        """How it is asked for, without options."""
+        parts = [self.word]
+        parts += [f"[{'|'.join(self.choices)}]"] if self.choices else []
+        parts += [f"[{setting}N]" for setting in self.settings]
+        parts += [{"FILES": "[FILE ..]"}.get(self.takes, self.takes)] if self.takes else []
+        return " ".join(parts)
+
+
+class Language(NamedTuple):
+    keywords: tuple  # the reserved words and the others of the grammar, but for the constants
+    constants: tuple
+    kinds: tuple
+    commands: tuple
+    options: tuple  # Rows, of which a name may have several spellings with commas between
+    statuses: tuple
+    report_lines: tuple
+    report_items: tuple
+    fault_lines: tuple
+
+    @property
+    def parameters(self):
+        return tuple(dict.fromkeys(word for kind in self.kinds for word in kind.parameters))
+
+
+def section(text, title):
+    """The lines under a heading, up to the next."""
+    found = re.search(rf"^## {re.escape(title)}\n(.*?)(?=^## |\Z)", text, re.M | re.S)
+    if found is None:
+        raise SystemExit(f"docs/LANGUAGE.md has no section {title}")
+    return found[1]
+
+
+def table(text, first_head):
+    """The rows of the table whose first column has this head; a `|` in a cell is written `\\|`."""
+    found = re.search(rf"^\| {re.escape(first_head)} \|.*\n\|[-|]+\|\n((?:\|.*\n)+)", text, re.M)
+    if found is None:
+        raise SystemExit(f"docs/LANGUAGE.md has no table with the head {first_head}")
+    rows = (re.split(r"(?<!\\)\|", line.strip()[1:-1]) for line in found[1].splitlines())
+    return [[cell.strip().replace("\\|", "|") for cell in row] for row in rows]
+
+
+def code_block(text):
+    """The first indented part that follows a line of another kind."""
+    return re.search(r"(?:^    .*\n)+", text, re.M)[0]
+
+
+def spelled(cell):
+    """What a cell has between backquotes."""
+    return re.findall(r"`([^`]+)`", cell)
+
+
+def kinds_of(text):
+    kinds = []
+    for names, _inputs, parameters, output in table(section(text, "Primitives"), "Kind"):
+        for name in names.split(", "):
+            kinds.append(Kind(name, tuple(filter(None, parameters.split(", "))), output == "none"))
+    return tuple(kinds)
+
+
+def constants_of(text):
+    """The capital words with which a term may stand."""
+    term = re.search(r"^    term +=(.*)$", section(text, "Grammar"), re.M)[1]
+    return tuple(re.findall(r"\b[A-Z]{2,}\b", term))
+
+
+def keywords_of(text):
+    """The capital words of the grammar, which have to have the reserved words among them, without the constants."""
+    grammar = section(text, "Grammar")
+    capital = dict.fromkeys(re.findall(r"\b[A-Z]{2,}\b", code_block(grammar)))
+    reserved = re.search(r"These words are reserved and [^:]*: ([A-Z, ]+)\.", grammar)[1].split(", ")
+    if not set(reserved) <= set(capital):
+        raise SystemExit("docs/LANGUAGE.md reserves words that its grammar has not")
+    return tuple(word for word in capital if word not in constants_of(text))
+
+
+def taking_files(words):
+    """The words that the names of files may follow."""
+    return spelled(re.search(r"after those of (.*?) it takes the names of files", words, re.I)[1])
+
+
+def command_of(forms, says, with_files):
+    form = spelled(forms)[0].split()
+    optional = [part[1:-1] for part in form[1:] if part.startswith("[")]
+    rest = [part for part in form[1:] if not part.startswith("[")]
+    return Command(
+        word=form[0],
+        choices=tuple(word for part in optional if "=" not in part for word in part.split("|")),
+        settings=tuple(part[: part.index("=") + 1] for part in optional if "=" in part),
+        takes="FILES" if form[0] in with_files else "".join(rest),
+        says=says,
+    )
+
+
+def read_language(text):
+    words = section(text, "Words and statuses")
+    report = section(text, "The report")
+    own = table(words, "Words of `./scald`")
+    commands = table(words, "Words") + [row for row in own if not row[0].startswith("`-")]
+    bullets = re.findall(r"^- (.*)$", report, re.M)
+    blocks = re.findall(r"(?:^    .*\n)+", report, re.M)
+    return Language(
+        keywords=keywords_of(text),
+        constants=constants_of(text),
+        kinds=kinds_of(text),
+        commands=tuple(command_of(*row, taking_files(words)) for row in commands),
+        options=tuple(Row(", ".join(spelled(row[0])), row[1]) for row in own if row[0].startswith("`-")),
+        statuses=tuple(Row(*row) for row in table(words, "Status")),
+        report_lines=tuple(next(block for block in blocks if "SCALD v" in block).replace("    ", "").splitlines()),
+        report_items=tuple(bullets),
+        fault_lines=tuple(Row(spelled(row[0])[0], row[1]) for row in table(report, "Line")),
+    )
