@@ -48,6 +48,7 @@ has 'a file in place of a folder, said' "$work/said" "scald: $work/file"
 # --- the script that is installed
 run 0 'installed' "$home/scald" install "$prefix"
 has 'installed, said' "$work/said" "scald: installed in $prefix"
+"$home/scald" --version >"$work/version"
 rm -rf "$home"
 scald=$prefix/bin/scald
 run 0 'a file' "$scald" verify "$first"
@@ -57,7 +58,8 @@ run 1 'two files' "$scald" verify faults "$first" "$top/examples/skew_hold.scald
 has 'two files, the status of the second' "$work/said" "$top/examples/skew_hold.scald: 1"
 run 22 'no such file' "$scald" format "$work/none"
 run 0 'version' "$scald" --version
-has 'version, its revision' "$work/out" "revision $(cat "$prefix/share/doc/scald/revision")"
+trying 'the same version'
+cmp -s "$work/out" "$work/version" || failure 'version: another than what was installed'
 run 0 'help' "$scald" --help
 has 'help, its documents' "$work/out" "$prefix/share/doc/scald"
 cp "$work/out" "$work/help"
