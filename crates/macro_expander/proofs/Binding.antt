@@ -252,22 +252,38 @@ module _ (nets : ℕ) where
 -- ---- the scope of a body
 
 module _ (consts : List Binding) (m : Macro) (given : List Binding) (s : numbered_scope.Scope) (u : UseStatement) (e : Expansion) where
-  pub inside_failed : (stop : Stop) → IsJudgedRefusal u.place stop (inside_of consts m given) → Failed stop (inner_scope consts m given (scope_of (names_in e) s) u (state_of e))
+  pub inside_failed : (stop : Stop) → IsJudgedRefusal u.place stop (inside_of consts m given) →
+      Failed stop (inner_scope consts m given (scope_of (names_in e) s) u (state_of e))
   unfolding inner_scope
   inside_failed stop h = record { told = λ r is. rw (h.told r is, sym (h.here r is)) refl }
 
   module _ (inside : Inside) (inside_is : inside_of consts m given ≡ Ok inside) where
-    pub wires_of_failed : (stop : Stop) → Failed stop (wires_of (scope_of (names_in e) s) u (state_of e)) → Failed stop (inner_scope consts m given (scope_of (names_in e) s) u (state_of e))
+    pub wires_of_failed : (stop : Stop) → Failed stop (wires_of (scope_of (names_in e) s) u (state_of e)) →
+        Failed stop (inner_scope consts m given (scope_of (names_in e) s) u (state_of e))
     unfolding inner_scope
     wires_of_failed stop h = record { told = λ r is. rw (inside_is, h.told r is) refl }
 
     module _ (f : Expansion) (w : numbered_wires.Wires) (g : GivesWires e f w (wires_of (scope_of (names_in e) s) u (state_of e))) where
-      pub formals_failed : (stop : Stop) → IsJudgedRefusal u.place stop (bound_formals_ref inside w) → Failed stop (inner_scope consts m given (scope_of (names_in e) s) u (state_of e))
+      pub formals_failed : (stop : Stop) → IsJudgedRefusal u.place stop (bound_formals_ref inside w) →
+          Failed stop (inner_scope consts m given (scope_of (names_in e) s) u (state_of e))
       unfolding inner_scope
-      formals_failed stop h = record { told = λ r is. rw (inside_is, g.is, bound_scope_map (names_in f) (inner_path (scope_of (names_in e) s) u.label) inside w, h.told r is, sym (h.here r is)) refl }
+      formals_failed stop h = record {
+        told = λ r is. rw (
+          inside_is,
+          g.is,
+          bound_scope_map (names_in f) (inner_path (scope_of (names_in e) s) u.label) inside w,
+          h.told r is,
+          sym (h.here r is),
+        ) refl;
+      }
 
       pub scope_given : (fs : List numbered_bound.Bound) → bound_formals_ref inside w ≡ Ok fs → GivesScope e f
-          (record { path = inner_path (scope_of (names_in e) s) u.label; suffix = []; env = inside.env; formals = fs }) (inner_scope consts m given (scope_of (names_in e) s) u (state_of e))
+          (record {
+            path = inner_path (scope_of (names_in e) s) u.label;
+            suffix = [];
+            env = inside.env;
+            formals = fs;
+          }) (inner_scope consts m given (scope_of (names_in e) s) u (state_of e))
       unfolding inner_scope
       scope_given fs h = record {
         is = rw (inside_is, g.is, bound_scope_map (names_in f) (inner_path (scope_of (names_in e) s) u.label) inside w, h) refl;

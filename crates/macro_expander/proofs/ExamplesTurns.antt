@@ -47,10 +47,10 @@ selects_of_both_versions = refl
 
 -- ---- constants
 
-at : ℕ → Place
+abbrev at : ℕ → Place
 at line = record { line = line; col = 1 }
 
-header : Header
+abbrev header : Header
 header = record {
   units = 8;
   ticks = 50;
@@ -59,10 +59,10 @@ header = record {
   cskew = (0, 0);
 }
 
-constant : List ℕ → Expression → Assignment
+abbrev constant : List ℕ → Expression → Assignment
 constant name value = record { name = name; value = value }
 
-value : List ℕ → ℕ → Binding
+abbrev value : List ℕ → ℕ → Binding
 value name n = record { name = name; value = pos n }
 
 -- each is evaluated with those before it, and no other
@@ -71,7 +71,6 @@ constants_in_order :
     ∷ constant (codes "M") (Binary Add (Param (codes "N")) (Number (pos 1)))
     ∷ []) (at 3 ∷ at 4 ∷ []) (nothing_yet header)
     ≡ Gives (value (codes "N") 2 ∷ value (codes "M") 3 ∷ []) (nothing_yet header)
-unfolding constant value
 constants_in_order = refl
 
 later_constant_is_unknown :
@@ -79,15 +78,14 @@ later_constant_is_unknown :
     ∷ constant (codes "M") (Number (pos 1))
     ∷ []) (at 3 ∷ at 4 ∷ []) (nothing_yet header)
     ≡ Fails UnknownName (at 3)
-unfolding constant
 later_constant_is_unknown = refl
 
 -- ---- FOR
 
-number : ℕ → Expression
+abbrev number : ℕ → Expression
 number n = Number (pos n)
 
-alone : List ℕ → Connection
+abbrev alone : List ℕ → Connection
 alone base = record {
   terms = (record {
     minus = false;
@@ -98,8 +96,7 @@ alone base = record {
 }
 
 -- a buffer from "A" to "X"
-buffer : List ℕ → Expression → Statement
-unfolding alone at
+abbrev buffer : List ℕ → Expression → Statement
 buffer label delay = Use (record {
   label = label;
   kind = codes "BUF";
@@ -111,12 +108,10 @@ buffer label delay = Use (record {
   place = at 5;
 })
 
-loop : List ℕ → Expression → Expression → Statements → Statement
-unfolding at
+abbrev loop : List ℕ → Expression → Expression → Statements → Statement
 loop var first last body = For var first last body (at 4)
 
-drawn : List Assignment → List Macro → Statements → Drawing
-unfolding at header
+abbrev drawn : List Assignment → List Macro → Statements → Drawing
 drawn consts macros body = record {
   version = 2;
   header = header;
@@ -128,14 +123,12 @@ drawn consts macros body = record {
   cases = [];
 }
 
-looped : Expression → Expression → Drawing
-unfolding drawn loop buffer number alone at header
+abbrev looped : Expression → Expression → Drawing
 looped first last =
     drawn [] [] (cons (loop (codes "I") first last (cons (buffer (codes "b") (number 0)) nil)) nil)
 
 -- the bit of a buffer in a scope
-buffered : List ℕ → List ℕ → ℕ → NamedInstance
-unfolding at
+abbrev buffered : List ℕ → List ℕ → ℕ → NamedInstance
 buffered scope label delay = record {
   path = scope ++ label;
   bit = 0;
@@ -154,8 +147,7 @@ buffered scope label delay = record {
 }
 
 -- buffers in one scope, after so many statements
-circuit : ℕ → List ℕ → List NamedInstance → Outcome (Unit {0})
-unfolding header
+abbrev circuit : ℕ → List ℕ → List NamedInstance → Outcome (Unit {0})
 circuit statements scope instances = Gives tt (record {
   header = header;
   statements = statements;
@@ -169,7 +161,7 @@ circuit statements scope instances = Gives tt (record {
 -- Each value counts, and its statement; labels have the value, nets have not.
 two_turns : flat (looped (Negate (number 1)) (number 0))
     ≡ circuit 5 [] (buffered [] (codes "b#-1") 0 ∷ buffered [] (codes "b#0") 0 ∷ [])
-unfolding digits flat use_act body_at primitive_use plan_of all_added named_bits term_bits joined all_joined wires_of given_to inside_of bound_scope inner_scope looped drawn loop buffer buffered circuit constant number alone at header
+unfolding digits flat use_act body_at primitive_use plan_of all_added named_bits term_bits joined all_joined wires_of given_to inside_of bound_scope inner_scope
 two_turns = refl
 
 no_turn : flat (looped (number 1) (number 0)) ≡ Gives tt (record {
@@ -180,39 +172,36 @@ no_turn : flat (looped (number 1) (number 0)) ≡ Gives tt (record {
   asserted = [];
   instances = [];
 })
-unfolding flat looped drawn loop buffer number alone at header
+unfolding flat
 no_turn = refl
 
 -- the ends are refused at the word FOR, and know no variable
 divided_end :
     flat (looped (number 0) (Binary Div (number 1) (number 0))) ≡ Fails ZeroDivisor (at 4)
-unfolding flat looped drawn loop buffer number alone at header
+unfolding flat
 divided_end = refl
 
 own_variable : flat (looped (number 0) (Param (codes "I"))) ≡ Fails UnknownName (at 4)
-unfolding flat looped drawn loop buffer number alone at header
+unfolding flat
 own_variable = refl
 
 -- a label has the values of all FORs around it, from the outermost
-inner_loop : Statements
-unfolding loop buffer number alone at
+abbrev inner_loop : Statements
 inner_loop =
     cons (loop (codes "J") (number 2) (number 3) (cons (buffer (codes "b") (number 0)) nil)) nil
 
 loop_in_loop : flat (drawn [] [] (cons (loop (codes "I") (number 1) (number 1) inner_loop) nil))
     ≡ circuit 7 [] (buffered [] (codes "b#1#2") 0 ∷ buffered [] (codes "b#1#3") 0 ∷ [])
-unfolding digits flat use_act body_at primitive_use plan_of all_added named_bits term_bits joined all_joined wires_of given_to inside_of bound_scope inner_scope looped drawn loop buffer buffered circuit constant number alone at header inner_loop
+unfolding digits flat use_act body_at primitive_use plan_of all_added named_bits term_bits joined all_joined wires_of given_to inside_of bound_scope inner_scope
 loop_in_loop = refl
 
 -- ---- which value a name has
 
 -- a constant I
-seven : List Assignment
-unfolding constant number
+abbrev seven : List Assignment
 seven = constant (codes "I") (number 7) ∷ []
 
-delayed : List ℕ → List ℕ → Statement
-unfolding buffer alone at
+abbrev delayed : List ℕ → List ℕ → Statement
 delayed label name = buffer label (Param name)
 
 -- a variable hides a constant, within its FOR
@@ -220,12 +209,11 @@ variable_or_constant : flat (drawn seven [] (
     cons (loop (codes "I") (number 2) (number 2) (cons (delayed (codes "b") (codes "I")) nil))
     (cons (delayed (codes "c") (codes "I")) nil)))
     ≡ circuit 4 [] (buffered [] (codes "b#2") 2 ∷ buffered [] (codes "c") 7 ∷ [])
-unfolding digits flat use_act body_at primitive_use plan_of all_added named_bits term_bits joined all_joined wires_of given_to inside_of bound_scope inner_scope looped drawn loop buffer buffered circuit constant number alone at header seven delayed
+unfolding digits flat use_act body_at primitive_use plan_of all_added named_bits term_bits joined all_joined wires_of given_to inside_of bound_scope inner_scope
 variable_or_constant = refl
 
 -- the use of a macro M, in a FOR
-used : Statements
-unfolding loop number at
+abbrev used : Statements
 used = cons (loop (codes "K") (number 0) (number 0) (cons (Use (record {
   label = codes "u";
   kind = codes "M";
@@ -237,8 +225,7 @@ used = cons (loop (codes "K") (number 0) (number 0) (cons (Use (record {
   place = at 6;
 })) nil)) nil
 
-macro : List Assignment → Statements → Macro
-unfolding at
+abbrev macro : List Assignment → Statements → Macro
 macro params body = record {
   name = codes "M";
   params = params;
@@ -255,7 +242,7 @@ parameter_or_variable : flat (drawn seven (macro (constant (codes "I") (number 5
     nil)) ∷ []) used)
     ≡ circuit 7 (codes "u#0/")
     (buffered (codes "u#0/") (codes "b") 5 ∷ buffered (codes "u#0/") (codes "c#1") 1 ∷ [])
-unfolding digits flat use_act body_at primitive_use plan_of all_added named_bits term_bits joined all_joined wires_of given_to inside_of bound_scope inner_scope looped drawn loop buffer buffered circuit constant number alone at header seven delayed used macro
+unfolding digits flat use_act body_at primitive_use plan_of all_added named_bits term_bits joined all_joined wires_of given_to inside_of bound_scope inner_scope
 parameter_or_variable = refl
 
 -- a default may name a constant, and a body too
@@ -263,12 +250,12 @@ known_in_macros : flat (drawn seven (macro (constant (codes "P") (Param (codes "
     cons (delayed (codes "b") (codes "P")) (cons (delayed (codes "c") (codes "I")) nil)) ∷ []) used)
     ≡ circuit 5 (codes "u#0/")
     (buffered (codes "u#0/") (codes "b") 7 ∷ buffered (codes "u#0/") (codes "c") 7 ∷ [])
-unfolding digits flat use_act body_at primitive_use plan_of all_added named_bits term_bits joined all_joined wires_of given_to inside_of bound_scope inner_scope looped drawn loop buffer buffered circuit constant number alone at header seven delayed used macro
+unfolding digits flat use_act body_at primitive_use plan_of all_added named_bits term_bits joined all_joined wires_of given_to inside_of bound_scope inner_scope
 known_in_macros = refl
 
 -- the body of a macro does not know the variable of a FOR around its use
 variable_unseen :
     flat (drawn [] (macro [] (cons (delayed (codes "b") (codes "K")) nil) ∷ []) used)
     ≡ Fails UnknownName (at 5)
-unfolding digits flat use_act body_at primitive_use plan_of all_added named_bits term_bits joined all_joined wires_of given_to inside_of bound_scope inner_scope looped drawn loop buffer buffered circuit constant number alone at header delayed used macro
+unfolding digits flat use_act body_at primitive_use plan_of all_added named_bits term_bits joined all_joined wires_of given_to inside_of bound_scope inner_scope
 variable_unseen = refl

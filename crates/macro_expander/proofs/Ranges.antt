@@ -109,7 +109,10 @@ shapes_are consts m given inside e =
     let outs = both_give (shapes_of env m.outs) (λ outs. Ok (record { env = env; ins = ins.0; outs = outs })) inside ins.2 in
     let made : Inside = record { env = env; ins = ins.0; outs = outs.0 } in
     let is : made ≡ inside = cc in
-    subst (λ (i : Inside). All IsRange i.ins × All IsRange i.outs) {x = made} is (all_ranges env [] m.ins ins.0 (All-nil IsRange) ins.1, all_ranges env [] m.outs outs.0 (All-nil IsRange) outs.1)
+    subst (λ (i : Inside). All IsRange i.ins × All IsRange i.outs) {x = made} is (
+      all_ranges env [] m.ins ins.0 (All-nil IsRange) ins.1,
+      all_ranges env [] m.outs outs.0 (All-nil IsRange) outs.1,
+    )
 
 -- ---- what is bound to them keeps their numbers
 

@@ -143,7 +143,8 @@ module _ (P : Place → Type 0) where
   all_added_at path u kind plan n ins outs s p h =
       each_at (λ k. adding (instance_at path u kind plan ins outs k)) (λ k s' h'. adding_at (instance_at path u kind plan ins outs k) s' p h') (range_with_len 0 n) s h
 
-  primitive_use_at : (setting : Setting) (kind : Kind) (u : UseStatement) → P u.place → (scope : Scope) (s : State) → IsStateAt P s → IsOutcomeAt P (primitive_use setting kind scope u s)
+  primitive_use_at : (setting : Setting) (kind : Kind) (u : UseStatement) → P u.place →
+      (scope : Scope) (s : State) → IsStateAt P s → IsOutcomeAt P (primitive_use setting kind scope u s)
   unfolding primitive_use
   primitive_use_at setting kind u p scope s h =
       judged_at (plan_of setting.ticks kind scope.env u) u.place _ p (λ plan.
@@ -194,9 +195,12 @@ module _ (P : Place → Type 0) where
   macro_use_at setting body (Some m) u b a p scope s h = judged_at (given_to m scope.env u) u.place _ p (λ given. expanded_at setting body m given u b a p scope s h)
 
   module _ (setting : Setting) (ms : AllByRecursion (IsMacroAt P) setting.macros) where
-    use_act_of_at : (found : Option Kind) (body : Option (Macro → Act)) (u : UseStatement) → IsBodyAt P body → P u.place → IsActAt P (use_act_of found setting body u)
+    use_act_of_at : (found : Option Kind) (body : Option (Macro → Act)) (u : UseStatement) → IsBodyAt P body →
+        P u.place → IsActAt P (use_act_of found setting body u)
     use_act_of_at (Some kind) body u b p scope s h = primitive_use_at setting kind u p scope s h
-    use_act_of_at None body u b p scope s h = macro_use_at setting body (macro_of u.kind setting.macros) u b (every_find (IsMacroAt P) _ setting.macros ms) p scope s h
+    use_act_of_at None body u b p scope s h =
+        macro_use_at setting body (macro_of u.kind setting.macros) u b
+        (every_find (IsMacroAt P) _ setting.macros ms) p scope s h
 
     use_act_at : (body : Option (Macro → Act)) (u : UseStatement) → IsBodyAt P body → P u.place → IsActAt P (use_act setting body u)
     unfolding use_act
@@ -224,7 +228,9 @@ module _ (P : Place → Type 0) where
           let yes = statements_at body taken b a.1 in
           let no = otherwise_at body other b a.2 in
           counted_at place _ a.0 (λ scope s h.
-          judged_at (valued scope.env test) place _ a.0 (λ v. chosen_at (is_zero v) (otherwise_act setting body other) (statements_act setting body taken) no yes scope s h))
+          judged_at (valued scope.env test) place _ a.0
+          (λ v. chosen_at (is_zero v) (otherwise_act setting body other)
+          (statements_act setting body taken) no yes scope s h))
       statement_at body (For var first last ss place) b a =
           counted_at place _ a.0 (λ scope s h.
           judged_at (loop_ends scope.env first last) place _ a.0 (λ ends.

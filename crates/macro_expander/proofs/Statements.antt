@@ -50,7 +50,9 @@ module _ (setting : Setting) (below : Option (Macro → Act)) (scope : Scope) wh
           let next : act (statements_of (drop (i + 1) all)) (state_of f) ≡ act (statements_of (drop i all)) (state_of e) = rw (split, g.is) refl in
           record { told = next ∙ w.told; grows = grows_trans start e f w.grows g.grows }
 
-      pub through_failed : (stop : Stop) → Failed stop (statement_act setting below (statement_of x) scope (state_of e)) → WentThrough act start want (drop i all) e → Failed stop want
+      pub through_failed : (stop : Stop) →
+          Failed stop (statement_act setting below (statement_of x) scope (state_of e)) →
+          WentThrough act start want (drop i all) e → Failed stop want
       through_failed stop g w = record {
         told = λ r s.
             let failed : act (statements_of (drop i all)) (state_of e) ≡ Fails r.kind r.place = rw (split, g.told r s) refl in
@@ -72,7 +74,8 @@ module _ (setting : Setting) (below : Option (Macro → Act)) (u : UseStatement)
   macro_by None h = refl
   macro_by (Some kind) h = absurd (cc)
 
-  pub macro_act : (o : Option Macro) → None ≡ kind_of u.kind → o ≡ first_called u.kind setting.macros → use_act setting below u scope s ≡ macro_use setting below o u scope s
+  pub macro_act : (o : Option Macro) → None ≡ kind_of u.kind → o ≡ first_called u.kind setting.macros →
+      use_act setting below u scope s ≡ macro_use setting below o u scope s
   unfolding use_act
   macro_act o h is = macro_by (kind_of u.kind) h ∙ ap (λ (x : Option Macro). macro_use setting below x u scope s) (sym is)
 
@@ -108,8 +111,10 @@ module _ (setting : Setting) (levels : ℕ) (e : Expansion) (s : numbered_scope.
       pub macro_cut : (stop : Stop) → Failed stop (inner_scope setting.consts m given (scope_of (names_in e) s) u (state_of e)) → Failed stop the_use
       macro_cut stop h = record { told = λ r is. rw (was, body_below setting levels deep, h.told r is) refl }
 
-      pub macro_done : (e1 e2 : Expansion) (inner : numbered_scope.Scope) (r : Result (Unit {0}) Stop) → GivesScope e e1 inner (inner_scope setting.consts m given (scope_of (names_in e) s) u (state_of e)) →
-          DoneAt e1 e2 r (statements_act setting (body_at setting (levels - 1)) m.body (scope_of (names_in e1) inner) (state_of e1)) → DoneAt e e2 r the_use
+      pub macro_done : (e1 e2 : Expansion) (inner : numbered_scope.Scope) (r : Result (Unit {0}) Stop) →
+          GivesScope e e1 inner (inner_scope setting.consts m given (scope_of (names_in e) s) u (state_of e)) →
+          DoneAt e1 e2 r (statements_act setting (body_at setting (levels - 1)) m.body (scope_of (names_in e1) inner) (state_of e1)) →
+          DoneAt e e2 r the_use
       macro_done e1 e2 inner r g h =
           let is : the_use ≡ statements_act setting (body_at setting (levels - 1)) m.body (scope_of (names_in e1) inner) (state_of e1) =
           rw (was, body_below setting levels deep, g.is) refl in

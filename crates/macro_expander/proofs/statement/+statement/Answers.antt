@@ -129,7 +129,9 @@ expand_use-returns-in-Some-find t c =
     let m = macro_of c.in-Some-find.definition.now in
     let unknown = subst (λ (name : List ℕ). let none : Option Kind = None in none ≡ kind_of name) c.as_slice.ensures c.in_default.ensures in
     let first = subst (λ (name : List ℕ). Some m ≡ first_called name (macros_in l)) c.as_slice-2.ensures c.in-Some-find.ensures in
-    done_later e e c.expand_macro.new.expansion c.expand_macro.result (macro_use (setting_in l) below (Some m) u scope (state_of e)) (use_act (setting_in l) below u scope (state_of e)) (grows_refl e)
+    done_later e e c.expand_macro.new.expansion c.expand_macro.result
+    (macro_use (setting_in l) below (Some m) u scope (state_of e))
+    (use_act (setting_in l) below u scope (state_of e)) (grows_refl e)
     (macro_act (setting_in l) below u scope (state_of e) (Some m) unknown first) c.expand_macro.ensures
 
 pub expand_use-returns-in-None : goal.expand_use-returns-in-None
