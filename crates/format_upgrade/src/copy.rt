@@ -1,11 +1,10 @@
-//! Copies of the parts of a drawing, each of which may run out of memory.
+//! Copies of the parts of a drawing that hold no expressions. Each may run out of memory.
 
 ghost use Rattle.std.specs.Prelude.{◌≡◌, IfOk};
 
 use assertion_syntax::SignalName;
-use drawing_tree::{Assign, CaseEntry, CaseStmt, Conn, Formal, Item, RangeExpr, Term, WireStmt};
+use drawing_tree::{CaseEntry, CaseStmt};
 use scald_base::{AssertSpec, Bytes, ClockSpec, List, NoMemory, Place, Span};
-use scald_expr::Expr;
 use std::alloc::Global;
 
 /// What can be copied.
@@ -45,41 +44,6 @@ impl Copied for Place {
     }
 }
 
-impl<T: Copied> Copied for Option<T> {
-    fn copy(&self, alloc: Global) -> Result<Option<T>, NoMemory> {
-        match self {
-            Some(value) => Ok(Some(value.copy(alloc)?)),
-            None => Ok(None),
-        }
-    }
-}
-
-impl Copied for Expr {
-    fn copy(&self, alloc: Global) -> Result<Expr, NoMemory> {
-        match self {
-            Expr::Number(number) => Ok(Expr::Number(*number)),
-            Expr::Param(name) => Ok(Expr::Param(bytes(alloc, name)?)),
-            Expr::Negate(operand) => {
-                let operand = operand.copy(alloc)?;
-                Ok(Expr::Negate(Box::new(alloc, operand)?))
-            }
-            Expr::Binary(op, left, right) => {
-                let left = left.copy(alloc)?;
-                let right = right.copy(alloc)?;
-                let left = Box::new(alloc, left)?;
-                let right = Box::new(alloc, right)?;
-                Ok(Expr::Binary(*op, left, right))
-            }
-        }
-    }
-}
-
-impl Copied for (Expr, Expr) {
-    fn copy(&self, alloc: Global) -> Result<(Expr, Expr), NoMemory> {
-        Ok((self.0.copy(alloc)?, self.1.copy(alloc)?))
-    }
-}
-
 impl Copied for ClockSpec {
     fn copy(&self, alloc: Global) -> Result<ClockSpec, NoMemory> {
         Ok(ClockSpec {
@@ -107,74 +71,6 @@ impl Copied for SignalName {
             base: bytes(alloc, &self.base)?,
             global: self.global,
             spec: self.spec.copy(alloc)?,
-        })
-    }
-}
-
-impl Copied for RangeExpr {
-    fn copy(&self, alloc: Global) -> Result<RangeExpr, NoMemory> {
-        Ok(RangeExpr {
-            first: self.first.copy(alloc)?,
-            last: self.last.copy(alloc)?,
-        })
-    }
-}
-
-impl Copied for Item {
-    fn copy(&self, alloc: Global) -> Result<Item, NoMemory> {
-        match self {
-            Item::Zero => Ok(Item::Zero),
-            Item::One => Ok(Item::One),
-            Item::Named(name, range) => Ok(Item::Named(name.copy(alloc)?, range.copy(alloc)?)),
-        }
-    }
-}
-
-impl Copied for Term {
-    fn copy(&self, alloc: Global) -> Result<Term, NoMemory> {
-        Ok(Term {
-            minus: self.minus,
-            item: self.item.copy(alloc)?,
-        })
-    }
-}
-
-impl Copied for Conn {
-    fn copy(&self, alloc: Global) -> Result<Conn, NoMemory> {
-        Ok(Conn {
-            terms: copies(alloc, self.terms.as_slice())?,
-            hold: self.hold,
-            place: self.place,
-        })
-    }
-}
-
-impl Copied for Assign {
-    fn copy(&self, alloc: Global) -> Result<Assign, NoMemory> {
-        Ok(Assign {
-            name: bytes(alloc, &self.name)?,
-            value: self.value.copy(alloc)?,
-        })
-    }
-}
-
-impl Copied for WireStmt {
-    fn copy(&self, alloc: Global) -> Result<WireStmt, NoMemory> {
-        Ok(WireStmt {
-            name: self.name.copy(alloc)?,
-            range: self.range.copy(alloc)?,
-            min: self.min.copy(alloc)?,
-            max: self.max.copy(alloc)?,
-            place: self.place,
-        })
-    }
-}
-
-impl Copied for Formal {
-    fn copy(&self, alloc: Global) -> Result<Formal, NoMemory> {
-        Ok(Formal {
-            base: bytes(alloc, &self.base)?,
-            range: self.range.copy(alloc)?,
         })
     }
 }

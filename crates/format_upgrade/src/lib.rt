@@ -7,7 +7,8 @@
 #![tactic(auto)]
 
 mod copy;
+mod tree;
 mod turned;
-mod upgrade;
+mod upgraded;
 
-pub use upgrade::upgrade;
+pub use upgraded::upgrade;

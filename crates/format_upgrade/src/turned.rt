@@ -6,7 +6,8 @@ ghost use Rattle.macro_expander.specs.Primitives.{first_reversed};
 ghost use Rattle.format_upgrade.specs.Upgraded.{turned_selects};
 ghost use Rattle.format_upgrade.specs.Order.{in_order_ins, in_order_use, in_order_statement, in_order_statements, in_order_macro};
 
-use crate::copy::{Copied, bytes, copies};
+use crate::copy::bytes;
+use crate::tree::{Tree, trees};
 use drawing_tree::{Conn, Conns, ForStmt, IfStmt, MacroDef, MacroDefs, Stmt, Stmts, UseStmt};
 use element_kinds::{Kind, kind_named};
 use scald_base::{List, NoMemory};
@@ -36,16 +37,17 @@ fn turned_selects(kind: Option<Kind>, count: usize) -> usize
 /// Copies of connections, so many of the first in reverse order.
 fn reversed(alloc: Global, items: &[Conn], count: usize) -> Result<Conns, NoMemory>
     requires { count ≤ length items.now }
-    ensures { IfOk result (λ copies. copies ≡ first_reversed count items.now) }
+    ensures { IfOk result (λ copies. map connection_of copies
+        ≡ first_reversed count (map connection_of items.now)) }
 {
     let mut copies = List::new(alloc);
     let mut place = count;
     while place > 0 {
         place -= 1;
-        copies.push(items[place].copy(alloc)?)?;
+        copies.push(items[place].again(alloc)?)?;
     }
     for item in &items[count..] {
-        copies.push(item.copy(alloc)?)?;
+        copies.push(item.again(alloc)?)?;
     }
     Ok(copies)
 }
@@ -57,7 +59,7 @@ fn ins(alloc: Global, order: Order, used: &UseStmt) -> Result<Conns, NoMemory>
 {
     let items = used.ins.as_slice();
     match order {
-        Order::Kept => copies(alloc, items),
+        Order::Kept => trees(alloc, items),
         Order::Reversed => {
             let kind = kind_named(used.kind.as_slice());
             reversed(alloc, items, turned_selects(kind, items.len()))
@@ -71,11 +73,11 @@ fn use_statement(alloc: Global, order: Order, used: &UseStmt) -> Result<UseStmt,
     Ok(UseStmt {
         label: bytes(alloc, &used.label)?,
         kind: bytes(alloc, &used.kind)?,
-        delay: used.delay.copy(alloc)?,
-        fall: used.fall.copy(alloc)?,
-        params: copies(alloc, used.params.as_slice())?,
+        delay: used.delay.again(alloc)?,
+        fall: used.fall.again(alloc)?,
+        params: trees(alloc, used.params.as_slice())?,
         ins: ins(alloc, order, used)?,
-        outs: copies(alloc, used.outs.as_slice())?,
+        outs: trees(alloc, used.outs.as_slice())?,
         place: used.place,
     })
 }
@@ -98,7 +100,7 @@ fn statement(alloc: Global, order: Order, one: &Stmt) -> Result<Stmt, NoMemory>
 {
     match one {
         Stmt::Use(used) => Ok(Stmt::Use(use_statement(alloc, order, used)?)),
-        Stmt::Wire(wire) => Ok(Stmt::Wire(wire.copy(alloc)?)),
+        Stmt::Wire(wire) => Ok(Stmt::Wire(wire.again(alloc)?)),
         Stmt::If(choice) => Ok(Stmt::If(if_statement(alloc, order, choice)?)),
         Stmt::For(repeated) => Ok(Stmt::For(for_statement(alloc, order, repeated)?)),
     }
@@ -114,7 +116,7 @@ fn if_statement(alloc: Global, order: Order, choice: &IfStmt) -> Result<IfStmt, 
         None => None,
     };
     Ok(IfStmt {
-        test: choice.test.copy(alloc)?,
+        test: choice.test.again(alloc)?,
         yes,
         no,
         place: choice.place,
@@ -128,8 +130,8 @@ fn for_statement(alloc: Global, order: Order, repeated: &ForStmt) -> Result<ForS
     let body = statements(alloc, order, repeated.body.as_slice())?;
     Ok(ForStmt {
         var: bytes(alloc, &repeated.var)?,
-        first: repeated.first.copy(alloc)?,
-        last: repeated.last.copy(alloc)?,
+        first: repeated.first.again(alloc)?,
+        last: repeated.last.again(alloc)?,
         body,
         place: repeated.place,
     })
@@ -144,9 +146,9 @@ fn macro_definition(
 {
     Ok(MacroDef {
         name: bytes(alloc, &definition.name)?,
-        params: copies(alloc, definition.params.as_slice())?,
-        ins: copies(alloc, definition.ins.as_slice())?,
-        outs: copies(alloc, definition.outs.as_slice())?,
+        params: trees(alloc, definition.params.as_slice())?,
+        ins: trees(alloc, definition.ins.as_slice())?,
+        outs: trees(alloc, definition.outs.as_slice())?,
         body: statements(alloc, order, definition.body.as_slice())?,
         place: definition.place,
     })

@@ -6,6 +6,7 @@ ghost use Rattle.format_upgrade.specs.Upgrade.{KeepsCircuit};
 ghost use Rattle.format_upgrade.specs.Upgraded.{upgraded, upgraded_text};
 
 use crate::copy::{bytes, copies};
+use crate::tree::trees;
 use crate::turned::{Order, macros, statements};
 use drawing_tree::{Drawing, print_drawing};
 use scald_base::{Bytes, NoMemory};
@@ -23,7 +24,7 @@ fn in_last_version(alloc: Global, drawing: &Drawing) -> Result<Drawing, NoMemory
     Ok(Drawing {
         version: 2,
         header: drawing.header,
-        consts: copies(alloc, drawing.consts.as_slice())?,
+        consts: trees(alloc, drawing.consts.as_slice())?,
         const_places: copies(alloc, drawing.const_places.as_slice())?,
         macros: macros(alloc, order, drawing.macros.as_slice())?,
         name: bytes(alloc, &drawing.name)?,
