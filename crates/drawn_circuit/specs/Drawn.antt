@@ -35,9 +35,9 @@ pub record DrawsCircuit (text : List ℕ) (c : Circuit) (cases : List (List Case
   pub listed : All (IsListed c) cases
 
 -- The same, where the drawing is of this version of the language.
-pub record DrawsAs (text : List ℕ) (version : ℕ) (c : Circuit) (cases : List (List CaseValue)) : Type 0 where
+pub record DrawsAs (text : List ℕ) (number : ℕ) (c : Circuit) (cases : List (List CaseValue)) : Type 0 where
   pub draws : DrawsCircuit text c cases
-  pub version : draws.drawing.version ≡ version
+  pub version : draws.drawing.version ≡ number
 
 -- no net of the circuit that the text draws is reached from itself through listening pins
 abbrev pub IsLoopless : List ℕ → Type 0

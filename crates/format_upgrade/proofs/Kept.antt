@@ -1,6 +1,6 @@
 -- The upgraded text draws a drawing with the same flat circuit and the same cases.
-use Rattle.std.proofs.Common.{◌≡◌, ℕ, ◌∙◌, true, false, List, map, Ok, refl, ap, sym, subst, inl, inr, ⊎_elim}
-use Rattle.std.specs.Prelude.{◌==◌}
+use Rattle.std.proofs.Common.{◌≡◌, ℕ, ◌∙◌, true, false, List, map, Result, Ok, Err, refl, ap, sym, subst, inl, inr, ⊎_elim}
+use Rattle.std.specs.Prelude.{◌==◌, IfOk}
 use Rattle.flat_circuit.specs.Name.{Name}
 use Rattle.drawing_tree.specs.Tree.{Drawing}
 use Rattle.drawing_tree.specs.Places.{unplaced_case, unplaced}
@@ -110,3 +110,8 @@ keeps_circuit d source circuit draws shallow expanded =
     let good = well_formed source draws.tokens d draws.are draws.draws in
     let c = ⊎_elim (λ h. first_carried d h shallow) (λ h. second_carried d h shallow) good.version in
     kept_by d circuit expanded (upgraded d) (upgraded_text d) c (law source d (upgraded d) draws c.reordered c.shallow) c.reordered.version
+
+-- So does a text that is made, if one is.
+pub kept_text : {E : Type 0} (d : Drawing) (made : Result (List ℕ) E) → IfOk made (λ text. text ≡ upgraded_text d) → IfOk made (KeepsCircuit d)
+kept_text d (Ok text) is = subst (KeepsCircuit d) (sym is) (keeps_circuit d)
+kept_text d (Err e) is = tt
