@@ -41,6 +41,7 @@ trying 'nothing is installed'
 cp "$program" "$home/crates/scald/out/scald"
 run 4 'no folder' "$home/scald" install
 run 4 'two folders' "$home/scald" install "$prefix" "$prefix"
+run 4 'unproved' "$home/scald" --unproved install "$prefix"
 : >"$work/file"
 run 23 'a file in place of a folder' "$home/scald" install "$work/file"
 has 'a file in place of a folder, said' "$work/said" "scald: $work/file"
@@ -93,7 +94,7 @@ if ! passed_over groff; then
     tr -s ' \n' '  ' <"$work/out" | sed 's/- //g' >"$work/page"
     for text in 'verify [waves|faults] [rounds=N] [FILE ..]' 'bench N' 'install PREFIX' '--unproved' \
         '20 The system does not give the arguments' '23 scald install cannot write' 'WAVE net SKEW s v:w v:w ..' \
-        'FAULT WIDTH w1<0> LOW FROM 150 WIDTH 350' "$prefix/share/doc/scald/docs/LANGUAGE.md" \
+        'FAULT WIDTH w1<0> LOW FROM 150 WIDTH 350' "$prefix/share/vim/vimfiles" \
         'c1 : SETUP_HOLD_CHK {SETUP=20, HOLD=10} ("CK .P2-3", "D .S1-4");' 'WAVE D<0> SKEW 0 C:51 S:149 C:200'; do
         has 'the manual' "$work/page" "$text"
     done
@@ -101,26 +102,38 @@ fi
 if ! passed_over man; then
     run 0 'man' env MANWIDTH=80 MANPAGER=cat man --warnings -l "$page"
     warned 'man warns'
+    run 0 'man finds it' env -u MANPATH PATH="$prefix/bin:$PATH" man -w scald
+    has 'man finds it' "$work/out" "$page"
 fi
 if ! passed_over mandoc; then
     run 0 'mandoc' mandoc -T lint -W warning "$page"
 fi
 
-# --- what the tables of docs/LANGUAGE.md name is in --help too
-PYTHONPATH=$top/install python3 -B - "$top/docs/LANGUAGE.md" >"$work/names" <<'END' || failure 'the tables are not read'
+# --- what the tables of docs/LANGUAGE.md name is in --help too, and every place that they name is there
+PYTHONPATH=$top/install python3 -B - "$top/docs/LANGUAGE.md" "$work/names" "$work/places" <<'END' ||
 import sys
 from language import read_language
-language = read_language(open(sys.argv[1]).read())
-for command in language.commands:
-    print(command.form)
-for option in language.options:
-    print(option.name.split(", ")[0])
-for status in language.statuses:
-    print(f" {status.name}  ")
+with open(sys.argv[1]) as file:
+    language = read_language(file.read())
+with open(sys.argv[2], "w") as names:
+    for command in language.commands:
+        print(command.form, file=names)
+    for option in language.options:
+        print(option.name.split(", ")[0], file=names)
+    for status in language.statuses:
+        print(f" {status.name}  ", file=names)
+with open(sys.argv[3], "w") as places:
+    for place in language.installed:
+        print(place.name, file=places)
 END
+    failure 'the tables are not read'
 while IFS= read -r text; do
     has 'help' "$work/help" "$text"
 done <"$work/names"
+while IFS= read -r place; do
+    trying "$place"
+    [ -e "$prefix/$place" ] || failure "$place: not installed"
+done <"$work/places"
 
 # --- what bash offers: LINE WORD ..., the last word of the line being typed
 mkdir -p "$work/typed/sub folder"

@@ -21,7 +21,7 @@ def made(language, prefix):
     first = "".join(line for line in drawing.splitlines(True) if not line.startswith("--"))
     first_report = (TOP / "examples/first.report").read_text()
     return {
-        "share/man/man1/scald.1": manual(language, first, first_report, prefix / "share/doc/scald"),
+        "share/man/man1/scald.1": manual(language, first, first_report, prefix),
         "share/bash-completion/completions/scald": bash(language),
         "share/zsh/site-functions/_scald": zsh(language),
         "share/vim/vimfiles/syntax/scald.vim": vim(language),

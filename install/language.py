@@ -47,6 +47,7 @@ class Language(NamedTuple):
     report_lines: tuple
     report_items: tuple
     fault_lines: tuple
+    installed: tuple  # Rows of places under the prefix
 
     @property
     def parameters(self):
@@ -139,4 +140,7 @@ def read_language(text):
         report_lines=tuple(next(block for block in blocks if "SCALD v" in block).replace("    ", "").splitlines()),
         report_items=tuple(bullets),
         fault_lines=tuple(Row(spelled(row[0])[0], row[1]) for row in table(report, "Line")),
+        installed=tuple(
+            Row(spelled(place)[0], says) for place, says in table(section(text, "Installing"), "Under PREFIX")
+        ),
     )

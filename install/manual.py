@@ -63,7 +63,7 @@ def report(language):
     yield from items(language.fault_lines)
 
 
-def sections(language, first, first_report, documents):
+def sections(language, first, first_report, prefix):
     yield "NAME", ["scald \\- timing verifier for clocked designs"]
     yield "SYNOPSIS", synopsis(language)
     yield "DESCRIPTION", [
@@ -84,26 +84,19 @@ def sections(language, first, first_report, documents):
     yield "OPTIONS", items(language.options)
     yield "EXIT STATUS", items(language.statuses, " 4")
     yield "REPORT", report(language)
-    yield "FILES", items(
-        [
-            (f"{documents}/docs/LANGUAGE.md", "the language, the report, and each refusal with an example"),
-            (f"{documents}/docs/MEANING.md", "what runs, waves and faults are, and what an answer does not say"),
-            (f"{documents}/docs/IDIOMS.md", "how to draw what has no kind of its own"),
-            (f"{documents}/examples", "drawings in reading order, each with its report"),
-        ]
-    )
+    yield "FILES", items([(f"{prefix}/{place.name}", place.says) for place in language.installed])
     yield "EXAMPLE", [
-        marked("The drawing `first.scald` of the examples:"),
+        marked("The drawing `examples/first.scald` of the documents:"),
         *example(first),
         ".PP",
-        marked("`scald verify first.scald` answers"),
+        marked("`scald verify examples/first.scald` answers"),
         *example(first_report),
     ]
 
 
-def manual(language, first, first_report, documents):
-    """The page. The example is a drawing without its comment, and its report; the documents are in a folder."""
+def manual(language, first, first_report, prefix):
+    """The page. The example is a drawing without its comment, and its report."""
     lines = [f'.TH SCALD 1 "{date.today()}" "scald" "User Commands"']
-    for title, body in sections(language, first, first_report, documents):
+    for title, body in sections(language, first, first_report, prefix):
         lines += [f".SH {title}", *body]
     return "\n".join(lines) + "\n"
