@@ -85,37 +85,39 @@ def called_in_line(patterns, line):
     return called
 
 
+# Writes a line for each line of each file, of the groups of its bytes, and a line `=` after each file.
 VIM_DUMP = """
 let rows = []
-for row in range(1, line('$'))
-  let names = map(range(1, col([row, '$']) - 1), 'synIDattr(synID(row, v:val, 1), "name")')
-  call add(rows, join(names, ' '))
+for name in argv()
+  execute 'edit ' . fnameescape(name)
+  if &filetype != 'scald' || get(b:, 'current_syntax', '') != 'scald'
+    cquit
+  endif
+  for row in range(1, line('$'))
+    call add(rows, join(map(range(1, col([row, '$']) - 1), 'synIDattr(synID(row, v:val, 1), "name")'), ' '))
+  endfor
+  call add(rows, '=')
 endfor
 call writefile(rows, $DUMPED)
-if &filetype != 'scald' || get(b:, 'current_syntax', '') != 'scald'
-  cquit
-endif
 qall!
 """
 
 
 def of_vim(prefix, files):
-    called = {}
-    for name in files:
-        with tempfile.TemporaryDirectory() as folder:
-            script, dumped = os.path.join(folder, "dump.vim"), os.path.join(folder, "dumped")
-            with open(script, "w", encoding="ascii") as file:
-                file.write(VIM_DUMP)
-            rtp = os.path.join(prefix, "share/vim/vimfiles")
-            subprocess.run(
-                ["vim", "-es", "-N", "-u", "NONE", "-i", "NONE", "--cmd", f"set runtimepath^={rtp}",
-                 "-c", "filetype on", "-c", "syntax on", "-c", f"edit {name}", "-c", f"source {script}"],
-                env={**os.environ, "DUMPED": dumped, "TERM": "dumb"}, check=True, timeout=60,
-                stdin=subprocess.DEVNULL, stdout=subprocess.DEVNULL,
-            )
-            with open(dumped, encoding="ascii") as file:
-                called[name] = [row.split(" ") for row in file.read().splitlines()]
-    return called
+    with tempfile.TemporaryDirectory() as folder:
+        script, dumped = os.path.join(folder, "dump.vim"), os.path.join(folder, "dumped")
+        with open(script, "w", encoding="ascii") as file:
+            file.write(VIM_DUMP)
+        subprocess.run(
+            ["vim", "-es", "-N", "-u", "NONE", "-i", "NONE",
+             "--cmd", f"set runtimepath^={os.path.join(prefix, 'share/vim/vimfiles')}",
+             "-c", "filetype on", "-c", "syntax on", "-c", f"source {script}", *files],
+            env={**os.environ, "DUMPED": dumped, "TERM": "dumb"}, check=True, timeout=300,
+            stdin=subprocess.DEVNULL, stdout=subprocess.DEVNULL,
+        )
+        with open(dumped, encoding="ascii") as file:
+            parts = file.read().split("=\n")
+    return {name: [row.split(" ") for row in part.splitlines()] for name, part in zip(files, parts)}
 
 
 def wrong_in(lines, called, column):
