@@ -1,29 +1,29 @@
 -- Drawings that are alike have flat circuits that are alike, where the first has one.
-use Rattle.std.proofs.Common.{◌≡◌, ℕ, zero, suc, ◌+◌, ◌∙◌, ℤ, Bool, true, false, if◌then◌else◌, nat_lt, List, [], ◌∷◌, ◌++◌, length, map, Option, Some, None, Ok, refl, ap, sym, subst, arith}
+use Rattle.std.proofs.Common.{◌≡◌, ℕ, zero, suc, ◌+◌, ℤ, Bool, true, false, if◌then◌else◌, nat_lt, List, [], ◌∷◌, ◌++◌, length, map, Option, Some, None, refl, ap, sym, subst, arith}
 use Rattle.std.specs.Prelude.{⊤}
 use Rattle.scald_base.specs.Time.{period}
 use Rattle.scald_base.specs.declared.refusal.Place.{Place}
-use Rattle.scald_base.specs.declared.refusal.RefusalKind.TheVariants.{TooMany}
 use Rattle.scald_expr.specs.declared.environment.Binding.{Binding}
 use Rattle.element_kinds.specs.declared.kind.Kind.{Kind}
 use Rattle.element_kinds.specs.Kinds.{kind_of}
-use Rattle.drawing_tree.specs.Tree.{Connection, UseStatement, WireStatement, Statement, Use, Wire, If, For, Statements, nil, cons, Otherwise, no_else, else_, Assignment, Macro, Drawing}
+use Rattle.drawing_tree.specs.Tree.{UseStatement, WireStatement, Statement, Use, Wire, If, For, Statements, nil, cons, Otherwise, no_else, else_, Assignment, Macro, Drawing}
 use Rattle.drawing_tree.specs.Places.{unplaced_connection}
-use Rattle.macro_expander.specs.Named.{Bit, State}
-use Rattle.macro_expander.specs.Outcome.{Outcome, Gives, Fails, after, judged, each}
+use Rattle.macro_expander.specs.Named.{State}
 use Rattle.macro_expander.specs.Setting.{Setting}
 use Rattle.macro_expander.specs.Terms.{Scope, valued, written_ends, named_bits, all_joined, wires_of}
 use Rattle.macro_expander.specs.Primitives.{primitive_use, delay_between}
 use Rattle.macro_expander.specs.Macros.{macro_of, given_to, inside_of, inner_path, bound_scope, inner_scope}
 use Rattle.macro_expander.specs.Loops.{binding, in_turn, loop_ends, values_between}
-use Rattle.macro_expander.specs.Flat.{Act, with_wires, wire_act, expanded, macro_use, use_act_of, use_act, most_statements, counted, is_zero, turn_act, statement_act, statements_act, otherwise_act, body_at, deepest, const_values, top, nothing_yet, setting_of, body_act, flat}
+use Rattle.macro_expander.specs.Flat.{Act, with_wires, wire_act, expanded, macro_use, use_act_of, use_act, most_statements, counted, is_zero}
+use Rattle.macro_expander.specs.Flat.{turn_act, statement_act, statements_act, otherwise_act, body_at, deepest, const_values, top, nothing_yet, setting_of, flat}
 use Rattle.format_upgrade.specs.Upgraded.{turned_selects}
-use Rattle.format_upgrade.proofs.Sights.{IsSound, Sight}
+use Rattle.format_upgrade.proofs.Sights.{Sight}
 use Rattle.format_upgrade.proofs.Exchange.{AreAlike}
 use Rattle.format_upgrade.proofs.Noting.{named_notes}
 use Rattle.format_upgrade.proofs.Following.{Follows, gives_alike, after_follows, judged_follows, if_follows, each_follows, notes_follow, counted_alike, wires_alike}
 use Rattle.format_upgrade.proofs.Uses.{SaysSame, says_turned, marks_unplaced, long_unplaced, connections_follow, primitive_follows, turned_follows}
-use Rattle.format_upgrade.proofs.Like.{Way, Kept, Turned, ins_by, AreVersions, IsUseLike, IsWireLike, IsLike, AreLike, IsElseLike, IsMacroLike, AreMacrosLike, IsDrawingLike, AreFoundLike, found_like}
+use Rattle.format_upgrade.proofs.Like.{Way, Kept, Turned, AreVersions, IsUseLike, IsWireLike, IsLike}
+use Rattle.format_upgrade.proofs.Like.{AreLike, IsElseLike, IsMacroLike, AreMacrosLike, IsDrawingLike, AreFoundLike, found_like}
 
 abbrev ActFollows : Act → Act → Type 0
 ActFollows f g = (scope : Scope) (s t : State) → AreAlike s t → Follows (f scope s) (g scope t)

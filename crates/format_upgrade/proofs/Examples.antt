@@ -17,7 +17,7 @@ turned_by_kind :
     ≡ 2 ∷ 3 ∷ 0 ∷ 0 ∷ 0 ∷ 0 ∷ 0 ∷ []
 turned_by_kind = refl
 
-reversed_by_count : map (λ n. first_reversed n (1 ∷ 2 ∷ 3 ∷ 4 ∷ [])) (0 ∷ 2 ∷ 3 ∷ []) ≡
+reversed_by_count : map (λ n. first_reversed {X = ℕ} n (1 ∷ 2 ∷ 3 ∷ 4 ∷ [])) (0 ∷ 2 ∷ 3 ∷ []) ≡
     (1 ∷ 2 ∷ 3 ∷ 4 ∷ []) ∷ (2 ∷ 1 ∷ 3 ∷ 4 ∷ []) ∷ (3 ∷ 2 ∷ 1 ∷ 4 ∷ []) ∷ []
 reversed_by_count = refl
 
@@ -57,5 +57,5 @@ greatest_of None = 0
 
 -- and so is one with another wire
 other_wire : ¬ SameCircuit (nets (net (codes "A") ∷ []) (long ∷ [])) (nets (net (codes "A") ∷ []) (short ∷ []))
-unfolding nets net short long
+unfolding nets net short long greatest_of
 other_wire same = absurd (let there : 0 ≡ 2 = ap (λ o. greatest_of o) (same.wires (net (codes "A"))) in omega (arith, there))

@@ -1,18 +1,20 @@
 -- Nets and assertions may be named in any order.
-use Rattle.std.proofs.Common.{◌≡◌, ℕ, ◌+◌, ◌∙◌, Bool, true, false, not, ◌&&◌, if◌then◌else◌, nat_lt, List, [], ◌∷◌, ◌++◌, Option, Some, None, refl, ap, sym, subst, ap₂, arith, add-zero, append-nil, append_assoc}
+use Rattle.std.proofs.Common.{◌≡◌, ℕ, ◌+◌, ◌∙◌, Bool, true, false, not, ◌&&◌, if◌then◌else◌, nat_lt, List, []}
+use Rattle.std.proofs.Common.{◌∷◌, ◌++◌, Option, Some, None, refl, ap, sym, subst, ap₂, arith, add-zero, append-nil, append_assoc}
 use Rattle.std.specs.Str.{bytes_eq}
 use Rattle.std.proofs.lemmas.Slice.Eq.{bytes_eq-Decides}
 use Rattle.scald_base.specs.Time.{Bounds}
 use Rattle.scald_base.specs.declared.assertion.AssertSpec.{AssertSpec}
-use Rattle.scald_base.specs.declared.assertion.AssertSpec.TheVariants.{None as Unasserted, Precision, Clock, Stable}
+use Rattle.scald_base.specs.declared.assertion.AssertSpec.TheVariants.{None as Unasserted}
 use Rattle.flat_circuit.specs.Name.{Name}
 use Rattle.flat_circuit.specs.Instances.{most_bits}
 use Rattle.flat_circuit.specs.Builder.{is_asserted, same_name}
 use Rattle.flat_circuit.proofs.Tables.{same_name_is, same_name_refl}
 use Rattle.macro_expander.specs.Assertions.{same_assertion}
 use Rattle.macro_expander.specs.Named.{State}
-use Rattle.macro_expander.proofs.Alike.{assertion_equal, assertion_self}
-use Rattle.format_upgrade.proofs.Sights.{Sight, sight, IsSound, wire_beside, nets_more, is_room, with_name, spec_beside, with_spec, disagree, Note, Names, Asserts, noted, is_allowed, with_note, seen, IsSeenAs, unasserted_is, spec_beside_other, spec_beside_none, spec_beside_known, note_seen}
+use Rattle.macro_expander.proofs.Alike.{assertion_equal}
+use Rattle.format_upgrade.proofs.Sights.{Sight, sight, IsSound, wire_beside, nets_more, is_room, spec_beside, disagree, Note, Names}
+use Rattle.format_upgrade.proofs.Sights.{Asserts, noted, is_allowed, with_note, seen, IsSeenAs, unasserted_is, spec_beside_other, spec_beside_none, spec_beside_known, note_seen}
 
 -- ---- one after the other
 

@@ -1,11 +1,9 @@
 -- The upgraded text draws a drawing with the same flat circuit and the same cases.
-use Rattle.std.proofs.Common.{◌≡◌, ℕ, ◌∙◌, true, false, List, map, Result, Ok, Err, refl, ap, sym, subst, inl, inr, ⊎_elim}
-use Rattle.std.specs.Prelude.{◌==◌, IfOk}
-use Rattle.flat_circuit.specs.Name.{Name}
+use Rattle.std.proofs.Common.{◌≡◌, ℕ, ◌∙◌, List, map, Result, Ok, Err, refl, ap, sym, subst, ⊎_elim}
+use Rattle.std.specs.Prelude.{IfOk}
 use Rattle.drawing_tree.specs.Tree.{Drawing}
 use Rattle.drawing_tree.specs.Places.{unplaced_case, unplaced}
-use Rattle.drawing_tree.specs.Canonical.{canonical}
-use Rattle.drawing_grammar.specs.CanonicalDraws.{TextDraws, IsShallowDrawing, DrawsAgain}
+use Rattle.drawing_grammar.specs.CanonicalDraws.{IsShallowDrawing, DrawsAgain}
 use Rattle.drawing_grammar.specs.Reordered.{IsReordered}
 use Rattle.drawing_grammar.proofs.Different.{well_formed}
 use Rattle.drawing_grammar.proofs.Reordered.{law}
@@ -55,7 +53,7 @@ first_carried : (d : Drawing) → d.version ≡ 1 → IsShallowDrawing d → IsC
 first_carried d h shallow = rw h (record {
   way = Turned;
   like = record {
-    versions = (rw h refl, refl);
+    versions = (refl, refl);
     header = refl;
     consts = refl;
     places = refl;

@@ -1,14 +1,13 @@
 -- Drawings that are alike, places aside: with their selects in one order, or from version 1 with them in the other order.
-use Rattle.std.proofs.Common.{◌≡◌, ℕ, ◌∙◌, Bool, true, false, cond, if◌then◌else◌, List, [], ◌∷◌, length, map, Option, Some, None, refl, ap, sym, subst}
-use Rattle.std.specs.Prelude.{⊤, ◌==◌}
-use Rattle.std.specs.List.{find}
+use Rattle.std.proofs.Common.{◌≡◌, ℕ, Bool, true, false, cond, List, [], ◌∷◌, length, map, Option, Some, None, refl, ap, sym, subst}
+use Rattle.std.specs.Prelude.{⊤}
 use Rattle.std.specs.Str.{bytes_eq}
 use Rattle.std.proofs.lemmas.List.{length-map}
 use Rattle.drawing_tree.specs.Tree.{Connection, UseStatement, WireStatement, Statement, Use, Wire, If, For, Statements, nil, cons, Otherwise, no_else, else_, Macro, Drawing}
 use Rattle.drawing_tree.specs.Places.{nowhere, unplaced_connection, unplaced_use, unplaced_statement, unplaced_statements, unplaced_otherwise, unplaced_macro, unplaced}
 use Rattle.macro_expander.specs.Primitives.{is_least_first}
 use Rattle.macro_expander.specs.Macros.{macro_of}
-use Rattle.format_upgrade.specs.Upgraded.{turned_ins, turned_use, turned_statement, turned_statements, turned_otherwise, turned_macro}
+use Rattle.format_upgrade.specs.Upgraded.{turned_ins, turned_statement, turned_statements, turned_otherwise, turned_macro}
 
 -- ---- how one drawing is like another
 

@@ -1,6 +1,5 @@
 -- What names and connections do to a circuit: some notes, whatever the circuit is.
-use Rattle.std.proofs.Common.{◌≡◌, ℕ, ◌∙◌, ℤ, Bool, true, false, if◌then◌else◌, nat_lt, List, [], ◌∷◌, ◌++◌, length, map, Option, Some, None, Result, Ok, Err, refl, ap, sym, subst, append-nil}
-use Rattle.std.proofs.lemmas.List.{append_assoc}
+use Rattle.std.proofs.Common.{◌≡◌, ℕ, ◌∙◌, ℤ, Bool, true, false, if◌then◌else◌, nat_lt, List, [], ◌∷◌, ◌++◌, length, map, Option, Some, None, Ok, Err, refl, ap, sym}
 use Rattle.scald_base.specs.declared.assertion.AssertSpec.{AssertSpec}
 use Rattle.scald_base.specs.declared.refusal.Place.{Place}
 use Rattle.scald_base.specs.declared.refusal.RefusalKind.TheVariants.{AssertionClash, TooMany, Width}
@@ -8,11 +7,12 @@ use Rattle.assertion_syntax.specs.declared.name.SignalName.{SignalName}
 use Rattle.flat_circuit.specs.Name.{Name}
 use Rattle.flat_circuit.specs.Instances.{most_bits}
 use Rattle.flat_circuit.specs.Builder.{has_name}
-use Rattle.drawing_tree.specs.Tree.{Item, Zero, One, Named, Term, Connection, UseStatement}
+use Rattle.drawing_tree.specs.Tree.{Item, Zero, One, Named, Term, Connection}
 use Rattle.macro_expander.specs.Named.{On, Bit, State}
 use Rattle.macro_expander.specs.Outcome.{Outcome, Gives, Fails, after, Judged, judged, gathered}
-use Rattle.macro_expander.specs.Terms.{Bound, Scope, Joined, Wires, plain, formal_of, net_text, written_ends, numbers_of, formal_term, clashes, with_net, with_assertion, naming, net_bit, net_bits, meant, named_bits, item_bits, turned_bit, term_bits, has_width, terms_bits, joined, all_joined, wires_of}
-use Rattle.format_upgrade.proofs.Sights.{Note, Names, Asserts, noted}
+use Rattle.macro_expander.specs.Terms.{Bound, Scope, Joined, plain, formal_of, net_text, written_ends, numbers_of, formal_term, clashes, with_net}
+use Rattle.macro_expander.specs.Terms.{with_assertion, net_bit, net_bits, meant, named_bits, item_bits, turned_bit, term_bits, has_width, terms_bits, joined}
+use Rattle.format_upgrade.proofs.Sights.{Note, Names, Asserts}
 use Rattle.format_upgrade.proofs.Exchange.{behind, all_noted, noted_append}
 
 -- A step at any place: what it gave of one circuit came of notes, and it gives the same wherever these are not refused.

@@ -1,13 +1,13 @@
 -- The upgraded drawing differs from the drawing in the order of connections alone, and nests as deep.
-use Rattle.std.proofs.Common.{◌≡◌, ℕ, ◌∙◌, List, [], ◌∷◌, ◌++◌, map, take, drop, length, refl, sym, subst}
-use Rattle.std.specs.Prelude.{⊤, All, Contains, reverse}
+use Rattle.std.proofs.Common.{ℕ, List, [], ◌∷◌, map, take, drop, length, refl, sym, subst}
+use Rattle.std.specs.Prelude.{All, Contains, reverse}
 use Rattle.std.specs.List.{AllByRecursion}
 use Rattle.std.proofs.lemmas.List.{reverse-append}
 use Rattle.std.proofs.lemmas.List.Elements.{All-head, All-tail, All-cons, All-nil, All-append, All-take, All-drop, All-contains_itself, All-from_recursion, recursion_from_All}
 use Rattle.element_kinds.specs.Kinds.{kind_of}
-use Rattle.drawing_tree.specs.Tree.{Connection, UseStatement, Statement, Use, Wire, If, For, Statements, nil, cons, Otherwise, no_else, else_, Macro, Drawing}
-use Rattle.drawing_grammar.specs.CanonicalDraws.{IsShallowConnection, IsShallowUse, IsShallowStatement, AreShallow, IsShallowOtherwise, IsShallowMacro, IsShallowDrawing}
-use Rattle.drawing_grammar.specs.Reordered.{IsReorderedUse, IsReorderedStatement, AreReordered, IsReorderedOtherwise, IsReorderedMacro, AreReorderedMacros}
+use Rattle.drawing_tree.specs.Tree.{UseStatement, Statement, Use, Wire, If, For, Statements, nil, cons, Otherwise, no_else, else_, Macro}
+use Rattle.drawing_grammar.specs.CanonicalDraws.{IsShallowConnection, IsShallowUse, IsShallowStatement, AreShallow, IsShallowOtherwise, IsShallowMacro}
+use Rattle.drawing_grammar.specs.Reordered.{IsReorderedUse, IsReorderedStatement, AreReordered, IsReorderedOtherwise, AreReorderedMacros}
 use Rattle.macro_expander.specs.Primitives.{first_reversed}
 use Rattle.format_upgrade.specs.Upgraded.{turned_selects, turned_use, turned_statement, turned_statements, turned_otherwise, turned_macro}
 

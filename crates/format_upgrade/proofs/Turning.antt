@@ -1,5 +1,5 @@
 -- Connections in another order: they mean the same bits, in that order.
-use Rattle.std.proofs.Common.{◌≡◌, ℕ, ◌∙◌, Bool, true, false, if◌then◌else◌, List, [], ◌∷◌, ◌++◌, map, Some, refl, ap, sym, subst, append-nil, append_assoc}
+use Rattle.std.proofs.Common.{◌≡◌, ◌∙◌, Bool, true, false, if◌then◌else◌, List, [], ◌∷◌, ◌++◌, map, Some, refl, ap, sym, subst, append-nil, append_assoc}
 use Rattle.std.specs.Prelude.{⊤}
 use Rattle.std.specs.List.{flat_map}
 use Rattle.scald_base.specs.declared.refusal.Place.{Place}
@@ -12,7 +12,7 @@ use Rattle.macro_expander.specs.Terms.{Scope, Joined, has_width, terms_bits, joi
 use Rattle.macro_expander.specs.Primitives.{first_reversed}
 use Rattle.format_upgrade.proofs.Sights.{Note, Sight}
 use Rattle.format_upgrade.proofs.Exchange.{AreAlike, behind, behind_same, all_noted, all_seen, seen_append, exchanged, noted_alike}
-use Rattle.format_upgrade.proofs.Noting.{parts_of, Notes, noted_parts, noted_both, joined_notes}
+use Rattle.format_upgrade.proofs.Noting.{parts_of, noted_parts, noted_both, joined_notes}
 use Rattle.format_upgrade.proofs.Following.{GivesAlike, FollowsAs, Follows}
 
 -- ---- each connection with what it means and notes

@@ -1,6 +1,6 @@
 -- Uses that are alike, places aside, and uses of multiplexers with their selects in the other order.
-use Rattle.std.proofs.Common.{◌≡◌, ℕ, ◌+◌, ◌∙◌, Bool, true, false, cond, ◌&&◌, if◌then◌else◌, List, [], ◌∷◌, ◌++◌, length, map, take, drop, Option, Some, None, Ok, refl, ap, sym, subst, arith}
-use Rattle.std.specs.Prelude.{⊤, ◌==◌, nat_le, reverse, count_by, sum_by}
+use Rattle.std.proofs.Common.{◌≡◌, ℕ, ◌+◌, ◌∙◌, Bool, true, false, cond, ◌&&◌, if◌then◌else◌, List, [], ◌∷◌, ◌++◌, length, map, take, drop, Some, Ok, refl, ap, sym, subst, arith}
+use Rattle.std.specs.Prelude.{nat_le, reverse, count_by, sum_by}
 use Rattle.std.specs.List.{list_all, range_with_len}
 use Rattle.std.proofs.lemmas.Bool.{and_parts, leb-true}
 use Rattle.std.proofs.lemmas.List.{length-map, length-append, length-reverse, take-append-drop, reverse-append}
@@ -10,20 +10,20 @@ use Rattle.scald_base.specs.declared.refusal.RefusalKind.TheVariants.{BadParamet
 use Rattle.scald_expr.specs.declared.environment.Binding.{Binding}
 use Rattle.element_kinds.specs.declared.kind.Kind.{Kind}
 use Rattle.element_kinds.specs.declared.kind.Kind.TheVariants.{Mux2, Mux4, Mux8}
-use Rattle.element_kinds.specs.Kinds.{kind_of}
 use Rattle.drawing_tree.specs.Tree.{Connection, UseStatement}
 use Rattle.drawing_tree.specs.Places.{unplaced_connection}
 use Rattle.macro_expander.specs.declared.primitive.Plan.{Plan}
 use Rattle.macro_expander.specs.Named.{State}
-use Rattle.macro_expander.specs.Outcome.{Fails, Gives}
+use Rattle.macro_expander.specs.Outcome.{Fails}
 use Rattle.macro_expander.specs.Setting.{Setting}
 use Rattle.macro_expander.specs.Terms.{Scope, labelled, Joined, Wires, all_joined, wires_of}
-use Rattle.macro_expander.specs.Primitives.{are_of, takes, fall_of, written_delay, values_given, delays_of, takes_delays, limits_of, are_connected, plan_of, marks, width, width_in, can_have, inputs_fit, first_reversed, is_least_first, in_pin_order, instance_at, adding, all_added, primitive_use}
+use Rattle.macro_expander.specs.Primitives.{are_of, takes, fall_of, written_delay, values_given, delays_of, takes_delays, limits_of, are_connected, plan_of, marks}
+use Rattle.macro_expander.specs.Primitives.{width, width_in, can_have, inputs_fit, first_reversed, is_least_first, in_pin_order, instance_at, adding, all_added, primitive_use}
 use Rattle.macro_expander.proofs.Lists.{count_by_map}
 use Rattle.macro_expander.proofs.Facts.{demanded_ok, judging_ok}
-use Rattle.format_upgrade.specs.Upgraded.{turned_selects, turned_ins}
+use Rattle.format_upgrade.specs.Upgraded.{turned_selects}
 use Rattle.format_upgrade.proofs.Exchange.{AreAlike}
-use Rattle.format_upgrade.proofs.Following.{FollowsAs, Follows, gives_alike, after_follows_as, after_follows, judged_follows, if_follows, each_follows, adding_follows}
+use Rattle.format_upgrade.proofs.Following.{FollowsAs, Follows, gives_alike, after_follows_as, judged_follows, if_follows, each_follows, adding_follows}
 use Rattle.format_upgrade.proofs.Turning.{two_turned, three_turned, joined_follow, joined_unplaced}
 
 -- ---- lists of which some are reversed

@@ -4,7 +4,8 @@ ghost use Rattle.std.specs.Prelude.{◌≡◌, ◌≤◌, IfOk, length, map};
 ghost use Rattle.drawing_tree.specs.Tree.{connection_of, use_of, if_of, for_of, macro_of, statement_of, statements_of};
 ghost use Rattle.macro_expander.specs.Primitives.{first_reversed};
 ghost use Rattle.format_upgrade.specs.Upgraded.{turned_selects};
-ghost use Rattle.format_upgrade.specs.Order.{in_order_ins, in_order_use, in_order_statement, in_order_statements, in_order_macro};
+ghost use Rattle.format_upgrade.specs.Order.{in_order_ins, in_order_use, in_order_macro};
+ghost use Rattle.format_upgrade.specs.Order.{in_order_statement, in_order_statements};
 
 use crate::copy::bytes;
 use crate::tree::{Tree, trees};
@@ -85,7 +86,8 @@ fn use_statement(alloc: Global, order: Order, used: &UseStmt) -> Result<UseStmt,
 /// Copies of statements.
 #[cycle(statement)]
 pub(crate) fn statements(alloc: Global, order: Order, body: &[Stmt]) -> Result<Stmts, NoMemory>
-    ensures { IfOk result (λ copies. statements_of copies.items ≡ in_order_statements order (statements_of body.now)) }
+    ensures { IfOk result (λ copies. statements_of copies.items
+        ≡ in_order_statements order (statements_of body.now)) }
 {
     let mut copies = Vec::with_capacity(alloc, body.len())?;
     'body: for one in body {

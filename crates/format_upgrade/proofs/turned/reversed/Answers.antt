@@ -1,6 +1,6 @@
-use Rattle.std.proofs.Common.{◌≡◌, ℕ, ◌+◌, ◌-◌, ◌<◌, ◌≤◌, ◌∙◌, ◌∷◌, ◌++◌, [], List, length, map, take, drop, get_or, arith, sym, ap, subst}
+use Rattle.std.proofs.Common.{◌≡◌, ℕ, ◌+◌, ◌-◌, ◌<◌, ◌≤◌, ◌∙◌, List, length, map, take, drop, get_or, arith, sym, ap, subst}
 use Rattle.std.specs.Prelude.{reverse}
-use Rattle.std.proofs.lemmas.List.{get_or-take, length-take-le}
+use Rattle.std.proofs.lemmas.List.{get_or-take, length-take-le, take_rest}
 use Rattle.drawing_tree.specs.declared.connection.Conn.{Conn}
 use Rattle.drawing_tree.specs.Tree.{connection_of}
 use Rattle.format_upgrade.proofs.Ordered.{reversed_more, reversed_all}
@@ -26,4 +26,7 @@ loop-place-preserved c =
 
 pub returns : goal.returns
 returns c =
-    reversed_all connection_of c.loop-item.copies c.args.items.now c.args.count c.loop-item.item-index (omega (arith, c.loop-item-test.false)) c.loop-item.invariant
+    let items = c.args.items.now in
+    let all : length (drop c.args.count items) ≤ c.loop-item.item-index =
+    omega (arith, c.loop-item-test.false, ap length (take_rest items c.args.count)) in
+    reversed_all connection_of c.loop-item.copies items c.args.count c.loop-item.item-index all c.loop-item.invariant

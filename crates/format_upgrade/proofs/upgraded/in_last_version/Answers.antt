@@ -1,4 +1,4 @@
-use Rattle.std.proofs.Common.{◌≡◌, ◌∙◌, map, refl, ap, sym}
+use Rattle.std.proofs.Common.{◌≡◌, ◌∙◌, map, refl, ap, sym, eq-eqb, ne_eqb}
 use Rattle.drawing_tree.specs.Tree.{assignment_of, macro_of, statements_of, drawing_of}
 use Rattle.format_upgrade.specs.Order.{in_order_macro, in_order_statements}
 use Rattle.format_upgrade.proofs.Ordered.{in_order_drawing, upgraded_first, upgraded_second}
@@ -27,6 +27,6 @@ returns c =
       cases = c.in_ok-copies-2.field-0;
     }) = rw (consts, places, macros, c.in_ok-bytes.ensures, body, cases) refl in
     sym same ∙ elim c.if-drawing-eq1.branch [
-      | then-drawing-eq1 w ↦ upgraded_first order d w.order-is w.if-drawing-eq1.true
-      | else-drawing-eq1 w ↦ upgraded_second order d w.order-is w.if-drawing-eq1.false
+      | then-drawing-eq1 w ↦ upgraded_first order d w.order-is (eq-eqb d.version 1 w.if-drawing-eq1.true)
+      | else-drawing-eq1 w ↦ upgraded_second order d w.order-is (ne_eqb d.version 1 w.if-drawing-eq1.false)
     ]
