@@ -25,7 +25,7 @@ use Rattle.drawing_grammar.specs.Header.{judged, refused_at}
 use Rattle.drawing_grammar.specs.DoubleNames.{key, Declaration, declaration, statement_labels, primitives, double_at, IsDoubleName}
 use Rattle.drawing_grammar.specs.Sketch.{Sketch, PlacedConstants}
 use Rattle.drawing_grammar.specs.Draws.{whole, Reads, IsRefused}
-use Rattle.drawing_grammar.specs.Drawing.{declared_by, IsWrong, header}
+use Rattle.drawing_grammar.specs.Drawing.{drawing_of_sketch, declared_by, IsWrong, header}
 use Rattle.drawing_grammar.specs.Machine.{Verdict, Complete, Refused, refusal, verdict}
 use Rattle.drawing_grammar.proofs.Cutting.{Bare, bare_of}
 use Rattle.drawing_grammar.proofs.Distinct.{differ}
@@ -33,7 +33,7 @@ use Rattle.drawing_grammar.proofs.Whole.{Ending, is_read, is_refused}
 
 -- ---- the tokens of a text
 
-abbrev place : ℕ → ℕ → Place
+abbrev pub place : ℕ → ℕ → Place
 place line col = record { line = line; col = col }
 
 abbrev lexeme : Place → Bare → Lexeme
@@ -92,7 +92,7 @@ abbrev refusal_of : (v : Edition) → Verdict (whole v) → Option Refusal
 refusal_of v (Complete x) = None
 refusal_of v (Refused r) = Some r
 
-abbrev read : List ℕ → Option Sketch
+abbrev pub read : List ℕ → Option Sketch
 read text = let ts = tokens text in sketch_of (edition_of ts) (verdict_on ts)
 
 abbrev refused : List ℕ → Option Refusal
@@ -136,18 +136,18 @@ unfolding piece_at word_at number_at
 numbers = refl
 
 -- a text whose statements begin at column 32, for a version of one digit
-abbrev text : List ℕ → List ℕ → List ℕ
+abbrev pub text : List ℕ → List ℕ → List ℕ
 text version statements =
     codes "SCALD " ++ version ++ codes ";CLOCK 8 x 50;DRAWING D;" ++ statements ++ codes "END;"
 
-abbrev body : List ℕ → Option Statements
+abbrev pub body : List ℕ → Option Statements
 body text = option_map (λ s. s.body) (read text)
 
-abbrev one : Statement → Option Statements
+abbrev pub one : Statement → Option Statements
 one s = Some (cons s nil)
 
 -- a use with nothing in its parentheses
-abbrev use_at : ℕ → List ℕ → List ℕ → Statement
+abbrev pub use_at : ℕ → List ℕ → List ℕ → Statement
 use_at col label kind = Use (record {
   label = label;
   kind = kind;
@@ -162,7 +162,7 @@ use_at col label kind = Use (record {
 abbrev first : List ℕ
 first = codes "1"
 
-abbrev second : List ℕ
+abbrev pub second : List ℕ
 second = codes "2"
 
 -- ---- labels
@@ -183,10 +183,10 @@ other_labels = refl
 
 -- ---- FOR
 
-abbrev num : ℕ → Expression
+abbrev pub num : ℕ → Expression
 num n = Number (pos n)
 
-abbrev param : List ℕ → Expression
+abbrev pub param : List ℕ → Expression
 param name = Param name
 
 abbrev loop : List ℕ
@@ -249,6 +249,13 @@ constants_of_02 : option_map (λ c. c.constants) (constants (constant_text (code
     ≡ option_map (λ c. c.constants) (constants (constant_text second two))
 unfolding verdict piece_at word_at number_at word_terminal symbol_terminal
 constants_of_02 = refl
+
+-- The drawing has the version by its value, and the places of the words CONST.
+drawn : option_map {U = ℕ × List Place}
+    (λ s. let d = drawing_of_sketch s in (d.version, d.const_places))
+    (read (constant_text (codes "02") two)) ≡ Some (2, place 1 23 ∷ place 1 33 ∷ [])
+unfolding verdict piece_at word_at number_at word_terminal symbol_terminal
+drawn = refl
 
 -- Version 1 has none, and a text of any other number is read as one of version 1.
 constants_of_others : map (λ version. refused (constant_text version two))
@@ -338,6 +345,12 @@ too_deep : map (λ statements. refused (text second statements))
     ∷ at TooDeep 1056 ∷ at TooDeep 1056 ∷ at TooDeep 864 ∷ []
 unfolding verdict piece_at word_at number_at word_terminal symbol_terminal
 too_deep = refl
+
+-- Seventy that follow one another do not nest.
+one_after_another : is_some (read (text second
+    (flat_map (λ s. s) (replicate 70 (codes "FOR I=1 TO 2 DO END;"))))) ≡ true
+unfolding verdict piece_at word_at number_at word_terminal symbol_terminal
+one_after_another = refl
 
 -- A label FOR counts as no FOR, and 64 are not too many.
 not_too_deep : map (λ statements. is_some (read (text second statements)))

@@ -76,6 +76,7 @@ pub mod TextLaws
 mod Examples
 mod ExamplesDelays
 mod ExamplesVersions
+mod ExamplesTrees
 pub mod LeftOver
 pub mod NestExpression
 pub mod NestForms

@@ -248,18 +248,27 @@ whole : canonical (record {
 unfolding digits condition_text bracketed bracketed_if_some use_head use_text statement_lines statements_lines else_lines header_lines body_lines
 whole = refl
 
+-- constants before macros
 constants : canonical (record {
   version = 2;
   header =
       record { units = 8; ticks = 50; wire = record { min = 0; max = 0 }; pskew = (0, 0); cskew = (0, 0) };
   consts = record { name = codes "N"; value = num 4 } ∷ record { name = codes "M"; value = Binary Add (Param (codes "N")) (num 1) } ∷ [];
   const_places = here ∷ here ∷ [];
-  macros = [];
+  macros =
+      record {
+        name = codes "W";
+        params = [];
+        ins = [];
+        outs = [];
+        body = nil;
+        place = here;
+      } ∷ [];
   name = codes "T";
   body =
       nil;
   cases =
       [];
-}) ≡ codes "SCALD 2;\nCLOCK 8 x 50;\nWIRE 0:0;\nPSKEW 0:0;\nCSKEW 0:0;\nCONST N = 4;\nCONST M = N + 1;\nDRAWING T;\nEND;\n"
-unfolding digits condition_text statements_lines header_lines constant_line body_lines
+}) ≡ codes "SCALD 2;\nCLOCK 8 x 50;\nWIRE 0:0;\nPSKEW 0:0;\nCSKEW 0:0;\nCONST N = 4;\nCONST M = N + 1;\nMACRO W ();\nEND;\nDRAWING T;\nEND;\n"
+unfolding digits condition_text bracketed bracketed_if_some statements_lines header_lines constant_line macro_head macro_lines body_lines
 constants = refl

@@ -9,7 +9,7 @@ use Rattle.scald_base.specs.Time.{Header}
 use Rattle.scald_base.specs.Word.{is_reserved}
 use Rattle.scald_base.specs.declared.refusal.Place.{Place}
 use Rattle.scald_base.specs.declared.assertion.AssertSpec.TheVariants.{Stable}
-use Rattle.scald_expr.specs.Expression.{Param}
+use Rattle.scald_expr.specs.Expression.{Param, Negate}
 use Rattle.drawing_tree.specs.declared.drawing.CaseEntry.{CaseEntry}
 use Rattle.drawing_tree.specs.declared.drawing.CaseStmt.{CaseStmt}
 use Rattle.drawing_tree.specs.Tree.{Connection, Assignment, Statement, Use, If, For, nil, cons, else_, Formal, Macro, Drawing}
@@ -132,6 +132,19 @@ module _ (d : Drawing) where
 reserved_variable : (h : Header) → IsGoodStatement h (For (codes "IF") a a nil here) → ⊥
 reserved_variable h good = let free : true ≡ false = good.0.is_free in cc
 
+-- one with a reserved word in a bound or inside of it
+reserved_first : (h : Header) →
+    IsGoodStatement h (For (codes "I") (Param (codes "END")) a nil here) → ⊥
+reserved_first h good = let free : true ≡ false = good.1.is_free in cc
+
+reserved_last : (h : Header) →
+    IsGoodStatement h (For (codes "I") a (Param (codes "END")) nil here) → ⊥
+reserved_last h good = let free : true ≡ false = good.2.is_free in cc
+
+reserved_inside : (h : Header) →
+    IsGoodStatement h (For (codes "I") a a (cons (use_named (codes "END")) nil) here) → ⊥
+reserved_inside h good = let free : true ≡ false = good.3.0.label.is_free in cc
+
 free_words : map is_reserved (codes "FOR" ∷ codes "TO" ∷ codes "DO" ∷ codes "CONST" ∷ codes "IF" ∷ [])
     ≡ false ∷ false ∷ false ∷ false ∷ true ∷ []
 free_words = refl
@@ -217,7 +230,25 @@ another_variable : unplaced_statement (For (codes "II") a a nil here)
     ≡ unplaced_statement (For (codes "I") a a nil here) → ⊥
 another_variable same = cc
 
--- Nor do the places of constants, but how many there are does.
+-- So do its bounds, and what it holds but for the places there.
+another_first : unplaced_statement (For (codes "I") (Negate a) a nil here)
+    ≡ unplaced_statement (For (codes "I") a a nil here) → ⊥
+another_first same = cc
+
+another_last : unplaced_statement (For (codes "I") a (Negate a) nil here)
+    ≡ unplaced_statement (For (codes "I") a a nil here) → ⊥
+another_last same = cc
+
+one_use_less : unplaced_statement (For (codes "I") a a (cons (use_named (codes "u")) nil) here)
+    ≡ unplaced_statement (For (codes "I") a a nil here) → ⊥
+one_use_less same = cc
+
+inner_places_aside :
+    unplaced_statement (For (codes "I") a a (cons (Use (record checker { place = there })) nil) here)
+    ≡ unplaced_statement (For (codes "I") a a (cons (Use checker) nil) here)
+inner_places_aside = refl
+
+-- The places of constants do not count either, but how many there are does.
 constants_elsewhere : (d : Drawing) →
     SameButPlaces (record d { const_places = here ∷ [] }) (record d { const_places = there ∷ [] })
 constants_elsewhere d = refl
