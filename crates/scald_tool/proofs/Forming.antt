@@ -362,16 +362,16 @@ words_are_read (w ∷ ws) = by_verify (bytes_eq w (codes "verify")) refl
 
 -- ---- the words of what may be asked for
 
-limit_is : (n : ℕ) → IsFrom most_rounds n → limit_of (codes "rounds=" ++ decimal n) ≡ Some n
-limit_is n from = number_of most_rounds n (omega arith) from
+limit_is_number : (n : ℕ) → IsFrom most_rounds n → limit_of (codes "rounds=" ++ decimal n) ≡ Some n
+limit_is_number n from = number_of most_rounds n (omega arith) from
 
 pub words_are_known : WordsAreKnown
 words_are_known (Verify Full None) may = refl
 words_are_known (Verify Waves None) may = refl
 words_are_known (Verify Faults None) may = refl
-words_are_known (Verify Full (Some n)) may = ap (λ (found : Option ℕ). with_limit Full 1 found []) (limit_is n may)
-words_are_known (Verify Waves (Some n)) may = ap (λ (found : Option ℕ). with_limit Waves 2 found []) (limit_is n may)
-words_are_known (Verify Faults (Some n)) may = ap (λ (found : Option ℕ). with_limit Faults 2 found []) (limit_is n may)
+words_are_known (Verify Full (Some n)) may = ap (λ (found : Option ℕ). with_limit Full 1 found []) (limit_is_number n may)
+words_are_known (Verify Waves (Some n)) may = ap (λ (found : Option ℕ). with_limit Waves 2 found []) (limit_is_number n may)
+words_are_known (Verify Faults (Some n)) may = ap (λ (found : Option ℕ). with_limit Faults 2 found []) (limit_is_number n may)
 words_are_known Format may = refl
 words_are_known Upgrade may = refl
 words_are_known (Bench n) may = ap (λ (found : Option ℕ). with_sections found []) (number_of most_sections n (omega arith) may)
