@@ -138,7 +138,7 @@ type WordRow = (&'static str, &'static [&'static [u8]], u32);
 const WORDS: [WordRow; 14] = [
     ("no word", &[], 0),
     ("no such form", &[b"check"], 0),
-    ("no such form either", &[b"upgrade"], 0),
+    ("no such form either", &[b"upgrades"], 0),
     ("no such mode", &[b"verify", b"twice"], 1),
     ("no round", &[b"verify", b"rounds=0"], 1),
     ("a zero before the rounds", &[b"verify", b"rounds=05"], 1),

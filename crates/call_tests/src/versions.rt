@@ -50,54 +50,84 @@ const LABEL: &[u8] = br#"FOR : BUF [0:0] ("A") -> ("Y");"#;
 
 /// The same lines in version 1 and in version 2.
 const SIDES: [Row; 8] = [
-    clean("MUX2 in version 1", &[FRAME, MUX2, END], CLOCK_IN_1),
-    clean("MUX2 in version 2", &[FRAME_2, MUX2, END], CLOCK_IN_2),
-    clean("MUX4 in version 1", &[FRAME, MUX4, END], CLOCK_IN_1),
-    clean("MUX4 in version 2", &[FRAME_2, MUX4, END], ONE_IN_2),
-    clean("MUX8 in version 1", &[FRAME, MUX8, END], CLOCK_IN_1),
-    clean("MUX8 in version 2", &[FRAME_2, MUX8, END], ONE_IN_2),
-    clean(
-        "the label FOR in version 1",
-        &[FRAME, LABEL, END],
-        b"SCALD 1 PERIOD 400
-NETS 2 INSTANCES 1 CHECKS 0
-STABLE A<0>
-CASE 0 BASE 1 ROUNDS 0 T 2
-WAVE A<0> SKEW 0 S:400
-WAVE Y<0> SKEW 0 S:400
-CLEAN
-",
-    ),
-    clean(
-        "the label FOR in version 2",
-        &[FRAME_2, LABEL, END],
-        b"SCALD 2 PERIOD 400
-NETS 2 INSTANCES 1 CHECKS 0
-STABLE A<0>
-CASE 0 BASE 1 ROUNDS 0 T 2
-WAVE A<0> SKEW 0 S:400
-WAVE Y<0> SKEW 0 S:400
-CLEAN
-",
-    ),
-];
-
-/// A whole report without a fault.
-const fn clean(name: &'static str, text: &'static [&'static [u8]], bytes: &'static [u8]) -> Row {
     Row {
-        name,
+        name: "MUX2 in version 1",
         words: FULL,
-        text,
+        text: &[FRAME, MUX2, END],
         outcome: Outcome::Clean,
-        bytes,
-    }
-}
+        bytes: CLOCK_IN_1,
+    },
+    Row {
+        name: "MUX2 in version 2",
+        words: FULL,
+        text: &[FRAME_2, MUX2, END],
+        outcome: Outcome::Clean,
+        bytes: CLOCK_IN_2,
+    },
+    Row {
+        name: "MUX4 in version 1",
+        words: FULL,
+        text: &[FRAME, MUX4, END],
+        outcome: Outcome::Clean,
+        bytes: CLOCK_IN_1,
+    },
+    Row {
+        name: "MUX4 in version 2",
+        words: FULL,
+        text: &[FRAME_2, MUX4, END],
+        outcome: Outcome::Clean,
+        bytes: ONE_IN_2,
+    },
+    Row {
+        name: "MUX8 in version 1",
+        words: FULL,
+        text: &[FRAME, MUX8, END],
+        outcome: Outcome::Clean,
+        bytes: CLOCK_IN_1,
+    },
+    Row {
+        name: "MUX8 in version 2",
+        words: FULL,
+        text: &[FRAME_2, MUX8, END],
+        outcome: Outcome::Clean,
+        bytes: ONE_IN_2,
+    },
+    Row {
+        name: "the label FOR in version 1",
+        words: FULL,
+        text: &[FRAME, LABEL, END],
+        outcome: Outcome::Clean,
+        bytes: b"SCALD 1 PERIOD 400
+NETS 2 INSTANCES 1 CHECKS 0
+STABLE A<0>
+CASE 0 BASE 1 ROUNDS 0 T 2
+WAVE A<0> SKEW 0 S:400
+WAVE Y<0> SKEW 0 S:400
+CLEAN
+",
+    },
+    Row {
+        name: "the label FOR in version 2",
+        words: FULL,
+        text: &[FRAME_2, LABEL, END],
+        outcome: Outcome::Clean,
+        bytes: b"SCALD 2 PERIOD 400
+NETS 2 INSTANCES 1 CHECKS 0
+STABLE A<0>
+CASE 0 BASE 1 ROUNDS 0 T 2
+WAVE A<0> SKEW 0 S:400
+WAVE Y<0> SKEW 0 S:400
+CLEAN
+",
+    },
+];
 
 /// What constants and FOR give.
 const REPEATED: [Row; 6] = [
-    clean(
-        "a buffer for each value up to a constant",
-        &[
+    Row {
+        name: "a buffer for each value up to a constant",
+        words: FULL,
+        text: &[
             HEAD_2,
             br#"CONST N = 4;
 DRAWING ROW;
@@ -106,7 +136,8 @@ b : BUF [1:2] ("D"<I-1>) -> ("D"<I>);
 END;"#,
             END,
         ],
-        b"SCALD 2 PERIOD 400
+        outcome: Outcome::Clean,
+        bytes: b"SCALD 2 PERIOD 400
 NETS 5 INSTANCES 4 CHECKS 0
 STABLE D<0>
 CASE 0 BASE 4 ROUNDS 0 T 15
@@ -117,7 +148,7 @@ WAVE D<3> SKEW 0 S:400
 WAVE D<4> SKEW 0 S:400
 CLEAN
 ",
-    ),
+    },
     Row {
         name: "a limit for each value",
         words: FAULTS,
@@ -208,15 +239,17 @@ WAVE u/Z<2> SKEW 0 S:400
 CLEAN
 ",
     },
-    clean(
-        "no value",
-        &[FRAME_2, br#"FOR I = 1 TO 0 DO b : BUFF ("A"); END;"#, END],
-        b"SCALD 2 PERIOD 400
+    Row {
+        name: "no value",
+        words: FULL,
+        text: &[FRAME_2, br#"FOR I = 1 TO 0 DO b : BUFF ("A"); END;"#, END],
+        outcome: Outcome::Clean,
+        bytes: b"SCALD 2 PERIOD 400
 NETS 0 INSTANCES 0 CHECKS 0
 CASE 0 BASE 0 ROUNDS 0 T 1
 CLEAN
 ",
-    ),
+    },
 ];
 
 /// The line that is written, the kind of the refusal, the line and the column of its place, and the pieces of
