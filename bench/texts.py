@@ -122,6 +122,12 @@ def small_cones(count):
     return drawing(lines, macros=CASE_STAGE, after=[f'CASE "SEL"={number & 1};' for number in range(count)])
 
 
+def for_values(count):
+    """Buffers on an input, drawn by one FOR: one statement, and a value for each of them."""
+    body = ["FOR I = 1 TO N DO", 'b : BUF [1:2] ("IN .S1-4") -> ("D"<I>);', "END;"]
+    return f"SCALD 2;\nCLOCK 8 x 50;\nCONST N = {count};\nDRAWING ROW;\n" + "\n".join(body) + "\nEND;\n"
+
+
 def two_delays(sections):
     """Sections of four gates with two delays each, that are other ones in each section, and a checker of their pulses."""
     lines = []
