@@ -1,0 +1,24 @@
+use Rattle.std.proofs.Common.{◌≡◌, ◌∙◌, ◌-◌, ◌≤◌, fold, length, ap, subst, arith, refl}
+use Rattle.wave_table.specs.Feed.{cells_fed}
+use Rattle.wave_table.proofs.Feeding.{feeds_more, feeds_all}
+use Rattle.wave_table.proofs.feed.feed.Goals as goal
+
+pub runs-preserved : goal.runs-preserved
+runs-preserved g c =
+    let cells = g.W.CyclicWave.cells c.args.wave.now in
+    let all = fold g.H.Hasher.write c.args.state.now (cells_fed cells) in
+    let until = c.same_until-end.ensures in
+    let long : c.period-period.result ≡ length cells = c.period-period.ensures in
+    let left : c.period-period.result - c.same_until-end.result ≡ length cells - c.same_until-end.result = ap (λ n. n - c.same_until-end.result) long in
+    record {
+      within = until.within;
+      fed = feeds_more g.H.Hasher.write cells c.runs.slot c.same_until-end.result c.at.result c.from.result c.from-in-runs.result
+          c.runs.state c.write_u32.new.self all until c.at.ensures (c.from.ensures ∙ c.letter-letter.ensures) (c.from-in-runs.ensures ∙ left)
+          c.runs.invariant.fed c.write_u32.ensures;
+    }
+
+pub returns : goal.returns
+returns g c =
+    let cells = g.W.CyclicWave.cells c.args.wave.now in
+    let past : length cells ≤ c.runs.slot = let out = c.runs-test.false in let long = c.period-period.ensures in omega (arith, out, long) in
+    feeds_all g.H.Hasher.write cells c.runs.slot c.runs.state (fold g.H.Hasher.write c.args.state.now (cells_fed cells)) past c.runs.invariant.fed

@@ -1,0 +1,4 @@
+pub mod Feed
+pub mod Same
+pub mod Table
+pub mod Evaluation
