@@ -3,24 +3,25 @@
 ghost use Rattle.std.specs.Prelude.{◌≡◌, ◌≤◌, ◌+◌, ℕ, ◌<◌, IfErr, IfOk, MatchBool, MatchResult, length, map};
 ghost use Rattle.std.specs.List.{range_with_len};
 ghost use Rattle.flat_circuit.specs.Instances.{outputs};
+ghost use Rattle.wave_table.specs.Table.{AreKnown, Grows, IsNumber, waves_at};
 ghost use Rattle.net_waves.specs.Waves.{FitWaves, waves_of};
 ghost use Rattle.fixpoint_engine.specs.End.{EndsFor};
 ghost use Rattle.fixpoint_engine.specs.Loops.{HasNoLoop};
 ghost use Rattle.fixpoint_engine.specs.Settled.{marked_in};
-ghost use Rattle.fixpoint_engine.specs.Start.{base_start, default_limit, is_driven, start_in, unknown_wave};
+ghost use Rattle.fixpoint_engine.specs.Start.{base_start, default_limit, is_driven, unknown_wave};
 ghost use Rattle.fixpoint_engine.specs.Work.{work_to};
 ghost use Rattle.case_analysis.specs.Base.{AreAssertedAlike, IsBase, PermitInputs, base_round};
 
 use crate::parts::{instance_of, net_of};
-use fixpoint_engine::{EngineEnd, NetSet, Settled, settle};
+use fixpoint_engine::{EngineEnd, NetSet, Settled, Store, settle};
 use flat_circuit::{Circuit, Net, is_same_assertion};
-use net_waves::Waves;
 use pin_waves::interface_wave;
 use scald_base::{Header, List, NoMemory};
 use skew_algebra::Skewed;
 use std::alloc::Global;
 use step_values::Value;
 use wave_core::CyclicWave;
+use wave_table::Numbers;
 
 /// The wave of a net of which nothing is known.
 pub fn unknown_wave<W: CyclicWave<Item = Value>>(
@@ -33,20 +34,6 @@ pub fn unknown_wave<W: CyclicWave<Item = Value>>(
     Ok(Skewed::new(wave, 0))
 }
 
-/// The wave that a net begins with: that of its assertion, or nothing known where it is driven.
-fn start_wave<W: CyclicWave<Item = Value>>(
-    alloc: Global,
-    h: &Header,
-    net: &Net,
-) -> Result<Skewed<W>, NoMemory>
-    ensures { IfOk result (λ s. s ≡ start_in h.now (Some net.now)) }
-{
-    match net.driver {
-        None => interface_wave(alloc, &net.spec, h),
-        Some(_) => unknown_wave(alloc, h),
-    }
-}
-
 /// Whether nothing drives either net, and both assert the same.
 fn are_asserted_alike(a: &Net, b: &Net) -> bool
     ensures { MatchBool result (AreAssertedAlike a.now b.now) (¬ (AreAssertedAlike a.now b.now)) }
@@ -54,40 +41,51 @@ fn are_asserted_alike(a: &Net, b: &Net) -> bool
     a.driver.is_none() && b.driver.is_none() && is_same_assertion(&a.spec, &b.spec)
 }
 
-/// The wave that a net begins with, from those of the nets before it. The bits of a bus mostly assert the
-/// same, and a copy costs less than a wave that is worked out.
-fn wave_after<W: CyclicWave<Item = Value>>(
+/// The number of the wave that a net begins with, from those of the nets before it. The bits of a bus mostly
+/// assert the same, and a number that is known costs less than a wave that is worked out.
+fn number_after<W: CyclicWave<Item = Value>>(
     alloc: Global,
     c: &Circuit,
-    before: &Waves<W>,
+    store: &mut Store<W>,
+    unknown: u32,
+    before: &[u32],
     net: u32,
-) -> Result<Skewed<W>, NoMemory>
+) -> Result<u32, NoMemory>
     requires exists { net < length c.now.nets }
-    requires before { before.now ≡ map (base_start c.now) (range_with_len 0 net) }
-    ensures { IfOk result (λ s. s ≡ base_start c.now net) }
+    requires unknown { IsNumber store.old (unknown_wave c.now.header) unknown }
+    requires known { AreKnown store.old before.now }
+    requires before { waves_at store.old before.now ≡ map (base_start c.now) (range_with_len 0 net) }
+    ensures grows { Grows store.old store.new }
+    ensures is { IfOk result (IsNumber store.new (base_start c.now net)) }
 {
     let this = net_of(c, net);
-    if net > 0 && are_asserted_alike(net_of(c, net - 1), this) {
-        before.as_slice()[net as usize - 1].copy(alloc)
-    } else {
-        start_wave(alloc, c.header(), this)
+    if this.driver.is_some() {
+        return Ok(unknown);
     }
+    if net > 0 && are_asserted_alike(net_of(c, net - 1), this) {
+        return Ok(before[net as usize - 1]);
+    }
+    store.number(interface_wave(alloc, &this.spec, c.header())?)
 }
 
-/// The waves that the base begins with.
-pub fn start_waves<W: CyclicWave<Item = Value>>(
+/// The numbers of the waves that the base begins with.
+pub fn start_numbers<W: CyclicWave<Item = Value>>(
     alloc: Global,
     c: &Circuit,
-) -> Result<Waves<W>, NoMemory>
-    ensures is { IfOk result (λ waves. (i : ℕ) → waves_of waves i ≡ base_start c.now i) }
-    ensures fit { IfOk result (λ waves. FitWaves c.now waves) }
+    store: &mut Store<W>,
+) -> Result<Numbers, NoMemory>
+    ensures grows { Grows store.old store.new }
+    ensures known { IfOk result (AreKnown store.new) }
+    ensures is { IfOk result (λ numbers. (i : ℕ) → waves_of (waves_at store.new numbers) i ≡ base_start c.now i) }
+    ensures fit { IfOk result (λ numbers. FitWaves c.now (waves_at store.new numbers)) }
 {
-    let mut waves = List::new(alloc);
-    for i in 0..c.net_count() {
-        let wave = wave_after(alloc, c, &waves, i)?;
-        waves.push(wave)?;
+    let unknown = store.number(unknown_wave(alloc, c.header())?)?;
+    let mut numbers: Numbers = List::new(alloc);
+    for net in 0..c.net_count() {
+        let number = number_after(alloc, c, store, unknown, numbers.as_slice(), net)?;
+        numbers.push(number)?;
     }
-    Ok(waves)
+    Ok(numbers)
 }
 
 /// The nets that are driven.
@@ -124,24 +122,28 @@ pub fn default_limit(c: &Circuit) -> u32
 /// over all driven nets until a round is as the one before. The settled waves permit every run whose
 /// inputs keep their assertions, `reach` ticks a round later. `Unsettled` comes exactly where no round up
 /// to `limit` is as the next one: never where no net is reached from itself through listening pins and
-/// the limit is not below the number of instances with an output.
+/// the limit is not below the number of instances with an output. The waves are answered by their numbers in the
+/// store.
 pub fn base<W: CyclicWave<Item = Value>>(
     alloc: Global,
     c: &Circuit,
+    store: &mut Store<W>,
     limit: u32,
-) -> Result<Settled<W>, EngineEnd>
-    ensures rest { IfOk result (λ s. IsBase c.now limit s.rounds (waves_of s.waves)) }
+) -> Result<Settled, EngineEnd>
+    ensures grows { Grows store.old store.new }
+    ensures known { IfOk result (λ s. AreKnown store.new s.numbers) }
+    ensures rest { IfOk result (λ s. IsBase c.now limit s.rounds (waves_of (waves_at store.new s.numbers))) }
     ensures within { IfOk result (λ s. s.rounds ≤ limit) }
-    ensures fit { IfOk result (λ s. FitWaves c.now s.waves) }
+    ensures fit { IfOk result (λ s. FitWaves c.now (waves_at store.new s.numbers)) }
     ensures work { IfOk result (λ s. s.evals ≡ work_to c.now (is_driven c.now) (base_round c.now) (s.rounds + 1)) }
-    ensures sound { IfOk result (λ s. PermitInputs c.now s.rounds (waves_of s.waves)) }
+    ensures sound { IfOk result (λ s. PermitInputs c.now s.rounds (waves_of (waves_at store.new s.numbers))) }
     ensures unsettled { IfErr result (EndsFor c.now.order (base_round c.now) limit) }
     ensures loopless { HasNoLoop c.now → outputs c.now.instances ≤ limit →
         MatchResult result (λ s. s.rounds ≤ outputs c.now.instances) (λ e. e ≡ EngineEnd.NoMemory) }
 {
     c.known();
     c.header().known();
-    let start = start_waves(alloc, c)?;
+    let start = start_numbers(alloc, c, store)?;
     let active = driven_nets(alloc, c)?;
-    settle(alloc, c, &start, &active, limit)
+    settle(alloc, c, store, &start, &active, limit)
 }

@@ -1,88 +1,84 @@
 //! The rounds of a case.
 
-ghost use Rattle.std.specs.Prelude.{◌≡◌, ◌≤◌, ◌+◌, ℕ, Bool, IfErr, IfOk, MatchResult, [], length};
+ghost use Rattle.std.specs.Prelude.{◌≡◌, ◌≤◌, ◌+◌, ◌<◌, ℕ, Bool, List, IfErr, IfOk, MatchResult, [], length};
 ghost use Rattle.flat_circuit.specs.Instances.{outputs};
+ghost use Rattle.step_values.specs.declared.value.Value.{Value as OfValues};
+ghost use Rattle.skew_algebra.specs.Wave.{Wave};
+ghost use Rattle.flat_circuit.specs.Circuit.{Circuit as Flat};
+ghost use Rattle.wave_table.specs.Table.{AreKnown, Grows, IsNumber, waves_at};
 ghost use Rattle.net_waves.specs.Waves.{FitWaves, waves_of};
 ghost use Rattle.fixpoint_engine.specs.End.{EndsFor};
 ghost use Rattle.fixpoint_engine.specs.Loops.{HasNoLoop};
 ghost use Rattle.fixpoint_engine.specs.Settled.{marked_in};
+ghost use Rattle.fixpoint_engine.specs.Start.{unknown_wave};
 ghost use Rattle.fixpoint_engine.specs.Work.{work_to};
 ghost use Rattle.case_analysis.specs.Base.{IsBase};
-ghost use Rattle.case_analysis.specs.Case.{EndsInCone, HasCone, IsCase, IsCone, NetsExist, PermitCase, case_active, case_round, case_start, case_wave};
+ghost use Rattle.case_analysis.specs.Case.{EndsInCone, HasCone, IsCase, IsCone, NetsExist, PermitCase, case_active, case_round, case_start};
 
 use crate::base_rounds::unknown_wave;
 use crate::cones::cone;
 use crate::parts::net_of;
-use fixpoint_engine::{EngineEnd, NetSet, Settled, settle};
+use fixpoint_engine::{EngineEnd, NetSet, Settled, Store, constants, settle};
 use flat_circuit::{Case, Circuit};
-use net_waves::Waves;
-use pin_waves::constant_wave;
-use scald_base::{Header, List, NoMemory};
-use skew_algebra::Skewed;
+use scald_base::{List, NoMemory};
 use std::alloc::Global;
 use step_values::Value;
 use wave_core::CyclicWave;
+use wave_table::Numbers;
 
-/// The wave of a net that the case does not set: nothing is known where the case reaches it, and else it
-/// is as it was.
-fn unset_wave<W: CyclicWave<Item = Value>>(
+/// The numbers of the waves of all nets before those of the case are set: nothing is known of a net that the case
+/// reaches, and each other net is as it was.
+fn unset_numbers(
     alloc: Global,
-    h: &Header,
-    reached: bool,
-    before: &Skewed<W>,
-) -> Result<Skewed<W>, NoMemory>
-    ensures { IfOk result (λ s. s ≡ case_wave h.now None reached before.now) }
-{
-    if reached {
-        unknown_wave(alloc, h)
-    } else {
-        before.copy(alloc)
-    }
-}
-
-/// The waves of all nets before those of the case are set.
-fn unset_waves<W: CyclicWave<Item = Value>>(
-    alloc: Global,
-    c: &Circuit,
     cone: &NetSet,
-    before: &Waves<W>,
-) -> Result<Waves<W>, NoMemory>
-    requires cone { length cone.now ≡ length c.now.nets }
-    requires fit { FitWaves c.now before.now }
-    ensures is { let old = waves_of before.now in
-        IfOk result (λ waves. (i : ℕ) → waves_of waves i ≡ case_start c.now [] (marked_in cone.now) old i) }
-    ensures each_net { IfOk result (λ waves. length waves ≡ length c.now.nets) }
+    before: &[u32],
+    unknown: u32,
+) -> Result<Numbers, NoMemory>
+    requires { length cone.now ≡ length before.now }
+    ensures each_net { IfOk result (λ numbers. length numbers ≡ length before.now) }
+    ensures known { IfOk result (λ numbers. (table : List (Wave OfValues)) →
+        AreKnown table before.now → unknown < length table → AreKnown table numbers) }
+    ensures is { IfOk result (λ numbers. (c : Flat) (table : List (Wave OfValues)) →
+        IsNumber table (unknown_wave c.header) unknown → (i : ℕ) → waves_of (waves_at table numbers) i
+        ≡ case_start c [] (marked_in cone.now) (waves_of (waves_at table before.now)) i) }
 {
-    let mut waves = List::new(alloc);
-    for net in 0..c.net_count() {
-        let old = &before.as_slice()[net as usize];
-        let wave = unset_wave(alloc, c.header(), cone.has(net), old)?;
-        waves.push(wave)?;
+    let mut numbers: Numbers = List::new(alloc);
+    let mut net = 0;
+    for number in before {
+        let now = if cone.has(net) { unknown } else { *number };
+        numbers.push(now)?;
+        net += 1;
     }
-    Ok(waves)
+    Ok(numbers)
 }
 
-/// The waves that a case begins with.
-pub fn start_waves<W: CyclicWave<Item = Value>>(
+/// The numbers of the waves that a case begins with.
+pub fn start_numbers<W: CyclicWave<Item = Value>>(
     alloc: Global,
     c: &Circuit,
+    store: &mut Store<W>,
     case: &Case,
     cone: &NetSet,
-    before: &Waves<W>,
-) -> Result<Waves<W>, NoMemory>
+    before: &Numbers,
+) -> Result<Numbers, NoMemory>
     requires exist { NetsExist c.now case.now }
     requires cone { length cone.now ≡ length c.now.nets }
-    requires fit { FitWaves c.now before.now }
-    ensures is { let old = waves_of before.now in
-        IfOk result (λ waves. (i : ℕ) → waves_of waves i ≡ case_start c.now case.now (marked_in cone.now) old i) }
-    ensures fit { IfOk result (λ waves. FitWaves c.now waves) }
+    requires known { AreKnown store.old before.now }
+    requires fit { FitWaves c.now (waves_at store.old before.now) }
+    ensures grows { Grows store.old store.new }
+    ensures known { IfOk result (AreKnown store.new) }
+    ensures is { let old = waves_of (waves_at store.old before.now) in
+        IfOk result (λ numbers. (i : ℕ) → waves_of (waves_at store.new numbers) i
+        ≡ case_start c.now case.now (marked_in cone.now) old i) }
+    ensures fit { IfOk result (λ numbers. FitWaves c.now (waves_at store.new numbers)) }
 {
-    let mut waves = unset_waves(alloc, c, cone, before)?;
+    let unknown = store.number(unknown_wave(alloc, c.header())?)?;
+    let constants = constants(alloc, c.header(), store)?;
+    let mut numbers = unset_numbers(alloc, cone, before.as_slice(), unknown)?;
     for value in case.as_slice() {
-        let constant = constant_wave(alloc, c.header(), value.one)?;
-        waves.set(value.net as usize, constant);
+        numbers.set(value.net as usize, constants.of(value.one));
     }
-    Ok(waves)
+    Ok(numbers)
 }
 
 /// The driven nets of a cone.
@@ -108,23 +104,27 @@ pub fn driven_in(alloc: Global, c: &Circuit, cone: &NetSet) -> Result<NetSet, No
 pub fn case_waves<W: CyclicWave<Item = Value>>(
     alloc: Global,
     c: &Circuit,
-    base: &Settled<W>,
+    store: &mut Store<W>,
+    base: &Settled,
     case: &Case,
     limit: u32,
-) -> Result<Settled<W>, EngineEnd>
+) -> Result<Settled, EngineEnd>
+    requires known { AreKnown store.old base.now.numbers }
     requires exist { NetsExist c.now case.now }
-    requires base { IsBase c.now base.now.rounds base.now.rounds (waves_of base.now.waves) }
-    requires fit { FitWaves c.now base.now.waves }
-    ensures rest { let before = waves_of base.now.waves in
+    requires base { IsBase c.now base.now.rounds base.now.rounds (waves_of (waves_at store.old base.now.numbers)) }
+    requires fit { FitWaves c.now (waves_at store.old base.now.numbers) }
+    ensures grows { Grows store.old store.new }
+    ensures known { IfOk result (λ s. AreKnown store.new s.numbers) }
+    ensures rest { let before = waves_of (waves_at store.old base.now.numbers) in
         IfOk result (λ s. (cone : ℕ → Bool) → IsCone c.now case.now cone →
-        IsCase c.now case.now cone before limit s.rounds (waves_of s.waves)) }
+        IsCase c.now case.now cone before limit s.rounds (waves_of (waves_at store.new s.numbers))) }
     ensures within { IfOk result (λ s. s.rounds ≤ limit) }
-    ensures fit { IfOk result (λ s. FitWaves c.now s.waves) }
-    ensures work { let before = waves_of base.now.waves in
+    ensures fit { IfOk result (λ s. FitWaves c.now (waves_at store.new s.numbers)) }
+    ensures work { let before = waves_of (waves_at store.old base.now.numbers) in
         IfOk result (λ s. (cone : ℕ → Bool) → IsCone c.now case.now cone →
         s.evals ≡ work_to c.now (case_active c.now cone) (case_round c.now case.now cone before) (s.rounds + 1)) }
-    ensures sound { IfOk result (λ s. PermitCase c.now case.now (base.now.rounds + s.rounds) (waves_of s.waves)) }
-    ensures unsettled { let before = waves_of base.now.waves in
+    ensures sound { IfOk result (λ s. PermitCase c.now case.now (base.now.rounds + s.rounds) (waves_of (waves_at store.new s.numbers))) }
+    ensures unsettled { let before = waves_of (waves_at store.old base.now.numbers) in
         IfErr result (λ e. (cone : ℕ → Bool) → IsCone c.now case.now cone →
         EndsFor c.now.order (case_round c.now case.now cone before) limit e) }
     ensures cone { MatchResult result (λ _. HasCone c.now case.now) (EndsInCone c.now case.now) }
@@ -134,7 +134,7 @@ pub fn case_waves<W: CyclicWave<Item = Value>>(
     c.known();
     c.header().known();
     let cone = cone(alloc, c, case)?;
-    let start = start_waves(alloc, c, case, &cone, &base.waves)?;
+    let start = start_numbers(alloc, c, store, case, &cone, &base.numbers)?;
     let active = driven_in(alloc, c, &cone)?;
-    settle(alloc, c, &start, &active, limit)
+    settle(alloc, c, store, &start, &active, limit)
 }

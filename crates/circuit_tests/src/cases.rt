@@ -1,16 +1,30 @@
 //! The rounds of a case.
 
 ghost use Rattle.std.specs.List.{All};
+ghost use Rattle.wave_table.specs.Table.{AreKnown};
 ghost use Rattle.case_analysis.specs.Listed.{IsListed};
 
 use crate::drawings::{Drawn, HEAD, read_circuit};
 use crate::rows::expect_eq;
 use case_analysis::{base, case_waves, reach, tick};
-use fixpoint_engine::EngineEnd;
+use fixpoint_engine::{EngineEnd, Store};
+use net_waves::Waves;
 use std::alloc::Global;
 use std::test::Fail;
 use step_values::Value;
 use wave_core::{CyclicWave, SlotWave};
+
+/// The value of the third net in the first slot, if there is such a net.
+fn third(store: &Store<SlotWave<Value>>, numbers: &[u32]) -> Option<Value>
+    requires { AreKnown store.now numbers.now }
+{
+    let waves = Waves::new(store.waves(), numbers);
+    if waves.len() > 2 {
+        Some(waves.at(2).wave().at(0))
+    } else {
+        None
+    }
+}
 
 /// Of the first case, if there is one: the round at which it settles, the printed tick, and the value of
 /// the third net.
@@ -21,9 +35,10 @@ fn first_case(alloc: Global, drawn: &Drawn) -> Result<Option<(u32, u64, Option<V
     match drawn.cases.get(0) {
         None => Ok(None),
         Some(case) => {
-            let before = base::<SlotWave<Value>>(alloc, c, 9)?;
-            let settled = case_waves(alloc, c, &before, case, 9)?;
-            let last = settled.waves.get(2).map(|wave| wave.wave().at(0));
+            let mut store: Store<SlotWave<Value>> = Store::new(alloc);
+            let before = base(alloc, c, &mut store, 9)?;
+            let settled = case_waves(alloc, c, &mut store, &before, case, 9)?;
+            let last = third(&store, settled.numbers.as_slice());
             let from = tick(reach(c), before.rounds, settled.rounds);
             Ok(Some((settled.rounds, from, last)))
         }

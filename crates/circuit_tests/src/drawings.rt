@@ -1,8 +1,8 @@
 //! Circuits of drawings, and waves that fit them.
 
-ghost use Rattle.std.specs.Prelude.{◌≡◌, ◌==◌, IfOk, IsTrue, length};
-ghost use Rattle.std.specs.List.{All, list_all};
-ghost use Rattle.net_waves.specs.Waves.{FitWaves};
+ghost use Rattle.std.specs.Prelude.{◌≡◌, ◌<◌, ◌≤◌, ℕ, IfOk, IsTrue, length};
+ghost use Rattle.std.specs.List.{All};
+ghost use Rattle.net_waves.specs.Waves.{FitWaves, waves_of};
 ghost use Rattle.case_analysis.specs.Listed.{IsListed};
 
 use case_analysis::check_cases;
@@ -12,7 +12,6 @@ use macro_expander::expand;
 use net_waves::Waves;
 use scald_base::{Bytes, NoMemory, Stop};
 use scald_lex::tokens;
-use skew_algebra::Skewed;
 use std::alloc::Global;
 use step_values::Value;
 use wave_core::CyclicWave;
@@ -51,11 +50,17 @@ pub fn read_circuit(alloc: Global, pieces: &[&[u8]]) -> Result<Drawn, Stop>
     Ok(Drawn { circuit, cases })
 }
 
-/// Whether all waves have this period.
-fn have_period<W: CyclicWave<Item = Value>>(waves: &[Skewed<W>], period: u16) -> bool
-    ensures { result ≡ list_all (λ s. length s.cells == period) waves.now }
+/// Whether the waves of these nets have this period.
+fn have_period<W: CyclicWave<Item = Value>>(waves: &Waves<W>, nets: u32, period: u16) -> bool
+    requires { nets ≤ length waves.now }
+    ensures { IsTrue result → (i : ℕ) → i < nets → length (waves_of waves.now i).cells ≡ period }
 {
-    waves.iter().all(|s| s.period() == period)
+    for net in 0..nets {
+        if waves.at(net).period() != period {
+            return false;
+        }
+    }
+    true
 }
 
 /// Whether there is one wave for each net, over the circuit's period.
@@ -63,5 +68,5 @@ pub fn are_fit<W: CyclicWave<Item = Value>>(c: &Circuit, waves: &Waves<W>) -> bo
     ensures { IsTrue result → FitWaves c.now waves.now }
 {
     let period = c.header().period();
-    waves.len() == c.net_count() as usize && have_period(waves.as_slice(), period)
+    waves.len() == c.net_count() as usize && have_period(waves, c.net_count(), period)
 }

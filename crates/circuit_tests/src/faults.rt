@@ -6,6 +6,7 @@ ghost use Rattle.net_waves.specs.Waves.{FitWaves};
 use crate::drawings::{HEAD, read_circuit};
 use crate::rows::expect_eq;
 use case_analysis::base;
+use fixpoint_engine::Store;
 use flat_circuit::{Circuit, Fault, Kind, PointKind};
 use net_waves::Waves;
 use point_check::{check_points, point_fault};
@@ -133,8 +134,10 @@ fn expect_other_limits<W: CyclicWave<Item = Value>>(
 fn answers(rt: HostRuntime) -> Result<(), Fail> {
     let drawn = read_circuit(rt.alloc(), &[HEAD, CHECKED])?;
     let c = &drawn.circuit;
-    let settled = base::<SlotWave<Value>>(rt.alloc(), c, 0)?;
-    expect_found(&rt, c, &settled.waves)?;
-    expect_other_limits(&rt, c, &settled.waves);
+    let mut store: Store<SlotWave<Value>> = Store::new(rt.alloc());
+    let settled = base(rt.alloc(), c, &mut store, 0)?;
+    let waves = Waves::new(store.waves(), settled.numbers.as_slice());
+    expect_found(&rt, c, &waves)?;
+    expect_other_limits(&rt, c, &waves);
     Ok(())
 }

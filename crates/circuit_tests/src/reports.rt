@@ -1,12 +1,12 @@
 //! Reports on a circuit of one net and on a gate with two delays, spelled out on paper.
 
-ghost use Rattle.std.specs.Prelude.{map};
-ghost use Rattle.skew_algebra.specs.Wave.{skewed};
+ghost use Rattle.std.specs.Prelude.{◌<◌, IfOk, length};
 ghost use Rattle.net_waves.specs.Waves.{FitWaves};
 
 use crate::drawings::{are_fit, read_circuit};
 use crate::rows::expect_bytes;
 use case_analysis::{base, reach, tick};
+use fixpoint_engine::Store;
 use flat_circuit::{Circuit, Fault, Faults};
 use listing::{
     CaseHead, Mode, begin_report, end_report, write_case, write_refusal, write_summary,
@@ -22,6 +22,7 @@ use std::test::Fail;
 use step_values::Value;
 use step_values::Value::{C, R, S};
 use wave_core::{CyclicWave, SlotWave};
+use wave_table::WaveTable;
 
 /// A net that nothing drives, in a period of 8.
 const ONE_NET: &[u8] = br#"SCALD 1;
@@ -34,12 +35,12 @@ u1 : NET ();
 END;
 "#;
 
-/// A wave of the one net.
-fn one_wave(alloc: Global) -> Result<Waves<SlotWave<Value>>, NoMemory> {
+/// The number of a wave of the one net.
+fn one_wave(alloc: Global, table: &mut WaveTable<SlotWave<Value>>) -> Result<u32, NoMemory>
+    ensures { IfOk result (λ number. number < length table.new) }
+{
     let cells = SlotWave::from_slots(alloc, &[C, C, S, S, S, R, C, C])?;
-    let mut waves = Waves::new(alloc);
-    waves.push(Skewed::normal(alloc, cells, 2)?)?;
-    Ok(waves)
+    table.number(Skewed::normal(alloc, cells, 2)?)
 }
 
 /// A fault past the end of the period.
@@ -68,15 +69,15 @@ fn three_cases<W: CyclicWave<Item = Value>>(
     rt: &impl Abort,
     alloc: Global,
     c: &Circuit,
-    waves: Waves<W>,
+    waves: &Waves<W>,
 ) -> Result<Bytes, NoMemory> {
-    assert!(rt; are_fit(c, &waves));
+    assert!(rt; are_fit(c, waves));
     let faults = one_fault(alloc)?;
     let mut out = Bytes::new(alloc);
     begin_report(c, 1, &mut out)?;
-    write_case(c, head_of(1), &waves, &faults, Mode::Full, &mut out)?;
-    write_case(c, head_of(2), &waves, &faults, Mode::Waves, &mut out)?;
-    write_case(c, head_of(3), &waves, &faults, Mode::Faults, &mut out)?;
+    write_case(c, head_of(1), waves, &faults, Mode::Full, &mut out)?;
+    write_case(c, head_of(2), waves, &faults, Mode::Waves, &mut out)?;
+    write_case(c, head_of(3), waves, &faults, Mode::Faults, &mut out)?;
     end_report(3, &mut out)?;
     Ok(out)
 }
@@ -84,8 +85,10 @@ fn three_cases<W: CyclicWave<Item = Value>>(
 #[test]
 fn one_net_in_each_mode(rt: HostRuntime) -> Result<(), Fail> {
     let drawn = read_circuit(rt.alloc(), &[ONE_NET])?;
-    let waves = one_wave(rt.alloc())?;
-    let out = three_cases(&rt, rt.alloc(), &drawn.circuit, waves)?;
+    let mut table = WaveTable::new(rt.alloc());
+    let numbers = [one_wave(rt.alloc(), &mut table)?];
+    let waves = Waves::new(&table, &numbers);
+    let out = three_cases(&rt, rt.alloc(), &drawn.circuit, &waves)?;
     let expected = b"SCALD 1 PERIOD 8\n\
         NETS 1 INSTANCES 0 CHECKS 0\n\
         STABLE u1/K<3>\n\
@@ -113,17 +116,19 @@ END;
 
 /// The report of a circuit's base, which settles after one round, with the faults of its pulses.
 fn base_report(alloc: Global, c: &Circuit) -> Result<Bytes, Fail> {
-    let settled = base::<SlotWave<Value>>(alloc, c, 1)?;
+    let mut store: Store<SlotWave<Value>> = Store::new(alloc);
+    let settled = base(alloc, c, &mut store, 1)?;
+    let waves = Waves::new(store.waves(), settled.numbers.as_slice());
     let head = CaseHead {
         number: 0,
         base: settled.rounds,
         rounds: 0,
         tick: tick(reach(c), settled.rounds, 0),
     };
-    let faults = check_pulses(alloc, c, &settled.waves)?;
+    let faults = check_pulses(alloc, c, &waves)?;
     let mut out = Bytes::new(alloc);
     begin_report(c, 2, &mut out)?;
-    write_case(c, head, &settled.waves, &faults, Mode::Full, &mut out)?;
+    write_case(c, head, &waves, &faults, Mode::Full, &mut out)?;
     end_report(1, &mut out)?;
     Ok(out)
 }

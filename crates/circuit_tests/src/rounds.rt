@@ -6,7 +6,7 @@ use crate::drawings::{Drawn, HEAD, read_circuit};
 use crate::rows::expect_eq;
 use case_analysis::{base, base_classes, default_limit, reach, tick};
 use class_table::{ClassMap, stable};
-use fixpoint_engine::{EngineEnd, Settled};
+use fixpoint_engine::{EngineEnd, Settled, Store};
 use flat_circuit::Circuit;
 use scald_base::{NoMemory, Stop};
 use std::alloc::Global;
@@ -137,7 +137,7 @@ const BASES: [BaseRow; 8] = [
 ];
 
 /// The numbers of a settled base.
-fn numbers_of(c: &Circuit, settled: &Settled<SlotWave<Value>>) -> Rest
+fn numbers_of(c: &Circuit, settled: &Settled) -> Rest
     requires { settled.now.rounds ≤ 65535 }
 {
     Rest {
@@ -149,7 +149,8 @@ fn numbers_of(c: &Circuit, settled: &Settled<SlotWave<Value>>) -> Rest
 
 /// How the base ends.
 fn by_nets(alloc: Global, c: &Circuit, limit: u16) -> Result<Rest, EngineEnd> {
-    let settled = base(alloc, c, u32::from(limit))?;
+    let mut store: Store<SlotWave<Value>> = Store::new(alloc);
+    let settled = base(alloc, c, &mut store, u32::from(limit))?;
     Ok(numbers_of(c, &settled))
 }
 
@@ -169,7 +170,9 @@ fn by_classes(alloc: Global, drawn: &Drawn, limit: u16) -> Result<Option<Rest>, 
     if classes.len() != c.net_count() as usize || !stable(c, &drawn.cases, &classes) {
         return Ok(None);
     }
-    let settled = base_classes(alloc, c, &drawn.cases, &classes, u32::from(limit))?;
+    let mut store: Store<SlotWave<Value>> = Store::new(alloc);
+    let most = u32::from(limit);
+    let settled = base_classes(alloc, c, &mut store, &drawn.cases, &classes, most)?;
     Ok(Some(numbers_of(c, &settled)))
 }
 

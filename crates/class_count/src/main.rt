@@ -9,7 +9,7 @@ ghost use Rattle.class_table.specs.Stable.{IsStable};
 use case_analysis::{base, base_classes, default_limit};
 use class_table::{ClassMap, classes, stable};
 use drawing_reader::read_drawing;
-use fixpoint_engine::EngineEnd;
+use fixpoint_engine::{EngineEnd, Store};
 use flat_circuit::{CaseList, Circuit};
 use macro_expander::expand;
 use scald_base::{Bytes, NoMemory, ReadEnd, StdSource, Stop, read_all};
@@ -75,8 +75,9 @@ fn evaluations(
     requires stable { IsStable c.now cases.now numbers.now }
 {
     let limit = default_limit(c);
-    let net_by_net = base::<SlotWave<Value>>(alloc, c, limit)?;
-    let class_by_class = base_classes::<SlotWave<Value>>(alloc, c, cases, numbers, limit)?;
+    let mut store: Store<SlotWave<Value>> = Store::new(alloc);
+    let net_by_net = base(alloc, c, &mut store, limit)?;
+    let class_by_class = base_classes(alloc, c, &mut store, cases, numbers, limit)?;
     Ok(Work {
         by_nets: net_by_net.evals,
         by_classes: class_by_class.evals,

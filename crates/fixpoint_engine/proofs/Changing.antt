@@ -9,11 +9,11 @@ use Rattle.std.proofs.Math.ListN.{set}
 use Rattle.step_values.specs.declared.value.Value.{Value}
 use Rattle.skew_algebra.specs.Wave.{Wave}
 use Rattle.flat_circuit.specs.Circuit.{Circuit}
+use Rattle.wave_table.specs.Same.{same_wave}
 use Rattle.net_waves.specs.Waves.{Waves}
 use Rattle.fixpoint_engine.specs.Rounds.{evaluated}
-use Rattle.fixpoint_engine.specs.Work.{same_wave}
 use Rattle.fixpoint_engine.specs.Worklist.{Change, changes_of, changed, among}
-use Rattle.fixpoint_engine.proofs.Same.{same_wave_is, same_wave_self}
+use Rattle.fixpoint_engine.proofs.Same.{same_wave-is, same_wave_self}
 
 pub unchanged : (c : Circuit) (ws : Waves) (i : ℕ) → evaluated c ws i ≡ ws i → changes_of c ws (i ∷ []) ≡ []
 unchanged c ws i same =
@@ -24,7 +24,7 @@ pub one_change : (c : Circuit) (ws : Waves) (i : ℕ) → evaluated c ws i ≢ w
 one_change c ws i differs = ap (λ b. cond (not b) ((i, evaluated c ws i) ∷ []) []) (by (same_wave (evaluated c ws i) (ws i)) refl)
   where
     by : (b : Bool) → same_wave (evaluated c ws i) (ws i) ≡ b → same_wave (evaluated c ws i) (ws i) ≡ false
-    by true e = absurd (differs (same_wave_is (evaluated c ws i) (ws i) e))
+    by true e = absurd (differs (same_wave-is (evaluated c ws i) (ws i) e))
     by false e = e
 
 -- the list of changes with one more

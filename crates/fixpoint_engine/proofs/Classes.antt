@@ -20,11 +20,12 @@ use Rattle.pin_waves.specs.Interface.{constant_wave}
 use Rattle.pin_waves.specs.Pin.{pin_wave as wave_behind}
 use Rattle.class_table.specs.Alike.{class_of, TargetsAlike, PinsAlike, InstancesAlike, DriversAlike, instance_of}
 use Rattle.class_table.specs.Stable.{IsStable}
+use Rattle.wave_table.specs.Same.{same_wave}
 use Rattle.net_waves.specs.Waves.{Waves, target_wave, target_wire, pin_wave, marked_pin}
 use Rattle.flat_circuit.proofs.Numbered.{fits_of}
 use Rattle.fixpoint_engine.specs.Value.{made_by, turned_wave, instance_wave}
 use Rattle.fixpoint_engine.specs.Rounds.{wave_from, evaluated, next, round}
-use Rattle.fixpoint_engine.specs.Work.{same_wave, differs, is_on_any, hears_from, hears_in, is_due}
+use Rattle.fixpoint_engine.specs.Work.{differs, is_on_any, hears_from, hears_in, is_due}
 use Rattle.fixpoint_engine.specs.Classes.{HaveOneWave, AreTogether, GoTogether}
 use Rattle.fixpoint_engine.proofs.Drivers.{driver_fits}
 

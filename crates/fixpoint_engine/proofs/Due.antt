@@ -9,13 +9,14 @@ use Rattle.std.proofs.lemmas.List.Folds.{Any-from_list_any, list_any-from_Any}
 use Rattle.step_values.specs.declared.value.Value.{Value}
 use Rattle.skew_algebra.specs.Wave.{Wave}
 use Rattle.flat_circuit.specs.Circuit.{Circuit, driver}
+use Rattle.wave_table.specs.Same.{same_wave}
 use Rattle.net_waves.specs.Waves.{Waves}
 use Rattle.net_waves.proofs.Marks.{count_marks}
 use Rattle.fixpoint_engine.specs.Rounds.{evaluated, round}
-use Rattle.fixpoint_engine.specs.Work.{same_wave, differs, hears_in, is_due}
+use Rattle.fixpoint_engine.specs.Work.{differs, hears_in, is_due}
 use Rattle.fixpoint_engine.specs.Settled.{marked_in}
 use Rattle.fixpoint_engine.specs.Worklist.{Queue, IsQueue, among}
-use Rattle.fixpoint_engine.proofs.Same.{same_wave_is, same_wave_self}
+use Rattle.fixpoint_engine.proofs.Same.{same_wave-is, same_wave_self}
 use Rattle.fixpoint_engine.proofs.Changing.{moves}
 use Rattle.fixpoint_engine.proofs.Reached.{undue_stays, due_takes}
 
@@ -55,7 +56,7 @@ pub changes_is : (c : Circuit) (active : ℕ → Bool) (start : Waves) (r i : �
 changes_is c active start r i = by (is_due c active (round c active start) (suc r) i) refl
   where
     turned : (w v : Wave Value) → same_wave w v ≡ same_wave v w
-    turned w v = both_ways (same_wave w v) (same_wave v w) (λ same. flip w v (same_wave_is w v same)) (λ same. flip v w (same_wave_is v w same))
+    turned w v = both_ways (same_wave w v) (same_wave v w) (λ same. flip w v (same_wave-is w v same)) (λ same. flip v w (same_wave-is v w same))
       where
         flip : (w v : Wave Value) → w ≡ v → same_wave v w ≡ true
         flip w v same = ap (same_wave v) same ∙ same_wave_self v

@@ -19,19 +19,20 @@ use Rattle.flat_circuit.specs.Circuit.{Circuit, IsCircuit, driver}
 use Rattle.flat_circuit.specs.Run.{net_signal}
 use Rattle.class_table.specs.Alike.{class_of}
 use Rattle.class_table.specs.Stable.{IsStable}
+use Rattle.wave_table.specs.Same.{same_wave}
 use Rattle.net_waves.specs.Waves.{Waves, waves_of, FitWaves}
 use Rattle.net_waves.proofs.Fits.{AreLong}
 use Rattle.net_waves.proofs.WavesOf.{set_at}
 use Rattle.fixpoint_engine.specs.declared.rounds.EngineEnd.{EngineEnd}
 use Rattle.fixpoint_engine.specs.Reach.{reach}
 use Rattle.fixpoint_engine.specs.Rounds.{evaluated, round, AreSame}
-use Rattle.fixpoint_engine.specs.Work.{same_wave, differs, hears_in, is_due}
+use Rattle.fixpoint_engine.specs.Work.{differs, hears_in, is_due}
 use Rattle.fixpoint_engine.specs.Settled.{marked_in, FitActive, AreAtRest, KeepRuns}
 use Rattle.fixpoint_engine.specs.End.{EndsAt, EndsFor}
 use Rattle.fixpoint_engine.specs.Worklist.{Queue, IsQueue, Change, changes_of, changed, among}
 use Rattle.fixpoint_engine.specs.Classes.{HaveOneWave, AreTogether, OneStandsForAll, is_first, due_classes, class_work_to}
 use Rattle.fixpoint_engine.specs.Members.{for_classes, numbers_in, for_all}
-use Rattle.fixpoint_engine.proofs.Same.{same_wave_is, same_wave_self}
+use Rattle.fixpoint_engine.proofs.Same.{same_wave-is, same_wave_self}
 use Rattle.fixpoint_engine.proofs.Drivers.{active_past}
 use Rattle.fixpoint_engine.proofs.Listening.{hears_same}
 use Rattle.fixpoint_engine.proofs.Changing.{moves, changed_nets, changes_exist, nets_made}
@@ -225,7 +226,7 @@ module _ (c : Circuit) (active : ℕ → Bool) (ks : List ℕ) (start : Waves) (
         where
           by : (new : Bool) → nets_of made i ≡ new → cond new (round c active start (suc r) i) (waves_of waves i) ≡ round c active start (suc r) i
           by true e = refl
-          by false e = kept.reached.is i ∙ same_wave_is (round c active start r i) (round c active start (suc r) i) (not-false _ (sym (nets_are i) ∙ e))
+          by false e = kept.reached.is i ∙ same_wave-is (round c active start r i) (round c active start (suc r) i) (not-false _ (sym (nets_are i) ∙ e))
 
       pub turn : Turn c active start waves r made
       turn = record { nets = nets_are; next = next_is }

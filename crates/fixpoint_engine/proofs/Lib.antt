@@ -17,6 +17,9 @@ pub mod Examples
 pub mod Classes
 pub mod Members
 pub mod Alone
+pub mod Keys
+pub mod Numbered
+pub mod Added
 pub mod Kept
 pub mod ExamplesWork
 pub mod ExamplesClasses

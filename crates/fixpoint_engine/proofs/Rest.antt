@@ -24,15 +24,16 @@ use Rattle.element_kinds.specs.Kinds.{has_output, listens}
 use Rattle.flat_circuit.specs.Instances.{InstanceFits, outputs, out_at}
 use Rattle.flat_circuit.specs.Loop.{Reaches, By_one, And_then}
 use Rattle.flat_circuit.specs.Circuit.{Circuit, IsCircuit, driver_at, driver, instance_in}
+use Rattle.wave_table.specs.Same.{same_wave}
 use Rattle.net_waves.specs.Waves.{Waves}
 use Rattle.fixpoint_engine.specs.declared.rounds.EngineEnd.{EngineEnd}
 use Rattle.fixpoint_engine.specs.declared.rounds.EngineEnd.TheVariants.{Unsettled, NoMemory}
 use Rattle.fixpoint_engine.specs.Rounds.{wave_from, round, AreSame, RestsAt}
-use Rattle.fixpoint_engine.specs.Work.{same_wave, differs, is_on_any, hears_from, hears_in, is_due}
+use Rattle.fixpoint_engine.specs.Work.{differs, is_on_any, hears_from, hears_in, is_due}
 use Rattle.fixpoint_engine.specs.Loops.{Hears, HasNoLoop}
 use Rattle.fixpoint_engine.specs.End.{EndsFor}
 use Rattle.fixpoint_engine.specs.Worklist.{output_net}
-use Rattle.fixpoint_engine.proofs.Same.{same_wave_is, same_wave_self}
+use Rattle.fixpoint_engine.proofs.Same.{same_wave-is, same_wave_self}
 use Rattle.fixpoint_engine.proofs.Reached.{undue_stays, due_takes}
 
 -- ---- a net that is heard
@@ -189,7 +190,7 @@ trail_of c active start (suc r) i known none changes =
 pub rests_by_outputs : (c : Circuit) (active : ℕ → Bool) (start : Waves) → IsCircuit c → HasNoLoop c →
     AreSame (round c active start (suc (outputs c.instances))) (round c active start (outputs c.instances))
 rests_by_outputs c active start known none i = elim (cases_Bool (same_wave (round c active start n i) (round c active start (suc n) i))) [
-  | inl same ↦ sym (same_wave_is _ _ same)
+  | inl same ↦ sym (same_wave-is _ _ same)
   | inr differ ↦ absurd (too_long (trail_of c active start n i known none (ap not differ)))
 ]
   where

@@ -5,17 +5,18 @@ use Rattle.scald_base.specs.Time.{period}
 use Rattle.step_values.specs.declared.value.Value.{Value}
 use Rattle.skew_algebra.specs.Wave.{Wave}
 use Rattle.flat_circuit.specs.Circuit.{Circuit, IsCircuit}
+use Rattle.wave_table.specs.Same.{same_wave}
 use Rattle.net_waves.specs.Waves.{Waves, waves_of, FitWaves}
 use Rattle.flat_circuit.specs.Name.{net_at}
 use Rattle.net_waves.proofs.Fits.{AreLong}
 use Rattle.fixpoint_engine.specs.declared.rounds.EngineEnd.{EngineEnd}
 use Rattle.fixpoint_engine.specs.declared.rounds.EngineEnd.TheVariants.{Unsettled, NoMemory}
 use Rattle.fixpoint_engine.specs.Rounds.{round, AreSame}
-use Rattle.fixpoint_engine.specs.Work.{same_wave, differs}
+use Rattle.fixpoint_engine.specs.Work.{differs}
 use Rattle.fixpoint_engine.specs.Settled.{AreAtRest}
 use Rattle.fixpoint_engine.specs.End.{EndsAt, EndsFor}
 use Rattle.fixpoint_engine.specs.Worklist.{Change, changed, among}
-use Rattle.fixpoint_engine.proofs.Same.{same_wave_is, same_wave_self}
+use Rattle.fixpoint_engine.proofs.Same.{same_wave-is, same_wave_self}
 use Rattle.fixpoint_engine.proofs.Changing.{length_changed}
 use Rattle.fixpoint_engine.proofs.Reached.{Reached, reached_more, at_rest, not_at_rest}
 use Rattle.fixpoint_engine.proofs.Sound.{round_long}
@@ -50,7 +51,7 @@ module _ (c : Circuit) (active : ℕ → Bool) (start : Waves) (waves : List (Wa
         differs = λ same. both_ways (differs (round c active start r) (round c active start (suc r)) (net_at c.order place))
             (ap (λ (w : Wave Value). not (same_wave (round c active start r (net_at c.order place)) w)) (sym same) ∙ ap not (same_wave_self (round c active start r (net_at c.order place))))
             (sym (turn.nets (net_at c.order place)) ∙ at.0.is);
-        same = λ k below. same_wave_is (round c active start r (net_at c.order k)) (round c active start (suc r) (net_at c.order k))
+        same = λ k below. same_wave-is (round c active start r (net_at c.order k)) (round c active start (suc r) (net_at c.order k))
             (not-false _ (sym (turn.nets (net_at c.order k)) ∙ at.0.first k below));
       }),
       at.1,

@@ -1,4 +1,6 @@
 pub mod Value
+pub mod Key
+pub mod SameKey
 pub mod Rounds
 pub mod Start
 pub mod Work

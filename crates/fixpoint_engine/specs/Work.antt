@@ -1,22 +1,15 @@
 -- Which nets have to be evaluated in a round, and how many evaluations that makes in all.
-use Rattle.std.specs.Prelude.{ℕ, zero, suc, ◌+◌, Bool, false, not, ◌&&◌, ◌||◌, ◌==◌, List, [], ◌∷◌, length, count_by, Option, Some, None}
+use Rattle.std.specs.Prelude.{ℕ, zero, suc, ◌+◌, Bool, false, not, ◌&&◌, ◌||◌, List, [], ◌∷◌, length, count_by, Option, Some, None}
 use Rattle.std.specs.List.{range_with_len}
-use Rattle.std.specs.Cmp.Lexicographic.{pointwise}
 use Rattle.vector_names.specs.declared.bits.Target.{Target}
 use Rattle.vector_names.specs.declared.bits.Target.TheVariants.{Net as OnNet, Constant}
-use Rattle.step_values.specs.declared.value.Value.{Value}
-use Rattle.step_values.specs.Cell.{same}
-use Rattle.skew_algebra.specs.Wave.{Wave}
 use Rattle.element_kinds.specs.declared.kind.Kind.{Kind}
 use Rattle.flat_circuit.specs.declared.instance.Pin.{Pin}
 use Rattle.flat_circuit.specs.declared.instance.Instance.{Instance}
 use Rattle.element_kinds.specs.Kinds.{listens}
-use Rattle.flat_circuit.specs.Circuit.{Circuit, driver}
+use Rattle.flat_circuit.specs.Circuit.{Circuit}
+use Rattle.wave_table.specs.Same.{same_wave}
 use Rattle.net_waves.specs.Waves.{Waves}
-
--- two waves are one
-abbrev pub same_wave : Wave Value → Wave Value → Bool
-same_wave w v = (w.skew == v.skew) && pointwise same w.cells v.cells
 
 -- the net's waves in two rounds differ
 abbrev pub differs : Waves → Waves → ℕ → Bool

@@ -1,43 +1,55 @@
 //! What one round changes.
 
-ghost use Rattle.std.specs.Prelude.{◌≡◌, ◌<◌, ◌++◌, ◌∷◌, [], IfOk, OnOk, length, map};
+ghost use Rattle.std.specs.Prelude.{◌≡◌, ◌<◌, ◌++◌, ◌∷◌, [], IfOk, OnOk, List, length, map};
 ghost use Rattle.std.specs.List.{All};
+ghost use Rattle.step_values.specs.declared.value.Value.{Value as OfValues};
+ghost use Rattle.skew_algebra.specs.Wave.{Wave};
+ghost use Rattle.wave_table.specs.Table.{AreKnown, Grows, wave_at, waves_at};
 ghost use Rattle.net_waves.specs.Waves.{FitWaves, waves_of};
+ghost use Rattle.fixpoint_engine.specs.Key.{AreConstants};
 ghost use Rattle.fixpoint_engine.specs.Worklist.{changed, changes_of};
 
+use crate::key::{Constants, Store};
 use crate::value::evaluated;
 use flat_circuit::Circuit;
-use net_waves::Waves;
 use scald_base::NoMemory;
-use skew_algebra::Skewed;
 use std::alloc::Global;
 use step_values::Value;
 use wave_core::CyclicWave;
+use wave_table::Numbers;
 
-/// A net whose wave changes, and the wave that it is to have.
-#[derive(Drop)]
-pub struct Change<W: CyclicWave> {
+/// A net whose wave changes, and the number of the wave that it is to have.
+#[derive(Clone, Copy, Drop)]
+pub struct Change {
     pub net: u32,
-    pub wave: Skewed<W>,
+    pub number: u32,
 }
 
-/// Evaluates a net, and keeps its wave if it differs from what there was.
+/// Evaluates a net, and keeps the number of its wave if it differs from what there was.
 fn add_change<W: CyclicWave<Item = Value>>(
-    made: &mut Vec<Change<W>>,
+    made: &mut Vec<Change>,
     alloc: Global,
     c: &Circuit,
-    waves: &Waves<W>,
+    store: &mut Store<W>,
+    constants: Constants,
+    numbers: &[u32],
     net: u32,
 ) -> Result<(), NoMemory>
     requires exists { net < length c.now.nets }
-    requires fit { FitWaves c.now waves.now }
-    ensures { let before = waves_of waves.now in
-        OnOk result (map (λ ch. (ch.net, ch.wave)) made.new.items
-        ≡ map (λ ch. (ch.net, ch.wave)) made.old.items ++ changes_of c.now before (net ∷ [])) }
+    requires known { AreKnown store.old numbers.now }
+    requires fit { FitWaves c.now (waves_at store.old numbers.now) }
+    requires constants { AreConstants c.now.header store.old constants }
+    requires made { AreKnown store.old (map (λ ch. ch.number) made.old.items) }
+    ensures grows { Grows store.old store.new }
+    ensures known { OnOk result (AreKnown store.new (map (λ ch. ch.number) made.new.items)) }
+    ensures made { let before = waves_of (waves_at store.old numbers.now) in
+        OnOk result (map (λ ch. (ch.net, wave_at store.new ch.number)) made.new.items
+        ≡ map (λ ch. (ch.net, wave_at store.old ch.number)) made.old.items ++ changes_of c.now before (net ∷ [])) }
 {
-    let wave = evaluated(alloc, c, waves, net)?;
-    if !wave.same(&waves.as_slice()[net as usize]) {
-        made.push(Change { net, wave })?;
+    let number = evaluated(alloc, c, store, constants, numbers, net)?;
+    store.known();
+    if number != numbers[net as usize] {
+        made.push(Change { net, number })?;
     }
     Ok(())
 }
@@ -46,27 +58,37 @@ fn add_change<W: CyclicWave<Item = Value>>(
 pub fn changes<W: CyclicWave<Item = Value>>(
     alloc: Global,
     c: &Circuit,
-    waves: &Waves<W>,
+    store: &mut Store<W>,
+    constants: Constants,
+    numbers: &[u32],
     nets: &[u32],
-) -> Result<Vec<Change<W>>, NoMemory>
+) -> Result<Vec<Change>, NoMemory>
     requires exist { All (λ i. i < length c.now.nets) nets.now }
-    requires fit { FitWaves c.now waves.now }
-    ensures { IfOk result (λ made.
-        map (λ ch. (ch.net, ch.wave)) made.items ≡ changes_of c.now (waves_of waves.now) nets.now) }
+    requires known { AreKnown store.old numbers.now }
+    requires fit { FitWaves c.now (waves_at store.old numbers.now) }
+    requires constants { AreConstants c.now.header store.old constants }
+    ensures grows { Grows store.old store.new }
+    ensures known { IfOk result (λ made. AreKnown store.new (map (λ ch. ch.number) made.items)) }
+    ensures made { let before = waves_of (waves_at store.old numbers.now) in
+        IfOk result (λ made. map (λ ch. (ch.net, wave_at store.new ch.number)) made.items
+        ≡ changes_of c.now before nets.now) }
 {
     let mut made = Vec::new(alloc);
     for net in nets {
-        add_change(&mut made, alloc, c, waves, *net)?;
+        add_change(&mut made, alloc, c, store, constants, numbers, *net)?;
     }
     Ok(made)
 }
 
-/// Puts the new waves in the place of the old ones.
-pub fn apply<W: CyclicWave<Item = Value>>(waves: &mut Waves<W>, changes: Vec<Change<W>>)
-    requires { All (λ ch. ch.net < length waves.old) changes.items }
-    ensures { waves.new ≡ changed waves.old (map (λ ch. (ch.net, ch.wave)) changes.items) }
+/// Puts the numbers of the new waves in the place of the old ones.
+pub fn apply(numbers: &mut Numbers, changes: &[Change])
+    requires { All (λ ch. ch.net < length numbers.old) changes.now }
+    ensures known { (table : List (Wave OfValues)) → AreKnown table numbers.old →
+        AreKnown table (map (λ ch. ch.number) changes.now) → AreKnown table numbers.new }
+    ensures changed { (table : List (Wave OfValues)) → waves_at table numbers.new
+        ≡ changed (waves_at table numbers.old) (map (λ ch. (ch.net, wave_at table ch.number)) changes.now) }
 {
     for change in changes {
-        waves.set(change.net as usize, change.wave);
+        numbers.set(change.net as usize, change.number);
     }
 }

@@ -3,7 +3,8 @@
 //!
 //! The layer above calls [`settle`], which answers the settled waves, or the net that still changes at
 //! the limit, or [`settle_classes`], which answers the same where one net of each class may stand for
-//! all. `specs/Value` says what an instance makes of all waves, `specs/Rounds` what a round is and when
+//! all. Waves go by their numbers in a [`Store`], which has each of them once and remembers what was made
+//! of them (`specs/Key`). `specs/Value` says what an instance makes of all waves, `specs/Rounds` what a round is and when
 //! rounds settle, `specs/Work` and `specs/Classes` what is evaluated, and `specs/Settled` which runs the
 //! waves permit.
 #![tactic(auto)]
@@ -12,6 +13,7 @@
 mod net_set;
 
 // one instance
+mod key;
 mod value;
 
 // one round
@@ -28,7 +30,8 @@ mod laws;
 mod rounds;
 
 pub use class_table::ClassMap;
+pub use key::{Constants, Key, KeyPin, Store, constants};
 pub use laws::stable_classes_go_together;
 pub use net_set::NetSet;
 pub use readers::{output_of, readers_of};
-pub use rounds::{EngineEnd, Settled, settle, settle_classes};
+pub use rounds::{EngineEnd, SPARE_WAVES, Settled, settle, settle_classes};

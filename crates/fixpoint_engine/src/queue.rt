@@ -18,7 +18,6 @@ use flat_circuit::Circuit;
 use scald_base::NoMemory;
 use std::alloc::Global;
 use std::marker::Model;
-use wave_core::CyclicWave;
 
 /// Nets that wait for their evaluation, each once.
 #[derive(Drop)]
@@ -136,12 +135,12 @@ impl Queue {
 
     /// In place of those that wait: the active nets whose drivers listen to a net that changed, of each
     /// class the first.
-    pub fn refill<W: CyclicWave>(
+    pub fn refill(
         &mut self,
         c: &Circuit,
         classes: Option<&ClassNets>,
         active: &NetSet,
-        changes: &[Change<W>],
+        changes: &[Change],
     ) -> Result<(), NoMemory>
         requires active { FitActive c.now active.now }
         requires each_net { length self.old.marks ≡ length c.now.nets }

@@ -1,11 +1,13 @@
 //! Rounds until they settle.
 
-ghost use Rattle.std.specs.Prelude.{◌≡◌, ◌+◌, ◌<◌, ℕ, IfErr, IfOk, MatchOption, false, length, map};
+ghost use Rattle.std.specs.Prelude.{◌≡◌, ◌+◌, ◌<◌, ◌≤◌, ℕ, IfErr, IfOk, MatchOption, false, length, map, take};
 ghost use Rattle.std.specs.List.{All};
 ghost use Rattle.std.specs.Option.{option_copied};
 ghost use Rattle.class_table.specs.Stable.{IsStable};
 ghost use Rattle.flat_circuit.specs.Name.{net_at};
+ghost use Rattle.wave_table.specs.Table.{AreKnown, Grows, waves_at};
 ghost use Rattle.net_waves.specs.Waves.{FitWaves, waves_of};
+ghost use Rattle.fixpoint_engine.specs.Key.{AreConstants};
 ghost use Rattle.fixpoint_engine.specs.Rounds.{round};
 ghost use Rattle.fixpoint_engine.specs.Settled.{AreAtRest, FitActive, KeepRuns, marked_in};
 ghost use Rattle.fixpoint_engine.specs.Work.{work_to};
@@ -17,25 +19,25 @@ ghost use Rattle.fixpoint_engine.specs.Worklist.{among};
 use crate::changes::{Change, apply};
 use crate::class_changes::class_changes;
 use crate::class_nets::ClassNets;
+use crate::key::{Constants, Store, constants};
 use crate::net_set::NetSet;
 use crate::queue::Queue;
 use class_table::ClassMap;
 use flat_circuit::{CaseList, Circuit};
-use net_waves::Waves;
-use scald_base::{List, NoMemory};
-use skew_algebra::Skewed;
+use scald_base::NoMemory;
 use std::alloc::Global;
 use step_values::Value;
 use wave_core::CyclicWave;
+use wave_table::{Numbers, copied};
 
 /// Settled rounds.
 #[derive(Drop)]
-pub struct Settled<W: CyclicWave> {
-    /// The waves of the first round that the next one equals.
-    pub waves: Waves<W>,
+pub struct Settled {
+    /// The numbers of the waves of the first round that the next one equals.
+    pub numbers: Numbers,
     /// The number of that round.
     pub rounds: u32,
-    /// How many evaluations were made: one for each net that was due, in the rounds up to the next one.
+    /// How many evaluations were due: one for each net that was, in the rounds up to the next one.
     pub evals: u64,
 }
 
@@ -60,26 +62,8 @@ impl From<NoMemory> for EngineEnd {
     }
 }
 
-/// Copies of the waves.
-pub fn copies<W: CyclicWave<Item = Value>>(
-    alloc: Global,
-    waves: &[Skewed<W>],
-) -> Result<Waves<W>, NoMemory>
-    ensures { IfOk result (λ copied. copied ≡ waves.now) }
-{
-    let mut copied: Waves<W> = List::new(alloc);
-    for wave in waves {
-        copied.push(wave.copy(alloc)?)?;
-    }
-    Ok(copied)
-}
-
 /// The nets that change, as a set.
-fn changed_nets<W: CyclicWave>(
-    alloc: Global,
-    c: &Circuit,
-    changes: &[Change<W>],
-) -> Result<NetSet, NoMemory>
+fn changed_nets(alloc: Global, c: &Circuit, changes: &[Change]) -> Result<NetSet, NoMemory>
     requires { All (λ ch. ch.net < length c.now.nets) changes.now }
     ensures { IfOk result (λ set. (i : ℕ) → marked_in set i ≡ among (map (λ ch. ch.net) changes.now) i) }
 {
@@ -105,10 +89,10 @@ fn first_named(c: &Circuit, set: &NetSet) -> Option<u32>
 }
 
 /// The end of rounds whose last ones differ in these nets.
-pub fn unsettled<W: CyclicWave>(
+pub fn unsettled(
     alloc: Global,
     c: &Circuit,
-    changes: &[Change<W>],
+    changes: &[Change],
     limit: u32,
 ) -> Result<EngineEnd, NoMemory>
     requires exist { All (λ ch. ch.net < length c.now.nets) changes.now }
@@ -123,43 +107,76 @@ pub fn unsettled<W: CyclicWave>(
     }
 }
 
-/// Rounds in which the first net of each class is evaluated, and its wave given to all nets of the class,
-/// until they settle. Where there are no classes, each net is one of its own.
-fn settle_firsts<W: CyclicWave<Item = Value>>(
+/// How many waves more than there are nets may be kept while rounds go on.
+pub const SPARE_WAVES: usize = 65_536;
+
+/// The numbers of the same waves, of which the table forgets those that no net has, where it has become long: else
+/// rounds that come to ever new waves would take memory without end. The first waves are kept.
+#[tactic(auto, using(crate::proofs::Numbered::take_grows))]
+fn shortened<W: CyclicWave<Item = Value>>(
+    alloc: Global,
+    store: &mut Store<W>,
+    kept: usize,
+    numbers: Numbers,
+) -> Result<Numbers, NoMemory>
+    requires known { AreKnown store.old numbers }
+    requires first { kept ≤ length store.old }
+    ensures grows { Grows (take kept store.old) store.new }
+    ensures known { IfOk result (AreKnown store.new) }
+    ensures same { IfOk result (λ now. waves_at store.new now ≡ waves_at store.old numbers) }
+{
+    if store.len() - kept <= numbers.len() + SPARE_WAVES {
+        return Ok(numbers);
+    }
+    store.compact(alloc, kept, numbers.as_slice())
+}
+
+/// Rounds in which the first net of each class is evaluated, and the number of its wave given to all nets of the
+/// class, until they settle. Where there are no classes, each net is one of its own.
+fn rounds_from<W: CyclicWave<Item = Value>>(
     alloc: Global,
     c: &Circuit,
+    store: &mut Store<W>,
+    constants: Constants,
     classes: Option<&ClassNets>,
-    start: &Waves<W>,
+    start: &Numbers,
     active: &NetSet,
     limit: u32,
-) -> Result<Settled<W>, EngineEnd>
-    requires waves { FitWaves c.now start.now }
+) -> Result<Settled, EngineEnd>
+    requires constants { AreConstants c.now.header store.old constants }
+    requires known { AreKnown store.old start.now }
+    requires waves { FitWaves c.now (waves_at store.old start.now) }
     requires active { FitActive c.now active.now }
     requires classes { OneStandsForAll c.now (marked_in active.now)
-        (numbers_in (length c.now.nets) (option_copied classes)) (waves_of start.now) }
-    ensures rest { let first = waves_of start.now in
-        IfOk result (λ s. AreAtRest c.now (marked_in active.now) first limit s.rounds (waves_of s.waves)) }
-    ensures fit { IfOk result (λ s. FitWaves c.now s.waves) }
-    ensures work { let first = waves_of start.now in
+        (numbers_in (length c.now.nets) (option_copied classes)) (waves_of (waves_at store.old start.now)) }
+    ensures grows { Grows store.old store.new }
+    ensures known { IfOk result (λ s. AreKnown store.new s.numbers) }
+    ensures rest { let first = waves_of (waves_at store.old start.now) in
+        IfOk result (λ s. AreAtRest c.now (marked_in active.now) first limit s.rounds
+        (waves_of (waves_at store.new s.numbers))) }
+    ensures fit { IfOk result (λ s. FitWaves c.now (waves_at store.new s.numbers)) }
+    ensures work { let first = waves_of (waves_at store.old start.now) in
         IfOk result (λ s. s.evals ≡ class_work_to c.now (numbers_in (length c.now.nets) (option_copied classes.entry))
         (marked_in active.now) (round c.now (marked_in active.now) first) (s.rounds + 1)) }
-    ensures sound { let first = waves_of start.now in
-        IfOk result (λ s. KeepRuns c.now first s.rounds (waves_of s.waves)) }
-    ensures unsettled { let first = waves_of start.now in
+    ensures sound { let first = waves_of (waves_at store.old start.now) in
+        IfOk result (λ s. KeepRuns c.now first s.rounds (waves_of (waves_at store.new s.numbers))) }
+    ensures unsettled { let first = waves_of (waves_at store.old start.now) in
         IfErr result (EndsFor c.now.order (round c.now (marked_in active.now) first) limit) }
 {
     c.known();
     c.header().known();
-    let mut waves = copies(alloc, start.as_slice())?;
+    let kept = store.len();
+    let mut numbers = copied(alloc, start.as_slice())?;
     let mut queue = Queue::all(alloc, c, classes, active)?;
     let mut rounds = 0;
     let mut evals = 0;
     'rounds: loop {
-        let made = class_changes(alloc, c, classes, &waves, queue.nets())?;
+        let now = numbers.as_slice();
+        let made = class_changes(alloc, c, store, classes, constants, now, queue.nets())?;
         evals += queue.nets().len() as u64;
         if made.is_empty() {
             return Ok(Settled {
-                waves,
+                numbers,
                 rounds,
                 evals,
             });
@@ -168,73 +185,118 @@ fn settle_firsts<W: CyclicWave<Item = Value>>(
             return Err(unsettled(alloc, c, &made, limit)?);
         }
         queue.refill(c, classes, active, &made)?;
-        apply(&mut waves, made);
+        apply(&mut numbers, &made);
+        numbers = shortened(alloc, store, kept, numbers)?;
         rounds += 1;
     }
+}
+
+/// Such rounds from the waves at the start, with the constants among the waves of the store.
+fn settle_firsts<W: CyclicWave<Item = Value>>(
+    alloc: Global,
+    c: &Circuit,
+    store: &mut Store<W>,
+    classes: Option<&ClassNets>,
+    start: &Numbers,
+    active: &NetSet,
+    limit: u32,
+) -> Result<Settled, EngineEnd>
+    requires known { AreKnown store.old start.now }
+    requires waves { FitWaves c.now (waves_at store.old start.now) }
+    requires active { FitActive c.now active.now }
+    requires classes { OneStandsForAll c.now (marked_in active.now)
+        (numbers_in (length c.now.nets) (option_copied classes)) (waves_of (waves_at store.old start.now)) }
+    ensures grows { Grows store.old store.new }
+    ensures known { IfOk result (λ s. AreKnown store.new s.numbers) }
+    ensures rest { let first = waves_of (waves_at store.old start.now) in
+        IfOk result (λ s. AreAtRest c.now (marked_in active.now) first limit s.rounds
+        (waves_of (waves_at store.new s.numbers))) }
+    ensures fit { IfOk result (λ s. FitWaves c.now (waves_at store.new s.numbers)) }
+    ensures work { let first = waves_of (waves_at store.old start.now) in
+        IfOk result (λ s. s.evals ≡ class_work_to c.now (numbers_in (length c.now.nets) (option_copied classes.entry))
+        (marked_in active.now) (round c.now (marked_in active.now) first) (s.rounds + 1)) }
+    ensures sound { let first = waves_of (waves_at store.old start.now) in
+        IfOk result (λ s. KeepRuns c.now first s.rounds (waves_of (waves_at store.new s.numbers))) }
+    ensures unsettled { let first = waves_of (waves_at store.old start.now) in
+        IfErr result (EndsFor c.now.order (round c.now (marked_in active.now) first) limit) }
+{
+    let constants = constants(alloc, c.header(), store)?;
+    rounds_from(alloc, c, store, constants, classes, start, active, limit)
 }
 
 /// Rounds over the active nets, from the waves at the start, until a round is as the one before: the
 /// waves of the first round that the next one equals. The start waves permit a run from some tick on;
 /// the settled waves permit it `reach` ticks a round later. `Unsettled` comes exactly where no round up
 /// to `limit` is as the next one. In the first round each active net is evaluated, and later those alone
-/// whose driver listens to a net that changed in the round before; `evals` counts them.
+/// whose driver listens to a net that changed in the round before; `evals` counts them. Waves are given
+/// and answered by their numbers in the store, which has what is made of them remembered.
 pub fn settle<W: CyclicWave<Item = Value>>(
     alloc: Global,
     c: &Circuit,
-    start: &Waves<W>,
+    store: &mut Store<W>,
+    start: &Numbers,
     active: &NetSet,
     limit: u32,
-) -> Result<Settled<W>, EngineEnd>
-    requires waves { FitWaves c.now start.now }
+) -> Result<Settled, EngineEnd>
+    requires known { AreKnown store.old start.now }
+    requires waves { FitWaves c.now (waves_at store.old start.now) }
     requires active { FitActive c.now active.now }
-    ensures rest { let first = waves_of start.now in
-        IfOk result (λ s. AreAtRest c.now (marked_in active.now) first limit s.rounds (waves_of s.waves)) }
-    ensures fit { IfOk result (λ s. FitWaves c.now s.waves) }
-    ensures work { let first = waves_of start.now in
+    ensures grows { Grows store.old store.new }
+    ensures known { IfOk result (λ s. AreKnown store.new s.numbers) }
+    ensures rest { let first = waves_of (waves_at store.old start.now) in
+        IfOk result (λ s. AreAtRest c.now (marked_in active.now) first limit s.rounds
+        (waves_of (waves_at store.new s.numbers))) }
+    ensures fit { IfOk result (λ s. FitWaves c.now (waves_at store.new s.numbers)) }
+    ensures work { let first = waves_of (waves_at store.old start.now) in
         IfOk result (λ s. s.evals ≡ work_to c.now (marked_in active.now)
         (round c.now (marked_in active.now) first) (s.rounds + 1)) }
-    ensures sound { let first = waves_of start.now in
-        IfOk result (λ s. KeepRuns c.now first s.rounds (waves_of s.waves)) }
-    ensures unsettled { let first = waves_of start.now in
+    ensures sound { let first = waves_of (waves_at store.old start.now) in
+        IfOk result (λ s. KeepRuns c.now first s.rounds (waves_of (waves_at store.new s.numbers))) }
+    ensures unsettled { let first = waves_of (waves_at store.old start.now) in
         IfErr result (EndsFor c.now.order (round c.now (marked_in active.now) first) limit) }
 {
-    settle_firsts(alloc, c, None, start, active, limit)
+    settle_firsts(alloc, c, store, None, start, active, limit)
 }
 
 /// The answer of `settle`, where nothing tells the nets of one class apart, in the circuit and in each of
 /// these cases, and they have one wave at the start and are all active or all not: they have one wave
-/// in every round and are due in the same rounds, so that one net of each class is evaluated and its
-/// wave given to all. `evals` counts the classes that have nets which are due in a round.
+/// in every round and are due in the same rounds, so that one net of each class is evaluated and the number
+/// of its wave given to all. `evals` counts the classes that have nets which are due in a round.
 pub fn settle_classes<W: CyclicWave<Item = Value>>(
     alloc: Global,
     c: &Circuit,
+    store: &mut Store<W>,
     cases: &CaseList,
     numbers: &ClassMap,
-    start: &Waves<W>,
+    start: &Numbers,
     active: &NetSet,
     limit: u32,
-) -> Result<Settled<W>, EngineEnd>
-    requires waves { FitWaves c.now start.now }
+) -> Result<Settled, EngineEnd>
+    requires known { AreKnown store.old start.now }
+    requires waves { FitWaves c.now (waves_at store.old start.now) }
     requires active { FitActive c.now active.now }
     requires one_each { length numbers.now ≡ length c.now.nets }
     requires stable { IsStable c.now cases.now numbers.now }
-    requires alike { HaveOneWave c.now numbers.now (waves_of start.now) }
+    requires alike { HaveOneWave c.now numbers.now (waves_of (waves_at store.old start.now)) }
     requires together { AreTogether c.now numbers.now (marked_in active.now) }
-    ensures rest { let first = waves_of start.now in
-        IfOk result (λ s. AreAtRest c.now (marked_in active.now) first limit s.rounds (waves_of s.waves)) }
-    ensures fit { IfOk result (λ s. FitWaves c.now s.waves) }
-    ensures work { let first = waves_of start.now in
+    ensures grows { Grows store.old store.new }
+    ensures known { IfOk result (λ s. AreKnown store.new s.numbers) }
+    ensures rest { let first = waves_of (waves_at store.old start.now) in
+        IfOk result (λ s. AreAtRest c.now (marked_in active.now) first limit s.rounds
+        (waves_of (waves_at store.new s.numbers))) }
+    ensures fit { IfOk result (λ s. FitWaves c.now (waves_at store.new s.numbers)) }
+    ensures work { let first = waves_of (waves_at store.old start.now) in
         IfOk result (λ s. s.evals ≡ class_work_to c.now numbers.now
         (marked_in active.now) (round c.now (marked_in active.now) first) (s.rounds + 1)) }
-    ensures go_together { let first = waves_of start.now in
+    ensures go_together { let first = waves_of (waves_at store.old start.now) in
         IfOk result (λ s. GoTogether c.now numbers.now
         (marked_in active.now) (round c.now (marked_in active.now) first)) }
-    ensures sound { let first = waves_of start.now in
-        IfOk result (λ s. KeepRuns c.now first s.rounds (waves_of s.waves)) }
-    ensures unsettled { let first = waves_of start.now in
+    ensures sound { let first = waves_of (waves_at store.old start.now) in
+        IfOk result (λ s. KeepRuns c.now first s.rounds (waves_of (waves_at store.new s.numbers))) }
+    ensures unsettled { let first = waves_of (waves_at store.old start.now) in
         IfErr result (EndsFor c.now.order (round c.now (marked_in active.now) first) limit) }
 {
     c.known();
     let classes = ClassNets::of(alloc, numbers, c.net_count())?;
-    settle_firsts(alloc, c, Some(&classes), start, active, limit)
+    settle_firsts(alloc, c, store, Some(&classes), start, active, limit)
 }

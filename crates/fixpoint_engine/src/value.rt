@@ -7,11 +7,14 @@ ghost use Rattle.flat_circuit.specs.Instances.{InstanceFits};
 ghost use Rattle.flat_circuit.specs.Split.{SplitFits};
 ghost use Rattle.gate_eval.specs.Instance.{CountsFit};
 ghost use Rattle.gate_eval.specs.Meeting.{HaveOnePeriod};
+ghost use Rattle.wave_table.specs.Table.{AreKnown, Grows, IsNumber, waves_at};
 ghost use Rattle.net_waves.specs.Waves.{FitWaves, waves_of};
+ghost use Rattle.fixpoint_engine.specs.Key.{AreConstants};
 ghost use Rattle.fixpoint_engine.specs.Value.{instance_wave, made_by};
 ghost use Rattle.flat_circuit.specs.Circuit.{driver};
 ghost use Rattle.fixpoint_engine.specs.Rounds.{evaluated};
 
+use crate::key::{Constants, Store, key_of};
 use flat_circuit::{Circuit, Instance, Kind, Split};
 use gate_eval::{PinWaves, eval_gate, eval_split};
 use net_waves::{Waves, waves_at_pins};
@@ -89,20 +92,54 @@ fn instance_wave<W: CyclicWave<Item = Value>>(
     }
 }
 
-/// The value of a net: what its driver makes, or the wave that it has where nothing drives it.
+/// The number of what an instance makes, where the nets have the waves of these numbers. It is made only where it
+/// was not before.
+fn number_made<W: CyclicWave<Item = Value>>(
+    alloc: Global,
+    c: &Circuit,
+    store: &mut Store<W>,
+    constants: Constants,
+    numbers: &[u32],
+    instance: &Instance,
+) -> Result<u32, NoMemory>
+    requires makes { has_output instance.now.kind ≡ true }
+    requires fits { InstanceFits c.now.header (length c.now.nets) instance.now }
+    requires known { AreKnown store.old numbers.now }
+    requires fit { FitWaves c.now (waves_at store.old numbers.now) }
+    requires constants { AreConstants c.now.header store.old constants }
+    ensures grows { Grows store.old store.new }
+    ensures is { let ws = waves_of (waves_at store.old numbers.now) in
+        IfOk result (IsNumber store.new (instance_wave c.now ws instance.now)) }
+{
+    let key = key_of(alloc, c, store, constants, numbers, instance)?;
+    if let Some(number) = store.find(&key) {
+        return Ok(number);
+    }
+    let waves = Waves::new(store.waves(), numbers);
+    let wave = instance_wave(alloc, c, &waves, instance)?;
+    store.remember(key, wave)
+}
+
+/// The number of a net's value: of what its driver makes, or of the wave that it has where nothing drives it.
 pub fn evaluated<W: CyclicWave<Item = Value>>(
     alloc: Global,
     c: &Circuit,
-    waves: &Waves<W>,
+    store: &mut Store<W>,
+    constants: Constants,
+    numbers: &[u32],
     net: u32,
-) -> Result<Skewed<W>, NoMemory>
+) -> Result<u32, NoMemory>
     requires exists { net < length c.now.nets }
-    requires fit { FitWaves c.now waves.now }
-    ensures { IfOk result (λ s. s ≡ evaluated c.now (waves_of waves.now) net) }
+    requires known { AreKnown store.old numbers.now }
+    requires fit { FitWaves c.now (waves_at store.old numbers.now) }
+    requires constants { AreConstants c.now.header store.old constants }
+    ensures grows { Grows store.old store.new }
+    ensures is { let ws = waves_of (waves_at store.old numbers.now) in
+        IfOk result (IsNumber store.new (evaluated c.now ws net)) }
 {
     c.known();
     match c.driver_of(net) {
-        Some(driver) => instance_wave(alloc, c, waves, driver),
-        None => waves.as_slice()[net as usize].copy(alloc),
+        Some(driver) => number_made(alloc, c, store, constants, numbers, driver),
+        None => Ok(numbers[net as usize]),
     }
 }

@@ -25,7 +25,7 @@ fn add_wave<W: CyclicWave<Item = Value>>(
     ensures ok { let all = waves_of waves.now in OnOk result (out.new ≡ out.old ++ wave_line c.now all net) }
     ensures err { let all = waves_of waves.now in OnErr result (HasPart out.old out.new (wave_line c.now all net)) }
 {
-    let found = &waves.as_slice()[net as usize];
+    let found = waves.at(net);
     let before = [
         Piece::Text(b"WAVE "),
         net_piece(c, net),

@@ -7,15 +7,12 @@
 //! the waves at pins permit what the pins show.
 #![tactic(auto)]
 
-// the waves of all nets
-mod waves;
-
 // at the pins of an instance
 mod pins;
 
 // where two lists of waves are the same
 mod same_waves;
 
-pub use pins::{pin_wave, waves_at_pins};
+pub use pins::{pin_wave, waves_at_pins, wire_behind};
 pub use same_waves::{has_one_wave, has_one_wave_at};
-pub use waves::Waves;
+pub use wave_table::Waves;

@@ -4,9 +4,8 @@ ghost use Rattle.std.specs.Prelude.{◌≡◌, ◌<◌, IfOk, length, map};
 ghost use Rattle.std.specs.List.{All};
 ghost use Rattle.flat_circuit.specs.Circuit.{wire_at};
 ghost use Rattle.flat_circuit.specs.Instances.{PinExists};
-ghost use Rattle.net_waves.specs.Waves.{pin_wave as wave_shown, FitWaves, waves_of};
+ghost use Rattle.net_waves.specs.Waves.{pin_wave as wave_shown, FitWaves, target_wire, waves_of};
 
-use crate::waves::Waves;
 use flat_circuit::{Circuit, Pin, Target};
 use gate_eval::{PinWave, PinWaves};
 use pin_waves::{constant_wave, pin_wave as wave_behind};
@@ -15,6 +14,7 @@ use skew_algebra::Skewed;
 use std::alloc::Global;
 use step_values::Value;
 use wave_core::CyclicWave;
+use wave_table::Waves;
 
 /// The bounds of a net's wire; a net that does not exist has a wire without delay.
 fn wire_of(c: &Circuit, net: u32) -> Delay
@@ -23,6 +23,16 @@ fn wire_of(c: &Circuit, net: u32) -> Delay
     match c.net(net) {
         Some(found) => found.wire,
         None => Delay { min: 0, max: 0 },
+    }
+}
+
+/// The bounds of the wire that leads to a pin from what it is on; none leads from a constant.
+pub fn wire_behind(c: &Circuit, target: Target) -> Delay
+    ensures { result ≡ target_wire c.now.nets target }
+{
+    match target {
+        Target::Net(net) => wire_of(c, net),
+        Target::Constant(_) => Delay { min: 0, max: 0 },
     }
 }
 
@@ -38,12 +48,7 @@ pub fn pin_wave<W: CyclicWave<Item = Value>>(
     ensures { IfOk result (λ s. s ≡ wave_shown c.now (waves_of waves.now) pin) }
 {
     match pin.target {
-        Target::Net(net) => wave_behind(
-            alloc,
-            &waves.as_slice()[net as usize],
-            wire_of(c, net),
-            pin.inverted,
-        ),
+        Target::Net(net) => wave_behind(alloc, waves.at(net), wire_of(c, net), pin.inverted),
         Target::Constant(one) => {
             let wave: Skewed<W> = constant_wave(alloc, c.header(), one)?;
             wave_behind(alloc, &wave, Delay { min: 0, max: 0 }, pin.inverted)

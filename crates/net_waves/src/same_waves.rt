@@ -5,10 +5,10 @@ ghost use Rattle.flat_circuit.specs.Instances.{PinExists};
 ghost use Rattle.net_waves.specs.SameWaves.{IsSameAt};
 ghost use Rattle.net_waves.specs.Waves.{FitWaves, waves_of};
 
-use crate::waves::Waves;
 use flat_circuit::{Circuit, Pin, Target};
 use step_values::Value;
 use wave_core::CyclicWave;
+use wave_table::Waves;
 
 /// Whether a net has one wave in both.
 pub fn has_one_wave<W: CyclicWave<Item = Value>>(
@@ -22,9 +22,7 @@ pub fn has_one_wave<W: CyclicWave<Item = Value>>(
     requires fit { FitWaves c.now waves.now }
     ensures { IsTrue result ↔ (waves_of before.now net ≡ waves_of waves.now net) }
 {
-    let old = &before.as_slice()[net as usize];
-    let wave = &waves.as_slice()[net as usize];
-    old.same(wave)
+    before.at(net).same(waves.at(net))
 }
 
 /// Whether what a pin is on has one wave in both. The pin shows the same wave then, after the wire and the

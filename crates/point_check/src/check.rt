@@ -102,7 +102,7 @@ pub fn net_fault<W: CyclicWave<Item = Value>>(
             if !is_held(net) {
                 return Ok(None);
             }
-            let wave = &waves.as_slice()[number as usize];
+            let wave = waves.at(number);
             let found = assertion_fault(alloc, c.header(), &net.spec, number, wave)?;
             Ok(found)
         }

@@ -9,6 +9,7 @@ ghost use Rattle.scald_tool.specs.Report.{verdict_of};
 
 use flat_circuit::Circuit;
 use listing::{CaseHead, Mode, begin_report, end_report, write_case};
+use net_waves::Waves;
 use program_call::Reply;
 use scald_base::{Bytes, NoMemory, Outcome};
 use std::alloc::Global;
@@ -34,18 +35,19 @@ impl Report {
         Ok(Report { bytes, total: 0 })
     }
 
-    /// The lines of one case at rest, after those of the others.
+    /// The lines of one case at rest, after those of the others; `waves` are those of the case.
     pub fn add_case<W: CyclicWave<Item = Value>>(
         &mut self,
         circuit: &Circuit,
         mode: Mode,
         base: u32,
-        case: &CaseAtRest<W>,
+        case: &CaseAtRest,
+        waves: &Waves<W>,
     ) -> Result<(), NoMemory>
         requires room { self.old.total + 458752 < 2 ^ 32 }
-        requires fit { FitWaves circuit.now case.now.settled.waves }
+        requires fit { FitWaves circuit.now waves.now }
         requires few { length case.now.faults ≤ 458752 }
-        ensures told { let waves = waves_of case.now.settled.waves in
+        ensures told { let waves = waves_of waves.now in
             OnOk result (self.new.bytes ≡ self.old.bytes ++ case_lines circuit.now
             mode case.now.number base case.now.settled.rounds case.now.tick waves case.now.faults) }
         ensures counted { OnOk result (self.new.total ≡ self.old.total + length case.now.faults) }
@@ -56,14 +58,7 @@ impl Report {
             rounds: case.settled.rounds,
             tick: case.tick,
         };
-        write_case(
-            circuit,
-            head,
-            &case.settled.waves,
-            &case.faults,
-            mode,
-            &mut self.bytes,
-        )?;
+        write_case(circuit, head, waves, &case.faults, mode, &mut self.bytes)?;
         self.total += case.faults.len() as u32;
         Ok(())
     }

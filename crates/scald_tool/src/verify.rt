@@ -9,7 +9,7 @@ ghost use Rattle.drawn_circuit.specs.Drawn.{IsLoopless};
 ghost use Rattle.timing_analysis.specs.Case.{listed_cases, numbered};
 ghost use Rattle.timing_analysis.specs.Ended.{EndsCases, EndsEarly};
 ghost use Rattle.timing_analysis.specs.Promise.{FaultlessNeverBreaks, NeverBreaks};
-ghost use Rattle.timing_analysis.specs.Rested.{IsBaseAtRest};
+ghost use Rattle.timing_analysis.specs.Rested.{IsBaseIn};
 ghost use Rattle.timing_analysis.specs.Subject.{IsSubject};
 ghost use Rattle.listing.specs.Answer.{unsettled_line};
 ghost use Rattle.scald_tool.specs.Answer.{Verified, limit_for};
@@ -25,6 +25,7 @@ use drawn_circuit::read_circuit;
 use fixpoint_engine::EngineEnd;
 use flat_circuit::Circuit;
 use listing::{Mode, write_unsettled};
+use net_waves::Waves;
 use program_call::Reply;
 use scald_base::{Bytes, NoMemory, Outcome, Stop};
 use std::alloc::Global;
@@ -105,7 +106,7 @@ pub fn report_cases<W: CyclicWave<Item = Value>>(
     let reply = if subject.cases.is_empty() {
         only_case(alloc, subject, mode, limit, rested)?
     } else {
-        each_case(alloc, subject, mode, limit, &rested)?
+        each_case(alloc, subject, mode, limit, rested)?
     };
     Ok(Reported { reply, base })
 }
@@ -119,7 +120,8 @@ fn only_case<W: CyclicWave<Item = Value>>(
     rested: Rested<W>,
 ) -> Result<Reply<Outcome>, NoMemory>
     requires few { limit ≤ 10000000 }
-    requires rest { IsBaseAtRest subject.now.circuit limit rested.base.rounds rested.base.waves rested.known }
+    requires rest { IsBaseIn subject.now.circuit limit
+        rested.base.rounds rested.store rested.base.numbers rested.known }
     ensures { IfOk result (λ reply.
         IsReported mode subject.now.version subject.now.circuit limit rested.base.rounds (listed_cases [])
         reply.outcome reply.bytes) }
@@ -127,8 +129,9 @@ fn only_case<W: CyclicWave<Item = Value>>(
     let circuit = &subject.circuit;
     let mut report = Report::begin(alloc, subject.version, circuit)?;
     let base = rested.base.rounds;
-    let case = rested.only_case(alloc, circuit, limit)?;
-    report.add_case(circuit, mode, base, &case)?;
+    let (store, case) = rested.only_case(alloc, circuit, limit)?;
+    let waves = Waves::new(store.waves(), case.settled.numbers.as_slice());
+    report.add_case(circuit, mode, base, &case, &waves)?;
     report.end()
 }
 
@@ -139,23 +142,25 @@ fn each_case<W: CyclicWave<Item = Value>>(
     subject: &Subject,
     mode: Mode,
     limit: u32,
-    rested: &Rested<W>,
+    rested: Rested<W>,
 ) -> Result<Reply<Outcome>, EngineEnd>
     requires is { IsSubject subject.now }
     requires few { limit ≤ 10000000 }
-    requires rest { IsBaseAtRest subject.now.circuit
-        limit rested.now.base.rounds rested.now.base.waves rested.now.known }
+    requires rest { IsBaseIn subject.now.circuit
+        limit rested.base.rounds rested.store rested.base.numbers rested.known }
     ensures told { IfOk result (λ reply. IsReported mode subject.now.version
-        subject.now.circuit limit rested.now.base.rounds (numbered 1 subject.now.cases) reply.outcome reply.bytes) }
+        subject.now.circuit limit rested.base.rounds (numbered 1 subject.now.cases) reply.outcome reply.bytes) }
     ensures ended { IfErr result
-        (EndsCases subject.now.circuit limit rested.now.base.rounds (numbered 1 subject.now.cases)) }
+        (EndsCases subject.now.circuit limit rested.base.rounds (numbered 1 subject.now.cases)) }
     ensures loopless { HasNoLoop subject.now.circuit →
         outputs subject.now.circuit.instances ≤ limit → IfErr result (λ end. end ≡ EngineEnd.NoMemory) }
 {
+    let mut rested = rested;
     let mut report = Report::begin(alloc, subject.version, &subject.circuit)?;
     for place in 0..subject.cases.len() as u32 {
-        let case = subject.case(alloc, rested, place, limit)?;
-        report.add_case(&subject.circuit, mode, rested.base.rounds, &case)?;
+        let case = subject.case(alloc, &mut rested, place, limit)?;
+        let waves = Waves::new(rested.store.waves(), case.settled.numbers.as_slice());
+        report.add_case(&subject.circuit, mode, rested.base.rounds, &case, &waves)?;
     }
     Ok(report.end()?)
 }

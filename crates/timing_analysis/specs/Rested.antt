@@ -4,6 +4,7 @@ use Rattle.step_values.specs.declared.value.Value.{Value}
 use Rattle.skew_algebra.specs.Wave.{Wave}
 use Rattle.flat_circuit.specs.declared.fault.Fault.{Fault}
 use Rattle.flat_circuit.specs.Circuit.{Circuit}
+use Rattle.wave_table.specs.Table.{AreKnown, waves_at}
 use Rattle.net_waves.specs.Waves.{FitWaves, waves_of}
 use Rattle.case_analysis.specs.Base.{IsBase, PermitInputs}
 use Rattle.timing_analysis.specs.declared.faults.KnownFaults.{KnownFaults}
@@ -39,3 +40,15 @@ pub record IsCaseAtRest (c : Circuit) (limit base : ℕ) (listed : Listed) (numb
   pub few : length fs ≤ 458752
   pub kept : IsKept c base (settled_case listed rounds ws)
   pub unbroken : fs ≡ [] → IsUnbroken c base (settled_case listed rounds ws)
+
+-- ---- the same of waves that are kept in a table, by their numbers
+
+pub record IsBaseIn (c : Circuit) (limit base : ℕ) (table : List (Wave Value)) (numbers : List ℕ)
+    (known : Option KnownFaults) : Type 0 where
+  pub are : AreKnown table numbers
+  pub rest : IsBaseAtRest c limit base (waves_at table numbers) known
+
+pub record IsCaseIn (c : Circuit) (limit base : ℕ) (listed : Listed) (number rounds tick : ℕ)
+    (table : List (Wave Value)) (numbers : List ℕ) (fs : List Fault) : Type 0 where
+  pub are : AreKnown table numbers
+  pub rest : IsCaseAtRest c limit base listed number rounds tick (waves_at table numbers) fs

@@ -1,8 +1,9 @@
 //! The base and the cases of a circuit at rest, with their faults.
 
-ghost use Rattle.std.specs.Prelude.{◌≡◌, ◌≤◌, ◌<◌, ◌+◌, [], ℕ, List, IfErr, IfOk, IfSome, MatchResult, length};
+ghost use Rattle.std.specs.Prelude.{◌≡◌, ◌≤◌, ◌<◌, ◌+◌, [], ℕ, List, IfErr, IfOk, IfSome, MatchResult, OnOk, length};
 ghost use Rattle.flat_circuit.specs.Instances.{outputs};
 ghost use Rattle.flat_circuit.specs.declared.case.CaseValue.{CaseValue};
+ghost use Rattle.wave_table.specs.Table.{AreKnown, waves_at};
 ghost use Rattle.net_waves.specs.Waves.{FitWaves, waves_of};
 ghost use Rattle.fixpoint_engine.specs.End.{EndsFor};
 ghost use Rattle.fixpoint_engine.specs.Loops.{HasNoLoop};
@@ -14,25 +15,28 @@ ghost use Rattle.timing_analysis.specs.Case.{faults_of};
 ghost use Rattle.timing_analysis.specs.Ended.{EndsCase};
 ghost use Rattle.timing_analysis.specs.Known.{IsKnown};
 ghost use Rattle.timing_analysis.specs.Promise.{KeepsFaultless};
-ghost use Rattle.timing_analysis.specs.Rested.{IsBaseAtRest, IsCaseAtRest};
+ghost use Rattle.timing_analysis.specs.Rested.{IsBaseIn, IsCaseIn};
 ghost use Rattle.timing_analysis.specs.Subject.{IsSubject};
 
 use crate::faults::{KnownFaults, faults, faults_again, known_faults};
 use crate::subject::Subject;
 use case_analysis::{reach, tick};
-use fixpoint_engine::{EngineEnd, Settled};
+use fixpoint_engine::{EngineEnd, SPARE_WAVES, Settled, Store};
 use flat_circuit::{Circuit, Faults};
 use net_waves::Waves;
 use scald_base::NoMemory;
 use std::alloc::Global;
 use step_values::Value;
 use wave_core::CyclicWave;
+use wave_table::Numbers;
 
 /// The base of a circuit at rest, with which each case begins.
 #[derive(Drop)]
-pub struct Rested<W: CyclicWave> {
-    /// The waves of the base, and the round in which they settled.
-    pub base: Settled<W>,
+pub struct Rested<W: CyclicWave<Item = Value>> {
+    /// The waves by their numbers, and what was made of them.
+    pub store: Store<W>,
+    /// The numbers of the waves of the base, and the round in which they settled.
+    pub base: Settled,
     /// The faults of each instance and of each net in these waves, where there are cases: what a case
     /// leaves as it is in the base is not checked again.
     pub known: Option<KnownFaults>,
@@ -40,11 +44,11 @@ pub struct Rested<W: CyclicWave> {
 
 /// A case at rest.
 #[derive(Drop)]
-pub struct CaseAtRest<W: CyclicWave> {
+pub struct CaseAtRest {
     /// The number of the case: from 1, or 0 where a drawing lists none.
     pub number: u32,
-    /// The waves of the case, and how many rounds they took from the base on.
-    pub settled: Settled<W>,
+    /// The numbers of the waves of the case, and how many rounds they took from the base on.
+    pub settled: Settled,
     /// The tick that is printed for the case: what has no fault is not broken from there on.
     pub tick: u64,
     /// The faults of the case, in the order of the report.
@@ -60,19 +64,22 @@ impl Subject {
         limit: u32,
     ) -> Result<Rested<W>, EngineEnd>
         requires { IsSubject self.now }
-        ensures rest { IfOk result (λ r. IsBaseAtRest self.now.circuit limit r.base.rounds r.base.waves r.known) }
+        ensures rest { IfOk result (λ r.
+            IsBaseIn self.now.circuit limit r.base.rounds r.store r.base.numbers r.known) }
         ensures unsettled { IfErr result (EndsFor self.now.circuit.order (base_round self.now.circuit) limit) }
         ensures loopless { HasNoLoop self.now.circuit → outputs self.now.circuit.instances ≤ limit →
             MatchResult result (λ r.
             r.base.rounds ≤ outputs self.now.circuit.instances) (λ e. e ≡ EngineEnd.NoMemory) }
     {
-        let base = self.settled_base::<W>(alloc, limit)?;
+        let mut store: Store<W> = Store::new(alloc);
+        let base = self.settled_base(alloc, &mut store, limit)?;
         let known = if self.cases.is_empty() {
             None
         } else {
-            Some(known_faults(alloc, &self.circuit, &base.waves)?)
+            let waves = Waves::new(store.waves(), base.numbers.as_slice());
+            Some(known_faults(alloc, &self.circuit, &waves)?)
         };
-        Ok(Rested { base, known })
+        Ok(Rested { store, base, known })
     }
 
     /// The case at this place of the list, from 0, at rest, from the base on. `Unsettled` comes where it
@@ -80,26 +87,30 @@ impl Subject {
     pub fn case<W: CyclicWave<Item = Value>>(
         &self,
         alloc: Global,
-        rested: &Rested<W>,
+        rested: &mut Rested<W>,
         place: u32,
         limit: u32,
-    ) -> Result<CaseAtRest<W>, EngineEnd>
+    ) -> Result<CaseAtRest, EngineEnd>
         requires is { IsSubject self.now }
         requires few { limit ≤ 10000000 }
         requires inside { place < length self.now.cases }
-        requires rest { IsBaseAtRest self.now.circuit
-            limit rested.now.base.rounds rested.now.base.waves rested.now.known }
+        requires rest { IsBaseIn self.now.circuit limit
+            rested.old.base.rounds rested.old.store rested.old.base.numbers rested.old.known }
+        ensures kept { OnOk result (IsBaseIn self.now.circuit limit
+            rested.new.base.rounds rested.new.store rested.new.base.numbers rested.new.known) }
+        ensures round { rested.new.base.rounds ≡ rested.old.base.rounds }
         ensures rest { IfOk result (λ k.
-            IsCaseAtRest self.now.circuit limit rested.now.base.rounds
+            IsCaseIn self.now.circuit limit rested.old.base.rounds
             (record { number = place + 1; values = case_at self.now.cases place })
-            k.number k.settled.rounds k.tick k.settled.waves k.faults) }
+            k.number k.settled.rounds k.tick rested.new.store k.settled.numbers k.faults) }
         ensures unsettled { IfErr result (EndsCase self.now.circuit limit
-            rested.now.base.rounds (record { number = place + 1; values = case_at self.now.cases place })) }
+            rested.old.base.rounds (record { number = place + 1; values = case_at self.now.cases place })) }
         ensures loopless { HasNoLoop self.now.circuit →
             outputs self.now.circuit.instances ≤ limit → IfErr result (λ e. e ≡ EngineEnd.NoMemory) }
     {
-        let settled = self.settled_case(alloc, &rested.base, place, limit)?;
-        let found = faults_from(alloc, &self.circuit, rested, &settled.waves)?;
+        rested.shorten(alloc)?;
+        let settled = self.settled_case(alloc, &mut rested.store, &rested.base, place, limit)?;
+        let found = faults_from(alloc, &self.circuit, rested, &settled.numbers)?;
         let tick = tick(reach(&self.circuit), rested.base.rounds, settled.rounds);
         Ok(CaseAtRest {
             number: place + 1,
@@ -118,52 +129,85 @@ impl<W: CyclicWave<Item = Value>> Rested<W> {
         alloc: Global,
         circuit: &Circuit,
         limit: u32,
-    ) -> Result<CaseAtRest<W>, NoMemory>
+    ) -> Result<(Store<W>, CaseAtRest), NoMemory>
         requires few { limit ≤ 10000000 }
-        requires rest { IsBaseAtRest circuit.now limit self.base.rounds self.base.waves self.known }
-        ensures { IfOk result (λ k. IsCaseAtRest circuit.now limit self.base.rounds
-            (record { number = 0; values = [] }) k.number k.settled.rounds k.tick k.settled.waves k.faults) }
+        requires rest { IsBaseIn circuit.now limit self.base.rounds self.store self.base.numbers self.known }
+        ensures { IfOk result (λ k. IsCaseIn circuit.now limit self.base.rounds
+            (record { number = 0; values = [] })
+            k.1.number k.1.settled.rounds k.1.tick k.0 k.1.settled.numbers k.1.faults) }
     {
-        let Rested { base, known: _ } = self;
+        let Rested {
+            store,
+            base,
+            known: _,
+        } = self;
         let Settled {
-            waves,
+            numbers,
             rounds,
             evals: _,
         } = base;
+        let waves = Waves::new(store.waves(), numbers.as_slice());
         let found = faults(alloc, circuit, &waves)?;
         let tick = tick(reach(circuit), rounds, 0);
-        Ok(CaseAtRest {
+        let case = CaseAtRest {
             number: 0,
             settled: Settled {
-                waves,
+                numbers,
                 rounds: 0,
                 evals: 0,
             },
             tick,
             faults: found,
-        })
+        };
+        Ok((store, case))
+    }
+
+    /// Forgets the waves that are not the base's, and all evaluations, where the store has become long: cases that come
+    /// to ever new waves would else take memory without end.
+    fn shorten(&mut self, alloc: Global) -> Result<(), NoMemory>
+        requires { AreKnown self.old.store self.old.base.numbers }
+        ensures known { OnOk result (AreKnown self.new.store self.new.base.numbers) }
+        ensures same { OnOk result (waves_at self.new.store self.new.base.numbers
+            ≡ waves_at self.old.store self.old.base.numbers) }
+        ensures round { self.new.base.rounds ≡ self.old.base.rounds }
+        ensures faults { self.new.known ≡ self.old.known }
+    {
+        if self.store.len() > self.base.numbers.len() + SPARE_WAVES {
+            let numbers = self.store.compact(alloc, 0, self.base.numbers.as_slice())?;
+            self.base.numbers = numbers;
+        }
+        Ok(())
     }
 }
 
-/// The faults of a case with these waves: what it leaves as it is in the base is not checked again where
-/// the faults of the base are known.
+/// The faults of a case with the waves of these numbers: what it leaves as it is in the base is not checked again
+/// where the faults of the base are known.
 fn faults_from<W: CyclicWave<Item = Value>>(
     alloc: Global,
     circuit: &Circuit,
     rested: &Rested<W>,
-    waves: &Waves<W>,
+    numbers: &Numbers,
 ) -> Result<Faults, NoMemory>
-    requires before { FitWaves circuit.now rested.now.base.waves }
-    requires known { IfSome rested.now.known (IsKnown circuit.now (waves_of rested.now.base.waves)) }
-    requires fit { FitWaves circuit.now waves.now }
-    ensures are { IfOk result (λ faults. faults ≡ faults_of circuit.now (waves_of waves.now)) }
+    requires base { AreKnown rested.now.store rested.now.base.numbers }
+    requires before { FitWaves circuit.now (waves_at rested.now.store rested.now.base.numbers) }
+    requires known { IfSome rested.now.known
+        (IsKnown circuit.now (waves_of (waves_at rested.now.store rested.now.base.numbers))) }
+    requires numbers { AreKnown rested.now.store numbers.now }
+    requires fit { FitWaves circuit.now (waves_at rested.now.store numbers.now) }
+    ensures are { IfOk result (λ faults.
+        faults ≡ faults_of circuit.now (waves_of (waves_at rested.now.store numbers.now))) }
     ensures few { IfOk result (λ faults. length faults ≤ 458752) }
     ensures keep { IfOk result (λ faults. (values : List CaseValue) (base rounds : ℕ) →
-        PermitCase circuit.now values (base + rounds) (waves_of waves.now) →
+        PermitCase circuit.now values (base + rounds) (waves_of (waves_at rested.now.store numbers.now)) →
         KeepsFaultless circuit.now values faults (tick (reach circuit.now) base rounds)) }
 {
+    let table = rested.store.waves();
+    let waves = Waves::new(table, numbers.as_slice());
     match &rested.known {
-        Some(known) => faults_again(alloc, circuit, &rested.base.waves, known, waves),
-        None => faults(alloc, circuit, waves),
+        Some(known) => {
+            let before = Waves::new(table, rested.base.numbers.as_slice());
+            faults_again(alloc, circuit, &before, known, &waves)
+        }
+        None => faults(alloc, circuit, &waves),
     }
 }

@@ -4,6 +4,7 @@
 ghost use Rattle.std.specs.Prelude.{◌≡◌, ◌≤◌, ◌<◌, ◌+◌, ℕ, Bool, IfErr, IfOk, MatchResult, length};
 ghost use Rattle.std.specs.List.{All};
 ghost use Rattle.flat_circuit.specs.Instances.{outputs};
+ghost use Rattle.wave_table.specs.Table.{AreKnown, Grows, waves_at};
 ghost use Rattle.net_waves.specs.Waves.{FitWaves, waves_of};
 ghost use Rattle.fixpoint_engine.specs.End.{EndsFor};
 ghost use Rattle.fixpoint_engine.specs.Loops.{HasNoLoop};
@@ -14,7 +15,7 @@ ghost use Rattle.timing_analysis.specs.Subject.{AreClasses, IsSubject};
 use case_analysis::{base, base_classes, case_at, case_classes, case_waves};
 use class_table::{ClassMap, classes, stable};
 use drawn_circuit::Drawn;
-use fixpoint_engine::{EngineEnd, Settled};
+use fixpoint_engine::{EngineEnd, Settled, Store};
 use flat_circuit::{CaseList, Circuit};
 use scald_base::NoMemory;
 use std::alloc::Global;
@@ -76,20 +77,25 @@ impl Subject {
     pub(crate) fn settled_base<W: CyclicWave<Item = Value>>(
         &self,
         alloc: Global,
+        store: &mut Store<W>,
         limit: u32,
-    ) -> Result<Settled<W>, EngineEnd>
+    ) -> Result<Settled, EngineEnd>
         requires classes { AreClasses self.now.circuit self.now.cases self.now.classes }
-        ensures rest { IfOk result (λ s. IsBase self.now.circuit limit s.rounds (waves_of s.waves)) }
+        ensures grows { Grows store.old store.new }
+        ensures known { IfOk result (λ s. AreKnown store.new s.numbers) }
+        ensures rest { IfOk result (λ s. IsBase self.now.circuit limit s.rounds (waves_of (waves_at store.new s.numbers))) }
         ensures within { IfOk result (λ s. s.rounds ≤ limit) }
-        ensures fit { IfOk result (λ s. FitWaves self.now.circuit s.waves) }
-        ensures sound { IfOk result (λ s. PermitInputs self.now.circuit s.rounds (waves_of s.waves)) }
+        ensures fit { IfOk result (λ s. FitWaves self.now.circuit (waves_at store.new s.numbers)) }
+        ensures sound { IfOk result (λ s. PermitInputs self.now.circuit s.rounds (waves_of (waves_at store.new s.numbers))) }
         ensures unsettled { IfErr result (EndsFor self.now.circuit.order (base_round self.now.circuit) limit) }
         ensures loopless { HasNoLoop self.now.circuit → outputs self.now.circuit.instances ≤ limit →
             MatchResult result (λ s. s.rounds ≤ outputs self.now.circuit.instances) (λ e. e ≡ EngineEnd.NoMemory) }
     {
         match &self.classes {
-            Some(classes) => base_classes(alloc, &self.circuit, &self.cases, classes, limit),
-            None => base(alloc, &self.circuit, limit),
+            Some(classes) => {
+                base_classes(alloc, &self.circuit, store, &self.cases, classes, limit)
+            }
+            None => base(alloc, &self.circuit, store, limit),
         }
     }
 
@@ -98,25 +104,29 @@ impl Subject {
     pub(crate) fn settled_case<W: CyclicWave<Item = Value>>(
         &self,
         alloc: Global,
-        base: &Settled<W>,
+        store: &mut Store<W>,
+        base: &Settled,
         number: u32,
         limit: u32,
-    ) -> Result<Settled<W>, EngineEnd>
+    ) -> Result<Settled, EngineEnd>
+        requires known { AreKnown store.old base.now.numbers }
         requires classes { AreClasses self.now.circuit self.now.cases self.now.classes }
         requires number { number < length self.now.cases }
         requires exist { NetsExist self.now.circuit (case_at self.now.cases number) }
-        requires base { IsBase self.now.circuit base.now.rounds base.now.rounds (waves_of base.now.waves) }
-        requires fit { FitWaves self.now.circuit base.now.waves }
+        requires base { IsBase self.now.circuit base.now.rounds base.now.rounds (waves_of (waves_at store.old base.now.numbers)) }
+        requires fit { FitWaves self.now.circuit (waves_at store.old base.now.numbers) }
+        ensures grows { Grows store.old store.new }
+        ensures known { IfOk result (λ s. AreKnown store.new s.numbers) }
         ensures rest { let case = case_at self.now.cases number in
-            let before = waves_of base.now.waves in
+            let before = waves_of (waves_at store.old base.now.numbers) in
             IfOk result (λ s. (cone : ℕ → Bool) → IsCone self.now.circuit case cone →
-            IsCase self.now.circuit case cone before limit s.rounds (waves_of s.waves)) }
+            IsCase self.now.circuit case cone before limit s.rounds (waves_of (waves_at store.new s.numbers))) }
         ensures within { IfOk result (λ s. s.rounds ≤ limit) }
-        ensures fit { IfOk result (λ s. FitWaves self.now.circuit s.waves) }
+        ensures fit { IfOk result (λ s. FitWaves self.now.circuit (waves_at store.new s.numbers)) }
         ensures sound { IfOk result (λ s. PermitCase self.now.circuit
-            (case_at self.now.cases number) (base.now.rounds + s.rounds) (waves_of s.waves)) }
+            (case_at self.now.cases number) (base.now.rounds + s.rounds) (waves_of (waves_at store.new s.numbers))) }
         ensures unsettled { let case = case_at self.now.cases number in
-            let before = waves_of base.now.waves in
+            let before = waves_of (waves_at store.old base.now.numbers) in
             IfErr result (λ e. (cone : ℕ → Bool) → IsCone self.now.circuit case cone →
             EndsFor self.now.circuit.order (case_round self.now.circuit case cone before) limit e) }
         ensures cone { let case = case_at self.now.cases number in
@@ -128,6 +138,7 @@ impl Subject {
             Some(classes) => case_classes(
                 alloc,
                 &self.circuit,
+                store,
                 &self.cases,
                 classes,
                 base,
@@ -136,7 +147,7 @@ impl Subject {
             ),
             None => {
                 let case = case_at(&self.cases, number);
-                case_waves(alloc, &self.circuit, base, case, limit)
+                case_waves(alloc, &self.circuit, store, base, case, limit)
             }
         }
     }

@@ -1,21 +1,38 @@
-use Rattle.std.proofs.Common.{◌∙◌, length, sym, ap, refl, false, IsTrue, slice_index_or}
-use Rattle.std.proofs.lemmas.Bool.{true≢false}
-use Rattle.net_waves.specs.Waves.{waves_of}
-use Rattle.net_waves.proofs.WavesOf.{wave_found}
-use Rattle.fixpoint_engine.proofs.Changing.{change_added, nothing_added}
+use Rattle.std.proofs.Common.{◌∙◌, ◌++◌, ◌∷◌, [], length, map, sym, ap, subst, refl, arith}
+use Rattle.std.proofs.lemmas.Bool.{eqb-true, eqb-false}
+use Rattle.std.proofs.lemmas.List.{map-append}
+use Rattle.wave_table.specs.Table.{AreKnown}
+use Rattle.wave_table.proofs.Growing.{known_still}
+use Rattle.wave_table.proofs.ByNumber.{number_below, known_more}
+use Rattle.fixpoint_engine.proofs.Added.{number_added, number_stays}
+use Rattle.fixpoint_engine.proofs.Keys.{each_number}
 use Rattle.fixpoint_engine.proofs.changes.add_change.Goals as goal
 
-pub returns-in_ok-push : goal.returns-in_ok-push
-returns-in_ok-push g c =
-    let read = c.index-as_slice-net.is ∙ ap (λ xs. slice_index_or xs c.args.net c.index-as_slice-net.result) c.as_slice.ensures in
-    let old = wave_found c.args.waves.now c.args.net (length c.args.c.now.nets) c.index-as_slice-net.result c.requires.exists c.requires.fit.each_net read in
-    change_added (λ ch. (ch.net, ch.wave)) c.args.made.now.items c.push.new.self.items (record { net = c.args.net; wave = c.in_ok-wave.wave }) c.args.c.now (waves_of c.args.waves.now) c.args.net
-    c.in_ok-wave.wave c.in_ok-push.ensures.items refl c.in_ok-wave.ensures
-    (λ e. let t : IsTrue false = c.if-not-same.ensures.1 (e ∙ sym old) in absurd (true≢false (sym t)))
+pub returns-in_ok-push-clause-known : goal.returns-in_ok-push-clause-known
+returns-in_ok-push-clause-known g c =
+    known_more c.args.store.now c.evaluated.new.store (map (λ ch. ch.number) c.args.made.now.items) (map (λ ch. ch.number) c.push.new.self.items)
+    c.in_ok-number.number c.in_ok-number.ensures.grows c.requires.made (number_below c.evaluated.new.store _ c.in_ok-number.number c.in_ok-number.ensures.is)
+    (ap (map (λ ch. ch.number)) c.in_ok-push.ensures.items
+    ∙ map-append (λ ch. ch.number) c.args.made.now.items (record { net = c.args.net; number = c.in_ok-number.number } ∷ []))
 
-pub returns-else-not-same : goal.returns-else-not-same
-returns-else-not-same g c =
-    let read = c.index-as_slice-net.is ∙ ap (λ xs. slice_index_or xs c.args.net c.index-as_slice-net.result) c.as_slice.ensures in
-    let old = wave_found c.args.waves.now c.args.net (length c.args.c.now.nets) c.index-as_slice-net.result c.requires.exists c.requires.fit.each_net read in
-    nothing_added (λ ch. (ch.net, ch.wave)) c.args.made.now.items c.args.c.now (waves_of c.args.waves.now) c.args.net
-    c.in_ok-wave.wave c.in_ok-wave.ensures (c.if-not-same.ensures.0 refl ∙ old)
+pub returns-in_ok-push-clause-made : goal.returns-in_ok-push-clause-made
+returns-in_ok-push-clause-made g c =
+    let each = each_number c.args.c.now c.args.store.now c.args.numbers.now c.requires.fit in
+    let exists = c.requires.exists in
+    number_added c.args.c.now c.args.store.now c.evaluated.new.store c.args.numbers.now c.args.net c.in_ok-number.number
+    c.in_ok-number.ensures.grows c.requires.known (omega (arith, each, exists)) c.in_ok-number.ensures.is
+    (λ ch. ch.net) (λ ch. ch.number) c.args.made.now.items c.requires.made c.push.new.self.items
+    (record { net = c.args.net; number = c.in_ok-number.number }) c.in_ok-push.ensures.items refl refl c.known.ensures
+    (λ e. eqb-false c.in_ok-number.number _ (sym c.if-number.true) e)
+
+pub returns-else-number-clause-known : goal.returns-else-number-clause-known
+returns-else-number-clause-known g c =
+    known_still c.args.store.now c.evaluated.new.store c.in_ok-number.ensures.grows (map (λ ch. ch.number) c.args.made.now.items) c.requires.made
+
+pub returns-else-number-clause-made : goal.returns-else-number-clause-made
+returns-else-number-clause-made g c =
+    let each = each_number c.args.c.now c.args.store.now c.args.numbers.now c.requires.fit in
+    let exists = c.requires.exists in
+    number_stays c.args.c.now c.args.store.now c.evaluated.new.store c.args.numbers.now c.args.net c.in_ok-number.number
+    c.in_ok-number.ensures.grows c.requires.known (omega (arith, each, exists)) c.in_ok-number.ensures.is
+    (λ ch. ch.net) (λ ch. ch.number) c.args.made.now.items c.requires.made (eqb-true c.in_ok-number.number _ (sym c.if-number.false))

@@ -1,8 +1,14 @@
-use Rattle.std.proofs.Common.{◌≡◌, map}
+use Rattle.std.proofs.Common.{◌≡◌, List, length, map, take}
+use Rattle.step_values.specs.declared.value.Value.{Value}
+use Rattle.skew_algebra.specs.Wave.{Wave}
+use Rattle.wave_table.specs.Table.{AreKnown, wave_at, waves_at}
 use Rattle.fixpoint_engine.specs.Worklist.{changed}
 use Rattle.fixpoint_engine.proofs.changes.apply.Given as goal
 
 abbrev pub invariant-loop-change : goal.invariant-loop-change
-invariant-loop-change g l =
-    l.waves
-    ≡ changed l.initial.waves (map (λ ch. (ch.net, ch.wave)) l.yielded)
+invariant-loop-change g l = record {
+  long : length l.numbers ≡ length l.initial.numbers;
+  known : (table : List (Wave Value)) → AreKnown table l.initial.numbers → AreKnown table (map (λ ch. ch.number) l.changes) → AreKnown table l.numbers;
+  changed : (table : List (Wave Value)) → waves_at table l.numbers
+      ≡ changed (waves_at table l.initial.numbers) (map (λ ch. (ch.net, wave_at table ch.number)) (take l.change-index l.changes));
+}

@@ -1,122 +1,48 @@
-use Rattle.std.proofs.Common.{◌∙◌, ◌<◌, ◌&&◌, List, ℕ, map, length, ap, subst, refl, arith}
+use Rattle.std.proofs.Common.{◌≡◌, ◌+◌, length, sym, subst}
+use Rattle.std.specs.Prelude.{IfErr, IfOk}
 use Rattle.std.specs.Option.{option_copied}
-use Rattle.std.proofs.lemmas.List.Elements.{All-same}
-use Rattle.scald_base.specs.Time.{period}
-use Rattle.net_waves.specs.Waves.{waves_of}
-use Rattle.flat_circuit.specs.Circuit.{driver}
-use Rattle.fixpoint_engine.specs.Settled.{marked_in}
-use Rattle.fixpoint_engine.specs.Work.{hears_in}
-use Rattle.fixpoint_engine.specs.Worklist.{among}
-use Rattle.fixpoint_engine.specs.Members.{numbers_in, is_evaluated}
-use Rattle.fixpoint_engine.proofs.Changing.{all_read, nets_below, nets_made, none_made, some_made}
-use Rattle.fixpoint_engine.proofs.Alone.{each_numbered, evaluated_first}
-use Rattle.fixpoint_engine.proofs.Kept.{kept_start, kept_more, made_of, waiting_exist, made_exist, rests, works, keeps, ends_by}
+use Rattle.wave_table.proofs.Growing.{known_still, same_waves}
+use Rattle.wave_table.specs.Table.{waves_at}
+use Rattle.net_waves.specs.Waves.{FitWaves, waves_of}
+use Rattle.fixpoint_engine.specs.Rounds.{round}
+use Rattle.fixpoint_engine.specs.End.{EndsFor}
+use Rattle.fixpoint_engine.specs.Settled.{marked_in, AreAtRest, KeepRuns}
+use Rattle.fixpoint_engine.specs.Classes.{OneStandsForAll, class_work_to}
+use Rattle.fixpoint_engine.specs.Members.{numbers_in}
 use Rattle.fixpoint_engine.proofs.rounds.settle_firsts.Goals as goal
 
-pub rounds-init : goal.rounds-init
-rounds-init g c = record {
-  kept = kept_start c.args.c.now (marked_in c.args.active.now) (numbers_in (length c.args.c.now.nets) (option_copied c.args.classes)) c.args.start.now c.in_ok-waves.waves c.in_ok-queue.queue
-      (is_evaluated c.args.active.now (option_copied c.args.classes)) c.requires.waves
-      (λ i. evaluated_first c.args.c.now c.args.active.now (option_copied c.args.classes) i c.requires.active c.requires.classes.each_net)
-      (c.in_ok-waves.ensures ∙ c.as_slice.ensures) c.in_ok-queue.ensures.each_net c.in_ok-queue.ensures.are;
-  within = omega arith;
-}
+pub rounds_from-requires-clause-known : goal.rounds_from-requires-clause-known
+rounds_from-requires-clause-known g c =
+    known_still c.args.store.now c.constants.new.store c.in_ok-constants.ensures.grows c.args.start.now c.requires.known
 
-pub class_changes-requires-clause-each_net : goal.class_changes-requires-clause-each_net
-class_changes-requires-clause-each_net g c = each_numbered (length c.args.c.now.nets) (option_copied c.args.classes) c.requires.classes.each_net
+pub rounds_from-requires-clause-waves : goal.rounds_from-requires-clause-waves
+rounds_from-requires-clause-waves g c =
+    subst (FitWaves c.args.c.now) (sym (same_waves c.args.store.now c.constants.new.store c.in_ok-constants.ensures.grows c.args.start.now c.requires.known)) c.requires.waves
 
-pub class_changes-requires-clause-exist : goal.class_changes-requires-clause-exist
-class_changes-requires-clause-exist g c =
-    All-same (λ net. net < length c.args.c.now.nets) c.nets.result.now c.rounds.queue.nets c.nets.ensures.nets
-    (waiting_exist c.args.c.now (marked_in c.args.active.now) (numbers_in (length c.args.c.now.nets) (option_copied c.args.classes))
-    (waves_of c.args.start.now) c.requires.classes c.rounds.waves
-    c.rounds.queue c.rounds.rounds c.rounds.evals c.rounds.invariant.kept c.nets.ensures.once)
+pub rounds_from-requires-clause-classes : goal.rounds_from-requires-clause-classes
+rounds_from-requires-clause-classes g c =
+    subst (λ ws. OneStandsForAll c.args.c.now (marked_in c.args.active.now) (numbers_in (length c.args.c.now.nets) (option_copied c.args.classes)) (waves_of ws))
+    (sym (same_waves c.args.store.now c.constants.new.store c.in_ok-constants.ensures.grows c.args.start.now c.requires.known)) c.requires.classes
 
-pub returns-then-is_empty-clause-rest : goal.returns-then-is_empty-clause-rest
-returns-then-is_empty-clause-rest g c =
-    rests c.args.c.now (marked_in c.args.active.now) (numbers_in (length c.args.c.now.nets) (option_copied c.args.classes))
-    (waves_of c.args.start.now) c.requires.classes c.rounds.waves c.rounds.queue
-    c.rounds.rounds c.rounds.evals c.rounds.invariant.kept (map (λ ch. (ch.net, ch.wave)) c.in_ok-made.made.items)
-    (made_of c.args.c.now (marked_in c.args.active.now) (option_copied c.args.classes) (waves_of c.args.start.now)
-    c.requires.classes c.rounds.waves c.rounds.queue c.rounds.rounds c.rounds.evals c.rounds.invariant.kept
-    c.nets.result.now (map (λ ch. (ch.net, ch.wave)) c.in_ok-made.made.items) c.nets.ensures.once c.nets.ensures.nets c.in_ok-made.ensures)
-    c.args.limit (none_made (λ ch. (ch.net, ch.wave)) c.in_ok-made.made.items _ c.in_ok-made.made.ok.0 c.if-is_empty.ensures) c.rounds.invariant.within
+-- the waves at the start are the same after the constants came to the table
+pub returns-clause-rest : goal.returns-clause-rest
+returns-clause-rest g c =
+    subst (λ ws. IfOk c.rounds_from.result (λ s. AreAtRest c.args.c.now (marked_in c.args.active.now) (waves_of ws) c.args.limit s.rounds
+    (waves_of (waves_at c.rounds_from.new.store s.numbers))))
+    (same_waves c.args.store.now c.constants.new.store c.in_ok-constants.ensures.grows c.args.start.now c.requires.known) c.rounds_from.ensures.rest
 
-pub returns-then-is_empty-clause-work : goal.returns-then-is_empty-clause-work
-returns-then-is_empty-clause-work g c =
-    works c.args.c.now (marked_in c.args.active.now) (numbers_in (length c.args.c.now.nets) (option_copied c.args.classes))
-    (waves_of c.args.start.now) c.requires.classes c.rounds.waves c.rounds.queue
-    c.rounds.rounds c.rounds.evals c.rounds.invariant.kept (map (λ ch. (ch.net, ch.wave)) c.in_ok-made.made.items)
-    (made_of c.args.c.now (marked_in c.args.active.now) (option_copied c.args.classes) (waves_of c.args.start.now)
-    c.requires.classes c.rounds.waves c.rounds.queue c.rounds.rounds c.rounds.evals c.rounds.invariant.kept
-    c.nets.result.now (map (λ ch. (ch.net, ch.wave)) c.in_ok-made.made.items) c.nets.ensures.once c.nets.ensures.nets c.in_ok-made.ensures)
-    c.nets-in-rounds.result.now c.nets-in-rounds.ensures.nets
+pub returns-clause-work : goal.returns-clause-work
+returns-clause-work g c =
+    subst (λ ws. IfOk c.rounds_from.result (λ s. s.evals ≡ class_work_to c.args.c.now (numbers_in (length c.args.c.now.nets) (option_copied c.args.classes))
+    (marked_in c.args.active.now) (round c.args.c.now (marked_in c.args.active.now) (waves_of ws)) (s.rounds + 1)))
+    (same_waves c.args.store.now c.constants.new.store c.in_ok-constants.ensures.grows c.args.start.now c.requires.known) c.rounds_from.ensures.work
 
-pub returns-then-is_empty-clause-sound : goal.returns-then-is_empty-clause-sound
-returns-then-is_empty-clause-sound g c =
-    let some : 0 < period c.args.c.now.header = subst (λ h. 0 < period h) c.header.ensures (let two = c.known-2.ensures.shortest in omega (arith, two)) in
-    keeps c.args.c.now (marked_in c.args.active.now) (numbers_in (length c.args.c.now.nets) (option_copied c.args.classes))
-    (waves_of c.args.start.now) c.requires.classes c.rounds.waves c.rounds.queue
-    c.rounds.rounds c.rounds.evals c.rounds.invariant.kept c.known.ensures some c.requires.waves.each_slot
+pub returns-clause-sound : goal.returns-clause-sound
+returns-clause-sound g c =
+    subst (λ ws. IfOk c.rounds_from.result (λ s. KeepRuns c.args.c.now (waves_of ws) s.rounds (waves_of (waves_at c.rounds_from.new.store s.numbers))))
+    (same_waves c.args.store.now c.constants.new.store c.in_ok-constants.ensures.grows c.args.start.now c.requires.known) c.rounds_from.ensures.sound
 
-pub unsettled-requires-clause-exist : goal.unsettled-requires-clause-exist
-unsettled-requires-clause-exist g c =
-    All-same (λ ch. ch.net < length c.args.c.now.nets) c.deref.result.now c.in_ok-made.made.items c.deref.ensures.value
-    (all_read (λ ch. (ch.net, ch.wave)) (λ ch. ch.0 < length c.args.c.now.nets) c.in_ok-made.made.items
-    (made_exist c.args.c.now (marked_in c.args.active.now) (numbers_in (length c.args.c.now.nets) (option_copied c.args.classes))
-    (waves_of c.args.start.now) c.requires.classes c.rounds.waves c.rounds.queue
-    c.rounds.rounds c.rounds.evals c.rounds.invariant.kept (map (λ ch. (ch.net, ch.wave)) c.in_ok-made.made.items)
-    (made_of c.args.c.now (marked_in c.args.active.now) (option_copied c.args.classes) (waves_of c.args.start.now)
-    c.requires.classes c.rounds.waves c.rounds.queue c.rounds.rounds c.rounds.evals c.rounds.invariant.kept
-    c.nets.result.now (map (λ ch. (ch.net, ch.wave)) c.in_ok-made.made.items) c.nets.ensures.once c.nets.ensures.nets c.in_ok-made.ensures)))
-
-pub returns-then-rounds-limit-clause-unsettled : goal.returns-then-rounds-limit-clause-unsettled
-returns-then-rounds-limit-clause-unsettled g c =
-    ends_by (λ ch. (ch.net, ch.wave)) (λ ch. ch.net) c.args.c.now (marked_in c.args.active.now)
-    (numbers_in (length c.args.c.now.nets) (option_copied c.args.classes)) (waves_of c.args.start.now) c.requires.classes c.rounds.waves
-    c.rounds.queue c.args.limit c.rounds.rounds c.rounds.evals c.in_ok-made.made.items
-    c.deref.result.now c.in_ok-unsettled.field-0 (λ ch. refl) c.rounds.invariant.kept
-    (made_of c.args.c.now (marked_in c.args.active.now) (option_copied c.args.classes) (waves_of c.args.start.now)
-    c.requires.classes c.rounds.waves c.rounds.queue c.rounds.rounds c.rounds.evals c.rounds.invariant.kept
-    c.nets.result.now (map (λ ch. (ch.net, ch.wave)) c.in_ok-made.made.items) c.nets.ensures.once c.nets.ensures.nets c.in_ok-made.ensures)
-    c.if-rounds-limit.true c.deref.ensures.value c.in_ok-unsettled.ensures
-
-pub refill-requires-clause-exist : goal.refill-requires-clause-exist
-refill-requires-clause-exist g c =
-    All-same (λ ch. ch.net < length c.args.c.now.nets) c.deref-in-rounds.result.now c.in_ok-made.made.items c.deref-in-rounds.ensures.value
-    (all_read (λ ch. (ch.net, ch.wave)) (λ ch. ch.0 < length c.args.c.now.nets) c.in_ok-made.made.items
-    (made_exist c.args.c.now (marked_in c.args.active.now) (numbers_in (length c.args.c.now.nets) (option_copied c.args.classes))
-    (waves_of c.args.start.now) c.requires.classes c.rounds.waves c.rounds.queue
-    c.rounds.rounds c.rounds.evals c.rounds.invariant.kept (map (λ ch. (ch.net, ch.wave)) c.in_ok-made.made.items)
-    (made_of c.args.c.now (marked_in c.args.active.now) (option_copied c.args.classes) (waves_of c.args.start.now)
-    c.requires.classes c.rounds.waves c.rounds.queue c.rounds.rounds c.rounds.evals c.rounds.invariant.kept
-    c.nets.result.now (map (λ ch. (ch.net, ch.wave)) c.in_ok-made.made.items) c.nets.ensures.once c.nets.ensures.nets c.in_ok-made.ensures)))
-
-pub apply-requires : goal.apply-requires
-apply-requires g c =
-    nets_below (λ ch. ch.net) c.in_ok-made.made.items (length c.rounds.waves) (length c.args.c.now.nets) (c.rounds.invariant.kept.fit.each_net)
-    (all_read (λ ch. (ch.net, ch.wave)) (λ ch. ch.0 < length c.args.c.now.nets) c.in_ok-made.made.items
-    (made_exist c.args.c.now (marked_in c.args.active.now) (numbers_in (length c.args.c.now.nets) (option_copied c.args.classes))
-    (waves_of c.args.start.now) c.requires.classes c.rounds.waves c.rounds.queue
-    c.rounds.rounds c.rounds.evals c.rounds.invariant.kept (map (λ ch. (ch.net, ch.wave)) c.in_ok-made.made.items)
-    (made_of c.args.c.now (marked_in c.args.active.now) (option_copied c.args.classes) (waves_of c.args.start.now)
-    c.requires.classes c.rounds.waves c.rounds.queue c.rounds.rounds c.rounds.evals c.rounds.invariant.kept
-    c.nets.result.now (map (λ ch. (ch.net, ch.wave)) c.in_ok-made.made.items) c.nets.ensures.once c.nets.ensures.nets c.in_ok-made.ensures)))
-
-pub rounds-preserved : goal.rounds-preserved
-rounds-preserved g c =
-    let some : 0 < period c.args.c.now.header = subst (λ h. 0 < period h) c.header.ensures (let two = c.known-2.ensures.shortest in omega (arith, two)) in
-    record {
-      kept = kept_more c.args.c.now (marked_in c.args.active.now) (numbers_in (length c.args.c.now.nets) (option_copied c.args.classes))
-          (waves_of c.args.start.now) c.requires.classes c.rounds.waves c.rounds.queue
-          c.rounds.rounds c.rounds.evals c.rounds.invariant.kept (map (λ ch. (ch.net, ch.wave)) c.in_ok-made.made.items)
-          (made_of c.args.c.now (marked_in c.args.active.now) (option_copied c.args.classes) (waves_of c.args.start.now)
-          c.requires.classes c.rounds.waves c.rounds.queue c.rounds.rounds c.rounds.evals c.rounds.invariant.kept
-          c.nets.result.now (map (λ ch. (ch.net, ch.wave)) c.in_ok-made.made.items) c.nets.ensures.once c.nets.ensures.nets c.in_ok-made.ensures)
-          c.apply.new.waves c.refill.new.self c.nets-in-rounds.result.now (is_evaluated c.args.active.now (option_copied c.args.classes)) c.known.ensures some c.requires.waves.each_slot
-          c.nets-in-rounds.ensures.nets (some_made (λ ch. (ch.net, ch.wave)) c.in_ok-made.made.items _ c.in_ok-made.made.ok.0 c.if-is_empty.ensures)
-          c.apply.ensures c.in_ok-refill.ensures.each_net (λ i. evaluated_first c.args.c.now c.args.active.now (option_copied c.args.classes) i c.requires.active c.requires.classes.each_net)
-          (λ i. c.in_ok-refill.ensures.due i ∙ ap (λ (nets : List ℕ). is_evaluated c.args.active.now (option_copied c.args.classes) i && hears_in (among nets) (driver c.args.c.now i))
-          (nets_made (λ ch. (ch.net, ch.wave)) (λ ch. ch.net) c.in_ok-made.made.items c.deref-in-rounds.result.now (λ ch. refl) c.deref-in-rounds.ensures.value));
-      within = omega (arith, c.rounds.invariant.within, c.if-rounds-limit.false);
-    }
+pub returns-clause-unsettled : goal.returns-clause-unsettled
+returns-clause-unsettled g c =
+    subst (λ ws. IfErr c.rounds_from.result (EndsFor c.args.c.now.order (round c.args.c.now (marked_in c.args.active.now) (waves_of ws)) c.args.limit))
+    (same_waves c.args.store.now c.constants.new.store c.in_ok-constants.ensures.grows c.args.start.now c.requires.known) c.rounds_from.ensures.unsettled

@@ -1,0 +1,57 @@
+-- One net more that was evaluated, in a table that grew by it.
+use Rattle.std.proofs.Common.{◌≡◌, ◌≢◌, ℕ, zero, suc, ◌<◌, List, [], ◌∷◌, ◌++◌, length, map, refl, sym, ap, ◌∙◌, get_or, arith}
+use Rattle.std.specs.List.{AllByRecursion}
+use Rattle.step_values.specs.declared.value.Value.{Value}
+use Rattle.skew_algebra.specs.Wave.{Wave}
+use Rattle.flat_circuit.specs.Circuit.{Circuit}
+use Rattle.wave_table.specs.Table.{AreDistinct, AreKnown, Grows, IsNumber, wave_at, waves_at}
+use Rattle.wave_table.proofs.Growing.{below_still, same_wave_at}
+use Rattle.wave_table.proofs.ByNumber.{number_below, number_reads, one_number}
+use Rattle.net_waves.specs.Waves.{waves_of}
+use Rattle.fixpoint_engine.specs.Rounds.{evaluated}
+use Rattle.fixpoint_engine.specs.Worklist.{changes_of}
+use Rattle.fixpoint_engine.proofs.Changing.{change_added, nothing_added}
+use Rattle.fixpoint_engine.proofs.Numbered.{reads_still}
+
+-- the wave of a net, by its number
+read_number : (table : List (Wave Value)) (ns : List ℕ) (i : ℕ) → i < length ns → waves_of (waves_at table ns) i ≡ wave_at table (get_or ns i 0)
+read_number table [] i below = absurd (omega arith)
+read_number table (n ∷ ns) zero below = refl
+read_number table (n ∷ ns) (suc i) below = read_number table ns i (omega (arith, below))
+
+known_number : (P : ℕ → Type 0) (ns : List ℕ) (i : ℕ) → AllByRecursion P ns → i < length ns → P (get_or ns i 0)
+known_number P [] i known below = absurd (omega arith)
+known_number P (n ∷ ns) zero known below = known.0
+known_number P (n ∷ ns) (suc i) known below = known_number P ns i known.1 (omega (arith, below))
+
+module _ (c : Circuit) (old new : List (Wave Value)) (ns : List ℕ) (net n : ℕ) (g : Grows old new) (known : AreKnown old ns) (below : net < length ns)
+    (at : IsNumber new (evaluated c (waves_of (waves_at old ns)) net) n) where
+  -- what the net had, in the table that has grown
+  had : wave_at new (get_or ns net 0) ≡ waves_of (waves_at old ns) net
+  had = same_wave_at old new g (get_or ns net 0) (known_number (λ m. m < length old) ns net known below) ∙ sym (read_number old ns net below)
+
+  made_wave : wave_at new n ≡ evaluated c (waves_of (waves_at old ns)) net
+  made_wave = number_reads new (evaluated c (waves_of (waves_at old ns)) net) n at
+
+  module _ {A : Type 0} (of number : A → ℕ) (xs : List A) (xs-known : AreKnown old (map number xs)) where
+    before : map (λ x. (of x, wave_at new (number x))) xs ≡ map (λ x. (of x, wave_at old (number x))) xs
+    before = reads_still of number old new g xs xs-known
+
+    -- the number differs: so does the wave, and the change is added
+    pub number_added : (ys : List A) (one : A) → ys ≡ xs ++ one ∷ [] → of one ≡ net → number one ≡ n → AreDistinct new → n ≢ get_or ns net 0 →
+        map (λ x. (of x, wave_at new (number x))) ys
+        ≡ map (λ x. (of x, wave_at old (number x))) xs ++ changes_of c (waves_of (waves_at old ns)) (net ∷ [])
+    number_added ys one put is numbered distinct differs =
+        change_added (λ x. (of x, wave_at new (number x))) xs ys one c (waves_of (waves_at old ns)) net (wave_at new n) put
+        (λ i. (is i, wave_at new (numbered i))) made_wave
+        (λ e. differs (one_number new n (get_or ns net 0) distinct (number_below new _ n at)
+        (below_still old new g (get_or ns net 0) (known_number (λ m. m < length old) ns net known below)) (e ∙ sym had)))
+        ∙ ap (λ l. l ++ changes_of c (waves_of (waves_at old ns)) (net ∷ [])) before
+
+    -- the number is the same: so is the wave, and nothing changes
+    pub number_stays : n ≡ get_or ns net 0 →
+        map (λ x. (of x, wave_at new (number x))) xs
+        ≡ map (λ x. (of x, wave_at old (number x))) xs ++ changes_of c (waves_of (waves_at old ns)) (net ∷ [])
+    number_stays same =
+        nothing_added (λ x. (of x, wave_at new (number x))) xs c (waves_of (waves_at old ns)) net (wave_at new n) made_wave (ap (wave_at new) same ∙ had)
+        ∙ ap (λ l. l ++ changes_of c (waves_of (waves_at old ns)) (net ∷ [])) before
