@@ -1,4 +1,5 @@
 pub mod Start
+pub mod Numbered
 pub mod Inputs
 pub mod Marked
 pub mod Coning

@@ -4,7 +4,6 @@ ghost use Rattle.std.specs.Prelude.{◌≡◌, ◌≤◌, ◌+◌, ◌<◌, ℕ,
 ghost use Rattle.flat_circuit.specs.Instances.{outputs};
 ghost use Rattle.step_values.specs.declared.value.Value.{Value as OfValues};
 ghost use Rattle.skew_algebra.specs.Wave.{Wave};
-ghost use Rattle.flat_circuit.specs.Circuit.{Circuit as Flat};
 ghost use Rattle.wave_table.specs.Table.{AreKnown, Grows, IsNumber, waves_at};
 ghost use Rattle.net_waves.specs.Waves.{FitWaves, waves_of};
 ghost use Rattle.fixpoint_engine.specs.End.{EndsFor};
@@ -18,7 +17,7 @@ ghost use Rattle.case_analysis.specs.Case.{EndsInCone, HasCone, IsCase, IsCone, 
 use crate::base_rounds::unknown_wave;
 use crate::cones::cone;
 use crate::parts::net_of;
-use fixpoint_engine::{EngineEnd, NetSet, Settled, Store, constants, settle};
+use fixpoint_engine::{EngineEnd, NetSet, Settled, Store, constant_numbers, settle};
 use flat_circuit::{Case, Circuit};
 use scald_base::{List, NoMemory};
 use std::alloc::Global;
@@ -30,24 +29,27 @@ use wave_table::Numbers;
 /// reaches, and each other net is as it was.
 fn unset_numbers(
     alloc: Global,
+    c: &Circuit,
     cone: &NetSet,
     before: &[u32],
     unknown: u32,
 ) -> Result<Numbers, NoMemory>
-    requires { length cone.now ≡ length before.now }
-    ensures each_net { IfOk result (λ numbers. length numbers ≡ length before.now) }
+    requires cone { length cone.now ≡ length c.now.nets }
+    requires each_net { length before.now ≡ length c.now.nets }
+    ensures each_net { IfOk result (λ numbers. length numbers ≡ length c.now.nets) }
     ensures known { IfOk result (λ numbers. (table : List (Wave OfValues)) →
         AreKnown table before.now → unknown < length table → AreKnown table numbers) }
-    ensures is { IfOk result (λ numbers. (c : Flat) (table : List (Wave OfValues)) →
-        IsNumber table (unknown_wave c.header) unknown → (i : ℕ) → waves_of (waves_at table numbers) i
-        ≡ case_start c [] (marked_in cone.now) (waves_of (waves_at table before.now)) i) }
+    ensures is { IfOk result (λ numbers. (table : List (Wave OfValues)) →
+        IsNumber table (unknown_wave c.now.header) unknown → (i : ℕ) → waves_of (waves_at table numbers) i
+        ≡ case_start c.now [] (marked_in cone.now) (waves_of (waves_at table before.now)) i) }
 {
     let mut numbers: Numbers = List::new(alloc);
-    let mut net = 0;
-    for number in before {
-        let now = if cone.has(net) { unknown } else { *number };
-        numbers.push(now)?;
-        net += 1;
+    for net in 0..c.net_count() {
+        numbers.push(if cone.has(net) {
+            unknown
+        } else {
+            before[net as usize]
+        })?;
     }
     Ok(numbers)
 }
@@ -73,8 +75,8 @@ pub fn start_numbers<W: CyclicWave<Item = Value>>(
     ensures fit { IfOk result (λ numbers. FitWaves c.now (waves_at store.new numbers)) }
 {
     let unknown = store.number(unknown_wave(alloc, c.header())?)?;
-    let constants = constants(alloc, c.header(), store)?;
-    let mut numbers = unset_numbers(alloc, cone, before.as_slice(), unknown)?;
+    let constants = constant_numbers(alloc, c.header(), store)?;
+    let mut numbers = unset_numbers(alloc, c, cone, before.as_slice(), unknown)?;
     for value in case.as_slice() {
         numbers.set(value.net as usize, constants.of(value.one));
     }

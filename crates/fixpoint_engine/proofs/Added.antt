@@ -1,5 +1,6 @@
 -- One net more that was evaluated, in a table that grew by it.
-use Rattle.std.proofs.Common.{◌≡◌, ◌≢◌, ℕ, zero, suc, ◌<◌, List, [], ◌∷◌, ◌++◌, length, map, refl, sym, ap, ◌∙◌, get_or, arith}
+use Rattle.std.proofs.Common.{◌≡◌, ◌≢◌, ℕ, zero, suc, ◌<◌, List, [], ◌∷◌, ◌++◌, length, map, refl, sym, ap, subst, ◌∙◌, get_or, arith}
+use Rattle.std.proofs.Math.ListN.{set}
 use Rattle.std.specs.List.{AllByRecursion}
 use Rattle.step_values.specs.declared.value.Value.{Value}
 use Rattle.skew_algebra.specs.Wave.{Wave}
@@ -14,15 +15,30 @@ use Rattle.fixpoint_engine.proofs.Changing.{change_added, nothing_added}
 use Rattle.fixpoint_engine.proofs.Numbered.{reads_still}
 
 -- the wave of a net, by its number
-read_number : (table : List (Wave Value)) (ns : List ℕ) (i : ℕ) → i < length ns → waves_of (waves_at table ns) i ≡ wave_at table (get_or ns i 0)
+pub read_number : (table : List (Wave Value)) (ns : List ℕ) (i : ℕ) → i < length ns → waves_of (waves_at table ns) i ≡ wave_at table (get_or ns i 0)
 read_number table [] i below = absurd (omega arith)
 read_number table (n ∷ ns) zero below = refl
 read_number table (n ∷ ns) (suc i) below = read_number table ns i (omega (arith, below))
 
-known_number : (P : ℕ → Type 0) (ns : List ℕ) (i : ℕ) → AllByRecursion P ns → i < length ns → P (get_or ns i 0)
+pub known_number : (P : ℕ → Type 0) (ns : List ℕ) (i : ℕ) → AllByRecursion P ns → i < length ns → P (get_or ns i 0)
 known_number P [] i known below = absurd (omega arith)
 known_number P (n ∷ ns) zero known below = known.0
 known_number P (n ∷ ns) (suc i) known below = known_number P ns i known.1 (omega (arith, below))
+
+pub known_of : {A : Type 0} (number : A → ℕ) (table : List (Wave Value)) (xs : List A) (i : ℕ) (x : A) → i < length xs → x ≡ get_or xs i x →
+    AreKnown table (map number xs) → number x < length table
+known_of number table [] i x below is known = absurd (omega arith)
+known_of number table (y ∷ xs) zero x below is known = subst (λ z. number z < length table) (sym is) known.0
+known_of number table (y ∷ xs) (suc i) x below is known = known_of number table xs i x (omega (arith, below)) is known.1
+
+-- one number in the place of another
+pub known_set : (table : List (Wave Value)) (ns more : List ℕ) (i n : ℕ) → more ≡ set ns i n → AreKnown table ns → n < length table → AreKnown table more
+known_set table ns more i n put known below = subst (AreKnown table) (sym put) (by ns i known)
+  where
+    by : (ns : List ℕ) (i : ℕ) → AreKnown table ns → AreKnown table (set ns i n)
+    by [] i known = tt
+    by (m ∷ ns) zero known = (below, known.1)
+    by (m ∷ ns) (suc i) known = (known.0, by ns i known.1)
 
 module _ (c : Circuit) (old new : List (Wave Value)) (ns : List ℕ) (net n : ℕ) (g : Grows old new) (known : AreKnown old ns) (below : net < length ns)
     (at : IsNumber new (evaluated c (waves_of (waves_at old ns)) net) n) where

@@ -1,8 +1,8 @@
 -- What evaluating one net after another changes.
-use Rattle.std.proofs.Common.{◌≡◌, ◌≢◌, ℕ, ◌<◌, ◌==◌, Bool, true, false, not, ◌&&◌, ◌||◌, cond, All, List, [], ◌∷◌, ◌++◌, length, append-nil, map, refl, sym, ap, subst, ◌∙◌, arith}
+use Rattle.std.proofs.Common.{◌≡◌, ◌≢◌, ℕ, ◌+◌, ◌<◌, ◌==◌, Bool, true, false, not, ◌&&◌, ◌||◌, cond, All, List, [], ◌∷◌, ◌++◌, length, append-nil, map, filter, take, get_or, refl, sym, ap, subst, ◌∙◌, arith}
 use Rattle.std.proofs.lemmas.List.Sums.{fold_push}
 use Rattle.std.proofs.lemmas.List.{map-append, length-map, length-set}
-use Rattle.std.proofs.lemmas.List.Elements.{All-nil, All-cons, All-filter, All-map, All-head, All-tail}
+use Rattle.std.proofs.lemmas.List.Elements.{All-nil, All-cons, All-filter, All-map, All-head, All-tail, filter-append}
 use Rattle.std.proofs.lemmas.Bool.{eqb-true, eqb-false}
 use Rattle.std.proofs.Math.Bool.{and-false}
 use Rattle.std.proofs.Math.ListN.{set}
@@ -10,10 +10,11 @@ use Rattle.step_values.specs.declared.value.Value.{Value}
 use Rattle.skew_algebra.specs.Wave.{Wave}
 use Rattle.flat_circuit.specs.Circuit.{Circuit}
 use Rattle.wave_table.specs.Same.{same_wave}
-use Rattle.net_waves.specs.Waves.{Waves}
+use Rattle.wave_table.proofs.ByNumber.{next_item}
+use Rattle.net_waves.specs.Waves.{Waves, waves_of}
 use Rattle.fixpoint_engine.specs.Rounds.{evaluated}
 use Rattle.fixpoint_engine.specs.Worklist.{Change, changes_of, changed, among}
-use Rattle.fixpoint_engine.proofs.Same.{same_wave-is, same_wave_self}
+use Rattle.fixpoint_engine.proofs.Same.{same_wave_is, same_wave_self}
 
 pub unchanged : (c : Circuit) (ws : Waves) (i : ℕ) → evaluated c ws i ≡ ws i → changes_of c ws (i ∷ []) ≡ []
 unchanged c ws i same =
@@ -24,7 +25,7 @@ pub one_change : (c : Circuit) (ws : Waves) (i : ℕ) → evaluated c ws i ≢ w
 one_change c ws i differs = ap (λ b. cond (not b) ((i, evaluated c ws i) ∷ []) []) (by (same_wave (evaluated c ws i) (ws i)) refl)
   where
     by : (b : Bool) → same_wave (evaluated c ws i) (ws i) ≡ b → same_wave (evaluated c ws i) (ws i) ≡ false
-    by true e = absurd (differs (same_wave-is (evaluated c ws i) (ws i) e))
+    by true e = absurd (differs (same_wave_is (evaluated c ws i) (ws i) e))
     by false e = e
 
 -- the list of changes with one more
@@ -39,6 +40,20 @@ pub nothing_added : {A : Type 0} (pair : A → Change) (old : List A) (c : Circu
     map pair old ≡ map pair old ++ changes_of c ws (i ∷ [])
 nothing_added pair old c ws i w made same =
     sym (append-nil (map pair old)) ∙ ap (λ rest. map pair old ++ rest) (sym (unchanged c ws i (sym made ∙ same)))
+
+-- one net more of a list that is gone through, from waves that are still the same
+pub changes_more : (c : Circuit) (first now : List (Wave Value)) (nets : List ℕ) (i : ℕ) (made more : List Change) → i < length nets → now ≡ first →
+    made ≡ changes_of c (waves_of first) (take i nets) → more ≡ made ++ changes_of c (waves_of now) (get_or nets i 0 ∷ []) →
+    more ≡ changes_of c (waves_of first) (take (i + 1) nets)
+changes_more c first now nets i made more below same before grows =
+    grows ∙ (λ k. before k ++ changes_of c (waves_of (same k)) (get_or nets i 0 ∷ []))
+    ∙ sym (ap (changes_of c (waves_of first)) (next_item nets i 0 below) ∙ joined (take i nets) (get_or nets i 0 ∷ []))
+  where
+    joined : (xs ys : List ℕ) → changes_of c (waves_of first) (xs ++ ys) ≡ changes_of c (waves_of first) xs ++ changes_of c (waves_of first) ys
+    joined xs ys =
+        ap (filter (λ (ch : Change). not (same_wave ch.1 (waves_of first ch.0)))) (map-append (λ i. (i, evaluated c (waves_of first) i)) xs ys)
+        ∙ filter-append (λ (ch : Change). not (same_wave ch.1 (waves_of first ch.0))) (map (λ i. (i, evaluated c (waves_of first) i)) xs)
+        (map (λ i. (i, evaluated c (waves_of first) i)) ys)
 
 -- ---- which nets change, and to what
 

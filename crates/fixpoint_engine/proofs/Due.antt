@@ -16,7 +16,7 @@ use Rattle.fixpoint_engine.specs.Rounds.{evaluated, round}
 use Rattle.fixpoint_engine.specs.Work.{differs, hears_in, is_due}
 use Rattle.fixpoint_engine.specs.Settled.{marked_in}
 use Rattle.fixpoint_engine.specs.Worklist.{Queue, IsQueue, among}
-use Rattle.fixpoint_engine.proofs.Same.{same_wave-is, same_wave_self}
+use Rattle.fixpoint_engine.proofs.Same.{same_wave_is, same_wave_self}
 use Rattle.fixpoint_engine.proofs.Changing.{moves}
 use Rattle.fixpoint_engine.proofs.Reached.{undue_stays, due_takes}
 
@@ -56,7 +56,7 @@ pub changes_is : (c : Circuit) (active : ℕ → Bool) (start : Waves) (r i : �
 changes_is c active start r i = by (is_due c active (round c active start) (suc r) i) refl
   where
     turned : (w v : Wave Value) → same_wave w v ≡ same_wave v w
-    turned w v = both_ways (same_wave w v) (same_wave v w) (λ same. flip w v (same_wave-is w v same)) (λ same. flip v w (same_wave-is v w same))
+    turned w v = both_ways (same_wave w v) (same_wave v w) (λ same. flip w v (same_wave_is w v same)) (λ same. flip v w (same_wave_is v w same))
       where
         flip : (w v : Wave Value) → w ≡ v → same_wave v w ≡ true
         flip w v same = ap (same_wave v) same ∙ same_wave_self v

@@ -22,10 +22,10 @@ use Rattle.net_waves.specs.Waves.{Waves, target_wave, target_wire, pin_wave, mar
 use Rattle.fixpoint_engine.specs.Value.{made_by, turned_wave, instance_wave}
 use Rattle.fixpoint_engine.specs.Rounds.{wave_from, evaluated, next}
 use Rattle.fixpoint_engine.specs.Work.{differs, is_on_any, hears_from, hears_in}
-use Rattle.fixpoint_engine.proofs.Same.{same_wave-is}
+use Rattle.fixpoint_engine.proofs.Same.{same_wave_is}
 
 target_same : (h : Header) (ws vs : Waves) (t : Target) → is_on_any (differs ws vs) t ≡ false → target_wave h ws t ≡ target_wave h vs t
-target_same h ws vs (OnNet i) same = same_wave-is (ws i) (vs i) (not-false (same_wave (ws i) (vs i)) same)
+target_same h ws vs (OnNet i) same = same_wave_is (ws i) (vs i) (not-false (same_wave (ws i) (vs i)) same)
 target_same h ws vs (Constant one) same = refl
 
 pin_same : (c : Circuit) (ws vs : Waves) (p : Pin) → is_on_any (differs ws vs) p.target ≡ false → pin_wave c ws p ≡ pin_wave c vs p

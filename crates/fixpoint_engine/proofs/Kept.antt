@@ -32,7 +32,7 @@ use Rattle.fixpoint_engine.specs.End.{EndsAt, EndsFor}
 use Rattle.fixpoint_engine.specs.Worklist.{Queue, IsQueue, Change, changes_of, changed, among}
 use Rattle.fixpoint_engine.specs.Classes.{HaveOneWave, AreTogether, OneStandsForAll, is_first, due_classes, class_work_to}
 use Rattle.fixpoint_engine.specs.Members.{for_classes, numbers_in, for_all}
-use Rattle.fixpoint_engine.proofs.Same.{same_wave-is, same_wave_self}
+use Rattle.fixpoint_engine.proofs.Same.{same_wave_is, same_wave_self}
 use Rattle.fixpoint_engine.proofs.Drivers.{active_past}
 use Rattle.fixpoint_engine.proofs.Listening.{hears_same}
 use Rattle.fixpoint_engine.proofs.Changing.{moves, changed_nets, changes_exist, nets_made}
@@ -226,7 +226,7 @@ module _ (c : Circuit) (active : ℕ → Bool) (ks : List ℕ) (start : Waves) (
         where
           by : (new : Bool) → nets_of made i ≡ new → cond new (round c active start (suc r) i) (waves_of waves i) ≡ round c active start (suc r) i
           by true e = refl
-          by false e = kept.reached.is i ∙ same_wave-is (round c active start r i) (round c active start (suc r) i) (not-false _ (sym (nets_are i) ∙ e))
+          by false e = kept.reached.is i ∙ same_wave_is (round c active start r i) (round c active start (suc r) i) (not-false _ (sym (nets_are i) ∙ e))
 
       pub turn : Turn c active start waves r made
       turn = record { nets = nets_are; next = next_is }

@@ -25,10 +25,10 @@ shows_all : (table : List (Wave Value)) (ps : List KeyPin) →
 shows_all table [] = refl
 shows_all table (p ∷ ps) = ap (λ rest. shown_by p (wave_at table p.wave) ∷ rest) (shows_all table ps)
 
-pub key-makes : (c : Circuit) (table : List (Wave Value)) (ws : Waves) (j : Instance) (k : Key) → IsKeyOf c table ws j k →
+pub made_by_key : (c : Circuit) (table : List (Wave Value)) (ws : Waves) (j : Instance) (k : Key) → IsKeyOf c table ws j k →
     value_of key_reads key_makes table k ≡ instance_wave c ws j
 unfolding instance_wave
-key-makes c table ws j k is =
+made_by_key c table ws j k is =
     let shown = shows_all table k.pins ∙ is.shows in
     let marked : position (λ (p : KeyPin). p.hold) k.pins ≡ marked_pin j =
     position_marks (λ (p : KeyPin). p.hold) (λ (p : Pin). p.hold) k.pins j.pins is.marks in

@@ -18,6 +18,7 @@ pub mod Classes
 pub mod Members
 pub mod Alone
 pub mod Keys
+pub mod KeyPins
 pub mod Numbered
 pub mod Added
 pub mod Kept

@@ -1,14 +1,17 @@
 -- Changes by the numbers of waves, read in a table that grows.
-use Rattle.std.proofs.Common.{◌≡◌, ℕ, ◌<◌, All, List, [], ◌∷◌, length, map, refl, sym, ap, subst, ◌∙◌, take, drop}
+use Rattle.std.proofs.Common.{◌≡◌, ℕ, ◌<◌, true, false, All, List, [], ◌∷◌, length, map, refl, sym, ap, subst, ◌∙◌, take}
 use Rattle.std.specs.List.{AllByRecursion}
 use Rattle.std.proofs.lemmas.List.Elements.{All-nil, All-cons, All-append, All-map, All-head, All-tail}
-use Rattle.std.proofs.lemmas.List.{take-append-drop}
 use Rattle.std.proofs.Math.Seq.{take-append_seam}
+use Rattle.scald_base.specs.Time.{Header}
 use Rattle.step_values.specs.declared.value.Value.{Value}
 use Rattle.skew_algebra.specs.Wave.{Wave, skewed}
 use Rattle.class_table.specs.Alike.{class_of}
+use Rattle.pin_waves.specs.Interface.{constant_wave}
 use Rattle.wave_table.specs.Table.{AreKnown, Grows, wave_at}
-use Rattle.wave_table.proofs.Growing.{same_wave_at}
+use Rattle.wave_table.proofs.Growing.{same_number, same_wave_at}
+use Rattle.fixpoint_engine.specs.declared.key.Constants.{Constants}
+use Rattle.fixpoint_engine.specs.Key.{AreConstants}
 use Rattle.fixpoint_engine.specs.Worklist.{Change}
 use Rattle.fixpoint_engine.specs.Members.{members_below, for_class, for_classes}
 use Rattle.fixpoint_engine.proofs.Changing.{all_read}
@@ -67,6 +70,9 @@ pub grows_cut : {T : Type 0} (first old new : List T) (kept : ℕ) → Grows fir
 grows_cut first old new kept g counted h =
     subst (λ l. Grows l new) (ap (λ n. take n old) counted ∙ first_kept first old g) h
 
--- a table has grown from its first waves
-pub take_grows : {T : Type 0} (kept : ℕ) (table : List T) → Grows (take kept table) table
-take_grows kept table = (drop kept table, sym (take-append-drop kept table))
+-- the constants stay where they are
+pub constants_still : (h : Header) (old new : List (Wave Value)) (k : Constants) → Grows old new → AreConstants h old k → AreConstants h new k
+constants_still h old new k g are = record {
+  zero = same_number old new k.zero (constant_wave h false) g are.zero;
+  one = same_number old new k.one (constant_wave h true) g are.one;
+}

@@ -33,7 +33,7 @@ use Rattle.fixpoint_engine.specs.Work.{differs, is_on_any, hears_from, hears_in,
 use Rattle.fixpoint_engine.specs.Loops.{Hears, HasNoLoop}
 use Rattle.fixpoint_engine.specs.End.{EndsFor}
 use Rattle.fixpoint_engine.specs.Worklist.{output_net}
-use Rattle.fixpoint_engine.proofs.Same.{same_wave-is, same_wave_self}
+use Rattle.fixpoint_engine.proofs.Same.{same_wave_is, same_wave_self}
 use Rattle.fixpoint_engine.proofs.Reached.{undue_stays, due_takes}
 
 -- ---- a net that is heard
@@ -190,7 +190,7 @@ trail_of c active start (suc r) i known none changes =
 pub rests_by_outputs : (c : Circuit) (active : ℕ → Bool) (start : Waves) → IsCircuit c → HasNoLoop c →
     AreSame (round c active start (suc (outputs c.instances))) (round c active start (outputs c.instances))
 rests_by_outputs c active start known none i = elim (cases_Bool (same_wave (round c active start n i) (round c active start (suc n) i))) [
-  | inl same ↦ sym (same_wave-is _ _ same)
+  | inl same ↦ sym (same_wave_is _ _ same)
   | inr differ ↦ absurd (too_long (trail_of c active start n i known none (ap not differ)))
 ]
   where

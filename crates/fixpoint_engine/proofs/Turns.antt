@@ -16,7 +16,7 @@ use Rattle.fixpoint_engine.specs.Work.{differs}
 use Rattle.fixpoint_engine.specs.Settled.{AreAtRest}
 use Rattle.fixpoint_engine.specs.End.{EndsAt, EndsFor}
 use Rattle.fixpoint_engine.specs.Worklist.{Change, changed, among}
-use Rattle.fixpoint_engine.proofs.Same.{same_wave-is, same_wave_self}
+use Rattle.fixpoint_engine.proofs.Same.{same_wave_is, same_wave_self}
 use Rattle.fixpoint_engine.proofs.Changing.{length_changed}
 use Rattle.fixpoint_engine.proofs.Reached.{Reached, reached_more, at_rest, not_at_rest}
 use Rattle.fixpoint_engine.proofs.Sound.{round_long}
@@ -51,7 +51,7 @@ module _ (c : Circuit) (active : ℕ → Bool) (start : Waves) (waves : List (Wa
         differs = λ same. both_ways (differs (round c active start r) (round c active start (suc r)) (net_at c.order place))
             (ap (λ (w : Wave Value). not (same_wave (round c active start r (net_at c.order place)) w)) (sym same) ∙ ap not (same_wave_self (round c active start r (net_at c.order place))))
             (sym (turn.nets (net_at c.order place)) ∙ at.0.is);
-        same = λ k below. same_wave-is (round c active start r (net_at c.order k)) (round c active start (suc r) (net_at c.order k))
+        same = λ k below. same_wave_is (round c active start r (net_at c.order k)) (round c active start (suc r) (net_at c.order k))
             (not-false _ (sym (turn.nets (net_at c.order k)) ∙ at.0.first k below));
       }),
       at.1,

@@ -7,7 +7,7 @@ use Rattle.element_kinds.specs.declared.kind.Kind.{Kind}
 use Rattle.flat_circuit.specs.declared.instance.Pin.{Pin}
 use Rattle.flat_circuit.specs.declared.instance.Instance.{Instance}
 use Rattle.element_kinds.specs.Kinds.{listens}
-use Rattle.flat_circuit.specs.Circuit.{Circuit}
+use Rattle.flat_circuit.specs.Circuit.{Circuit, driver}
 use Rattle.wave_table.specs.Same.{same_wave}
 use Rattle.net_waves.specs.Waves.{Waves}
 

@@ -109,7 +109,7 @@ impl Constants {
 }
 
 /// The numbers of the waves of both constants.
-pub fn constants<W: CyclicWave<Item = Value>>(
+pub fn constant_numbers<W: CyclicWave<Item = Value>>(
     alloc: Global,
     h: &Header,
     store: &mut Store<W>,

@@ -30,7 +30,7 @@ mod laws;
 mod rounds;
 
 pub use class_table::ClassMap;
-pub use key::{Constants, Key, KeyPin, Store, constants};
+pub use key::{Constants, Key, KeyPin, Store, constant_numbers};
 pub use laws::stable_classes_go_together;
 pub use net_set::NetSet;
 pub use readers::{output_of, readers_of};

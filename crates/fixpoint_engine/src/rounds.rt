@@ -19,7 +19,7 @@ ghost use Rattle.fixpoint_engine.specs.Worklist.{among};
 use crate::changes::{Change, apply};
 use crate::class_changes::class_changes;
 use crate::class_nets::ClassNets;
-use crate::key::{Constants, Store, constants};
+use crate::key::{Constants, Store, constant_numbers};
 use crate::net_set::NetSet;
 use crate::queue::Queue;
 use class_table::ClassMap;
@@ -112,7 +112,7 @@ pub const SPARE_WAVES: usize = 65_536;
 
 /// The numbers of the same waves, of which the table forgets those that no net has, where it has become long: else
 /// rounds that come to ever new waves would take memory without end. The first waves are kept.
-#[tactic(auto, using(crate::proofs::Numbered::take_grows))]
+#[tactic(auto, using(wave_table::proofs::Growing::take_grows))]
 fn shortened<W: CyclicWave<Item = Value>>(
     alloc: Global,
     store: &mut Store<W>,
@@ -220,7 +220,7 @@ fn settle_firsts<W: CyclicWave<Item = Value>>(
     ensures unsettled { let first = waves_of (waves_at store.old start.now) in
         IfErr result (EndsFor c.now.order (round c.now (marked_in active.now) first) limit) }
 {
-    let constants = constants(alloc, c.header(), store)?;
+    let constants = constant_numbers(alloc, c.header(), store)?;
     rounds_from(alloc, c, store, constants, classes, start, active, limit)
 }
 

@@ -9,3 +9,4 @@ pub mod Drawn
 mod Examples
 mod Unbroken
 mod ExamplesBroken
+pub mod Stored

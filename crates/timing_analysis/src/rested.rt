@@ -1,6 +1,6 @@
 //! The base and the cases of a circuit at rest, with their faults.
 
-ghost use Rattle.std.specs.Prelude.{◌≡◌, ◌≤◌, ◌<◌, ◌+◌, [], ℕ, List, IfErr, IfOk, IfSome, MatchResult, OnOk, length};
+ghost use Rattle.std.specs.Prelude.{◌≡◌, ◌≢◌, ◌≤◌, ◌<◌, ◌+◌, [], ℕ, List, IfErr, IfOk, IfSome, MatchResult, OnOk, length};
 ghost use Rattle.flat_circuit.specs.Instances.{outputs};
 ghost use Rattle.flat_circuit.specs.declared.case.CaseValue.{CaseValue};
 ghost use Rattle.wave_table.specs.Table.{AreKnown, waves_at};
@@ -83,7 +83,7 @@ impl Subject {
     }
 
     /// The case at this place of the list, from 0, at rest, from the base on. `Unsettled` comes where it
-    /// does not settle within so many rounds, and `NoMemory` where memory runs out.
+    /// does not settle within so many rounds, and `NoMemory` where memory runs out: the base is then lost.
     pub fn case<W: CyclicWave<Item = Value>>(
         &self,
         alloc: Global,
@@ -96,8 +96,9 @@ impl Subject {
         requires inside { place < length self.now.cases }
         requires rest { IsBaseIn self.now.circuit limit
             rested.old.base.rounds rested.old.store rested.old.base.numbers rested.old.known }
-        ensures kept { OnOk result (IsBaseIn self.now.circuit limit
-            rested.new.base.rounds rested.new.store rested.new.base.numbers rested.new.known) }
+        ensures kept { let kept = IsBaseIn self.now.circuit limit
+            rested.new.base.rounds rested.new.store rested.new.base.numbers rested.new.known in
+            MatchResult result (λ _. kept) (λ e. e ≢ EngineEnd.NoMemory → kept) }
         ensures round { rested.new.base.rounds ≡ rested.old.base.rounds }
         ensures rest { IfOk result (λ k.
             IsCaseIn self.now.circuit limit rested.old.base.rounds

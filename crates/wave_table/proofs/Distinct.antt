@@ -7,7 +7,7 @@ use Rattle.std.proofs.lemmas.Option.{slice_get-map}
 use Rattle.indexmap.specs.IndexSet.{insert_key}
 use Rattle.step_values.specs.declared.value.Value.{Value}
 use Rattle.skew_algebra.specs.Wave.{Wave}
-use Rattle.wave_table.specs.Same.{same_wave, same_wave_is}
+use Rattle.wave_table.specs.Same.{same_wave, same_wave_decides}
 use Rattle.wave_table.specs.Table.{AreDistinct, Grows}
 
 module _ {K : Type 0} (shown : K → Wave Value) where
@@ -17,7 +17,7 @@ module _ {K : Type 0} (shown : K → Wave Value) where
   none_after k [] j apart at = cc
   none_after k (y ∷ ys) zero apart at =
       let e : shown k ≡ shown y = let same : Some (shown y) ≡ Some (shown k) = at in cc in
-      true≢false (sym ((same_wave_is (shown k) (shown y)).1 e) ∙ apart.0)
+      true≢false (sym ((same_wave_decides (shown k) (shown y)).1 e) ∙ apart.0)
   none_after k (y ∷ ys) (suc j) apart at = none_after k ys j apart.1 at
 
   -- keys that the test tells apart show each wave once
@@ -45,4 +45,4 @@ module _ {K : Type 0} (shown : K → Wave Value) where
   pub means : (ks : List K) (i : ℕ) (k found : K) → slice_get ks i ≡ Some found → same_wave (shown k) (shown found) ≡ true →
       slice_get (map shown ks) i ≡ Some (shown k)
   means ks i k found at same =
-      slice_get-map shown ks i ∙ ap (option_map shown) at ∙ ap Some (sym ((same_wave_is (shown k) (shown found)).0 same))
+      slice_get-map shown ks i ∙ ap (option_map shown) at ∙ ap Some (sym ((same_wave_decides (shown k) (shown found)).0 same))

@@ -20,8 +20,8 @@ same_cells : (xs ys : List Value) → Decides (pointwise same xs ys) (xs ≡ ys)
 same_cells =
     pointwise_decides (λ v w. (values_lawful.same_is v w, λ e. sym (ap (same v) e) ∙ values_lawful.same_self v))
 
-pub same_wave_is : (w v : Wave Value) → Decides (same_wave w v) (w ≡ v)
-same_wave_is w v = (
+pub same_wave_decides : (w v : Wave Value) → Decides (same_wave w v) (w ≡ v)
+same_wave_decides w v = (
   λ h. (let parts = and_parts (w.skew == v.skew) (pointwise same w.cells v.cells) h in
       let skew = (unsigned_Decides w.skew v.skew).0 parts.0 in
       let cells = (same_cells w.cells v.cells).0 parts.1 in
@@ -32,11 +32,11 @@ same_wave_is w v = (
 )
 
 pub same_wave_equiv : IsEquivalence same_wave
-same_wave_equiv = decided same_wave same_wave_is
+same_wave_equiv = decided same_wave same_wave_decides
 
 pub same_wave_per : IsPartialEquivalence same_wave
 same_wave_per = partial_equiv_from_equiv same_wave_equiv
 
 -- waves that are one feed a hasher alike
 pub fed_alike : (w v : Wave Value) → same_wave w v ≡ true → wave_fed w ≡ wave_fed v
-fed_alike w v h = ap wave_fed ((same_wave_is w v).0 h)
+fed_alike w v h = ap wave_fed ((same_wave_decides w v).0 h)

@@ -4,7 +4,7 @@ use Rattle.std.proofs.lemmas.Result.{IfOk-weaker}
 use Rattle.wave_table.specs.Table.{IsNumber, waves_at}
 use Rattle.net_waves.specs.Waves.{FitWaves, waves_of}
 use Rattle.fixpoint_engine.specs.Value.{instance_wave}
-use Rattle.fixpoint_engine.proofs.Keys.{key-makes, each_number}
+use Rattle.fixpoint_engine.proofs.Keys.{made_by_key, each_number}
 use Rattle.fixpoint_engine.proofs.value.number_made.Goals as goal
 
 pub key_of-requires-clause-each_net : goal.key_of-requires-clause-each_net
@@ -15,7 +15,7 @@ pub returns-in-Some-clause-is : goal.returns-in-Some-clause-is
 returns-in-Some-clause-is g c =
     let ws = waves_of (waves_at c.args.store.now c.args.numbers.now) in
     let found = subst (λ r. IfSome r _) c.in-Some.is c.find.ensures in
-    found ∙ ap Some (key-makes c.args.c.now c.args.store.now ws c.args.instance.now c.in_ok-key.key c.in_ok-key.ensures)
+    found ∙ ap Some (made_by_key c.args.c.now c.args.store.now ws c.args.instance.now c.in_ok-key.key c.in_ok-key.ensures)
 
 pub remember-requires-clause-known : goal.remember-requires-clause-known
 remember-requires-clause-known g c = c.in_ok-key.ensures.known
@@ -23,7 +23,7 @@ remember-requires-clause-known g c = c.in_ok-key.ensures.known
 pub remember-requires-clause-made : goal.remember-requires-clause-made
 remember-requires-clause-made g c =
     let ws = waves_of (waves_at c.args.store.now c.args.numbers.now) in
-    c.in_ok-wave.ensures ∙ sym (key-makes c.args.c.now c.args.store.now ws c.args.instance.now c.in_ok-key.key c.in_ok-key.ensures)
+    c.in_ok-wave.ensures ∙ sym (made_by_key c.args.c.now c.args.store.now ws c.args.instance.now c.in_ok-key.key c.in_ok-key.ensures)
 
 pub returns-clause-is : goal.returns-clause-is
 returns-clause-is g c =

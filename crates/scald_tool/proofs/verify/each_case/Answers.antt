@@ -10,41 +10,41 @@ use Rattle.scald_tool.proofs.verify.each_case.Goals as goal
 pub loop-place-init : goal.loop-place-init
 loop-place-init g c = record {
   told =
-      told_start c.args.mode c.args.subject.now.version c.args.subject.now.circuit c.args.limit c.args.rested.now.base.rounds
+      told_start c.args.mode c.args.subject.now.version c.args.subject.now.circuit c.args.limit c.args.rested.base.rounds
       c.in_ok-report.report.bytes c.in_ok-report.report.total c.in_ok-report.ensures.head c.in_ok-report.ensures.none;
   room = let none = c.in_ok-report.ensures.none in omega (arith, none);
 }
 
 pub add_case-requires-clause-room : goal.add_case-requires-clause-room
 add_case-requires-clause-room g c =
-    let room = c.loop-place.invariant.room in
+    let room = c.loop-place.invariant.going.room in
     let inside = c.loop-place-test.true in
     let few = c.requires.is.few in
     omega (arith, room, inside, few)
 
 pub add_case-requires-clause-fit : goal.add_case-requires-clause-fit
-add_case-requires-clause-fit g c = c.in_ok-case.ensures.rest.fit
+add_case-requires-clause-fit g c = c.in_ok-case.ensures.rest.rest.fit
 
 pub add_case-requires-clause-few : goal.add_case-requires-clause-few
-add_case-requires-clause-few g c = c.in_ok-case.ensures.rest.few
+add_case-requires-clause-few g c = c.in_ok-case.ensures.rest.rest.few
 
 pub returns-in_err-case-clause-ended : goal.returns-in_err-case-clause-ended
 returns-in_err-case-clause-ended g c =
     let p = err_from_is_err_and c.from_residual-in_err-case.result c.from_residual-in_err-case.ensures.1 in
     let len = c.len-place-end.ensures in
     let inside = c.loop-place-test.true in
-    rw (p.1, p.2) (going_ends c.args.mode c.args.subject.now.version c.args.subject.now.circuit c.args.limit c.args.rested.now.base.rounds
+    rw (p.1, p.2) (going_ends c.args.mode c.args.subject.now.version c.args.subject.now.circuit c.args.limit c.args.rested.base.rounds
     c.args.subject.now.cases c.loop-place.place c.loop-place.report.bytes c.loop-place.report.total
-    (omega (arith, len, inside)) c.loop-place.invariant c.in_err-case.field-0.0 c.in_err-case.ensures.unsettled)
+    (omega (arith, len, inside)) c.loop-place.invariant.going c.in_err-case.field-0.0 c.in_err-case.ensures.unsettled)
 
 pub loop-place-preserved : goal.loop-place-preserved
 loop-place-preserved g c =
     let len = c.len-place-end.ensures in
     let inside = c.loop-place-test.true in
-    going_more c.args.mode c.args.subject.now.version c.args.subject.now.circuit c.args.limit c.args.rested.now.base.rounds
+    going_more c.args.mode c.args.subject.now.version c.args.subject.now.circuit c.args.limit c.args.rested.base.rounds
     c.args.subject.now.cases c.loop-place.place c.loop-place.report.bytes c.loop-place.report.total
-    (omega (arith, len, inside)) c.loop-place.invariant _ _ _ _ _ _ _
-    c.in_ok-case.ensures.rest c.in_ok-add_case.ensures.told c.in_ok-add_case.ensures.counted
+    (omega (arith, len, inside)) c.loop-place.invariant.going _ _ _ _ _ _ _
+    c.in_ok-case.ensures.rest.rest c.in_ok-add_case.ensures.told c.in_ok-add_case.ensures.counted
 
 pub returns-clause-told : goal.returns-clause-told
 returns-clause-told g c =
@@ -53,8 +53,8 @@ returns-clause-told g c =
     let whole : take c.loop-place.place c.args.subject.now.cases ≡ c.args.subject.now.cases =
     take_all c.loop-place.place c.args.subject.now.cases (omega (arith, len, past)) in
     let told =
-    subst (λ (xs : List (List CaseValue)). Told c.args.mode c.args.subject.now.version c.args.subject.now.circuit c.args.limit c.args.rested.now.base.rounds
-    (numbered 1 xs) c.loop-place.report.bytes c.loop-place.report.total) whole c.loop-place.invariant.told in
-    told_end c.args.mode c.args.subject.now.version c.args.subject.now.circuit c.args.limit c.args.rested.now.base.rounds
+    subst (λ (xs : List (List CaseValue)). Told c.args.mode c.args.subject.now.version c.args.subject.now.circuit c.args.limit c.args.rested.base.rounds
+    (numbered 1 xs) c.loop-place.report.bytes c.loop-place.report.total) whole c.loop-place.invariant.going.told in
+    told_end c.args.mode c.args.subject.now.version c.args.subject.now.circuit c.args.limit c.args.rested.base.rounds
     (numbered 1 c.args.subject.now.cases) c.loop-place.report.bytes c.loop-place.report.total _ _ told
     c.in_ok-end.ensures.outcome c.in_ok-end.ensures.bytes

@@ -1,0 +1,28 @@
+-- A base and a case at rest whose waves are kept in a table, while the table changes.
+use Rattle.std.proofs.Common.{◌≡◌, ℕ, List, sym, subst, ◌∙◌, Option}
+use Rattle.step_values.specs.declared.value.Value.{Value}
+use Rattle.skew_algebra.specs.Wave.{Wave}
+use Rattle.flat_circuit.specs.Circuit.{Circuit}
+use Rattle.wave_table.specs.Table.{AreKnown, Grows, waves_at}
+use Rattle.wave_table.proofs.Growing.{known_still, same_waves}
+use Rattle.timing_analysis.specs.declared.faults.KnownFaults.{KnownFaults}
+use Rattle.timing_analysis.specs.Rested.{IsBaseAtRest, IsBaseIn}
+
+-- the base is as it was where its numbers mean the waves that they meant
+pub base_again : (c : Circuit) (limit base after : ℕ) (old new : List (Wave Value)) (ns ns' : List ℕ) (known known' : Option KnownFaults) →
+    after ≡ base → known' ≡ known → AreKnown new ns' → waves_at new ns' ≡ waves_at old ns →
+    IsBaseIn c limit base old ns known → IsBaseIn c limit after new ns' known'
+base_again c limit base after old new ns ns' known known' round faults are same is = record {
+  are = are;
+  rest = subst (λ b. IsBaseAtRest c limit b (waves_at new ns') known') (sym round)
+      (subst (λ k. IsBaseAtRest c limit base (waves_at new ns') k) (sym faults)
+      (subst (λ ws. IsBaseAtRest c limit base ws known) (sym same) is.rest));
+}
+
+-- so it is in a table that has grown
+pub base_grown : (c : Circuit) (limit base : ℕ) (old new : List (Wave Value)) (ns : List ℕ) (known : Option KnownFaults) → Grows old new →
+    IsBaseIn c limit base old ns known → IsBaseIn c limit base new ns known
+base_grown c limit base old new ns known g is = record {
+  are = known_still old new g ns is.are;
+  rest = subst (λ ws. IsBaseAtRest c limit base ws known) (sym (same_waves old new g ns is.are)) is.rest;
+}
