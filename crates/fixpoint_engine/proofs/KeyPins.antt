@@ -19,12 +19,11 @@ constant_number h table k true n are is = ap (slice_get table) is ∙ are.one
 constant_number h table k false n are is = ap (slice_get table) is ∙ are.zero
 
 -- one key more, which shows what one pin more does
-pub pin_added : {A B C : Type 0} (f : A → C) (g : B → C) (keys more : List A) (key : A) (pins : List B) (i : ℕ) (p : B) →
-    more ≡ keys ++ key ∷ [] → f key ≡ g p → i < length pins → p ≡ get_or pins i p →
+pub pin_added : {A B C : Type 0} (f : A → C) (g : B → C) (keys more : List A) (key : A) (pins : List B) (i : ℕ) (d : B) →
+    more ≡ keys ++ key ∷ [] → f key ≡ g (get_or pins i d) → i < length pins →
     map f keys ≡ map g (take i pins) → map f more ≡ map g (take (i + 1) pins)
-pin_added f g keys more key pins i p put same below is before =
-    ap (map f) put ∙ map-append f keys (key ∷ []) ∙ (λ k. before k ++ same k ∷ [])
-    ∙ (λ k. map g (take i pins) ++ g (is k) ∷ []) ∙ sym (map_more g pins i p below)
+pin_added f g keys more key pins i d put same below before =
+    ap (map f) put ∙ map-append f keys (key ∷ []) ∙ (λ k. before k ++ same k ∷ []) ∙ sym (map_more g pins i d below)
 
 -- and whose wave is known
 pub known_added : {A : Type 0} (number : A → ℕ) (table : List (Wave Value)) (keys more : List A) (key : A) →

@@ -18,7 +18,7 @@ use Rattle.fixpoint_engine.proofs.Changing.{all_read}
 
 -- what is read by known numbers stays while the table grows
 pub reads_still : {A : Type 0} (net number : A → ℕ) (old new : List (Wave Value)) → Grows old new → (xs : List A) → AreKnown old (map number xs) →
-    map (λ x. (net x, wave_at new (number x))) xs ≡ map (λ x. (net x, wave_at old (number x))) xs
+    map {B = Change} (λ x. (net x, wave_at new (number x))) xs ≡ map {B = Change} (λ x. (net x, wave_at old (number x))) xs
 reads_still net number old new g [] known = refl
 reads_still net number old new g (x ∷ xs) known =
     let here = same_wave_at old new g (number x) known.0 in
@@ -28,7 +28,7 @@ reads_still net number old new g (x ∷ xs) known =
 -- ---- the numbers of changes for all nets of their classes are those of the changes
 
 -- a number as the skew of a wave: so a clause on every way to read numbers tells of the numbers themselves
-as_wave : ℕ → Wave Value
+abbrev as_wave : ℕ → Wave Value
 as_wave n = skewed [] n
 
 abbrev IsBelow : ℕ → Change → Type 0

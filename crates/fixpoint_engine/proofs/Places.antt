@@ -14,6 +14,10 @@ use Rattle.fixpoint_engine.specs.Worklist.{among}
 pub All_read : {A : Type 0} (P : A → Type 0) (xs : List A) (k : ℕ) (x : A) → All P xs → k < length xs → x ≡ get_or xs k x → P x
 All_read P xs k x all below is = subst P (sym is) (all k x below)
 
+-- an item that is read with any other in its place past the end is read with itself there
+pub own_default : {A : Type 0} (xs : List A) (k : ℕ) (d : A) → k < length xs → get_or xs k d ≡ get_or xs k (get_or xs k d)
+own_default xs k d below = get_or_default xs k d (get_or xs k d) below
+
 -- each net has a place in the order
 placed : (nets : List Net) (order : List ℕ) (net : ℕ) → IsNameOrder (net_names nets) order → net < length nets → Contains order net
 placed nets order net named below =

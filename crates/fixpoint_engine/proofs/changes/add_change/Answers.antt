@@ -1,7 +1,5 @@
-use Rattle.std.proofs.Common.{◌∙◌, ◌++◌, ◌∷◌, [], length, map, sym, ap, subst, refl, arith}
-use Rattle.std.proofs.lemmas.Bool.{eqb-true, eqb-false}
+use Rattle.std.proofs.Common.{◌∙◌, ◌∷◌, [], map, ap, refl, arith}
 use Rattle.std.proofs.lemmas.List.{map-append}
-use Rattle.wave_table.specs.Table.{AreKnown}
 use Rattle.wave_table.proofs.Growing.{known_still}
 use Rattle.wave_table.proofs.ByNumber.{number_below, known_more}
 use Rattle.fixpoint_engine.proofs.Added.{number_added, number_stays}
@@ -23,16 +21,16 @@ returns-in_ok-push-clause-made g c =
     c.in_ok-number.ensures.grows c.requires.known (omega (arith, each, exists)) c.in_ok-number.ensures.is
     (λ ch. ch.net) (λ ch. ch.number) c.args.made.now.items c.requires.made c.push.new.self.items
     (record { net = c.args.net; number = c.in_ok-number.number }) c.in_ok-push.ensures.items refl refl c.known.ensures
-    (λ e. eqb-false c.in_ok-number.number _ (sym c.if-number.true) e)
+    c.if-number-numbers.true
 
-pub returns-else-number-clause-known : goal.returns-else-number-clause-known
-returns-else-number-clause-known g c =
+pub returns-else-number-numbers-clause-known : goal.returns-else-number-numbers-clause-known
+returns-else-number-numbers-clause-known g c =
     known_still c.args.store.now c.evaluated.new.store c.in_ok-number.ensures.grows (map (λ ch. ch.number) c.args.made.now.items) c.requires.made
 
-pub returns-else-number-clause-made : goal.returns-else-number-clause-made
-returns-else-number-clause-made g c =
+pub returns-else-number-numbers-clause-made : goal.returns-else-number-numbers-clause-made
+returns-else-number-numbers-clause-made g c =
     let each = each_number c.args.c.now c.args.store.now c.args.numbers.now c.requires.fit in
     let exists = c.requires.exists in
     number_stays c.args.c.now c.args.store.now c.evaluated.new.store c.args.numbers.now c.args.net c.in_ok-number.number
     c.in_ok-number.ensures.grows c.requires.known (omega (arith, each, exists)) c.in_ok-number.ensures.is
-    (λ ch. ch.net) (λ ch. ch.number) c.args.made.now.items c.requires.made (eqb-true c.in_ok-number.number _ (sym c.if-number.false))
+    (λ ch. ch.net) (λ ch. ch.number) c.args.made.now.items c.requires.made c.if-number-numbers.false

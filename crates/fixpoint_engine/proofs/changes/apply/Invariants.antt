@@ -6,7 +6,7 @@ use Rattle.fixpoint_engine.specs.Worklist.{changed}
 use Rattle.fixpoint_engine.proofs.changes.apply.Given as goal
 
 abbrev pub invariant-loop-change : goal.invariant-loop-change
-invariant-loop-change g l = record {
+invariant-loop-change l = record {
   long : length l.numbers ≡ length l.initial.numbers;
   known : (table : List (Wave Value)) → AreKnown table l.initial.numbers → AreKnown table (map (λ ch. ch.number) l.changes) → AreKnown table l.numbers;
   changed : (table : List (Wave Value)) → waves_at table l.numbers

@@ -5,7 +5,7 @@ use Rattle.fixpoint_engine.proofs.Members.{above, last_some, members_above, memb
 use Rattle.fixpoint_engine.proofs.class_changes.add_class.Goals as goal
 
 pub loop-at-init : goal.loop-at-init
-loop-at-init g c = record {
+loop-at-init c = record {
   left = λ read. ap (λ (is : List ℕ). map (λ ch. (ch.net, read ch.number)) c.args.made.now.items ++ map (λ i. (i, read c.args.change.number)) is)
       (ap (λ (o : Option ℕ). members_below c.args.classes.now (class_of c.args.classes.now c.args.change.net) (above o)) c.last-at.ensures
       ∙ sym (members_above c.args.classes.now (class_of c.args.classes.now c.args.change.net) (length c.args.classes.now)));
@@ -13,10 +13,10 @@ loop-at-init g c = record {
 }
 
 pub previous-at-requires : goal.previous-at-requires
-previous-at-requires g c = (c.loop-at.invariant.of c.in-Some.net c.in-Some.is).1
+previous-at-requires c = (c.loop-at.invariant.of c.in-Some.net c.in-Some.is).1
 
 pub loop-at-preserved : goal.loop-at-preserved
-loop-at-preserved g c =
+loop-at-preserved c =
     let of = c.loop-at.invariant.of c.in-Some.net c.in-Some.is in
     record {
       left = λ read. member_added (λ ch. (ch.net, read ch.number)) c.args.classes.now (class_of c.args.classes.now c.args.change.net) c.in-Some.net
@@ -26,8 +26,8 @@ loop-at-preserved g c =
     }
 
 pub loop-at-smaller : goal.loop-at-smaller
-loop-at-smaller g c = falls c.args.classes.now c.in-Some.net c.loop-at.at c.previous-at.result c.in-Some.is c.previous-at.ensures
+loop-at-smaller c = falls c.args.classes.now c.in-Some.net c.loop-at.at c.previous-at.result c.in-Some.is c.previous-at.ensures
 
 pub returns : goal.returns
-returns g c = λ read. none_left (λ ch. (ch.net, read ch.number)) c.args.classes.now (class_of c.args.classes.now c.args.change.net)
+returns c = λ read. none_left (λ ch. (ch.net, read ch.number)) c.args.classes.now (class_of c.args.classes.now c.args.change.net)
     (read c.args.change.number) c.loop-at.made.items c.loop-at.at _ (c.loop-at.invariant.left read) c.in_default.is

@@ -7,7 +7,7 @@ use Rattle.fixpoint_engine.proofs.Members.{above}
 use Rattle.fixpoint_engine.proofs.class_changes.add_class.Given as goal
 
 abbrev pub invariant-loop-at : goal.invariant-loop-at
-invariant-loop-at g l = record {
+invariant-loop-at l = record {
   left : (read : ℕ → Wave Value) → map (λ ch. (ch.net, read ch.number)) l.made.items
       ++ map (λ i. (i, read l.change.number)) (members_below l.classes (class_of l.classes l.change.net) (above l.at))
       ≡ map (λ ch. (ch.net, read ch.number)) l.initial.made.items ++ for_class l.classes (l.change.net, read l.change.number);
@@ -15,4 +15,4 @@ invariant-loop-at g l = record {
 }
 
 abbrev pub decreases-loop-at : goal.decreases-loop-at
-decreases-loop-at g l = above l.at
+decreases-loop-at l = above l.at

@@ -5,5 +5,5 @@ use Rattle.fixpoint_engine.specs.Members.{for_classes}
 use Rattle.fixpoint_engine.proofs.class_changes.for_classes.Given as goal
 
 abbrev pub invariant-loop-change : goal.invariant-loop-change
-invariant-loop-change g l =
+invariant-loop-change l =
     (read : ℕ → Wave Value) → map (λ ch. (ch.net, read ch.number)) l.made.items ≡ for_classes l.classes (map (λ ch. (ch.net, read ch.number)) (take l.change-index l.changes))

@@ -7,7 +7,7 @@ use Rattle.fixpoint_engine.specs.Key.{AreConstants, shown_by}
 use Rattle.fixpoint_engine.proofs.key.key_pins.Given as goal
 
 abbrev pub invariant-loop-pin : goal.invariant-loop-pin
-invariant-loop-pin g l = record {
+invariant-loop-pin l = record {
   marks : map (λ p. p.hold) l.keys ≡ map (λ p. p.hold) (take l.pin-index l.pins);
   known : (table : List (Wave Value)) → AreConstants l.c.header table l.constants → AreKnown table l.numbers →
       AreKnown table (map (λ p. p.wave) l.keys);

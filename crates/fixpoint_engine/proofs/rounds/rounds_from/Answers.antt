@@ -13,6 +13,7 @@ use Rattle.fixpoint_engine.specs.Members.{for_all, numbers_in, is_evaluated}
 use Rattle.fixpoint_engine.proofs.Changing.{all_read, nets_below, nets_made, none_made, some_made}
 use Rattle.fixpoint_engine.proofs.Alone.{each_numbered, evaluated_first}
 use Rattle.fixpoint_engine.proofs.Kept.{kept_start, kept_more, made_of, waiting_exist, made_exist, rests, works, keeps, ends_by}
+use Rattle.fixpoint_engine.proofs.Keys.{each_number}
 use Rattle.fixpoint_engine.proofs.Numbered.{constants_still, grows_cut}
 use Rattle.fixpoint_engine.proofs.rounds.rounds_from.Goals as goal
 
@@ -119,8 +120,14 @@ pub class_changes-requires-clause-constants : goal.class_changes-requires-clause
 class_changes-requires-clause-constants g c =
     constants_still c.args.c.now.header c.args.store.now c.rounds.store c.args.constants c.rounds.invariant.grows c.requires.constants
 
-pub returns-in_err-class_changes-clause-grows : goal.returns-in_err-class_changes-clause-grows
-returns-in_err-class_changes-clause-grows g c = ?
+pub returns-in_err-made-clause-grows : goal.returns-in_err-made-clause-grows
+returns-in_err-made-clause-grows g c = grows_trans c.args.store.now c.rounds.store c.class_changes.new.store c.rounds.invariant.grows c.in_err-made.ensures.grows
+
+pub returns-in_err-numbers-2-clause-grows : goal.returns-in_err-numbers-2-clause-grows
+returns-in_err-numbers-2-clause-grows g c =
+    grows_cut c.args.store.now c.class_changes.new.store c.shortened.new.store c.len-kept.result
+    (grows_trans c.args.store.now c.rounds.store c.class_changes.new.store c.rounds.invariant.grows c.in_ok-made.ensures.grows)
+    c.rounds.invariant.counted c.in_err-numbers-2.ensures.grows
 
 pub returns-then-is_empty-clause-grows : goal.returns-then-is_empty-clause-grows
 returns-then-is_empty-clause-grows g c = grows_trans c.args.store.now c.rounds.store c.class_changes.new.store c.rounds.invariant.grows c.in_ok-made.ensures.grows
@@ -153,35 +160,37 @@ shortened-requires-clause-first g c =
 pub apply-requires : goal.apply-requires
 apply-requires g c =
     let made = c.in_ok-made.ensures.made ∙ ap (λ ns. for_all (option_copied c.args.classes) (changes_of c.args.c.now (waves_of (waves_at c.rounds.store ns)) c.nets.result.now)) c.as_slice-now.ensures in
-    nets_below (λ ch. ch.net) c.in_ok-made.made.items (length (waves_at c.rounds.store c.rounds.numbers)) (length c.args.c.now.nets) (c.rounds.invariant.kept.fit.each_net)
+    All-same (λ ch. ch.net < length c.rounds.numbers) c.deref-in-rounds-2.result.now c.in_ok-made.made.items c.deref-in-rounds-2.ensures.value
+    (nets_below (λ ch. ch.net) c.in_ok-made.made.items (length c.rounds.numbers) (length c.args.c.now.nets)
+    (each_number c.args.c.now c.rounds.store c.rounds.numbers c.rounds.invariant.kept.fit)
     (all_read (λ ch. (ch.net, wave_at c.class_changes.new.store ch.number)) (λ ch. ch.0 < length c.args.c.now.nets) c.in_ok-made.made.items
     (made_exist c.args.c.now (marked_in c.args.active.now) (numbers_in (length c.args.c.now.nets) (option_copied c.args.classes))
     (waves_of (waves_at c.args.store.now c.args.start.now)) c.requires.classes (waves_at c.rounds.store c.rounds.numbers) c.rounds.queue
     c.rounds.rounds c.rounds.evals c.rounds.invariant.kept (map (λ ch. (ch.net, wave_at c.class_changes.new.store ch.number)) c.in_ok-made.made.items)
     (made_of c.args.c.now (marked_in c.args.active.now) (option_copied c.args.classes) (waves_of (waves_at c.args.store.now c.args.start.now))
     c.requires.classes (waves_at c.rounds.store c.rounds.numbers) c.rounds.queue c.rounds.rounds c.rounds.evals c.rounds.invariant.kept
-    c.nets.result.now (map (λ ch. (ch.net, wave_at c.class_changes.new.store ch.number)) c.in_ok-made.made.items) c.nets.ensures.once c.nets.ensures.nets made)))
+    c.nets.result.now (map (λ ch. (ch.net, wave_at c.class_changes.new.store ch.number)) c.in_ok-made.made.items) c.nets.ensures.once c.nets.ensures.nets made))))
 
 pub rounds-preserved : goal.rounds-preserved
 rounds-preserved g c =
     let made = c.in_ok-made.ensures.made ∙ ap (λ ns. for_all (option_copied c.args.classes) (changes_of c.args.c.now (waves_of (waves_at c.rounds.store ns)) c.nets.result.now)) c.as_slice-now.ensures in
     let some : 0 < period c.args.c.now.header = subst (λ h. 0 < period h) c.header.ensures (let two = c.known-2.ensures.shortest in omega (arith, two)) in
     let same = same_waves c.rounds.store c.class_changes.new.store c.in_ok-made.ensures.grows c.rounds.numbers c.rounds.invariant.known in
-    let after = c.in_ok-numbers-in-rounds.ensures.same ∙ c.apply.ensures.changed c.class_changes.new.store
+    let after = c.in_ok-numbers-2.ensures.same ∙ c.apply.ensures.changed c.class_changes.new.store
     ∙ (λ k. changed (same k) (map (λ ch. (ch.net, wave_at c.class_changes.new.store ch.number)) (c.deref-in-rounds-2.ensures.value k))) in
     let grown = grows_trans c.args.store.now c.rounds.store c.class_changes.new.store c.rounds.invariant.grows c.in_ok-made.ensures.grows in
     record {
-      grows = grows_cut c.args.store.now c.class_changes.new.store c.shortened.new.store c.rounds.kept grown c.rounds.invariant.counted c.in_ok-numbers-in-rounds.ensures.grows;
+      grows = grows_cut c.args.store.now c.class_changes.new.store c.shortened.new.store c.len-kept.result grown c.rounds.invariant.counted c.in_ok-numbers-2.ensures.grows;
       counted = c.rounds.invariant.counted;
       constants = c.requires.constants;
-      known = c.in_ok-numbers-in-rounds.ensures.known;
+      known = c.in_ok-numbers-2.ensures.known;
       kept = kept_more c.args.c.now (marked_in c.args.active.now) (numbers_in (length c.args.c.now.nets) (option_copied c.args.classes))
           (waves_of (waves_at c.args.store.now c.args.start.now)) c.requires.classes (waves_at c.rounds.store c.rounds.numbers) c.rounds.queue
           c.rounds.rounds c.rounds.evals c.rounds.invariant.kept (map (λ ch. (ch.net, wave_at c.class_changes.new.store ch.number)) c.in_ok-made.made.items)
           (made_of c.args.c.now (marked_in c.args.active.now) (option_copied c.args.classes) (waves_of (waves_at c.args.store.now c.args.start.now))
           c.requires.classes (waves_at c.rounds.store c.rounds.numbers) c.rounds.queue c.rounds.rounds c.rounds.evals c.rounds.invariant.kept
           c.nets.result.now (map (λ ch. (ch.net, wave_at c.class_changes.new.store ch.number)) c.in_ok-made.made.items) c.nets.ensures.once c.nets.ensures.nets made)
-          (waves_at c.shortened.new.store c.in_ok-numbers-in-rounds.numbers) c.refill.new.self c.nets-in-rounds.result.now (is_evaluated c.args.active.now (option_copied c.args.classes)) c.known.ensures some c.requires.waves.each_slot
+          (waves_at c.shortened.new.store c.in_ok-numbers-2.numbers) c.refill.new.self c.nets-in-rounds.result.now (is_evaluated c.args.active.now (option_copied c.args.classes)) c.known.ensures some c.requires.waves.each_slot
           c.nets-in-rounds.ensures.nets (some_made (λ ch. (ch.net, wave_at c.class_changes.new.store ch.number)) c.in_ok-made.made.items _ c.in_ok-made.made.ok.0 c.if-is_empty.ensures)
           after c.in_ok-refill.ensures.each_net (λ i. evaluated_first c.args.c.now c.args.active.now (option_copied c.args.classes) i c.requires.active c.requires.classes.each_net)
           (λ i. c.in_ok-refill.ensures.due i ∙ ap (λ (nets : List ℕ). is_evaluated c.args.active.now (option_copied c.args.classes) i && hears_in (among nets) (driver c.args.c.now i))

@@ -1,8 +1,7 @@
-use Rattle.std.proofs.Common.{◌∙◌, Some, sym, ap, subst}
-use Rattle.std.specs.Prelude.{IfSome}
+use Rattle.std.proofs.Common.{◌∙◌, Some, sym, ap}
 use Rattle.std.proofs.lemmas.Result.{IfOk-weaker}
 use Rattle.wave_table.specs.Table.{IsNumber, waves_at}
-use Rattle.net_waves.specs.Waves.{FitWaves, waves_of}
+use Rattle.net_waves.specs.Waves.{waves_of}
 use Rattle.fixpoint_engine.specs.Value.{instance_wave}
 use Rattle.fixpoint_engine.proofs.Keys.{made_by_key, each_number}
 use Rattle.fixpoint_engine.proofs.value.number_made.Goals as goal
@@ -14,8 +13,7 @@ key_of-requires-clause-each_net g c = each_number c.args.c.now c.args.store.now 
 pub returns-in-Some-clause-is : goal.returns-in-Some-clause-is
 returns-in-Some-clause-is g c =
     let ws = waves_of (waves_at c.args.store.now c.args.numbers.now) in
-    let found = subst (λ r. IfSome r _) c.in-Some.is c.find.ensures in
-    found ∙ ap Some (made_by_key c.args.c.now c.args.store.now ws c.args.instance.now c.in_ok-key.key c.in_ok-key.ensures)
+    c.in-Some.ensures ∙ ap Some (made_by_key c.args.c.now c.args.store.now ws c.args.instance.now c.in_ok-key.key c.in_ok-key.ensures)
 
 pub remember-requires-clause-known : goal.remember-requires-clause-known
 remember-requires-clause-known g c = c.in_ok-key.ensures.known
@@ -23,9 +21,9 @@ remember-requires-clause-known g c = c.in_ok-key.ensures.known
 pub remember-requires-clause-made : goal.remember-requires-clause-made
 remember-requires-clause-made g c =
     let ws = waves_of (waves_at c.args.store.now c.args.numbers.now) in
-    c.in_ok-wave.ensures ∙ sym (made_by_key c.args.c.now c.args.store.now ws c.args.instance.now c.in_ok-key.key c.in_ok-key.ensures)
+    c.in_ok-wave.ensures ∙ ap (λ now. instance_wave c.args.c.now (waves_of now) c.args.instance.now) (c.new-waves.ensures ∙ ap (λ table. waves_at table c.args.numbers.now) c.waves.ensures) ∙ sym (made_by_key c.args.c.now c.args.store.now ws c.args.instance.now c.in_ok-key.key c.in_ok-key.ensures)
 
 pub returns-clause-is : goal.returns-clause-is
 returns-clause-is g c =
     IfOk-weaker c.remember.result _ (IsNumber c.remember.new.self (instance_wave c.args.c.now (waves_of (waves_at c.args.store.now c.args.numbers.now)) c.args.instance.now))
-    (λ n at. at ∙ ap Some c.in_ok-wave.ensures) c.remember.ensures.means
+    (λ n at. at ∙ ap Some (c.in_ok-wave.ensures ∙ ap (λ now. instance_wave c.args.c.now (waves_of now) c.args.instance.now) (c.new-waves.ensures ∙ ap (λ table. waves_at table c.args.numbers.now) c.waves.ensures))) c.remember.ensures.means

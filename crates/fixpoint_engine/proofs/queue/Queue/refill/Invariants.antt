@@ -8,7 +8,7 @@ use Rattle.fixpoint_engine.specs.Worklist.{among}
 use Rattle.fixpoint_engine.proofs.queue.Queue.refill.Given as goal
 
 abbrev pub invariant-loop-change : goal.invariant-loop-change
-invariant-loop-change g l = record {
+invariant-loop-change l = record {
   each_net : length l.self.marks ≡ length l.c.nets;
   due : (i : ℕ) → marked_in l.self.marks i ≡ (is_evaluated l.active (option_copied l.classes) i && hears_in (among (map (λ ch. ch.net) (take l.change-index l.changes))) (driver l.c i));
 }
