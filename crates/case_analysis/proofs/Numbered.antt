@@ -1,5 +1,5 @@
 -- The numbers of the waves that the base and a case begin with.
-use Rattle.std.proofs.Common.{◌≡◌, ℕ, ◌+◌, ◌-◌, ◌<◌, Bool, true, false, if◌then◌else◌, List, [], ◌∷◌, ◌++◌, length, map, take, set, get_or, slice_get, refl, sym, ap, ◌∙◌, arith, Option, Some, None, is_some}
+use Rattle.std.proofs.Common.{◌≡◌, ℕ, ◌+◌, ◌-◌, ◌<◌, Bool, true, false, if◌then◌else◌, List, [], ◌∷◌, ◌++◌, length, map, set, get_or, slice_get, refl, sym, ap, ◌∙◌, arith, Option, Some, None, is_some}
 use Rattle.std.specs.List.{range_with_len}
 use Rattle.std.proofs.lemmas.List.{length-map, map-append, map-set}
 use Rattle.std.proofs.lemmas.List.FromFn.{get_or-map-range_with_len, length-map-range_with_len, map-range_with_len_more}
@@ -13,7 +13,7 @@ use Rattle.flat_circuit.specs.Circuit.{Circuit}
 use Rattle.pin_waves.specs.Interface.{interface_wave}
 use Rattle.wave_table.specs.Table.{AreKnown, Grows, IsNumber, wave_at, waves_at}
 use Rattle.wave_table.proofs.Growing.{grows_none}
-use Rattle.wave_table.proofs.ByNumber.{known_more, number_below, number_reads, waves_more}
+use Rattle.wave_table.proofs.ByNumber.{known_more, number_reads, waves_more}
 use Rattle.net_waves.specs.Waves.{waves_of}
 use Rattle.fixpoint_engine.specs.Settled.{marked_in}
 use Rattle.fixpoint_engine.specs.Start.{base_start, start_in, unknown_wave}
@@ -64,6 +64,12 @@ module _ (c : Circuit) (table : List (Wave Value)) (before : List ℕ) (net : �
 -- the number of a net before those of the case are set
 abbrev pub unset : List Bool → List ℕ → ℕ → ℕ → ℕ
 unset cone before unknown net = if marked_in cone net then unknown else get_or before net 0
+
+pub unset_reached : (cone : List Bool) (before : List ℕ) (unknown net n : ℕ) (has : Bool) → has ≡ marked_in cone net → has ≡ true → n ≡ unknown → n ≡ unset cone before unknown net
+unset_reached cone before unknown net n has is reached same = same ∙ sym (ap (λ b. if b then unknown else get_or before net 0) (sym is ∙ reached))
+
+pub unset_other : (cone : List Bool) (before : List ℕ) (unknown net n : ℕ) (has : Bool) → has ≡ marked_in cone net → has ≡ false → n ≡ get_or before net 0 → n ≡ unset cone before unknown net
+unset_other cone before unknown net n has is other same = same ∙ sym (ap (λ b. if b then unknown else get_or before net 0) (sym is ∙ other))
 
 module _ (table : List (Wave Value)) (cone : List Bool) (before numbers more : List ℕ) (unknown net n : ℕ) (below : net < length before)
     (put : more ≡ numbers ++ n ∷ []) (is : n ≡ unset cone before unknown net) where

@@ -3,6 +3,7 @@
 ghost use Rattle.std.specs.Prelude.{◌≡◌, ◌≢◌, ◌≤◌, ◌<◌, ◌+◌, [], ℕ, List, IfErr, IfOk, IfSome, MatchResult, OnOk, length};
 ghost use Rattle.flat_circuit.specs.Instances.{outputs};
 ghost use Rattle.flat_circuit.specs.declared.case.CaseValue.{CaseValue};
+ghost use Rattle.flat_circuit.specs.Circuit.{Circuit as Flat};
 ghost use Rattle.wave_table.specs.Table.{AreKnown, waves_at};
 ghost use Rattle.net_waves.specs.Waves.{FitWaves, waves_of};
 ghost use Rattle.fixpoint_engine.specs.End.{EndsFor};
@@ -83,7 +84,7 @@ impl Subject {
     }
 
     /// The case at this place of the list, from 0, at rest, from the base on. `Unsettled` comes where it
-    /// does not settle within so many rounds, and `NoMemory` where memory runs out: the base is then lost.
+    /// does not settle within so many rounds, and `NoMemory` where memory runs out; the base may then be lost.
     pub fn case<W: CyclicWave<Item = Value>>(
         &self,
         alloc: Global,
@@ -163,15 +164,14 @@ impl<W: CyclicWave<Item = Value>> Rested<W> {
         Ok((store, case))
     }
 
-    /// Forgets the waves that are not the base's, and all evaluations, where the store has become long: cases that come
-    /// to ever new waves would else take memory without end.
+    /// Forgets the waves that are not the base's, and all evaluations, where the store has become long: cases that
+    /// come to ever new waves would else take memory without end.
     fn shorten(&mut self, alloc: Global) -> Result<(), NoMemory>
         requires { AreKnown self.old.store self.old.base.numbers }
-        ensures known { OnOk result (AreKnown self.new.store self.new.base.numbers) }
-        ensures same { OnOk result (waves_at self.new.store self.new.base.numbers
-            ≡ waves_at self.old.store self.old.base.numbers) }
+        ensures kept { OnOk result ((c : Flat) (limit : ℕ) →
+            IsBaseIn c limit self.old.base.rounds self.old.store self.old.base.numbers self.old.known →
+            IsBaseIn c limit self.new.base.rounds self.new.store self.new.base.numbers self.new.known) }
         ensures round { self.new.base.rounds ≡ self.old.base.rounds }
-        ensures faults { self.new.known ≡ self.old.known }
     {
         if self.store.len() > self.base.numbers.len() + SPARE_WAVES {
             let numbers = self.store.compact(alloc, 0, self.base.numbers.as_slice())?;

@@ -1,4 +1,4 @@
-use Rattle.std.proofs.Common.{◌≡◌, ◌∙◌, ◌<◌, [], length, map, sym, subst, ap, arith}
+use Rattle.std.proofs.Common.{◌≡◌, ◌∙◌, ◌+◌, ◌<◌, [], length, map, ap, arith}
 use Rattle.std.specs.List.{range_with_len}
 use Rattle.std.proofs.lemmas.List.{length-map, length_push}
 use Rattle.wave_table.specs.Table.{wave_at, waves_at}
@@ -7,11 +7,28 @@ use Rattle.fixpoint_engine.specs.Settled.{marked_in}
 use Rattle.case_analysis.specs.Case.{case_start}
 use Rattle.case_analysis.proofs.Start.{listed_is}
 use Rattle.case_analysis.proofs.Cases.{past_set}
-use Rattle.case_analysis.proofs.Numbered.{unset_known, unset_more}
+use Rattle.case_analysis.proofs.Numbered.{unset, unset_known, unset_more, unset_other, unset_reached}
 use Rattle.case_analysis.proofs.case_rounds.unset_numbers.Goals as goal
+use Rattle.case_analysis.proofs.case_rounds.unset_numbers.Goals.{then-has, else-has}
 
 pub loop-net-preserved : goal.loop-net-preserved
-loop-net-preserved c = ?
+loop-net-preserved c =
+    let cone = c.args.cone.now in
+    let before = c.args.before.now in
+    let net = c.loop-net.net in
+    let so_far = c.loop-net.invariant in
+    let below : net < length before = omega (arith, c.loop-net-test.true, c.net_count-net-end.ensures, c.requires.each_net) in
+    let is : c.if-has.push ≡ unset cone before c.args.unknown net = elim c.if-has.branch [
+      | then-has w ↦ unset_reached cone before c.args.unknown net c.if-has.push c.has.result c.has.ensures w.if-has.true w.push-is
+      | else-has w ↦ unset_other cone before c.args.unknown net c.if-has.push c.has.result c.has.ensures w.if-has.false w.push-is
+    ] in
+    record {
+      known = λ table known inside. unset_known table cone before c.loop-net.numbers c.push.new.self c.args.unknown net c.if-has.push below
+          c.in_ok-push.ensures.ok is known inside (so_far.known table known inside);
+      is = λ table at. unset_more table cone before c.loop-net.numbers c.push.new.self c.args.unknown net c.if-has.push below
+          c.in_ok-push.ensures.ok is c.args.c.now at (so_far.is table at);
+      long = ap length c.in_ok-push.ensures.ok ∙ length_push c.loop-net.numbers c.if-has.push ∙ ap (λ n. n + 1) so_far.long;
+    }
 
 pub returns-clause-each_net : goal.returns-clause-each_net
 returns-clause-each_net c =
