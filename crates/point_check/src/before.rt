@@ -21,7 +21,7 @@ use wave_core::CyclicWave;
 /// them.
 #[derive(Drop)]
 pub struct Before<'a, W: CyclicWave<Item = Value>> {
-    pub waves: &'a Waves<W>,
+    pub waves: &'a Waves<'a, W>,
     pub known: &'a PointFaults,
 }
 

@@ -16,7 +16,7 @@ use wave_core::CyclicWave;
 /// Waves of all nets that were checked before, and the faults of each instance in them.
 #[derive(Drop)]
 pub struct Before<'a, W: CyclicWave<Item = Value>> {
-    pub waves: &'a Waves<W>,
+    pub waves: &'a Waves<'a, W>,
     pub known: &'a PulseFaults,
 }
 

@@ -1,10 +1,12 @@
 -- A base and a case at rest whose waves are kept in a table, while the table changes.
-use Rattle.std.proofs.Common.{◌≡◌, ℕ, List, sym, subst, ◌∙◌, Option}
+use Rattle.std.proofs.Common.{◌≡◌, ℕ, List, sym, subst, arith, Option}
 use Rattle.step_values.specs.declared.value.Value.{Value}
 use Rattle.skew_algebra.specs.Wave.{Wave}
 use Rattle.flat_circuit.specs.Circuit.{Circuit}
 use Rattle.wave_table.specs.Table.{AreKnown, Grows, waves_at}
 use Rattle.wave_table.proofs.Growing.{known_still, same_waves}
+use Rattle.net_waves.specs.Waves.{Waves}
+use Rattle.case_analysis.specs.Base.{IsBase}
 use Rattle.timing_analysis.specs.declared.faults.KnownFaults.{KnownFaults}
 use Rattle.timing_analysis.specs.Rested.{IsBaseAtRest, IsBaseIn}
 
@@ -17,6 +19,13 @@ base_again c limit base after old new ns ns' known known' round faults are same 
   rest = subst (λ b. IsBaseAtRest c limit b (waves_at new ns') known') (sym round)
       (subst (λ k. IsBaseAtRest c limit base (waves_at new ns') k) (sym faults)
       (subst (λ ws. IsBaseAtRest c limit base ws known) (sym same) is.rest));
+}
+
+-- the limit of the base's rounds may be the round in which it settled
+pub own_limit : (c : Circuit) (limit base : ℕ) (ws : Waves) → IsBase c limit base ws → IsBase c base base ws
+own_limit c limit base ws is = record {
+  rests = record { still = is.rests.still; first = is.rests.first; within = omega arith };
+  waves = is.waves;
 }
 
 -- so it is in a table that has grown
