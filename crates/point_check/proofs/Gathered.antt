@@ -23,7 +23,6 @@ use Rattle.flat_circuit.specs.Circuit.{Circuit, IsCircuit}
 use Rattle.gate_eval.specs.Hold.{hazard}
 use Rattle.net_waves.specs.Waves.{Waves, pin_waves, marked_pin, FitWaves, waves_of}
 use Rattle.net_waves.specs.Pins.{read}
-use Rattle.net_waves.proofs.WavesOf.{wave_found}
 use Rattle.net_waves.proofs.ReadSlots.{read_folded, length_folded}
 use Rattle.point_check.specs.Point.{first_fault, checker_fault}
 use Rattle.point_check.specs.Assertion.{is_held}
@@ -94,22 +93,16 @@ same_checker kind p p' k clock clock' input input' limits found pe ce xe e = e �
 
 -- ---- one net, by the waves that code has
 
-module _ (c : Circuit) (xs ys : List (Wave Value)) (i : ℕ) (net : Net) where
-  pub net_below : FitWaves c xs → ys ≡ xs → Some net ≡ slice_get c.nets i → i < length ys
-  net_below fit same at =
+module _ (c : Circuit) (xs : List (Wave Value)) (i : ℕ) (net : Net) where
+  pub net_below : FitWaves c xs → Some net ≡ slice_get c.nets i → i < length xs
+  net_below fit at =
       let below = slice_get_within c.nets i net (sym at) in
       let each = fit.each_net in
-      let size : length ys ≡ length xs = ap length same in
-      omega (arith, below, each, size)
+      omega (arith, below, each)
 
-  -- the wave of its number
-  pub net_wave : (x : Wave Value) → FitWaves c xs → ys ≡ xs → Some net ≡ slice_get c.nets i → x ≡ get_or ys i x → waves_of xs i ≡ x
-  net_wave x fit same at is =
-      sym (wave_found ys i (length ys) x (net_below fit same at) refl is ∙ ap (λ (ws : List (Wave Value)). waves_of ws i) same)
-
-  pub net_long : (x : Wave Value) → FitWaves c xs → ys ≡ xs → Some net ≡ slice_get c.nets i → x ≡ get_or ys i x → length x.cells ≡ period c.header
-  net_long x fit same at is =
-      ap (λ (w : Wave Value). length w.cells) (sym (net_wave x fit same at is)) ∙ fit.each_slot i (slice_get_within c.nets i net (sym at))
+  -- the wave of its number is of the period
+  pub net_long : (x : Wave Value) → FitWaves c xs → Some net ≡ slice_get c.nets i → x ≡ waves_of xs i → length x.cells ≡ period c.header
+  net_long x fit at is = ap (λ (w : Wave Value). length w.cells) is ∙ fit.each_slot i (slice_get_within c.nets i net (sym at))
 
 -- its assertion fits
 pub fits_at : (c : Circuit) (i : ℕ) (net : Net) → IsCircuit c → Some net ≡ slice_get c.nets i → Fits c.header net.spec

@@ -156,11 +156,12 @@ fn each_case<W: CyclicWave<Item = Value>>(
         outputs subject.now.circuit.instances ≤ limit → IfErr result (λ end. end ≡ EngineEnd.NoMemory) }
 {
     let mut rested = rested;
+    let base = rested.base.rounds;
     let mut report = Report::begin(alloc, subject.version, &subject.circuit)?;
     for place in 0..subject.cases.len() as u32 {
         let case = subject.case(alloc, &mut rested, place, limit)?;
         let waves = Waves::new(rested.store.waves(), case.settled.numbers.as_slice());
-        report.add_case(&subject.circuit, mode, rested.base.rounds, &case, &waves)?;
+        report.add_case(&subject.circuit, mode, base, &case, &waves)?;
     }
     Ok(report.end()?)
 }

@@ -2,13 +2,17 @@
 use Rattle.std.proofs.Common.{◌≡◌, ℕ, List, sym, subst, arith, Option}
 use Rattle.step_values.specs.declared.value.Value.{Value}
 use Rattle.skew_algebra.specs.Wave.{Wave}
+use Rattle.flat_circuit.specs.declared.fault.Fault.{Fault}
 use Rattle.flat_circuit.specs.Circuit.{Circuit}
 use Rattle.wave_table.specs.Table.{AreKnown, Grows, waves_at}
 use Rattle.wave_table.proofs.Growing.{known_still, same_waves}
 use Rattle.net_waves.specs.Waves.{Waves}
+use Rattle.fixpoint_engine.specs.declared.rounds.EngineEnd.{EngineEnd}
 use Rattle.case_analysis.specs.Base.{IsBase}
 use Rattle.timing_analysis.specs.declared.faults.KnownFaults.{KnownFaults}
-use Rattle.timing_analysis.specs.Rested.{IsBaseAtRest, IsBaseIn}
+use Rattle.timing_analysis.specs.Case.{Listed}
+use Rattle.timing_analysis.specs.Ended.{EndsCase}
+use Rattle.timing_analysis.specs.Rested.{IsBaseAtRest, IsBaseIn, IsCaseAtRest}
 
 -- the base is as it was where its numbers mean the waves that they meant
 pub base_again : (c : Circuit) (limit base after : ℕ) (old new : List (Wave Value)) (ns ns' : List ℕ) (known known' : Option KnownFaults) →
@@ -35,3 +39,13 @@ base_grown c limit base old new ns known g is = record {
   are = known_still old new g ns is.are;
   rest = subst (λ ws. IsBaseAtRest c limit base ws known) (sym (same_waves old new g ns is.are)) is.rest;
 }
+
+-- ---- a case from a base whose round is known to be another's
+
+pub case_from : (c : Circuit) (limit base after : ℕ) (listed : Listed) (number rounds tick : ℕ) (ws : List (Wave Value)) (fs : List Fault) → after ≡ base →
+    IsCaseAtRest c limit after listed number rounds tick ws fs → IsCaseAtRest c limit base listed number rounds tick ws fs
+case_from c limit base after listed number rounds tick ws fs same is = subst (λ b. IsCaseAtRest c limit b listed number rounds tick ws fs) same is
+
+pub ends_from : (c : Circuit) (limit base after : ℕ) (listed : Listed) (end : EngineEnd) → after ≡ base →
+    EndsCase c limit after listed end → EndsCase c limit base listed end
+ends_from c limit base after listed end same ends = subst (λ b. EndsCase c limit b listed end) same ends

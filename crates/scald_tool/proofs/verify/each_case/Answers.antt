@@ -1,18 +1,23 @@
-use Rattle.std.proofs.Common.{◌≡◌, List, take, subst, arith}
+use Rattle.std.proofs.Common.{◌≡◌, ◌∙◌, refl, List, take, subst, arith}
 use Rattle.std.proofs.lemmas.List.{take_all}
 use Rattle.std.proofs.lemmas.Result.{err_from_is_err_and}
 use Rattle.flat_circuit.specs.declared.case.CaseValue.{CaseValue}
 use Rattle.timing_analysis.specs.Case.{numbered}
+use Rattle.timing_analysis.proofs.Stored.{case_from, ends_from}
 use Rattle.scald_tool.proofs.Telling.{Told, told_start, told_end}
 use Rattle.scald_tool.proofs.Going.{going_more, going_ends}
 use Rattle.scald_tool.proofs.verify.each_case.Goals as goal
 
 pub loop-place-init : goal.loop-place-init
 loop-place-init g c = record {
-  told =
-      told_start c.args.mode c.args.subject.now.version c.args.subject.now.circuit c.args.limit c.args.rested.base.rounds
-      c.in_ok-report.report.bytes c.in_ok-report.report.total c.in_ok-report.ensures.head c.in_ok-report.ensures.none;
-  room = let none = c.in_ok-report.ensures.none in omega (arith, none);
+  going = record {
+    told =
+        told_start c.args.mode c.args.subject.now.version c.args.subject.now.circuit c.args.limit c.args.rested.base.rounds
+        c.in_ok-report.report.bytes c.in_ok-report.report.total c.in_ok-report.ensures.head c.in_ok-report.ensures.none;
+    room = let none = c.in_ok-report.ensures.none in omega (arith, none);
+  };
+  rest = c.requires.rest;
+  same = refl;
 }
 
 pub add_case-requires-clause-room : goal.add_case-requires-clause-room
@@ -35,16 +40,23 @@ returns-in_err-case-clause-ended g c =
     let inside = c.loop-place-test.true in
     rw (p.1, p.2) (going_ends c.args.mode c.args.subject.now.version c.args.subject.now.circuit c.args.limit c.args.rested.base.rounds
     c.args.subject.now.cases c.loop-place.place c.loop-place.report.bytes c.loop-place.report.total
-    (omega (arith, len, inside)) c.loop-place.invariant.going c.in_err-case.field-0.0 c.in_err-case.ensures.unsettled)
+    (omega (arith, len, inside)) c.loop-place.invariant.going c.in_err-case.field-0.0
+    (ends_from c.args.subject.now.circuit c.args.limit c.args.rested.base.rounds c.loop-place.rested.base.rounds _ c.in_err-case.field-0.0 c.loop-place.invariant.same c.in_err-case.ensures.unsettled))
 
 pub loop-place-preserved : goal.loop-place-preserved
 loop-place-preserved g c =
     let len = c.len-place-end.ensures in
     let inside = c.loop-place-test.true in
-    going_more c.args.mode c.args.subject.now.version c.args.subject.now.circuit c.args.limit c.args.rested.base.rounds
-    c.args.subject.now.cases c.loop-place.place c.loop-place.report.bytes c.loop-place.report.total
-    (omega (arith, len, inside)) c.loop-place.invariant.going _ _ _ _ _ _ _
-    c.in_ok-case.ensures.rest.rest c.in_ok-add_case.ensures.told c.in_ok-add_case.ensures.counted
+    record {
+      going = going_more c.args.mode c.args.subject.now.version c.args.subject.now.circuit c.args.limit c.args.rested.base.rounds
+          c.args.subject.now.cases c.loop-place.place c.loop-place.report.bytes c.loop-place.report.total
+          (omega (arith, len, inside)) c.loop-place.invariant.going _ _ _ _ _ _ _
+          (case_from c.args.subject.now.circuit c.args.limit c.args.rested.base.rounds c.loop-place.rested.base.rounds _ _ _ _ _ _
+          c.loop-place.invariant.same c.in_ok-case.ensures.rest.rest)
+          c.in_ok-add_case.ensures.told c.in_ok-add_case.ensures.counted;
+      rest = c.in_ok-case.ensures.kept;
+      same = c.in_ok-case.ensures.round ∙ c.loop-place.invariant.same;
+    }
 
 pub returns-clause-told : goal.returns-clause-told
 returns-clause-told g c =
