@@ -173,7 +173,7 @@ impl<W: CyclicWave<Item = Value>> Rested<W> {
             IsBaseIn c limit self.new.base.rounds self.new.store self.new.base.numbers self.new.known) }
         ensures round { self.new.base.rounds ≡ self.old.base.rounds }
     {
-        if self.store.len() <= self.base.numbers.len() + SPARE_WAVES {
+        if self.store.len().saturating_sub(self.base.numbers.len()) <= SPARE_WAVES {
             return Ok(());
         }
         let numbers = self.store.compact(alloc, 0, self.base.numbers.as_slice())?;
