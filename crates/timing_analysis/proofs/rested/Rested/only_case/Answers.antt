@@ -1,12 +1,24 @@
-use Rattle.std.proofs.Common.{[], refl, arith}
+use Rattle.std.proofs.Common.{◌≡◌, ◌+◌, [], ap, refl, subst, sym, ◌∙◌, arith}
+use Rattle.wave_table.specs.Table.{waves_at}
+use Rattle.net_waves.specs.Waves.{waves_of}
+use Rattle.case_analysis.specs.Case.{PermitCase}
+use Rattle.timing_analysis.specs.Case.{faults_of}
 use Rattle.timing_analysis.proofs.Rest.{base_permits, base_rests, case_at_rest}
 use Rattle.timing_analysis.proofs.rested.Rested.only_case.Goals as goal
 
 pub returns : goal.returns
 returns g c =
-    case_at_rest c.args.circuit.now c.args.limit c.args.self.base.rounds (record { number = 0; values = [] }) 0 _
-    c.in_ok-found.found 0 c.tick-tick.result c.reach.result refl (omega arith) c.requires.rest.fit
-    (base_rests c.args.circuit.now c.args.limit c.args.self.base.rounds _ c.requires.rest.rest)
-    c.tick-tick.ensures c.reach.ensures.is c.in_ok-found.ensures.are c.in_ok-found.ensures.few
-    (c.in_ok-found.ensures.keep [] c.args.self.base.rounds 0
-    (base_permits c.args.circuit.now c.args.self.base.rounds _ c.requires.rest.permits))
+    let same : c.new-waves.result ≡ waves_at c.args.self.store c.args.self.base.numbers =
+    c.new-waves.ensures ∙ ap (λ t. waves_at t c.as_slice.result.now) c.waves.ensures ∙ ap (waves_at c.args.self.store) c.as_slice.ensures in
+    let base = c.requires.rest.rest in
+    let permits = base_permits c.args.circuit.now c.args.self.base.rounds _ base.permits in
+    record {
+      are = c.requires.rest.are;
+      rest = case_at_rest c.args.circuit.now c.args.limit c.args.self.base.rounds (record { number = 0; values = [] }) 0
+          (waves_at c.args.self.store c.args.self.base.numbers) c.in_ok-found.found 0 c.tick-tick.result c.reach.result refl (omega arith) base.fit
+          (base_rests c.args.circuit.now c.args.limit c.args.self.base.rounds _ base.rest)
+          c.tick-tick.ensures c.reach.ensures.is
+          (c.in_ok-found.ensures.are ∙ ap (λ ws. faults_of c.args.circuit.now (waves_of ws)) same) c.in_ok-found.ensures.few
+          (c.in_ok-found.ensures.keep [] c.args.self.base.rounds 0
+          (subst (λ ws. PermitCase c.args.circuit.now [] (c.args.self.base.rounds + 0) (waves_of ws)) (sym same) permits));
+    }

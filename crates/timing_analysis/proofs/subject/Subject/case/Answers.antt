@@ -1,7 +1,5 @@
-use Rattle.std.proofs.Common.{◌+◌, refl, subst, sym}
+use Rattle.std.proofs.Common.{◌+◌, refl, subst}
 use Rattle.std.proofs.lemmas.Result.{err_from_is_err_and}
-use Rattle.net_waves.specs.Waves.{waves_of}
-use Rattle.wave_table.specs.Table.{waves_at}
 use Rattle.case_analysis.specs.Case.{case_at}
 use Rattle.timing_analysis.specs.Ended.{EndsCase}
 use Rattle.timing_analysis.specs.Rested.{IsCaseIn}
