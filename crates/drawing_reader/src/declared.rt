@@ -3,7 +3,7 @@
 use drawing_grammar::Kind;
 
 /// A name as a kind of thing in a scope. Each macro is a scope, and after all macros the drawing itself;
-/// macros are all of scope 0.
+/// constants and macros are all of scope 0.
 #[derive(Clone, Copy, PartialEq, Eq, Hash)]
 pub struct Declared<'a> {
     pub scope: usize,

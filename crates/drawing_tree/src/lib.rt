@@ -4,7 +4,8 @@
 //! use, and connections say on which bits of which nets. `print_drawing` writes a drawing
 //! canonically, as `specs/Canonical` and `specs/ExpressionText` say. `specs/Tree` sees a drawing as
 //! a tree of what it holds, of which the layers above speak, `specs/Places` says when two are alike
-//! but for the places of their parts, and `specs/WellFormed` which drawings a text can draw.
+//! but for the places of their parts, and `specs/WellFormed` which drawings are well formed, as each
+//! one is that a text draws; there, what only the second version has is not kept from the first.
 #![tactic(auto)]
 
 mod connection;

@@ -17,7 +17,7 @@ abbrev pub of_two : (Value → Value → Value → Value) → List Value → Val
 of_two mux (s ∷ a ∷ b ∷ []) = mux s a b
 of_two mux found = U
 
--- of four after two selects: the last select first
+-- of four after two selects, the high one first: the low one chooses within each pair
 abbrev pub of_four : (Value → Value → Value → Value) → List Value → Value
 of_four mux (s1 ∷ s0 ∷ a ∷ b ∷ c ∷ d ∷ []) = mux s1 (mux s0 a b) (mux s0 c d)
 of_four mux found = U

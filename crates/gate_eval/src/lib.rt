@@ -6,7 +6,7 @@
 //! [`met`] does the same as [`eval_gate`] for an [`Image`] of another crate. `specs/Instance` says which
 //! wave comes and what it permits: `specs/Meeting` where several waves meet, `specs/Gates` what a gate
 //! makes of values, `specs/Hold` the mark and its rule, `specs/Change` the change function,
-//! `specs/Split` two delays.
+//! `specs/Split` two delays, by `specs/SplitWindow`.
 #![tactic(auto)]
 
 // pins

@@ -25,7 +25,7 @@ pub record IsWord (word : List ℕ) : Type 0 where
   pub form : begins_word word ≡ true
   pub short : length word ≤ longest_word
 
--- words that are no labels, kinds, parameters or names of drawings
+-- words that are no labels, kinds, macros, parameters, constants, variables or names of drawings
 abbrev pub reserved_words : List (List ℕ)
 reserved_words =
     codes "SCALD" ∷ codes "CLOCK" ∷ codes "WIRE" ∷ codes "PSKEW" ∷ codes "CSKEW" ∷ codes "MACRO" ∷ codes "DRAWING"

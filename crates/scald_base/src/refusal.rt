@@ -57,7 +57,7 @@ pub enum RefusalKind {
     EdgesOverlap,
     /// A division by zero.
     ZeroDivisor,
-    /// An expression names no parameter.
+    /// An expression names no parameter, constant or variable of a FOR.
     UnknownName,
 }
 

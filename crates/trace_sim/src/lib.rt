@@ -2,7 +2,8 @@
 //!
 //! The layer above calls [`simulate`], which makes the run of a `Choice`: delays, wires' delays, inputs
 //! and free bits. `specs/Choice` says which choices a circuit has, and `specs/Simulated` where the bits
-//! of their runs come from; that a run for each of them exists is a law in [`laws`].
+//! of their runs come from; that each of them has a run, and but one, are the laws in [`laws`].
+//! [`choice_fits`] tells whether a choice has what `simulate` asks of it.
 //!
 //! Within a tick an instance without delay reads what others drive at that very tick, so `order` finds
 //! one order of the instances for every choice of delays (`specs/Order`).

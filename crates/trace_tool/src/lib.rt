@@ -2,7 +2,7 @@
 //!
 //! `run T SEED` draws a run of so many ticks by the words of a generator that is seeded so, in a case
 //! where `case=K` follows; `judge F` says whether a trace is a run, and what breaks in it from tick F on.
-//! The program's main call reads its words by [`read_words`], which `specs/Words` defines, and ends with
+//! The main call of the simulator reads its words by [`read_words`], which `specs/Words` defines, and ends with
 //! the [`trace_status`] of its [`TraceOutcome`] (`specs/Outcome`).
 #![tactic(auto)]
 
