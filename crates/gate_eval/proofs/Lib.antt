@@ -14,6 +14,8 @@ pub mod Found
 pub mod Chosen
 pub mod Few
 pub mod Folding
+pub mod Quiet
+pub mod QuietGates
 pub mod PermitExamples
 pub mod HoldExamples
 pub mod SplitSound

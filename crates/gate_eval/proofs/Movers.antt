@@ -21,7 +21,7 @@ module _ {T : Type 0} (k : Cells T) where
   pub movers_moving : (w : Wave T) (ws : List (Wave T)) → is_steady k w.cells ≡ false → movers k (w ∷ ws) ≡ w ∷ movers k ws
   movers_moving w ws moves = ap (λ b. cond (not b) (w ∷ movers k ws) (movers k ws)) moves
 
-kept_one : {T : Type 0} (w : Wave T) (ms : List (Wave T)) (skew : ℕ) → kept_skew (w ∷ ms) ≡ Some skew → (ms ≡ []) × (w.skew ≡ skew)
+pub kept_one : {T : Type 0} (w : Wave T) (ms : List (Wave T)) (skew : ℕ) → kept_skew (w ∷ ms) ≡ Some skew → (ms ≡ []) × (w.skew ≡ skew)
 kept_one w [] skew e = (refl, cc)
 kept_one w (m ∷ ms) skew e = cc
 

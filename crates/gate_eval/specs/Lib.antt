@@ -7,3 +7,4 @@ pub mod Window
 pub mod Instance
 pub mod Split
 pub mod SplitWindow
+pub mod Quiet

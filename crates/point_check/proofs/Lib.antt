@@ -14,6 +14,7 @@ pub mod Kept
 pub mod AsBefore
 pub mod Literal
 pub mod Broken
+pub mod Longer
 mod Examples
 mod ExamplesSetupHold
 mod ExamplesRiseFall

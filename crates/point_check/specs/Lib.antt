@@ -7,3 +7,4 @@ pub mod Faults
 pub mod Known
 pub mod Break
 pub mod Sound
+pub mod Laws

@@ -4,6 +4,7 @@ pub mod Gathered
 pub mod Kept
 pub mod Literal
 pub mod Broken
+pub mod Greater
 mod Examples
 mod ExamplesBreak
 pub mod AsBefore

@@ -4,3 +4,4 @@ pub mod Faults
 pub mod Known
 pub mod Break
 pub mod Sound
+pub mod Laws

@@ -24,7 +24,7 @@ module _ {T : Type 0} (k : Cells T) where
   unfolding earlier
   earlier_later cells t m o some = ap (λ (z : ℕ). get_or cells z k.any) (back_later (length cells) t m o some)
 
-  earlier_earlier : (cells : List T) (t m o : ℕ) → earlier k cells (back (length cells) t m) o ≡ earlier k cells t (m + o)
+  pub earlier_earlier : (cells : List T) (t m o : ℕ) → earlier k cells (back (length cells) t m) o ≡ earlier k cells t (m + o)
   unfolding earlier
   earlier_earlier cells t m o = ap (λ (z : ℕ). get_or cells z k.any) (back_back (length cells) t m o)
 

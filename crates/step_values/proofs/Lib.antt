@@ -3,3 +3,4 @@ pub mod Bytes
 pub mod Examples
 pub mod Filled
 pub mod Sound
+pub mod Quiet

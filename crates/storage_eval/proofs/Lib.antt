@@ -3,3 +3,4 @@ pub mod Heard
 pub mod Sounds
 pub mod Kept
 pub mod Dependence
+pub mod Quiet

@@ -1,0 +1,14 @@
+-- Laws of the checks at the edges of clocks.
+use Rattle.std.specs.Prelude.{◌≡◌, ℕ, ◌≤◌, None}
+use Rattle.scald_base.specs.Time.{period}
+use Rattle.flat_circuit.specs.declared.instance.Instance.{Instance}
+use Rattle.flat_circuit.specs.Circuit.{Circuit}
+use Rattle.net_waves.specs.Waves.{Waves}
+use Rattle.point_check.specs.Faults.{limited_fault}
+
+-- No fault goes where a setup or a hold time is longer: where there is none with the longer times, there is none.
+abbrev pub LongerTimesKeepFaults : Type 0
+LongerTimesKeepFaults =
+    (c : Circuit) (ws : Waves) (k : ℕ) (j : Instance) (setup hold longer_setup longer_hold : ℕ) →
+    1 ≤ period c.header → setup ≤ longer_setup → hold ≤ longer_hold →
+    limited_fault c ws k j (longer_setup, longer_hold) ≡ None → limited_fault c ws k j (setup, hold) ≡ None
