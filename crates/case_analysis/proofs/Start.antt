@@ -50,7 +50,7 @@ length_started : (h : Header) (a : AssertSpec) (driver : Option ℕ) → length 
 length_started h a None = length_interface h a
 length_started h a (Some k) = length_unknown h
 
-Permits_started : (h : Header) (a : AssertSpec) (driver : Option ℕ) (n : ℕ) (x : Signal) → 0 < period h → (driver ≡ None → Meets h a n x) → Permits values (started h a driver) n x 1
+pub Permits_started : (h : Header) (a : AssertSpec) (driver : Option ℕ) (n : ℕ) (x : Signal) → 0 < period h → (driver ≡ None → Meets h a n x) → Permits values (started h a driver) n x 1
 Permits_started h a None n x some meets = Permits_interface h a n x some (meets refl)
 Permits_started h a (Some k) n x some meets = Permits_unknown h n 1 x some
 

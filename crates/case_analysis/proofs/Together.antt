@@ -53,7 +53,7 @@ some_after before (v ∷ vs) i = some_after (cond (v.net == i) (Some v.one) befo
     by true (Some one) = refl
     by false before = refl
 
-set_is : (vs : List CaseValue) (i : ℕ) → is_some (value_in vs i) ≡ is_set vs i
+pub set_is : (vs : List CaseValue) (i : ℕ) → is_some (value_in vs i) ≡ is_set vs i
 set_is vs i = some_after None vs i
 
 set_below : (n : ℕ) (vs : List CaseValue) (i : ℕ) → All (λ (v : CaseValue). v.net < n) vs → is_set vs i ≡ true → i < n

@@ -17,7 +17,7 @@ mod cones;
 mod parts;
 mod printed_tick;
 
-pub use base_rounds::{base, default_limit};
+pub use base_rounds::{base, default_limit, driven_nets, start_numbers};
 pub use case_list::check_cases;
 pub use case_rounds::case_waves;
 pub use class_rounds::{base_classes, case_classes};

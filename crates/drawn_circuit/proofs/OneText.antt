@@ -87,7 +87,7 @@ one_stop d r q (inr a) (inr b) =
     let same : b.state ≡ a.state = cc (a.expanded, b.expanded) in
     one_break a.state a.numbered b.numbered r q a.is_numbered (subst (λ (s : State). IsNumbered s b.numbered) same b.is_numbered) a.is_built b.is_built a.broken b.broken
 
-no_stop : (d : Drawing) (r : Refusal) (c : Circuit) → IsStopOf d (Stopped r) → IsCircuitOf d c → IsCircuit c → ⊥
+pub no_stop : (d : Drawing) (r : Refusal) (c : Circuit) → IsStopOf d (Stopped r) → IsCircuitOf d c → IsCircuit c → ⊥
 no_stop d r c (inl e) is fit = absurd (cc (e, is.expanded))
 no_stop d r c (inr b) is fit =
     let same : b.state ≡ is.state = cc (b.expanded, is.expanded) in

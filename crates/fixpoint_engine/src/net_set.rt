@@ -40,7 +40,7 @@ impl NetSet {
     }
 
     /// Takes a net out of the set.
-    pub(crate) fn remove(&mut self, net: u32)
+    pub fn remove(&mut self, net: u32)
         requires { net < length self.old }
         ensures { self.new ≡ slice_set self.old net false }
     {

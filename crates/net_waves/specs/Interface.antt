@@ -12,6 +12,10 @@ use Rattle.net_waves.specs.Waves.{Waves}
 abbrev pub MeetsInterface : Circuit → Run → Type 0
 MeetsInterface c run = (i : ℕ) (net : Net) → slice_get c.nets i ≡ Some net → net.driver ≡ None → Meets c.header net.spec run.ticks (net_signal run i)
 
--- the waves permit each net of the run from tick v on
+-- the waves permit the first n ticks of each net of the run, from tick v on
+abbrev pub PermitFront : Circuit → Run → ℕ → Waves → ℕ → Type 0
+PermitFront c run n ws v = (i : ℕ) → i < length c.nets → Permits values (ws i) n (net_signal run i) v
+
+-- all of its ticks
 abbrev pub PermitRun : Circuit → Run → Waves → ℕ → Type 0
-PermitRun c run ws v = (i : ℕ) → i < length c.nets → Permits values (ws i) run.ticks (net_signal run i) v
+PermitRun c run ws v = PermitFront c run run.ticks ws v

@@ -1,5 +1,5 @@
 pub mod Counts
-mod Reached
+pub mod Reached
 pub mod OneRest
 pub mod Headline
 pub mod Rest

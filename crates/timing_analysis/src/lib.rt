@@ -12,6 +12,6 @@ pub mod laws;
 mod rested;
 mod subject;
 
-pub use faults::KnownFaults;
+pub use faults::{KnownFaults, faults};
 pub use rested::{CaseAtRest, Rested};
 pub use subject::Subject;
