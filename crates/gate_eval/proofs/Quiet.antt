@@ -11,8 +11,9 @@ use Rattle.wave_core.specs.Slots.{slots, earlier, join_to, later}
 use Rattle.wave_core.proofs.Slots.{earlier_slots, length_slots}
 use Rattle.step_values.specs.declared.value.Value.{Value}
 use Rattle.step_values.specs.declared.value.Value.TheVariants.{U}
-use Rattle.step_values.specs.Steps.{is_quiet, join}
+use Rattle.step_values.specs.Steps.{is_quiet}
 use Rattle.step_values.specs.Cell.{values}
+use Rattle.step_values.proofs.Quiet.{both_quiet, first_quiet, second_quiet}
 use Rattle.skew_algebra.specs.Wave.{Wave, skewed, fold, is_steady, joined, cell_at, all_equal, normal, moved}
 use Rattle.skew_algebra.proofs.Cells.{all_at}
 use Rattle.skew_algebra.proofs.Moves.{earlier_earlier, earlier_turned, length_later}
@@ -20,17 +21,6 @@ use Rattle.skew_algebra.proofs.Normal.{normal_steady, normal_moving}
 use Rattle.gate_eval.specs.Meeting.{HaveOnePeriod, cells_in, folds_in, kept_skew, meeting, meeting_by, movers, period_of}
 use Rattle.gate_eval.specs.Quiet.{IsQuietAt, IsQuietBefore, LateIsQuiet}
 use Rattle.gate_eval.proofs.Movers.{kept_one, movers_moving, movers_steady}
-
--- ---- joins
-
-both_quiet : (v w : Value) → is_quiet v ≡ true → is_quiet w ≡ true → is_quiet (join v w) ≡ true
-both_quiet v w q r = grind arith
-
-first_quiet : (v w : Value) → is_quiet (join v w) ≡ true → is_quiet v ≡ true
-first_quiet v w q = grind arith
-
-second_quiet : (v w : Value) → is_quiet (join v w) ≡ true → is_quiet w ≡ true
-second_quiet v w q = grind arith
 
 -- f 0 to f n are quiet where their join is
 each_quiet : (f : ℕ → Value) (n o : ℕ) → is_quiet (join_to values f n) ≡ true → o ≤ n → is_quiet (f o) ≡ true

@@ -21,6 +21,7 @@ use Rattle.element_kinds.specs.declared.kind.Kind.{Kind}
 use Rattle.element_kinds.specs.declared.form.Form.{Form}
 use Rattle.element_kinds.specs.declared.form.Form.TheVariants.{Gate, Change, Register, Latch as Enabled, Checker}
 use Rattle.element_kinds.specs.Kinds.{closes_of, form_of, is_memoryless}
+use Rattle.element_kinds.proofs.Forms.{of_form}
 use Rattle.flat_circuit.specs.Split.{either_delay}
 use Rattle.flat_circuit.specs.Kind.{pin_counts}
 use Rattle.element_kinds.specs.declared.kind.Kind.TheVariants.{Buf, And, Or, Xor, Mux2, Mux4, Mux8, Chg, Reg, RegRs, Latch, LatchRs, SetupHold, RiseFall, MinPulse}
@@ -63,7 +64,8 @@ quiet_change waves d p some bounds long quiet =
     let whole : length (slots period (change_at waves d)) ≡ period = length_slots period (change_at waves d) in
     let still : pass_before is_quiet waves d (back period p 0) ≡ true =
     all_of (λ i. list_all is_quiet (folds_in values waves (back period (back period p 0) (d.min + i)))) (d.max - d.min) (λ i most.
-    ap (λ (s : ℕ). list_all is_quiet (folds_in values waves s)) (back_back period p 0 (d.min + i))
+    let whole : 0 + (d.min + i) ≡ d.min + i = omega arith in
+    ap (λ (s : ℕ). list_all is_quiet (folds_in values waves s)) (back_back period p 0 (d.min + i) ∙ ap (back period p) whole)
     ∙ quiet_folds period waves d p (d.min + i) long quiet (omega arith) (omega (arith, most, bounds))) in
     quiet_normal (skewed (slots period (change_at waves d)) 0) p (omega (arith, some, whole)) (λ o least most.
     let none : o ≡ 0 = omega (arith, most) in
@@ -259,16 +261,16 @@ module _ (kind : Kind) (waves : List (Wave Value)) (d : Bounds) (p : ℕ) (gate 
 
 pub gates_are_quiet : GatesAreQuiet
 unfolding gate_wave
-gates_are_quiet kind waves marked d p is fits bounds quiet = by (form_of kind) refl is
+gates_are_quiet kind waves marked d p is fits bounds quiet = by (form_of kind) refl (of_form is_memoryless kind ∙ is)
   where
     by : (form : Form) → form_of kind ≡ form → is_memoryless form ≡ true → IsQuietAt p (wave_by form kind waves marked d)
     by Gate gate is =
         quiet_moved (gate_image kind waves marked) d p (long_image kind waves d p gate bounds quiet marked fits) bounds
         (quiet_image kind waves d p gate bounds quiet marked fits)
     by Change change is = quiet_change waves d p fits.some bounds fits.periods quiet
-    by (Register forced) form no = absurd (cc)
-    by (Enabled forced) form no = absurd (cc)
-    by (Checker check) form no = absurd (cc)
+    by (Register forced) form passes = absurd (cc)
+    by (Enabled forced) form passes = absurd (cc)
+    by (Checker check) form passes = absurd (cc)
 
 -- ---- two delays
 
