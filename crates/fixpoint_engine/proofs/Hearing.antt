@@ -47,7 +47,7 @@ listening_same c ws vs kind place (p ∷ ps) unheard =
     by false same rest = rest
 
 -- where every pin listens
-listening_all : (kind : Kind) → ((place : ℕ) → listens kind place ≡ true) → (place : ℕ) (waves : List (Wave Value)) → listening_from kind place waves ≡ waves
+pub listening_all : (kind : Kind) → ((place : ℕ) → listens kind place ≡ true) → (place : ℕ) (waves : List (Wave Value)) → listening_from kind place waves ≡ waves
 listening_all kind all place [] = refl
 listening_all kind all place (w ∷ ws) = rw (all place) (ap (λ (rest : List (Wave Value)). w ∷ rest) (listening_all kind all (place + 1) ws))
 

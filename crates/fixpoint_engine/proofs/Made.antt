@@ -134,7 +134,7 @@ pub length_turned : (inverted : Bool) (w : Wave Value) → length (turned_wave i
 length_turned true w = length-map w.cells flip
 length_turned false w = refl
 
-made_mark : (c : Circuit) (ws : Waves) (j : Instance) → InstanceFits c.header (length c.nets) j → MarkFits j.kind (marked_pin j) (length (pin_waves c ws j))
+pub made_mark : (c : Circuit) (ws : Waves) (j : Instance) → InstanceFits c.header (length c.nets) j → MarkFits j.kind (marked_pin j) (length (pin_waves c ws j))
 made_mark c ws j fits =
     subst (λ (n : ℕ). MarkFits j.kind (marked_pin j) n) (sym (length_pins c ws j)) (mark_fits j.kind (λ (p : Pin). p.hold) j.pins fits.pins.marks)
 
