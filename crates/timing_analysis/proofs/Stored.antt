@@ -9,7 +9,7 @@ use Rattle.wave_table.proofs.Growing.{known_still, same_waves}
 use Rattle.net_waves.specs.Waves.{Waves}
 use Rattle.fixpoint_engine.specs.declared.rounds.EngineEnd.{EngineEnd}
 use Rattle.case_analysis.specs.Base.{IsBase}
-use Rattle.timing_analysis.specs.declared.faults.KnownFaults.{KnownFaults}
+use Rattle.timing_analysis.specs.declared.case_faults.KnownFaults.{KnownFaults}
 use Rattle.timing_analysis.specs.Case.{Listed}
 use Rattle.timing_analysis.specs.Ended.{EndsCase}
 use Rattle.timing_analysis.specs.Rested.{IsBaseAtRest, IsBaseIn, IsCaseAtRest}

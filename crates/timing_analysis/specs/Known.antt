@@ -5,7 +5,7 @@ use Rattle.flat_circuit.specs.Circuit.{Circuit}
 use Rattle.net_waves.specs.Waves.{Waves}
 use Rattle.point_check.specs.Known.{AreKnown}
 use Rattle.pulse_check.specs.Faults.{instance_faults}
-use Rattle.timing_analysis.specs.declared.faults.KnownFaults.{KnownFaults}
+use Rattle.timing_analysis.specs.declared.case_faults.KnownFaults.{KnownFaults}
 
 -- these are the faults of each instance and of each net in these waves, by their numbers
 pub record IsKnown (c : Circuit) (ws : Waves) (known : KnownFaults) : Type 0 where

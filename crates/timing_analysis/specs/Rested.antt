@@ -7,7 +7,7 @@ use Rattle.flat_circuit.specs.Circuit.{Circuit}
 use Rattle.wave_table.specs.Table.{AreKnown, waves_at}
 use Rattle.net_waves.specs.Waves.{FitWaves, waves_of}
 use Rattle.case_analysis.specs.Base.{IsBase, PermitInputs}
-use Rattle.timing_analysis.specs.declared.faults.KnownFaults.{KnownFaults}
+use Rattle.timing_analysis.specs.declared.case_faults.KnownFaults.{KnownFaults}
 use Rattle.timing_analysis.specs.Known.{IsKnown}
 use Rattle.timing_analysis.specs.Case.{Listed, Case, IsAtRest, printed_tick, faults_of}
 use Rattle.timing_analysis.specs.Promise.{IsKept, IsUnbroken}

@@ -7,11 +7,11 @@
 //! circuit comes to rest in one way.
 #![tactic(auto)]
 
-mod faults;
+mod case_faults;
 pub mod laws;
 mod rested;
 mod subject;
 
-pub use faults::{KnownFaults, faults};
+pub use case_faults::{KnownFaults, faults};
 pub use rested::{CaseAtRest, Rested};
 pub use subject::Subject;

@@ -19,7 +19,7 @@ ghost use Rattle.timing_analysis.specs.Promise.{KeepsFaultless};
 ghost use Rattle.timing_analysis.specs.Rested.{IsBaseIn, IsCaseIn};
 ghost use Rattle.timing_analysis.specs.Subject.{IsSubject};
 
-use crate::faults::{KnownFaults, faults, faults_again, known_faults};
+use crate::case_faults::{KnownFaults, faults, faults_again, known_faults};
 use crate::subject::Subject;
 use case_analysis::{reach, tick};
 use fixpoint_engine::{EngineEnd, SPARE_WAVES, Settled, Store};

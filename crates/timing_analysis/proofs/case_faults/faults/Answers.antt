@@ -1,6 +1,6 @@
 use Rattle.timing_analysis.proofs.Counts.{few_both}
 use Rattle.timing_analysis.proofs.Headline.{keeps_faultless, some_period}
-use Rattle.timing_analysis.proofs.faults.faults.Goals as goal
+use Rattle.timing_analysis.proofs.case_faults.faults.Goals as goal
 
 pub returns-clause-few : goal.returns-clause-few
 returns-clause-few g c =
