@@ -20,10 +20,13 @@ module _ (level : Bool) (wave : Slots) (width greater : ℕ) (most : width ≤ g
       first_some_beyond (wide a) (width - 1) 1 (λ n above below.
       first_some_none (wide a) (greater - 1) 1 n none above (omega (arith, most, below)))
 
-  narrow_either : (begins : Bool) (a : ℕ) → cond begins (option_map (λ (n : ℕ). (a, n)) (least_width level wave greater a)) None ≡ None →
-      cond begins (option_map (λ (n : ℕ). (a, n)) (least_width level wave width a)) None ≡ None
+  abbrev begun : ℕ → ℕ → ℕ × ℕ
+  begun a n = (a, n)
+
+  narrow_either : (begins : Bool) (a : ℕ) → cond begins (option_map (begun a) (least_width level wave greater a)) None ≡ None →
+      cond begins (option_map (begun a) (least_width level wave width a)) None ≡ None
   narrow_either true a none =
-      ap (option_map (λ (n : ℕ). (a, n))) (no_least a (map_none (λ (n : ℕ). (a, n)) (least_width level wave greater a) none))
+      ap (option_map (begun a)) (no_least a (map_none (begun a) (least_width level wave greater a) none))
   narrow_either false a none = refl
 
   no_narrow : (period : ℕ) → first_narrow period level wave greater ≡ None → first_narrow period level wave width ≡ None
