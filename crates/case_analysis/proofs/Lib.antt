@@ -9,5 +9,6 @@ pub mod Entries
 pub mod Listing
 pub mod Together
 pub mod Answered
+pub mod Evaluated
 pub mod Tables
 pub mod ExamplesCases
