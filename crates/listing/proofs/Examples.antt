@@ -24,7 +24,7 @@ use Rattle.net_waves.specs.Waves.{waves_of}
 use Rattle.listing.specs.declared.case.Mode.TheVariants.{Full, Waves, Faults}
 use Rattle.listing.specs.Head.{head, period_line, counts_line, stable_line}
 use Rattle.listing.specs.Wave.{wave_line}
-use Rattle.listing.specs.Fault.{fault_line}
+use Rattle.listing.specs.Fault.{fault_line, fault_place, fault_text, unnamed_fault}
 use Rattle.listing.specs.Case.{case_line, case_lines}
 use Rattle.listing.specs.End.{last_line}
 use Rattle.listing.specs.Answer.{refusal_line, unsettled_line, summary_line}
@@ -91,7 +91,7 @@ late_fault = Point Setup 0 100 81 67
 -- the same with an input that comes late, in each mode
 pub late_in_full : case_lines checked Full 0 0 0 1 (checked_waves 101) (late_fault ∷ [])
     ≡ codes "CASE 0 BASE 0 ROUNDS 0 T 1\nWAVE CK<0> SKEW 0 0:100 R:1 1:49 F:1 0:249\nWAVE D<0> SKEW 0 C:101 S:99 C:200\nFAULT SETUP c1<0> EDGE 100 SLOT 81 VALUE C\n"
-unfolding digits case_line wave_line fault_line
+unfolding digits case_line wave_line fault_place
 late_in_full = refl
 
 pub late_in_waves : case_lines checked Waves 0 0 0 1 (checked_waves 101) (late_fault ∷ [])
@@ -100,7 +100,7 @@ unfolding digits case_line wave_line
 late_in_waves = refl
 
 pub late_in_faults : case_lines checked Faults 2 4 3 408 (checked_waves 101) (late_fault ∷ []) ≡ codes "CASE 2 BASE 4 ROUNDS 3 T 408\nFAULT SETUP c1<0> EDGE 100 SLOT 81 VALUE C\n"
-unfolding digits case_line fault_line
+unfolding digits case_line fault_place
 late_in_faults = refl
 
 pub one_fault : last_line 1 ≡ codes "FAULTS 1\n"
@@ -110,7 +110,7 @@ one_fault = refl
 -- a point of a window that goes on over the period's end
 pub held_and_high : fault_line checked (Point Hold 0 398 405 85) ++ fault_line checked (Point High 0 100 150 67)
     ≡ codes "FAULT HOLD c1<0> EDGE 398 SLOT 5 VALUE U\nFAULT HIGH c1<0> EDGE 100 SLOT 150 VALUE C\n"
-unfolding digits fault_line
+unfolding digits fault_place
 held_and_high = refl
 
 -- the same two nets with the clock named last: lines stand in the order of names
@@ -119,6 +119,12 @@ pub in_name_order : case_lines (circuit (net (codes "D") 0 quiet None ∷ net (c
     ≡ codes "CASE 0 BASE 0 ROUNDS 0 T 1\nWAVE CK<0> SKEW 0 0:100 R:1 1:49 F:1 0:249\nWAVE D<0> SKEW 0 C:51 S:149 C:200\n"
 unfolding digits case_line wave_line
 in_name_order = refl
+
+-- the parts of a line
+pub named_and_unnamed : (fault_text checked late_fault ≡ codes "SETUP c1<0> EDGE 100 SLOT 81 VALUE C")
+    × (unnamed_fault checked late_fault ≡ codes "SETUP EDGE 100 SLOT 81 VALUE C")
+unfolding digits fault_place
+named_and_unnamed = (refl, refl)
 
 -- ---- a buffer that may be late as a whole, and a checker of its pulse
 
@@ -131,11 +137,11 @@ late_pulse = waves_of (skewed clock_cells 0 ∷ skewed (replicate 110 Zero ++ R 
 pub narrow_pulse : head 1 pulsed ++ case_lines pulsed Full 0 1 0 62 late_pulse (Width 1 true 110 50 ∷ [])
     ≡ codes "SCALD 1 PERIOD 400\nNETS 2 INSTANCES 1 CHECKS 1\nCASE 0 BASE 1 ROUNDS 0 T 62\n"
     ++ codes "WAVE CK<0> SKEW 0 0:100 R:1 1:49 F:1 0:249\nWAVE X<0> SKEW 20 0:110 R:1 1:49 F:1 0:239\nFAULT WIDTH w1<0> HIGH FROM 110 WIDTH 50\n"
-unfolding digits period_line counts_line stable_line case_line wave_line fault_line
+unfolding digits period_line counts_line stable_line case_line wave_line fault_place
 narrow_pulse = refl
 
 pub low_pulse : fault_line pulsed (Width 1 false 12 3) ≡ codes "FAULT WIDTH w1<0> LOW FROM 12 WIDTH 3\n"
-unfolding digits fault_line
+unfolding digits fault_place
 low_pulse = refl
 
 -- ---- a hazard at a gate, and an assertion that does not hold
@@ -144,14 +150,14 @@ abbrev gated : Circuit
 gated = circuit (net (codes "CK") 0 clocked None ∷ net (codes "E") 0 quiet None ∷ net (codes "G") 0 Unasserted (Some 0) ∷ []) (element (codes "a1") And 2 ∷ []) (0 ∷ 1 ∷ 2 ∷ [])
 
 pub hazard : fault_line gated (Hazard 0 100 1) ≡ codes "FAULT HAZARD a1<0> SLOT 100 PIN 1\n"
-unfolding digits fault_line
+unfolding digits fault_place
 hazard = refl
 
 abbrev asserted : Circuit
 asserted = circuit (net (codes "CK") 0 clocked None ∷ net (codes "D") 0 quiet None ∷ net (codes "Q") 0 quiet (Some 0) ∷ []) (element (codes "r1") Reg 2 ∷ []) (0 ∷ 1 ∷ 2 ∷ [])
 
 pub broken_assertion : fault_line asserted (Assertion 2 105 67) ≡ codes "FAULT ASSERT Q<0> SLOT 105 VALUE C\n"
-unfolding digits fault_line
+unfolding digits fault_place
 broken_assertion = refl
 
 -- ---- inputs that are taken for stable stand in the order of names, whichever was named first

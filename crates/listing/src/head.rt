@@ -10,9 +10,10 @@ use crate::piece::{Piece, add_line};
 use flat_circuit::Circuit;
 use scald_base::{AssertSpec, Bytes, NoMemory};
 
-/// The line with the version of the language and the period, in ticks.
+/// Appends to `out` the line with the version of the drawing's language and the period, in ticks. Where
+/// memory runs out, a part of the line may stand there.
 #[tactic(auto, unfolding(crate::specs::Head::period_line))]
-fn add_period(out: &mut Bytes, c: &Circuit, version: u8) -> Result<(), NoMemory>
+pub fn write_period(c: &Circuit, version: u8, out: &mut Bytes) -> Result<(), NoMemory>
     ensures ok { OnOk result (out.new ≡ out.old ++ period_line version c.now) }
     ensures err { OnErr result (HasPart out.old out.new (period_line version c.now)) }
 {
@@ -91,7 +92,7 @@ pub fn begin_report(c: &Circuit, version: u8, out: &mut Bytes) -> Result<(), NoM
     ensures ok { OnOk result (out.new ≡ out.old ++ head version c.now) }
     ensures err { OnErr result (HasPart out.old out.new (head version c.now)) }
 {
-    add_period(out, c, version)?;
+    write_period(c, version, out)?;
     add_counts(out, c)?;
     add_stables(out, c)
 }

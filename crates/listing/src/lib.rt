@@ -6,6 +6,9 @@
 //! [`end_report`]. Each call appends exactly its lines to the bytes that it is given. `specs/Head`,
 //! `specs/Case`, `specs/End` and `specs/Answer` say which lines these are, over `specs/Wave`,
 //! `specs/Run` and `specs/Fault`.
+//!
+//! A crate whose own lines name nets, instances and faults composes them of the same pieces
+//! ([`add_line`], [`add_pieces`]), with [`write_period`], [`write_fault`] and [`write_unnamed_fault`].
 #![tactic(auto)]
 
 // pieces of lines
@@ -27,4 +30,7 @@ mod answer;
 pub use answer::{write_refusal, write_summary, write_unsettled};
 pub use case::{CaseHead, Mode, write_case};
 pub use end::end_report;
-pub use head::begin_report;
+pub use fault::{write_fault, write_unnamed_fault};
+pub use head::{begin_report, write_period};
+pub use names::{instance_piece, net_piece};
+pub use piece::{Piece, add_line, add_pieces};

@@ -3,7 +3,7 @@ use Rattle.std.specs.Prelude.{OnOk}
 use Rattle.scald_base.specs.Time.{period}
 use Rattle.listing.specs.Head.{period_line}
 use Rattle.listing.specs.Text.{line}
-use Rattle.listing.proofs.head.add_period.Goals as goal
+use Rattle.listing.proofs.head.write_period.Goals as goal
 
 pub returns-clause-ok : goal.returns-clause-ok
 unfolding period_line
