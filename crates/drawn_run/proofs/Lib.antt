@@ -1,0 +1,10 @@
+pub mod Bits
+pub mod Each
+pub mod OnePick
+pub mod Places
+pub mod Regions
+pub mod Moved
+pub mod Keeping
+pub mod Inputs
+pub mod Examples
+pub mod ExamplesInput

@@ -1,0 +1,4 @@
+pub mod Draw
+pub mod Drawn
+pub mod Input
+pub mod Laws
