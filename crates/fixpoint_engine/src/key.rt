@@ -62,6 +62,18 @@ pub struct Key {
     pub pins: List<KeyPin>,
 }
 
+/// What a key takes beside its pins, in words of four bytes, and what each pin takes.
+const KEY_WORDS: usize = 32;
+
+const PIN_WORDS: usize = 3;
+
+impl Key {
+    /// How many words of four bytes it takes, with its place in a store.
+    pub fn words(&self) -> usize {
+        KEY_WORDS.saturating_add(self.pins.len().saturating_mul(PIN_WORDS))
+    }
+}
+
 impl Hash for Key {
     ghost use Rattle.std.proofs.Common.{ap};
     ghost use Rattle.fixpoint_engine.specs.Key.{key_fed};

@@ -34,4 +34,4 @@ pub use key::{Constants, Key, KeyPin, Store, constant_numbers};
 pub use laws::stable_classes_go_together;
 pub use net_set::NetSet;
 pub use readers::{output_of, readers_of};
-pub use rounds::{EngineEnd, SPARE_WAVES, Settled, settle, settle_classes};
+pub use rounds::{EngineEnd, Settled, settle, settle_classes};

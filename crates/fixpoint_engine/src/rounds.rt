@@ -107,25 +107,20 @@ pub fn unsettled(
     }
 }
 
-/// How many waves more than there are nets may be kept while rounds go on.
-pub const SPARE_WAVES: usize = 65_536;
-
-/// The numbers of the same waves, of which the table forgets those that no net has, where it has become long: else
-/// rounds that come to ever new waves would take memory without end. The first waves are kept.
-#[tactic(auto, using(wave_table::proofs::Growing::take_grows))]
+/// The numbers of the same waves, of which the store forgets those that no net has, and all evaluations, where much
+/// came in: else rounds that come to ever new waves would take memory without end. The first waves are kept.
 fn shortened<W: CyclicWave<Item = Value>>(
     alloc: Global,
     store: &mut Store<W>,
     kept: usize,
     numbers: Numbers,
 ) -> Result<Numbers, NoMemory>
-    requires known { AreKnown store.old numbers }
-    requires first { kept ≤ length store.old }
+    requires { AreKnown store.old numbers }
     ensures grows { Grows (take kept store.old) store.new }
     ensures known { IfOk result (AreKnown store.new) }
     ensures same { IfOk result (λ now. waves_at store.new now ≡ waves_at store.old numbers) }
 {
-    if store.len() - kept <= numbers.len() + SPARE_WAVES {
+    if !store.is_long(alloc, numbers.as_slice())? {
         return Ok(numbers);
     }
     store.compact(alloc, kept, numbers.as_slice())

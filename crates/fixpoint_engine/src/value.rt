@@ -93,7 +93,7 @@ fn instance_wave<W: CyclicWave<Item = Value>>(
 }
 
 /// The number of what an instance makes, where the nets have the waves of these numbers. It is made only where it
-/// was not before.
+/// was not before. A copy of the wave is kept, since a copy takes no more room than it needs.
 fn number_made<W: CyclicWave<Item = Value>>(
     alloc: Global,
     c: &Circuit,
@@ -116,8 +116,10 @@ fn number_made<W: CyclicWave<Item = Value>>(
         return Ok(number);
     }
     let waves = Waves::new(store.waves(), numbers);
-    let wave = instance_wave(alloc, c, &waves, instance)?;
-    store.remember(key, wave)
+    let made = instance_wave(alloc, c, &waves, instance)?;
+    let wave = made.copy(alloc)?;
+    let words = key.words();
+    store.remember(key, words, wave)
 }
 
 /// The number of a net's value: of what its driver makes, or of the wave that it has where nothing drives it.

@@ -1,6 +1,6 @@
 //! A list of runs that grows.
 
-ghost use Rattle.std.specs.Prelude.{◌≡◌, ◌≤◌, ◌<◌, ◌+◌, ◌-◌, ◌^◌, ◌++◌, ◌∷◌, [], ◌↔◌, IsTrue, OnOk, IfOk, length, replicate, take, drop, slice_get};
+ghost use Rattle.std.specs.Prelude.{◌≡◌, ◌≤◌, ◌<◌, ◌+◌, ◌-◌, ◌^◌, ◌++◌, ◌∷◌, [], ◌↔◌, IsTrue, OnOk, IfOk, length, replicate, take, drop, slice_get, slice_index_or};
 ghost use Rattle.std.proofs.Props.{props};
 ghost use Rattle.run_wave.specs.Mark.{AreMarks};
 ghost use Rattle.run_wave.specs.Run.{EndsWith, IsRuns, IsRuns_prop, cells_of};
@@ -149,6 +149,33 @@ impl<T: Cell + Drop> RunList<T> {
         Ok(())
     }
 
+    /// How many marks there are at or before a slot, if runs are spread evenly over the slots.
+    fn even_marks(&self, slot: u16) -> usize
+        ensures { result ≤ length self.now.marks.items }
+    {
+        let slots = usize::from(self.slots);
+        if slots == 0 {
+            return 0;
+        }
+        let run = self.runs.len().saturating_mul(usize::from(slot)) / slots;
+        min(run / STRIDE, self.marks.len())
+    }
+
+    /// How many marks there are at or before a slot. The runs of a dense wave are mostly spread
+    /// evenly, so that it is known without a search.
+    fn marks_until(&self, slot: u16) -> usize
+        ensures known { result ≤ length self.now.marks.items }
+        ensures before { 0 < result → slice_index_or self.now.marks.items (result - 1) 0 ≤ slot }
+    {
+        let even = self.even_marks(slot);
+        let is_begun = even == 0 || self.marks[even - 1] <= slot;
+        let is_last = even == self.marks.len() || slot < self.marks[even];
+        if is_begun && is_last {
+            return even;
+        }
+        self.marks.partition_point(|mark| *mark <= slot)
+    }
+
     /// A run at or before that of a slot, fewer than two strides before it, and the slots that
     /// come before that run.
     fn mark_before(&self, slot: u16) -> (usize, u16)
@@ -156,7 +183,10 @@ impl<T: Cell + Drop> RunList<T> {
         ensures before { result.1 ≤ slot }
         ensures counted { result.1 ≡ length (cells_of (take result.0 self.now.runs.items)) }
     {
-        let marks = self.marks.partition_point(|mark| *mark <= slot);
+        if self.marks.is_empty() {
+            return (0, 0);
+        }
+        let marks = self.marks_until(slot);
         if marks == 0 {
             return (0, 0);
         }

@@ -22,7 +22,7 @@ ghost use Rattle.timing_analysis.specs.Subject.{IsSubject};
 use crate::case_faults::{KnownFaults, faults, faults_again, known_faults};
 use crate::subject::Subject;
 use case_analysis::{reach, tick};
-use fixpoint_engine::{EngineEnd, SPARE_WAVES, Settled, Store};
+use fixpoint_engine::{EngineEnd, Settled, Store};
 use flat_circuit::{Circuit, Faults};
 use net_waves::Waves;
 use scald_base::NoMemory;
@@ -164,8 +164,8 @@ impl<W: CyclicWave<Item = Value>> Rested<W> {
         Ok((store, case))
     }
 
-    /// Forgets the waves that are not the base's, and all evaluations, where the store has become long: cases that
-    /// come to ever new waves would else take memory without end.
+    /// Forgets the waves that are not the base's, and all evaluations, where much came in: cases that come to ever new
+    /// waves would else take memory without end.
     fn shorten(&mut self, alloc: Global) -> Result<(), NoMemory>
         requires { AreKnown self.old.store self.old.base.numbers }
         ensures kept { OnOk result ((c : Flat) (limit : ℕ) →
@@ -173,10 +173,11 @@ impl<W: CyclicWave<Item = Value>> Rested<W> {
             IsBaseIn c limit self.new.base.rounds self.new.store self.new.base.numbers self.new.known) }
         ensures round { self.new.base.rounds ≡ self.old.base.rounds }
     {
-        if self.store.len().saturating_sub(self.base.numbers.len()) <= SPARE_WAVES {
+        let base = self.base.numbers.as_slice();
+        if !self.store.is_long_in_all(alloc, base)? {
             return Ok(());
         }
-        let numbers = self.store.compact(alloc, 0, self.base.numbers.as_slice())?;
+        let numbers = self.store.compact(alloc, 0, base)?;
         self.base.numbers = numbers;
         Ok(())
     }

@@ -4,7 +4,7 @@ use Rattle.indexmap.specs.IndexMap.{insert_entry}
 use Rattle.std.specs.Map.{lookup}
 use Rattle.step_values.specs.declared.value.Value.{Value}
 use Rattle.skew_algebra.specs.Wave.{Wave}
-use Rattle.wave_table.specs.Table.{AreKnown, Grows, IsNumber, waves_at}
+use Rattle.wave_table.specs.Table.{AreKnown, Grows, IsNumber}
 use Rattle.wave_table.specs.Evaluation.{IsValue, AreValues, value_of}
 use Rattle.wave_table.proofs.Growing.{known_still, same_number, same_waves}
 

@@ -5,6 +5,7 @@ ghost use Rattle.wave_table.specs.Evaluation.{value_of};
 ghost use Rattle.wave_table.specs.Table.{AreDistinct, AreKnown, Grows, IsNumber, waves_at};
 
 use crate::evaluated::Evaluated;
+use crate::growth::{Growth, wave_words};
 use crate::numbers::{Numbers, renumbered};
 use crate::wave_table::WaveTable;
 use indexmap::IndexMap;
@@ -21,6 +22,10 @@ use wave_core::CyclicWave;
 pub struct Evaluations<W: CyclicWave<Item = Value>, K: Evaluated> {
     waves: WaveTable<W>,
     made: IndexMap<K, u32>,
+    /// What came in since waves were last forgotten.
+    recent: Growth,
+    /// What came in since all waves were last forgotten but those of some numbers.
+    whole: Growth,
 }
 
 impl<W: CyclicWave<Item = Value>, K: Evaluated> Model for Evaluations<W, K> {
@@ -44,6 +49,8 @@ impl<W: CyclicWave<Item = Value>, K: Evaluated> Evaluations<W, K> {
         Evaluations {
             waves: WaveTable::new(alloc),
             made: IndexMap::new(alloc),
+            recent: Growth::new(),
+            whole: Growth::new(),
         }
     }
 
@@ -73,7 +80,14 @@ impl<W: CyclicWave<Item = Value>, K: Evaluated> Evaluations<W, K> {
         ensures grows { Grows self.old self.new }
         ensures means { IfOk result (IsNumber self.new wave) }
     {
-        self.waves.number(wave)
+        let count = self.waves.len();
+        let words = wave_words(wave.wave());
+        let number = self.waves.number(wave)?;
+        if self.waves.len() > count {
+            self.recent.add(words);
+            self.whole.add(words);
+        }
+        Ok(number)
     }
 
     /// The number of what a key makes, where it was evaluated before.
@@ -83,16 +97,64 @@ impl<W: CyclicWave<Item = Value>, K: Evaluated> Evaluations<W, K> {
         self.made.get(key).copied()
     }
 
-    /// The number of what a key makes, which is remembered.
-    pub fn remember(&mut self, key: K, wave: Skewed<W>) -> Result<u32, NoMemory>
+    /// The number of what a key makes, which is remembered. The key takes so many words of four bytes.
+    pub fn remember(&mut self, key: K, words: usize, wave: Skewed<W>) -> Result<u32, NoMemory>
         requires known { AreKnown self.old (K.reads key) }
         requires made { wave ≡ value_of K.reads K.makes self.old key }
         ensures grows { Grows self.old self.new }
         ensures means { IfOk result (IsNumber self.new wave) }
     {
-        let number = self.waves.number(wave)?;
+        let number = self.number(wave)?;
         self.made.insert(key, number)?;
+        self.recent.add(words);
+        self.whole.add(words);
         Ok(number)
+    }
+
+    /// How many words of four bytes the waves of these numbers take, at most.
+    fn needed_words(&self, alloc: Global, numbers: &[u32]) -> Result<usize, NoMemory>
+        requires { AreKnown self.now numbers.now }
+    {
+        let mut seen = Vec::new(alloc);
+        for _wave in 0..self.waves.len() {
+            seen.push(false)?;
+        }
+        let mut words: usize = 0;
+        for number in numbers {
+            let wave = self.waves.wave(*number).wave();
+            if let Some(is_seen) = seen.get_mut(*number as usize) {
+                if !*is_seen {
+                    *is_seen = true;
+                    words = words.saturating_add(wave_words(wave));
+                }
+            }
+        }
+        Ok(words)
+    }
+
+    /// Whether it is time to forget all that is not needed for the waves of these numbers: since waves were last
+    /// forgotten, more came in than twice what those waves take, and more than 16 MB.
+    pub fn is_long(&mut self, alloc: Global, numbers: &[u32]) -> Result<bool, NoMemory>
+        requires { AreKnown self.old numbers.now }
+        ensures { self.new ≡ self.old }
+    {
+        if !self.recent.is_due() {
+            return Ok(false);
+        }
+        let needed = self.needed_words(alloc, numbers)?;
+        Ok(self.recent.is_beyond(needed))
+    }
+
+    /// The same of what came in since all was last forgotten but the waves of some numbers (`kept` was 0).
+    pub fn is_long_in_all(&mut self, alloc: Global, numbers: &[u32]) -> Result<bool, NoMemory>
+        requires { AreKnown self.old numbers.now }
+        ensures { self.new ≡ self.old }
+    {
+        if !self.whole.is_due() {
+            return Ok(false);
+        }
+        let needed = self.needed_words(alloc, numbers)?;
+        Ok(self.whole.is_beyond(needed))
     }
 
     /// Forgets all evaluations, and all waves but the first so many, whose numbers stay as they are.
@@ -141,6 +203,9 @@ impl<W: CyclicWave<Item = Value>, K: Evaluated> Evaluations<W, K> {
         let mut used: WaveTable<W> = WaveTable::new(alloc);
         let places = renumbered(alloc, &self.waves, numbers, &mut used)?;
         self.cut(kept);
-        self.take_in(alloc, &used, places.as_slice())
+        let there = self.take_in(alloc, &used, places.as_slice())?;
+        self.recent = Growth::new();
+        self.whole = self.whole.after(kept);
+        Ok(there)
     }
 }

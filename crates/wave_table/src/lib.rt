@@ -19,6 +19,7 @@ mod waves;
 // what is made of waves
 mod evaluated;
 mod evaluations;
+mod growth;
 
 pub use evaluated::Evaluated;
 pub use evaluations::Evaluations;

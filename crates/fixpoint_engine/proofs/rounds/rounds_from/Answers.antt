@@ -3,7 +3,7 @@ use Rattle.std.specs.Option.{option_copied}
 use Rattle.std.proofs.lemmas.List.Elements.{All-same}
 use Rattle.scald_base.specs.Time.{period}
 use Rattle.wave_table.specs.Table.{AreKnown, wave_at, waves_at}
-use Rattle.wave_table.proofs.Growing.{grows_none, grows_trans, known_still, longer, same_waves}
+use Rattle.wave_table.proofs.Growing.{grows_none, grows_trans, known_still, same_waves}
 use Rattle.net_waves.specs.Waves.{FitWaves, waves_of}
 use Rattle.flat_circuit.specs.Circuit.{driver}
 use Rattle.fixpoint_engine.specs.Settled.{AreAtRest, KeepRuns, marked_in}
@@ -144,18 +144,11 @@ returns-then-is_empty-clause-fit g c =
 pub returns-then-rounds-limit-clause-grows : goal.returns-then-rounds-limit-clause-grows
 returns-then-rounds-limit-clause-grows g c = grows_trans c.args.store.now c.rounds.store c.class_changes.new.store c.rounds.invariant.grows c.in_ok-made.ensures.grows
 
-pub shortened-requires-clause-known : goal.shortened-requires-clause-known
-shortened-requires-clause-known g c =
+pub shortened-requires : goal.shortened-requires
+shortened-requires g c =
     c.apply.ensures.known c.class_changes.new.store
     (known_still c.rounds.store c.class_changes.new.store c.in_ok-made.ensures.grows c.rounds.numbers c.rounds.invariant.known)
     (subst (λ chs. AreKnown c.class_changes.new.store (map (λ ch. ch.number) chs)) (sym c.deref-in-rounds-2.ensures.value) c.in_ok-made.ensures.known)
-
-pub shortened-requires-clause-first : goal.shortened-requires-clause-first
-shortened-requires-clause-first g c =
-    let grown = grows_trans c.args.store.now c.rounds.store c.class_changes.new.store c.rounds.invariant.grows c.in_ok-made.ensures.grows in
-    let long = longer c.args.store.now c.class_changes.new.store grown in
-    let counted = c.rounds.invariant.counted in
-    omega (arith, long, counted)
 
 pub apply-requires : goal.apply-requires
 apply-requires g c =

@@ -21,9 +21,9 @@ remember-requires-clause-known g c = c.in_ok-key.ensures.known
 pub remember-requires-clause-made : goal.remember-requires-clause-made
 remember-requires-clause-made g c =
     let ws = waves_of (waves_at c.args.store.now c.args.numbers.now) in
-    c.in_ok-wave.ensures ∙ ap (λ now. instance_wave c.args.c.now (waves_of now) c.args.instance.now) (c.new-waves.ensures ∙ ap (λ table. waves_at table c.args.numbers.now) c.waves.ensures) ∙ sym (made_by_key c.args.c.now c.args.store.now ws c.args.instance.now c.in_ok-key.key c.in_ok-key.ensures)
+    c.in_ok-wave.ensures ∙ c.in_ok-made.ensures ∙ ap (λ now. instance_wave c.args.c.now (waves_of now) c.args.instance.now) (c.new-waves.ensures ∙ ap (λ table. waves_at table c.args.numbers.now) c.waves.ensures) ∙ sym (made_by_key c.args.c.now c.args.store.now ws c.args.instance.now c.in_ok-key.key c.in_ok-key.ensures)
 
 pub returns-clause-is : goal.returns-clause-is
 returns-clause-is g c =
     IfOk-weaker c.remember.result _ (IsNumber c.remember.new.self (instance_wave c.args.c.now (waves_of (waves_at c.args.store.now c.args.numbers.now)) c.args.instance.now))
-    (λ n at. at ∙ ap Some (c.in_ok-wave.ensures ∙ ap (λ now. instance_wave c.args.c.now (waves_of now) c.args.instance.now) (c.new-waves.ensures ∙ ap (λ table. waves_at table c.args.numbers.now) c.waves.ensures))) c.remember.ensures.means
+    (λ n at. at ∙ ap Some (c.in_ok-wave.ensures ∙ c.in_ok-made.ensures ∙ ap (λ now. instance_wave c.args.c.now (waves_of now) c.args.instance.now) (c.new-waves.ensures ∙ ap (λ table. waves_at table c.args.numbers.now) c.waves.ensures))) c.remember.ensures.means

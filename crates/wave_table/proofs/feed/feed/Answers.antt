@@ -1,4 +1,4 @@
-use Rattle.std.proofs.Common.{◌≡◌, ◌∙◌, ◌-◌, ◌≤◌, fold, length, ap, subst, arith, refl}
+use Rattle.std.proofs.Common.{◌≡◌, ◌∙◌, ◌-◌, ◌≤◌, fold, length, ap, arith}
 use Rattle.wave_table.specs.Feed.{cells_fed}
 use Rattle.wave_table.proofs.Feeding.{feeds_more, feeds_all}
 use Rattle.wave_table.proofs.feed.feed.Goals as goal

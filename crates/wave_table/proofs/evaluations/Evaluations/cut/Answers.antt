@@ -1,4 +1,4 @@
-use Rattle.std.proofs.Common.{[], sym, subst}
+use Rattle.std.proofs.Common.{sym, subst}
 use Rattle.wave_table.specs.Evaluation.{AreValues}
 use Rattle.wave_table.proofs.evaluations.Evaluations.cut.Goals as goal
 
