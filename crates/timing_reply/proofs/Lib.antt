@@ -1,0 +1,5 @@
+pub mod Judgement
+pub mod Speaking
+pub mod Ending
+pub mod Replies
+pub mod Telling

@@ -1,0 +1,63 @@
+-- What is answered on a text is no end of a call, where what is told is none.
+use Rattle.std.proofs.Common.{◌≡◌, ℕ, Bool, true, false, cond, List, refl, Option, None}
+use Rattle.std.specs.Prelude.{◌==◌}
+use Rattle.scald_base.specs.declared.outcome.Outcome.{Outcome}
+use Rattle.scald_base.specs.declared.outcome.Outcome.TheVariants.{Clean, Faulty}
+use Rattle.scald_base.specs.Outcome.{end_of}
+use Rattle.flat_circuit.specs.declared.case.CaseValue.{CaseValue}
+use Rattle.flat_circuit.specs.Circuit.{Circuit}
+use Rattle.timing_analysis.specs.Case.{Case}
+use Rattle.program_call.specs.Program.{IsLawful}
+use Rattle.program_call.proofs.Answering.{end_of_ended}
+use Rattle.timing_reply.specs.declared.words.Request.{Request}
+use Rattle.timing_reply.specs.Program.{telling_program}
+use Rattle.timing_reply.specs.Answer as answer
+use Rattle.timing_reply.specs.Answer.{Telling, Concluded, Evaluated, rested, unsettled, case_unsettled, verdict_of}
+use Rattle.timing_reply.proofs.Judgement.{one_evaluated}
+
+-- what is told of a circuit is no end of a call
+abbrev pub Speaks : Telling → Type 0
+Speaks tell = (c : Circuit) (base : ℕ) (cases : List Case) → end_of (tell c base cases).0 ≡ None
+
+concluded_speaks : (tell : Telling) (c : Circuit) (values : List (List CaseValue)) (limit : ℕ) (o : Outcome) (bytes : List ℕ) → Speaks tell →
+    Concluded tell c values limit o bytes → end_of o ≡ None
+concluded_speaks tell c values limit _ _ spoken (rested base cases rests at_rest) = spoken c base cases
+concluded_speaks tell c values limit _ _ spoken (unsettled place is) = refl
+concluded_speaks tell c values limit _ _ spoken (case_unsettled base place rests stops) = refl
+
+pub evaluated_speaks : (tell : ℕ → Telling) (rounds : Option ℕ) (text : List ℕ) (o : Outcome) (bytes : List ℕ) → ((version : ℕ) →
+    Speaks (tell version)) → Evaluated tell rounds text o bytes → end_of o ≡ None
+evaluated_speaks tell rounds text _ _ spoken (answer.refused r is) = refl
+evaluated_speaks tell rounds text _ _ spoken (answer.judged c values o bytes drawn j) = concluded_speaks (tell drawn.drawing.version) c values _ o bytes (spoken drawn.drawing.version) j
+
+-- ---- outcomes of faults
+
+pub verdict_speaks : (n : ℕ) → end_of (verdict_of n) ≡ None
+verdict_speaks n = either (n == 0) n
+  where
+    either : (none : Bool) (n : ℕ) → end_of (cond none Clean (Faulty n)) ≡ None
+    either true n = refl
+    either false n = refl
+
+-- ---- programs that tell
+
+replies_speak : (tell : ℕ → Telling) → ((version : ℕ) → Speaks (tell version)) → (request : Request) (text : List ℕ) (o : Outcome) (bytes : List ℕ) →
+    (telling_program tell).Replied request text o bytes → end_of o ≡ None
+replies_speak tell spoken request text o bytes replied = evaluated_speaks tell None text o bytes spoken replied
+
+one_reply : (tell : ℕ → Telling) (request : Request) (text : List ℕ) (o o' : Outcome) (bytes bytes' : List ℕ) →
+    (telling_program tell).Replied request text o bytes → (telling_program tell).Replied request text o' bytes' → (o ≡ o') × (bytes ≡ bytes')
+one_reply tell request text o o' bytes bytes' replied replied' = one_evaluated tell None text o o' bytes bytes' replied replied'
+
+-- each of them reads
+unread : (tell : ℕ → Telling) (request : Request) (text other : List ℕ) (o : Outcome) (bytes : List ℕ) →
+    (telling_program tell).reads request ≡ false → (telling_program tell).Replied request text o bytes → (telling_program tell).Replied request other o bytes
+unread tell request text other o bytes none replied = absurd (cc)
+
+pub telling_is_lawful : (tell : ℕ → Telling) → ((version : ℕ) → Speaks (tell version)) → IsLawful (telling_program tell)
+telling_is_lawful tell spoken = record {
+  ends = end_of_ended;
+  replies = replies_speak tell spoken;
+  one = one_reply tell;
+  unread = unread tell;
+}

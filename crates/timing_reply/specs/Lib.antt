@@ -1,0 +1,4 @@
+pub mod Answer
+pub mod Ended
+pub mod Program
+pub mod Teller
