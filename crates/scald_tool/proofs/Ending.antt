@@ -1,75 +1,23 @@
--- From an end without rest to what is answered, and from a report to its numbers.
-use Rattle.std.proofs.Common.{◌≡◌, ℕ, ◌≤◌, List, sym, ap, subst, ◌∙◌, arith, IfOk, Result, Ok, Err, Option, None}
-use Rattle.std.specs.Prelude.{◌≢◌}
+-- From a report to its numbers.
+use Rattle.std.proofs.Common.{◌≡◌, ℕ, List, sym, ap, subst, ◌∙◌, IfOk, Result, Ok, Err}
 use Rattle.scald_base.specs.declared.list.NoMemory.{NoMemory as OutOfMemory}
 use Rattle.flat_circuit.specs.declared.case.CaseValue.{CaseValue}
 use Rattle.flat_circuit.specs.Circuit.{Circuit}
-use Rattle.fixpoint_engine.specs.declared.rounds.EngineEnd.{EngineEnd}
-use Rattle.fixpoint_engine.specs.declared.rounds.EngineEnd.TheVariants.{Unsettled, NoMemory}
-use Rattle.flat_circuit.specs.Instances.{outputs}
-use Rattle.fixpoint_engine.specs.Loops.{HasNoLoop}
 use Rattle.fixpoint_engine.specs.Reach.{reach}
-use Rattle.fixpoint_engine.specs.Start.{default_limit}
-use Rattle.drawn_circuit.specs.Drawn.{DrawsCircuit, IsLoopless}
 use Rattle.fixpoint_engine.specs.Rounds.{RestsAt}
 use Rattle.case_analysis.specs.Base.{base_round}
 use Rattle.case_analysis.specs.Tick.{tick}
 use Rattle.listing.specs.declared.case.Mode.{Mode}
-use Rattle.listing.specs.Answer.{summary_line, unsettled_line}
+use Rattle.listing.specs.Answer.{summary_line}
 use Rattle.timing_analysis.specs.Case.{fault_count, listed_cases}
-use Rattle.timing_analysis.specs.Ended.{EndsEarly, StopsEarly, by_base, by_case}
 use Rattle.scald_base.specs.declared.outcome.Outcome.{Outcome}
-use Rattle.scald_base.specs.declared.outcome.Outcome.TheVariants.{Done, Unsettled as UnsettledOutcome}
+use Rattle.scald_base.specs.declared.outcome.Outcome.TheVariants.{Done}
 use Rattle.program_call.specs.declared.reply.Reply.{Reply}
+use Rattle.timing_reply.specs.Answer.{Concluded, rested}
 use Rattle.scald_tool.specs.Report.{faults_in}
 use Rattle.scald_tool.specs.Reported.{IsReported}
-use Rattle.scald_tool.specs.Ended.{IsEnded}
-use Rattle.scald_tool.specs.Answer.{Telling, limit_for, Concluded, rested, unsettled, case_unsettled, measured}
+use Rattle.scald_tool.specs.Answer.{measured}
 use Rattle.scald_tool.proofs.Verdict.{verdict_counts}
-
--- ---- an end
-
-concluded_early : (tell : Telling) (c : Circuit) (values : List (List CaseValue)) (limit place : ℕ) →
-    StopsEarly c values limit place → Concluded tell c values limit (UnsettledOutcome place limit) (unsettled_line c place limit)
-concluded_early tell c values limit place (by_base is) = unsettled place is
-concluded_early tell c values limit place (by_case base rests stops) = case_unsettled base place rests stops
-
-ended_by : (tell : Telling) (c : Circuit) (values : List (List CaseValue)) (limit : ℕ) (end : EngineEnd) (o : Outcome) (bytes : List ℕ) →
-    EndsEarly c values limit end → IsEnded c end o bytes → Concluded tell c values limit o bytes
-ended_by tell c values limit end o bytes ends is =
-    let there : EndsEarly c values limit (Unsettled is.place is.round) = subst (EndsEarly c values limit) is.end_is ends in
-    subst (λ (z : Outcome). Concluded tell c values limit z bytes) (sym (is.outcome ∙ ap (UnsettledOutcome is.place) there.1))
-    (subst (λ (z : List ℕ). Concluded tell c values limit (UnsettledOutcome is.place limit) z) (sym (is.text ∙ ap (unsettled_line c is.place) there.1))
-    (concluded_early tell c values limit is.place there.0))
-
--- what is answered to an end, whatever would have been told of a circuit at rest
-pub concluded_ended : (tell : Telling) (c : Circuit) (values : List (List CaseValue)) (limit : ℕ) (end : EngineEnd) (made : Result (Reply Outcome) OutOfMemory) → EndsEarly c values limit end →
-    IfOk made (λ reply. IsEnded c end reply.outcome reply.bytes) → IfOk made (λ reply. Concluded tell c values limit reply.outcome reply.bytes)
-concluded_ended tell c values limit end (Ok reply) ends is = ended_by tell c values limit end reply.outcome reply.bytes ends is
-concluded_ended tell c values limit end (Err e) ends is = tt
-
--- what holds of each net that does not rest
-pub of_ended : (P : Outcome → Type 0) → ((place round : ℕ) → P (UnsettledOutcome place round)) →
-    (c : Circuit) (end : EngineEnd) (made : Result (Reply Outcome) OutOfMemory) → IfOk made (λ reply. IsEnded c end reply.outcome reply.bytes) →
-    IfOk made (λ reply. P reply.outcome)
-of_ended P each c end (Ok reply) is = subst P (sym is.outcome) (each is.place is.round)
-of_ended P each c end (Err e) is = tt
-
--- a circuit without loops has no such net, where the words set no limit
-pub loopless_ended : (text : List ℕ) (c : Circuit) (values : List (List CaseValue)) (rounds : Option ℕ) (limit : ℕ)
-    (end : EngineEnd) (made : Result (Reply Outcome) OutOfMemory) → DrawsCircuit text c values →
-    limit ≡ limit_for c rounds → (HasNoLoop c → outputs c.instances ≤ limit → end ≡ NoMemory) →
-    IfOk made (λ reply. IsEnded c end reply.outcome reply.bytes) →
-    IfOk made (λ reply. (place round : ℕ) → rounds ≡ None → IsLoopless text → reply.outcome ≢ UnsettledOutcome place round)
-loopless_ended text c values rounds limit end (Ok reply) drawn same never is = λ place round none free still.
-    let own : limit ≡ default_limit c = same ∙ ap (limit_for c) none in
-    let few : outputs c.instances ≤ limit = omega (arith, own) in
-    let ended : end ≡ NoMemory = never (free c values drawn) few in
-    let both : NoMemory ≡ Unsettled is.place is.round = sym ended ∙ is.end_is in
-    absurd (cc)
-loopless_ended text c values rounds limit end (Err e) drawn same never is = tt
-
--- ---- the numbers of a report
 
 pub measured_rested : (sections : ℕ) (mode : Mode) (version : ℕ) (c : Circuit) (values : List (List CaseValue))
     (limit base : ℕ) (o : Outcome) (bytes : List ℕ) (made : Result (Reply Outcome) OutOfMemory) → RestsAt (base_round c) limit base →

@@ -10,9 +10,10 @@ use Rattle.scald_base.specs.declared.outcome.Outcome.{Outcome}
 use Rattle.scald_base.specs.declared.outcome.Outcome.TheVariants.{Clean, Faulty, Done, NoMemory}
 use Rattle.scald_tool.specs.declared.words.Command.{Command}
 use Rattle.timing_analysis.specs.Case.{fault_count}
-use Rattle.scald_tool.specs.Report.{verdict_of}
+use Rattle.timing_reply.specs.Answer as evaluation
+use Rattle.timing_reply.specs.Answer.{Telling, Evaluated, verdict_of}
 use Rattle.scald_tool.specs.Answer as answer
-use Rattle.scald_tool.specs.Answer.{Telling, Evaluated, Replied, measured, reported}
+use Rattle.scald_tool.specs.Answer.{Replied, measured, reported}
 use Rattle.scald_tool.specs.Promise.{IsAnswered}
 use Rattle.scald_tool.specs.Finished.{ComesToRest, Passes, formatted, upgraded, verified, benched, is_finished, IsFinished, AsksWell}
 
@@ -38,7 +39,8 @@ told_at_rest : (tell : ℕ → Telling) (rounds : Option ℕ) (text : List ℕ) 
     Evaluated tell rounds text (tell (version_of rest) rest.circuit rest.base rest.cases).0 (tell (version_of rest) rest.circuit rest.base rest.cases).1
 told_at_rest tell rounds text rest =
     let told = tell (version_of rest) rest.circuit rest.base rest.cases in
-    answer.judged rest.circuit rest.values told.0 told.1 rest.drawn (answer.rested rest.base rest.cases rest.rests rest.at_rest)
+    evaluation.judged rest.circuit rest.values told.0 told.1 rest.drawn
+    (evaluation.rested rest.base rest.cases rest.rests rest.at_rest)
 
 finishes : (text : List ℕ) (command : Command) → Passes text command → Finishes command text
 finishes text _ (formatted d draws) = record { outcome = Done; bytes = canonical d; is = answer.drawn d draws; finished = refl }

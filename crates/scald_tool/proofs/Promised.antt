@@ -8,8 +8,9 @@ use Rattle.listing.specs.declared.case.Mode.{Mode}
 use Rattle.scald_base.specs.declared.outcome.Outcome.{Outcome}
 use Rattle.drawn_circuit.specs.Drawn.{DrawsCircuit}
 use Rattle.timing_analysis.specs.Case.{Case, listed_cases}
-use Rattle.scald_tool.specs.Answer as answer
-use Rattle.scald_tool.specs.Answer.{Judged, Verified, limit_for, rested, unsettled, case_unsettled}
+use Rattle.timing_reply.specs.Answer as answer
+use Rattle.timing_reply.specs.Answer.{limit_for, rested, unsettled, case_unsettled}
+use Rattle.scald_tool.specs.Answer.{Judged, Verified}
 use Rattle.scald_tool.specs.Report.{report}
 use Rattle.timing_analysis.specs.Promise.{IsKept, IsSafe, IsUnbroken}
 use Rattle.scald_tool.specs.Promise.{has_report}

@@ -12,7 +12,7 @@ use Rattle.flat_circuit.specs.declared.case.CaseValue.{CaseValue}
 use Rattle.flat_circuit.specs.Circuit.{Circuit}
 use Rattle.fixpoint_engine.specs.Rounds.{RestsAt}
 use Rattle.case_analysis.specs.Base.{base_round}
-use Rattle.drawn_circuit.specs.Drawn.{IsTextRefused, DrawsAs}
+use Rattle.drawn_circuit.specs.Drawn.{DrawsAs}
 use Rattle.listing.specs.declared.case.Mode.{Mode}
 use Rattle.listing.specs.Answer.{refusal_line}
 use Rattle.timing_analysis.specs.Case.{listed_cases, fault_count}
@@ -24,19 +24,10 @@ use Rattle.program_call.specs.declared.reply.Reply.{Reply}
 use Rattle.scald_tool.specs.declared.words.Command.{Command}
 use Rattle.scald_tool.specs.declared.words.Command.TheVariants.{Verify, Format, Upgrade, Bench}
 use Rattle.scald_tool.specs.Answer as answer
-use Rattle.scald_tool.specs.Answer.{Telling, limit_for, Judged, Concluded, rested, Evaluated, Verified, Benched, judged, Formatted, Upgrades, Replied}
-use Rattle.scald_tool.specs.Report.{verdict_of}
+use Rattle.timing_reply.specs.Answer.{limit_for, rested, judged, verdict_of}
+use Rattle.scald_tool.specs.Answer.{Judged, Verified, Benched, Formatted, Upgrades, Replied}
 use Rattle.scald_tool.specs.Reported.{IsReported}
 use Rattle.scald_tool.proofs.Verdict.{verdict_clean}
-
--- ---- a refusal
-
-pub refused : (tell : ℕ → Telling) (rounds : Option ℕ) (text : List ℕ) (r : Refusal) (made : Result (Reply Outcome) OutOfMemory) → IsTextRefused text r →
-    IfOk made (λ reply. reply.outcome ≡ Refused r) → IfOk made (λ reply. reply.bytes ≡ refusal_line r) →
-    IfOk made (λ reply. Evaluated tell rounds text reply.outcome reply.bytes)
-refused tell rounds text r (Ok reply) is outcome bytes =
-    subst (λ (z : Outcome). Evaluated tell rounds text z reply.bytes) (sym outcome) (subst (λ (z : List ℕ). Evaluated tell rounds text (Refused r) z) (sym bytes) (answer.refused r is))
-refused tell rounds text r (Err e) is outcome bytes = tt
 
 -- ---- a circuit
 
@@ -67,17 +58,6 @@ module _ (mode : Mode) (text : List ℕ) (version : ℕ) (c : Circuit) (values :
       judged c values o bytes drawn.draws
       (subst (λ (v : ℕ). Judged mode v c values (limit_for c rounds) o bytes) (sym drawn.version)
       (subst (λ (n : ℕ). Judged mode version c values n o bytes) same (judged_rested mode version c values limit base o bytes rests told)))
-
--- ---- a text that is evaluated
-
-pub accepted : (tell : ℕ → Telling) (rounds : Option ℕ) (text : List ℕ) (version : ℕ) (c : Circuit) (values : List (List CaseValue))
-    (limit : ℕ) (made : Result (Reply Outcome) OutOfMemory) → DrawsAs text version c values → limit ≡ limit_for c rounds →
-    IfOk made (λ reply. Concluded (tell version) c values limit reply.outcome reply.bytes) → IfOk made (λ reply. Evaluated tell rounds text reply.outcome reply.bytes)
-accepted tell rounds text version c values limit (Ok reply) drawn same j =
-    judged c values reply.outcome reply.bytes drawn.draws
-    (subst (λ (v : ℕ). Concluded (tell v) c values (limit_for c rounds) reply.outcome reply.bytes) (sym drawn.version)
-    (subst (λ (n : ℕ). Concluded (tell version) c values n reply.outcome reply.bytes) same j))
-accepted tell rounds text version c values limit (Err e) drawn same j = tt
 
 -- ---- forms of words
 

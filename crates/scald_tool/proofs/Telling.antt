@@ -22,7 +22,8 @@ use Rattle.timing_analysis.specs.Rested.{IsCaseAtRest, settled_case}
 use Rattle.timing_analysis.proofs.Cases.{none_at_rest, one_more_at_rest}
 use Rattle.scald_base.specs.declared.outcome.Outcome.{Outcome}
 use Rattle.program_call.specs.declared.reply.Reply.{Reply}
-use Rattle.scald_tool.specs.Report.{case_text, verdict_of}
+use Rattle.timing_reply.specs.Answer.{verdict_of}
+use Rattle.scald_tool.specs.Report.{case_text}
 use Rattle.scald_tool.specs.Reported.{IsReported}
 
 module _ (mode : Mode) (version : ℕ) (c : Circuit) (limit base : ℕ) where

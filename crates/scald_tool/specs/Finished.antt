@@ -15,7 +15,8 @@ use Rattle.scald_tool.specs.declared.words.Command.TheVariants.{Verify, Format, 
 use Rattle.scald_tool.specs.Words.{command_of, reads}
 use Rattle.drawn_circuit.specs.Drawn.{DrawsCircuit}
 use Rattle.timing_analysis.specs.Case.{Case, AreAtRest, listed_cases}
-use Rattle.scald_tool.specs.Answer.{limit_for, most_bytes}
+use Rattle.timing_reply.specs.Answer.{limit_for}
+use Rattle.scald_tool.specs.Answer.{most_bytes}
 use Rattle.scald_tool.specs.Promise.{IsAnswered}
 
 -- The text draws a circuit, and nothing of it is refused; its base and each of its cases settle, within this limit where

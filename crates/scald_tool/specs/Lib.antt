@@ -7,4 +7,3 @@ pub mod Kept
 pub mod Finished
 pub mod Laws
 pub mod Reported
-pub mod Ended

@@ -1,5 +1,5 @@
 -- The report as a whole.
-use Rattle.std.specs.Prelude.{ℕ, ◌==◌, List, ◌++◌, if◌then◌else◌}
+use Rattle.std.specs.Prelude.{ℕ, List, ◌++◌}
 use Rattle.std.specs.List.{flat_map}
 use Rattle.flat_circuit.specs.Circuit.{Circuit}
 use Rattle.listing.specs.declared.case.Mode.{Mode}
@@ -16,10 +16,6 @@ case_text mode c base case = case_lines c mode case.listed.number base case.roun
 -- the head, with the version of the language that the circuit is drawn in, each case, and the last line
 abbrev pub report : Mode → ℕ → Circuit → ℕ → List Case → List ℕ
 report mode version c base cases = head version c ++ flat_map (case_text mode c base) cases ++ last_line (fault_count c cases)
-
--- no fault, or so many
-abbrev pub verdict_of : ℕ → Outcome
-verdict_of count = if count == 0 then Clean else Faulty count
 
 -- how many faults an outcome counts
 abbrev pub faults_in : Outcome → ℕ

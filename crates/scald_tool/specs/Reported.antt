@@ -6,7 +6,8 @@ use Rattle.listing.specs.declared.case.Mode.{Mode}
 use Rattle.timing_analysis.specs.Case.{Listed, Case, AreAtRest, fault_count}
 use Rattle.timing_analysis.specs.Promise.{IsKept}
 use Rattle.scald_base.specs.declared.outcome.Outcome.{Outcome}
-use Rattle.scald_tool.specs.Report.{report, verdict_of}
+use Rattle.timing_reply.specs.Answer.{verdict_of}
+use Rattle.scald_tool.specs.Report.{report}
 
 -- The cases have settled, what has no fault in one is not broken there, and the outcome and the bytes are
 -- those of their report, the circuit being drawn in this version of the language.

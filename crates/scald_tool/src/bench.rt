@@ -9,12 +9,12 @@ ghost use Rattle.drawn_circuit.specs.Drawn.{IsLoopless};
 ghost use Rattle.timing_analysis.specs.Subject.{IsSubject};
 ghost use Rattle.design_gen.specs.Datapath.{datapath};
 ghost use Rattle.listing.specs.Answer.{summary_line};
-ghost use Rattle.scald_tool.specs.Answer.{Benched, Concluded, measured};
+ghost use Rattle.timing_reply.specs.Answer.{Concluded};
+ghost use Rattle.scald_tool.specs.Answer.{Benched, measured};
 ghost use Rattle.scald_tool.specs.Promise.{may_give};
 ghost use Rattle.scald_tool.specs.Report.{faults_in};
 
-use crate::reply::refused;
-use crate::verify::{Reported, ended, report_cases};
+use crate::verify::{Reported, report_cases};
 use crate::words::Command;
 use case_analysis::{default_limit, reach, tick};
 use design_gen::generate;
@@ -27,6 +27,7 @@ use scald_base::{Bytes, NoMemory, Outcome, Stop};
 use std::alloc::Global;
 use step_values::Value;
 use timing_analysis::Subject;
+use timing_reply::{ended, refused};
 use wave_core::CyclicWave;
 
 /// The numbers of the report on the generated drawing of so many sections, at its own limit of rounds;

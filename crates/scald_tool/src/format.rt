@@ -6,13 +6,13 @@ ghost use Rattle.drawing_tree.specs.Canonical.{canonical};
 ghost use Rattle.scald_tool.specs.Answer.{Formatted};
 ghost use Rattle.scald_tool.specs.Promise.{may_give};
 
-use crate::reply::refused;
 use crate::words::Command;
 use drawing_tree::{Drawing, print_drawing};
 use drawn_circuit::read_text;
 use program_call::Reply;
 use scald_base::{NoMemory, Outcome, Stop};
 use std::alloc::Global;
+use timing_reply::refused;
 
 /// The canonical text of a drawing, or the line of its refusal.
 pub fn format(alloc: Global, text: &[u8]) -> Result<Reply<Outcome>, NoMemory>

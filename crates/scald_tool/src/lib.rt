@@ -20,7 +20,6 @@ mod verify;
 
 // what goes out
 mod answer;
-mod reply;
 mod tool;
 mod verifier;
 

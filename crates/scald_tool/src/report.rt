@@ -5,7 +5,7 @@ ghost use Rattle.net_waves.specs.Waves.{FitWaves, waves_of};
 ghost use Rattle.listing.specs.Head.{head};
 ghost use Rattle.listing.specs.Case.{case_lines};
 ghost use Rattle.listing.specs.End.{last_line};
-ghost use Rattle.scald_tool.specs.Report.{verdict_of};
+ghost use Rattle.timing_reply.specs.Answer.{verdict_of};
 
 use flat_circuit::Circuit;
 use listing::{CaseHead, Mode, begin_report, end_report, write_case};
@@ -15,6 +15,7 @@ use scald_base::{Bytes, NoMemory, Outcome};
 use std::alloc::Global;
 use step_values::Value;
 use timing_analysis::CaseAtRest;
+use timing_reply::verdict;
 use wave_core::CyclicWave;
 
 /// The lines of a report so far, and how many faults the cases in it have.
@@ -74,16 +75,5 @@ impl Report {
             outcome: verdict(total),
             bytes,
         })
-    }
-}
-
-/// The outcome of a circuit with so many faults.
-fn verdict(total: u32) -> Outcome
-    ensures { result ≡ verdict_of total }
-{
-    if total == 0 {
-        Outcome::Clean
-    } else {
-        Outcome::Faulty(total)
     }
 }

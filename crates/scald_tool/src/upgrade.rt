@@ -6,7 +6,6 @@ ghost use Rattle.format_upgrade.specs.Upgraded.{upgraded_text};
 ghost use Rattle.scald_tool.specs.Answer.{Upgrades};
 ghost use Rattle.scald_tool.specs.Promise.{may_give};
 
-use crate::reply::refused;
 use crate::words::Command;
 use drawing_tree::Drawing;
 use drawn_circuit::read_text;
@@ -14,6 +13,7 @@ use format_upgrade::upgrade;
 use program_call::Reply;
 use scald_base::{NoMemory, Outcome, Stop};
 use std::alloc::Global;
+use timing_reply::refused;
 
 /// The upgraded text of a drawing, or the line of its refusal.
 pub fn upgrade_text(alloc: Global, text: &[u8]) -> Result<Reply<Outcome>, NoMemory>

@@ -1,6 +1,6 @@
 //! From a text to the outcome and the bytes of the report on its circuit.
 
-ghost use Rattle.std.specs.Prelude.{◌≡◌, ◌≢◌, ◌+◌, ◌-◌, ◌^◌, ◌<◌, ◌≤◌, ℕ, [], true, None, IfOk, IfErr, IfSome, length};
+ghost use Rattle.std.specs.Prelude.{◌≡◌, ◌≢◌, ◌-◌, ◌^◌, ◌<◌, ◌≤◌, ℕ, [], true, None, IfOk, IfErr, IfSome, length};
 ghost use Rattle.flat_circuit.specs.Instances.{outputs};
 ghost use Rattle.fixpoint_engine.specs.Loops.{HasNoLoop};
 ghost use Rattle.fixpoint_engine.specs.Rounds.{RestsAt};
@@ -11,26 +11,25 @@ ghost use Rattle.timing_analysis.specs.Ended.{EndsCases, EndsEarly};
 ghost use Rattle.timing_analysis.specs.Promise.{FaultlessNeverBreaks, NeverBreaks};
 ghost use Rattle.timing_analysis.specs.Rested.{IsBaseIn};
 ghost use Rattle.timing_analysis.specs.Subject.{IsSubject};
-ghost use Rattle.listing.specs.Answer.{unsettled_line};
-ghost use Rattle.scald_tool.specs.Answer.{Verified, limit_for};
-ghost use Rattle.scald_tool.specs.Ended.{IsEnded};
+ghost use Rattle.timing_reply.specs.Answer.{limit_for};
+ghost use Rattle.scald_tool.specs.Answer.{Verified};
 ghost use Rattle.scald_tool.specs.Promise.{has_report, may_give};
 ghost use Rattle.scald_tool.specs.Reported.{IsReported};
 
-use crate::reply::refused;
 use crate::report::Report;
 use crate::words::Command;
 use case_analysis::default_limit;
 use drawn_circuit::read_circuit;
 use fixpoint_engine::EngineEnd;
 use flat_circuit::Circuit;
-use listing::{Mode, write_unsettled};
+use listing::Mode;
 use net_waves::Waves;
 use program_call::Reply;
-use scald_base::{Bytes, NoMemory, Outcome, Stop};
+use scald_base::{NoMemory, Outcome, Stop};
 use std::alloc::Global;
 use step_values::Value;
 use timing_analysis::{Rested, Subject};
+use timing_reply::{ended, refused};
 use wave_core::CyclicWave;
 
 /// The answer to a text: the report that the mode asks for, after at most so many rounds of the base and
@@ -164,35 +163,4 @@ fn each_case<W: CyclicWave<Item = Value>>(
         report.add_case(&subject.circuit, mode, base, &case, &waves)?;
     }
     Ok(report.end()?)
-}
-
-/// The answer where a circuit or a case of it does not settle: the line of the first net that still
-/// changes in the round at the limit.
-pub fn ended(alloc: Global, circuit: &Circuit, end: EngineEnd) -> Result<Reply<Outcome>, NoMemory>
-    requires { (place round : ℕ) → end ≡ EngineEnd.Unsettled place round → place < length circuit.now.order }
-    ensures { IfOk result (λ reply. IsEnded circuit.now end reply.outcome reply.bytes) }
-{
-    match end {
-        EngineEnd::Unsettled { net, round } => unsettled(alloc, circuit, net, round),
-        EngineEnd::NoMemory => Err(NoMemory),
-    }
-}
-
-/// The line of the net that still changes in the round at the limit.
-fn unsettled(
-    alloc: Global,
-    circuit: &Circuit,
-    net: u32,
-    round: u32,
-) -> Result<Reply<Outcome>, NoMemory>
-    requires { net < length circuit.now.order }
-    ensures outcome { IfOk result (λ reply. reply.outcome ≡ Outcome.Unsettled net round) }
-    ensures bytes { IfOk result (λ reply. reply.bytes ≡ unsettled_line circuit.now net round) }
-{
-    let mut bytes = Bytes::new(alloc);
-    write_unsettled(circuit, net, round, &mut bytes)?;
-    Ok(Reply {
-        outcome: Outcome::Unsettled { net, round },
-        bytes,
-    })
 }

@@ -3,7 +3,7 @@ use Rattle.design_gen.proofs.Sections.{datapath_short}
 use Rattle.timing_analysis.proofs.Drawn.{subject_is_drawn}
 use Rattle.scald_tool.specs.Answer.{measured}
 use Rattle.drawn_circuit.specs.Drawn.{IsTextRefused}
-use Rattle.scald_tool.proofs.Replies.{accepted, refused}
+use Rattle.timing_reply.proofs.Replies.{accepted, refused}
 use Rattle.scald_tool.proofs.bench.bench.Goals as goal
 
 pub read_circuit-requires : goal.read_circuit-requires

@@ -1,9 +1,11 @@
 use Rattle.std.proofs.Common.{◌≡◌, ℕ, true, refl, subst, IfOk}
 use Rattle.scald_tool.specs.declared.words.Command.TheVariants.{Bench}
-use Rattle.scald_tool.specs.Answer.{Concluded, measured}
+use Rattle.timing_reply.specs.Answer.{Concluded}
+use Rattle.scald_tool.specs.Answer.{measured}
 use Rattle.scald_tool.specs.Promise.{may_give}
 use Rattle.timing_analysis.proofs.Ends.{end_below}
-use Rattle.scald_tool.proofs.Ending.{concluded_ended, measured_rested, of_ended}
+use Rattle.timing_reply.proofs.Ending.{concluded_ended, of_ended}
+use Rattle.scald_tool.proofs.Ending.{measured_rested}
 use Rattle.scald_tool.proofs.bench.measured.Goals as goal
 
 pub returns-in-Ok-clause-is : goal.returns-in-Ok-clause-is
