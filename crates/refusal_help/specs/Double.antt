@@ -1,0 +1,83 @@
+-- Where a name that is taken stands first.
+use Rattle.std.specs.Prelude.{ℕ, Bool, false, ◌&&◌, ◌||◌, ◌==◌, List, [], ◌∷◌, codes, Option, Some, None, if◌then◌else◌}
+use Rattle.std.specs.Str.{bytes_eq}
+use Rattle.scald_base.specs.declared.refusal.Place.{Place}
+use Rattle.scald_lex.specs.declared.token.Token.{Token}
+use Rattle.refusal_help.specs.Statement.{before_place, from_place, is_at, spelled}
+use Rattle.refusal_help.specs.Text.{line, place_text, quoted}
+
+-- ---- the macro, or the drawing, that a place is in
+
+abbrev pub begins_head : List ℕ → Token → Bool
+begins_head text t = bytes_eq (spelled text t) (codes "MACRO") || bytes_eq (spelled text t) (codes "DRAWING")
+
+-- The tokens from the last head before a place on. The second list is what is left to look at, and the
+-- first what begins with the last head so far.
+abbrev pub from_head : List ℕ → Place → List Token → List Token → List Token
+from_head text place head [] = head
+from_head text place head (t ∷ ts) =
+    if is_at place t then head
+    else if begins_head text t then from_head text place (t ∷ ts) ts
+    else from_head text place head ts
+
+-- ---- the first token of a text
+
+-- macros and constants are declared after these words
+abbrev pub is_declared : List ℕ → Bool
+is_declared word = bytes_eq word (codes "MACRO") || bytes_eq word (codes "CONST")
+
+-- the first token of the text `word` after one of the text `leader`
+abbrev pub first_after : List ℕ → List ℕ → List ℕ → List Token → Option Token
+first_after text leader word [] = None
+first_after text leader word (t ∷ []) = None
+first_after text leader word (t ∷ u ∷ ts) =
+    if bytes_eq (spelled text t) leader && bytes_eq (spelled text u) word then Some u
+    else first_after text leader word (u ∷ ts)
+
+abbrev pub is_name : List ℕ → Bool
+is_name [] = false
+is_name (b ∷ bs) = b == 34
+
+-- The first token of the text `word` before one of the text `follower`: a label stands before a
+-- colon, a parameter before a `=`. Formals are names, and stand before any.
+abbrev pub first_before : List ℕ → List ℕ → List ℕ → List Token → Option Token
+first_before text word follower [] = None
+first_before text word follower (t ∷ []) = None
+first_before text word follower (t ∷ u ∷ ts) =
+    if bytes_eq (spelled text t) word && (is_name word || bytes_eq (spelled text u) follower) then Some t
+    else first_before text word follower (u ∷ ts)
+
+-- ---- where a name is taken
+
+abbrev pub taken_here : List ℕ → List Token → Place → Token → Token → Option Token
+taken_here text tokens place t u =
+    first_before text (spelled text t) (spelled text u) (from_head text place tokens tokens)
+
+abbrev pub taken_by : List ℕ → List Token → Place → Token → Token → Option Token → Option Token
+taken_by text tokens place t u None = taken_here text tokens place t u
+taken_by text tokens place t u (Some leader) =
+    if is_declared (spelled text leader) then first_after text (spelled text leader) (spelled text t) tokens
+    else taken_here text tokens place t u
+
+abbrev pub taken_from : List ℕ → List Token → Place → List Token → Option Token
+taken_from text tokens place [] = None
+taken_from text tokens place (t ∷ []) = None
+taken_from text tokens place (t ∷ u ∷ ts) =
+    taken_by text tokens place t u (before_place place tokens)
+
+-- Where the name at a place is taken: a macro's or a constant's anywhere, any other in its macro or
+-- in the drawing.
+abbrev pub taken_at : List ℕ → List Token → Place → Option Token
+taken_at text tokens place = taken_from text tokens place (from_place place tokens)
+
+-- ---- what is said
+
+-- A macro that is the first of its name has that of a kind.
+abbrev pub taken_line : List ℕ → Place → Option Token → List ℕ
+taken_line text place None = []
+taken_line text place (Some t) =
+    if is_at place t then line (codes "    " ∷ quoted (spelled text t) ∷ codes " is the name of a kind" ∷ [])
+    else line (codes "    " ∷ quoted (spelled text t) ∷ codes " stands first at " ∷ place_text t.place ∷ [])
+
+abbrev pub double_lines : List ℕ → List Token → Place → List ℕ
+double_lines text tokens place = taken_line text place (taken_at text tokens place)

@@ -1,0 +1,25 @@
+-- All that a person is told of a refusal.
+use Rattle.std.specs.Prelude.{◌≡◌, ℕ, List, [], ◌∷◌, ◌++◌, codes}
+use Rattle.scald_base.specs.declared.refusal.Refusal.{Refusal}
+use Rattle.scald_lex.specs.declared.token.Token.{Token}
+use Rattle.scald_lex.specs.Tokens.{AreTokens, IsRefused}
+use Rattle.refusal_help.specs.Hint.{hint}
+use Rattle.refusal_help.specs.Sentence.{sentence}
+use Rattle.refusal_help.specs.Shown.{shown}
+use Rattle.refusal_help.specs.Text.{line, place_text}
+
+-- The tokens of the text, or none where a byte or a token of it is refused.
+pub data UsesTokens (text : List ℕ) : List Token → Type 0 where
+  of_text : (tokens : List Token) → AreTokens text tokens → UsesTokens text tokens
+  none : (r : Refusal) → IsRefused text r → UsesTokens text []
+
+abbrev pub first_line : Refusal → List ℕ
+first_line r = line (codes "scald: " ∷ place_text r.place ∷ codes ": " ∷ sentence r.kind ∷ [])
+
+abbrev pub explained : List ℕ → List Token → Refusal → List ℕ
+explained text tokens r = first_line r ++ shown text r.place ++ hint text tokens r
+
+pub record IsExplained (text : List ℕ) (r : Refusal) (bytes : List ℕ) : Type 0 where
+  pub tokens : List Token
+  pub used : UsesTokens text tokens
+  pub are : bytes ≡ explained text tokens r

@@ -1,0 +1,13 @@
+pub mod Text
+pub mod Shown
+pub mod Near
+pub mod Keyword
+pub mod Row
+pub mod Statement
+pub mod Advice
+pub mod Sentence
+pub mod Syntax
+pub mod Double
+pub mod Hint
+pub mod Explained
+pub mod CallWord

@@ -1,0 +1,96 @@
+-- What helps where no drawing continues with a token.
+use Rattle.std.specs.Prelude.{ℕ, Bool, true, false, not, ◌&&◌, ◌||◌, ◌==◌, nat_lt, List, [], ◌∷◌, ◌++◌, codes, Option, Some, None, if◌then◌else◌}
+use Rattle.std.specs.List.{list_any}
+use Rattle.std.specs.Str.{bytes_eq}
+use Rattle.scald_base.specs.declared.refusal.Place.{Place}
+use Rattle.scald_lex.specs.declared.token.TokenKind.{TokenKind}
+use Rattle.scald_lex.specs.declared.token.TokenKind.TheVariants.{Word, Number, Name, Arrow, Symbol, End}
+use Rattle.scald_lex.specs.declared.token.Token.{Token}
+use Rattle.element_kinds.specs.Kinds.{kind_names}
+use Rattle.refusal_help.specs.declared.keyword.Keyword.{Keyword}
+use Rattle.refusal_help.specs.Keyword.{near_keyword, word_of}
+use Rattle.refusal_help.specs.Statement.{before_place, from_place, spelled}
+use Rattle.refusal_help.specs.Text.{line, quoted}
+
+-- ---- what stands here
+
+abbrev pub named_by : TokenKind → List ℕ → List ℕ
+named_by Word text = quoted text
+named_by (Number n) text = quoted text
+named_by Name text = quoted text
+named_by Arrow text = quoted text
+named_by (Symbol b) text = quoted text
+named_by End text = codes "the end of the text"
+
+abbrev pub named : List ℕ → Token → List ℕ
+named text t = named_by t.kind (spelled text t)
+
+abbrev pub no_first : List ℕ → List ℕ
+no_first name = line (codes "    " ∷ name ∷ codes " cannot come first" ∷ [])
+
+abbrev pub no_follower : List ℕ → List ℕ → List ℕ
+no_follower name last = line (codes "    " ∷ name ∷ codes " cannot come after " ∷ last ∷ [])
+
+abbrev pub follow_line : List ℕ → Option Token → Token → List ℕ
+follow_line text None t = no_first (named text t)
+follow_line text (Some last) t = no_follower (named text t) (named text last)
+
+-- ---- a missing `;`
+
+abbrev pub ends_statement : TokenKind → Bool
+ends_statement Word = false
+ends_statement (Number n) = false
+ends_statement Name = false
+ends_statement Arrow = false
+ends_statement (Symbol b) = b == 59
+ends_statement End = false
+
+-- The token begins a line, and no `;` ends what is before it.
+abbrev pub is_missing : Token → Token → Bool
+is_missing last t = not (ends_statement last.kind) && nat_lt last.place.line t.place.line
+
+abbrev pub missing_after : List ℕ → List ℕ
+missing_after last = line (codes "    is a ; missing after " ∷ last ∷ codes "?" ∷ [])
+
+abbrev pub missing_line : List ℕ → Option Token → Token → List ℕ
+missing_line text None t = []
+missing_line text (Some last) t =
+    if is_missing last t then missing_after (named text last) else []
+
+-- ---- a word of the language that is nearly written
+
+abbrev pub is_word : TokenKind → Bool
+is_word Word = true
+is_word (Number n) = false
+is_word Name = false
+is_word Arrow = false
+is_word (Symbol b) = false
+is_word End = false
+
+abbrev pub unlike : List ℕ → Option Keyword → Option Keyword
+unlike word None = None
+unlike word (Some keyword) = if bytes_eq word (word_of keyword) then None else Some keyword
+
+-- The word of the language that may be meant: none where it is that word, or a kind's.
+abbrev pub meant_keyword : List ℕ → Token → Option Keyword
+meant_keyword text t =
+    if not (is_word t.kind) || list_any (bytes_eq (spelled text t)) kind_names then None
+    else unlike (spelled text t) (near_keyword (spelled text t))
+
+abbrev pub keyword_line : Option Keyword → List ℕ
+keyword_line None = []
+keyword_line (Some keyword) = line (codes "    is " ∷ word_of keyword ∷ codes " meant?" ∷ [])
+
+abbrev pub meant_line : List ℕ → Token → List ℕ
+meant_line text t = keyword_line (meant_keyword text t)
+
+-- ---- all of it
+
+abbrev pub lines_at : List ℕ → Option Token → List Token → List ℕ
+lines_at text before [] = []
+lines_at text before (t ∷ ts) =
+    follow_line text before t ++ (missing_line text before t ++ meant_line text t)
+
+abbrev pub syntax_lines : List ℕ → List Token → Place → List ℕ
+syntax_lines text tokens place =
+    lines_at text (before_place place tokens) (from_place place tokens)

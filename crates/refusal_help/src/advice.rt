@@ -1,0 +1,58 @@
+//! What can be done about a refusal, where that is the same for all texts.
+
+ghost use Rattle.std.specs.Prelude.{◌≡◌};
+ghost use Rattle.refusal_help.specs.Advice.{advice};
+
+use scald_base::RefusalKind;
+
+/// Lines that say what can be done, and none where the text itself has to say it.
+pub fn advice(kind: RefusalKind) -> &'static [u8]
+    ensures { result.now ≡ advice kind }
+{
+    match kind {
+        RefusalKind::BadName => {
+            b"    a name is as \"A\" or \"A .S1-4\": letters, digits, spaces, _, # and $, then one space and .S, .P or .C
+    of u units an interval lo-hi has lo below u and hi up to u, and they differ; no number begins with 0
+    a formal of a macro has neither an assertion nor a / before it
+"
+        }
+        RefusalKind::AssertionClash => {
+            b"    give the assertion once, or spell it the same each time; a formal has that of the outer net\n"
+        }
+        RefusalKind::Width => {
+            b"    connections are as wide as the output, or as a checker's widest one, or have one bit for all
+    a name without a range is its bit 0 alone, and a formal without one is all of its bits
+"
+        }
+        RefusalKind::TooDeep => {
+            b"    counted are uses of macros inside one another, parentheses and minus signs that are open,
+    operators of one expression, and IFs and FORs
+"
+        }
+        RefusalKind::TooMany => {
+            b"    there may be 65536 bits of nets, of elements and of checkers each, 1048576 pins, 262144 statements
+    that are reached, and 256 cases
+"
+        }
+        RefusalKind::TwoDrivers => { b"    join what drives a net by a MUX2, an AND or an OR\n" }
+        RefusalKind::ZeroLoop => {
+            b"    give an element of the loop, or the wire of a net of it, a least delay of 1\n"
+        }
+        RefusalKind::CaseNet => {
+            b"    it may set a net that nothing drives and that asserts .S or nothing: to 0 or 1, once, and without
+    its assertion; a net inside a macro has to come out by a formal
+"
+        }
+        RefusalKind::EdgesOverlap => {
+            b"    make the skew (a,b) of this clock smaller or its pulses longer, or let it be a .P clock, which moves
+    as a whole
+"
+        }
+        RefusalKind::UnknownName => {
+            b"    known are the constants before it, and the parameters of the MACRO and the variables of the FORs
+    around it
+"
+        }
+        _ => b"",
+    }
+}

@@ -1,0 +1,134 @@
+//! Where a name that is taken stands first.
+
+ghost use Rattle.std.specs.Prelude.{◌≡◌, ◌++◌, OnOk};
+ghost use Rattle.refusal_help.specs.Double.{begins_head, double_lines, first_after, first_before, from_head, is_declared, taken_at};
+
+use crate::cut::spelled;
+use crate::part::{Part, add_line};
+use crate::statement::{before_place, from_place, is_at};
+use scald_base::{Bytes, NoMemory, Place, same_bytes};
+use scald_lex::Token;
+
+/// Whether a macro or the drawing begins with a token.
+fn begins_head(text: &[u8], token: Token) -> bool
+    ensures { result ≡ begins_head text.now token }
+{
+    let word = spelled(text, token);
+    same_bytes(word, b"MACRO") || same_bytes(word, b"DRAWING")
+}
+
+/// The tokens from the last head before a place on: of the macro, or of the drawing, that the place is in.
+fn from_head<'a>(text: &[u8], tokens: &'a [Token], place: Place) -> &'a [Token]
+    ensures { result.now ≡ from_head text.now place tokens.now tokens.now }
+{
+    let mut head = tokens;
+    let mut rest = tokens;
+    'tokens: while let [first, others @ ..] = rest {
+        if is_at(*first, place) {
+            return head;
+        }
+        if begins_head(text, *first) {
+            head = rest;
+        }
+        rest = others;
+    }
+    head
+}
+
+/// Whether macros or constants are declared after a word.
+fn is_declared(word: &[u8]) -> bool
+    ensures { result ≡ is_declared word.now }
+{
+    same_bytes(word, b"MACRO") || same_bytes(word, b"CONST")
+}
+
+/// The first token of this text after one of that text.
+fn first_after(text: &[u8], tokens: &[Token], leader: &[u8], word: &[u8]) -> Option<Token>
+    ensures { result ≡ first_after text.now leader.now word.now tokens.now }
+{
+    let mut rest = tokens;
+    'tokens: while let [first, others @ ..] = rest {
+        let [second, ..] = others else {
+            return None;
+        };
+        if same_bytes(spelled(text, *first), leader) && same_bytes(spelled(text, *second), word) {
+            return Some(*second);
+        }
+        rest = others;
+    }
+    None
+}
+
+/// The first token of this text before one of that text, or before any where the text is a name in quotes.
+fn first_before(text: &[u8], tokens: &[Token], word: &[u8], follower: &[u8]) -> Option<Token>
+    ensures { result ≡ first_before text.now word.now follower.now tokens.now }
+{
+    let is_name = matches!(word, [b'"', ..]);
+    let mut rest = tokens;
+    'tokens: while let [first, others @ ..] = rest {
+        let [second, ..] = others else {
+            return None;
+        };
+        if same_bytes(spelled(text, *first), word)
+            && (is_name || same_bytes(spelled(text, *second), follower))
+        {
+            return Some(*first);
+        }
+        rest = others;
+    }
+    None
+}
+
+/// Where the name that stands at a place is taken: a macro's or a constant's anywhere, any other in its
+/// macro or in the drawing.
+fn taken_at(text: &[u8], tokens: &[Token], place: Place) -> Option<Token>
+    ensures { result ≡ taken_at text.now tokens.now place }
+{
+    let [token, follower, ..] = from_place(tokens, place) else {
+        return None;
+    };
+    let word = spelled(text, *token);
+    if let Some(leader) = before_place(tokens, place) {
+        let leader = spelled(text, leader);
+        if is_declared(leader) {
+            return first_after(text, tokens, leader, word);
+        }
+    }
+    first_before(
+        text,
+        from_head(text, tokens, place),
+        word,
+        spelled(text, *follower),
+    )
+}
+
+/// Where the name that stands at the place is taken.
+pub fn add_double(
+    out: &mut Bytes,
+    text: &[u8],
+    tokens: &[Token],
+    place: Place,
+) -> Result<(), NoMemory>
+    ensures { OnOk result (out.new ≡ out.old ++ double_lines text.now tokens.now place) }
+{
+    match taken_at(text, tokens, place) {
+        None => Ok(()),
+        Some(first) if is_at(first, place) => add_line(
+            out,
+            &[
+                Part::Text(b"    "),
+                Part::Quoted(spelled(text, first)),
+                Part::Text(b" is the name of a kind"),
+            ],
+        ),
+        Some(first) => add_line(
+            out,
+            &[
+                Part::Text(b"    "),
+                Part::Quoted(spelled(text, first)),
+                Part::Text(b" stands first at "),
+                Part::Place(first.place),
+            ],
+        ),
+    }
+}

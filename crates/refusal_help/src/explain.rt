@@ -1,0 +1,53 @@
+//! All that a person is told of a refusal.
+
+ghost use Rattle.std.specs.Prelude.{◌≡◌, ◌++◌, ◌<◌, ◌-◌, ◌^◌, length, IfOk, OnOk};
+ghost use Rattle.refusal_help.specs.Explained.{IsExplained, UsesTokens, first_line};
+
+use crate::hint::add_hint;
+use crate::part::{Part, add_line};
+use crate::sentence::sentence;
+use crate::shown::add_shown;
+use scald_base::{Bytes, NoMemory, Refusal, Stop};
+use scald_lex::{TokenList, tokens};
+use std::alloc::Global;
+
+/// The tokens of a text, and none where it has no tokens.
+fn tokens_of(alloc: Global, text: &[u8]) -> Result<TokenList, NoMemory>
+    requires { length text.now < 2 ^ 32 - 1 }
+    ensures { IfOk result (UsesTokens text.now) }
+{
+    match tokens(alloc, text) {
+        Ok(list) => Ok(list),
+        Err(Stop::Refused(_)) => Ok(TokenList::new(alloc)),
+        Err(Stop::NoMemory) => Err(NoMemory),
+    }
+}
+
+/// The place and the sentence.
+fn add_first(out: &mut Bytes, refusal: Refusal) -> Result<(), NoMemory>
+    ensures { OnOk result (out.new ≡ out.old ++ first_line refusal) }
+{
+    add_line(
+        out,
+        &[
+            Part::Text(b"scald: "),
+            Part::Place(refusal.place),
+            Part::Text(b": "),
+            Part::Text(sentence(refusal.kind)),
+        ],
+    )
+}
+
+/// What a person is told of a text that is refused so: the place and a sentence, the line of the text
+/// with a mark under the place, and what may help. The one error is that memory ran out.
+pub fn explain_refusal(alloc: Global, text: &[u8], refusal: Refusal) -> Result<Bytes, NoMemory>
+    requires { length text.now < 2 ^ 32 - 1 }
+    ensures { IfOk result (IsExplained text.now refusal) }
+{
+    let list = tokens_of(alloc, text)?;
+    let mut out = Bytes::new(alloc);
+    add_first(&mut out, refusal)?;
+    add_shown(&mut out, text, refusal.place)?;
+    add_hint(&mut out, text, list.as_slice(), refusal)?;
+    Ok(out)
+}

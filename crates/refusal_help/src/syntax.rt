@@ -1,0 +1,138 @@
+//! What helps where no drawing continues with a token.
+
+ghost use Rattle.std.specs.Prelude.{◌≡◌, ◌++◌, OnOk};
+ghost use Rattle.refusal_help.specs.Syntax.{ends_statement, follow_line, is_missing, meant_keyword, meant_line, missing_line, named, syntax_lines};
+ghost use Rattle.refusal_help.specs.Text.{part_text};
+
+use crate::cut::spelled;
+use crate::keyword::{Keyword, near_keyword};
+use crate::part::{Part, add_line};
+use crate::statement::{before_place, from_place};
+use element_kinds::is_kind_name;
+use scald_base::{Bytes, NoMemory, Place, same_bytes};
+use scald_lex::{Token, TokenKind};
+
+/// How a token is named.
+fn named<'a>(text: &'a [u8], token: Token) -> Part<'a>
+    ensures { part_text result ≡ named text.now token }
+{
+    match token.kind {
+        TokenKind::End => Part::Text(b"the end of the text"),
+        _ => Part::Quoted(spelled(text, token)),
+    }
+}
+
+/// What stands here, and after what.
+fn add_follow(
+    out: &mut Bytes,
+    text: &[u8],
+    before: Option<Token>,
+    token: Token,
+) -> Result<(), NoMemory>
+    ensures { OnOk result (out.new ≡ out.old ++ follow_line text.now before token) }
+{
+    match before {
+        None => add_line(
+            out,
+            &[
+                Part::Text(b"    "),
+                named(text, token),
+                Part::Text(b" cannot come first"),
+            ],
+        ),
+        Some(last) => add_line(
+            out,
+            &[
+                Part::Text(b"    "),
+                named(text, token),
+                Part::Text(b" cannot come after "),
+                named(text, last),
+            ],
+        ),
+    }
+}
+
+/// Whether a token is a `;`.
+fn ends_statement(token: Token) -> bool
+    ensures { result ≡ ends_statement token.kind }
+{
+    matches!(token.kind, TokenKind::Symbol(b';'))
+}
+
+/// Whether a token begins a line, and no `;` ends what is before it.
+fn is_missing(last: Token, token: Token) -> bool
+    ensures { result ≡ is_missing last token }
+{
+    !ends_statement(last) && last.place.line < token.place.line
+}
+
+/// Whether a `;` may be missing.
+fn add_missing(
+    out: &mut Bytes,
+    text: &[u8],
+    before: Option<Token>,
+    token: Token,
+) -> Result<(), NoMemory>
+    ensures { OnOk result (out.new ≡ out.old ++ missing_line text.now before token) }
+{
+    match before {
+        Some(last) if is_missing(last, token) => add_line(
+            out,
+            &[
+                Part::Text(b"    is a ; missing after "),
+                named(text, last),
+                Part::Text(b"?"),
+            ],
+        ),
+        _ => Ok(()),
+    }
+}
+
+/// The word of the language that a token may be meant for: not where it is that word or a kind's.
+fn meant_keyword(text: &[u8], token: Token) -> Option<Keyword>
+    ensures { result ≡ meant_keyword text.now token }
+{
+    let word = spelled(text, token);
+    if !matches!(token.kind, TokenKind::Word) || is_kind_name(word) {
+        return None;
+    }
+    match near_keyword(word) {
+        Some(keyword) if !same_bytes(word, keyword.word()) => Some(keyword),
+        _ => None,
+    }
+}
+
+/// Which word of the language may be meant.
+fn add_meant(out: &mut Bytes, text: &[u8], token: Token) -> Result<(), NoMemory>
+    ensures { OnOk result (out.new ≡ out.old ++ meant_line text.now token) }
+{
+    match meant_keyword(text, token) {
+        Some(keyword) => add_line(
+            out,
+            &[
+                Part::Text(b"    is "),
+                Part::Text(keyword.word()),
+                Part::Text(b" meant?"),
+            ],
+        ),
+        None => Ok(()),
+    }
+}
+
+/// What stands at the place, after what, and what may be meant.
+pub fn add_syntax(
+    out: &mut Bytes,
+    text: &[u8],
+    tokens: &[Token],
+    place: Place,
+) -> Result<(), NoMemory>
+    ensures { OnOk result (out.new ≡ out.old ++ syntax_lines text.now tokens.now place) }
+{
+    let [token, ..] = from_place(tokens, place) else {
+        return Ok(());
+    };
+    let before = before_place(tokens, place);
+    add_follow(out, text, before, *token)?;
+    add_missing(out, text, before, *token)?;
+    add_meant(out, text, *token)
+}
