@@ -1,5 +1,7 @@
 """The texts that bench/run measures. Each function gives one of a size, as text or as bytes."""
 
+import random
+
 MOST_BYTES = 4194304
 
 
@@ -148,6 +150,76 @@ def chains(count):
         lines.append(f'h{i} : BUF [1:1] ("CK .P2-3") -> ("X{i}"<0>);')
         lines.append(f'b{i} : BUF [1:1] ("X{i}"<0:248>) -> ("X{i}"<1:249>);')
     return drawing(lines)
+
+
+def flat(count):
+    """Gates that are drawn one by one, whose delays differ, so that no two nets are in one class."""
+    return drawing(
+        f'inst_number_{i} : AND [1:{2 + i % 5}] ("signal {i // 2}", "CK .P2-3") -> ("signal {i + 1}");' for i in range(count)
+    )
+
+
+def wave_loops(gates):
+    """Gates of four kinds and of many delays on seven clocks and on each other, with loops: many different waves."""
+    draw = random.Random(5)
+    lines = []
+    for i in range(gates):
+        least = draw.randint(1, 9)
+        greatest, kind = least + draw.randint(0, 3), draw.choice(["AND", "OR", "XOR", "AND"])
+        other = draw.randrange(gates) if i % 3 else (7 * i + 1) % gates
+        clock = f"CK{i % 7} .P{i % 7}-{i % 7 + 1}"
+        lines.append(f'g{i} : {kind} [{least}:{greatest}] ("{clock}", "Y{other}") -> ("Y{i}");')
+    return drawing(lines, header=["PSKEW 2:3;"])
+
+
+def long_chain(buffers):
+    """Buffers one after another over the bits of one bus: in each round one of them is due."""
+    lines = ['b0 : BUF [1:2] ("CK .P2-3") -> ("X"<0>);']
+    for first in range(0, buffers, 255):
+        end = min(first + 255, buffers)
+        lines.append(f'b{first + 1} : BUF [1:2] ("X"<{first}:{end - 1}>) -> ("X"<{first + 1}:{end}>);')
+    return drawing(lines)
+
+
+def slow_loops(count):
+    """Loops of 39 buffers without delay and an AND with a clock, each 256 bits wide, which settle after some 2,080 rounds."""
+    lines = []
+    for loop in range(count):
+        for i in range(39):
+            lines.append(f'b{loop}_{i} : BUF [0:0] ("X{loop}_{i}"<0:255>) -> ("X{loop}_{i + 1}"<0:255>);')
+        lines.append(f'a{loop} : AND [1:1] ("CK .P2-3", "X{loop}_39"<0:255>) -> ("X{loop}_0"<0:255>);')
+    return drawing(lines)
+
+
+WIDE_STAGE = """MACRO STAGE {SIZE=256} ("SEL", "CK", "A"<0:SIZE-1>) -> ("Q"<0:SIZE-1>);
+slow : BUF [30:40] ("A") -> ("S"<0:SIZE-1>);
+way : MUX2 [0:3] ("SEL", "A", "S"<0:SIZE-1>) -> ("M"<0:SIZE-1>);
+reg : REG [4:11] ("CK", "M"<0:SIZE-1>) -> ("R"<0:SIZE-1>);
+sum : XOR [2:3] ("R"<0:SIZE-1>, "M"<0:SIZE-1>) -> ("Q");
+chk : SETUP_HOLD_CHK {SETUP=10, HOLD=4} ("CK", "M"<0:SIZE-1>);
+END;""".split("\n")
+
+
+def many_cases(stages):
+    """All 256 cases of eight selects, over so many stages of 256 bits."""
+    lines = []
+    for i in range(stages):
+        before = "IN .S1-8" if i == 0 else f"N{i - 1}"
+        lines.append(f'u{i} : STAGE ("SEL{i % 8}", "CK .P3-5", "{before}"<0:255>) -> ("N{i}"<0:255>);')
+    after = ["CASE " + ", ".join(f'"SEL{j}"={number >> j & 1}' for j in range(8)) + ";" for number in range(256)]
+    return drawing(lines, macros=WIDE_STAGE, after=after, header=["WIRE 0:2;"])
+
+
+def dense(gates):
+    """Gates on clocks that change in each slot or in two of three, in the longest period: waves of up to 4,096 runs."""
+    clocks = [",".join(f"{i}-{i + 1}" for i in range(0, 4096, step)) for step in (2, 3)]
+    lines = [f'c0 : BUF [0:0] ("CK .P{clocks[0]}") -> ("A0");', f'c1 : BUF [0:0] ("CL .P{clocks[1]}") -> ("B0");']
+    for i in range(1, gates + 1):
+        kind, other = ("XOR", "AND", "OR")[i % 3], i // 2 if i % 7 else 0
+        lines.append(f'x{i} : {kind} [1:{1 + i % 2}] ("A{i - 1}", "B{other}") -> ("A{i}");')
+        lines.append(f'y{i} : BUF [{i % 5}:{i % 5}] ("B{i - 1}") -> ("B{i}");')
+        lines.append(f'k{i} : SETUP_HOLD_CHK {{SETUP=1, HOLD=1}} ("CK", "B{i}");')
+    return drawing(lines, clock="4096 x 1")
 
 
 def checkers(buses):

@@ -323,5 +323,14 @@ for delays in '1:1, 255:255' '255:255, 1:1'; do
     echo "a : AND [$delays] (\"CK .P0-7\", \"X\"<0:15>) -> (\"X\"<0:15>);" | frame '8 x 512' |
         tries "16 loops with [$delays] in the longest period" 0 CLEAN faults rounds=10000
 done
+# 31,000 waves of some 2,000 runs, one after another, of which the nets need 250 at a time: what is not needed is forgotten
+awk 'BEGIN { printf "c : BUF [0:0] (\"CK .P0-2"; for (i = 4; i < 4096; i += 4) printf ",%d-%d", i, i + 2; print "\") -> (\"C\");"
+    for (i = 1; i <= 250; i++) printf "t%d : OR [0:0] (\"C\", \"P%d .P%d-%d\") -> (\"T%d\");\n", i, i, 16 * i, 16 * i + 3, i
+    for (i = 1; i <= 250; i++) printf "s%d : OR [0:0] (\"S%d\", \"T%d\") -> (\"S%d\");\n", i, i - 1, i, i }' |
+    frame '4096 x 1' | kb_at_most=100000 tries '31000 dense waves, 250 at a time' 0 CLEAN faults
+# evaluations that are all different and make one wave: they are forgotten too
+awk 'BEGIN { print "x : AND [40:40] (\"CK .P0-7\", \"X\") -> (\"X\");"
+    for (i = 0; i < 20000; i++) printf "a%d : AND [%d:%d] (ZERO, \"X\") -> (\"Y%d\");\n", i, i / 100, i / 100 + i % 100, i }' | frame '8 x 512' |
+    kb_at_most=200000 tries '20000 gates that make one wave' 0 CLEAN faults
 
 ended ", in $(($(date +%s) - begun)) seconds"
