@@ -1,0 +1,13 @@
+use Rattle.std.proofs.Common.{◌∙◌, ◌++◌, length}
+use Rattle.std.specs.List.{flat_map}
+use Rattle.listing.specs.Head.{period_line}
+use Rattle.margin_report.specs.Report.{count_line, margin_line}
+use Rattle.margin_report.proofs.teller.MarginsTeller.end.Goals as goal
+
+pub returns-clause-bytes : goal.returns-clause-bytes
+returns-clause-bytes c = λ version base cases told.
+    let d = c.args.circuit.now in
+    c.in_ok-add_count.ensures
+    ∙ (λ j. c.in_ok-add_rows.ensures j ++ count_line (c.len.ensures j))
+    ∙ (λ j. (c.in_ok-write_period.ensures.ok j ++ flat_map (margin_line d) (c.as_slice.ensures j)) ++ count_line (length c.args.self.rows))
+    ∙ (λ j. ((c.new-bytes.ensures j ++ period_line (told.0 j) d) ++ flat_map (margin_line d) (told.1 j)) ++ count_line (length (told.1 j)))

@@ -1,0 +1,4 @@
+pub mod Margin
+pub mod Report
+pub mod Answer
+pub mod Laws

@@ -1,0 +1,14 @@
+//! Laws of margins. The functions do nothing: what each states is its contract.
+
+ghost use Rattle.margin_report.specs.Laws.{FittingIsMonotone, MarginsAreTrue};
+
+/// Where a value of a parameter does not fit, no greater one does.
+pub fn fitting_is_monotone()
+    ensures { FittingIsMonotone }
+{}
+
+/// A margin is the most by which a parameter may be greater, and with one more the case that it names is
+/// the first that has a fault.
+pub fn margins_are_true()
+    ensures { MarginsAreTrue }
+{}

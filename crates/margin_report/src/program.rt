@@ -1,0 +1,107 @@
+//! The whole call: words and bytes in, bytes and an outcome out.
+
+ghost use Rattle.std.specs.Prelude.{◌≡◌, ◌≢◌, ℕ, List, ◌<◌, length, true, false, Err, IfSome, ◌⊎◌};
+ghost use Rattle.std.specs.Io.KnownBytes.{IsAtEnd};
+ghost use Rattle.scald_base.specs.Device.{Rose, ReadsFront, ReadsPast};
+ghost use Rattle.program_call.specs.Program.{AreTold, IsAnswered, IsCutShort, asks, is_silent, speaks};
+ghost use Rattle.timing_reply.specs.Program.{most_bytes, no_words};
+ghost use Rattle.margin_report.specs.Answer.{margins};
+
+use crate::teller::Margins;
+use program_call::{Program, Reply, main_call};
+use scald_base::{CallEnd, NoMemory, Outcome, Sink, Source, Words};
+use std::alloc::Global;
+use timing_reply::{Request, read_no_words, reply_to};
+
+/// The most bytes of a text.
+const MOST_BYTES: u32 = 4_194_304;
+
+/// The program of margins.
+pub struct MarginProgram;
+
+impl Program for MarginProgram {
+    ghost use Rattle.margin_report.specs.Answer.{margins};
+
+    type Command = Request;
+
+    type Outcome = Outcome;
+
+    ghost meaning = { margins };
+
+    fn read_words(words: &Words) -> Result<Request, u32> {
+        read_no_words(words)
+    }
+
+    fn reads(_request: Request) -> bool {
+        true
+    }
+
+    fn most_bytes(_request: Request) -> u32 {
+        MOST_BYTES
+    }
+
+    fn reply(alloc: Global, _request: Request, text: &[u8]) -> Result<Reply<Outcome>, NoMemory> {
+        reply_to::<Margins>(alloc, text)
+    }
+
+    fn ended(end: CallEnd) -> Outcome {
+        Outcome::ended(end)
+    }
+
+    fn laws() {}
+}
+
+/// Reads a drawing and writes by how much more each of its checkers may ask for: a line for each
+/// parameter of each bit of a checker, in the order of expansion. It has no words.
+///
+/// `Done` comes where the drawing is accepted and its waves settle, whether there are faults or not. Why a
+/// drawing is refused, or which net does not settle, is written as `verify` has it. All of the answer is
+/// made before the first byte of it is written.
+///
+/// What the clauses say of bytes holds as far as the devices tell: of those that are left to read where the
+/// source tells them, of those that were taken where the sink does.
+pub fn margin_main<S: Source, K: Sink>(
+    alloc: Global,
+    words: &Words,
+    source: &mut S,
+    sink: &mut K,
+) -> Outcome
+    // Words are unrecognised. Nothing is read for them, and nothing is written where the outcome is silent.
+    ensures bad_words { (i : ℕ) → no_words words.now ≡ Err i → result ≡ Outcome.BadWords i }
+    ensures bad_words_only { (i : ℕ) → result ≡ Outcome.BadWords i → no_words words.now ≡ Err i }
+    ensures unread { asks margins words.now ≡ false → source.new ≡ source.old }
+    ensures unwritten { is_silent margins result ≡ true → sink.new ≡ sink.old }
+
+    // Told bytes and no fault of a device that is used: the margins of the drawing, or why it has none,
+    // with exactly their bytes, or no memory.
+    ensures whole { (text : List ℕ) → AreTold margins words.now (S.left source.old) text →
+        (asks margins words.now ≡ true → ¬ Rose (S.faults source.old) (S.faults source.new)) →
+        ¬ Rose (K.faults sink.old) (K.faults sink.new) →
+        (result ≡ Outcome.NoMemory)
+        ⊎ IsAnswered margins words.now text result (K.taken sink.old) (K.taken sink.new) }
+
+    // Whatever the devices did, an outcome that speaks of the text comes only where it is the text's own,
+    // all of the text was read, and all of the answer was written, where the sink tells what it took.
+    ensures truthful { (text : List ℕ) →
+        AreTold margins words.now (S.left source.old) text → speaks margins result ≡ true →
+        IsAnswered margins words.now text result (K.taken sink.old) (K.taken sink.new) }
+    ensures front { ReadsFront (S.left source.old) (S.left source.new) most_bytes }
+    ensures to_end { IfSome (S.left source.old) (λ text. asks margins words.now ≡ true →
+        speaks margins result ≡ true → IsAtEnd (S.left source.new)) }
+
+    // No fault of a device is hidden, and why the other outcomes come.
+    ensures source_steady { result ≢ Outcome.ReadFault → S.faults source.new ≡ S.faults source.old }
+    ensures sink_steady { result ≢ Outcome.WriteFault → K.faults sink.new ≡ K.faults sink.old }
+    ensures read_fault { result ≡ Outcome.ReadFault → Rose (S.faults source.old) (S.faults source.new) }
+    ensures write_fault { result ≡ Outcome.WriteFault → Rose (K.faults sink.old) (K.faults sink.new) }
+    ensures cut_short { (text : List ℕ) →
+        AreTold margins words.now (S.left source.old) text → result ≡ Outcome.WriteFault →
+        IsCutShort margins words.now text (K.taken sink.old) (K.taken sink.new) }
+    ensures too_long { result ≡ Outcome.TooLong →
+        ReadsPast (S.left source.old) (S.left source.new) most_bytes }
+    ensures long_text { IfSome (S.left source.old) (λ text. asks margins words.now ≡ true →
+        most_bytes < length text → ¬ Rose (S.faults source.old) (S.faults source.new) →
+        (result ≡ Outcome.NoMemory) ⊎ (result ≡ Outcome.TooLong)) }
+{
+    main_call::<MarginProgram, S, K>(alloc, words, source, sink)
+}

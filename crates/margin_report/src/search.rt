@@ -1,0 +1,110 @@
+//! The margin of one parameter in the waves of one case.
+
+ghost use Rattle.std.specs.Prelude.{◌≡◌, ◌+◌, ◌<◌, ◌≤◌, None, Some, IfOk, slice_get};
+ghost use Rattle.scald_base.specs.Time.{period};
+ghost use Rattle.net_waves.specs.Waves.{FitWaves, waves_of};
+ghost use Rattle.margin_report.specs.Margin.{AreWithin, IsAskedBy, StopsAt, fault_with as fault_in, spare, written};
+
+use crate::margin::Parameter;
+use flat_circuit::{Circuit, Fault, Instance};
+use net_waves::Waves;
+use point_check::point_fault;
+use pulse_check::width_fault;
+use scald_base::NoMemory;
+use std::alloc::Global;
+use step_values::Value;
+use wave_core::CyclicWave;
+
+/// The written value of a parameter, of a checker's two limits, in ticks.
+pub fn written(limits: (u16, u16), parameter: Parameter) -> u16
+    ensures { result ≡ written limits parameter }
+{
+    match parameter {
+        Parameter::Setup | Parameter::High => limits.0,
+        Parameter::Hold | Parameter::Low => limits.1,
+    }
+}
+
+/// How much more may be written in a period of so many ticks.
+pub fn spare(period: u16, limits: (u16, u16), parameter: Parameter) -> u16
+    requires { AreWithin period limits parameter }
+    ensures { result ≡ spare period limits parameter }
+{
+    match parameter {
+        Parameter::Setup | Parameter::Hold => period - (limits.0 + limits.1),
+        Parameter::High => period - limits.0,
+        Parameter::Low => period - limits.1,
+    }
+}
+
+/// The fault that a checker has in these waves, where a parameter is so much more than it is written and
+/// the other as it is.
+pub fn fault_with<W: CyclicWave<Item = Value>>(
+    alloc: Global,
+    c: &Circuit,
+    waves: &Waves<W>,
+    number: u32,
+    checker: &Instance,
+    parameter: Parameter,
+    more: u16,
+) -> Result<Option<Fault>, NoMemory>
+    requires there { slice_get c.now.instances number ≡ Some checker.now }
+    requires asked { IsAskedBy checker.now parameter }
+    requires within { AreWithin (period c.now.header) checker.now.limits parameter }
+    requires more { more ≤ spare (period c.now.header) checker.now.limits parameter }
+    requires fit { FitWaves c.now waves.now }
+    ensures { IfOk result (λ found. found ≡ fault_in c.now (waves_of waves.now) number checker.now
+        parameter (written checker.now.limits parameter + more)) }
+{
+    c.header().known();
+    let (first, second) = checker.limits;
+    let value = written(checker.limits, parameter) + more;
+    match parameter {
+        Parameter::Setup => point_fault(alloc, c, waves, number, (value, second)),
+        Parameter::Hold => point_fault(alloc, c, waves, number, (first, value)),
+        Parameter::High => width_fault(alloc, c, waves, number, true, value),
+        Parameter::Low => width_fault(alloc, c, waves, number, false, value),
+    }
+}
+
+/// By how much more a checker that fits as it is written stops fitting, where with so much more it has
+/// this fault: found by halves, since what does not fit fits no better with more. The answer is how much
+/// more still fits, and the fault with one more.
+pub fn stop_before<W: CyclicWave<Item = Value>>(
+    alloc: Global,
+    c: &Circuit,
+    waves: &Waves<W>,
+    number: u32,
+    checker: &Instance,
+    parameter: Parameter,
+    most: u16,
+    found: Fault,
+) -> Result<(u16, Fault), NoMemory>
+    requires there { slice_get c.now.instances number ≡ Some checker.now }
+    requires asked { IsAskedBy checker.now parameter }
+    requires within { AreWithin (period c.now.header) checker.now.limits parameter }
+    requires most { most ≤ spare (period c.now.header) checker.now.limits parameter }
+    requires fit { FitWaves c.now waves.now }
+    requires fits { fault_in c.now (waves_of waves.now) number checker.now
+        parameter (written checker.now.limits parameter + 0) ≡ None }
+    requires found { fault_in c.now (waves_of waves.now) number checker.now
+        parameter (written checker.now.limits parameter + most) ≡ Some found }
+    ensures stops { IfOk result (λ stop.
+        StopsAt c.now (waves_of waves.now) number checker.now parameter stop.0 stop.1) }
+    ensures sooner { IfOk result (λ stop. stop.0 < most) }
+{
+    let mut fits = 0;
+    let mut faulty = most;
+    let mut fault = found;
+    while fits + 1 < faulty {
+        let middle = fits + (faulty - fits) / 2;
+        match fault_with(alloc, c, waves, number, checker, parameter, middle)? {
+            Some(sooner) => {
+                faulty = middle;
+                fault = sooner;
+            }
+            None => fits = middle,
+        }
+    }
+    Ok((fits, fault))
+}
