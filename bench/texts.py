@@ -229,6 +229,15 @@ def checkers(buses):
     )
 
 
+def margins(buses):
+    """A checker on each of 256 bits of so many buses, each bus late by its own delay, with the margins of each."""
+    lines = []
+    for i in range(buses):
+        lines.append(f'b{i} : BUF [{i}:{i + 20}] ("A{i} .S1-4"<0:255>) -> ("B{i}"<0:255>);')
+        lines.append(f'c{i} : SETUP_HOLD_CHK {{SETUP=20, HOLD=5}} ("CK .P2-3", "B{i}"<0:255>);')
+    return drawing(lines)
+
+
 def statements(count):
     """The shortest statements, and a comment that fills the text up to the most bytes a text of all of them may have."""
     text = drawing(['WIRE "A" 0:0;'] * count)

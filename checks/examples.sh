@@ -1,13 +1,14 @@
 #!/bin/sh
-# Compares the report of each drawing of examples/ with the one that stands beside it, and the status with its
-# last line. Usage: checks/examples.sh [PROGRAM]. Where none is named and none is built it says so and ends with 0.
+# Compares the report and the margins of each drawing of examples/ with those that stand beside it, and the status with
+# the last line.
+# Usage: checks/examples.sh [PROGRAM]. Where none is named and none is built it says so and ends with 0.
 . "$(dirname -- "$0")/common.sh"
 begin "${1-}"
 
 # The status that goes with the last line of a report.
 status_of() {
     case $(tail -n 1 "$1") in
-    CLEAN) echo 0 ;;
+    CLEAN | MARGINS*) echo 0 ;;
     FAULTS*) echo 1 ;;
     REFUSED*) echo 2 ;;
     UNSETTLED*) echo 3 ;;
@@ -29,14 +30,26 @@ for drawing in "$top"/examples/*.scald; do
     [ "$status" = "$wanted" ] || failure "$name: status $status in place of $wanted"
     cmp -s "$work/report" "$report" || failure "$name: another report"
 
+    # The margins.
+    margins=${drawing%.scald}.margins
+    if [ -f "$margins" ]; then
+        "$program" margins <"$drawing" >"$work/margins"
+        status=$?
+        wanted=$(status_of "$margins")
+        [ "$status" = "$wanted" ] || failure "$name: margins with status $status in place of $wanted"
+        cmp -s "$work/margins" "$margins" || failure "$name: other margins"
+    else
+        failure "$name: no margins beside it"
+    fi
+
     # The canonical text draws the same, and is canonical.
     "$program" format <"$drawing" >"$work/text" || failure "$name: no canonical text"
     "$program" verify <"$work/text" >"$work/report"
     cmp -s "$work/report" "$report" || failure "$name: another report of its canonical text"
     "$program" format <"$work/text" | cmp -s - "$work/text" || failure "$name: another canonical text"
 done
-for report in "$top"/examples/*.report; do
-    [ -f "${report%.report}.scald" ] || failure "$(basename -- "$report"): no drawing beside it"
+for report in "$top"/examples/*.report "$top"/examples/*.margins; do
+    [ -f "${report%.*}.scald" ] || failure "$(basename -- "$report"): no drawing beside it"
 done
 
 ended

@@ -1,8 +1,8 @@
 #!/bin/sh
-# Compares the built program with checks/model, a model of `verify` that is written from the documents, over random
-# drawings: bytes and status must be the same. 20000 drawings are to be tried by hand, in a minute or two; --short tries
-# the first 2000 of them, in about ten seconds, which .ci/run does after the gate. It ends with the answers that came,
-# and the time that it took.
+# Compares the built program with checks/model, a model that is written from the documents, over random drawings: of the
+# report and of the margins bytes and status must be the same. 20000 drawings are to be tried by hand, in some
+# minutes; --short tries the first 2000 of them, in about half a minute, which .ci/run does after the gate. It ends with
+# the answers that came, and the time that it took.
 # Usage: checks/model.sh [--short] [PROGRAM [COUNT [FIRST]]], COUNT drawings from number FIRST on; each number has
 # always the same drawing. Needs python3.
 # Where an answer is wrong the text and both answers are kept in the folder KEPT, or else in the temporary one.

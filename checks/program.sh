@@ -169,6 +169,7 @@ forms='scald: these words are none of its forms, which are
     scald verify [waves|faults] [rounds=N] <DRAWING    whether the drawing keeps its constraints, with its waves and faults
     scald format <DRAWING                              the drawing in its canonical form
     scald upgrade <DRAWING                             the drawing in version 2 of the language
+    scald margins <DRAWING                             by how much more each checker may ask for
     scald bench N                                      what is found in a made drawing of N sections, 1 to 200'
 
 # none WORD ..: no form has these words, and nothing is read for them: the next command still finds the first line
@@ -208,6 +209,11 @@ none bench ' 3'
 none bench '3 '
 none VERIFY
 none Upgrade
+# no word stands beside this
+none margins margins
+none margins waves
+none margins ''
+none Margins
 # three words at most, and two for bench
 none verify waves rounds=5 faults
 none verify waves rounds=5 rounds=5

@@ -1,6 +1,6 @@
 #!/bin/sh
 # What the built program reports on small drawings of each kind, worked out by hand: gates, storage, loops, clocks,
-# checkers, macros and cases, with the status of each.
+# checkers, macros and cases, with the status of each; and the margins of some.
 # Usage: checks/reports.sh [PROGRAM]. Where none is named and none is built it says so and ends with 0.
 . "$(dirname -- "$0")/common.sh"
 begin "${1-}"
@@ -311,5 +311,16 @@ whole 'a case of a global net, which is named inside of a macro' verify 0 \
     'MACRO M ("A") -> ("Z");' 'm : AND [0:0] ("/SEL", "A") -> ("Z");' 'END;' 'DRAWING ROW;' 'u : M ("IN .S1-8") -> ("OUT");' 'END;' 'CASE "/SEL"=0;' \
     -- 'SCALD 1 PERIOD 400' 'NETS 3 INSTANCES 1 CHECKS 0' 'STABLE /SEL<0>' 'CASE 1 BASE 1 ROUNDS 1 T 3' 'WAVE /SEL<0> SKEW 0 0:400' \
     'WAVE IN<0> SKEW 0 C:51 S:349' 'WAVE OUT<0> SKEW 0 0:400' 'CLEAN'
+
+# --- margins
+whole 'margins inside a macro of two bits' margins 0 \
+    'MACRO CHK2 {N=2} ("CK", "D"<0:N-1>);' 'c : SETUP_HOLD_CHK {SETUP=20, HOLD=10} ("CK", "D"<0:N-1>);' 'END;' 'DRAWING ROW;' 'u1 : CHK2 ("CK .P2-3", "D .S1-4"<0:1>);' 'END;' \
+    -- 'SCALD 1 PERIOD 400' 'MARGIN u1/c<0> SETUP 30 NEXT CASE 0 SETUP EDGE 100 SLOT 50 VALUE C' 'MARGIN u1/c<0> HOLD 89 NEXT CASE 0 HOLD EDGE 100 SLOT 200 VALUE C' 'MARGIN u1/c<1> SETUP 30 NEXT CASE 0 SETUP EDGE 100 SLOT 50 VALUE C' 'MARGIN u1/c<1> HOLD 89 NEXT CASE 0 HOLD EDGE 100 SLOT 200 VALUE C' 'MARGINS 4'
+whole 'margins behind late wires' margins 0 \
+    'WIRE 0:20;' 'DRAWING ROW;' 'c1 : SETUP_HOLD_CHK {SETUP=20, HOLD=10} ("CK .P2-3", "D .S1-4");' 'END;' \
+    -- 'SCALD 1 PERIOD 400' 'MARGIN c1<0> SETUP 10 NEXT CASE 0 SETUP EDGE 100 SLOT 70 VALUE C' 'MARGIN c1<0> HOLD 69 NEXT CASE 0 HOLD EDGE 120 SLOT 200 VALUE C' 'MARGINS 2'
+whole 'a margin where the clock is late as a whole' margins 0 \
+    'b1 : BUF [10:30] ("CK .P2-3") -> ("X");' 'c1 : SETUP_HOLD_CHK {SETUP=20, HOLD=10} ("X", "D .S1-4");' \
+    -- 'SCALD 1 PERIOD 400' 'MARGIN c1<0> SETUP 40 NEXT CASE 0 SETUP EDGE 110 SLOT 50 VALUE C' 'MARGIN c1<0> HOLD 59 NEXT CASE 0 HOLD EDGE 130 SLOT 200 VALUE C' 'MARGINS 2'
 
 ended

@@ -3,7 +3,7 @@
 Usage: python3 -B -m model PROGRAM COUNT [FIRST], with checks/ as PYTHONPATH. One line is printed for each drawing: its
 number and Clean, Faulty, Unsettled or `Refused KIND`; or, where bytes or status differ, FAILED and the names of the
 files that its text and both answers are kept in, in the folder KEPT or else in the temporary one. It stops where many
-have failed.
+have failed. Of each drawing the report and the margins are compared.
 """
 import multiprocessing
 import os
@@ -14,7 +14,7 @@ from random import Random
 
 from .mending import mend
 from .random_drawings import make_drawing
-from .report import Answer, Mode, verify
+from .report import Answer, Mode, margins, verify
 from .spoiling import spoil
 from .writing import write_drawing
 
@@ -63,14 +63,15 @@ def try_drawing(program, number):
     text = write_drawing(drawing)
     mode = random.choice([Mode.WHOLE] * 4 + [Mode.WAVES, Mode.FAULTS])
     rounds = random.choice([None] * 6 + [1, 2, 3, 7, 20])
-    words = words_of(mode, rounds)
-    wanted = verify(drawing, mode, rounds)
-    given = answer_of(program, words, text)
-    if (given.status, given.text) == (wanted.status, wanted.text):
-        return f"{number} {wanted.outcome}"
-    why = "other bytes" if given.status == wanted.status else f"status {given.status} in place of {wanted.status}"
-    why = given.outcome or why
-    return f"{number} FAILED `{' '.join(words)}`: {why}; {keep(number, text, wanted, given)}"
+    report = verify(drawing, mode, rounds)
+    answers = [(words_of(mode, rounds), report), (["margins"], margins(drawing))]
+    for words, wanted in answers:
+        given = answer_of(program, words, text)
+        if (given.status, given.text) != (wanted.status, wanted.text):
+            why = "other bytes" if given.status == wanted.status else f"status {given.status} in place of {wanted.status}"
+            why = given.outcome or why
+            return f"{number} FAILED `{' '.join(words)}`: {why}; {keep(number, text, wanted, given)}"
+    return f"{number} {report.outcome}"
 
 
 def try_one(job):

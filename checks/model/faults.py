@@ -1,9 +1,27 @@
-"""The faults that are read off the settled waves (docs/MEANING.md, "A fault"), as lines of the report."""
+"""The faults that are read off the settled waves (docs/MEANING.md, "A fault")."""
+from typing import NamedTuple, Union
+
 from .assertions import wide_wave
+from .circuit import Instance, Net
 from .elements import first_hazard
 from .rounds import pin_wave
 from .values import FALLS, RISES, STAYS_HIGH, STAYS_LOW, STEPS, is_quiet, permits
 from .waves import fold
+
+
+class Fault(NamedTuple):
+    """What is written of a fault."""
+
+    kind: str
+    element: Union[Instance, Net]
+    rest: str
+
+    def __str__(self):
+        return f"FAULT {self.kind} {self.element} {self.rest}"
+
+    @property
+    def without_element(self):
+        return f"{self.kind} {self.rest}"
 
 
 def first_change(data, slots):
@@ -11,24 +29,25 @@ def first_change(data, slots):
     return next((slot for slot in slots if not is_quiet(data[slot % len(data)])), None)
 
 
-def window_fault(checker, data, edge, high_end, end):
-    """The fault at one edge: the input may change in the window from SETUP slots before to its end. Up to the edge it
-    is SETUP, and then HIGH up to a second slot, and HOLD after that."""
-    slot = first_change(data, range(edge - checker.limits["SETUP"] + 1, end + 1))
+def window_fault(checker, data, edge, high_end, setup, end):
+    """The fault at one edge: the input may change in the window from the setup time before to its end. Up to the edge
+    it is SETUP, and then HIGH up to a second slot, and HOLD after that."""
+    slot = first_change(data, range(edge - setup + 1, end + 1))
     if slot is None:
         return None
     part = "SETUP" if slot <= edge else "HIGH" if slot <= high_end else "HOLD"
-    period = len(data)
-    return f"FAULT {part} {checker} EDGE {edge} SLOT {slot % period} VALUE {data[slot % period]}"
+    slot %= len(data)
+    return Fault(part, checker, f"EDGE {edge} SLOT {slot} VALUE {data[slot]}")
 
 
 def rises(clock):
     return [slot for slot, value in enumerate(clock) if permits(value, RISES)]
 
 
-def setup_hold_fault(checker, clock, data):
+def setup_hold_fault(checker, clock, data, limits):
     """SETUP_HOLD_CHK: of the first edge that has one."""
-    faults = (window_fault(checker, data, edge, edge, edge + checker.limits["HOLD"]) for edge in rises(clock))
+    setup, hold = limits["SETUP"], limits["HOLD"]
+    faults = (window_fault(checker, data, edge, edge, setup, edge + hold) for edge in rises(clock))
     return next(filter(None, faults), None)
 
 
@@ -43,30 +62,38 @@ def last_fall(clock, edge):
     return (max(falls) if falls else None), low is None
 
 
-def rise_fall_fault(checker, clock, data):
+def rise_fall_fault(checker, clock, data, limits):
     """SETUP_RISE_HOLD_FALL_CHK: of the first edge that has one. Without a fall there is no window."""
     for edge in rises(clock):
         fall, may_stay_high = last_fall(clock, edge)
         if fall is None:
             continue
-        high_end, end = fall, fall + checker.limits["HOLD"]
+        high_end, end = fall, fall + limits["HOLD"]
         if may_stay_high:
             high_end = end = edge + len(clock)
-        fault = window_fault(checker, data, edge, high_end, end)
+        fault = window_fault(checker, data, edge, high_end, limits["SETUP"], end)
         if fault is not None:
             return fault
     return None
 
 
+def edge_fault(circuit, waves, checker, limits):
+    """The fault of setup and hold of a checker, with these limits in place of its own."""
+    clock, data = (fold(pin_wave(circuit, waves, pin)) for pin in checker.pins)
+    find = setup_hold_fault if checker.kind == "SETUP_HOLD_CHK" else rise_fall_fault
+    return find(checker, clock, data, limits)
+
+
 def point_fault(circuit, waves, instance):
     """The fault of setup and hold of a checker, or the hazard of a marked element."""
+    if instance.kind in ("SETUP_HOLD_CHK", "SETUP_RISE_HOLD_FALL_CHK"):
+        return edge_fault(circuit, waves, instance, instance.limits)
     pins = [pin_wave(circuit, waves, pin) for pin in instance.pins]
-    if instance.kind == "SETUP_HOLD_CHK":
-        return setup_hold_fault(instance, *map(fold, pins))
-    if instance.kind == "SETUP_RISE_HOLD_FALL_CHK":
-        return rise_fall_fault(instance, *map(fold, pins))
     hazard = first_hazard(instance.kind, pins, instance.marked)
-    return None if hazard is None else f"FAULT HAZARD {instance} SLOT {hazard.slot} PIN {hazard.pin}"
+    if hazard is None:
+        return None
+    rest = f"SLOT {hazard.slot} PIN {hazard.pin}"
+    return Fault("HAZARD", instance, rest)
 
 
 def assertion_fault(circuit, waves, net):
@@ -76,7 +103,7 @@ def assertion_fault(circuit, waves, net):
     permitted = wide_wave(circuit.assertion(net), circuit.header)
     for slot, value in enumerate(fold(waves[net])):
         if not STEPS[value] <= STEPS[permitted[slot]]:
-            return f"FAULT ASSERT {net} SLOT {slot} VALUE {value}"
+            return Fault("ASSERT", net, f"SLOT {slot} VALUE {value}")
     return None
 
 
@@ -92,14 +119,15 @@ def shortest_pulse(wave, begin, step_out, stays, least):
     return None
 
 
-def width_fault(checker, wave, level):
-    """The first pulse of a level that may be too short."""
+def width_fault(circuit, waves, checker, level, limits):
+    """The first pulse of a level that may be too short, with these limits in place of the checker's own."""
+    wave = pin_wave(circuit, waves, checker.pins[0])
     step_in, stays, step_out = {"HIGH": (RISES, STAYS_HIGH, FALLS), "LOW": (FALLS, STAYS_LOW, RISES)}[level]
     for begin, value in enumerate(wave.slots):
         if permits(value, step_in):
-            width = shortest_pulse(wave, begin, step_out, stays, checker.limits[level])
+            width = shortest_pulse(wave, begin, step_out, stays, limits[level])
             if width is not None:
-                return f"FAULT WIDTH {checker} {level} FROM {begin} WIDTH {width}"
+                return Fault("WIDTH", checker, f"{level} FROM {begin} WIDTH {width}")
     return None
 
 
@@ -109,6 +137,5 @@ def faults(circuit, waves):
     found += [assertion_fault(circuit, waves, net) for net in circuit.in_name_order()]
     for checker in circuit.checkers:
         if checker.kind == "MIN_PULSE_CHK":
-            wave = pin_wave(circuit, waves, checker.pins[0])
-            found += [width_fault(checker, wave, level) for level in ("HIGH", "LOW")]
+            found += [width_fault(circuit, waves, checker, level, checker.limits) for level in ("HIGH", "LOW")]
     return [fault for fault in found if fault is not None]

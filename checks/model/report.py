@@ -1,4 +1,4 @@
-"""The answer of `verify` (docs/LANGUAGE.md, "The report" and "Words and statuses")."""
+"""The answers of `verify` and `margins` (docs/LANGUAGE.md, "The report" and "Words and statuses")."""
 from enum import Enum
 from itertools import groupby
 from typing import NamedTuple
@@ -6,6 +6,7 @@ from typing import NamedTuple
 from .drawing import Refused
 from .expansion import expand
 from .faults import faults
+from .margins import margin_lines
 from .names import check_before_expansion
 from .rounds import Unsettled, default_limit, printed_tick, settle_all
 from .rules import keep_rules
@@ -60,13 +61,14 @@ def report(circuit, version, settled, mode):
         found = faults(circuit, case.waves)
         count += len(found)
         if mode != Mode.WAVES:
-            lines += found
+            lines += map(str, found)
     lines.append(f"FAULTS {count}" if count else "CLEAN")
     return lines, count
 
 
-def verify(drawing, mode=Mode.WHOLE, rounds=None):
-    """The answer on a drawing whose text is written, with another limit of rounds where one is given."""
+def answer(drawing, rounds, told):
+    """The answer on a drawing whose text is written, with another limit of rounds where one is given: what is told of
+    the settled circuit, lines and a number of faults where faults are looked for; or why there is none."""
     try:
         circuit = circuit_of(drawing)
         settled = settle_all(circuit, default_limit(circuit) if rounds is None else rounds)
@@ -76,5 +78,14 @@ def verify(drawing, mode=Mode.WHOLE, rounds=None):
         return Answer(2, text, f"Refused {kind.name}")
     except Unsettled as unsettled:
         return Answer(3, f"UNSETTLED {unsettled.net} ROUND {unsettled.limit}\n", "Unsettled")
-    lines, count = report(circuit, drawing.version, settled, mode)
-    return Answer(1 if count else 0, "\n".join(lines) + "\n", "Faulty" if count else "Clean")
+    lines, count = told(circuit, settled)
+    outcome = "Done" if count is None else "Faulty" if count else "Clean"
+    return Answer(1 if count else 0, "\n".join(lines) + "\n", outcome)
+
+
+def verify(drawing, mode=Mode.WHOLE, rounds=None):
+    return answer(drawing, rounds, lambda circuit, settled: report(circuit, drawing.version, settled, mode))
+
+
+def margins(drawing):
+    return answer(drawing, None, lambda circuit, settled: (margin_lines(circuit, drawing.version, settled), None))

@@ -1,6 +1,6 @@
-//! What is tested of the whole call: words, devices that fail or fill up, and texts that are cut short,
-//! formatted, or verified by both kinds of waves. Each row has what comes in, and the outcome and the bytes
-//! that go out as they were worked out on paper.
+//! What is tested of the whole calls: words, devices that fail or fill up, and texts that are cut short,
+//! formatted, or verified by both kinds of waves; and the margins of texts. Each row has what comes in, and
+//! the outcome and the bytes that go out as they were worked out on paper.
 //!
 //! The crate has tests alone, and nothing stands on it.
 #![tactic(auto)]
@@ -18,6 +18,8 @@ mod answers;
 mod calls;
 #[cfg(test)]
 mod fault_reports;
+#[cfg(test)]
+mod margins;
 #[cfg(test)]
 mod refusals;
 #[cfg(test)]

@@ -28,7 +28,7 @@ pub fn words_of(alloc: Global, texts: &[&[u8]]) -> Result<Words, NoMemory> {
     Ok(words)
 }
 
-fn text_of(alloc: Global, pieces: &[&[u8]]) -> Result<Bytes, NoMemory> {
+pub fn text_of(alloc: Global, pieces: &[&[u8]]) -> Result<Bytes, NoMemory> {
     let mut text = Bytes::new(alloc);
     for piece in pieces {
         text.extend(piece)?;

@@ -2,7 +2,8 @@
 //! standard output. Its words are its arguments, and it ends with the status of the outcome. Where there
 //! is no answer to the drawing, a line on standard error says why; standard output has the answer alone.
 //!
-//! The work is that of `scald_tool::tool_main`, whose contract says what the answer means.
+//! The first word names a main call: `margins` is `margin_report::margin_main`, and all other words are
+//! those of `scald_tool::tool_main`. The contract of each says what its answer means.
 #![tactic(auto)]
 
 ghost use Rattle.std.specs.Prelude.{◌≡◌};
@@ -10,12 +11,14 @@ ghost use Rattle.std.specs.Process.{exit_status};
 ghost use Rattle.scald_base.specs.Outcome.{status_of};
 ghost use Rattle.scald.specs.Said.{unstarted_status};
 
+mod named;
 mod said;
 mod unstarted;
 
+use named::outcome;
 use said::{say, say_outcome};
 use scald_base::{StdSink, StdSource};
-use scald_tool::{Outcome, Words, status, tool_main, words_of};
+use scald_tool::{Outcome, Words, status, words_of};
 use std::io::Eprint;
 use std::process::ExitCode;
 use std::rt::Env;
@@ -50,6 +53,6 @@ fn main(rt: HostRuntime) -> ExitCode {
     };
     let mut source = StdSource::new(rt.reader());
     let mut sink = StdSink::new(io::writer(&rt));
-    let outcome = tool_main(rt.alloc(), &words, &mut source, &mut sink);
+    let outcome = outcome(rt.alloc(), &words, &mut source, &mut sink);
     end(&rt, &outcome)
 }

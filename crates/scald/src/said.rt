@@ -15,6 +15,7 @@ fn forms() -> &'static str
     scald verify [waves|faults] [rounds=N] <DRAWING    whether the drawing keeps its constraints, with its waves and faults
     scald format <DRAWING                              the drawing in its canonical form
     scald upgrade <DRAWING                             the drawing in version 2 of the language
+    scald margins <DRAWING                             by how much more each checker may ask for
     scald bench N                                      what is found in a made drawing of N sections, 1 to 200"
 }
 

@@ -1,0 +1,62 @@
+"""What must hold of every margin, tried in the model alone over random drawings.
+
+Usage: python3 -B -m model.laws COUNT [FIRST], with checks/ as PYTHONPATH. It says how many drawings settled, how many
+margins they have, by their ends, and which drawings break a law.
+"""
+import sys
+from collections import Counter
+from random import Random
+
+from .__main__ import drawing_of
+from .drawing import CHECKERS, Refused
+from .margins import fits, greatest_value, margin_of
+from .report import circuit_of
+from .rounds import Unsettled, default_limit, settle_all
+from .writing import write_drawing
+
+
+def laws_of_margin(circuit, cases, checker, parameter):
+    """Where a value does not fit, no greater one does."""
+    written = checker.limits[parameter]
+    values = range(written, greatest_value(circuit, checker, parameter) + 1)
+    all_fit = [fits(circuit, cases, checker, parameter, value) for value in values]
+    if all_fit != sorted(all_fit, reverse=True):
+        yield f"fitting of {parameter} of {checker}"
+
+
+def laws(circuit, settled, seen):
+    """The laws that a circuit breaks, and in `seen` what was tried."""
+    for checker in circuit.checkers:
+        for parameter in CHECKERS[checker.kind].parameters:
+            margin = margin_of(circuit, settled.cases, checker, parameter)
+            seen["margin " + next(word for word in ("FAULT", "LIMIT", "NEXT") if word in margin)] += 1
+            yield from laws_of_margin(circuit, settled.cases, checker, parameter)
+
+
+def broken_laws(number, seen):
+    drawing = drawing_of(Random(number), number)
+    write_drawing(drawing)
+    try:
+        circuit = circuit_of(drawing)
+        settled = settle_all(circuit, default_limit(circuit))
+    except (Refused, Unsettled):
+        return []
+    seen["settled"] += 1
+    return list(laws(circuit, settled, seen))
+
+
+def main():
+    count = int(sys.argv[1])
+    first = int(sys.argv[2]) if len(sys.argv) > 2 else 1
+    seen = Counter()
+    wrong = 0
+    for number in range(first, first + count):
+        for law in broken_laws(number, seen):
+            print(f"{number} BROKEN {law}")
+            wrong += 1
+    print(*(f"{name} {times}" for name, times in sorted(seen.items())), sep="\n")
+    sys.exit(1 if wrong else 0)
+
+
+if __name__ == "__main__":
+    main()

@@ -1,0 +1,59 @@
+//! The main call that the first word names.
+
+ghost use Rattle.std.specs.Prelude.{◌≡◌, IfOk, drop};
+ghost use Rattle.scald.specs.Named.{call_of};
+
+use margin_report::margin_main;
+use scald_base::{Bytes, List, NoMemory, Outcome, Sink, Source, Words};
+use scald_tool::tool_main;
+use std::alloc::Global;
+
+/// A main call.
+#[derive(Clone, Copy, PartialEq, Eq, Debug)]
+enum Call {
+    /// That of the verifier, by all words.
+    Tool,
+    /// That of the margins, by the words after the first.
+    Margins,
+}
+
+/// The main call that the first word names, or that of the verifier where it names none or there is none.
+fn call_of(words: &Words) -> Call
+    ensures { result ≡ call_of words.now }
+{
+    let [first, ..] = words.as_slice() else {
+        return Call::Tool;
+    };
+    if first.as_slice() == b"margins".as_slice() {
+        Call::Margins
+    } else {
+        Call::Tool
+    }
+}
+
+/// The words after the first.
+fn after_first(alloc: Global, words: &Words) -> Result<Words, NoMemory>
+    ensures { IfOk result (λ others. others ≡ drop 1 words.now) }
+{
+    let mut others = List::new(alloc);
+    for place in 1..words.len() {
+        others.push(Bytes::of(alloc, words.as_slice()[place].as_slice())?)?;
+    }
+    Ok(others)
+}
+
+/// The outcome of the main call that the first word names.
+pub fn outcome<S: Source, K: Sink>(
+    alloc: Global,
+    words: &Words,
+    source: &mut S,
+    sink: &mut K,
+) -> Outcome {
+    match call_of(words) {
+        Call::Tool => tool_main(alloc, words, source, sink),
+        Call::Margins => match after_first(alloc, words) {
+            Ok(others) => margin_main(alloc, &others, source, sink),
+            Err(_) => Outcome::NoMemory,
+        },
+    }
+}
