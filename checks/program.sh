@@ -172,72 +172,79 @@ forms='scald: these words are none of its forms, which are
     scald margins <DRAWING                             by how much more each checker may ask for
     scald bench N                                      what is found in a made drawing of N sections, 1 to 200'
 
-# none WORD ..: no form has these words, and nothing is read for them: the next command still finds the first line
+# none LINE WORD ..: no form has these words, the line says which is wrong, where one is, and nothing is read for them:
+# the next command still finds the first line
 none() {
+    line=$1
+    shift
     {
         "$program" "$@" >"$work/out" 2>"$work/said"
         echo $? >"$work/status"
-        IFS= read -r line
-        [ "$line" = "$(head -n 1 "$first")" ] || echo 99 >"$work/status"
+        IFS= read -r read
+        [ "$read" = "$(head -n 1 "$first")" ] || echo 99 >"$work/status"
     } <"$first"
-    says "$# words:$(printf " '%s'" "$@")" 4 "$forms" "$(cat "$work/status")"
+    says "$# words:$(printf " '%s'" "$@")" 4 "${line:+scald: $line
+}$forms" "$(cat "$work/status")"
 }
 
-none
-none check
-none verify twice
-none verify rounds=5 faults
-none verify waves waves
-none format waves
-none format format
-none upgrade waves
-none upgrade upgrade
-# no word is trimmed, dropped or joined to another
 none ''
-none verify ''
-none '' verify
-none format ''
-none upgrade ''
-none bench ''
-none bench '' 3
-none ' verify'
-none 'verify '
-none 'verify waves'
-none verify ' waves'
-none verify 'rounds=5 '
-none bench ' 3'
-none bench '3 '
-none VERIFY
-none Upgrade
+none "'check' is none of its words" check
+none "'twice' cannot come after 'verify'" verify twice
+none "'faults' cannot come after 'rounds=5'" verify rounds=5 faults
+none "'waves' cannot come after 'waves'" verify waves waves
+none "'waves' cannot come after 'format'" format waves
+none "'format' cannot come after 'format'" format format
+none "'waves' cannot come after 'upgrade'" upgrade waves
+none "'upgrade' cannot come after 'upgrade'" upgrade upgrade
+# words that are nearly one of a form
+none "'verfy' is none of its words: is verify meant?" verfy
+none "'bnech' is none of its words: is bench meant?" bnech 3
+none "'wave' cannot come after 'verify': is waves meant?" verify wave
+none "'Faults' cannot come after 'verify': is faults meant?" verify Faults rounds=5
+none "'round=5' cannot come after 'waves': is rounds=N meant?" verify waves round=5
+# no word is trimmed, dropped or joined to another
+none "'' is none of its words" ''
+none "'' cannot come after 'verify'" verify ''
+none "'' is none of its words" '' verify
+none "'' cannot come after 'format'" format ''
+none "'' cannot come after 'upgrade'" upgrade ''
+none "'' cannot come after 'bench'" bench ''
+none "'' cannot come after 'bench'" bench '' 3
+none "' verify' is none of its words: is verify meant?" ' verify'
+none "'verify ' is none of its words: is verify meant?" 'verify '
+none "'verify waves' is none of its words" 'verify waves'
+none "' waves' cannot come after 'verify': is waves meant?" verify ' waves'
+none "'rounds=5 ' cannot come after 'verify': is rounds=N meant?" verify 'rounds=5 '
+none "' 3' cannot come after 'bench'" bench ' 3'
+none "'3 ' cannot come after 'bench'" bench '3 '
+none "'VERIFY' is none of its words: is verify meant?" VERIFY
+none "'Upgrade' is none of its words: is upgrade meant?" Upgrade
 # no word stands beside this
-none margins margins
-none margins waves
-none margins ''
-none Margins
+none "'margins' cannot come after 'margins'" margins margins
+none "'waves' cannot come after 'margins'" margins waves
+none "'' cannot come after 'margins'" margins ''
+none "'Margins' is none of its words: is margins meant?" Margins
+none "'margin' is none of its words: is margins meant?" margin
+none "'chains' cannot come after 'chains'" chains chains
+none "'faults' cannot come after 'chains'" chains faults
+none "'' cannot come after 'chains'" chains ''
+none "'chain' is none of its words: is chains meant?" chain
 # three words at most, and two for bench
-none verify waves rounds=5 faults
-none verify waves rounds=5 rounds=5
-none verify waves rounds=5 ''
-none bench 3 3
+none "'faults' cannot come after 'rounds=5'" verify waves rounds=5 faults
+none "'rounds=5' cannot come after 'rounds=5': is rounds=N meant?" verify waves rounds=5 rounds=5
+none "'' cannot come after 'rounds=5'" verify waves rounds=5 ''
+none "'3' cannot come after '3'" bench 3 3
 # numbers without a sign or zeros in front, within their bounds and not cut
-none verify rounds=
-none verify rounds=0
-none verify rounds=05
-none verify rounds=+5
-none verify rounds=5x
-none verify rounds=10000001
-none verify rounds=100000009
-none verify rounds=4294967297
-none verify rounds=18446744073709551617
-none verify rounds=1000000000000000000000
-none bench
-none bench 0
-none bench 01
-none bench +3
-none bench 201
-none bench 65539
-none bench 4294967299
-none bench 18446744073709551619
+for number in '' 0 05 +5 5x; do
+    none "'rounds=$number' cannot come after 'verify': is rounds=N meant?" verify "rounds=$number"
+done
+for number in 10000001 100000009 4294967297 18446744073709551617 1000000000000000000000; do
+    none "'rounds=$number' cannot come after 'verify'" verify "rounds=$number"
+done
+none "a word is missing after 'bench'" bench
+for number in 0 01 +3 201 65539 4294967299 18446744073709551619; do
+    none "'$number' cannot come after 'bench'" bench "$number"
+done
 
 # the greatest numbers
 cp "$report" "$work/want"
@@ -269,7 +276,7 @@ says "little memory" 8 'scald: there is not enough memory' $?
 says "a word that is no text" 20 'scald: the system gives no arguments, or not as text' $?
 
 # Where there is an answer nothing is said.
-for text in "$first" "$top/examples/skew_hold.scald" "$top/examples/loop_unsettled.scald" /dev/null; do
+for text in "$first" "$top/examples/skew_hold.scald" "$top/examples/loop_unsettled.scald"; do
     "$program" verify <"$text" >/dev/null 2>"$work/said"
     trying "$text"
     [ ! -s "$work/said" ] || failure "something is said beside the answer to $text"

@@ -1,13 +1,13 @@
 #!/bin/sh
-# Every refusal of docs/LANGUAGE.md with a small text that gets it: what `verify` answers, and that `format`
-# answers the same where the refusal comes before the expansion, and else formats the text.
+# Every refusal of docs/LANGUAGE.md with a small text that gets it: what `verify` answers, that `format` and `upgrade`
+# answer the same where the refusal comes before the expansion, and else print the text, and what standard error says.
 # Usage: checks/refusals.sh [PROGRAM]. Where none is named and none is built it says so and ends with 0.
 . "$(dirname -- "$0")/common.sh"
 begin "${1-}"
 
-# answers WORD STATUS WANT: the program's answer to $work/text
+# answers WORD STATUS WANT: the program's answer to $work/text, and in $work/said what standard error says
 answers() {
-    "$program" "$1" <"$work/text" >"$work/out"
+    "$program" "$1" <"$work/text" >"$work/out" 2>"$work/said"
     status=$?
     if [ "$status" -ne "$2" ] || { [ -n "$3" ] && ! printf '%s\n' "$3" | cmp -s - "$work/out"; }; then
         failure "$1: status $status in place of $2, '$(head -n 1 "$work/out")' in place of '$3':"
@@ -15,20 +15,62 @@ answers() {
     fi
 }
 
-# refused WANT: the text on standard input is refused so by both forms of words
+# marked WANT: standard error says the place, and then has the line of the text with a mark under the place. Of what
+# stands past column 72 the mark alone is looked at.
+marked() {
+    LC_ALL=C awk -v place="${1##* }" '
+        function blanks(count) { return sprintf("%" count "s", "") }
+        FILENAME == ARGV[1] { text[FNR] = $0; next }
+        { said[FNR] = $0 }
+        END {
+            split(place, at, ":")
+            line = text[at[1]]
+            gsub(/[\t\r]/, " ", line)
+            gsub(/[^ -~]/, "?", line)
+            before = at[2] > 72 ? 39 : at[2] - 1
+            exit !(index(said[1], "scald: " place ": ") == 1 && length(said[1]) > length(place) + 20 &&
+                (at[2] > 72 || said[2] == "    " substr(line, 1, 100)) &&
+                said[3] == "    " blanks(before) "^")
+        }' "$work/text" "$work/said" || {
+        failure "$1: this is said:"
+        head -c 1000 "$work/said"
+    }
+}
+
+# refused WANT: the text on standard input is refused so by all forms of words that read
 refused() {
     cat >"$work/text"
     trying "$1"
-    answers verify 2 "REFUSED $1"
-    answers format 2 "REFUSED $1"
+    for word in upgrade format verify; do
+        answers "$word" 2 "REFUSED $1"
+        marked "$1"
+    done
 }
 
-# unexpanded WANT: the text on standard input is formatted, and refused so by `verify`
+# unexpanded WANT: the text on standard input is refused so by `verify`, and the others print it
 unexpanded() {
     cat >"$work/text"
     trying "$1"
-    answers verify 2 "REFUSED $1"
+    answers upgrade 0 ''
     answers format 0 ''
+    answers verify 2 "REFUSED $1"
+    marked "$1"
+}
+
+# helps LINE ..: what is said of the last text after the mark is these lines
+helps() {
+    trying "help: $1"
+    tail -n +4 "$work/said" >"$work/help"
+    printf '%s\n' "$@" | cmp -s - "$work/help" || {
+        failure "this is said in place of '$1':"
+        cat "$work/help"
+    }
+}
+
+# no_help: nothing is said after the mark
+no_help() {
+    trying 'no help'
+    [ "$(lines "$work/said")" -eq 3 ] || failure "this is said after the mark: $(tail -n +4 "$work/said")"
 }
 
 # text WANT LINE ..: a text of these lines, refused before the expansion
@@ -72,25 +114,38 @@ macro() {
 
 # --- bytes and tokens
 printf -- '-- caf\351\nSCALD 1;\n' | refused '1 BadByte 1:7'
+helps '    it is byte 233'
 printf 'SCALD 1;\n\001' | refused '1 BadByte 2:1'
 printf 'SCALD 1;\nCLOCK 8 x 50;\nDRAWING ROW;\nb1 : BUF [0:0] ("CK' | refused '2 BadToken 4:17'
+helps '    a name ends on its own line, with a second ", and has no tab in it'
 early '2 BadToken 4:17' 'b1 : BUF [0:0] ("C	K") -> ("X");'
 drawing_of 'b1 : BUF [0:0] ("CK' '") -> ("X");' | refused '2 BadToken 4:17'
 printf 'SCALD 1;\nCLOCK 8 x 50;\nDRAWING ROW;\nb1 : BUF [0:0] ("C\rK") -> ("X");\nEND;\n' | refused '2 BadToken 4:17'
 early '2 BadToken 4:1' "$(many 65 a) : BUF [0:0] (\"A\") -> (\"X\");"
+helps '    a word has at most 64 letters, digits and underscores'
 early '2 BadToken 4:13' 'b1 : BUF [0:9223372036854775808] ("A") -> ("X");'
+helps '    a number is at most 9223372036854775807'
 early '2 BadToken 4:12' 'b1 : BUF [0.5:1] ("A") -> ("X");'
+helps '    symbols are ; : , ( ) < > [ ] { } = + - * / & ! and ->, a name stands in double quotes, and a' \
+    '    comment begins with --'
 early '2 BadToken 4:4' 'b1 _: BUF [0:1] ("A") -> ("X");'
 
 # --- grammar
 printf '' | refused '3 Syntax 1:1'
+helps '    the end of the text cannot come first'
 text '3 Syntax 2:1' 'SCALD 1;' 'clock 8 x 50;'
+helps "    'clock' cannot come after ';'" \
+    '    is CLOCK meant?'
 text '3 Syntax 2:9' 'SCALD 1;' 'CLOCK 8 x50;'
 text '3 Syntax 1:9' 'SCALD 1;;'
+helps "    ';' cannot come after ';'"
 early '3 Syntax 4:9' 'a:B()->();'
 early '3 Syntax 4:4' 'IF : BUF [0:0] ("A") -> ("X");'
+helps "    ':' cannot come after 'IF'"
 early '3 Syntax 4:11' 'b1 : BUF [ONE:1] ("A") -> ("X");'
 early '15 TooDeep 4:75' "b1 : BUF [$(many 65 '(')0$(many 65 ')'):0] (\"A\") -> (\"X\");"
+helps '    counted are uses of macros inside one another, parentheses and minus signs that are open,' \
+    '    operators of one expression, and IFs and FORs'
 early '15 TooDeep 4:75' "b1 : BUF [$(many 33 '-(')0$(many 33 ')'):0] (\"A\") -> (\"X\");"
 early '15 TooDeep 4:139' "b1 : BUF [$(many 65 '- ')0:0] (\"A\") -> (\"X\");"
 early '15 TooDeep 4:140' "b1 : BUF [0$(many 65 '+1'):70] (\"A\") -> (\"X\");"
@@ -108,15 +163,19 @@ early '15 TooDeep 4:641' "$(many 65 'IF 1 THEN ')b1 : BUF [0:0] (\"A\") -> (\"X\
 # --- header
 text '3 Syntax 2:13' 'SCALD 2;' 'CLOCK 8 x 0;;'
 text '4 BadHeader 1:1' 'SCALD 3;' 'CLOCK 8 x 50;' 'DRAWING ROW;' 'END;'
+helps '    the version is 1 or 2'
 text '4 BadHeader 1:1' 'SCALD 0;' 'CLOCK 8 x 50;' 'DRAWING ROW;' 'END;'
 text '4 BadHeader 1:1' 'SCALD 21;' 'CLOCK 8 x 50;' 'DRAWING ROW;' 'END;'
 text '4 BadHeader 2:1' 'SCALD 2;' 'CLOCK 8 x 0;' 'DRAWING ROW;' 'END;'
 text '4 BadHeader 2:1' 'SCALD 1;' 'CLOCK 8 x 0;' 'DRAWING ROW;' 'END;'
+helps '    CLOCK u x k has u and k of at least 1, and a period of u times k ticks, from 2 to 4096'
 text '4 BadHeader 2:1' 'SCALD 1;' 'CLOCK 1 x 1;' 'DRAWING ROW;' 'END;'
 text '4 BadHeader 2:1' 'SCALD 1;' 'CLOCK 4097 x 1;' 'DRAWING ROW;' 'END;'
 text '4 BadHeader 3:1' 'SCALD 1;' 'CLOCK 8 x 50;' 'WIRE 2:1;' 'DRAWING ROW;' 'END;'
+helps '    WIRE a:b has 0 <= a <= b <= 4095'
 text '4 BadHeader 3:1' 'SCALD 1;' 'CLOCK 8 x 50;' 'WIRE 0:4096;' 'DRAWING ROW;' 'END;'
 text '4 BadHeader 3:1' 'SCALD 1;' 'CLOCK 8 x 50;' 'PSKEW 4096:0;' 'DRAWING ROW;' 'END;'
+helps '    a skew a:b has a and b of at most 4095'
 text '4 BadHeader 3:1' 'SCALD 1;' 'CLOCK 8 x 50;' 'CSKEW 0:4096;' 'DRAWING ROW;' 'END;'
 text '4 BadHeader 2:1' 'SCALD 1;' 'CLOCK 8 x 0;' 'DRAWING ROW;' 'WIRE "" 0:1;' 'END;'
 
@@ -126,19 +185,28 @@ for name in 'CK .P2-9' 'CK .P8-3' 'CK .P3-3' 'CK .P02-3' 'CK .P2-3(4096,0)' 'A .
     early '7 BadName 4:17' "b1 : BUF [0:0] (\"$name\") -> (\"X\");"
 done
 early '20 EdgesOverlap 4:17' 'b1 : BUF [0:0] ("CK .C2-3(25,25)") -> ("X");'
+helps '    make the skew (a,b) of this clock smaller or its pulses longer, or let it be a .P clock, which moves' '    as a whole'
 early '20 EdgesOverlap 4:17' 'b1 : BUF [0:0] ("CK .C2-3(400,0)") -> ("X");'
 macro refused '7 BadName 3:10' 'MACRO M ("/A") -> ("Z");' 'END;' 'DRAWING ROW;' 'END;'
 macro refused '7 BadName 3:10' 'MACRO M ("A .S") -> ("Z");' 'END;' 'DRAWING ROW;' 'END;'
 macro refused '7 BadName 3:10' 'MACRO M ("A .C2-3(25,25)") -> ("Z");' 'END;' 'DRAWING ROW;' 'END;'
 early '7 BadName 4:11' 'a:B();a:B("X .P2-9");'
+helps '    a name is as "A" or "A .S1-4": letters, digits, spaces, _, # and $, then one space and .S, .P or .C' \
+    '    of u units an interval lo-hi has lo below u and hi up to u, and they differ; no number begins with 0' \
+    '    a formal of a macro has neither an assertion nor a / before it'
 
 # --- double names
 early '5 DoubleName 5:1' 'b1 : BUF [0:0] ("A") -> ("X");' 'b1 : BUF [0:0] ("B") -> ("Y");'
+helps "    'b1' stands first at 4:1"
 early '5 DoubleName 5:21' 'b1 : BUF [0:0] ("A") -> ("X");' 'IF 0 THEN IF 1 THEN b1 : BUF [0:0] ("B") -> ("Y"); END; END;'
 macro refused '5 DoubleName 5:7' 'MACRO M ();' 'END;' 'MACRO M ();' 'END;' 'DRAWING ROW;' 'END;'
+helps "    'M' stands first at 3:7"
 macro refused '5 DoubleName 3:7' 'MACRO BUF ();' 'END;' 'DRAWING ROW;' 'END;'
+helps "    'BUF' is the name of a kind"
 macro refused '5 DoubleName 3:15' 'MACRO M {N=1, N=2} ();' 'END;' 'DRAWING ROW;' 'END;'
+helps "    'N' stands first at 3:10"
 macro refused '5 DoubleName 3:19' 'MACRO M ("A") -> ("A");' 'END;' 'DRAWING ROW;' 'END;'
+helps "    '\"A\"' stands first at 3:10"
 
 # --- version 2
 early '3 Syntax 4:5' 'FOR I = 0 TO 1 DO' 'END;'
@@ -168,16 +236,31 @@ second '3 Syntax 4:1159' 'DRAWING ROW;' "$(many 64 'FOR I = 0 TO 0 DO ')FOR : IF
 second '4 BadHeader 3:1' 'PSKEW 4096:0;' 'CONST N = 1;' 'CONST N = 2;' 'DRAWING ROW;' 'END;'
 second '7 BadName 4:34' 'DRAWING ROW;' 'FOR I = 0 TO 1 DO a : BUF [0:0] ("CK .P2-9") -> ("X"); END;' 'END;'
 second '5 DoubleName 4:7' 'CONST N = 1;' 'CONST N = 2;' 'MACRO BUF ();' 'END;' 'DRAWING ROW;' 'END;'
+helps "    'N' stands first at 3:7"
 second '5 DoubleName 5:19' 'DRAWING ROW;' 'a : BUF [0:0] ("A") -> ("X");' 'FOR I = 0 TO 1 DO a : BUF [0:0] ("B") -> ("Y"); END;' 'END;'
 second '5 DoubleName 4:47' 'DRAWING ROW;' 'FOR I = 0 TO 1 DO a : M (); FOR J = 0 TO 1 DO a : M (); END; END;' 'END;'
 
 # --- the expansion, in the order in which one statement is looked at
 macro unexpanded '16 TooMany 6:1' 'MACRO E {N=1} ();' 'IF N > 0 THEN' 'a : E {N=N-1} ();' 'b : E {N=N-1} ();' 'END;' 'END;' \
     'DRAWING ROW;' 't : E {N=20} ();' 'END;'
+helps '    there may be 65536 bits of nets, of elements and of checkers each, 1048576 pins, 262144 statements' \
+    '    that are reached, and 256 cases'
 drawing '6 UnknownKind 4:1' 'b1 : BUFF [0:0] ("A") -> ("X");'
+helps "    'BUFF' is none: is BUF meant?"
+drawing '6 UnknownKind 4:1' 'g1 : nand [0:0] ("A", "B") -> ("X");'
+helps "    'nand' is drawn as AND with a - before its output"
+drawing '6 UnknownKind 4:1' 'u1 : ADDER ("A") -> ("X");'
+helps "    'ADDER' is none. The kinds are BUF, AND, OR, XOR, MUX2, MUX4, MUX8, CHG, REG, REG_RS, LATCH, LATCH_RS," \
+    '    SETUP_HOLD_CHK, SETUP_RISE_HOLD_FALL_CHK and MIN_PULSE_CHK; a - before a connection inverts it'
+macro unexpanded '6 UnknownKind 6:1' 'MACRO ADDER ();' 'END;' 'DRAWING ROW;' 'u : ADER ();' 'END;'
+helps "    'ADER' is none: is ADDER meant?"
 drawing '14 Bounds 4:1' 'b1 : BUF ("A") -> ("X");'
+helps '    BUF takes a delay [a:b], 0 <= a <= b <= 4095, or two, [r:R, f:F], each at most 255'
 drawing '14 Bounds 4:1' 'c1 : MIN_PULSE_CHK [0:0] ("A");'
+helps '    MIN_PULSE_CHK takes no delay' \
+    '    MIN_PULSE_CHK takes HIGH and LOW, each once; neither is negative, and each is at most the period'
 macro unexpanded '14 Bounds 6:1' 'MACRO M ();' 'END;' 'DRAWING ROW;' 'u : M [0:0] ();' 'END;'
+helps '    a macro takes no delay, and WIRE "A" a:b has 0 <= a <= b <= 4095'
 macro unexpanded '14 Bounds 6:1' 'MACRO M ();' 'END;' 'DRAWING ROW;' 'u : M [0:0, 0:0] ();' 'END;'
 for kind in CHG REG LATCH; do
     drawing '14 Bounds 4:1' "r1 : $kind [1:2, 1:2] (\"CK\", \"D\") -> (\"Q\");"
@@ -190,15 +273,21 @@ for kind in SETUP_HOLD_CHK SETUP_RISE_HOLD_FALL_CHK; do
 done
 drawing '14 Bounds 4:1' 'c1 : MIN_PULSE_CHK [0:0, 0:0] ("A");'
 drawing '9 BadParameter 4:1' 'b1 : BUF [0:0] {N=1} ("A") -> ("X");'
+helps '    BUF takes no parameters'
 drawing '9 BadParameter 4:1' 'c1 : MIN_PULSE_CHK {HIGH=1, HIGH=1} ("A");'
 macro unexpanded '9 BadParameter 6:1' 'MACRO M {N=1} ();' 'END;' 'DRAWING ROW;' 'u : M {P=1} ();' 'END;'
+helps '    a macro takes the parameters in the braces of its head, each once'
 nine='A=1, B=1, C=1, D=1, E=1, F=1, G=1, H=1, I=1'
 for given in "$nine, A=2" "$nine, K=2"; do
     macro unexpanded '9 BadParameter 6:1' "MACRO M {$nine} ();" 'END;' 'DRAWING ROW;' "u : M {$given} ();" 'END;'
 done
 drawing '10 Overflow 4:1' 'b1 : BUF [0:9223372036854775807+1] ("A") -> ("X");'
+no_help
 drawing '21 ZeroDivisor 4:1' 'b1 : BUF [0:1/0] ("A") -> ("X");'
+no_help
 drawing '22 UnknownName 4:1' 'b1 : BUF [0:N] ("A") -> ("X");'
+helps '    known are the constants before it, and the parameters of the MACRO and the variables of the FORs' \
+    '    around it'
 drawing '22 UnknownName 4:1' 'IF N THEN END;'
 for delay in 3:2 0:4096 0-1:0; do
     drawing '14 Bounds 4:1' "b1 : BUF [$delay] (\"A\") -> (\"X\");"
@@ -217,28 +306,35 @@ drawing '14 Bounds 4:1' 'c1 : MIN_PULSE_CHK {LOW=401} ("K");'
 drawing '14 Bounds 4:1' 'WIRE "A" 2:1;'
 drawing '14 Bounds 4:1' 'WIRE "A" 0:4096;'
 drawing '13 PinCount 4:1' 'b1 : BUF [0:0] ("A", "B") -> ("X");'
+helps '    BUF takes 1 input connection, without !H, and 1 output connection'
 drawing '13 PinCount 4:1' 'b1 : BUF [0:0] () -> ("X");'
 drawing '13 PinCount 4:1' 'b1 : BUF [0:0] ("A");'
 drawing '13 PinCount 4:1' 'm1 : MUX4 [0:0] ("S", "A", "B", "C", "D") -> ("X");'
 drawing '13 PinCount 4:1' "a1 : AND [0:0] (\"A\"$(many 16 ', "A"')) -> (\"X\");"
 drawing '13 PinCount 4:1' 'c1 : MIN_PULSE_CHK ("A") -> ("X");'
+helps '    MIN_PULSE_CHK takes 1 input connection, without !H, and no output connection'
 drawing '13 PinCount 4:1' 'b1 : BUF [0:0] ("A" !H) -> ("X");'
 drawing '13 PinCount 4:1' 'a1 : AND [0:0] ("A" !H, "B" !H) -> ("X");'
+helps '    AND takes 1 to 16 input connections, one of which may have !H, and 1 output connection'
 drawing '13 PinCount 4:1' 'a1 : AND [0:0] ("A", "B") -> ("X" !H);'
 macro unexpanded '15 TooDeep 4:1' 'MACRO M ("A") -> ("Z");' 'x : M ("A") -> ("Z");' 'END;' 'DRAWING ROW;' 'u : M ("A") -> ("X");' 'END;'
 macro unexpanded '11 BadRange 6:1' 'MACRO M {N=1} ("A"<0:N>);' 'END;' 'DRAWING ROW;' 'u : M {N=256} ("A");' 'END;'
 drawing '11 BadRange 4:1' 'b1 : BUF [0:0] ("A"<65536>) -> ("X");'
+no_help
 drawing '11 BadRange 4:1' 'b1 : BUF [0:0] ("A"<0-1>) -> ("X");'
 drawing '11 BadRange 4:1' 'b1 : BUF [0:0] ("A"<0:256>) -> ("X");'
 drawing '11 BadRange 4:1' 'WIRE "A"<65536> 0:0;'
 macro unexpanded '11 BadRange 4:1' 'MACRO M ("A"<1:2>) -> ("Z");' 'b1 : BUF [0:0] ("A"<0>) -> ("Z");' 'END;' 'DRAWING ROW;' \
     'u : M ("A") -> ("X");' 'END;'
 drawing '8 AssertionClash 4:1' 'a1 : AND [0:0] ("A .S0-4", "A .S0-5") -> ("X");'
+helps '    give the assertion once, or spell it the same each time; a formal has that of the outer net'
 drawing '8 AssertionClash 4:1' 'a1 : AND [0:0] ("A .S0-2,4-6", "A .S4-6,0-2"<1>) -> ("X");'
 macro unexpanded '8 AssertionClash 4:1' 'MACRO M ("A") -> ("Z");' 'b1 : BUF [0:0] ("A .S") -> ("Z");' 'END;' 'DRAWING ROW;' \
     'u : M ("A") -> ("X");' 'END;'
 drawing '12 Width 4:1' 'c1 : MIN_PULSE_CHK ("A"<0:255> & "B");'
 drawing '12 Width 4:1' 'b1 : BUF [0:0] ("A"<0:2>) -> ("X"<0:3>);'
+helps "    connections are as wide as the output, or as a checker's widest one, or have one bit for all" \
+    '    a name without a range is its bit 0 alone, and a formal without one is all of its bits'
 drawing '12 Width 4:1' 'c1 : SETUP_HOLD_CHK ("CK"<0:1>, "D"<0:2>);'
 macro unexpanded '12 Width 6:1' 'MACRO M ("A") -> ("Z"<0:1>);' 'END;' 'DRAWING ROW;' 'u : M ("A") -> ("X");' 'END;'
 macro unexpanded '12 Width 6:1' 'MACRO M ("A"<0:2>);' 'END;' 'DRAWING ROW;' 'u : M ("A"<0:1>);' 'END;'
@@ -297,9 +393,11 @@ macro unexpanded '22 UnknownName 7:1' 'MACRO M {N=P} ();' 'b : BUF [0:N] ("A") -
 
 # --- the circuit
 drawing '17 TwoDrivers 5:1' 'b1 : BUF [0:0] ("A") -> ("X");' 'b2 : BUF [0:0] ("B") -> ("X");'
+helps '    join what drives a net by a MUX2, an AND or an OR'
 drawing '17 TwoDrivers 4:1' 'b1 : BUF [0:0] ("A") -> (ZERO);'
 drawing '17 TwoDrivers 6:1' 'b1 : BUF [0:0] ("Y") -> ("X");' 'a1 : AND [0:0] ("CK .P2-3", "X") -> ("Y");' 'b2 : BUF [0:0] ("B") -> ("X");'
 drawing '18 ZeroLoop 4:1' 'b1 : BUF [0:0] ("Y") -> ("X");' 'a1 : AND [0:0] ("CK .P2-3", "X") -> ("Y");'
+helps '    give an element of the loop, or the wire of a net of it, a least delay of 1'
 drawing '18 ZeroLoop 4:1' 'r1 : REG [0:0] ("CK .P2-3", "Q") -> ("Q");'
 drawing '18 ZeroLoop 4:1' 'b1 : BUF [0:5, 3:3] ("X") -> ("X");'
 drawing '18 ZeroLoop 4:1' 'b1 : BUF [3:3, 0:5] ("X") -> ("X");'
@@ -318,6 +416,8 @@ cases() {
     } | unexpanded "$want"
 }
 cases '19 CaseNet 6:6' 'CASE "X"=0;'
+helps '    it may set a net that nothing drives and that asserts .S or nothing: to 0 or 1, once, and without' \
+    '    its assertion; a net inside a macro has to come out by a formal'
 cases '19 CaseNet 6:6' 'CASE "NONE"=0;'
 cases '19 CaseNet 6:6' 'CASE "SEL"<1>=0;'
 cases '19 CaseNet 6:6' 'CASE "CK"=0;'

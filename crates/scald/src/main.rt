@@ -1,6 +1,7 @@
 //! The timing verifier as a program: it reads a drawing from standard input and writes the report to
 //! standard output. Its words are its arguments, and it ends with the status of the outcome. Where there
-//! is no answer to the drawing, a line on standard error says why; standard output has the answer alone.
+//! is no answer to the drawing, standard error says why, and what may help; standard output has the answer
+//! alone.
 //!
 //! The first word names a main call: `margins` is `margin_report::margin_main`, and all other words are
 //! those of `scald_tool::tool_main`. The contract of each says what its answer means.
@@ -17,6 +18,7 @@ mod unstarted;
 
 use named::outcome;
 use said::{say, say_outcome};
+use refusal_help::KeptSource;
 use scald_base::{StdSink, StdSource};
 use scald_tool::{Outcome, Words, status, words_of};
 use std::io::Eprint;
@@ -39,10 +41,15 @@ fn end_unstarted(rt: &impl Eprint, cause: Unstarted) -> ExitCode
 }
 
 /// Says why there is no answer, where there is none, and gives the outcome's status.
-fn end(rt: &impl Eprint, outcome: &Outcome) -> ExitCode
+fn end(
+    rt: &(impl Eprint + AllocGlobal),
+    words: &Words,
+    text: Option<&[u8]>,
+    outcome: &Outcome,
+) -> ExitCode
     ensures { exit_status result ≡ status_of outcome.now }
 {
-    say_outcome(rt, outcome);
+    say_outcome(rt, words, text, outcome);
     ExitCode::from(status(outcome))
 }
 
@@ -51,8 +58,8 @@ fn main(rt: HostRuntime) -> ExitCode {
         Ok(words) => words,
         Err(cause) => return end_unstarted(&rt, cause),
     };
-    let mut source = StdSource::new(rt.reader());
+    let mut source = KeptSource::new(rt.alloc(), StdSource::new(rt.reader()));
     let mut sink = StdSink::new(io::writer(&rt));
     let outcome = outcome(rt.alloc(), &words, &mut source, &mut sink);
-    end(&rt, &outcome)
+    end(&rt, &words, source.kept(), &outcome)
 }

@@ -1,11 +1,17 @@
-//! What the program says on standard error where it ends without an answer.
+//! What the program says on standard error where it ends without an answer to the drawing.
 
 ghost use Rattle.std.specs.Prelude.{◌≡◌};
 ghost use Rattle.std.specs.Option.{option_copied};
 ghost use Rattle.scald.specs.Said.{forms, no_memory, why_of};
 
-use scald_tool::Outcome;
+use refusal_help::{explain_refusal, explain_words};
+use scald_base::{Bytes, NoMemory, Refusal};
+use scald_tool::{Outcome, Words};
 use std::io::Eprint;
+use std::str;
+
+/// The most bytes of a text that a refusal is explained of: any text that is not too long.
+const MOST_BYTES: usize = 4_194_304;
 
 /// The forms of words that the program knows.
 fn forms() -> &'static str
@@ -49,8 +55,37 @@ pub fn say(rt: &impl Eprint, why: &str) {
     let _ = rt.eprintln(why);
 }
 
-/// Says why there is no answer, where there is none.
-pub fn say_outcome(rt: &impl Eprint, outcome: &Outcome) {
+/// Says lines that help, where there is memory for them.
+fn say_lines(rt: &impl Eprint, lines: Result<Bytes, NoMemory>) {
+    if let Ok(bytes) = lines {
+        if let Ok(lines) = str::from_utf8(bytes.as_slice()) {
+            let _ = rt.eprint(lines);
+        }
+    }
+}
+
+/// Says what is wrong with a text that is refused, where it was kept.
+fn say_refusal(rt: &(impl Eprint + AllocGlobal), text: Option<&[u8]>, refusal: Refusal) {
+    if let Some(text) = text {
+        if text.len() <= MOST_BYTES {
+            say_lines(rt, explain_refusal(rt.alloc(), text, refusal));
+        }
+    }
+}
+
+/// Says why there is no answer to the drawing, where there is none: `text` is what was read of it, where
+/// that was kept.
+pub fn say_outcome(
+    rt: &(impl Eprint + AllocGlobal),
+    words: &Words,
+    text: Option<&[u8]>,
+    outcome: &Outcome,
+) {
+    match outcome {
+        Outcome::BadWords(number) => say_lines(rt, explain_words(rt.alloc(), words, *number)),
+        Outcome::Refused(refusal) => say_refusal(rt, text, *refusal),
+        _ => {}
+    }
     if let Some(why) = why(outcome) {
         say(rt, why);
     }
