@@ -276,11 +276,17 @@ says "little memory" 8 'scald: there is not enough memory' $?
 says "a word that is no text" 20 'scald: the system gives no arguments, or not as text' $?
 
 # Where there is an answer nothing is said.
-for text in "$first" "$top/examples/skew_hold.scald" "$top/examples/loop_unsettled.scald"; do
+for text in "$first" "$top/examples/skew_hold.scald"; do
     "$program" verify <"$text" >/dev/null 2>"$work/said"
     trying "$text"
     [ ! -s "$work/said" ] || failure "something is said beside the answer to $text"
 done
+
+"$program" verify <"$top/examples/loop_unsettled.scald" >"$work/answer" 2>"$work/said"
+status=$?
+: >"$work/out"
+says "a loop that does not settle" 3 \
+    'scald: the net that is named still changes after the last round; unless rounds=N was asked for, a loop leads to it' "$status"
 
 # generated drawings: nothing is read for them, and the next command still finds the first line
 bench() {

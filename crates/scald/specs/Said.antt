@@ -20,13 +20,17 @@ forms =
 abbrev pub no_memory : List ℕ
 no_memory = codes "scald: there is not enough memory"
 
--- why an outcome is no answer, where it is none
+abbrev pub unsettled : List ℕ
+unsettled =
+    codes "scald: the net that is named still changes after the last round; unless rounds=N was asked for, a loop leads to it"
+
+-- why an outcome is no answer, where there is something to say
 abbrev pub why_of : Outcome → Option (List ℕ)
 why_of Clean = None
 why_of (Faulty n) = None
 why_of Done = None
 why_of (Refused r) = None
-why_of (Unsettled k limit) = None
+why_of (Unsettled k limit) = Some unsettled
 why_of (BadWords i) = Some forms
 why_of TooLong = Some (codes "scald: the drawing has more than 4194304 bytes")
 why_of ReadFault = Some (codes "scald: standard input could not be read")

@@ -3,8 +3,9 @@
 //! is no answer to the drawing, standard error says why, and what may help; standard output has the answer
 //! alone.
 //!
-//! The first word names a main call: `margins` is `margin_report::margin_main`, and all other words are
-//! those of `scald_tool::tool_main`. The contract of each says what its answer means.
+//! The first word names a main call: `margins` is `margin_report::margin_main`, `chains` is
+//! `fault_chain::chain_main`, and all other words are those of `scald_tool::tool_main`. The contract of each
+//! says what its answer means.
 #![tactic(auto)]
 
 ghost use Rattle.std.specs.Prelude.{◌≡◌};
@@ -17,8 +18,8 @@ mod said;
 mod unstarted;
 
 use named::outcome;
-use said::{say, say_outcome};
 use refusal_help::KeptSource;
+use said::{say, say_outcome};
 use scald_base::{StdSink, StdSource};
 use scald_tool::{Outcome, Words, status, words_of};
 use std::io::Eprint;

@@ -2,7 +2,7 @@
 
 ghost use Rattle.std.specs.Prelude.{◌≡◌};
 ghost use Rattle.std.specs.Option.{option_copied};
-ghost use Rattle.scald.specs.Said.{forms, no_memory, why_of};
+ghost use Rattle.scald.specs.Said.{forms, no_memory, unsettled, why_of};
 
 use refusal_help::{explain_refusal, explain_words};
 use scald_base::{Bytes, NoMemory, Refusal};
@@ -32,7 +32,14 @@ pub fn no_memory() -> &'static str
     "scald: there is not enough memory"
 }
 
-/// Why an outcome is no answer to the drawing, or None where it is one.
+/// What is said where the waves do not settle.
+fn unsettled() -> &'static str
+    ensures { result.now ≡ unsettled }
+{
+    "scald: the net that is named still changes after the last round; unless rounds=N was asked for, a loop leads to it"
+}
+
+/// Why an outcome is no answer to the drawing, or None where there is nothing to say.
 fn why(outcome: &Outcome) -> Option<&'static str>
     ensures { option_copied result ≡ why_of outcome.now }
 {
@@ -42,11 +49,8 @@ fn why(outcome: &Outcome) -> Option<&'static str>
         Outcome::ReadFault => Some("scald: standard input could not be read"),
         Outcome::WriteFault => Some("scald: standard output could not be written"),
         Outcome::NoMemory => Some(no_memory()),
-        Outcome::Clean
-        | Outcome::Faulty(_)
-        | Outcome::Done
-        | Outcome::Refused(_)
-        | Outcome::Unsettled { .. } => None,
+        Outcome::Unsettled { .. } => Some(unsettled()),
+        Outcome::Clean | Outcome::Faulty(_) | Outcome::Done | Outcome::Refused(_) => None,
     }
 }
 
