@@ -238,6 +238,16 @@ def margins(buses):
     return drawing(lines)
 
 
+def fault_chains(buses):
+    """A fault on each of 256 bits of so many buses, all of one cause, ten buffers away."""
+    lines = ['s0 : BUF [1:2] ("IN .S4-5") -> ("S1");']
+    lines += [f's{i} : BUF [1:2] ("S{i}") -> ("S{i + 1}");' for i in range(1, 10)]
+    for i in range(buses):
+        lines.append(f'b{i} : BUF [1:2] ("S10") -> ("B{i}"<0:255>);')
+        lines.append(f'c{i} : SETUP_HOLD_CHK {{SETUP=20, HOLD=5}} ("CK .P2-3", "B{i}"<0:255>);')
+    return drawing(lines)
+
+
 def statements(count):
     """The shortest statements, and a comment that fills the text up to the most bytes a text of all of them may have."""
     text = drawing(['WIRE "A" 0:0;'] * count)

@@ -1,6 +1,6 @@
 #!/bin/sh
-# Compares the report and the margins of each drawing of examples/ with those that stand beside it, and the status with
-# the last line.
+# Compares the report, the margins and, where one stands beside it, the chains of each drawing of examples/ with
+# those that stand beside it, and the status with the last line. A drawing whose report has faults has chains.
 # Usage: checks/examples.sh [PROGRAM]. Where none is named and none is built it says so and ends with 0.
 . "$(dirname -- "$0")/common.sh"
 begin "${1-}"
@@ -30,7 +30,7 @@ for drawing in "$top"/examples/*.scald; do
     [ "$status" = "$wanted" ] || failure "$name: status $status in place of $wanted"
     cmp -s "$work/report" "$report" || failure "$name: another report"
 
-    # The margins.
+    # The margins, and the chains where there are faults.
     margins=${drawing%.scald}.margins
     if [ -f "$margins" ]; then
         "$program" margins <"$drawing" >"$work/margins"
@@ -41,6 +41,16 @@ for drawing in "$top"/examples/*.scald; do
     else
         failure "$name: no margins beside it"
     fi
+    chains=${drawing%.scald}.chains
+    if [ -f "$chains" ]; then
+        "$program" chains <"$drawing" >"$work/chains"
+        status=$?
+        wanted=$(status_of "$chains")
+        [ "$status" = "$wanted" ] || failure "$name: chains with status $status in place of $wanted"
+        cmp -s "$work/chains" "$chains" || failure "$name: other chains"
+    elif grep -q '^FAULTS' "$report"; then
+        failure "$name: no chains beside it"
+    fi
 
     # The canonical text draws the same, and is canonical.
     "$program" format <"$drawing" >"$work/text" || failure "$name: no canonical text"
@@ -48,7 +58,7 @@ for drawing in "$top"/examples/*.scald; do
     cmp -s "$work/report" "$report" || failure "$name: another report of its canonical text"
     "$program" format <"$work/text" | cmp -s - "$work/text" || failure "$name: another canonical text"
 done
-for report in "$top"/examples/*.report "$top"/examples/*.margins; do
+for report in "$top"/examples/*.report "$top"/examples/*.margins "$top"/examples/*.chains; do
     [ -f "${report%.*}.scald" ] || failure "$(basename -- "$report"): no drawing beside it"
 done
 

@@ -1,6 +1,6 @@
 #!/bin/sh
 # Compares the built program with checks/model, a model that is written from the documents, over random drawings: of the
-# report and of the margins bytes and status must be the same. 20000 drawings are to be tried by hand, in some
+# report, the margins and the chains bytes and status must be the same. 20000 drawings are to be tried by hand, in some
 # minutes; --short tries the first 2000 of them, in about half a minute, which .ci/run does after the gate. It ends with
 # the answers that came, and the time that it took.
 # Usage: checks/model.sh [--short] [PROGRAM [COUNT [FIRST]]], COUNT drawings from number FIRST on; each number has

@@ -170,6 +170,7 @@ forms='scald: these words are none of its forms, which are
     scald format <DRAWING                              the drawing in its canonical form
     scald upgrade <DRAWING                             the drawing in version 2 of the language
     scald margins <DRAWING                             by how much more each checker may ask for
+    scald chains <DRAWING                              where each fault comes from
     scald bench N                                      what is found in a made drawing of N sections, 1 to 200'
 
 # none LINE WORD ..: no form has these words, the line says which is wrong, where one is, and nothing is read for them:
@@ -219,7 +220,7 @@ none "' 3' cannot come after 'bench'" bench ' 3'
 none "'3 ' cannot come after 'bench'" bench '3 '
 none "'VERIFY' is none of its words: is verify meant?" VERIFY
 none "'Upgrade' is none of its words: is upgrade meant?" Upgrade
-# no word stands beside this
+# no word stands beside these
 none "'margins' cannot come after 'margins'" margins margins
 none "'waves' cannot come after 'margins'" margins waves
 none "'' cannot come after 'margins'" margins ''

@@ -1,6 +1,6 @@
 #!/bin/sh
 # What the built program reports on small drawings of each kind, worked out by hand: gates, storage, loops, clocks,
-# checkers, macros and cases, with the status of each; and the margins of some.
+# checkers, macros and cases, with the status of each; and the margins and the chains of some.
 # Usage: checks/reports.sh [PROGRAM]. Where none is named and none is built it says so and ends with 0.
 . "$(dirname -- "$0")/common.sh"
 begin "${1-}"
@@ -312,7 +312,28 @@ whole 'a case of a global net, which is named inside of a macro' verify 0 \
     -- 'SCALD 1 PERIOD 400' 'NETS 3 INSTANCES 1 CHECKS 0' 'STABLE /SEL<0>' 'CASE 1 BASE 1 ROUNDS 1 T 3' 'WAVE /SEL<0> SKEW 0 0:400' \
     'WAVE IN<0> SKEW 0 C:51 S:349' 'WAVE OUT<0> SKEW 0 0:400' 'CLEAN'
 
-# --- margins
+# --- chains and margins
+whole 'a late input, latest through its wire' chains 1 \
+    'WIRE 0:20;' 'DRAWING ROW;' 'c1 : SETUP_HOLD_CHK {SETUP=31, HOLD=10} ("CK .P2-3", "D .S1-4");' 'END;' \
+    -- 'SCALD 1 PERIOD 400' 'CASE 0' 'FAULT SETUP c1<0> EDGE 100 SLOT 70 VALUE C' 'LINK D<0> SLOT 50 VALUE C' 'END UNDRIVEN' 'FAULTS 1'
+whole 'a change function, which may change long after' chains 1 \
+    'k1 : CHG [20:60] ("D .S1-4") -> ("S");' 'c1 : SETUP_HOLD_CHK {SETUP=30, HOLD=10} ("CK .P2-3", "S");' \
+    -- 'SCALD 1 PERIOD 400' 'CASE 0' 'FAULT SETUP c1<0> EDGE 100 SLOT 71 VALUE C' 'LINK S<0> SLOT 71 VALUE C' 'LINK D<0> SLOT 50 VALUE C' 'END UNDRIVEN' 'FAULTS 1'
+whole 'complements at a pin and at an output' chains 1 \
+    'b1 : BUF [5:5] (-"CK .P2-3") -> (-"X");' 'c1 : SETUP_HOLD_CHK {SETUP=1} ("CK2 .P2-3", "X");' 'c2 : SETUP_HOLD_CHK {HOLD=5} ("CK2", -"X");' \
+    -- 'SCALD 1 PERIOD 400' 'CASE 0' 'FAULT HOLD c2<0> EDGE 100 SLOT 105 VALUE F' 'LINK X<0> SLOT 105 VALUE R' 'LINK CK<0> SLOT 100 VALUE R' 'END UNDRIVEN' 'FAULTS 1'
+whole 'one net on two pins' chains 1 \
+    'x1 : XOR [0:0] ("A .S2-8", "A") -> ("X");' 'c1 : SETUP_HOLD_CHK {SETUP=20} ("CK .P2-3", "X");' \
+    -- 'SCALD 1 PERIOD 400' 'CASE 0' 'FAULT SETUP c1<0> EDGE 100 SLOT 81 VALUE C' 'LINK X<0> SLOT 81 VALUE C' 'LINK A<0> SLOT 81 VALUE C' 'END UNDRIVEN' 'FAULTS 1'
+whole 'the first pin that changes, though a later one changed last' chains 1 \
+    'a1 : AND [0:10] ("B .S1-8", "A .S2-8") -> ("X");' 'c1 : SETUP_HOLD_CHK {SETUP=46} ("CK .P2-3", "X");' \
+    -- 'SCALD 1 PERIOD 400' 'CASE 0' 'FAULT SETUP c1<0> EDGE 100 SLOT 55 VALUE C' 'LINK X<0> SLOT 55 VALUE C' 'LINK B<0> SLOT 50 VALUE C' 'END UNDRIVEN' 'FAULTS 1'
+whole 'inside 64 macros' chains 1 \
+    'MACRO D {N=1} ("A") -> ("Z");' 'IF N > 1 THEN x : D {N=N-1} ("A") -> ("Z");' 'ELSE b : BUF [1:1] ("A") -> ("Z"); c : SETUP_HOLD_CHK {SETUP=20} ("/CK .P1-2", "Z"); END;' 'END;' 'DRAWING ROW;' 't : D {N=64} ("IN .S1-8") -> ("OUT");' 'END;' \
+    -- 'SCALD 1 PERIOD 400' 'CASE 0' 'FAULT SETUP t/x/x/x/x/x/x/x/x/x/x/x/x/x/x/x/x/x/x/x/x/x/x/x/x/x/x/x/x/x/x/x/x/x/x/x/x/x/x/x/x/x/x/x/x/x/x/x/x/x/x/x/x/x/x/x/x/x/x/x/x/x/x/x/c<0> EDGE 50 SLOT 31 VALUE C' 'LINK OUT<0> SLOT 31 VALUE C' 'LINK IN<0> SLOT 30 VALUE C' 'END UNDRIVEN' 'FAULTS 1'
+whole 'a latch, through its enable' chains 1 \
+    'l1 : LATCH [1:3] ("EN .P0-2", "D .S1-8") -> ("Q .S0-2");' \
+    -- 'SCALD 1 PERIOD 400' 'CASE 0' 'FAULT ASSERT Q<0> SLOT 1 VALUE C' 'LINK Q<0> SLOT 1 VALUE C' 'LINK EN<0> SLOT 0 VALUE R' 'END UNDRIVEN' 'FAULTS 1'
 whole 'margins inside a macro of two bits' margins 0 \
     'MACRO CHK2 {N=2} ("CK", "D"<0:N-1>);' 'c : SETUP_HOLD_CHK {SETUP=20, HOLD=10} ("CK", "D"<0:N-1>);' 'END;' 'DRAWING ROW;' 'u1 : CHK2 ("CK .P2-3", "D .S1-4"<0:1>);' 'END;' \
     -- 'SCALD 1 PERIOD 400' 'MARGIN u1/c<0> SETUP 30 NEXT CASE 0 SETUP EDGE 100 SLOT 50 VALUE C' 'MARGIN u1/c<0> HOLD 89 NEXT CASE 0 HOLD EDGE 100 SLOT 200 VALUE C' 'MARGIN u1/c<1> SETUP 30 NEXT CASE 0 SETUP EDGE 100 SLOT 50 VALUE C' 'MARGIN u1/c<1> HOLD 89 NEXT CASE 0 HOLD EDGE 100 SLOT 200 VALUE C' 'MARGINS 4'

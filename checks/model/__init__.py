@@ -1,4 +1,4 @@
-"""A model of `scald verify` and `margins`: a second account of what a drawing means.
+"""A model of `scald verify`, `margins` and `chains`: a second account of what a drawing means.
 
 It is written from docs/LANGUAGE.md and docs/MEANING.md, in other words than the definitions in crates/*/specs and
 with none of the program's methods: it goes slot by slot and tick by tick, evaluates every net in every round, and
@@ -13,10 +13,11 @@ In the order in which a drawing flows through them:
     names       refusals before the expansion  rounds    rounds, cases and cones, the printed tick
     expansion   its circuit, or a refusal      faults    what checkers, marks and assertions find in waves
     circuit     nets, pins and instances       margins   how much more checkers may ask for
-    rules       a circuit's own rules, cases   report    the answers: their lines and statuses
+    rules       a circuit's own rules, cases   chains    where faults come from
+                                               report    the answers: their lines and statuses
 
 It is tried on random_drawings, with patterns that chance would seldom draw; mending and spoiling make most of them good,
-and some bad in a chosen way. __main__ tries them; laws tries what must hold of every margin in the model alone.
+and some bad in a chosen way. __main__ tries them; laws tries what must hold of every margin and chain in the model alone.
 
 The model begins with the tree and has no reader: texts that the grammar refuses, and limits on how much there may be
 (TooMany and most of TooDeep), are not in it.

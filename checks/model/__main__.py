@@ -3,7 +3,7 @@
 Usage: python3 -B -m model PROGRAM COUNT [FIRST], with checks/ as PYTHONPATH. One line is printed for each drawing: its
 number and Clean, Faulty, Unsettled or `Refused KIND`; or, where bytes or status differ, FAILED and the names of the
 files that its text and both answers are kept in, in the folder KEPT or else in the temporary one. It stops where many
-have failed. Of each drawing the report and the margins are compared.
+have failed. Of each drawing the report, the margins and the chains are compared.
 """
 import multiprocessing
 import os
@@ -14,7 +14,7 @@ from random import Random
 
 from .mending import mend
 from .random_drawings import make_drawing
-from .report import Answer, Mode, margins, verify
+from .report import Answer, Mode, chains, margins, verify
 from .spoiling import spoil
 from .writing import write_drawing
 
@@ -64,7 +64,7 @@ def try_drawing(program, number):
     mode = random.choice([Mode.WHOLE] * 4 + [Mode.WAVES, Mode.FAULTS])
     rounds = random.choice([None] * 6 + [1, 2, 3, 7, 20])
     report = verify(drawing, mode, rounds)
-    answers = [(words_of(mode, rounds), report), (["margins"], margins(drawing))]
+    answers = [(words_of(mode, rounds), report), (["margins"], margins(drawing)), (["chains"], chains(drawing))]
     for words, wanted in answers:
         given = answer_of(program, words, text)
         if (given.status, given.text) != (wanted.status, wanted.text):

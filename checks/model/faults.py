@@ -1,8 +1,8 @@
 """The faults that are read off the settled waves (docs/MEANING.md, "A fault")."""
-from typing import NamedTuple, Union
+from typing import NamedTuple, Optional, Union
 
 from .assertions import wide_wave
-from .circuit import Instance, Net
+from .circuit import Bit, Instance, Net
 from .elements import first_hazard
 from .rounds import pin_wave
 from .values import FALLS, RISES, STAYS_HIGH, STAYS_LOW, STEPS, is_quiet, permits
@@ -10,11 +10,14 @@ from .waves import fold
 
 
 class Fault(NamedTuple):
-    """What is written of a fault."""
+    """A fault: what is written of it, the slot at which it was found, and the pin that shows it there, where it is not
+    that of a net."""
 
     kind: str
     element: Union[Instance, Net]
     rest: str
+    slot: int
+    pin: Optional[Bit]
 
     def __str__(self):
         return f"FAULT {self.kind} {self.element} {self.rest}"
@@ -37,7 +40,7 @@ def window_fault(checker, data, edge, high_end, setup, end):
         return None
     part = "SETUP" if slot <= edge else "HIGH" if slot <= high_end else "HOLD"
     slot %= len(data)
-    return Fault(part, checker, f"EDGE {edge} SLOT {slot} VALUE {data[slot]}")
+    return Fault(part, checker, f"EDGE {edge} SLOT {slot} VALUE {data[slot]}", slot, checker.pins[1])
 
 
 def rises(clock):
@@ -93,7 +96,7 @@ def point_fault(circuit, waves, instance):
     if hazard is None:
         return None
     rest = f"SLOT {hazard.slot} PIN {hazard.pin}"
-    return Fault("HAZARD", instance, rest)
+    return Fault("HAZARD", instance, rest, hazard.slot, instance.pins[hazard.pin])
 
 
 def assertion_fault(circuit, waves, net):
@@ -103,7 +106,7 @@ def assertion_fault(circuit, waves, net):
     permitted = wide_wave(circuit.assertion(net), circuit.header)
     for slot, value in enumerate(fold(waves[net])):
         if not STEPS[value] <= STEPS[permitted[slot]]:
-            return Fault("ASSERT", net, f"SLOT {slot} VALUE {value}")
+            return Fault("ASSERT", net, f"SLOT {slot} VALUE {value}", slot, None)
     return None
 
 
@@ -127,7 +130,7 @@ def width_fault(circuit, waves, checker, level, limits):
         if permits(value, step_in):
             width = shortest_pulse(wave, begin, step_out, stays, limits[level])
             if width is not None:
-                return Fault("WIDTH", checker, f"{level} FROM {begin} WIDTH {width}")
+                return Fault("WIDTH", checker, f"{level} FROM {begin} WIDTH {width}", begin, checker.pins[0])
     return None
 
 

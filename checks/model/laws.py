@@ -1,17 +1,20 @@
-"""What must hold of every margin, tried in the model alone over random drawings.
+"""What must hold of every margin and of every chain, tried in the model alone over random drawings.
 
 Usage: python3 -B -m model.laws COUNT [FIRST], with checks/ as PYTHONPATH. It says how many drawings settled, how many
-margins they have, by their ends, and which drawings break a law.
+margins and chains they have, by their ends, and which drawings break a law.
 """
 import sys
 from collections import Counter
 from random import Random
 
 from .__main__ import drawing_of
+from .chains import chain
 from .drawing import CHECKERS, Refused
+from .faults import faults
 from .margins import fits, greatest_value, margin_of
 from .report import circuit_of
 from .rounds import Unsettled, default_limit, settle_all
+from .values import is_quiet
 from .writing import write_drawing
 
 
@@ -24,6 +27,19 @@ def laws_of_margin(circuit, cases, checker, parameter):
         yield f"fitting of {parameter} of {checker}"
 
 
+def laws_of_chain(circuit, fault, links, end):
+    """Every link but that of LEVEL may change, only storage with set and reset has both, only an assertion fault has a
+    level, and there is at most one link more than there are nets."""
+    if any(is_quiet(link.value) for link in links) != (end == "LEVEL"):
+        yield f"a quiet link of {fault}"
+    if end == "LEVEL" and fault.kind != "ASSERT":
+        yield f"a level of {fault}"
+    if end == "BOTH" and circuit.drivers[links[-1].net].kind not in ("REG_RS", "LATCH_RS"):
+        yield f"both of {fault}"
+    if len(links) > len(circuit.nets) + 1:
+        yield f"too many links of {fault}"
+
+
 def laws(circuit, settled, seen):
     """The laws that a circuit breaks, and in `seen` what was tried."""
     for checker in circuit.checkers:
@@ -31,6 +47,12 @@ def laws(circuit, settled, seen):
             margin = margin_of(circuit, settled.cases, checker, parameter)
             seen["margin " + next(word for word in ("FAULT", "LIMIT", "NEXT") if word in margin)] += 1
             yield from laws_of_margin(circuit, settled.cases, checker, parameter)
+    for case in settled.cases:
+        for fault in faults(circuit, case.waves):
+            links, end = chain(circuit, case.waves, fault)
+            seen["chain " + end] += 1
+            seen["link"] += len(links)
+            yield from laws_of_chain(circuit, fault, links, end)
 
 
 def broken_laws(number, seen):

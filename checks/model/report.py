@@ -1,8 +1,9 @@
-"""The answers of `verify` and `margins` (docs/LANGUAGE.md, "The report" and "Words and statuses")."""
+"""The answers of `verify`, `margins` and `chains` (docs/LANGUAGE.md, "The report" and "Words and statuses")."""
 from enum import Enum
 from itertools import groupby
 from typing import NamedTuple
 
+from .chains import chain_lines
 from .drawing import Refused
 from .expansion import expand
 from .faults import faults
@@ -89,3 +90,7 @@ def verify(drawing, mode=Mode.WHOLE, rounds=None):
 
 def margins(drawing):
     return answer(drawing, None, lambda circuit, settled: (margin_lines(circuit, drawing.version, settled), None))
+
+
+def chains(drawing):
+    return answer(drawing, None, lambda circuit, settled: chain_lines(circuit, drawing.version, settled))

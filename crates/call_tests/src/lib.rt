@@ -1,6 +1,6 @@
 //! What is tested of the whole calls: words, devices that fail or fill up, and texts that are cut short,
-//! formatted, or verified by both kinds of waves; and the margins of texts. Each row has what comes in, and
-//! the outcome and the bytes that go out as they were worked out on paper.
+//! formatted, or verified by both kinds of waves; and the margins and the chains of texts. Each row has
+//! what comes in, and the outcome and the bytes that go out as they were worked out on paper.
 //!
 //! The crate has tests alone, and nothing stands on it.
 #![tactic(auto)]
@@ -16,6 +16,8 @@ mod texts;
 mod answers;
 #[cfg(test)]
 mod calls;
+#[cfg(test)]
+mod chains;
 #[cfg(test)]
 mod fault_reports;
 #[cfg(test)]

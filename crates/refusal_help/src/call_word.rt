@@ -16,6 +16,8 @@ pub enum CallWord {
     Verify,
     Format,
     Upgrade,
+    Margins,
+    Chains,
     Bench,
     Waves,
     Faults,
@@ -23,10 +25,12 @@ pub enum CallWord {
 }
 
 /// The words that a form begins with.
-const COMMANDS: [CallWord; 4] = [
+const COMMANDS: [CallWord; 6] = [
     CallWord::Verify,
     CallWord::Format,
     CallWord::Upgrade,
+    CallWord::Margins,
+    CallWord::Chains,
     CallWord::Bench,
 ];
 
@@ -42,6 +46,8 @@ impl CallWord {
             CallWord::Verify => b"verify",
             CallWord::Format => b"format",
             CallWord::Upgrade => b"upgrade",
+            CallWord::Margins => b"margins",
+            CallWord::Chains => b"chains",
             CallWord::Bench => b"bench",
             CallWord::Waves => b"waves",
             CallWord::Faults => b"faults",

@@ -15,7 +15,8 @@ forms =
     (codes "    scald format <DRAWING                              the drawing in its canonical form\n" ++
     (codes "    scald upgrade <DRAWING                             the drawing in version 2 of the language\n" ++
     (codes "    scald margins <DRAWING                             by how much more each checker may ask for\n" ++
-    codes "    scald bench N                                      what is found in a made drawing of N sections, 1 to 200"))))
+    (codes "    scald chains <DRAWING                              where each fault comes from\n" ++
+    codes "    scald bench N                                      what is found in a made drawing of N sections, 1 to 200")))))
 
 abbrev pub no_memory : List ℕ
 no_memory = codes "scald: there is not enough memory"

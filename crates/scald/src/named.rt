@@ -1,8 +1,9 @@
 //! The main call that the first word names.
 
 ghost use Rattle.std.specs.Prelude.{◌≡◌, IfOk, drop};
-ghost use Rattle.scald.specs.Named.{call_of};
+ghost use Rattle.scald.specs.Named.{call_of, second_wrong};
 
+use fault_chain::chain_main;
 use margin_report::margin_main;
 use scald_base::{Bytes, List, NoMemory, Outcome, Sink, Source, Words};
 use scald_tool::tool_main;
@@ -15,6 +16,8 @@ enum Call {
     Tool,
     /// That of the margins, by the words after the first.
     Margins,
+    /// That of the chains, by the words after the first.
+    Chains,
 }
 
 /// The main call that the first word names, or that of the verifier where it names none or there is none.
@@ -26,6 +29,8 @@ fn call_of(words: &Words) -> Call
     };
     if first.as_slice() == b"margins".as_slice() {
         Call::Margins
+    } else if first.as_slice() == b"chains".as_slice() {
+        Call::Chains
     } else {
         Call::Tool
     }
@@ -42,7 +47,18 @@ fn after_first(alloc: Global, words: &Words) -> Result<Words, NoMemory>
     Ok(others)
 }
 
-/// The outcome of the main call that the first word names.
+/// The outcome of a call without words, by the number of the wrong word among all words: where there is one,
+/// it is the second.
+fn second_wrong(outcome: Outcome) -> Outcome
+    ensures { result ≡ second_wrong outcome }
+{
+    match outcome {
+        Outcome::BadWords(_) => Outcome::BadWords(1),
+        other => other,
+    }
+}
+
+/// The outcome of the main call that the first word names, by the number of the wrong word among all words.
 pub fn outcome<S: Source, K: Sink>(
     alloc: Global,
     words: &Words,
@@ -52,7 +68,11 @@ pub fn outcome<S: Source, K: Sink>(
     match call_of(words) {
         Call::Tool => tool_main(alloc, words, source, sink),
         Call::Margins => match after_first(alloc, words) {
-            Ok(others) => margin_main(alloc, &others, source, sink),
+            Ok(others) => second_wrong(margin_main(alloc, &others, source, sink)),
+            Err(_) => Outcome::NoMemory,
+        },
+        Call::Chains => match after_first(alloc, words) {
+            Ok(others) => second_wrong(chain_main(alloc, &others, source, sink)),
             Err(_) => Outcome::NoMemory,
         },
     }

@@ -22,6 +22,7 @@ fn forms() -> &'static str
     scald format <DRAWING                              the drawing in its canonical form
     scald upgrade <DRAWING                             the drawing in version 2 of the language
     scald margins <DRAWING                             by how much more each checker may ask for
+    scald chains <DRAWING                              where each fault comes from
     scald bench N                                      what is found in a made drawing of N sections, 1 to 200"
 }
 
