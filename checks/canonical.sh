@@ -8,7 +8,7 @@ begin "${1-}"
 # formats NAME TEXT: the text's canonical text is the one in $work/want
 formats() {
     trying "$1"
-    printf '%s' "$2" | "$program" format >"$work/out"
+    printf '%s' "$2" | "$program" format >"$work/out" 2>/dev/null
     status=$?
     if [ "$status" -ne 0 ] || ! cmp -s "$work/out" "$work/want"; then
         failure "$1: status $status, and this canonical text:"

@@ -162,7 +162,7 @@ bytes=$(wc -c <"$alu")
 wrong=0
 trying "cuts of alu.scald"
 for length in $(seq 0 $((bytes - 2))); do
-    head -c "$length" "$alu" | "$program" verify >"$work/out"
+    head -c "$length" "$alu" | "$program" verify >"$work/out" 2>/dev/null
     [ $? -eq 2 ] && grep -q '^REFUSED [23] ' "$work/out" && [ "$(wc -l <"$work/out")" -eq 1 ] || wrong=$((wrong + 1))
 done
 [ "$wrong" -eq 0 ] || failure "$wrong cuts of alu.scald"

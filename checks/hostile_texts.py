@@ -95,7 +95,9 @@ class Tried:
             given.write(text)
         limit = lambda: resource.setrlimit(resource.RLIMIT_CPU, (20, 20))
         with open(self.given, "rb") as given, open(self.answer, "wb") as answer:
-            child = subprocess.Popen([self.program, *words], stdin=given, stdout=answer, preexec_fn=limit)
+            child = subprocess.Popen(
+                [self.program, *words], stdin=given, stdout=answer, stderr=subprocess.DEVNULL, preexec_fn=limit
+            )
             _, status, used = os.wait4(child.pid, 0)
             child.returncode = status
         if used.ru_utime > self.longest[0]:

@@ -29,11 +29,11 @@ expect "a pipe" 0 $?
 expect "a closed input" 6 $?
 
 echo "REFUSED 1 BadByte 1:1" >"$work/want"
-head -c 4194304 /dev/zero | "$program" verify >"$work/out"
+head -c 4194304 /dev/zero | "$program" verify >"$work/out" 2>/dev/null
 expect "the most bytes" 2 $?
 
 echo "REFUSED 3 Syntax 1:1" >"$work/want"
-"$program" verify </dev/null >"$work/out"
+"$program" verify </dev/null >"$work/out" 2>/dev/null
 expect "no bytes" 2 $?
 
 cat >"$work/want" <<'END'
@@ -59,7 +59,7 @@ expect "its waves" 0 "$status"
 cut=0
 grep -v '^--' "$top/examples/alu.scald" >"$work/text"
 for length in $(seq 0 $(($(wc -c <"$work/text") - 2))); do
-    head -c "$length" "$work/text" | "$program" verify >"$work/out"
+    head -c "$length" "$work/text" | "$program" verify >"$work/out" 2>/dev/null
     [ $? -eq 2 ] && grep -q '^REFUSED [23] ' "$work/out" || cut=$((cut + 1))
 done
 : >"$work/want"
@@ -70,10 +70,10 @@ loop() {
     drawing_of 'b : BUF [0:0] ("X"<0:39>) -> ("X"<1:40>);' 'a : AND [1:1] ("CK .P2-3", "X"<40>) -> ("X"<0>);'
 }
 echo "UNSETTLED X<17> ROUND 1657" >"$work/want"
-loop | "$program" verify >"$work/out"
+loop | "$program" verify >"$work/out" 2>/dev/null
 expect "a loop past its limit" 3 $?
 echo "UNSETTLED X<40> ROUND 2131" >"$work/want"
-loop | "$program" verify rounds=2131 >"$work/out"
+loop | "$program" verify rounds=2131 >"$work/out" 2>/dev/null
 expect "a loop one round short" 3 $?
 printf 'SCALD 1 PERIOD 400\nNETS 42 INSTANCES 41 CHECKS 0\nCASE 0 BASE 2132 ROUNDS 0 T 4266\nCLEAN\n' >"$work/want"
 loop | "$program" verify faults rounds=2132 >"$work/out"
@@ -90,12 +90,12 @@ printf 'SCALD 1 PERIOD 400\nNETS 2 INSTANCES 1 CHECKS 0\nSTABLE IN<0>\nCASE 0 BA
 nested 64 | "$program" verify faults >"$work/out"
 expect "64 uses inside one another" 0 $?
 echo "REFUSED 15 TooDeep 4:15" >"$work/want"
-nested 65 | "$program" verify >"$work/out"
+nested 65 | "$program" verify >"$work/out" 2>/dev/null
 expect "65 uses inside one another" 2 $?
 
 echo "REFUSED 16 TooMany 6:1" >"$work/want"
 clocked 'MACRO E {N=1} ();' 'IF N > 0 THEN' 'a : E {N=N-1} ();' 'b : E {N=N-1} ();' 'END;' 'END;' \
-    'DRAWING ROW;' 't : E {N=20} ();' 'END;' | "$program" verify >"$work/out"
+    'DRAWING ROW;' 't : E {N=20} ();' 'END;' | "$program" verify >"$work/out" 2>/dev/null
 expect "too many statements" 2 $?
 
 {
@@ -109,9 +109,9 @@ cp "$work/want" "$work/again"
 expect "a canonical text" 0 $?
 
 echo "REFUSED 3 Syntax 1:4194305" >"$work/want"
-head -c 4194304 /dev/zero | tr '\0' ' ' | "$program" format >"$work/out"
+head -c 4194304 /dev/zero | tr '\0' ' ' | "$program" format >"$work/out" 2>/dev/null
 expect "spaces alone" 2 $?
-head -c 4194304 /dev/zero | tr '\0' ' ' | "$program" verify >"$work/out"
+head -c 4194304 /dev/zero | tr '\0' ' ' | "$program" verify >"$work/out" 2>/dev/null
 expect "spaces alone, to be verified" 2 $?
 
 # cases count from 1 to the most

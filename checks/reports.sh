@@ -33,7 +33,7 @@ answered() {
     shift
     printf '%s\n' "$@" >"$work/want"
     # shellcheck disable=SC2086
-    text | "$program" $words >"$work/out"
+    text | "$program" $words >"$work/out" 2>/dev/null
     status=$?
     trying "$name"
     [ "$status" -eq "$wanted" ] || failure "$name: status $status in place of $wanted"

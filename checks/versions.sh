@@ -20,7 +20,7 @@ text() {
 
 # answered NAME VERSION: the answer of `verify` has the lines of $work/want, in this order
 answered() {
-    text "$2" | "$program" verify >"$work/out"
+    text "$2" | "$program" verify >"$work/out" 2>/dev/null
     trying "$1, version $2"
     awk 'BEGIN { at = 0 } NR == FNR { want[count++] = $0; next } at < count && $0 == want[at] { at++ } END { exit (at < count) }' \
         "$work/want" "$work/out" || failure "$1, version $2: a line is missing"
