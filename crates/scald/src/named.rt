@@ -58,22 +58,49 @@ fn second_wrong(outcome: Outcome) -> Outcome
     }
 }
 
+/// The outcome of the verifier, by all words.
+fn tool<S: Source, K: Sink>(alloc: Global, words: &Words, source: &mut S, sink: &mut K) -> Outcome {
+    tool_main(alloc, words, source, sink)
+}
+
+/// The outcome of the margins, by the words after the first.
+fn margins<S: Source, K: Sink>(
+    alloc: Global,
+    others: &Words,
+    source: &mut S,
+    sink: &mut K,
+) -> Outcome {
+    margin_main(alloc, others, source, sink)
+}
+
+/// The outcome of the chains, by the words after the first.
+fn chains<S: Source, K: Sink>(
+    alloc: Global,
+    others: &Words,
+    source: &mut S,
+    sink: &mut K,
+) -> Outcome {
+    chain_main(alloc, others, source, sink)
+}
+
 /// The outcome of the main call that the first word names, by the number of the wrong word among all words.
+/// `NoMemory` comes where memory for the words after the first runs out, too.
 pub fn outcome<S: Source, K: Sink>(
     alloc: Global,
     words: &Words,
     source: &mut S,
     sink: &mut K,
 ) -> Outcome {
-    match call_of(words) {
-        Call::Tool => tool_main(alloc, words, source, sink),
-        Call::Margins => match after_first(alloc, words) {
-            Ok(others) => second_wrong(margin_main(alloc, &others, source, sink)),
-            Err(_) => Outcome::NoMemory,
-        },
-        Call::Chains => match after_first(alloc, words) {
-            Ok(others) => second_wrong(chain_main(alloc, &others, source, sink)),
-            Err(_) => Outcome::NoMemory,
-        },
+    let call = call_of(words);
+    if call == Call::Tool {
+        return tool(alloc, words, source, sink);
+    }
+    let Ok(others) = after_first(alloc, words) else {
+        return Outcome::NoMemory;
+    };
+    if call == Call::Margins {
+        second_wrong(margins(alloc, &others, source, sink))
+    } else {
+        second_wrong(chains(alloc, &others, source, sink))
     }
 }
