@@ -1,11 +1,11 @@
 //! The main call that the first word names.
 
-ghost use Rattle.std.specs.Prelude.{◌≡◌, IfOk, drop};
-ghost use Rattle.scald.specs.Named.{call_of, second_wrong};
+ghost use Rattle.std.specs.Prelude.{◌≡◌};
+ghost use Rattle.scald.specs.Named.{call_of};
 
 use fault_chain::chain_main;
 use margin_report::margin_main;
-use scald_base::{Bytes, List, NoMemory, Outcome, Sink, Source, Words};
+use scald_base::{List, Outcome, Sink, Source, Words};
 use scald_tool::tool_main;
 use std::alloc::Global;
 
@@ -14,9 +14,9 @@ use std::alloc::Global;
 enum Call {
     /// That of the verifier, by all words.
     Tool,
-    /// That of the margins, by the words after the first.
+    /// That of the margins.
     Margins,
-    /// That of the chains, by the words after the first.
+    /// That of the chains.
     Chains,
 }
 
@@ -36,55 +36,23 @@ fn call_of(words: &Words) -> Call
     }
 }
 
-/// The words after the first.
-fn after_first(alloc: Global, words: &Words) -> Result<Words, NoMemory>
-    ensures { IfOk result (λ others. others ≡ drop 1 words.now) }
-{
-    let mut others = List::new(alloc);
-    for place in 1..words.len() {
-        others.push(Bytes::of(alloc, words.as_slice()[place].as_slice())?)?;
-    }
-    Ok(others)
-}
-
-/// The outcome of a call without words, by the number of the wrong word among all words: where there is one,
-/// it is the second.
-fn second_wrong(outcome: Outcome) -> Outcome
-    ensures { result ≡ second_wrong outcome }
-{
-    match outcome {
-        Outcome::BadWords(_) => Outcome::BadWords(1),
-        other => other,
-    }
-}
-
 /// The outcome of the verifier, by all words.
 fn tool<S: Source, K: Sink>(alloc: Global, words: &Words, source: &mut S, sink: &mut K) -> Outcome {
     tool_main(alloc, words, source, sink)
 }
 
-/// The outcome of the margins, by the words after the first.
-fn margins<S: Source, K: Sink>(
-    alloc: Global,
-    others: &Words,
-    source: &mut S,
-    sink: &mut K,
-) -> Outcome {
-    margin_main(alloc, others, source, sink)
+/// The outcome of the margins, which have no words.
+fn margins<S: Source, K: Sink>(alloc: Global, source: &mut S, sink: &mut K) -> Outcome {
+    margin_main(alloc, &List::new(alloc), source, sink)
 }
 
-/// The outcome of the chains, by the words after the first.
-fn chains<S: Source, K: Sink>(
-    alloc: Global,
-    others: &Words,
-    source: &mut S,
-    sink: &mut K,
-) -> Outcome {
-    chain_main(alloc, others, source, sink)
+/// The outcome of the chains, which have no words.
+fn chains<S: Source, K: Sink>(alloc: Global, source: &mut S, sink: &mut K) -> Outcome {
+    chain_main(alloc, &List::new(alloc), source, sink)
 }
 
-/// The outcome of the main call that the first word names, by the number of the wrong word among all words.
-/// `NoMemory` comes where memory for the words after the first runs out, too.
+/// The outcome of the main call that the first word names. No word may follow that of a call without words, so
+/// where one does, the second is wrong.
 pub fn outcome<S: Source, K: Sink>(
     alloc: Global,
     words: &Words,
@@ -95,12 +63,12 @@ pub fn outcome<S: Source, K: Sink>(
     if call == Call::Tool {
         return tool(alloc, words, source, sink);
     }
-    let Ok(others) = after_first(alloc, words) else {
-        return Outcome::NoMemory;
-    };
+    if words.len() > 1 {
+        return Outcome::BadWords(1);
+    }
     if call == Call::Margins {
-        second_wrong(margins(alloc, &others, source, sink))
+        margins(alloc, source, sink)
     } else {
-        second_wrong(chains(alloc, &others, source, sink))
+        chains(alloc, source, sink)
     }
 }
