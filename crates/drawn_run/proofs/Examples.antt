@@ -1,18 +1,16 @@
 -- What words draw, worked out on paper. The words count up from the first, so that each tells which it is.
-use Rattle.std.proofs.Common.{◌≡◌, ℕ, ◌+◌, Bool, true, false, List, [], ◌∷◌, Some, None, refl}
+use Rattle.std.proofs.Common.{◌≡◌, ℕ, ◌+◌, true, false, List, [], ◌∷◌, Some, None, refl}
 use Rattle.rand_core.specs.Stream.{Stream, next_u64}
 use Rattle.rand_core.specs.Steps.{steps_u64_low, stream_of}
 use Rattle.scald_base.specs.declared.assertion.AssertSpec.TheVariants.{Clock, Precision, Stable}
 use Rattle.element_kinds.specs.declared.kind.Kind.TheVariants.{Buf, Chg, MinPulse}
-use Rattle.flat_circuit.specs.declared.instance.Instance.{Instance}
 use Rattle.flat_circuit.specs.declared.net.Net.{Net}
 use Rattle.flat_circuit.specs.Circuit.{Circuit}
 use Rattle.flat_circuit.proofs.RunTables.{bounds, checker, constant, driven_by, element, header, on, split_element, two, wired}
 use Rattle.scald_base.specs.declared.assertion.AssertSpec.{AssertSpec}
 use Rattle.scald_base.specs.declared.assertion.ClockSpec.{ClockSpec}
-use Rattle.scald_base.specs.declared.assertion.Span.{Span}
 use Rattle.drawn_run.specs.Draw.{draw_bit, draw_bits, draw_from}
-use Rattle.drawn_run.specs.Drawn.{Drawn, draw_offset, draw_pick, draw_run}
+use Rattle.drawn_run.specs.Drawn.{draw_offset, draw_pick, draw_run}
 
 -- the words from this one on
 abbrev words : ℕ → Stream

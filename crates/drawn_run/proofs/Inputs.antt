@@ -1,25 +1,21 @@
 -- The inputs that a seed draws: they keep their assertions, those of the case have its values, and there are no others.
-use Rattle.std.proofs.Common.{◌≡◌, ℕ, ◌+◌, ◌<◌, ◌≤◌, Bool, false, List, [], length, get_or, map, Some, None, refl, ap, subst, sym, ◌∙◌, arith}
+use Rattle.std.proofs.Common.{◌≡◌, ℕ, ◌<◌, ◌≤◌, Bool, false, List, [], length, get_or, Some, None, ap, subst, sym, ◌∙◌, arith}
 use Rattle.std.specs.Prelude.{slice_get, slice_index_or}
-use Rattle.std.specs.List.{range_with_len}
 use Rattle.std.proofs.lemmas.List.{ext_get_or}
 use Rattle.std.proofs.lemmas.List.FromFn.{get_or-map-range_with_len}
 use Rattle.std.proofs.lemmas.Option.{get_or_from_slice_get, slice_get_within, slice_get-get_or}
-use Rattle.scald_base.specs.Time.{IsHeader, period}
+use Rattle.scald_base.specs.Time.{period}
 use Rattle.scald_base.specs.Fitting.{Fits}
 use Rattle.flat_circuit.specs.declared.case.CaseValue.{CaseValue}
 use Rattle.flat_circuit.specs.declared.net.Net.{Net}
-use Rattle.flat_circuit.specs.Name.{net_at}
 use Rattle.flat_circuit.specs.Circuit.{Circuit, IsCircuit}
 use Rattle.class_table.specs.Alike.{value_in}
-use Rattle.pin_waves.specs.Meets.{Meets}
-use Rattle.trace_sim.specs.declared.choice.Choice.{Choice}
 use Rattle.trace_sim.specs.Choice.{Bits}
 use Rattle.trace_sim.specs.Simulated.{bit_of}
 use Rattle.drawn_run.specs.Draw.{draw_each, seeded}
 use Rattle.drawn_run.specs.Drawn.{draw_offset, draw_pick, draw_run}
-use Rattle.drawn_run.specs.Input.{AreGiven, IsDrawn, bits_in, given_at, given_in, given_row}
-use Rattle.drawn_run.specs.Laws.{CasesHold, InputsMeet, OneDrawn, SetsNoClock}
+use Rattle.drawn_run.specs.Input.{AreGiven, bits_in, given_at, given_in, given_row}
+use Rattle.drawn_run.specs.Laws.{CasesHold, InputsMeet, OneDrawn}
 use Rattle.drawn_run.proofs.Keeping.{IsShift, drawn_at, given_constant, keeps_given, offset_within, same_bits}
 use Rattle.drawn_run.proofs.Places.{has_place}
 

@@ -1,9 +1,8 @@
 -- What is drawn of a net keeps the net's assertion.
-use Rattle.std.proofs.Common.{◌≡◌, ℕ, zero, suc, ◌+◌, ◌-◌, ◌%◌, ◌<◌, ◌≤◌, Bool, true, false, cond, List, [], ◌∷◌, length, get_or, map, Some, None, Option, refl, ap, subst, sym, ◌∙◌, arith, inl}
-use Rattle.std.specs.Prelude.{is_none, is_some, slice_get, slice_index_or}
-use Rattle.std.specs.List.{range_with_len}
+use Rattle.std.proofs.Common.{◌≡◌, ℕ, zero, suc, ◌+◌, ◌-◌, ◌<◌, ◌≤◌, Bool, true, cond, List, [], ◌∷◌, Some, None, Option, refl, ap, subst, sym, ◌∙◌, arith, inl}
+use Rattle.std.specs.Prelude.{is_none, is_some, slice_get}
 use Rattle.std.proofs.Math.Nat.{mod-lt}
-use Rattle.std.proofs.lemmas.Option.{get_or_from_slice_get, same_Some, slice_get_within, slice_get-get_or}
+use Rattle.std.proofs.lemmas.Option.{same_Some}
 use Rattle.scald_base.specs.Time.{Header, period}
 use Rattle.scald_base.specs.Signal.{Signal}
 use Rattle.scald_base.specs.Quiet.{quiet}

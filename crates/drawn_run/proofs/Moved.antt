@@ -1,12 +1,12 @@
 -- A clock whose edges were drawn each by itself keeps its assertion.
-use Rattle.std.proofs.Common.{◌≡◌, ℕ, zero, suc, ◌+◌, ◌-◌, ◌<◌, ◌≤◌, Bool, true, false, not, ◌&&◌, ◌||◌, cond, ◌⊎◌, inl, inr, refl, ap, subst, sym, ◌∙◌, arith}
+use Rattle.std.proofs.Common.{◌≡◌, ℕ, zero, suc, ◌+◌, ◌-◌, ◌<◌, ◌≤◌, Bool, true, false, not, ◌&&◌, ◌||◌, cond, refl, ap, subst, sym, ◌∙◌, arith}
 use Rattle.scald_base.specs.Time.{Header, period}
 use Rattle.scald_base.specs.Signal.{Signal}
 use Rattle.scald_base.specs.Clock.{SharesSlot, back, ideal}
 use Rattle.scald_base.specs.Fitting.{skew_of}
 use Rattle.scald_base.specs.declared.assertion.ClockSpec.{ClockSpec}
 use Rattle.scald_base.proofs.Back.{back_later, back_zero, mod_small}
-use Rattle.pin_waves.specs.Meets.{MeetsClock, NearEdge}
+use Rattle.pin_waves.specs.Meets.{MeetsClock}
 use Rattle.drawn_run.specs.Input.{is_last, is_near, moved, slot_of}
 use Rattle.drawn_run.proofs.Bits.{near_fall, near_none, near_rise}
 use Rattle.drawn_run.proofs.Regions.{Near, at_end, at_last, away, near_is, near_passes, not_both}

@@ -1,10 +1,9 @@
 -- What a seed draws of a run: delays, offsets of clocks and free bits, in this order.
-use Rattle.std.specs.Prelude.{◌≡◌, ℕ, ◌+◌, Bool, List, [], length, map, is_none, slice_get, Option, Some, None, if◌then◌else◌}
+use Rattle.std.specs.Prelude.{◌≡◌, ℕ, ◌+◌, Bool, List, length, is_none, slice_get, Option, Some, None, if◌then◌else◌}
 use Rattle.scald_base.specs.Time.{Bounds, Header}
 use Rattle.scald_base.specs.Fitting.{skew_of}
 use Rattle.scald_base.specs.declared.assertion.AssertSpec.{AssertSpec}
 use Rattle.scald_base.specs.declared.assertion.AssertSpec.TheVariants.{None as Unasserted, Precision, Clock, Stable}
-use Rattle.rand_core.specs.Stream.{Stream}
 use Rattle.vector_names.specs.declared.bits.Target.{Target}
 use Rattle.vector_names.specs.declared.bits.Target.TheVariants.{Net as OnNet, Constant}
 use Rattle.element_kinds.specs.declared.kind.Kind.{Kind}
@@ -72,7 +71,8 @@ pub record ArePicks (c : Circuit) (count : ℕ) (delays : List (ℕ × ℕ)) (wi
 
 -- ---- offsets
 
--- How much later a clock comes than its earliest: its offset from -a to b, and a. Only a `.P` clock takes a word.
+-- How much later a clock comes than its earliest: its offset from -a to b, and a. Only a `.P` clock takes
+-- a word.
 abbrev pub draw_shift : Header → AssertSpec → Draw ℕ
 draw_shift h Unasserted s = (0, s)
 draw_shift h (Precision c) s = draw_from 0 ((skew_of c h.pskew).0 + (skew_of c h.pskew).1) s
@@ -86,7 +86,8 @@ draw_offset h (Some net) s = if is_none net.driver then draw_shift h net.spec s 
 
 -- ---- all of it
 
--- The picks at each instance; and for each net in name order how much later it comes, and a free bit for each tick.
+-- The picks at each instance; and for each net in name order how much later it comes, and a free bit
+-- for each tick.
 pub record Drawn : Type 0 where
   pub picks : List Pick
   pub shifts : List ℕ

@@ -45,17 +45,19 @@ is_near c h skew to slot =
 abbrev pub is_last : ClockSpec → Header → ℕ × ℕ → Bool → ℕ → Bool
 is_last c h skew to slot = is_edge c h to (back (period h) slot skew.1)
 
--- Each edge comes once in its region, at a slot that the free bits tell, at the latest in the last. At tick 0 nothing is
--- known of a region but that it was entered.
+-- Each edge comes once in its region, at a slot that the free bits tell, at the latest in the last.
+-- At tick 0 nothing is known of a region but that it was entered.
 abbrev pub moved : ClockSpec → Header → ℕ × ℕ → Signal → Signal
 moved c h skew free zero =
-    if (is_near c h skew true 0 && not (is_last c h skew true 0)) || (is_near c h skew false 0 && not (is_last c h skew false 0))
+    if (is_near c h skew true 0 && not (is_last c h skew true 0))
+    || (is_near c h skew false 0 && not (is_last c h skew false 0))
     then free 0
     else ideal c h 0
 moved c h skew free (suc t) =
     let slot = slot_of h (suc t) in
     if is_near c h skew true slot then moved c h skew free t || (is_last c h skew true slot || free (suc t))
-    else if is_near c h skew false slot then moved c h skew free t && (not (is_last c h skew false slot) && free (suc t))
+    else if is_near c h skew false slot
+    then moved c h skew free t && (not (is_last c h skew false slot) && free (suc t))
     else ideal c h slot
 
 -- the ideal clock, as a whole so much later than its earliest
@@ -71,8 +73,8 @@ asserted h (Stable spans) by free = held h spans free
 
 -- ---- of the nets of a circuit
 
--- what is given of a net: its value in the case, or else what its assertion makes of the free bits; where something
--- drives it, these themselves
+-- what is given of a net: its value in the case, or else what its assertion makes of the free bits;
+-- where something drives it, these themselves
 abbrev pub given_in : Header → Option Bool → Option Net → ℕ → Signal → Signal
 given_in h value None by free = free
 given_in h (Some one) (Some net) by free = λ t. one
@@ -86,13 +88,15 @@ bits_in row t = slice_index_or row t false
 abbrev pub given_at : Circuit → List CaseValue → List ℕ → Bits → ℕ → Signal
 given_at c values shifts free place =
     let net = net_at c.order place in
-    given_in c.header (value_in values net) (slice_get c.nets net) (slice_index_or shifts place 0) (bits_in (slice_index_or free place []))
+    given_in c.header (value_in values net) (slice_get c.nets net) (slice_index_or shifts place 0)
+    (bits_in (slice_index_or free place []))
 
 abbrev pub given_row : Circuit → List CaseValue → ℕ → List ℕ → Bits → ℕ → List Bool
 given_row c values ticks shifts free place = map (given_at c values shifts free place) (range_with_len 0 ticks)
 
 -- The rows are what is given of each net.
-pub record AreGiven (c : Circuit) (values : List CaseValue) (ticks : ℕ) (shifts : List ℕ) (free rows : Bits) : Type 0 where
+pub record AreGiven (c : Circuit) (values : List CaseValue) (ticks : ℕ) (shifts : List ℕ)
+    (free rows : Bits) : Type 0 where
   pub each : length rows ≡ length c.nets
   pub are : (place : ℕ) → place < length c.order →
       slice_get rows (net_at c.order place) ≡ Some (given_row c values ticks shifts free place)
@@ -101,5 +105,7 @@ pub record AreGiven (c : Circuit) (values : List CaseValue) (ticks : ℕ) (shift
 pub record IsDrawn (c : Circuit) (values : List CaseValue) (ticks seed : ℕ) (choice : Choice) : Type 0 where
   pub delays : choice.delays ≡ map delays_of (draw_run c ticks (seeded seed)).0.picks
   pub wires : choice.wires ≡ map wires_of (draw_run c ticks (seeded seed)).0.picks
-  pub inputs : let drawn = (draw_run c ticks (seeded seed)).0 in AreGiven c values ticks drawn.shifts drawn.free choice.inputs
-  pub free : let drawn = (draw_run c ticks (seeded seed)).0 in AreGiven c values ticks drawn.shifts drawn.free choice.free
+  pub inputs : let drawn = (draw_run c ticks (seeded seed)).0 in
+      AreGiven c values ticks drawn.shifts drawn.free choice.inputs
+  pub free : let drawn = (draw_run c ticks (seeded seed)).0 in
+      AreGiven c values ticks drawn.shifts drawn.free choice.free

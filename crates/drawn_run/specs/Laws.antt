@@ -26,9 +26,9 @@ SetsNoClock c values =
 
 -- each net that nothing drives keeps its assertion
 abbrev pub InputsMeet : Type 0
-InputsMeet = (c : Circuit) (values : List CaseValue) (ticks seed : ℕ) (choice : Choice) → IsCircuit c → IsHeader c.header →
-    SetsNoClock c values → IsDrawn c values ticks seed choice → (i : ℕ) (net : Net) → slice_get c.nets i ≡ Some net →
-    net.driver ≡ None → Meets c.header net.spec ticks (bit_of choice.inputs i)
+InputsMeet = (c : Circuit) (values : List CaseValue) (ticks seed : ℕ) (choice : Choice) → IsCircuit c →
+    IsHeader c.header → SetsNoClock c values → IsDrawn c values ticks seed choice → (i : ℕ) (net : Net) →
+    slice_get c.nets i ≡ Some net → net.driver ≡ None → Meets c.header net.spec ticks (bit_of choice.inputs i)
 
 -- each net of the case is constant, at its value
 abbrev pub CasesHold : Type 0

@@ -1,4 +1,4 @@
-use Rattle.std.proofs.Common.{◌≡◌, ◌≤◌, ℕ}
+use Rattle.std.proofs.Common.{◌≡◌, ℕ}
 use Rattle.std.specs.List.{range_with_len}
 use Rattle.drawn_run.specs.Draw.{draw_bit, draw_each}
 use Rattle.drawn_run.proofs.free.draw_bits.Given as goal

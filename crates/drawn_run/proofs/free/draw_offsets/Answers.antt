@@ -1,4 +1,4 @@
-use Rattle.std.proofs.Common.{arith, ◌≡◌, ◌∙◌, ◌∷◌, [], ◌++◌, List, ℕ, ap, get_or, length, slice_get, subst, sym, take}
+use Rattle.std.proofs.Common.{arith, ◌≡◌, ◌∙◌, List, ℕ, ap, get_or, slice_get, sym, take}
 use Rattle.std.proofs.lemmas.List.{take_all, take_more}
 use Rattle.flat_circuit.proofs.Numbered.{order_long}
 use Rattle.drawn_run.specs.Draw.{draw_each}

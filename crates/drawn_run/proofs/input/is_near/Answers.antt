@@ -1,4 +1,4 @@
-use Rattle.std.proofs.Common.{arith, ◌≡◌, ◌+◌, ◌∙◌, ℕ, Bool, true, false, ap, sym, subst}
+use Rattle.std.proofs.Common.{arith, ◌≡◌, ◌+◌, ◌∙◌, ℕ, true, false, ap, sym, subst}
 use Rattle.scald_base.specs.Time.{period}
 use Rattle.scald_base.specs.Clock.{back}
 use Rattle.trace_sim.proofs.PinByPin.{next_one}

@@ -1,4 +1,4 @@
-use Rattle.std.proofs.Common.{arith, ◌≡◌, ◌≤◌, ◌∙◌, ◌&&◌, ◌||◌, Bool, true, false, not, ap, sym}
+use Rattle.std.proofs.Common.{arith, ◌≤◌, ◌∙◌, ◌&&◌, ◌||◌, Bool, true, false, not, ap, sym}
 use Rattle.drawn_run.specs.Input.{bits_in, is_last}
 use Rattle.drawn_run.proofs.Bits.{near_fall, near_none, near_rise}
 use Rattle.drawn_run.proofs.input.moved_bit.Goals as goal

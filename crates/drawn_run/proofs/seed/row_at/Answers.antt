@@ -1,4 +1,4 @@
-use Rattle.std.proofs.Common.{◌≡◌, ◌<◌, length, subst, sym}
+use Rattle.std.proofs.Common.{◌<◌, length, subst, sym}
 use Rattle.std.specs.Option.{IsSome}
 use Rattle.drawn_run.proofs.Places.{net_inside, some_behind, some_within}
 use Rattle.drawn_run.proofs.seed.row_at.Goals as goal
