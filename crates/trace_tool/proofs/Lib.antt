@@ -1,1 +1,5 @@
 pub mod Examples
+pub mod ExamplesRan
+pub mod Drawing
+pub mod OneRun
+pub mod Replying
