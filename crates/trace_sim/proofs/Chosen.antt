@@ -20,7 +20,7 @@ use Rattle.flat_circuit.specs.Instances.{InstanceFits}
 use Rattle.flat_circuit.specs.Circuit.{Circuit, IsCircuit}
 use Rattle.flat_circuit.specs.Run.{Choice as Chosen, DelayFitsForm, DelaysFit, WiresFit}
 use Rattle.trace_sim.specs.declared.choice.Choice.{Choice}
-use Rattle.trace_sim.specs.Choice.{chosen, all_chosen, choices_of, IsOneDelayForm, IsOneDelay, PickFits, ChoiceFits}
+use Rattle.trace_sim.specs.Choice.{chosen, all_chosen, choices_of, IsOneDelayForm, IsOneDelay, PickFits, ChoiceFits, PickFitsAt}
 use Rattle.trace_sim.specs.Making.{near_in}
 use Rattle.trace_sim.proofs.Fixed.{AsOne, IsGateByTwo}
 
@@ -153,11 +153,11 @@ least_with kind d split (Some two) at e s one gate f o z =
     let fits : SplitFits kind d (Some two) = subst (SplitFits kind d) t.is s in
     least_two d two at fits.1 f.0.0 f.1.0 (subst (λ x. near_in x d at ≡ 0) gate z)
 
-pub fitting : (c : Circuit) (choice : Choice) (ticks k : ℕ) (i : Instance) (at : Chosen) → IsCircuit c → ChoiceFits c choice ticks →
+pub fitting_at : (c : Circuit) (choice : Choice) (k : ℕ) (i : Instance) (at : Chosen) → IsCircuit c → PickFitsAt c choice k →
     slice_get c.instances k ≡ Some i → slice_get (choices_of choice) k ≡ Some at → IsFitting c i at
-fitting c choice ticks k i at known fits here chose =
+fitting_at c choice k i at known fits here chose =
     let p = picked choice.delays choice.wires k at chose in
-    let f = fits.fits k i p.pick p.row here p.delay_is p.wires_are in
+    let f = fits i p.pick p.row here p.delay_is p.wires_are in
     subst (IsFitting c i) p.is (fits_so p.pick p.row f)
   where
     fits_so : (pick : ℕ × ℕ) (row : List ℕ) → PickFits c i pick row → IsFitting c i (chosen pick row)
@@ -175,3 +175,7 @@ fitting c choice ticks k i at known fits here chose =
           least = λ o z. least_with i.kind i.delay i.split (two_delays i.kind i.split) (chosen pick row) refl j.split
               (as_one i.kind (two_delays i.kind i.split) pick row f.one) (is_gate i.kind i.split) f.delay o z;
         }
+
+pub fitting : (c : Circuit) (choice : Choice) (ticks k : ℕ) (i : Instance) (at : Chosen) → IsCircuit c → ChoiceFits c choice ticks →
+    slice_get c.instances k ≡ Some i → slice_get (choices_of choice) k ≡ Some at → IsFitting c i at
+fitting c choice ticks k i at known fits here chose = fitting_at c choice k i at known (fits.fits k) here chose

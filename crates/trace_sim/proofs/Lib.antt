@@ -12,4 +12,7 @@ pub mod Exists
 pub mod One
 pub mod Made
 pub mod Steps
+pub mod Failing
 pub mod Examples
+pub mod ExamplesFailure
+pub mod Places

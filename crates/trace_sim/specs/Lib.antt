@@ -4,3 +4,4 @@ pub mod Laws
 pub mod Order
 pub mod Search
 pub mod Making
+pub mod Failure

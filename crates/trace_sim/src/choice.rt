@@ -33,7 +33,7 @@ pub struct Choice {
 
 impl Choice {
     /// The delays and the wires' delays that are picked at an instance, or `None` past the last.
-    pub(crate) fn at(&self, k: usize) -> Option<((u16, u16), &[u16])>
+    pub fn at(&self, k: usize) -> Option<((u16, u16), &[u16])>
         ensures { option_map (λ p. chosen p.0 p.1.now) result ≡ slice_get (choices_of self.now) k }
     {
         match self.delays.get(k) {

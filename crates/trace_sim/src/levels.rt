@@ -54,8 +54,8 @@ fn pin_bit(bits: &[Levels], pin: Pin, wire: u16, t: usize) -> bool
     turned(pin.inverted, through(bits, pin.target, wire, t))
 }
 
-/// What the pin at a place shows at a tick.
-pub(crate) fn nth_pin(bits: &[Levels], pins: &[Pin], wires: &[u16], place: usize, t: usize) -> bool
+/// What the pin at a place shows at a tick, through a wire of its delay; 0 past the last.
+pub fn nth_pin(bits: &[Levels], pins: &[Pin], wires: &[u16], place: usize, t: usize) -> bool
     ensures { result ≡ nth_signal (pin_signals (seen bits.now) pins.now wires.now) place t }
 {
     if place < pins.len() && place < wires.len() {

@@ -154,8 +154,8 @@ fn write(out: Option<Target>, inverted: bool, t: usize, bit: Option<bool>, bits:
     }
 }
 
-// The bit that the equation fixes, if it is asked and fixes one.
-fn fixed_bit(
+/// The bit that the equation fixes, if it is asked and fixes one.
+pub(crate) fn fixed_bit(
     alloc: Global,
     i: &Instance,
     delays: (u16, u16),
@@ -177,7 +177,8 @@ fn fixed_bit(
     }
 }
 
-fn old_output(out: Option<Target>, inverted: bool, t: usize, bits: &[Levels]) -> bool
+/// The output at a tick, complemented back where it is marked.
+pub(crate) fn old_output(out: Option<Target>, inverted: bool, t: usize, bits: &[Levels]) -> bool
     ensures { result ≡ out_signal (seen bits.now) out inverted t }
 {
     match out {
