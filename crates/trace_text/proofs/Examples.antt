@@ -16,19 +16,19 @@ use Rattle.flat_circuit.specs.Circuit.{Circuit}
 use Rattle.trace_text.specs.declared.trace.Trace.{Trace}
 use Rattle.trace_text.specs.Trace.{instance_line, net_line, trace_text}
 
-abbrev bounds : ℕ → ℕ → Bounds
+abbrev pub bounds : ℕ → ℕ → Bounds
 bounds low high = record { min = low; max = high }
 
-abbrev header : Header
+abbrev pub header : Header
 header = record { units = 4; ticks = 1; wire = bounds 0 0; pskew = (0, 0); cskew = (0, 0) }
 
-abbrev net : List ℕ → ℕ → Option ℕ → Net
+abbrev pub net : List ℕ → ℕ → Option ℕ → Net
 net name bit driver = record { name = name; bit = bit; spec = Unasserted; wire = bounds 0 0; driver = driver }
 
-abbrev on : Target → Pin
+abbrev pub on : Target → Pin
 on target = record { target = target; inverted = false; hold = false }
 
-abbrev made : List ℕ → Kind → Option Split → List Pin → Option Target → Instance
+abbrev pub made : List ℕ → Kind → Option Split → List Pin → Option Target → Instance
 made label kind split pins out =
     record {
       path = label;
@@ -45,7 +45,7 @@ made label kind split pins out =
 
 -- ---- a checker of one clock
 
-abbrev checked : Circuit
+abbrev pub checked : Circuit
 checked =
     record {
       header = header;
@@ -54,7 +54,7 @@ checked =
       order = 0 ∷ [];
     }
 
-abbrev one_clock : List Bool → Trace
+abbrev pub one_clock : List Bool → Trace
 one_clock bits = record { ticks = 6; delays = (0, 0) ∷ []; wires = (0 ∷ []) ∷ []; bits = bits ∷ [] }
 
 pub of_a_checker : trace_text checked (one_clock (false ∷ true ∷ false ∷ false ∷ false ∷ true ∷ []))

@@ -1,3 +1,12 @@
 pub mod Lines
 pub mod Written
+pub mod Cutting
+pub mod Readback
+pub mod Distinct
+pub mod Fronts
+pub mod Taken
+pub mod Digits
+pub mod OneText
 pub mod Examples
+pub mod ExamplesReading
+pub mod Picks

@@ -1,1 +1,5 @@
 pub mod Trace
+pub mod Reading
+pub mod Scan
+pub mod Taking
+pub mod Laws

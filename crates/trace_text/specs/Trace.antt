@@ -1,5 +1,5 @@
--- The text of a trace of a circuit, line by line: how many ticks it has, the delays at its instances, and the bits
--- of its nets.
+-- The text of a trace of a circuit, line by line: how many ticks it has, the delays at its
+-- instances, and the bits of its nets.
 use Rattle.std.specs.Prelude.{ℕ, Bool, List, [], ◌∷◌, ◌++◌, length, map, codes, decimal, slice_get, slice_index_or, Option, Some, None, if◌then◌else◌}
 use Rattle.std.specs.List.{concat, flat_map, range_with_len}
 use Rattle.element_kinds.specs.declared.kind.Kind.{Kind}
@@ -18,9 +18,12 @@ use Rattle.trace_text.specs.declared.line.Line.TheVariants.{Head, Delays, Bits, 
 
 -- ---- which lines there are
 
--- a head, a line of delays for each instance as they are expanded, a line of bits for each net by name, and an end
+-- a head, a line of delays for each instance as they are expanded, a line of bits for each net by
+-- name, and an end
 abbrev pub line_order : Circuit → List Line
-line_order c = Head ∷ (map (λ k. Delays k) (range_with_len 0 (length c.instances)) ++ (map (λ n. Bits n) c.order ++ End ∷ []))
+line_order c =
+    Head ∷ (map (λ k. Delays k) (range_with_len 0 (length c.instances))
+    ++ (map (λ n. Bits n) c.order ++ End ∷ []))
 
 -- ---- what they say, without the byte 10 that ends each
 
@@ -65,7 +68,8 @@ end_line = codes "END TRACE"
 
 -- ---- the whole text
 
--- the pick at the instance of a number, the delays of its wires, and the bits of the net of a number
+-- the pick at the instance of a number, the delays of its wires, and the bits of the net of a
+-- number
 abbrev pub pick_at : Trace → ℕ → ℕ × ℕ
 pick_at trace k = slice_index_or trace.delays k (0, 0)
 

@@ -3,16 +3,17 @@
 ghost use Rattle.std.specs.Prelude.{◌≡◌};
 ghost use Rattle.trace_text.specs.Trace.{pick_at, row_at, wires_at};
 
+use scald_base::NoMemory;
 use trace_sim::{DelayPicks, Traces, WirePicks};
 
-/// So many ticks, the delays at each instance, and the bits of each net by its number. Nothing is said of
-/// equations: whether the bits are those of a run is another question.
+/// So many ticks, the delays at each instance, and the bits of each net by its number. Nothing is
+/// said of equations: whether the bits are those of a run is another question.
 #[derive(Drop)]
 pub struct Trace {
     /// 1 to 4,096.
     pub ticks: u16,
-    /// Twice the same where an instance has one delay. What stands at a change function or at a checker
-    /// does not count.
+    /// Twice the same where an instance has one delay. What stands at a change function or at a
+    /// checker does not count.
     pub delays: DelayPicks,
     /// 0 on a constant.
     pub wires: WirePicks,
@@ -49,5 +50,25 @@ impl Trace {
             None => &[],
             Some(row) => row.as_slice(),
         }
+    }
+}
+
+/// Why lines are not those of a trace of a circuit.
+#[derive(Clone, Copy, PartialEq, Eq, Debug)]
+pub enum TraceFault {
+    /// The line of this number, from 1, is the first that lacks the form, the name or the bounds.
+    WrongLine(u32),
+    /// Memory ran out.
+    NoMemory,
+}
+
+impl From<NoMemory> for TraceFault {
+    ghost use Rattle.std.specs.Prelude.{◌≡◌};
+    ghost use Rattle.trace_text.specs.declared.trace.TraceFault.TheVariants.{NoMemory as OutOfMemory};
+
+    ghost from_gives = { λ _ fault. fault ≡ OutOfMemory };
+
+    fn from(_e: NoMemory) -> TraceFault {
+        TraceFault::NoMemory
     }
 }

@@ -1,7 +1,7 @@
 //! A trace, written as a text.
 //!
-//! Each function puts its text at the end of the bytes. Its one error is that memory ran out, and then
-//! a part of the text may stand there.
+//! Each function puts its text at the end of the bytes. Its one error is that memory ran out, and
+//! then a part of the text may stand there.
 
 ghost use Rattle.std.specs.Prelude.{◌≡◌, ◌++◌, ◌∷◌, [], OnErr, OnOk};
 ghost use Rattle.std.specs.List.{flat_map};
@@ -90,7 +90,7 @@ fn digit(bit: bool) -> &'static [u8]
 }
 
 /// Bits, each as a digit.
-pub(crate) fn add_digits(out: &mut Bytes, row: &[bool]) -> Result<(), NoMemory>
+fn add_digits(out: &mut Bytes, row: &[bool]) -> Result<(), NoMemory>
     ensures ok { OnOk result (out.new ≡ out.old ++ flat_map digit_text row.now) }
     ensures err { OnErr result (HasPart out.old out.new (flat_map digit_text row.now)) }
 {
@@ -142,9 +142,9 @@ fn add_ended(out: &mut Bytes, c: &Circuit, trace: &Trace, line: Line) -> Result<
     out.push(b'\n')
 }
 
-/// Puts the text of a trace of the circuit at the end of `out`: a line with its ticks, a line for each
-/// instance with the delays of it and of its pins' wires, a line for each net, in name order, with its
-/// bits, and a last line. Where memory runs out, a part of these lines may stand there.
+/// Puts the text of a trace of the circuit at the end of `out`: a line with its ticks, a line for
+/// each instance with the delays of it and of its pins' wires, a line for each net, in name order,
+/// with its bits, and a last line. Where memory runs out, a part of these lines may stand there.
 pub fn write_trace(c: &Circuit, trace: &Trace, out: &mut Bytes) -> Result<(), NoMemory>
     ensures ok { OnOk result (out.new ≡ out.old ++ trace_text c.now trace.now) }
     ensures err { OnErr result (HasPart out.old out.new (trace_text c.now trace.now)) }
