@@ -1,0 +1,12 @@
+pub mod Agreeing
+pub mod Earliest
+pub mod Elements
+pub mod Examples
+pub mod ExamplesFirst
+pub mod Kept
+pub mod Last
+pub mod Meeting
+pub mod One
+pub mod Pulses
+pub mod Soonest
+pub mod Windows

@@ -1,0 +1,3 @@
+pub mod Break
+pub mod Interface
+pub mod Pass
