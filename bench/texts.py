@@ -165,7 +165,7 @@ def wave_loops(gates):
     lines = []
     for i in range(gates):
         least = draw.randint(1, 9)
-        greatest, kind = least + draw.randint(0, 3), draw.choice(["AND", "OR", "XOR", "AND"])
+        kind, greatest = draw.choice(["AND", "OR", "XOR", "AND"]), least + draw.randint(0, 3)
         other = draw.randrange(gates) if i % 3 else (7 * i + 1) % gates
         clock = f"CK{i % 7} .P{i % 7}-{i % 7 + 1}"
         lines.append(f'g{i} : {kind} [{least}:{greatest}] ("{clock}", "Y{other}") -> ("Y{i}");')
