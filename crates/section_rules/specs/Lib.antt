@@ -1,0 +1,11 @@
+pub mod Broken
+pub mod Cut
+pub mod Drawn
+pub mod Globals
+pub mod Joined
+pub mod OneNet
+pub mod Pieces
+pub mod Rule
+pub mod Rules
+pub mod Same
+pub mod Tests
