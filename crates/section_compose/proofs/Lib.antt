@@ -1,0 +1,17 @@
+pub mod Clocks
+pub mod Across
+pub mod Started
+pub mod Crossing
+pub mod Classes
+pub mod Begun
+pub mod Settling
+pub mod Ahead
+pub mod Facts
+pub mod Joined
+pub mod Read
+pub mod Fronts
+pub mod Answered
+pub mod OneAnswer
+pub mod Promised
+pub mod Told
+pub mod Examples
