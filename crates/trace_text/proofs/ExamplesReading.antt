@@ -98,14 +98,24 @@ late_wire = record {
   before = record { trace = any_trace; each = one_tick_at (codes "c1<0> - : 1" ∷ end_line ∷ []) };
   here = λ first.
       let right = first.each 1 (omega arith) in
-      no_such_wire (slice_index_or first.trace.delays 0 (0, 0)) (slice_index_or first.trace.wires 0 []) right.0 right.1;
+      no_such_wire (slice_index_or first.trace.delays 0 (0, 0)) (slice_index_or first.trace.wires 0 []) right.0.fits right.1;
 }
 
 right_wire_at : (j : ℕ) → j < 2 → IsRight checked any_trace (slice_get (line_order checked) j)
     (slice_get (codes "TRACE 1" ∷ codes "c1<0> - : 0" ∷ end_line ∷ []) j)
 unfolding digits instance_line
 right_wire_at zero below = ((omega arith, omega arith), refl)
-right_wire_at (suc zero) below = (record { delay = tt; one = tt; wire = ((omega arith, omega arith), tt) }, refl)
+right_wire_at (suc zero) below = (
+  record {
+    fits = record { delay = tt; one = tt; wire = ((omega arith, omega arith), tt) };
+    plain = record {
+      delays_small = All-nil (λ (n : ℕ). n ≤ 4095);
+      wires_small = All-cons (λ (n : ℕ). n ≤ 4095) 0 [] (omega arith) (All-nil (λ (n : ℕ). n ≤ 4095));
+      whole = refl;
+    };
+  },
+  refl,
+)
 right_wire_at (suc (suc j)) below = absurd (omega (arith, below))
 
 pub right_wire : HasFirst checked (codes "TRACE 1" ∷ codes "c1<0> - : 0" ∷ end_line ∷ []) 2

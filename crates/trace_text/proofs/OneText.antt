@@ -1,17 +1,19 @@
--- The lines of a trace say its ticks and its bits.
-use Rattle.std.proofs.Common.{◌≡◌, ℕ, suc, ◌+◌, ◌<◌, ◌≤◌, Bool, List, [], length, drop, Some, refl, ap, sym, ◌∙◌, arith, inl, inr}
+-- The lines of a trace say its ticks, its delays and its bits.
+use Rattle.std.proofs.Common.{◌≡◌, ℕ, zero, suc, ◌+◌, ◌<◌, ◌≤◌, Bool, List, [], ◌∷◌, length, drop, Option, Some, refl, ap, sym, ◌∙◌, arith, inl, inr}
 use Rattle.std.specs.Prelude.{slice_get, slice_index_or, option_map, ◌⊎◌}
-use Rattle.std.proofs.lemmas.Option.{slice_get-get_or, slice_get-map, slice_get_past}
+use Rattle.std.proofs.lemmas.Option.{same_Some, slice_get-get_or, slice_get-map, slice_get_past, slice_get_within}
+use Rattle.flat_circuit.specs.declared.instance.Instance.{Instance}
 use Rattle.flat_circuit.specs.Circuit.{Circuit, IsCircuit}
 use Rattle.trace_sim.proofs.Places.{has_place}
 use Rattle.trace_text.specs.declared.trace.Trace.{Trace}
-use Rattle.trace_text.specs.Trace.{line_order, line_text, net_line, row_at, trace_lines}
+use Rattle.trace_text.specs.Trace.{delays_line, instance_line, line_order, line_text, net_line, pick_at, row_at, trace_lines, wires_at}
+use Rattle.trace_text.specs.Reading.{IsReadAs, IsTrace}
 use Rattle.trace_text.specs.Laws.{LinesSayBits}
-use Rattle.trace_text.proofs.Lines.{line_at_bits}
+use Rattle.trace_text.proofs.Lines.{line_at_bits, line_at_delays}
 use Rattle.trace_text.proofs.Digits.{digits_are, digits_behind}
 use Rattle.trace_text.proofs.Distinct.{below_or_not}
 use Rattle.trace_text.proofs.Fronts.{same_lists}
-use Rattle.trace_text.proofs.Readback.{head_is_one}
+use Rattle.trace_text.proofs.Readback.{SayOne, head_is_one, one_line_says}
 
 -- one line says one row
 one_row : (c : Circuit) (n : ℕ) (row other : List Bool) → net_line c n row ≡ net_line c n other → row ≡ other
@@ -56,3 +58,53 @@ lines_say_bits c lines t u known one two =
         let first = one.is_trace.bits.rows in
         let second = two.is_trace.bits.rows in
         slice_get_past t.bits n (omega (arith, past, first)) ∙ sym (slice_get_past u.bits n (omega (arith, past, second)))
+
+-- ---- delays too
+
+record Item {X : Type 0} (xs : List X) (k : ℕ) : Type 0 where
+  item : X
+  is : slice_get xs k ≡ Some item
+
+item_at : {X : Type 0} (xs : List X) (k : ℕ) → k < length xs → Item xs k
+item_at [] k below = absurd (omega (arith, below))
+item_at (x ∷ xs) zero below = record { item = x; is = refl }
+item_at (x ∷ xs) (suc k) below = let h = item_at xs k (omega (arith, below)) in record { item = h.item; is = h.is }
+
+-- the line of an instance, where it stands
+delays_stand : (c : Circuit) (trace : Trace) (k : ℕ) (i : Instance) → slice_get c.instances k ≡ Some i →
+    slice_get (trace_lines c trace) (suc k) ≡ Some (instance_line i (pick_at trace k) (wires_at trace k))
+delays_stand c trace k i here =
+    slice_get-map (line_text c trace) (line_order c) (suc k)
+    ∙ ap (option_map (line_text c trace)) (line_at_delays c k (suc k) refl (slice_get_within c.instances k i here))
+    ∙ ap (λ (o : Option Instance). Some (delays_line o (pick_at trace k) (wires_at trace k))) here
+
+one_instance_says : (c : Circuit) (t u : Trace) → IsTrace c t → IsTrace c u → trace_lines c t ≡ trace_lines c u → (k : ℕ) → k < length c.instances →
+    SayOne (pick_at t k) (pick_at u k) (wires_at t k) (wires_at u k)
+one_instance_says c t u one two same k below =
+    let i = item_at c.instances k below in
+    let both = sym (delays_stand c t k i.item i.is) ∙ ap (λ (ls : List (List ℕ)). slice_get ls (suc k)) same ∙ delays_stand c u k i.item i.is in
+    one_line_says i.item (pick_at t k) (pick_at u k) (wires_at t k) (wires_at u k) (one.fit k i.item i.is).plain (two.fit k i.item i.is).plain
+    (same_Some (instance_line i.item (pick_at t k) (wires_at t k)) (instance_line i.item (pick_at u k) (wires_at u k)) both)
+
+-- lists that are so long have one item at each place, or none
+same_items : {X : Type 0} (xs ys : List X) (d : X) (n k : ℕ) → length xs ≡ n → length ys ≡ n → (k < n → slice_index_or xs k d ≡ slice_index_or ys k d) →
+    slice_get xs k ≡ slice_get ys k
+same_items xs ys d n k first second each = elim (below_or_not k n) as (λ _. slice_get xs k ≡ slice_get ys k) [
+  | inl below ↦ slice_get-get_or xs k d (omega arith) ∙ ap Some (each below) ∙ sym (slice_get-get_or ys k d (omega arith))
+  | inr past ↦ slice_get_past xs k (omega arith) ∙ sym (slice_get_past ys k (omega arith))
+]
+
+-- So lines are those of one trace.
+pub lines_say_trace : (c : Circuit) (lines : List (List ℕ)) (t u : Trace) → IsCircuit c → IsReadAs c lines t → IsReadAs c lines u → t ≡ u
+lines_say_trace c lines t u known one two =
+    let alike = lines_say_bits c lines t u known one two in
+    let same = sym one.are ∙ two.are in
+    let says = one_instance_says c t u one.is_trace two.is_trace same in
+    let delays = same_lists t.delays u.delays (λ k. same_items t.delays u.delays (0, 0) (length c.instances) k one.is_trace.delays two.is_trace.delays
+    (λ below. (says k below).picks)) in
+    let wires = same_lists t.wires u.wires (λ k. same_items t.wires u.wires [] (length c.instances) k one.is_trace.wires two.is_trace.wires
+    (λ below. (says k below).delays)) in
+    ap (λ (n : ℕ). record { ticks = n; delays = t.delays; wires = t.wires; bits = t.bits }) alike.ticks
+    ∙ ap (λ (ds : List (ℕ × ℕ)). record { ticks = u.ticks; delays = ds; wires = t.wires; bits = t.bits }) delays
+    ∙ ap (λ (ws : List (List ℕ)). record { ticks = u.ticks; delays = u.delays; wires = ws; bits = t.bits }) wires
+    ∙ ap (λ (rows : List (List Bool)). record { ticks = u.ticks; delays = u.delays; wires = u.wires; bits = rows }) alike.bits

@@ -22,5 +22,5 @@ trace_picks c trace choice delays wires is = record {
       let other : wires_at trace k ≡ row = get_or_from_slice_get trace.wires k row []
       (subst (λ (ws : List (List ℕ)). slice_get ws k ≡ Some row) wires wired) in
       subst (λ (p : ℕ × ℕ). PickFits c i p row) one
-      (subst (λ (ws : List ℕ). PickFits c i (pick_at trace k) ws) other (is.fit k i here));
+      (subst (λ (ws : List ℕ). PickFits c i (pick_at trace k) ws) other ((is.fit k i here).fits));
 }

@@ -21,7 +21,8 @@ use Rattle.listing.specs.Text.{bit_text}
 use Rattle.listing.specs.Names.{instance_name}
 use Rattle.trace_sim.specs.Choice.{IsOneDelay, IsOneDelayForm, PickFits, chosen}
 use Rattle.trace_text.specs.Trace.{delay_by, delay_text, head_line, instance_line, wires_text}
-use Rattle.trace_text.specs.Scan.{AreSmall, IsGuess, closed, is_digit, numbers_after, numbers_of, picked, picks_by, picks_count, shown, with_digit}
+use Rattle.trace_text.specs.Reading.{IsPlain}
+use Rattle.trace_text.specs.Scan.{AreSmall, IsGuess, again, closed, is_digit, numbers_after, numbers_of, picked, picks_by, picks_count, shown, with_digit}
 
 -- ---- digits
 
@@ -146,9 +147,6 @@ line_read i pick wires few small =
 
 -- ---- the pick again
 
-abbrev pub again : Kind → Option Split → ℕ × ℕ → List ℕ → ℕ × ℕ
-again kind two pick wires = picked (picks_count kind two) (shown (picks_count kind two) pick ++ wires)
-
 -- What is read fits as what was written does, and is written as it was.
 pub record IsAgain (kind : Kind) (d : Bounds) (two : Option Split) (wires : List ℕ) (pick same : ℕ × ℕ) : Type 0 where
   pub fits : DelaysFit kind d two (chosen same wires)
@@ -257,3 +255,45 @@ pub head_found : (line : List ℕ) (first n : ℕ) → first ≡ slice_index_or 
 head_found line first n is few same =
     is ∙ ap (λ (l : List ℕ). slice_index_or (numbers_of l) 0 0) same
     ∙ ap (λ (xs : List ℕ). slice_index_or xs 0 0) (head_read n (omega (arith, few)))
+
+-- ---- what a line does not show
+
+-- what is picked of numbers is shown whole
+picked_whole : (count : ℕ) (found : List ℕ) → picked count found ≡ picked count (shown count (picked count found) ++ [])
+picked_whole zero found = refl
+picked_whole (suc zero) found = refl
+picked_whole (suc (suc more)) found = refl
+
+pub guess_whole : (i : Instance) (line : List ℕ) (pick : ℕ × ℕ) (wires : List ℕ) → IsGuess i line pick wires →
+    pick ≡ again i.kind (two_delays i.kind i.split) pick []
+guess_whole i line pick wires guess =
+    let count = picks_count i.kind (two_delays i.kind i.split) in
+    let found = numbers_of (drop (length (bit_text (instance_name i))) line) in
+    guess.0 ∙ picked_whole count found ∙ ap (λ (p : ℕ × ℕ). picked count (shown count p ++ [])) (sym guess.0)
+
+-- and what follows it does not count
+same_again : (count : ℕ) (pick : ℕ × ℕ) (wires : List ℕ) → count ≤ 2 → picked count (shown count pick ++ wires) ≡ picked count (shown count pick ++ [])
+same_again zero pick wires few = refl
+same_again (suc zero) pick wires few = refl
+same_again (suc (suc zero)) pick wires few = refl
+same_again (suc (suc (suc more))) pick wires few = absurd (omega arith)
+
+-- Two lines of an instance that are one say the same.
+pub record SayOne (pick other : ℕ × ℕ) (wires others : List ℕ) : Type 0 where
+  pub picks : pick ≡ other
+  pub delays : wires ≡ others
+
+pub one_line_says : (i : Instance) (pick other : ℕ × ℕ) (wires others : List ℕ) → IsPlain i pick wires → IsPlain i other others →
+    instance_line i pick wires ≡ instance_line i other others → SayOne pick other wires others
+one_line_says i pick other wires others p q same =
+    let two = two_delays i.kind i.split in
+    let count = picks_count i.kind two in
+    let few = few_picks i.kind two in
+    let one : shown count pick ++ wires ≡ shown count other ++ others =
+    sym (line_read i pick wires p.delays_small p.wires_small)
+    ∙ ap (λ (l : List ℕ). numbers_of (drop (length (bit_text (instance_name i))) l)) same
+    ∙ line_read i other others q.delays_small q.wires_small in
+    record {
+      picks = p.whole ∙ sym (same_again count pick wires few) ∙ ap (picked count) one ∙ same_again count other others few ∙ sym q.whole;
+      delays = sym (behind_shown count pick wires few) ∙ ap (drop count) one ∙ behind_shown count other others few;
+    }

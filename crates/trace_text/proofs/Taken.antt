@@ -8,7 +8,7 @@ use Rattle.trace_sim.specs.Choice.{PickFits}
 use Rattle.trace_text.specs.declared.trace.Trace.{Trace}
 use Rattle.trace_text.specs.declared.line.Line.TheVariants.{Head, Delays, Bits, End}
 use Rattle.trace_text.specs.Trace.{delays_line, end_line, head_line, instance_line, net_line, pick_at, row_at, wires_at}
-use Rattle.trace_text.specs.Reading.{PickIsFit, most_ticks}
+use Rattle.trace_text.specs.Reading.{IsFitPick, PickIsFit, most_ticks}
 use Rattle.trace_text.specs.Taking.{AreLong, IsRefused, IsTaken}
 
 -- ---- the head
@@ -40,7 +40,7 @@ another : (k j : ℕ) → Delays k ≢ Delays j → j ≢ k
 another k j other same = other (ap (λ (n : ℕ). Delays n) (sym same))
 
 pub delays_taken : (c : Circuit) (old : Trace) (line : List ℕ) (k : ℕ) (i : Instance) (pick : ℕ × ℕ) (wires : List ℕ) → AreLong c old →
-    slice_get c.instances k ≡ Some i → k < length c.instances → PickFits c i pick wires → line ≡ instance_line i pick wires →
+    slice_get c.instances k ≡ Some i → k < length c.instances → IsFitPick c i pick wires → line ≡ instance_line i pick wires →
     IsTaken c old (with_delays old k pick wires) (Delays k) line
 delays_taken c old line k i pick wires long here inside fits is =
     let first = long.delays in
@@ -50,8 +50,8 @@ delays_taken c old line k i pick wires long here inside fits is =
     record {
       right = (
         subst (λ (o : Option Instance). PickIsFit c o (pick_at (with_delays old k pick wires) k) (wires_at (with_delays old k pick wires) k)) (sym here)
-            (subst (λ (ws : List ℕ). PickFits c i (pick_at (with_delays old k pick wires) k) ws) w
-            (subst (λ (q : ℕ × ℕ). PickFits c i q wires) p fits)),
+            (subst (λ (ws : List ℕ). IsFitPick c i (pick_at (with_delays old k pick wires) k) ws) w
+            (subst (λ (q : ℕ × ℕ). IsFitPick c i q wires) p fits)),
         is ∙ ap (λ (q : ℕ × ℕ). instance_line i q wires) p ∙ ap (instance_line i (pick_at (with_delays old k pick wires) k)) w
             ∙ ap (λ (o : Option Instance). delays_line o (pick_at (with_delays old k pick wires) k) (wires_at (with_delays old k pick wires) k)) (sym here),
       );
@@ -70,7 +70,7 @@ pub delays_refused : (c : Circuit) (old : Trace) (line : List ℕ) (k : ℕ) (i 
     ((pick : ℕ × ℕ) (wires : List ℕ) → PickFits c i pick wires → line ≡ instance_line i pick wires → ⊥) → IsRefused c old (Delays k) line
 delays_refused c old line k i here none t same right =
     none (pick_at t k) (wires_at t k)
-    (subst (λ (o : Option Instance). PickIsFit c o (pick_at t k) (wires_at t k)) here right.0)
+    (subst (λ (o : Option Instance). PickIsFit c o (pick_at t k) (wires_at t k)) here right.0).fits
     (right.1 ∙ ap (λ (o : Option Instance). delays_line o (pick_at t k) (wires_at t k)) here)
 
 -- ---- bits

@@ -2,11 +2,13 @@
 use Rattle.std.specs.Prelude.{◌≡◌, ◌≢◌, ℕ, ◌-◌, ◌<◌, ◌≤◌, List, [], ◌∷◌, ◌++◌, length, slice_get, Option, Some, None, ⊤}
 use Rattle.std.specs.List.{All}
 use Rattle.flat_circuit.specs.declared.instance.Instance.{Instance}
+use Rattle.flat_circuit.specs.Split.{two_delays}
 use Rattle.flat_circuit.specs.Circuit.{Circuit}
 use Rattle.trace_sim.specs.Choice.{AreTraces, PickFits}
 use Rattle.trace_text.specs.declared.trace.Trace.{Trace}
 use Rattle.trace_text.specs.declared.line.Line.{Line}
 use Rattle.trace_text.specs.declared.line.Line.TheVariants.{Head, Delays, Bits, End}
+use Rattle.trace_text.specs.Scan.{AreSmall, again, picks_count, shown}
 use Rattle.trace_text.specs.Trace.{end_line, line_order, line_text, pick_at, row_at, text_of_lines, trace_lines, wires_at}
 
 -- ---- where a trace ends in a text
@@ -32,9 +34,21 @@ HasNoTrace text = (lines : List (List ℕ)) (drawing : List ℕ) → HasTrace te
 abbrev pub most_ticks : ℕ
 most_ticks = 4096
 
+-- Delays are those that a line says of an instance: none is above 4,095 ticks, and what the line does
+-- not show of the pick is what it does, or 0 where it shows nothing.
+pub record IsPlain (i : Instance) (pick : ℕ × ℕ) (wires : List ℕ) : Type 0 where
+  pub delays_small : AreSmall (shown (picks_count i.kind (two_delays i.kind i.split)) pick)
+  pub wires_small : AreSmall wires
+  pub whole : pick ≡ again i.kind (two_delays i.kind i.split) pick []
+
+-- They are within the bounds of the instance.
+pub record IsFitPick (c : Circuit) (i : Instance) (pick : ℕ × ℕ) (wires : List ℕ) : Type 0 where
+  pub fits : PickFits c i pick wires
+  pub plain : IsPlain i pick wires
+
 abbrev pub PickIsFit : Circuit → Option Instance → ℕ × ℕ → List ℕ → Type 0
 PickIsFit c None pick wires = ⊥
-PickIsFit c (Some i) pick wires = PickFits c i pick wires
+PickIsFit c (Some i) pick wires = IsFitPick c i pick wires
 
 -- What a line says is within bounds: 1 to 4,096 ticks, delays that the instance may have, a bit for
 -- each tick.
@@ -52,7 +66,7 @@ pub record IsTrace (c : Circuit) (trace : Trace) : Type 0 where
   pub delays : length trace.delays ≡ length c.instances
   pub wires : length trace.wires ≡ length c.instances
   pub fit : (k : ℕ) (i : Instance) → slice_get c.instances k ≡ Some i →
-      PickFits c i (pick_at trace k) (wires_at trace k)
+      IsFitPick c i (pick_at trace k) (wires_at trace k)
   pub bits : AreTraces (length c.nets) trace.ticks trace.bits
 
 -- The lines are those of this trace of the circuit.

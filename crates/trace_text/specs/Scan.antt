@@ -81,6 +81,10 @@ picked zero found = (0, 0)
 picked (suc zero) found = (slice_index_or found 0 0, slice_index_or found 0 0)
 picked (suc (suc more)) found = (slice_index_or found 0 0, slice_index_or found 1 0)
 
+-- the pick that a line shows, where these wires' delays follow it
+abbrev pub again : Kind → Option Split → ℕ × ℕ → List ℕ → ℕ × ℕ
+again kind two pick wires = picked (picks_count kind two) (shown (picks_count kind two) pick ++ wires)
+
 -- the delays that the numbers behind an instance's name are
 abbrev pub IsGuess : Instance → List ℕ → ℕ × ℕ → List ℕ → Type 0
 IsGuess i line pick wires =

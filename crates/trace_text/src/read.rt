@@ -11,7 +11,7 @@ ghost use Rattle.listing.specs.Names.{instance_name};
 ghost use Rattle.listing.specs.Text.{bit_text};
 ghost use Rattle.trace_sim.specs.Choice.{PickFits};
 ghost use Rattle.trace_text.specs.Trace.{head_line, instance_line, net_line};
-ghost use Rattle.trace_text.specs.Reading.{most_ticks};
+ghost use Rattle.trace_text.specs.Reading.{IsFitPick, most_ticks};
 ghost use Rattle.trace_text.specs.Scan.{AreSmall, IsGuess, numbers_of, picked, picks_count, shown};
 
 use crate::scan::numbers;
@@ -210,7 +210,7 @@ pub(crate) fn read_delays(
     ensures { IfOk result (λ found. MatchOption found
         ((pick : ℕ × ℕ) (wires : List ℕ) → PickFits c.now i.now pick wires →
         line.now ≡ instance_line i.now pick wires → ⊥)
-        (λ p. PickFits c.now i.now p.0 p.1 × (line.now ≡ instance_line i.now p.0 p.1))) }
+        (λ p. IsFitPick c.now i.now p.0 p.1 × (line.now ≡ instance_line i.now p.0 p.1))) }
 {
     know_delays(i);
     know_wires(c, i.pins.as_slice());
