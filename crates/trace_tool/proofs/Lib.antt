@@ -1,5 +1,12 @@
 pub mod Examples
 pub mod ExamplesRan
+pub mod Made
 pub mod Drawing
 pub mod OneRun
 pub mod Replying
+pub mod Judging
+pub mod OneLines
+pub mod OneRead
+pub mod OneVerdict
+pub mod OneJudged
+pub mod Lawful

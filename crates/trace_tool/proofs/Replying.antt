@@ -4,9 +4,7 @@ use Rattle.std.specs.Prelude.{slice_get}
 use Rattle.std.specs.List.{All}
 use Rattle.std.proofs.lemmas.List.Elements.{All-nil}
 use Rattle.std.proofs.lemmas.Option.{get_or_from_slice_get, same_Some, slice_get_within}
-use Rattle.scald_base.specs.declared.list.NoMemory.{NoMemory as OutOfMemory}
 use Rattle.scald_base.specs.declared.refusal.Refusal.{Refusal}
-use Rattle.program_call.specs.declared.reply.Reply.{Reply}
 use Rattle.flat_circuit.specs.declared.case.CaseValue.{CaseValue}
 use Rattle.flat_circuit.specs.Circuit.{Circuit}
 use Rattle.case_analysis.specs.Listed.{IsListed, is_free, none}
@@ -17,13 +15,8 @@ use Rattle.trace_text.specs.Trace.{trace_text}
 use Rattle.trace_tool.specs.declared.outcome.TraceOutcome.{TraceOutcome}
 use Rattle.trace_tool.specs.declared.outcome.TraceOutcome.TheVariants.{Done, NoCase, Refused, TooBig}
 use Rattle.trace_tool.specs.Ran as ran
+use Rattle.trace_tool.proofs.Made.{Gives, Made}
 use Rattle.trace_tool.specs.Ran.{IsTraced, Ran, RanIn, RanOn, case_asked, most_bits}
-
-abbrev Made : Type 0
-Made = Result (Reply TraceOutcome) OutOfMemory
-
-abbrev Gives : Made → (TraceOutcome → List ℕ → Type 0) → Type 0
-Gives made Replies = IfOk made (λ reply. Replies reply.outcome reply.bytes)
 
 pub refused_reply : (ticks seed : ℕ) (case : Option ℕ) (text : List ℕ) (made : Made) (r : Refusal) → IsTextRefused text r →
     IfOk made (λ reply. reply.outcome ≡ Refused r) → IfOk made (λ reply. reply.bytes ≡ refusal_line r) →

@@ -1,3 +1,6 @@
 pub mod Outcome
 pub mod Words
 pub mod Ran
+pub mod Delays
+pub mod Judged
+pub mod Simulator

@@ -1,17 +1,33 @@
-//! The call of the simulator: its words, and how it ends.
+//! The simulator: runs of a drawing's circuit, made and judged.
 //!
 //! `run T SEED` draws a run of so many ticks by the words of a generator that is seeded so, in a case
 //! where `case=K` follows; `judge F` says whether a trace is a run, and what breaks in it from tick F on.
-//! The main call of the simulator reads its words by [`read_words`], which `specs/Words` defines, and ends with
-//! the [`trace_status`] of its [`TraceOutcome`] (`specs/Outcome`). What `run` replies to a text is [`run`]
-//! (`specs/Ran`).
+//! The program calls [`trace_main`], the main call of `program_call` for the program [`Simulator`]
+//! (`specs/Simulator`), and ends with the [`trace_status`] of its [`TraceOutcome`]. What [`run`] replies to
+//! a text says `specs/Ran`, and what [`judge`] does `specs/Judged`.
 #![tactic(auto)]
 
-mod drawn;
+// words and outcomes
 mod outcome;
-mod replies;
 mod words;
 
+// runs that are drawn
+mod drawn;
+
+// traces that are judged
+mod delays;
+mod judged;
+mod picks;
+mod verdict;
+
+// the call
+mod call;
+mod replies;
+mod simulator;
+
+pub use call::trace_main;
 pub use drawn::run;
+pub use judged::judge;
 pub use outcome::{TraceOutcome, trace_status};
+pub use simulator::Simulator;
 pub use words::{Command, read_words};

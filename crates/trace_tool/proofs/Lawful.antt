@@ -1,0 +1,80 @@
+-- No reply of the simulator is an end of a call, and a text has one.
+use Rattle.std.proofs.Common.{◌≡◌, ℕ, true, false, List, refl, Option, Some, None}
+use Rattle.scald_base.specs.declared.call_end.CallEnd.{CallEnd}
+use Rattle.scald_base.specs.declared.call_end.CallEnd.TheVariants.{BadWords, TooLong, ReadFault, WriteFault, NoMemory}
+use Rattle.flat_circuit.specs.declared.case.CaseValue.{CaseValue}
+use Rattle.flat_circuit.specs.Circuit.{Circuit}
+use Rattle.flat_circuit.specs.Run.{Run as AnyRun}
+use Rattle.run_judge.specs.declared.element.Element.{Element}
+use Rattle.program_call.specs.Program.{IsLawful}
+use Rattle.trace_tool.specs.declared.words.Command.{Command}
+use Rattle.trace_tool.specs.declared.words.Command.TheVariants.{Run, Judge}
+use Rattle.trace_tool.specs.declared.outcome.TraceOutcome.{TraceOutcome}
+use Rattle.trace_tool.specs.Outcome.{end_of, ended}
+use Rattle.trace_tool.specs.Ran as ran
+use Rattle.trace_tool.specs.Ran.{Ran, RanIn, RanOn}
+use Rattle.trace_tool.specs.Judged as judged
+use Rattle.trace_tool.specs.Judged.{Judged, JudgedOn, Verdict, outcome_of}
+use Rattle.trace_tool.specs.Simulator.{simulator}
+use Rattle.trace_tool.proofs.OneRun.{one_ran}
+use Rattle.trace_tool.proofs.OneJudged.{one_judged}
+
+end_of_ended : (end : CallEnd) → end_of (ended end) ≡ Some end
+end_of_ended (BadWords i) = refl
+end_of_ended TooLong = refl
+end_of_ended ReadFault = refl
+end_of_ended WriteFault = refl
+end_of_ended NoMemory = refl
+
+-- ---- replies to `run`
+
+ran_in_speaks : (c : Circuit) (values : List CaseValue) (ticks seed : ℕ) (o : TraceOutcome) (bytes : List ℕ) → RanIn c values ticks seed o bytes → end_of o ≡ None
+ran_in_speaks c values ticks seed _ _ (ran.too_big more) = refl
+ran_in_speaks c values ticks seed _ _ (ran.done trace few is) = refl
+
+ran_on_speaks : (c : Circuit) (cases : List (List CaseValue)) (ticks seed : ℕ) (case : Option ℕ) (o : TraceOutcome) (bytes : List ℕ) →
+    RanOn c cases ticks seed case o bytes → end_of o ≡ None
+ran_on_speaks c cases ticks seed case _ _ (ran.no_case k is past) = refl
+ran_on_speaks c cases ticks seed case _ _ (ran.in_case values o bytes asked r) = ran_in_speaks c values ticks seed o bytes r
+
+ran_speaks : (ticks seed : ℕ) (case : Option ℕ) (text : List ℕ) (o : TraceOutcome) (bytes : List ℕ) → Ran ticks seed case text o bytes → end_of o ≡ None
+ran_speaks ticks seed case text _ _ (ran.refused r is) = refl
+ran_speaks ticks seed case text _ _ (ran.on_circuit c cases o bytes draws on) = ran_on_speaks c cases ticks seed case o bytes on
+
+-- ---- replies to `judge`
+
+found_speaks : (found : Option (Element × ℕ)) → end_of (outcome_of found) ≡ None
+found_speaks None = refl
+found_speaks (Some found) = refl
+
+verdict_speaks : (c : Circuit) (run : AnyRun) (from : ℕ) (o : TraceOutcome) (bytes : List ℕ) → Verdict c run from o bytes → end_of o ≡ None
+verdict_speaks c run from _ _ (judged.no_run t net first) = refl
+verdict_speaks c run from _ _ (judged.of_run stray found is strays breaks) = found_speaks found
+
+judged_on_speaks : (c : Circuit) (lines : List (List ℕ)) (from : ℕ) (o : TraceOutcome) (bytes : List ℕ) → JudgedOn c lines from o bytes → end_of o ≡ None
+judged_on_speaks c lines from _ _ (judged.wrong i is) = refl
+judged_on_speaks c lines from _ _ (judged.judged trace o bytes read v) = verdict_speaks c _ from o bytes v
+
+judged_speaks : (from : ℕ) (text : List ℕ) (o : TraceOutcome) (bytes : List ℕ) → Judged from text o bytes → end_of o ≡ None
+judged_speaks from text _ _ (judged.no_end none) = refl
+judged_speaks from text _ _ (judged.refused lines drawing r h is) = refl
+judged_speaks from text _ _ (judged.on_circuit lines drawing c cases o bytes h draws has on) = judged_on_speaks c lines from o bytes on
+
+-- ---- the program
+
+speaks : (command : Command) (text : List ℕ) (o : TraceOutcome) (bytes : List ℕ) → simulator.Replied command text o bytes → end_of o ≡ None
+speaks (Run ticks seed case) text o bytes r = ran_speaks ticks seed case text o bytes r
+speaks (Judge from) text o bytes r = judged_speaks from text o bytes r
+
+one_reply : (command : Command) (text : List ℕ) (o o' : TraceOutcome) (bytes bytes' : List ℕ) → simulator.Replied command text o bytes →
+    simulator.Replied command text o' bytes' → (o ≡ o') × (bytes ≡ bytes')
+one_reply (Run ticks seed case) text o o' bytes bytes' r r' = one_ran ticks seed case text o o' bytes bytes' r r'
+one_reply (Judge from) text o o' bytes bytes' r r' = one_judged from text o o' bytes bytes' r r'
+
+pub simulator_is_lawful : IsLawful simulator
+simulator_is_lawful = record {
+  ends = end_of_ended;
+  replies = speaks;
+  one = one_reply;
+  unread = λ command text other o bytes none r. absurd (cc);
+}

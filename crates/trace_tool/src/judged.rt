@@ -1,0 +1,117 @@
+//! From a text to what is to be said of the trace in it.
+
+ghost use Rattle.std.specs.Prelude.{◌≡◌, ◌-◌, ◌^◌, ◌<◌, IfOk, length};
+ghost use Rattle.flat_circuit.specs.Run.{IsRun};
+ghost use Rattle.trace_sim.specs.Choice.{AreTraces, choices_of};
+ghost use Rattle.trace_sim.specs.Simulated.{run_of};
+ghost use Rattle.trace_text.specs.Reading.{IsEnded, IsTrace};
+ghost use Rattle.trace_text.specs.Scan.{lines_of};
+ghost use Rattle.trace_tool.specs.Judged.{Judged, JudgedOn, Verdict, run_in};
+
+use crate::delays::circuit_has_delays;
+use crate::outcome::TraceOutcome;
+use crate::picks::said_picks;
+use crate::replies::{refused, silent};
+use crate::verdict::{add_break, add_inputs, add_no_run, add_run, outcome_of};
+use drawn_circuit::read_circuit;
+use flat_circuit::Circuit;
+use program_call::Reply;
+use run_judge::{first_break, first_stray};
+use scald_base::{Bytes, NoMemory, Stop};
+use std::alloc::Global;
+use trace_sim::{Choice, Levels, Traces, first_failure};
+use trace_text::{Trace, TraceFault, read_trace, split_trace};
+
+/// What is to be said of the trace with which a text begins, with breaks from a tick on: whether it is a
+/// run of the circuit that the rest of the text draws, whether its inputs keep their assertions, and what
+/// breaks first; or why the drawing is refused, or which line of the trace is wrong.
+pub fn judge(alloc: Global, text: &[u8], from: u16) -> Result<Reply<TraceOutcome>, NoMemory>
+    requires { length text.now < 2 ^ 32 - 1 }
+    ensures { IfOk result (λ reply. Judged from text.now reply.outcome reply.bytes) }
+{
+    let Some((lines, drawing)) = split_trace(text) else {
+        return Ok(silent(alloc, TraceOutcome::BadTrace(0)));
+    };
+    match read_circuit(alloc, drawing) {
+        Ok(drawn) => {
+            circuit_has_delays(&drawn.circuit);
+            judge_lines(alloc, &drawn.circuit, lines, from)
+        }
+        Err(Stop::Refused(refusal)) => refused(alloc, refusal),
+        Err(Stop::NoMemory) => Err(NoMemory),
+    }
+}
+
+/// The reply to the lines of a trace, on a circuit.
+fn judge_lines(
+    alloc: Global,
+    c: &Circuit,
+    lines: &[u8],
+    from: u16,
+) -> Result<Reply<TraceOutcome>, NoMemory>
+    requires { IsEnded (lines_of lines.now) }
+    ensures { IfOk result (λ reply. JudgedOn c.now (lines_of lines.now) from reply.outcome reply.bytes) }
+{
+    match read_trace(alloc, c, lines) {
+        Ok(trace) => judge_trace(alloc, c, trace, from),
+        Err(TraceFault::WrongLine(i)) => Ok(silent(alloc, TraceOutcome::BadTrace(i))),
+        Err(TraceFault::NoMemory) => Err(NoMemory),
+    }
+}
+
+/// The verdict on a trace.
+fn judge_trace(
+    alloc: Global,
+    c: &Circuit,
+    trace: Trace,
+    from: u16,
+) -> Result<Reply<TraceOutcome>, NoMemory>
+    requires { IsTrace c.now trace }
+    ensures { IfOk result (λ reply. Verdict c.now (run_in c.now trace) from reply.outcome reply.bytes) }
+{
+    c.known();
+    let choice = Choice {
+        delays: said_picks(alloc, c, trace.delays.as_slice())?,
+        wires: trace.wires,
+        inputs: Traces::new(alloc),
+        free: Traces::new(alloc),
+    };
+    let bits = trace.bits.as_slice();
+    match first_failure(alloc, c, &choice, trace.ticks, bits)? {
+        Some((tick, net)) => {
+            let mut bytes = Bytes::new(alloc);
+            add_no_run(&mut bytes, c, tick, net)?;
+            Ok(Reply {
+                outcome: TraceOutcome::NotRun,
+                bytes,
+            })
+        }
+        None => judge_run(alloc, c, &choice, trace.ticks, bits, from),
+    }
+}
+
+/// The verdict on a run.
+fn judge_run(
+    alloc: Global,
+    c: &Circuit,
+    choice: &Choice,
+    ticks: u16,
+    bits: &[Levels],
+    from: u16,
+) -> Result<Reply<TraceOutcome>, NoMemory>
+    requires is_run { IsRun c.now (run_of ticks (choices_of choice.now) bits.now) }
+    requires long { AreTraces (length c.now.nets) ticks bits.now }
+    ensures { IfOk result (λ reply.
+        Verdict c.now (run_of ticks (choices_of choice.now) bits.now) from reply.outcome reply.bytes) }
+{
+    let stray = first_stray(c, ticks, bits);
+    let found = first_break(alloc, c, choice, ticks, bits, from)?;
+    let mut bytes = Bytes::new(alloc);
+    add_run(&mut bytes)?;
+    add_inputs(&mut bytes, c, stray)?;
+    add_break(&mut bytes, c, found)?;
+    Ok(Reply {
+        outcome: outcome_of(found),
+        bytes,
+    })
+}
