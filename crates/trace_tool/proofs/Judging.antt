@@ -163,7 +163,7 @@ are_picks c trace choice is delays wires = record {
       let same : wires_at trace k ≡ row =
       get_or_from_slice_get trace.wires k row [] (subst (λ (ws : List (List ℕ)). slice_get ws k ≡ Some row) wires rows) in
       subst (λ (p : ℕ × ℕ). PickFits c i p row) (sym one)
-      (subst (PickFits c i shown) same (said_pick_fits c i (pick_at trace k) (wires_at trace k) (is.fit k i here)));
+      (subst (PickFits c i shown) same (said_pick_fits c i (pick_at trace k) (wires_at trace k) (is.fit k i here).fits));
 }
 
 -- the run of what was picked

@@ -158,7 +158,7 @@ each_says c lines t u has one two k i is =
     let delay = subst (λ (j : Instance). IsDelay j.delay) (get_or_from_slice_get c.instances k i i is) (has.delays k i within) in
     let both = subst (λ (j : Instance). AreTwoDelays j.split) (get_or_from_slice_get c.instances k i i is) (has.splits k i within) in
     let line = sym (line_stands c t k i is) ∙ ap (λ (ls : List (List ℕ)). slice_get ls (suc k)) (sym one.are ∙ two.are) ∙ line_stands c u k i is in
-    one_line c i (pick_at t k) (pick_at u k) (wires_at t k) (wires_at u k) has delay both (one.is_trace.fit k i is) (two.is_trace.fit k i is)
+    one_line c i (pick_at t k) (pick_at u k) (wires_at t k) (wires_at u k) has delay both (one.is_trace.fit k i is).fits (two.is_trace.fit k i is).fits
     (same_Some (instance_line i (pick_at t k) (wires_at t k)) (instance_line i (pick_at u k) (wires_at u k)) line)
 
 -- by each instance
