@@ -9,5 +9,7 @@ pub mod Started
 pub mod Telling
 pub mod Long
 pub mod Whole
+pub mod Delays
+pub mod Drawn
 mod Examples
 mod ExamplesLaws

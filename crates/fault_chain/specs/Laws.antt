@@ -5,6 +5,7 @@ use Rattle.scald_base.specs.Time.{IsDelay, IsHeader}
 use Rattle.step_values.specs.Steps.{is_quiet}
 use Rattle.element_kinds.specs.declared.kind.Kind.{Kind}
 use Rattle.element_kinds.specs.declared.kind.Kind.TheVariants.{RegRs, LatchRs}
+use Rattle.flat_circuit.specs.declared.case.CaseValue.{CaseValue}
 use Rattle.flat_circuit.specs.declared.instance.Instance.{Instance}
 use Rattle.flat_circuit.specs.declared.net.Net.{Net}
 use Rattle.flat_circuit.specs.declared.split.Split.{Split}
@@ -12,8 +13,10 @@ use Rattle.flat_circuit.specs.declared.fault.Fault.{Fault}
 use Rattle.flat_circuit.specs.declared.fault.Fault.TheVariants.{Point, Width, Hazard, Assertion}
 use Rattle.flat_circuit.specs.Circuit.{Circuit, IsCircuit, driver}
 use Rattle.net_waves.specs.Waves.{Waves}
-use Rattle.case_analysis.specs.Base.{IsBase}
-use Rattle.timing_analysis.specs.Case.{Case, IsAtRest, faults}
+use Rattle.fixpoint_engine.specs.Rounds.{RestsAt}
+use Rattle.case_analysis.specs.Base.{IsBase, base_round}
+use Rattle.drawn_circuit.specs.Drawn.{DrawsCircuit}
+use Rattle.timing_analysis.specs.Case.{Case, IsAtRest, AreAtRest, faults, listed_cases}
 use Rattle.fault_chain.specs.declared.chain.Link.{Link}
 use Rattle.fault_chain.specs.declared.chain.End.{End}
 use Rattle.fault_chain.specs.declared.chain.End.TheVariants.{Level, Repeat, Undriven, Both}
@@ -73,8 +76,19 @@ pub record HasDelays (c : Circuit) : Type 0 where
   pub delays : All (λ (j : Instance). IsDelay j.delay) c.instances
   pub splits : All (λ (j : Instance). AreTwoDelays j.split) c.instances
 
+-- those of all faults of a case
+abbrev pub AreWhole : Circuit → Case → Type 0
+AreWhole c case = All (λ f. IsWhole c f (chain_of c case.waves f)) (faults c case)
+
 abbrev pub ChainsAreWhole : Type 0
 ChainsAreWhole =
     (c : Circuit) (limit base : ℕ) (before : Waves) (case : Case) → IsCircuit c → IsHeader c.header →
-    HasDelays c → IsBase c limit base before → IsAtRest c limit base case →
-    All (λ f. IsWhole c f (chain_of c case.waves f)) (faults c case)
+    HasDelays c → IsBase c limit base before → IsAtRest c limit base case → AreWhole c case
+
+-- A circuit that a text draws is such a circuit: where its base and its cases have settled, all of their
+-- chains are whole.
+abbrev pub DrawnChainsAreWhole : Type 0
+DrawnChainsAreWhole =
+    (text : List ℕ) (c : Circuit) (values : List (List CaseValue)) (limit base : ℕ) (cases : List Case) →
+    DrawsCircuit text c values → RestsAt (base_round c) limit base →
+    AreAtRest c limit base (listed_cases values) cases → All (AreWhole c) cases

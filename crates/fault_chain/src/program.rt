@@ -6,7 +6,7 @@ ghost use Rattle.scald_base.specs.Device.{Rose, ReadsFront, ReadsPast};
 ghost use Rattle.program_call.specs.Program.{AreTold, IsAnswered, IsCutShort, asks, is_silent, speaks};
 ghost use Rattle.timing_reply.specs.Program.{most_bytes, no_words};
 ghost use Rattle.fault_chain.specs.Answer.{chains};
-ghost use Rattle.fault_chain.specs.Laws.{ChainsAreWhole};
+ghost use Rattle.fault_chain.specs.Laws.{ChainsAreWhole, DrawnChainsAreWhole};
 
 use crate::teller::Chains;
 use program_call::{Program, Reply, main_call};
@@ -104,8 +104,10 @@ pub fn chain_main<S: Source, K: Sink>(
         most_bytes < length text → ¬ Rose (S.faults source.old) (S.faults source.new) →
         (result ≡ Outcome.NoMemory) ⊎ (result ≡ Outcome.TooLong)) }
 
-    // The chain of each fault of a case at rest is whole.
+    // The chain of each fault of a case at rest is whole: where the delays of a circuit are in their bounds,
+    // and so in each circuit that a text draws.
     ensures chains_whole { ChainsAreWhole }
+    ensures drawn_whole { DrawnChainsAreWhole }
 {
     main_call::<ChainProgram, S, K>(alloc, words, source, sink)
 }
