@@ -29,9 +29,8 @@ use Rattle.trace_text.specs.Trace.{pick_at, text_of_lines, wires_at}
 use Rattle.trace_text.specs.Reading.{HasNoTrace, HasTrace, IsEnded, IsReadAs, IsTrace, IsWrongLine}
 use Rattle.trace_tool.specs.declared.outcome.TraceOutcome.{TraceOutcome}
 use Rattle.trace_tool.specs.declared.outcome.TraceOutcome.TheVariants.{BadTrace, NotRun, Refused}
-use Rattle.trace_tool.specs.Delays.{HasDelays}
 use Rattle.trace_tool.specs.Judged as judged
-use Rattle.trace_tool.specs.Judged.{IsBreak, IsStray, Judged, JudgedOn, Verdict, all_said, break_line, inputs_line, not_a_run_line, outcome_of, run_in, run_line, said, said_by}
+use Rattle.trace_tool.specs.Judged.{IsBreak, IsStray, Judged, JudgedOn, Verdict, break_line, inputs_line, not_a_run_line, outcome_of, run_in, run_line}
 use Rattle.trace_tool.proofs.Made.{Gives, Made}
 
 -- ---- replies
@@ -48,9 +47,9 @@ unread_reply from text lines drawing r (Ok reply) h is outcome bytes =
 unread_reply from text lines drawing r (Err e) h is outcome bytes = tt
 
 pub on_circuit_reply : (from : ℕ) (text : List ℕ) (lines : List (List ℕ)) (drawing : List ℕ) (c : Circuit) (cases : List (List CaseValue)) (made : Made) →
-    HasTrace text lines drawing → DrawsCircuit drawing c cases → HasDelays c → Gives made (JudgedOn c lines from) → Gives made (Judged from text)
-on_circuit_reply from text lines drawing c cases (Ok reply) h draws has on = judged.on_circuit lines drawing c cases reply.outcome reply.bytes h draws has on
-on_circuit_reply from text lines drawing c cases (Err e) h draws has on = tt
+    HasTrace text lines drawing → DrawsCircuit drawing c cases → Gives made (JudgedOn c lines from) → Gives made (Judged from text)
+on_circuit_reply from text lines drawing c cases (Ok reply) h draws on = judged.on_circuit lines drawing c cases reply.outcome reply.bytes h draws on
+on_circuit_reply from text lines drawing c cases (Err e) h draws on = tt
 
 pub wrong_reply : (c : Circuit) (lines : List (List ℕ)) (from i : ℕ) (o : TraceOutcome) (bytes : List ℕ) → IsWrongLine c lines i → o ≡ BadTrace i → bytes ≡ [] →
     JudgedOn c lines from o bytes
@@ -58,7 +57,7 @@ wrong_reply c lines from i o bytes wrong outcome silent =
     subst (λ (p : TraceOutcome). JudgedOn c lines from p bytes) (sym outcome) (subst (JudgedOn c lines from (BadTrace i)) (sym silent) (judged.wrong i wrong))
 
 pub judged_reply : (c : Circuit) (lines : List (List ℕ)) (from : ℕ) (trace : Trace) (made : Made) → IsReadAs c lines trace →
-    Gives made (Verdict c (run_in c trace) from) → Gives made (JudgedOn c lines from)
+    Gives made (Verdict c (run_in trace) from) → Gives made (JudgedOn c lines from)
 judged_reply c lines from trace (Ok reply) read v = judged.judged trace reply.outcome reply.bytes read v
 judged_reply c lines from trace (Err e) read v = tt
 
@@ -88,87 +87,3 @@ of_run_reply c run from stray found o bytes is strays breaks outcome text =
 pub no_run_reply : (c : Circuit) (run : Run) (from t net : ℕ) (bytes : List ℕ) → FailsFirst c run t net → bytes ≡ not_a_run_line c t net →
     Verdict c run from NotRun bytes
 no_run_reply c run from t net bytes first text = subst (Verdict c run from NotRun) (sym text) (judged.no_run t net first)
-
--- ---- what a trace shows of delays fits where these fit
-
--- by the form of a kind
-fits_by : (form : Form) (d : Bounds) (pick : ℕ × ℕ) → DelayFitsForm form d pick.0 → DelayFitsForm form d (said_by form pick).0
-fits_by Gate d pick fits = fits
-fits_by Change d pick fits = tt
-fits_by (Register forced) d pick fits = fits
-fits_by (Enabled forced) d pick fits = fits
-fits_by (Checker check) d pick fits = tt
-
-one_by : (form : Form) (pick : ℕ × ℕ) → IsOneDelayForm form pick → IsOneDelayForm form (said_by form pick)
-one_by Gate pick one = one
-one_by Change pick one = tt
-one_by (Register forced) pick one = one
-one_by (Enabled forced) pick one = one
-one_by (Checker check) pick one = tt
-
-said_fits : (kind : Kind) (d : Bounds) (two : Option Split) (pick : ℕ × ℕ) (wires : List ℕ) → DelaysFit kind d two (chosen pick wires) →
-    DelaysFit kind d two (chosen (said kind two pick) wires)
-said_fits kind d None pick wires fits = fits_by (form_of kind) d pick fits
-said_fits kind d (Some both) pick wires fits = fits
-
-said_one : (kind : Kind) (two : Option Split) (pick : ℕ × ℕ) → IsOneDelay kind two pick → IsOneDelay kind two (said kind two pick)
-said_one kind None pick one = one_by (form_of kind) pick one
-said_one kind (Some both) pick one = tt
-
-said_pick_fits : (c : Circuit) (i : Instance) (pick : ℕ × ℕ) (wires : List ℕ) → PickFits c i pick wires →
-    PickFits c i (said i.kind (two_delays i.kind i.split) pick) wires
-said_pick_fits c i pick wires fits = record {
-  delay = said_fits i.kind i.delay (two_delays i.kind i.split) pick wires fits.delay;
-  one = said_one i.kind (two_delays i.kind i.split) pick fits.one;
-  wire = fits.wire;
-}
-
--- ---- all of it
-
-pub said_long : (is : List Instance) (ps : List (ℕ × ℕ)) → length ps ≡ length is → length (all_said is ps) ≡ length is
-said_long [] ps long = refl
-said_long (i ∷ is) [] long = absurd (omega (arith, long))
-said_long (i ∷ is) (p ∷ ps) long = let more = said_long is ps (omega (arith, long)) in omega (arith, more)
-
-said_at : (is : List Instance) (ps : List (ℕ × ℕ)) (k : ℕ) (i : Instance) (p : ℕ × ℕ) → slice_get is k ≡ Some i → slice_get (all_said is ps) k ≡ Some p →
-    p ≡ said i.kind (two_delays i.kind i.split) (slice_index_or ps k (0, 0))
-said_at [] ps k i p here there = absurd (cc)
-said_at (j ∷ js) [] k i p here there = absurd (cc)
-said_at (j ∷ js) (q ∷ qs) zero i p here there =
-    sym (same_Some (said j.kind (two_delays j.kind j.split) q) p there)
-    ∙ ap (λ (e : Instance). said e.kind (two_delays e.kind e.split) q) (same_Some j i here)
-said_at (j ∷ js) (q ∷ qs) (suc k) i p here there = said_at js qs k i p here there
-
--- one instance more
-pub said_next : (is : List Instance) (ps : List (ℕ × ℕ)) (k : ℕ) (i : Instance) (d : ℕ × ℕ) → slice_get is k ≡ Some i → length ps ≡ length is →
-    all_said (take (k + 1) is) ps ≡ all_said (take k is) ps ++ said i.kind (two_delays i.kind i.split) (get_or ps k d) ∷ []
-said_next [] ps k i d here long = absurd (cc)
-said_next (j ∷ js) [] k i d here long = absurd (omega (arith, long))
-said_next (j ∷ js) (q ∷ qs) zero i d here long =
-    ap (λ (e : Instance). said e.kind (two_delays e.kind e.split) q ∷ []) (same_Some j i here)
-said_next (j ∷ js) (q ∷ qs) (suc k) i d here long =
-    let one : suc k + 1 ≡ suc (k + 1) = omega arith in
-    ap (λ (n : ℕ). all_said (take n (j ∷ js)) (q ∷ qs)) one
-    ∙ ap (λ (l : List (ℕ × ℕ)). said j.kind (two_delays j.kind j.split) q ∷ l) (said_next js qs k i d here (omega (arith, long)))
-
-pub are_picks : (c : Circuit) (trace : Trace) (choice : Choice) → IsTrace c trace → choice.delays ≡ all_said c.instances trace.delays →
-    choice.wires ≡ trace.wires → ArePicks c choice
-are_picks c trace choice is delays wires = record {
-  delays = ap length delays ∙ said_long c.instances trace.delays is.delays;
-  wires = ap length wires ∙ is.wires;
-  fits = λ k i pick row here picked rows.
-      let shown : ℕ × ℕ = said i.kind (two_delays i.kind i.split) (pick_at trace k) in
-      let one : pick ≡ shown =
-      said_at c.instances trace.delays k i pick here (subst (λ (ds : List (ℕ × ℕ)). slice_get ds k ≡ Some pick) delays picked) in
-      let same : wires_at trace k ≡ row =
-      get_or_from_slice_get trace.wires k row [] (subst (λ (ws : List (List ℕ)). slice_get ws k ≡ Some row) wires rows) in
-      subst (λ (p : ℕ × ℕ). PickFits c i p row) (sym one)
-      (subst (PickFits c i shown) same (said_pick_fits c i (pick_at trace k) (wires_at trace k) (is.fit k i here).fits));
-}
-
--- the run of what was picked
-pub same_run : (c : Circuit) (trace : Trace) (picks : List (ℕ × ℕ)) (bits : Bits) → picks ≡ all_said c.instances trace.delays → bits ≡ trace.bits →
-    run_of trace.ticks (all_chosen picks trace.wires) bits ≡ run_in c trace
-same_run c trace picks bits said same =
-    ap (λ (ps : List (ℕ × ℕ)). run_of trace.ticks (all_chosen ps trace.wires) bits) said
-    ∙ ap (λ (bs : Bits). run_of trace.ticks (all_chosen (all_said c.instances trace.delays) trace.wires) bs) same

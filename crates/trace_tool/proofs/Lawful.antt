@@ -58,7 +58,7 @@ judged_on_speaks c lines from _ _ (judged.judged trace o bytes read v) = verdict
 judged_speaks : (from : ℕ) (text : List ℕ) (o : TraceOutcome) (bytes : List ℕ) → Judged from text o bytes → end_of o ≡ None
 judged_speaks from text _ _ (judged.no_end none) = refl
 judged_speaks from text _ _ (judged.refused lines drawing r h is) = refl
-judged_speaks from text _ _ (judged.on_circuit lines drawing c cases o bytes h draws has on) = judged_on_speaks c lines from o bytes on
+judged_speaks from text _ _ (judged.on_circuit lines drawing c cases o bytes h draws on) = judged_on_speaks c lines from o bytes on
 
 -- ---- the program
 

@@ -6,7 +6,6 @@ pub mod OneRun
 pub mod Replying
 pub mod Judging
 pub mod OneLines
-pub mod OneRead
 pub mod OneVerdict
 pub mod OneJudged
 pub mod Lawful

@@ -2,14 +2,7 @@
 -- inputs keep their assertions, and what breaks in it first; or why that is not said.
 use Rattle.std.specs.Prelude.{ℕ, List, [], ◌∷◌, ◌++◌, codes, decimal, Option, Some, None}
 use Rattle.scald_base.specs.declared.refusal.Refusal.{Refusal}
-use Rattle.element_kinds.specs.declared.kind.Kind.{Kind}
-use Rattle.element_kinds.specs.declared.form.Form.{Form}
-use Rattle.element_kinds.specs.declared.form.Form.TheVariants.{Gate, Change, Register, Latch as Enabled, Checker}
-use Rattle.element_kinds.specs.Kinds.{form_of}
 use Rattle.flat_circuit.specs.declared.case.CaseValue.{CaseValue}
-use Rattle.flat_circuit.specs.declared.instance.Instance.{Instance}
-use Rattle.flat_circuit.specs.declared.split.Split.{Split}
-use Rattle.flat_circuit.specs.Split.{two_delays}
 use Rattle.flat_circuit.specs.Name.{net_at}
 use Rattle.flat_circuit.specs.Circuit.{Circuit}
 use Rattle.flat_circuit.specs.Run.{IsRun, Run}
@@ -27,31 +20,12 @@ use Rattle.run_judge.specs.declared.element.Element.{Element}
 use Rattle.run_judge.specs.declared.element.Element.TheVariants.{Instance as OfInstance, Net as OfNet}
 use Rattle.run_judge.specs.Break.{BreaksFirst, BreaksNever}
 use Rattle.run_judge.specs.Interface.{StraysFirst}
-use Rattle.trace_tool.specs.Delays.{HasDelays}
 use Rattle.trace_tool.specs.declared.outcome.TraceOutcome.{TraceOutcome}
 use Rattle.trace_tool.specs.declared.outcome.TraceOutcome.TheVariants.{BadTrace, Broken, Done, NotRun, Refused}
 
--- ---- what a trace says as a run
-
--- A line shows no delay of a change function or of a checker: what stands there does not count, and is 0.
-abbrev pub said_by : Form → ℕ × ℕ → ℕ × ℕ
-said_by Gate pick = pick
-said_by Change pick = (0, 0)
-said_by (Register forced) pick = pick
-said_by (Enabled forced) pick = pick
-said_by (Checker check) pick = (0, 0)
-
-abbrev pub said : Kind → Option Split → ℕ × ℕ → ℕ × ℕ
-said kind None pick = said_by (form_of kind) pick
-said kind (Some both) pick = pick
-
-abbrev pub all_said : List Instance → List (ℕ × ℕ) → List (ℕ × ℕ)
-all_said [] picks = []
-all_said (i ∷ is) [] = []
-all_said (i ∷ is) (p ∷ ps) = said i.kind (two_delays i.kind i.split) p ∷ all_said is ps
-
-abbrev pub run_in : Circuit → Trace → Run
-run_in c trace = run_of trace.ticks (all_chosen (all_said c.instances trace.delays) trace.wires) trace.bits
+-- what a trace says as a run
+abbrev pub run_in : Trace → Run
+run_in trace = run_of trace.ticks (all_chosen trace.delays trace.wires) trace.bits
 
 -- ---- lines
 
@@ -105,14 +79,13 @@ pub data Verdict (c : Circuit) (run : Run) (from : ℕ) : TraceOutcome → List 
 pub data JudgedOn (c : Circuit) (lines : List (List ℕ)) (from : ℕ) : TraceOutcome → List ℕ → Type 0 where
   wrong : (i : ℕ) → IsWrongLine c lines i → JudgedOn c lines from (BadTrace i) []
   judged : (trace : Trace) (o : TraceOutcome) (bytes : List ℕ) → IsReadAs c lines trace →
-      Verdict c (run_in c trace) from o bytes → JudgedOn c lines from o bytes
+      Verdict c (run_in trace) from o bytes → JudgedOn c lines from o bytes
 
--- To a text: that no line ends the trace comes first, then why the drawing is refused. The bounds of a circuit
--- that is drawn are those of delays.
+-- To a text: that no line ends the trace comes first, then why the drawing is refused.
 pub data Judged (from : ℕ) (text : List ℕ) : TraceOutcome → List ℕ → Type 0 where
   no_end : HasNoTrace text → Judged from text (BadTrace 0) []
   refused : (lines : List (List ℕ)) (drawing : List ℕ) (r : Refusal) → HasTrace text lines drawing →
       IsTextRefused drawing r → Judged from text (Refused r) (refusal_line r)
   on_circuit : (lines : List (List ℕ)) (drawing : List ℕ) (c : Circuit) (cases : List (List CaseValue))
       (o : TraceOutcome) (bytes : List ℕ) → HasTrace text lines drawing → DrawsCircuit drawing c cases →
-      HasDelays c → JudgedOn c lines from o bytes → Judged from text o bytes
+      JudgedOn c lines from o bytes → Judged from text o bytes

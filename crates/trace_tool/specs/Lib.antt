@@ -1,6 +1,5 @@
 pub mod Outcome
 pub mod Words
 pub mod Ran
-pub mod Delays
 pub mod Judged
 pub mod Simulator

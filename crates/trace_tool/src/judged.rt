@@ -8,9 +8,7 @@ ghost use Rattle.trace_text.specs.Reading.{IsEnded, IsTrace};
 ghost use Rattle.trace_text.specs.Scan.{lines_of};
 ghost use Rattle.trace_tool.specs.Judged.{Judged, JudgedOn, Verdict, run_in};
 
-use crate::delays::circuit_has_delays;
 use crate::outcome::TraceOutcome;
-use crate::picks::said_picks;
 use crate::replies::{refused, silent};
 use crate::verdict::{add_break, add_inputs, add_no_run, add_run, outcome_of};
 use drawn_circuit::read_circuit;
@@ -33,10 +31,7 @@ pub fn judge(alloc: Global, text: &[u8], from: u16) -> Result<Reply<TraceOutcome
         return Ok(silent(alloc, TraceOutcome::BadTrace(0)));
     };
     match read_circuit(alloc, drawing) {
-        Ok(drawn) => {
-            circuit_has_delays(&drawn.circuit);
-            judge_lines(alloc, &drawn.circuit, lines, from)
-        }
+        Ok(drawn) => judge_lines(alloc, &drawn.circuit, lines, from),
         Err(Stop::Refused(refusal)) => refused(alloc, refusal),
         Err(Stop::NoMemory) => Err(NoMemory),
     }
@@ -67,11 +62,11 @@ fn judge_trace(
     from: u16,
 ) -> Result<Reply<TraceOutcome>, NoMemory>
     requires { IsTrace c.now trace }
-    ensures { IfOk result (λ reply. Verdict c.now (run_in c.now trace) from reply.outcome reply.bytes) }
+    ensures { IfOk result (λ reply. Verdict c.now (run_in trace) from reply.outcome reply.bytes) }
 {
     c.known();
     let choice = Choice {
-        delays: said_picks(alloc, c, trace.delays.as_slice())?,
+        delays: trace.delays,
         wires: trace.wires,
         inputs: Traces::new(alloc),
         free: Traces::new(alloc),

@@ -15,9 +15,7 @@ mod words;
 mod drawn;
 
 // traces that are judged
-mod delays;
 mod judged;
-mod picks;
 mod verdict;
 
 // the call

@@ -13,7 +13,7 @@ pub returns-in-Ok : goal.returns-in-Ok
 returns-in-Ok c =
     let drawn = c.in-Ok.drawn in
     on_circuit_reply c.args.from c.args.text.now (lines_of c.in-Some.lines.now) c.in-Some.drawing.now drawn.circuit drawn.cases c.judge_lines.result
-    c.in-Some.ensures c.in-Ok.ensures.drawn c.circuit_has_delays.ensures c.judge_lines.ensures
+    c.in-Some.ensures c.in-Ok.ensures.drawn c.judge_lines.ensures
 
 pub returns-in-Err-Refused : goal.returns-in-Err-Refused
 returns-in-Err-Refused c =
