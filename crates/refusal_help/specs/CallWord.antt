@@ -3,7 +3,7 @@ use Rattle.std.specs.Prelude.{ℕ, zero, suc, Bool, not, ◌&&◌, List, [], ◌
 use Rattle.std.specs.List.{find}
 use Rattle.std.specs.Str.{bytes_eq}
 use Rattle.refusal_help.specs.declared.call_word.CallWord.{CallWord}
-use Rattle.refusal_help.specs.declared.call_word.CallWord.TheVariants.{Verify, Format, Upgrade, Margins, Chains, Bench, Waves, Faults, Rounds}
+use Rattle.refusal_help.specs.declared.call_word.CallWord.TheVariants.{Verify, Format, Upgrade, Margins, Chains, Sections, Bench, Waves, Faults, Rounds}
 use Rattle.refusal_help.specs.Near.{is_near}
 use Rattle.refusal_help.specs.Text.{line, quoted}
 
@@ -13,6 +13,7 @@ word_of Format = codes "format"
 word_of Upgrade = codes "upgrade"
 word_of Margins = codes "margins"
 word_of Chains = codes "chains"
+word_of Sections = codes "sections"
 word_of Bench = codes "bench"
 word_of Waves = codes "waves"
 word_of Faults = codes "faults"
@@ -20,7 +21,7 @@ word_of Rounds = codes "rounds=N"
 
 -- the words that a form begins with, and those that may follow
 abbrev pub commands : List CallWord
-commands = Verify ∷ Format ∷ Upgrade ∷ Margins ∷ Chains ∷ Bench ∷ []
+commands = Verify ∷ Format ∷ Upgrade ∷ Margins ∷ Chains ∷ Sections ∷ Bench ∷ []
 
 abbrev pub options : List CallWord
 options = Waves ∷ Faults ∷ Rounds ∷ []

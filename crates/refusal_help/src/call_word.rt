@@ -18,6 +18,7 @@ pub enum CallWord {
     Upgrade,
     Margins,
     Chains,
+    Sections,
     Bench,
     Waves,
     Faults,
@@ -25,12 +26,13 @@ pub enum CallWord {
 }
 
 /// The words that a form begins with.
-const COMMANDS: [CallWord; 6] = [
+const COMMANDS: [CallWord; 7] = [
     CallWord::Verify,
     CallWord::Format,
     CallWord::Upgrade,
     CallWord::Margins,
     CallWord::Chains,
+    CallWord::Sections,
     CallWord::Bench,
 ];
 
@@ -48,6 +50,7 @@ impl CallWord {
             CallWord::Upgrade => b"upgrade",
             CallWord::Margins => b"margins",
             CallWord::Chains => b"chains",
+            CallWord::Sections => b"sections",
             CallWord::Bench => b"bench",
             CallWord::Waves => b"waves",
             CallWord::Faults => b"faults",
