@@ -1,6 +1,7 @@
 #!/bin/sh
 # Compares the report, the margins and, where one stands beside it, the chains of each drawing of examples/ with
-# those that stand beside it, and the status with the last line. A drawing whose report has faults has chains.
+# those that stand beside it, and the status with the last line; and in examples/sections/ the reports, and that of all
+# sections together. A drawing of examples/ whose report has faults has chains.
 # Usage: checks/examples.sh [PROGRAM]. Where none is named and none is built it says so and ends with 0.
 . "$(dirname -- "$0")/common.sh"
 begin "${1-}"
@@ -16,7 +17,7 @@ status_of() {
     esac
 }
 
-for drawing in "$top"/examples/*.scald; do
+for drawing in "$top"/examples/*.scald "$top"/examples/sections/*.scald; do
     name=$(basename -- "$drawing" .scald)
     report=${drawing%.scald}.report
     trying "$name"
@@ -58,8 +59,23 @@ for drawing in "$top"/examples/*.scald; do
     cmp -s "$work/report" "$report" || failure "$name: another report of its canonical text"
     "$program" format <"$work/text" | cmp -s - "$work/text" || failure "$name: another canonical text"
 done
-for report in "$top"/examples/*.report "$top"/examples/*.margins "$top"/examples/*.chains; do
-    [ -f "${report%.*}.scald" ] || failure "$(basename -- "$report"): no drawing beside it"
+
+# Its sections joined: the text is that of the three drawings, one after the other.
+processor=$top/examples/sections/processor
+trying processor
+for section in control store datapath; do
+    [ "$section" = control ] || echo =====
+    cat "$top/examples/sections/$section.scald"
+done | cmp -s - "$processor.sections" || failure "processor: other sections than the drawings beside it"
+"$program" sections <"$processor.sections" >"$work/report"
+status=$?
+[ "$status" = "$(status_of "$processor.report")" ] || failure "processor: another status: $status"
+cmp -s "$work/report" "$processor.report" || failure "processor: another report"
+
+for report in "$top"/examples/*.report "$top"/examples/*.margins "$top"/examples/*.chains \
+    "$top"/examples/sections/*.report "$top"/examples/sections/*.margins; do
+    [ -f "${report%.*}.scald" ] || [ -f "${report%.*}.sections" ] ||
+        failure "$(basename -- "$report"): no drawing beside it"
 done
 
 ended

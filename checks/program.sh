@@ -171,6 +171,7 @@ forms='scald: these words are none of its forms, which are
     scald upgrade <DRAWING                             the drawing in version 2 of the language
     scald margins <DRAWING                             by how much more each checker may ask for
     scald chains <DRAWING                              where each fault comes from
+    scald sections <DRAWINGS                           verify of drawings with a line ===== between them, each by itself and joined
     scald bench N                                      what is found in a made drawing of N sections, 1 to 200'
 
 # none LINE WORD ..: no form has these words, the line says which is wrong, where one is, and nothing is read for them:
@@ -230,6 +231,12 @@ none "'chains' cannot come after 'chains'" chains chains
 none "'faults' cannot come after 'chains'" chains faults
 none "'' cannot come after 'chains'" chains ''
 none "'chain' is none of its words: is chains meant?" chain
+none "'sections' cannot come after 'sections'" sections sections
+none "'waves' cannot come after 'sections'" sections waves
+none "'' cannot come after 'sections'" sections ''
+none "'3' cannot come after 'sections'" sections 3
+none "'Sections' is none of its words: is sections meant?" Sections
+none "'section' is none of its words: is sections meant?" section
 # three words at most, and two for bench
 none "'faults' cannot come after 'rounds=5'" verify waves rounds=5 faults
 none "'rounds=5' cannot come after 'rounds=5': is rounds=N meant?" verify waves rounds=5 rounds=5
@@ -275,6 +282,33 @@ head -c 4194304 /dev/zero | tr '\0' ';' >"$work/text"
 says "little memory" 8 'scald: there is not enough memory' $?
 "$program" "$(printf 'verify\351')" <"$first" >"$work/out" 2>"$work/said"
 says "a word that is no text" 20 'scald: the system gives no arguments, or not as text' $?
+
+# sections: how many there are, and where one is refused
+for count in 0 64; do
+    yes ===== | head -n "$count" | "$program" sections >"$work/out" 2>"$work/said"
+    says "$((count + 1)) sections" 9 'scald: there should be 2 to 64 sections, with a line ===== between them' $?
+done
+{
+    cat "$first"
+    printf '=====\nSCALD 1;\nCLOCK 8 x 50;\nDRAWING T;\nb1 : BUFF [0:0] ("A") -> ("X");\nEND;\n'
+} | "$program" sections >"$work/answer" 2>"$work/said"
+status=$?
+: >"$work/out"
+says "a section that is refused" 2 "scald: 4:1: there is no such kind and no such macro
+    b1 : BUFF [0:0] (\"A\") -> (\"X\");
+    ^
+    'BUFF' is none: is BUF meant?" "$status"
+cp "$work/answer" "$work/out"
+printf 'SECTION 2\nREFUSED 6 UnknownKind 4:1\n' >"$work/want"
+expect "the lines of a section that is refused" 2 "$status"
+head -c 4194305 /dev/zero | "$program" sections >"$work/out" 2>"$work/said"
+says "one byte too many in sections" 5 'scald: the drawing has more than 4194304 bytes' $?
+"$program" sections <"$work" >"$work/out" 2>"$work/said"
+says "a directory as sections" 6 'scald: standard input could not be read' $?
+"$program" sections <"$top/examples/sections/processor.sections" 2>"$work/said" >/dev/full
+status=$?
+: >"$work/out"
+says "a full device for sections" 7 'scald: standard output could not be written' "$status"
 
 # Where there is an answer nothing is said.
 for text in "$first" "$top/examples/skew_hold.scald"; do

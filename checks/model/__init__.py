@@ -1,4 +1,5 @@
-"""A model of `scald verify`, `margins` and `chains`: a second account of what a drawing means.
+"""A model of `scald verify`, `margins`, `chains` and `sections`: a second account of what a drawing means, and several
+together.
 
 It is written from docs/LANGUAGE.md and docs/MEANING.md, in other words than the definitions in crates/*/specs and
 with none of the program's methods: it goes slot by slot and tick by tick, evaluates every net in every round, and
@@ -15,9 +16,11 @@ In the order in which a drawing flows through them:
     circuit     nets, pins and instances       margins   how much more checkers may ask for
     rules       a circuit's own rules, cases   chains    where faults come from
                                                report    the answers: their lines and statuses
+                                               sections  several drawings, each by itself, and joined
 
 It is tried on random_drawings, with patterns that chance would seldom draw; mending and spoiling make most of them good,
-and some bad in a chosen way. __main__ tries them; laws tries what must hold of every margin and chain in the model alone.
+and some bad in a chosen way; and on the lists of drawings of random_sections. __main__ tries them; laws tries what must
+hold of every margin and chain in the model alone.
 
 The model begins with the tree and has no reader: texts that the grammar refuses, and limits on how much there may be
 (TooMany and most of TooDeep), are not in it.

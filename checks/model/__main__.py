@@ -1,9 +1,10 @@
 """Compares the program with the model over random drawings, which are numbered; each number has always the same one.
 
-Usage: python3 -B -m model PROGRAM COUNT [FIRST], with checks/ as PYTHONPATH. One line is printed for each drawing: its
-number and Clean, Faulty, Unsettled or `Refused KIND`; or, where bytes or status differ, FAILED and the names of the
-files that its text and both answers are kept in, in the folder KEPT or else in the temporary one. It stops where many
-have failed. Of each drawing the report, the margins and the chains are compared.
+Usage: python3 -B -m model PROGRAM COUNT [FIRST [sections]], with checks/ as PYTHONPATH. With the last word the texts
+are lists of sections. One line is printed for each text: its number and Clean, Faulty, Unsettled, `Refused KIND`, BadCount
+or `BadSection RULE`; or, where bytes or status differ, FAILED and the names of the files that its text and both answers
+are kept in, in the folder KEPT or else in the temporary one. It stops where many have failed. Of each drawing the report,
+the margins and the chains are compared.
 """
 import multiprocessing
 import os
@@ -14,7 +15,9 @@ from random import Random
 
 from .mending import mend
 from .random_drawings import make_drawing
+from .random_sections import make_sections
 from .report import Answer, Mode, chains, margins, verify
+from .sections import joined_text, verify_sections
 from .spoiling import spoil
 from .writing import write_drawing
 
@@ -56,32 +59,45 @@ def keep(number, text, wanted, given):
     return f"{front}.scald, .wanted and .given"
 
 
-def try_drawing(program, number):
-    """The line of one drawing."""
+def ask_drawing(number):
+    """A drawing's text, and the words that are tried on it, each with the answer that there should be."""
     random = Random(number)
     drawing = drawing_of(random, number)
     text = write_drawing(drawing)
     mode = random.choice([Mode.WHOLE] * 4 + [Mode.WAVES, Mode.FAULTS])
     rounds = random.choice([None] * 6 + [1, 2, 3, 7, 20])
-    report = verify(drawing, mode, rounds)
-    answers = [(words_of(mode, rounds), report), (["margins"], margins(drawing)), (["chains"], chains(drawing))]
-    for words, wanted in answers:
+    asked = [(words_of(mode, rounds), verify(drawing, mode, rounds))]
+    return text, [*asked, (["margins"], margins(drawing)), (["chains"], chains(drawing))]
+
+
+def ask_sections(number):
+    """The same of a list of sections."""
+    random = Random(number)
+    drawings = make_sections(random)
+    return joined_text(drawings, random.random() < 0.5), [(["sections"], verify_sections(drawings))]
+
+
+def try_text(program, number, ask):
+    """The line of one text."""
+    text, asked = ask(number)
+    for words, wanted in asked:
         given = answer_of(program, words, text)
         if (given.status, given.text) != (wanted.status, wanted.text):
             why = "other bytes" if given.status == wanted.status else f"status {given.status} in place of {wanted.status}"
             why = given.outcome or why
             return f"{number} FAILED `{' '.join(words)}`: {why}; {keep(number, text, wanted, given)}"
-    return f"{number} {report.outcome}"
+    return f"{number} {asked[0][1].outcome}"
 
 
 def try_one(job):
-    return try_drawing(*job)
+    return try_text(*job)
 
 
 def main():
     program, count = sys.argv[1], int(sys.argv[2])
     first = int(sys.argv[3]) if len(sys.argv) > 3 else 1
-    jobs = ((program, number) for number in range(first, first + count))
+    ask = ask_sections if sys.argv[4:] == ["sections"] else ask_drawing
+    jobs = ((program, number, ask) for number in range(first, first + count))
     wrong = 0
     with multiprocessing.Pool() as pool:
         for line in pool.imap(try_one, jobs, chunksize=10):

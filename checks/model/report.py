@@ -50,8 +50,8 @@ def wave_line(net, wave):
     return f"WAVE {net} SKEW {wave.skew} {stretches}"
 
 
-def report(circuit, version, settled, mode):
-    """The lines of a report, and how many faults there are."""
+def lines_of(circuit, version, settled, mode):
+    """The lines of a report up to its last, and how many faults there are."""
     lines = list(head_lines(circuit, version))
     count = 0
     for case in settled.cases:
@@ -63,8 +63,30 @@ def report(circuit, version, settled, mode):
         count += len(found)
         if mode != Mode.WAVES:
             lines += map(str, found)
-    lines.append(f"FAULTS {count}" if count else "CLEAN")
     return lines, count
+
+
+def last_line(count):
+    return f"FAULTS {count}" if count else "CLEAN"
+
+
+def refusal_line(refused):
+    kind, place = refused.kind, refused.place
+    return f"REFUSED {kind.value} {kind.name} {place.line}:{place.column}"
+
+
+def unsettled_line(unsettled):
+    return f"UNSETTLED {unsettled.net} ROUND {unsettled.limit}"
+
+
+def answer_of_lines(status, lines, outcome):
+    return Answer(status, "".join(f"{line}\n" for line in lines), outcome)
+
+
+def report(circuit, version, settled, mode):
+    """The lines of a report, and how many faults there are."""
+    lines, count = lines_of(circuit, version, settled, mode)
+    return [*lines, last_line(count)], count
 
 
 def answer(drawing, rounds, told):
@@ -74,14 +96,12 @@ def answer(drawing, rounds, told):
         circuit = circuit_of(drawing)
         settled = settle_all(circuit, default_limit(circuit) if rounds is None else rounds)
     except Refused as refused:
-        kind, place = refused.kind, refused.place
-        text = f"REFUSED {kind.value} {kind.name} {place.line}:{place.column}\n"
-        return Answer(2, text, f"Refused {kind.name}")
+        return answer_of_lines(2, [refusal_line(refused)], f"Refused {refused.kind.name}")
     except Unsettled as unsettled:
-        return Answer(3, f"UNSETTLED {unsettled.net} ROUND {unsettled.limit}\n", "Unsettled")
+        return answer_of_lines(3, [unsettled_line(unsettled)], "Unsettled")
     lines, count = told(circuit, settled)
     outcome = "Done" if count is None else "Faulty" if count else "Clean"
-    return Answer(1 if count else 0, "\n".join(lines) + "\n", outcome)
+    return answer_of_lines(1 if count else 0, lines, outcome)
 
 
 def verify(drawing, mode=Mode.WHOLE, rounds=None):

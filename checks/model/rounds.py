@@ -1,10 +1,10 @@
 """Rounds until the waves settle, cases, and the printed tick (docs/MEANING.md, "Rounds", "Cases" and "The printed tick")."""
 from typing import NamedTuple
 
-from .assertions import wave_of
+from .assertions import wave_of, wide_wave
 from .drawing import Constant
 from .elements import output_wave
-from .waves import constant, delayed, flipped, normal
+from .waves import Wave, constant, delayed, flipped, normal
 
 
 class Unsettled(Exception):
@@ -74,12 +74,15 @@ def settle(circuit, start, active, limit):
         rounds += 1
 
 
-def base(circuit, limit):
-    """A circuit settled before any case: it begins with the assertions, and with nothing known of driven nets."""
+def base(circuit, limit, crossing=frozenset()):
+    """A circuit settled before any case: it begins with the assertions, and with nothing known of driven nets. A net that
+    comes from another section does in each slot what its assertion permits anywhere, and has no skew."""
     start = {}
     for net in circuit.nets:
         if net in circuit.drivers:
             start[net] = constant("U", circuit.period)
+        elif net in crossing:
+            start[net] = Wave(wide_wave(circuit.assertion(net), circuit.header), 0)
         else:
             start[net] = wave_of(circuit.assertion(net), circuit.header)
     return settle(circuit, start, list(circuit.drivers), limit)
@@ -118,9 +121,9 @@ def default_limit(circuit):
     return len(circuit.elements) + 4 * circuit.period + 16
 
 
-def settle_all(circuit, limit):
+def settle_all(circuit, limit, crossing=frozenset()):
     """The base and each case settled; the one case 0 where none is listed."""
-    at_base = base(circuit, limit)
+    at_base = base(circuit, limit, crossing)
     if not circuit.cases:
         return Settled(at_base.rounds, [CaseRest(0, at_base.waves, 0)])
     cases = []

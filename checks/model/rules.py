@@ -73,8 +73,13 @@ def levels_of(circuit, case):
     return levels
 
 
-def keep_rules(circuit, drawing):
-    """Gives a circuit its drivers and its cases, or refuses it."""
+def keep_circuit_rules(circuit):
+    """Gives a circuit its drivers, or refuses it."""
     find_drivers(circuit)
     check_loops(circuit)
+
+
+def keep_rules(circuit, drawing):
+    """Gives a circuit its drivers and its cases, or refuses it."""
+    keep_circuit_rules(circuit)
     circuit.cases = [levels_of(circuit, case) for case in drawing.cases]

@@ -2,6 +2,8 @@
 use Rattle.std.specs.Prelude.{ℕ, List, ◌++◌, codes, Option, Some, None}
 use Rattle.scald_base.specs.declared.outcome.Outcome.{Outcome}
 use Rattle.scald_base.specs.declared.outcome.Outcome.TheVariants.{Clean, Faulty, Done, Refused, Unsettled, BadWords, TooLong, ReadFault, WriteFault, NoMemory}
+use Rattle.section_compose.specs.declared.outcome.SectionsOutcome.{SectionsOutcome}
+use Rattle.section_compose.specs.declared.outcome.SectionsOutcome.TheVariants as sections
 use Rattle.scald.specs.declared.unstarted.Unstarted.{Unstarted}
 use Rattle.scald.specs.declared.unstarted.Unstarted.TheVariants.{NoArguments, NoMemory as NoRoom}
 
@@ -16,7 +18,8 @@ forms =
     (codes "    scald upgrade <DRAWING                             the drawing in version 2 of the language\n" ++
     (codes "    scald margins <DRAWING                             by how much more each checker may ask for\n" ++
     (codes "    scald chains <DRAWING                              where each fault comes from\n" ++
-    codes "    scald bench N                                      what is found in a made drawing of N sections, 1 to 200")))))
+    (codes "    scald sections <DRAWINGS                           verify of drawings with a line ===== between them, each by itself and joined\n" ++
+    codes "    scald bench N                                      what is found in a made drawing of N sections, 1 to 200"))))))
 
 abbrev pub no_memory : List ℕ
 no_memory = codes "scald: there is not enough memory"
@@ -24,6 +27,18 @@ no_memory = codes "scald: there is not enough memory"
 abbrev pub unsettled : List ℕ
 unsettled =
     codes "scald: the net that is named still changes after the last round; unless rounds=N was asked for, a loop leads to it"
+
+abbrev pub too_long : List ℕ
+too_long = codes "scald: the drawing has more than 4194304 bytes"
+
+abbrev pub unread : List ℕ
+unread = codes "scald: standard input could not be read"
+
+abbrev pub unwritten : List ℕ
+unwritten = codes "scald: standard output could not be written"
+
+abbrev pub bad_count : List ℕ
+bad_count = codes "scald: there should be 2 to 64 sections, with a line ===== between them"
 
 -- why an outcome is no answer, where there is something to say
 abbrev pub why_of : Outcome → Option (List ℕ)
@@ -33,10 +48,24 @@ why_of Done = None
 why_of (Refused r) = None
 why_of (Unsettled k limit) = Some unsettled
 why_of (BadWords i) = Some forms
-why_of TooLong = Some (codes "scald: the drawing has more than 4194304 bytes")
-why_of ReadFault = Some (codes "scald: standard input could not be read")
-why_of WriteFault = Some (codes "scald: standard output could not be written")
+why_of TooLong = Some too_long
+why_of ReadFault = Some unread
+why_of WriteFault = Some unwritten
 why_of NoMemory = Some no_memory
+
+-- the same of an answer to sections
+abbrev pub why_of_sections : SectionsOutcome → Option (List ℕ)
+why_of_sections sections.Clean = None
+why_of_sections (sections.Faulty n) = None
+why_of_sections (sections.Refused section r) = None
+why_of_sections (sections.Unsettled section net round) = Some unsettled
+why_of_sections (sections.BadWords i) = Some forms
+why_of_sections sections.TooLong = Some too_long
+why_of_sections sections.ReadFault = Some unread
+why_of_sections sections.WriteFault = Some unwritten
+why_of_sections sections.NoMemory = Some no_memory
+why_of_sections (sections.BadCount k) = Some bad_count
+why_of_sections (sections.BadSection section rule net) = None
 
 -- ---- where there are no words
 

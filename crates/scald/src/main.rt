@@ -1,27 +1,27 @@
-//! The timing verifier as a program: it reads a drawing from standard input and writes the report to
+//! The timing verifier as a program: it reads a drawing, or several, from standard input and writes the report to
 //! standard output. Its words are its arguments, and it ends with the status of the outcome. Where there
 //! is no answer to the drawing, standard error says why, and what may help; standard output has the answer
 //! alone.
 //!
 //! The first word names a main call: `margins` is `margin_report::margin_main`, `chains` is
-//! `fault_chain::chain_main`, and all other words are those of `scald_tool::tool_main`. The contract of each
-//! says what its answer means.
+//! `fault_chain::chain_main`, `sections` is `section_compose::sections_main`, and all other words are those of
+//! `scald_tool::tool_main`. The contract of each says what its answer means.
 #![tactic(auto)]
 
 ghost use Rattle.std.specs.Prelude.{◌≡◌};
 ghost use Rattle.std.specs.Process.{exit_status};
-ghost use Rattle.scald_base.specs.Outcome.{status_of};
+ghost use Rattle.scald.specs.Named.{status_of};
 ghost use Rattle.scald.specs.Said.{unstarted_status};
 
 mod named;
 mod said;
 mod unstarted;
 
-use named::outcome;
+use named::{Answer, answer_to};
 use refusal_help::KeptSource;
-use said::{say, say_outcome};
+use said::{say, say_answer};
 use scald_base::{StdSink, StdSource};
-use scald_tool::{Outcome, Words, status, words_of};
+use scald_tool::{Words, words_of};
 use std::io::Eprint;
 use std::process::ExitCode;
 use std::rt::Env;
@@ -41,17 +41,17 @@ fn end_unstarted(rt: &impl Eprint, cause: Unstarted) -> ExitCode
     ExitCode::from(cause.status())
 }
 
-/// Says why there is no answer, where there is none, and gives the outcome's status.
+/// Says why there is no answer, where there is none, and gives the status of its outcome.
 fn end(
     rt: &(impl Eprint + AllocGlobal),
     words: &Words,
     text: Option<&[u8]>,
-    outcome: &Outcome,
+    answer: &Answer,
 ) -> ExitCode
-    ensures { exit_status result ≡ status_of outcome.now }
+    ensures { exit_status result ≡ status_of answer.now }
 {
-    say_outcome(rt, words, text, outcome);
-    ExitCode::from(status(outcome))
+    say_answer(rt, words, text, answer);
+    ExitCode::from(answer.status())
 }
 
 fn main(rt: HostRuntime) -> ExitCode {
@@ -61,6 +61,6 @@ fn main(rt: HostRuntime) -> ExitCode {
     };
     let mut source = KeptSource::new(rt.alloc(), StdSource::new(rt.reader()));
     let mut sink = StdSink::new(io::writer(&rt));
-    let outcome = outcome(rt.alloc(), &words, &mut source, &mut sink);
-    end(&rt, &words, source.kept(), &outcome)
+    let answer = answer_to(rt.alloc(), &words, &mut source, &mut sink);
+    end(&rt, &words, source.kept(), &answer)
 }

@@ -1,12 +1,13 @@
 //! The main call that the first word names.
 
 ghost use Rattle.std.specs.Prelude.{◌≡◌};
-ghost use Rattle.scald.specs.Named.{call_of};
+ghost use Rattle.scald.specs.Named.{call_of, status_of};
 
 use fault_chain::chain_main;
 use margin_report::margin_main;
 use scald_base::{List, Outcome, Sink, Source, Words};
-use scald_tool::tool_main;
+use scald_tool::{status, tool_main};
+use section_compose::{SectionsOutcome, sections_main, sections_status};
 use std::alloc::Global;
 
 /// A main call.
@@ -18,6 +19,27 @@ enum Call {
     Margins,
     /// That of the chains.
     Chains,
+    /// That of sections.
+    Sections,
+}
+
+/// What a main call answers: to one drawing, or to several.
+#[derive(Clone, Copy, Debug)]
+pub enum Answer {
+    Drawing(Outcome),
+    Sections(SectionsOutcome),
+}
+
+impl Answer {
+    /// The status of its outcome.
+    pub fn status(&self) -> u8
+        ensures { result ≡ status_of self.now }
+    {
+        match self {
+            Answer::Drawing(outcome) => status(outcome),
+            Answer::Sections(outcome) => sections_status(outcome),
+        }
+    }
 }
 
 /// The main call that the first word names, or that of the verifier where it names none or there is none.
@@ -31,6 +53,8 @@ fn call_of(words: &Words) -> Call
         Call::Margins
     } else if first.as_slice() == b"chains".as_slice() {
         Call::Chains
+    } else if first.as_slice() == b"sections".as_slice() {
+        Call::Sections
     } else {
         Call::Tool
     }
@@ -41,34 +65,56 @@ fn tool<S: Source, K: Sink>(alloc: Global, words: &Words, source: &mut S, sink: 
     tool_main(alloc, words, source, sink)
 }
 
-/// The outcome of the margins, which have no words.
-fn margins<S: Source, K: Sink>(alloc: Global, source: &mut S, sink: &mut K) -> Outcome {
-    margin_main(alloc, &List::new(alloc), source, sink)
-}
-
-/// The outcome of the chains, which have no words.
-fn chains<S: Source, K: Sink>(alloc: Global, source: &mut S, sink: &mut K) -> Outcome {
-    chain_main(alloc, &List::new(alloc), source, sink)
-}
-
-/// The outcome of the main call that the first word names. No word may follow that of a call without words, so
-/// where one does, the second is wrong.
-pub fn outcome<S: Source, K: Sink>(
+/// The outcome of the margins. No word may follow theirs, so where one does, it is wrong.
+fn margins<S: Source, K: Sink>(
     alloc: Global,
     words: &Words,
     source: &mut S,
     sink: &mut K,
 ) -> Outcome {
-    let call = call_of(words);
-    if call == Call::Tool {
-        return tool(alloc, words, source, sink);
-    }
     if words.len() > 1 {
         return Outcome::BadWords(1);
     }
-    if call == Call::Margins {
-        margins(alloc, source, sink)
-    } else {
-        chains(alloc, source, sink)
+    margin_main(alloc, &List::new(alloc), source, sink)
+}
+
+/// The outcome of the chains. No word may follow theirs.
+fn chains<S: Source, K: Sink>(
+    alloc: Global,
+    words: &Words,
+    source: &mut S,
+    sink: &mut K,
+) -> Outcome {
+    if words.len() > 1 {
+        return Outcome::BadWords(1);
+    }
+    chain_main(alloc, &List::new(alloc), source, sink)
+}
+
+/// The outcome of sections. No word may follow theirs; words are counted after it.
+fn sections<S: Source, K: Sink>(
+    alloc: Global,
+    words: &Words,
+    source: &mut S,
+    sink: &mut K,
+) -> SectionsOutcome {
+    if words.len() > 1 {
+        return SectionsOutcome::BadWords(0);
+    }
+    sections_main(alloc, &List::new(alloc), source, sink)
+}
+
+/// What the main call answers that the first word names.
+pub fn answer_to<S: Source, K: Sink>(
+    alloc: Global,
+    words: &Words,
+    source: &mut S,
+    sink: &mut K,
+) -> Answer {
+    match call_of(words) {
+        Call::Tool => Answer::Drawing(tool(alloc, words, source, sink)),
+        Call::Margins => Answer::Drawing(margins(alloc, words, source, sink)),
+        Call::Chains => Answer::Drawing(chains(alloc, words, source, sink)),
+        Call::Sections => Answer::Sections(sections(alloc, words, source, sink)),
     }
 }

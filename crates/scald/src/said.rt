@@ -1,12 +1,17 @@
 //! What the program says on standard error where it ends without an answer to the drawing.
 
-ghost use Rattle.std.specs.Prelude.{◌≡◌};
+ghost use Rattle.std.specs.Prelude.{◌≡◌, ◌-◌, ◌^◌, ◌<◌, IfSome, length};
 ghost use Rattle.std.specs.Option.{option_copied};
-ghost use Rattle.scald.specs.Said.{forms, no_memory, unsettled, why_of};
+ghost use Rattle.section_rules.specs.Pieces.{Lies};
+ghost use Rattle.scald.specs.Said.{bad_count, forms, no_memory, too_long, unread, unsettled, unwritten, why_of, why_of_sections};
 
+use crate::named::Answer;
 use refusal_help::{explain_refusal, explain_words};
 use scald_base::{Bytes, NoMemory, Refusal};
 use scald_tool::{Outcome, Words};
+use section_compose::SectionsOutcome;
+use section_rules::{Piece, sections_of};
+use std::alloc::Global;
 use std::io::Eprint;
 use std::str;
 
@@ -23,6 +28,7 @@ fn forms() -> &'static str
     scald upgrade <DRAWING                             the drawing in version 2 of the language
     scald margins <DRAWING                             by how much more each checker may ask for
     scald chains <DRAWING                              where each fault comes from
+    scald sections <DRAWINGS                           verify of drawings with a line ===== between them, each by itself and joined
     scald bench N                                      what is found in a made drawing of N sections, 1 to 200"
 }
 
@@ -40,18 +46,65 @@ fn unsettled() -> &'static str
     "scald: the net that is named still changes after the last round; unless rounds=N was asked for, a loop leads to it"
 }
 
+/// What is said where more bytes came than a text may have.
+fn too_long() -> &'static str
+    ensures { result.now ≡ too_long }
+{
+    "scald: the drawing has more than 4194304 bytes"
+}
+
+/// What is said where reading failed.
+fn unread() -> &'static str
+    ensures { result.now ≡ unread }
+{
+    "scald: standard input could not be read"
+}
+
+/// What is said where writing failed.
+fn unwritten() -> &'static str
+    ensures { result.now ≡ unwritten }
+{
+    "scald: standard output could not be written"
+}
+
+/// What is said where there are too few or too many sections.
+fn bad_count() -> &'static str
+    ensures { result.now ≡ bad_count }
+{
+    "scald: there should be 2 to 64 sections, with a line ===== between them"
+}
+
 /// Why an outcome is no answer to the drawing, or None where there is nothing to say.
 fn why(outcome: &Outcome) -> Option<&'static str>
     ensures { option_copied result ≡ why_of outcome.now }
 {
     match outcome {
         Outcome::BadWords(_) => Some(forms()),
-        Outcome::TooLong => Some("scald: the drawing has more than 4194304 bytes"),
-        Outcome::ReadFault => Some("scald: standard input could not be read"),
-        Outcome::WriteFault => Some("scald: standard output could not be written"),
+        Outcome::TooLong => Some(too_long()),
+        Outcome::ReadFault => Some(unread()),
+        Outcome::WriteFault => Some(unwritten()),
         Outcome::NoMemory => Some(no_memory()),
         Outcome::Unsettled { .. } => Some(unsettled()),
         Outcome::Clean | Outcome::Faulty(_) | Outcome::Done | Outcome::Refused(_) => None,
+    }
+}
+
+/// The same of an answer to sections.
+fn why_of_sections(outcome: &SectionsOutcome) -> Option<&'static str>
+    ensures { option_copied result ≡ why_of_sections outcome.now }
+{
+    match outcome {
+        SectionsOutcome::BadWords(_) => Some(forms()),
+        SectionsOutcome::TooLong => Some(too_long()),
+        SectionsOutcome::ReadFault => Some(unread()),
+        SectionsOutcome::WriteFault => Some(unwritten()),
+        SectionsOutcome::NoMemory => Some(no_memory()),
+        SectionsOutcome::BadCount(_) => Some(bad_count()),
+        SectionsOutcome::Unsettled { .. } => Some(unsettled()),
+        SectionsOutcome::Clean
+        | SectionsOutcome::Faulty(_)
+        | SectionsOutcome::Refused { .. }
+        | SectionsOutcome::BadSection { .. } => None,
     }
 }
 
@@ -78,9 +131,33 @@ fn say_refusal(rt: &(impl Eprint + AllocGlobal), text: Option<&[u8]>, refusal: R
     }
 }
 
-/// Says why there is no answer to the drawing, where there is none: `text` is what was read of it, where
-/// that was kept.
-pub fn say_outcome(
+/// Where a section, counted from 1, lies in a text; or `None` where there is none or memory ran out.
+fn section_piece(alloc: Global, text: &[u8], section: u32) -> Option<Piece>
+    requires { length text.now < 2 ^ 32 - 1 }
+    ensures { IfSome result (Lies (length text.now)) }
+{
+    let pieces = sections_of(alloc, text).ok()?;
+    pieces.get((section as usize).checked_sub(1)?).copied()
+}
+
+/// Says what is wrong with a section, counted from 1, of a text that was kept.
+fn say_section(
+    rt: &(impl Eprint + AllocGlobal),
+    text: Option<&[u8]>,
+    section: u32,
+    refusal: Refusal,
+) {
+    if let Some(text) = text {
+        if text.len() <= MOST_BYTES {
+            if let Some(piece) = section_piece(rt.alloc(), text, section) {
+                say_refusal(rt, Some(&text[piece.from..piece.to]), refusal);
+            }
+        }
+    }
+}
+
+/// Says why there is no answer to the drawing, where there is none.
+fn say_outcome(
     rt: &(impl Eprint + AllocGlobal),
     words: &Words,
     text: Option<&[u8]>,
@@ -93,5 +170,40 @@ pub fn say_outcome(
     }
     if let Some(why) = why(outcome) {
         say(rt, why);
+    }
+}
+
+/// Says why there is no answer to sections, where there is none. Their words are counted after the first.
+fn say_sections(
+    rt: &(impl Eprint + AllocGlobal),
+    words: &Words,
+    text: Option<&[u8]>,
+    outcome: &SectionsOutcome,
+) {
+    match outcome {
+        SectionsOutcome::BadWords(number) => {
+            say_lines(
+                rt,
+                explain_words(rt.alloc(), words, number.saturating_add(1)),
+            )
+        }
+        SectionsOutcome::Refused { section, refusal } => say_section(rt, text, *section, *refusal),
+        _ => {}
+    }
+    if let Some(why) = why_of_sections(outcome) {
+        say(rt, why);
+    }
+}
+
+/// Says why there is no answer, where there is none: `text` is what was read, where that was kept.
+pub fn say_answer(
+    rt: &(impl Eprint + AllocGlobal),
+    words: &Words,
+    text: Option<&[u8]>,
+    answer: &Answer,
+) {
+    match answer {
+        Answer::Drawing(outcome) => say_outcome(rt, words, text, outcome),
+        Answer::Sections(outcome) => say_sections(rt, words, text, outcome),
     }
 }
