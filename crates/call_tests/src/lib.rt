@@ -1,6 +1,6 @@
 //! What is tested of the whole calls: words, devices that fail or fill up, and texts that are cut short,
-//! formatted, or verified by both kinds of waves; and the margins and the chains of texts. Each row has
-//! what comes in, and the outcome and the bytes that go out as they were worked out on paper.
+//! formatted, or verified by both kinds of waves; the margins and the chains of texts; and sections. Each
+//! row has what comes in, and the outcome and the bytes that go out as they were worked out on paper.
 //!
 //! The crate has tests alone, and nothing stands on it.
 #![tactic(auto)]
@@ -15,6 +15,8 @@ mod texts;
 #[cfg(test)]
 mod answers;
 #[cfg(test)]
+mod bad_sections;
+#[cfg(test)]
 mod calls;
 #[cfg(test)]
 mod chains;
@@ -26,6 +28,10 @@ mod margins;
 mod refusals;
 #[cfg(test)]
 mod reports;
+#[cfg(test)]
+mod section_calls;
+#[cfg(test)]
+mod sections;
 #[cfg(test)]
 mod upgrades;
 #[cfg(test)]
