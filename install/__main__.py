@@ -34,8 +34,9 @@ def copied(program):
     """What is copied, by its place, with the mode that it gets."""
     documents = {
         f"share/doc/scald/{path.relative_to(TOP)}": (path, 0o644)
-        for name in ("docs/LANGUAGE.md", "docs/MEANING.md", "docs/IDIOMS.md", "examples/*")
+        for name in ("docs/LANGUAGE.md", "docs/MEANING.md", "docs/IDIOMS.md", "examples/**/*")
         for path in sorted(TOP.glob(name))
+        if path.is_file()
     }
     return {"libexec/scald": (program, 0o755), "bin/scald": (TOP / "scald", 0o755), **documents}
 
