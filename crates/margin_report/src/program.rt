@@ -6,6 +6,7 @@ ghost use Rattle.scald_base.specs.Device.{Rose, ReadsFront, ReadsPast};
 ghost use Rattle.program_call.specs.Program.{AreTold, IsAnswered, IsCutShort, asks, is_silent, speaks};
 ghost use Rattle.timing_reply.specs.Program.{most_bytes, no_words};
 ghost use Rattle.margin_report.specs.Answer.{margins};
+ghost use Rattle.margin_report.specs.Laws.{FittingIsMonotone, MarginsAreTrue};
 
 use crate::teller::Margins;
 use program_call::{Program, Reply, main_call};
@@ -102,6 +103,10 @@ pub fn margin_main<S: Source, K: Sink>(
     ensures long_text { IfSome (S.left source.old) (λ text. asks margins words.now ≡ true →
         most_bytes < length text → ¬ Rose (S.faults source.old) (S.faults source.new) →
         (result ≡ Outcome.NoMemory) ⊎ (result ≡ Outcome.TooLong)) }
+
+    // Where a value does not fit, no greater one does; and a margin is what its line says.
+    ensures monotone { FittingIsMonotone }
+    ensures margins_true { MarginsAreTrue }
 {
     main_call::<MarginProgram, S, K>(alloc, words, source, sink)
 }
