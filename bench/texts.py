@@ -248,6 +248,19 @@ def fault_chains(buses):
     return drawing(lines)
 
 
+def trace(count):
+    """A trace of so many buffers of one clock, and the drawing of them."""
+    ticks, late = 1000, 1
+    clock = "".join(str(int(tick % 400 in range(100, 150))) for tick in range(ticks))
+    lines = [f"TRACE {ticks}"]
+    lines += [f"b{i}<0> {late} : 0" for i in range(count)]
+    lines.append(f"CK<0> {clock}")
+    lines += [f"X{i}<0> {'0' * late}{clock[:-late]}" for i in sorted(range(count), key=str)]
+    lines.append("END TRACE")
+    buffers = drawing(f'b{i} : BUF [1:2] ("CK .P2-3") -> ("X{i}");' for i in range(count))
+    return "".join(line + "\n" for line in lines) + buffers
+
+
 def statements(count):
     """The shortest statements, and a comment that fills the text up to the most bytes a text of all of them may have."""
     text = drawing(['WIRE "A" 0:0;'] * count)

@@ -172,6 +172,8 @@ forms='scald: these words are none of its forms, which are
     scald margins <DRAWING                             by how much more each checker may ask for
     scald chains <DRAWING                              where each fault comes from
     scald sections <DRAWINGS                           verify of drawings with a line ===== between them, each by itself and joined
+    scald run T SEED [case=K] <DRAWING                 a run of T ticks that a seed draws, 1 to 4096, as a trace
+    scald judge F <TRACE-AND-DRAWING                   whether the trace is a run, and what breaks in it from tick F on
     scald bench N                                      what is found in a made drawing of N sections, 1 to 200'
 
 # none LINE WORD ..: no form has these words, the line says which is wrong, where one is, and nothing is read for them:
@@ -237,6 +239,23 @@ none "'' cannot come after 'sections'" sections ''
 none "'3' cannot come after 'sections'" sections 3
 none "'Sections' is none of its words: is sections meant?" Sections
 none "'section' is none of its words: is sections meant?" section
+none "a word is missing after 'run'" run
+none "a word is missing after '6'" run 6
+none "a word is missing after 'judge'" judge
+none "'case=0' cannot come after '0': is case=K meant?" run 6 0 case=0
+none "'case=257' cannot come after '0'" run 6 0 case=257
+none "'x' cannot come after 'case=1'" run 6 0 case=1 x
+none "'x' cannot come after '1'" judge 1 x
+none "'Judge' is none of its words: is judge meant?" Judge
+for number in '' 0 01 +1 4097 65537 4294967297; do
+    none "'$number' cannot come after 'run'" run "$number" 0
+done
+for number in '' 00 -1 18446744073709551616 340282366920938463463374607431768211456; do
+    none "'$number' cannot come after '6'" run 6 "$number"
+done
+for number in '' 00 -1 4097 65536; do
+    none "'$number' cannot come after 'judge'" judge "$number"
+done
 # three words at most, and two for bench
 none "'faults' cannot come after 'rounds=5'" verify waves rounds=5 faults
 none "'rounds=5' cannot come after 'rounds=5': is rounds=N meant?" verify waves rounds=5 rounds=5
@@ -322,6 +341,58 @@ status=$?
 : >"$work/out"
 says "a loop that does not settle" 3 \
     'scald: the net that is named still changes after the last round; unless rounds=N was asked for, a loop leads to it' "$status"
+
+# --- runs
+
+short() {
+    printf 'SCALD 1;\nCLOCK 4 x 1;\nDRAWING ROW;\n'
+    printf '%s\n' "$@" 'END;'
+}
+pulse='c1 : MIN_PULSE_CHK {HIGH=1} ("CK .P1-2");'
+printf 'TRACE 6\nc1<0> - : 0\nCK<0> 010001\nEND TRACE\n' >"$work/want"
+short "$pulse" | "$program" run 6 0 >"$work/out"
+expect "a run of a clock" 0 $?
+cp "$work/want" "$work/trace"
+printf 'RUN\nINTERFACE\nBREAK c1<0> TICK 2\n' >"$work/want"
+short 'c1 : MIN_PULSE_CHK {HIGH=2} ("CK .P1-2");' | cat "$work/trace" - | "$program" judge 1 >"$work/out"
+expect "a break" 1 $?
+printf 'RUN\nINTERFACE\nNO BREAK\n' >"$work/want"
+short "$pulse" | cat "$work/trace" - | "$program" judge 0 >"$work/out"
+expect "no break" 0 $?
+
+# the greatest number of bits, and one net bit more
+short 'b : BUF [1:1] ("A"<0:249>) -> ("X"<0:249>);' 'c : BUF [1:1] ("B"<0:249>) -> ("Y"<0:249>);' >"$work/text"
+short 'b : BUF [1:1] ("A"<0:249>) -> ("X"<0:249>);' 'c : BUF [1:1] ("B"<0:249>) -> ("Y"<0:249>);' \
+    'w : MIN_PULSE_CHK {HIGH=1} ("Z");' >"$work/more"
+"$program" run 4000 1 <"$work/text" >"$work/trace"
+status=$?
+tr -d '\n' <"$work/trace" | grep -o '[01]\{4000\}' | wc -l >"$work/out"
+echo 1000 >"$work/want"
+expect "a trace of 4,000,000 bits" 0 "$status"
+printf 'RUN\nINTERFACE\nNO BREAK\n' >"$work/want"
+cat "$work/trace" "$work/text" | "$program" judge 0 >"$work/out"
+expect "its verdict" 0 $?
+"$program" run 4000 1 <"$work/more" >"$work/out" 2>"$work/said"
+says "a trace of more bits" 11 'scald: the trace would have more than 4000000 bits' $?
+"$program" run 6 0 case=2 <"$first" >"$work/out" 2>"$work/said"
+says "no such case" 10 'scald: the drawing has no such case: it has 0' $?
+"$program" judge 0 <"$first" >"$work/out" 2>"$work/said"
+says "no trace" 9 'scald: no line END TRACE ends the trace' $?
+printf 'TRACE 6\nc1<0> - : 1\nCK<0> 010001\nEND TRACE\n' >"$work/trace"
+short "$pulse" | cat "$work/trace" - | "$program" judge 0 >"$work/out" 2>"$work/said"
+says "a wire past its bounds" 9 'scald: line 2 is not what stands there in a trace of the drawing' $?
+head -c 4194305 /dev/zero | "$program" run 6 0 >"$work/out" 2>"$work/said"
+says "one byte too many for a run" 5 'scald: the drawing has more than 4194304 bytes, or with a trace more than 16777216' $?
+head -c 16777217 /dev/zero | "$program" judge 0 >"$work/out" 2>"$work/said"
+says "one byte too many for a verdict" 5 'scald: the drawing has more than 4194304 bytes, or with a trace more than 16777216' $?
+head -c 16777216 /dev/zero | "$program" judge 0 >"$work/out" 2>"$work/said"
+says "the most bytes for a verdict" 9 'scald: no line END TRACE ends the trace' $?
+short 'b1 : BUFF [0:0] ("A") -> ("X");' | cat "$work/trace" - >"$work/text"
+echo "REFUSED 6 UnknownKind 4:1" >"$work/want"
+"$program" judge 0 <"$work/text" >"$work/out" 2>"$work/said"
+expect "a drawing that is refused, after a trace" 2 $?
+trying "its place"
+grep -qx "    b1 : BUFF \[0:0\] (\"A\") -> (\"X\");" "$work/said" || failure "its place: another line is shown"
 
 # generated drawings: nothing is read for them, and the next command still finds the first line
 bench() {

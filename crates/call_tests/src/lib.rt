@@ -1,6 +1,7 @@
 //! What is tested of the whole calls: words, devices that fail or fill up, and texts that are cut short,
-//! formatted, or verified by both kinds of waves; the margins and the chains of texts; and sections. Each
-//! row has what comes in, and the outcome and the bytes that go out as they were worked out on paper.
+//! formatted, or verified by both kinds of waves; the margins and the chains of texts; sections; and runs
+//! that are made and judged. Each row has what comes in, and the outcome and the bytes that go out as they
+//! were worked out on paper.
 //!
 //! The crate has tests alone, and nothing stands on it.
 #![tactic(auto)]
@@ -28,6 +29,8 @@ mod margins;
 mod refusals;
 #[cfg(test)]
 mod reports;
+#[cfg(test)]
+mod runs;
 #[cfg(test)]
 mod section_calls;
 #[cfg(test)]

@@ -3,7 +3,7 @@ use Rattle.std.specs.Prelude.{ℕ, zero, suc, Bool, not, ◌&&◌, List, [], ◌
 use Rattle.std.specs.List.{find}
 use Rattle.std.specs.Str.{bytes_eq}
 use Rattle.refusal_help.specs.declared.call_word.CallWord.{CallWord}
-use Rattle.refusal_help.specs.declared.call_word.CallWord.TheVariants.{Verify, Format, Upgrade, Margins, Chains, Sections, Bench, Waves, Faults, Rounds}
+use Rattle.refusal_help.specs.declared.call_word.CallWord.TheVariants.{Verify, Format, Upgrade, Margins, Chains, Sections, Run, Judge, Bench, Waves, Faults, Rounds, Case}
 use Rattle.refusal_help.specs.Near.{is_near}
 use Rattle.refusal_help.specs.Text.{line, quoted}
 
@@ -14,17 +14,20 @@ word_of Upgrade = codes "upgrade"
 word_of Margins = codes "margins"
 word_of Chains = codes "chains"
 word_of Sections = codes "sections"
+word_of Run = codes "run"
+word_of Judge = codes "judge"
 word_of Bench = codes "bench"
 word_of Waves = codes "waves"
 word_of Faults = codes "faults"
 word_of Rounds = codes "rounds=N"
+word_of Case = codes "case=K"
 
 -- the words that a form begins with, and those that may follow
 abbrev pub commands : List CallWord
-commands = Verify ∷ Format ∷ Upgrade ∷ Margins ∷ Chains ∷ Sections ∷ Bench ∷ []
+commands = Verify ∷ Format ∷ Upgrade ∷ Margins ∷ Chains ∷ Sections ∷ Run ∷ Judge ∷ Bench ∷ []
 
 abbrev pub options : List CallWord
-options = Waves ∷ Faults ∷ Rounds ∷ []
+options = Waves ∷ Faults ∷ Rounds ∷ Case ∷ []
 
 abbrev pub is_nearly : List ℕ → CallWord → Bool
 is_nearly word call_word = is_near word (word_of call_word) && not (bytes_eq word (word_of call_word))

@@ -19,25 +19,35 @@ pub enum CallWord {
     Margins,
     Chains,
     Sections,
+    Run,
+    Judge,
     Bench,
     Waves,
     Faults,
     Rounds,
+    Case,
 }
 
 /// The words that a form begins with.
-const COMMANDS: [CallWord; 7] = [
+const COMMANDS: [CallWord; 9] = [
     CallWord::Verify,
     CallWord::Format,
     CallWord::Upgrade,
     CallWord::Margins,
     CallWord::Chains,
     CallWord::Sections,
+    CallWord::Run,
+    CallWord::Judge,
     CallWord::Bench,
 ];
 
 /// The words that may follow.
-const OPTIONS: [CallWord; 3] = [CallWord::Waves, CallWord::Faults, CallWord::Rounds];
+const OPTIONS: [CallWord; 4] = [
+    CallWord::Waves,
+    CallWord::Faults,
+    CallWord::Rounds,
+    CallWord::Case,
+];
 
 impl CallWord {
     /// How it is written.
@@ -51,10 +61,13 @@ impl CallWord {
             CallWord::Margins => b"margins",
             CallWord::Chains => b"chains",
             CallWord::Sections => b"sections",
+            CallWord::Run => b"run",
+            CallWord::Judge => b"judge",
             CallWord::Bench => b"bench",
             CallWord::Waves => b"waves",
             CallWord::Faults => b"faults",
             CallWord::Rounds => b"rounds=N",
+            CallWord::Case => b"case=K",
         }
     }
 }

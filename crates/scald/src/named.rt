@@ -9,6 +9,7 @@ use scald_base::{List, Outcome, Sink, Source, Words};
 use scald_tool::{status, tool_main};
 use section_compose::{SectionsOutcome, sections_main, sections_status};
 use std::alloc::Global;
+use trace_tool::{TraceOutcome, trace_main, trace_status};
 
 /// A main call.
 #[derive(Clone, Copy, PartialEq, Eq, Debug)]
@@ -21,13 +22,16 @@ enum Call {
     Chains,
     /// That of sections.
     Sections,
+    /// That of the simulator, by all words.
+    Simulator,
 }
 
-/// What a main call answers: to one drawing, or to several.
+/// What a main call answers: to one drawing, to several, or of a run.
 #[derive(Clone, Copy, Debug)]
 pub enum Answer {
     Drawing(Outcome),
     Sections(SectionsOutcome),
+    Run(TraceOutcome),
 }
 
 impl Answer {
@@ -38,6 +42,7 @@ impl Answer {
         match self {
             Answer::Drawing(outcome) => status(outcome),
             Answer::Sections(outcome) => sections_status(outcome),
+            Answer::Run(outcome) => trace_status(outcome),
         }
     }
 }
@@ -55,6 +60,10 @@ fn call_of(words: &Words) -> Call
         Call::Chains
     } else if first.as_slice() == b"sections".as_slice() {
         Call::Sections
+    } else if first.as_slice() == b"run".as_slice() {
+        Call::Simulator
+    } else if first.as_slice() == b"judge".as_slice() {
+        Call::Simulator
     } else {
         Call::Tool
     }
@@ -104,6 +113,16 @@ fn sections<S: Source, K: Sink>(
     sections_main(alloc, &List::new(alloc), source, sink)
 }
 
+/// The outcome of the simulator, by all words.
+fn simulator<S: Source, K: Sink>(
+    alloc: Global,
+    words: &Words,
+    source: &mut S,
+    sink: &mut K,
+) -> TraceOutcome {
+    trace_main(alloc, words, source, sink)
+}
+
 /// What the main call answers that the first word names.
 pub fn answer_to<S: Source, K: Sink>(
     alloc: Global,
@@ -116,5 +135,6 @@ pub fn answer_to<S: Source, K: Sink>(
         Call::Margins => Answer::Drawing(margins(alloc, words, source, sink)),
         Call::Chains => Answer::Drawing(chains(alloc, words, source, sink)),
         Call::Sections => Answer::Sections(sections(alloc, words, source, sink)),
+        Call::Simulator => Answer::Run(simulator(alloc, words, source, sink)),
     }
 }

@@ -6,6 +6,7 @@ ghost use Rattle.section_rules.specs.Pieces.{Lies};
 ghost use Rattle.scald.specs.Said.{bad_count, forms, no_memory, too_long, unread, unsettled, unwritten, why_of, why_of_sections};
 
 use crate::named::Answer;
+use crate::traced::say_trace;
 use refusal_help::{explain_refusal, explain_words};
 use scald_base::{Bytes, NoMemory, Refusal};
 use scald_tool::{Outcome, Words};
@@ -19,7 +20,7 @@ use std::str;
 const MOST_BYTES: usize = 4_194_304;
 
 /// The forms of words that the program knows.
-fn forms() -> &'static str
+pub fn forms() -> &'static str
     ensures { result.now ≡ forms }
 {
     "scald: these words are none of its forms, which are
@@ -29,6 +30,8 @@ fn forms() -> &'static str
     scald margins <DRAWING                             by how much more each checker may ask for
     scald chains <DRAWING                              where each fault comes from
     scald sections <DRAWINGS                           verify of drawings with a line ===== between them, each by itself and joined
+    scald run T SEED [case=K] <DRAWING                 a run of T ticks that a seed draws, 1 to 4096, as a trace
+    scald judge F <TRACE-AND-DRAWING                   whether the trace is a run, and what breaks in it from tick F on
     scald bench N                                      what is found in a made drawing of N sections, 1 to 200"
 }
 
@@ -54,14 +57,14 @@ fn too_long() -> &'static str
 }
 
 /// What is said where reading failed.
-fn unread() -> &'static str
+pub fn unread() -> &'static str
     ensures { result.now ≡ unread }
 {
     "scald: standard input could not be read"
 }
 
 /// What is said where writing failed.
-fn unwritten() -> &'static str
+pub fn unwritten() -> &'static str
     ensures { result.now ≡ unwritten }
 {
     "scald: standard output could not be written"
@@ -114,7 +117,7 @@ pub fn say(rt: &impl Eprint, why: &str) {
 }
 
 /// Says lines that help, where there is memory for them.
-fn say_lines(rt: &impl Eprint, lines: Result<Bytes, NoMemory>) {
+pub fn say_lines(rt: &impl Eprint, lines: Result<Bytes, NoMemory>) {
     if let Ok(bytes) = lines {
         if let Ok(lines) = str::from_utf8(bytes.as_slice()) {
             let _ = rt.eprint(lines);
@@ -123,7 +126,7 @@ fn say_lines(rt: &impl Eprint, lines: Result<Bytes, NoMemory>) {
 }
 
 /// Says what is wrong with a text that is refused, where it was kept.
-fn say_refusal(rt: &(impl Eprint + AllocGlobal), text: Option<&[u8]>, refusal: Refusal) {
+pub fn say_refusal(rt: &(impl Eprint + AllocGlobal), text: Option<&[u8]>, refusal: Refusal) {
     if let Some(text) = text {
         if text.len() <= MOST_BYTES {
             say_lines(rt, explain_refusal(rt.alloc(), text, refusal));
@@ -205,5 +208,6 @@ pub fn say_answer(
     match answer {
         Answer::Drawing(outcome) => say_outcome(rt, words, text, outcome),
         Answer::Sections(outcome) => say_sections(rt, words, text, outcome),
+        Answer::Run(outcome) => say_trace(rt, words, text, outcome),
     }
 }
