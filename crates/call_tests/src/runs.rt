@@ -44,14 +44,24 @@ const RUNS: [Row; 9] = [
     Row {
         name: "the same in a case",
         words: &[b"run", b"3", b"0", b"case=1"],
-        text: &[FRAME_4, br#"b1 : BUF [1:1] ("A") -> ("X");"#, b"\nCASE \"A\"=0;", END],
+        text: &[
+            FRAME_4,
+            br#"b1 : BUF [1:1] ("A") -> ("X");"#,
+            END,
+            b"CASE \"A\"=0;",
+        ],
         outcome: TraceOutcome::Done,
         bytes: b"TRACE 3\nb1<0> 1 : 0\nA<0> 000\nX<0> 100\nEND TRACE\n",
     },
     Row {
         name: "a case past the last",
         words: &[b"run", b"3", b"0", b"case=3"],
-        text: &[FRAME_4, br#"b1 : BUF [1:1] ("A") -> ("X");"#, b"\nCASE \"A\"=0;", END],
+        text: &[
+            FRAME_4,
+            br#"b1 : BUF [1:1] ("A") -> ("X");"#,
+            END,
+            b"CASE \"A\"=0;",
+        ],
         outcome: TraceOutcome::NoCase(1),
         bytes: b"",
     },
@@ -165,7 +175,12 @@ const JUDGED: [Row; 12] = [
     Row {
         name: "no trace, before a drawing that is refused",
         words: &[b"judge", b"0"],
-        text: &[b"TRACE 6\n", FRAME_4, br#"b1 : BUFF [1:1] ("A") -> ("X");"#, END],
+        text: &[
+            b"TRACE 6\n",
+            FRAME_4,
+            br#"b1 : BUFF [1:1] ("A") -> ("X");"#,
+            END,
+        ],
         outcome: TraceOutcome::BadTrace(0),
         bytes: b"",
     },
@@ -274,9 +289,7 @@ struct Drawn {
     from: &'static [u8],
 }
 
-const SEEDS: [&[u8]; 10] = [
-    b"0", b"1", b"2", b"3", b"4", b"5", b"6", b"7", b"8", b"9",
-];
+const SEEDS: [&[u8]; 10] = [b"0", b"1", b"2", b"3", b"4", b"5", b"6", b"7", b"8", b"9"];
 
 const DRAWN: [Drawn; 2] = [
     Drawn {
@@ -314,11 +327,7 @@ u1 : ALUSLICE ("MAIN CLK .P5-6", "ENABLE .S4-7", "A .S7-6"<0:35>,
 ];
 
 /// A run that a seed draws of the drawing is judged from the tick on, and nothing breaks.
-fn expect_drawn(
-    rt: &(impl Abort + AllocGlobal),
-    row: &Drawn,
-    seed: &[u8],
-) -> Result<(), NoMemory> {
+fn expect_drawn(rt: &(impl Abort + AllocGlobal), row: &Drawn, seed: &[u8]) -> Result<(), NoMemory> {
     let alloc = rt.alloc();
     let words = words_of(alloc, &[b"run", row.ticks, seed])?;
     let mut source = MemorySource::new(text_of(alloc, row.text)?, 4096, Calls::new(alloc));
