@@ -334,8 +334,8 @@ fn expect_drawn(rt: &(impl Abort + AllocGlobal), row: &Drawn, seed: &[u8]) -> Re
     let mut sink = MemorySink::new(alloc, 262144, 4096, Calls::new(alloc))?;
     let outcome = trace_main(alloc, &words, &mut source, &mut sink);
     expect_eq(rt, row.name, &outcome, &TraceOutcome::Done);
-    let mut text = text_of(alloc, &[sink.taken()])?;
-    text.extend(text_of(alloc, row.text)?.as_slice())?;
+    let drawing = text_of(alloc, row.text)?;
+    let text = text_of(alloc, &[sink.taken(), drawing.as_slice()])?;
     let words = words_of(alloc, &[b"judge", row.from])?;
     let mut source = MemorySource::new(text, 4096, Calls::new(alloc));
     let mut sink = MemorySink::new(alloc, 4096, 4096, Calls::new(alloc))?;
