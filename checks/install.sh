@@ -158,7 +158,7 @@ offers() {
 LC_ALL=C
 export LC_ALL
 if ! passed_over bash; then
-    offers '--help;--quiet;--unproved;--version;-h;bench;chains;format;install;margins;sections;upgrade;verify' scald ''
+    offers '--help;--quiet;--unproved;--version;-h;bench;chains;format;install;judge;margins;run;sections;upgrade;verify' scald ''
     offers 'verify' scald v
     offers '--unproved' scald --u
     offers 'format' scald --quiet f
@@ -168,6 +168,8 @@ if ! passed_over bash; then
     offers 'row.scald;sub folder;vast.scald' scald format ''
     offers 'sub folder' scald upgrade s
     offers '' scald bench ''
+    offers 'case=' scald run c
+    offers 'vast.scald' scald judge 0 v
     offers 'sub folder' scald install ''
     offers '' scald verify none
     trying 'bash: complete'

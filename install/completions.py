@@ -10,11 +10,13 @@ def bash_case(command):
     """What may follow one word."""
     offers = []
     if command.choices or command.settings:
-        words = " ".join(command.choices + command.settings)
+        words = " ".join(command.choices + command.fronts)
         offers.append(f"COMPREPLY=($(compgen -W '{words}' -- \"$word\"))")
         offers.append('[[ ${COMPREPLY[0]-} == *= ]] && compopt -o nospace 2>/dev/null')
     if command.takes == "FILES":
         offers.append("_scald_names -f -X '!*.scald'")
+    if command.takes == "JOINED":
+        offers.append("_scald_names -f")
     if command.takes == "PREFIX":
         offers.append("_scald_names")
     lines = "".join(f"        {offer}\n" for offer in offers)
@@ -71,9 +73,11 @@ def zsh_case(command):
     if command.choices:
         offers.append(f"compadd -- {' '.join(command.choices)}")
     if command.settings:
-        offers.append(f"compadd -S '' -- {' '.join(command.settings)}")
+        offers.append(f"compadd -S '' -- {' '.join(command.fronts)}")
     if command.takes == "FILES":
         offers.append("_files -g '*.scald'")
+    if command.takes == "JOINED":
+        offers.append("_files")
     if command.takes == "PREFIX":
         offers.append("_files -/")
     offers = offers or ["_message number"]

@@ -23,18 +23,24 @@ class Command(NamedTuple):
 
     word: str
     choices: tuple  # words of which one may come
-    settings: tuple  # what may come as NAME=N, by its front `NAME=`
-    takes: str  # FILES, PREFIX, N or nothing
+    settings: tuple  # what may come as NAME=N
+    numbers: tuple  # what has to come first, each by its letter or name
+    takes: str  # FILES, JOINED for files that are one text, PREFIX or nothing
     says: str
 
     @property
     def form(self):
         """How it is asked for, without options."""
-        parts = [self.word]
+        parts = [self.word, *self.numbers]
         parts += [f"[{'|'.join(self.choices)}]"] if self.choices else []
-        parts += [f"[{setting}N]" for setting in self.settings]
-        parts += [{"FILES": "[FILE ..]"}.get(self.takes, self.takes)] if self.takes else []
+        parts += [f"[{setting}]" for setting in self.settings]
+        parts += [{"FILES": "[FILE ..]", "JOINED": "[TRACE DRAWING]"}.get(self.takes, self.takes)] if self.takes else []
         return " ".join(parts)
+
+    @property
+    def fronts(self):
+        """The fronts `NAME=` of what may come as NAME=N."""
+        return tuple(setting[: setting.index("=") + 1] for setting in self.settings)
 
 
 class Language(NamedTuple):
@@ -106,8 +112,10 @@ def keywords_of(text):
 
 
 def taking_files(words):
-    """The words that the names of files may follow."""
-    return spelled(re.search(r"after those of (.*?) it takes the names of files", words, re.I)[1])
+    """The words that the names of files may follow, each with how these are taken."""
+    apart = spelled(re.search(r"after those of (.*?) it takes the names of files", words, re.I)[1])
+    joined = spelled(re.search(r"After those of (\S*) its files are joined", words)[1])
+    return {word: "FILES" for word in apart} | {word: "JOINED" for word in joined}
 
 
 def command_of(forms, says, with_files):
@@ -117,8 +125,9 @@ def command_of(forms, says, with_files):
     return Command(
         word=form[0],
         choices=tuple(word for part in optional if "=" not in part for word in part.split("|")),
-        settings=tuple(part[: part.index("=") + 1] for part in optional if "=" in part),
-        takes="FILES" if form[0] in with_files else "".join(rest),
+        settings=tuple(part for part in optional if "=" in part),
+        numbers=tuple(part for part in rest if part != "PREFIX"),
+        takes="PREFIX" if "PREFIX" in rest else with_files.get(form[0], ""),
         says=says,
     )
 

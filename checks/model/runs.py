@@ -33,7 +33,7 @@ class Trace(NamedTuple):
     def pin(self, instance, number, wire, tick):
         """What a pin shows at a tick."""
         pin = instance.pins[number]
-        bit = pin.on.value if isinstance(pin.on, Constant) else self.bits[pin.on][tick - wire]
+        bit = int(pin.on.value) if isinstance(pin.on, Constant) else self.bits[pin.on][tick - wire]
         return bit != pin.is_complemented
 
 
