@@ -327,15 +327,21 @@ u1 : ALUSLICE ("MAIN CLK .P5-6", "ENABLE .S4-7", "A .S7-6"<0:35>,
 ];
 
 /// A run that a seed draws of the drawing is judged from the tick on, and nothing breaks.
-fn expect_drawn(rt: &(impl Abort + AllocGlobal), row: &Drawn, seed: &[u8]) -> Result<(), NoMemory> {
+fn expect_drawn(
+    rt: &(impl Abort + AllocGlobal),
+    row: &Drawn,
+    seed: &'static [u8],
+) -> Result<(), NoMemory> {
     let alloc = rt.alloc();
     let words = words_of(alloc, &[b"run", row.ticks, seed])?;
     let mut source = MemorySource::new(text_of(alloc, row.text)?, 4096, Calls::new(alloc));
     let mut sink = MemorySink::new(alloc, 262144, 4096, Calls::new(alloc))?;
     let outcome = trace_main(alloc, &words, &mut source, &mut sink);
     expect_eq(rt, row.name, &outcome, &TraceOutcome::Done);
-    let drawing = text_of(alloc, row.text)?;
-    let text = text_of(alloc, &[sink.taken(), drawing.as_slice()])?;
+    let mut text = text_of(alloc, &[sink.taken()])?;
+    for piece in row.text {
+        text.extend(piece)?;
+    }
     let words = words_of(alloc, &[b"judge", row.from])?;
     let mut source = MemorySource::new(text, 4096, Calls::new(alloc));
     let mut sink = MemorySink::new(alloc, 4096, 4096, Calls::new(alloc))?;
@@ -349,7 +355,7 @@ fn expect_drawn(rt: &(impl Abort + AllocGlobal), row: &Drawn, seed: &[u8]) -> Re
 fn nothing_breaks_in_what_is_drawn(rt: HostRuntime) -> Result<(), NoMemory> {
     for row in &DRAWN {
         for seed in &SEEDS {
-            expect_drawn(&rt, row, seed)?;
+            expect_drawn(&rt, row, *seed)?;
         }
     }
     Ok(())
