@@ -103,12 +103,33 @@ def expect(is_so, why, text):
         raise Wrong(why, text)
 
 
-def judged(program, text, circuit_of_text, start):
-    """The verdict of both."""
-    wanted = judge(text, circuit_of_text, start)
-    given = verdict_of(program, ["judge", start], text)
-    expect(given == wanted, f"`judge {start}`: {given} in place of {wanted}", text)
+class OtherDrawing(Exception):
+    """What follows the trace is not the drawing: a line `END TRACE` came too early, so lines of the trace are left."""
+
+
+def judged(program, trace, text, circuit, start):
+    """The verdict of both on a trace and the text of the circuit's drawing."""
+
+    def circuit_of_text(drawing):
+        if drawing != text:
+            raise OtherDrawing
+        return circuit
+
+    given = verdict_of(program, ["judge", start], trace + text)
+    try:
+        wanted = judge(trace + text, circuit_of_text, start)
+    except OtherDrawing:
+        # (no line of a trace begins a drawing)
+        expect(given.status == 2, f"`judge {start}`: {given} in place of a refusal", trace + text)
+        return given
+    expect(given == wanted, f"`judge {start}`: {given} in place of {wanted}", trace + text)
     return given
+
+
+def broken_in(verdict):
+    """The name of what a verdict says is broken, or None."""
+    line = verdict.text.splitlines()[2]
+    return None if line == "NO BREAK" else line[len("BREAK ") : line.rindex(" TICK ")]
 
 
 def try_circuit(program, circuit, text, random):
@@ -124,20 +145,20 @@ def try_circuit(program, circuit, text, random):
     asked = " ".join(map(str, words))
     expect(drawn.status == 0, f"`{asked}`: status {drawn.status}", text)
     trace = drawn.text.encode()
-    whole = judged(program, trace + text, lambda _: circuit, min(start, MOST_TICKS))
+    whole = judged(program, trace, text, circuit, min(start, MOST_TICKS))
     expect(whole.text.startswith("RUN\nINTERFACE\n"), f"`{asked}`: {whole.text!r}", trace + text)
     levels = circuit.cases[number - 1] if number else {}
     for net, level in levels.items():
         held = f"\n{net} {str(level) * ticks}\n" in drawn.text
         expect(held, f"`{asked}`: {net} does not hold {level}", trace + text)
-    broken = whole.text.splitlines()[2].split(" ")
+    broken = broken_in(whole)
     if faulty is not None and start <= MOST_TICKS:
-        is_listed = broken[0] == "NO" or broken[1] in faulty
+        is_listed = broken is None or broken in faulty
         expect(is_listed, f"`{asked}`: {whole.text!r}, and it has no fault", trace + text)
     verdicts = [whole.status]
     for _ in range(SPOILT):
         spoilt = spoil(trace, random)
-        verdicts.append(judged(program, spoilt + text, lambda _: circuit, random.choice([0, min(start, MOST_TICKS)])).status)
+        verdicts.append(judged(program, spoilt, text, circuit, random.choice([0, min(start, MOST_TICKS)])).status)
     return "judged " + " ".join(map(str, sorted(set(verdicts))))
 
 
