@@ -20,7 +20,7 @@ pub fn add_bounds(out: &mut Bytes, min: &Expr, max: &Expr) -> Result<(), NoMemor
     ensures { OnOk result (out.new ≡ out.old ++ bounds_text (expression_of min.now) (expression_of max.now)) }
 {
     add_sum(out, min)?;
-    out.extend(b":")?;
+    out.push(b':')?;
     add_sum(out, max)
 }
 
@@ -31,7 +31,7 @@ fn add_last(out: &mut Bytes, last: &Option<Expr>) -> Result<(), NoMemory>
     let Some(last) = last else {
         return Ok(());
     };
-    out.extend(b":")?;
+    out.push(b':')?;
     add_sum(out, last)
 }
 
@@ -42,10 +42,10 @@ pub fn add_range(out: &mut Bytes, range: &Option<RangeExpr>) -> Result<(), NoMem
     let Some(range) = range else {
         return Ok(());
     };
-    out.extend(b"<")?;
+    out.push(b'<')?;
     add_sum(out, &range.first)?;
     add_last(out, &range.last)?;
-    out.extend(b">")
+    out.push(b'>')
 }
 
 /// Whether a name is its base alone, as most are.
@@ -73,9 +73,9 @@ fn add_spelling(alloc: Global, out: &mut Bytes, name: &SignalName) -> Result<(),
 pub fn add_name(alloc: Global, out: &mut Bytes, name: &SignalName) -> Result<(), NoMemory>
     ensures { OnOk result (out.new ≡ out.old ++ quoted (name_text name.now)) }
 {
-    out.extend(b"\"")?;
+    out.push(b'"')?;
     add_spelling(alloc, out, name)?;
-    out.extend(b"\"")
+    out.push(b'"')
 }
 
 /// Puts a name and its range at the end.
@@ -106,7 +106,7 @@ impl Printed for Term {
 
     fn add_to(&self, alloc: Global, out: &mut Bytes) -> Result<(), NoMemory> {
         if self.minus {
-            out.extend(b"-")?;
+            out.push(b'-')?;
         }
         add_item(alloc, out, &self.item)
     }

@@ -78,9 +78,9 @@ impl Printed for Formal {
     ghost text = { λ f. formal_text (formal_of f) };
 
     fn add_to(&self, _alloc: Global, out: &mut Bytes) -> Result<(), NoMemory> {
-        out.extend(b"\"")?;
+        out.push(b'"')?;
         out.extend(self.base.as_slice())?;
-        out.extend(b"\"")?;
+        out.push(b'"')?;
         add_range(out, &self.range)
     }
 }
@@ -111,7 +111,7 @@ fn add_head(alloc: Global, out: &mut Bytes, m: &MacroDef) -> Result<(), NoMemory
     add_params(alloc, out, m.params.as_slice())?;
     add_ins(alloc, out, m.ins.as_slice())?;
     add_outs(alloc, out, m.outs.as_slice())?;
-    out.extend(b";")
+    out.push(b';')
 }
 
 /// Appends the statements of a macro or of the drawing itself, and the END after them.
@@ -129,7 +129,7 @@ impl Printed for MacroDef {
     #[tactic(auto, unfolding(crate::specs::Canonical::macro_lines))]
     fn add_to(&self, alloc: Global, out: &mut Bytes) -> Result<(), NoMemory> {
         add_head(alloc, out, self)?;
-        out.extend(b"\n")?;
+        out.push(b'\n')?;
         add_body(alloc, out, self.body.as_slice())
     }
 }

@@ -110,7 +110,7 @@ pub fn add_condition(out: &mut Bytes, e: &Expr) -> Result<(), NoMemory>
         Expr::Number(number) => out.extend(Buffer::new().format(*number).as_bytes()),
         Expr::Param(name) => out.extend(name.as_slice()),
         Expr::Negate(operand) => {
-            out.extend(b"-")?;
+            out.push(b'-')?;
             add_enclosed(out, operand, minus_enclosed(operand))
         }
         Expr::Binary(op, left, right) => {
@@ -129,9 +129,9 @@ fn add_enclosed(out: &mut Bytes, e: &Expr, asked: bool) -> Result<(), NoMemory>
     if !asked {
         return add_condition(out, e);
     }
-    out.extend(b"(")?;
+    out.push(b'(')?;
     add_condition(out, e)?;
-    out.extend(b")")
+    out.push(b')')
 }
 
 /// Puts an expression at the end where a sum is asked for: a comparison in parentheses.

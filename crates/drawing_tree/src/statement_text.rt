@@ -20,7 +20,7 @@ impl Printed for Assign {
 
     fn add_to(&self, _alloc: Global, out: &mut Bytes) -> Result<(), NoMemory> {
         out.extend(self.name.as_slice())?;
-        out.extend(b"=")?;
+        out.push(b'=')?;
         add_sum(out, &self.value)
     }
 }
@@ -59,7 +59,7 @@ fn add_delay(
     out.extend(b" [")?;
     add_bounds(out, &delay.0, &delay.1)?;
     add_fall(out, fall)?;
-    out.extend(b"]")
+    out.push(b']')
 }
 
 /// Puts the inputs of a use in their parentheses at the end.
@@ -97,7 +97,7 @@ fn add_use(alloc: Global, out: &mut Bytes, u: &UseStmt) -> Result<(), NoMemory>
     add_head(alloc, out, u)?;
     add_ins(alloc, out, u.ins.as_slice())?;
     add_outs(alloc, out, u.outs.as_slice())?;
-    out.extend(b";")
+    out.push(b';')
 }
 
 #[tactic(auto, unfolding(crate::specs::Canonical::wire_text))]
@@ -106,9 +106,9 @@ fn add_wire(alloc: Global, out: &mut Bytes, wire: &WireStmt) -> Result<(), NoMem
 {
     out.extend(b"WIRE ")?;
     add_signal(alloc, out, &wire.name, &wire.range)?;
-    out.extend(b" ")?;
+    out.push(b' ')?;
     add_bounds(out, &wire.min, &wire.max)?;
-    out.extend(b";")
+    out.push(b';')
 }
 
 /// Appends a line, after its margin.
@@ -117,7 +117,7 @@ pub fn add_line(out: &mut Bytes, margin: &[u8], text: &[u8]) -> Result<(), NoMem
 {
     out.extend(margin)?;
     out.extend(text)?;
-    out.extend(b"\n")
+    out.push(b'\n')
 }
 
 fn add_use_line(alloc: Global, out: &mut Bytes, margin: &[u8], u: &UseStmt) -> Result<(), NoMemory>
@@ -125,7 +125,7 @@ fn add_use_line(alloc: Global, out: &mut Bytes, margin: &[u8], u: &UseStmt) -> R
 {
     out.extend(margin)?;
     add_use(alloc, out, u)?;
-    out.extend(b"\n")
+    out.push(b'\n')
 }
 
 fn add_wire_line(
@@ -138,7 +138,7 @@ fn add_wire_line(
 {
     out.extend(margin)?;
     add_wire(alloc, out, wire)?;
-    out.extend(b"\n")
+    out.push(b'\n')
 }
 
 /// Puts the first line of an IF at the end.
@@ -173,7 +173,7 @@ fn add_for_line(out: &mut Bytes, margin: &[u8], repeated: &ForStmt) -> Result<()
 {
     out.extend(margin)?;
     add_for_head(out, repeated)?;
-    out.extend(b"\n")
+    out.push(b'\n')
 }
 
 /// The margin of what an IF or a FOR holds.
