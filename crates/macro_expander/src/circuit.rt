@@ -16,7 +16,7 @@ use scald_base::Stop;
 use std::alloc::Global;
 
 /// How deep uses of macros may go.
-const DEEPEST: u32 = 64;
+pub const DEEPEST: u32 = 64;
 
 /// The circuit of a drawing: its constants, then its statements in the order of the text, each
 /// macro's body at its uses and each FOR's body once for each value, and then the circuit's own

@@ -12,8 +12,8 @@ use scald_expr::Env;
 use std::alloc::Global;
 
 /// The constants with their values, each evaluated with those before it; or the refusal of the
-/// first that has no value, at its word CONST.
-pub(crate) fn constants(alloc: Global, consts: &Assigns, places: &Places) -> Result<Env, Stop>
+/// first that has no value, at its word CONST. `NoMemory` comes where memory runs out.
+pub fn constants(alloc: Global, consts: &Assigns, places: &Places) -> Result<Env, Stop>
     requires { length places.now ≡ length consts.now }
     ensures { ConstsAt result (map assignment_of consts.now) places.now }
 {
@@ -27,8 +27,8 @@ pub(crate) fn constants(alloc: Global, consts: &Assigns, places: &Places) -> Res
     Ok(known)
 }
 
-/// A copy of the constants.
-pub(crate) fn copied_env(alloc: Global, env: &Env) -> Result<Env, NoMemory>
+/// A copy of the constants. `NoMemory` comes where memory runs out.
+pub fn copied_env(alloc: Global, env: &Env) -> Result<Env, NoMemory>
     ensures { IfOk result (λ copy. copy ≡ env.now) }
 {
     let mut copy: Env = List::new(alloc);

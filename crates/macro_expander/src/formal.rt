@@ -22,15 +22,20 @@ use vector_names::Indices;
 /// A formal with the numbers of its bits.
 #[derive(Drop, Debug)]
 pub struct Shape {
+    /// Its name in the macro's body.
     pub base: Bytes,
+    /// The numbers of its bits, in the order of its declaration.
     pub numbers: Indices,
 }
 
 /// What a macro's body is expanded with: the values of its parameters, and its formals.
 #[derive(Drop, Debug)]
 pub struct Inside {
+    /// The parameters with their values, and after them the constants.
     pub env: Env,
+    /// The formals of its inputs, in the order of its text.
     pub ins: List<Shape>,
+    /// The formals of its outputs, in the order of its text.
     pub outs: List<Shape>,
 }
 
@@ -128,9 +133,10 @@ fn shapes(alloc: Global, env: &Env, formals: &Formals, place: Place) -> Result<L
 
 /// What a macro's body is expanded with where a use gives these values: the defaults of the
 /// parameters that are not given, which name no parameter but may name constants, and then the
-/// formals' ranges.
+/// formals' ranges. The first of these that has no value, or is too wide, is refused at this place;
+/// `NoMemory` comes where memory runs out.
 #[tactic(auto, unfolding(crate::specs::Macros::inside_of))]
-pub(crate) fn inside_of(
+pub fn inside_of(
     alloc: Global,
     consts: &Env,
     definition: &MacroDef,
@@ -215,9 +221,10 @@ fn fits_formals(definition: &MacroDef, statement: &UseStmt) -> bool
 }
 
 /// What a use gives to a macro's parameters, or its refusal: a delay, a parameter that is not the
-/// macro's or comes twice, the first fault of an expression, or a wrong number of connections or a mark.
+/// macro's or comes twice, the first fault of an expression, or a wrong number of connections or a
+/// mark. `NoMemory` comes where memory runs out.
 #[tactic(auto, unfolding(crate::specs::Macros::given_to))]
-pub(crate) fn given_to(
+pub fn given_to(
     alloc: Global,
     definition: &MacroDef,
     env: &Env,

@@ -6,29 +6,30 @@
 //! what the numbers stand for while a circuit grows. `circuit` begins and ends an expansion,
 //! `statement` goes down the statements and the bodies of macros and FORs, and the other modules
 //! are the steps on the way: constants, the bits of names, terms and connections, the use of a
-//! primitive, the scope of a macro's body and of a FOR's turn, WIRE.
+//! primitive, the scope of a macro's body and of a FOR's turn, WIRE. Those that tell scopes are
+//! public, for another walk over the statements that `expand` goes down.
 //! [`laws`] has where a drawing is refused.
 #![tactic(auto)]
 
 mod circuit;
 mod connection;
-mod constants;
+pub mod constants;
 mod expansion;
-mod formal;
+pub mod formal;
 mod instance_bits;
 pub mod laws;
-mod library;
-mod list;
+pub mod library;
+pub mod list;
 mod macro_use;
 mod parameter;
 mod places;
 mod primitive;
 mod primitive_use;
-mod range;
-mod scope;
+pub mod range;
+pub mod scope;
 mod statement;
 mod term;
-mod turn;
+pub mod turn;
 mod wire;
 
-pub use circuit::expand;
+pub use circuit::{DEEPEST, expand};

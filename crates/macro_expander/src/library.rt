@@ -13,16 +13,19 @@ use scald_base::NoMemory;
 use scald_expr::Env;
 use std::alloc::Global;
 
-/// The macros of a drawing, to be found by their names; and the version of its language, the ticks
-/// of its period, and its constants with their values.
+/// The macros of a drawing, to be found by their names, and what else its bodies are expanded with.
 #[derive(Drop)]
 pub struct Library<'a> {
-    pub(crate) version: u8,
-    pub(crate) ticks: u16,
-    pub(crate) consts: Env,
-    pub(crate) macros: &'a MacroDefs,
+    /// The version of the drawing's language.
+    pub version: u8,
+    /// The ticks of its period.
+    pub ticks: u16,
+    /// Its constants with their values.
+    pub consts: Env,
+    /// Its macros, in the order of the text.
+    pub macros: &'a MacroDefs,
     /// The place of each name's first macro, where there are many.
-    pub(crate) places: IndexMap<Vec<u8>, usize>,
+    pub places: IndexMap<Vec<u8>, usize>,
 }
 
 impl Called for MacroDef {
@@ -35,8 +38,8 @@ impl Called for MacroDef {
 
 impl<'a> Library<'a> {
     /// The library of these macros, in a drawing of this version, with a period of so many ticks
-    /// and these constants.
-    pub(crate) fn of(
+    /// and these constants. `NoMemory` comes where memory runs out.
+    pub fn of(
         alloc: Global,
         version: u8,
         ticks: u16,
@@ -56,7 +59,7 @@ impl<'a> Library<'a> {
     }
 
     /// The first macro of a name.
-    pub(crate) fn find(&self, name: &[u8]) -> Option<&'a MacroDef>
+    pub fn find(&self, name: &[u8]) -> Option<&'a MacroDef>
         requires { LeadToMacros self.now }
         ensures { option_map macro_of (option_copied result) ≡ first_called name.now (macros_in self.now) }
     {

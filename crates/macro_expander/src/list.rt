@@ -23,7 +23,7 @@ impl<T> Model for Row<T> {
 
 impl<T> Row<T> {
     /// The empty row. It needs no allocation.
-    pub(crate) fn new(alloc: Global) -> Row<T>
+    pub fn new(alloc: Global) -> Row<T>
         ensures { result ≡ [] }
     {
         Row {
@@ -59,7 +59,7 @@ impl<T> Row<T> {
 
 impl<T: Drop> Row<T> {
     /// Appends an item. Where memory runs out the row is as before, and the item is dropped.
-    pub(crate) fn push(&mut self, item: T) -> Result<(), NoMemory>
+    pub fn push(&mut self, item: T) -> Result<(), NoMemory>
         ensures ok { OnOk result (self.new ≡ self.old ++ item ∷ []) }
         ensures err { OnErr result (self.new ≡ self.old) }
     {
@@ -68,8 +68,8 @@ impl<T: Drop> Row<T> {
     }
 }
 
-/// A copy of the items.
-pub(crate) fn copied<T: Copy>(alloc: Global, items: &[T]) -> Result<List<T>, NoMemory>
+/// A copy of the items. `NoMemory` comes where memory runs out.
+pub fn copied<T: Copy>(alloc: Global, items: &[T]) -> Result<List<T>, NoMemory>
     ensures { IfOk result (λ copies. copies ≡ items.now) }
 {
     let mut copies = List::new(alloc);

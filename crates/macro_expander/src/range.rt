@@ -33,8 +33,8 @@ pub(crate) fn at<T: Drop>(place: Place, judged: Result<T, RefusalKind>) -> Resul
     }
 }
 
-/// The value of an expression.
-pub(crate) fn value(expression: &Expr, env: &Env) -> Result<i64, RefusalKind>
+/// The value of an expression, or why it is refused.
+pub fn value(expression: &Expr, env: &Env) -> Result<i64, RefusalKind>
     ensures { result ≡ valued env.now (expression_of expression.now) }
 {
     match eval(expression, env) {
@@ -60,11 +60,8 @@ fn ends(range: &RangeExpr, env: &Env) -> Result<(i64, i64), RefusalKind>
     Ok((first, last))
 }
 
-/// The first and the last number of a range, where one is written.
-pub(crate) fn written_ends(
-    range: &Option<RangeExpr>,
-    env: &Env,
-) -> Result<Option<(i64, i64)>, RefusalKind>
+/// The first and the last number of a range, where one is written, or why it is refused.
+pub fn written_ends(range: &Option<RangeExpr>, env: &Env) -> Result<Option<(i64, i64)>, RefusalKind>
     ensures { result ≡ spec_written_ends env.now (option_map range_of range.now) }
 {
     match range {

@@ -22,9 +22,12 @@ use vector_names::{BitRef, Bits, Indices};
 /// and the outer bits bound to them.
 #[derive(Drop, Debug)]
 pub struct Bound {
-    pub(crate) base: Bytes,
-    pub(crate) numbers: Indices,
-    pub(crate) bits: Bits,
+    /// Its name in the macro's body.
+    pub base: Bytes,
+    /// The numbers of its bits, in the order of its declaration.
+    pub numbers: Indices,
+    /// The outer bits that are bound to them.
+    pub bits: Bits,
 }
 
 impl Bound {
@@ -89,8 +92,8 @@ impl Formals {
         }
     }
 
-    /// These formals.
-    pub(crate) fn of(alloc: Global, items: Row<Bound>) -> Result<Formals, NoMemory>
+    /// These formals. `NoMemory` comes where memory runs out.
+    pub fn of(alloc: Global, items: Row<Bound>) -> Result<Formals, NoMemory>
         requires { All HasRun items }
         ensures { IfOk result (λ formals. formals ≡ items) }
     {
@@ -107,7 +110,7 @@ impl Formals {
     }
 
     /// The first formal of a base name.
-    pub(crate) fn find(&self, base: &[u8]) -> Option<&Bound>
+    pub fn find(&self, base: &[u8]) -> Option<&Bound>
         ensures first { option_copied result ≡ find (λ f. bytes_eq f.base base.now) self.now }
         ensures run { IfSome result (λ f. HasRun f.now) }
     {
@@ -115,20 +118,23 @@ impl Formals {
     }
 }
 
-/// The labels of the uses from the drawing down, each with a slash after it; what follows each
-/// label of the body, for the FORs around it; the names that have values, the innermost first: the
-/// variables of those FORs, the parameters and the constants; and the formals.
+/// What names and labels mean in a body that is expanded.
 #[derive(Drop)]
 pub struct Scope {
-    pub(crate) path: Bytes,
-    pub(crate) suffix: Bytes,
-    pub(crate) env: Env,
-    pub(crate) formals: Formals,
+    /// The labels of the uses from the drawing down, each with a slash after it.
+    pub path: Bytes,
+    /// What follows each label of the body, for the FORs around it.
+    pub suffix: Bytes,
+    /// The names that have values, the innermost first: the variables of those FORs, the parameters
+    /// and the constants.
+    pub env: Env,
+    /// The formals of the macro; in a drawing's own statements there are none.
+    pub formals: Formals,
 }
 
 impl Scope {
     /// The scope of a drawing's own statements.
-    pub(crate) fn top(alloc: Global, consts: Env) -> Scope
+    pub fn top(alloc: Global, consts: Env) -> Scope
         ensures { result ≡ record { path = []; suffix = []; env = consts; formals = [] } }
     {
         Scope {
@@ -139,8 +145,8 @@ impl Scope {
         }
     }
 
-    /// The whole text of a label.
-    pub(crate) fn labelled(&self, alloc: Global, label: &[u8]) -> Result<Bytes, NoMemory>
+    /// The whole text of a label. `NoMemory` comes where memory runs out.
+    pub fn labelled(&self, alloc: Global, label: &[u8]) -> Result<Bytes, NoMemory>
         ensures { IfOk result (λ whole. whole ≡ self.now.path ++ label.now ++ self.now.suffix) }
     {
         let mut whole = Bytes::of(alloc, self.path.as_slice())?;

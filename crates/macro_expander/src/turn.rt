@@ -12,8 +12,9 @@ use scald_base::{Bytes, List, NoMemory, Stop};
 use scald_expr::{Binding, Env};
 use std::alloc::Global;
 
-/// The first and the last value of a FOR, both evaluated in the scope around it.
-pub(crate) fn loop_ends(repeated: &ForStmt, env: &Env) -> Result<(i64, i64), Stop>
+/// The first and the last value of a FOR, both evaluated in the scope around it, or the refusal of
+/// the first that has none, at the word FOR.
+pub fn loop_ends(repeated: &ForStmt, env: &Env) -> Result<(i64, i64), Stop>
     ensures { AreEnds env.now repeated.now result }
 {
     let first = at(repeated.place, value(&repeated.first, env))?;
@@ -58,8 +59,8 @@ fn env_in_turn(alloc: Global, around: &[Binding], var: &[u8], value: i64) -> Res
     Ok(env)
 }
 
-/// The scope of a FOR's body for a value of its variable.
-pub(crate) fn in_turn(
+/// The scope of a FOR's body for a value of its variable. `NoMemory` comes where memory runs out.
+pub fn in_turn(
     alloc: Global,
     around: &Scope,
     repeated: &ForStmt,
@@ -75,8 +76,9 @@ pub(crate) fn in_turn(
     })
 }
 
-/// The same scope for another value: what is around is not copied again.
-pub(crate) fn turn_to(
+/// The same scope for another value: what is around is not copied again. `NoMemory` comes where
+/// memory runs out.
+pub fn turn_to(
     alloc: Global,
     inner: &mut Scope,
     around: &Scope,
