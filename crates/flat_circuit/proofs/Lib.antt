@@ -19,6 +19,7 @@ pub mod Numbered
 pub mod Loops
 pub mod Rows
 pub mod Tables
+pub mod Given
 pub mod Counts
 pub mod Ends
 pub mod Splits

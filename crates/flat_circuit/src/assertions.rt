@@ -95,7 +95,8 @@ impl Assertions {
     }
 }
 
-fn is_asserted(spec: &AssertSpec) -> bool
+/// Whether it is an assertion.
+pub(crate) fn is_asserted(spec: &AssertSpec) -> bool
     ensures { result ≡ is_asserted spec.now }
 {
     !matches!(spec, AssertSpec::None)

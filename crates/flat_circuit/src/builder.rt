@@ -1,12 +1,12 @@
 //! The builder: nets by their names, and instances one after another.
 
-ghost use Rattle.std.specs.Prelude.{◌≡◌, ◌<◌, ◌++◌, length, not, take, if◌then◌else◌, IfOk, IfErr, OnOk, OnErr};
+ghost use Rattle.std.specs.Prelude.{◌≡◌, ◌<◌, ◌++◌, length, not, take, false, if◌then◌else◌, IfOk, IfErr, IfSome, IsTrue, OnOk, OnErr};
 ghost use Rattle.scald_base.specs.Fitting.{Fits};
-ghost use Rattle.flat_circuit.specs.Name.{Name};
+ghost use Rattle.flat_circuit.specs.Name.{Name, IsNumber};
 ghost use Rattle.flat_circuit.specs.Instances.{InstanceFits};
-ghost use Rattle.flat_circuit.specs.Builder.{empty, IsBuilt, GivesNet, IsNetRefusal, after_assertion, after_wire, GivesInstance, IsInstanceRefusal, is_one_too_many, name_of_key, GivesNumber, IsNumberRefusal};
+ghost use Rattle.flat_circuit.specs.Builder.{empty, IsBuilt, GivesNet, IsNetRefusal, after_assertion, after_wire, GivesInstance, IsInstanceRefusal, is_one_too_many, name_of_key, GivesNumber, IsNumberRefusal, is_asserted};
 
-use crate::assertions::Assertions;
+use crate::assertions::{Assertions, is_asserted};
 use crate::instance::Instance;
 use crate::net_table::{NetName, NetTable};
 use scald_base::{AssertSpec, Delay, Header, List, NoMemory, Place, RefusalKind, Stop};
@@ -31,6 +31,9 @@ pub struct Builder {
     pub(crate) outputs: u32,
     pub(crate) checkers: u32,
     pub(crate) pins: u32,
+    /// The number of the net that was asked for last: the next bit of its vector mostly has the
+    /// next number.
+    pub(crate) recent: u32,
 }
 
 impl Model for Builder {
@@ -59,6 +62,7 @@ impl Builder {
             outputs: 0,
             checkers: 0,
             pins: 0,
+            recent: 0,
         }
     }
 
@@ -75,6 +79,50 @@ impl Builder {
     /// that was given before differs, and else `TooMany` exactly where the net is new and 65,536 are
     /// there. After a refusal, or where memory runs out, the builder is as before.
     pub fn net(
+        &mut self,
+        path: &[u8],
+        base: &[u8],
+        bit: u16,
+        spec: &AssertSpec,
+        place: Place,
+    ) -> Result<u32, Stop>
+        requires { Fits self.old.header spec.now }
+        ensures given { let name : Name = record { text = path.now ++ base.now; bit = bit } in
+            IfOk result (GivesNet self.old self.new name spec.now) }
+        ensures refused { let name : Name = record { text = path.now ++ base.now; bit = bit } in
+            IfErr result (λ stop. (self.new ≡ self.old) × IsNetRefusal self.old name spec.now place stop) }
+    {
+        let number = match self.next_found(path, base, bit, spec) {
+            Some(number) => number,
+            None => self.net_by_name(path, base, bit, spec, place)?,
+        };
+        self.recent = number;
+        Ok(number)
+    }
+
+    /// The number after the last one that was given, where it is that of a net with this path, base
+    /// and bit, of which nothing is asserted here. No name is put together to find it.
+    fn next_found(&self, path: &[u8], base: &[u8], bit: u16, spec: &AssertSpec) -> Option<u32>
+        ensures { let name : Name = record { text = path.now ++ base.now; bit = bit } in
+            IfSome result (λ i. (is_asserted spec.now ≡ false) × IsNumber self.now.names name i) }
+    {
+        if is_asserted(spec) {
+            return None;
+        }
+        let next = self.recent.saturating_add(1);
+        if next as usize >= self.nets.len() {
+            return None;
+        }
+        let name = self.nets.name(next as usize);
+        if name.bit == bit && is_joined(&name.text, path, base) {
+            Some(next)
+        } else {
+            None
+        }
+    }
+
+    /// The number of the net of this name, as `net` gives it.
+    fn net_by_name(
         &mut self,
         path: &[u8],
         base: &[u8],
@@ -196,6 +244,16 @@ fn one_if(counts: bool) -> u32
     ensures { result ≡ (if counts then 1 else 0) }
 {
     u32::from(counts)
+}
+
+/// Whether a text is the bytes of the one and then those of the other.
+fn is_joined(text: &[u8], path: &[u8], base: &[u8]) -> bool
+    ensures { IsTrue result → text.now ≡ path.now ++ base.now }
+{
+    match text.strip_prefix(path) {
+        Some(rest) => rest == base,
+        None => false,
+    }
 }
 
 /// The bytes of one and then those of the other.

@@ -32,6 +32,7 @@ impl Builder {
             outputs: _,
             checkers: _,
             pins: _,
+            recent: _,
         } = self;
         let drivers = drivers(alloc, instances.as_slice(), table.len())?;
         no_loop(alloc, &table, &drivers, instances.as_slice())?;
