@@ -23,6 +23,14 @@ struct Keyed {
     net: u32,
 }
 
+/// Nets of one key that stand side by side, at these places of a list.
+#[derive(Clone, Copy, PartialEq, Eq, PartialOrd, Ord, Debug)]
+struct Run {
+    key: Key,
+    begin: usize,
+    end: usize,
+}
+
 /// Nets of one class and one key, at these places of a list.
 #[derive(Clone, Copy, PartialEq, Eq, Debug)]
 struct Part {
@@ -111,8 +119,8 @@ impl Partition {
 
     /// Makes a class of the nets of each key, but for the largest of those that make up a class, and gives
     /// the nets that have got a new class. Nets of one key are of one class.
-    fn split(&mut self, alloc: Global, mut nets: Vec<Keyed>) -> Result<Vec<u32>, NoMemory> {
-        nets.sort_unstable();
+    fn split(&mut self, alloc: Global, nets: Vec<Keyed>) -> Result<Vec<u32>, NoMemory> {
+        let nets = in_order(alloc, &nets)?;
         let mut parts = self.parts(alloc, &nets)?;
         parts.sort_unstable_by(|a, b| (a.class, b.size()).cmp(&(b.class, a.size())));
         self.take_at_hand(&parts);
@@ -158,17 +166,40 @@ impl Partition {
     }
 
     fn make_class(&mut self, nets: &[Keyed], changed: &mut Vec<u32>) -> Result<(), NoMemory> {
-        let class = self.sizes.len();
-        self.sizes.push(nets.len())?;
-        self.at_hand.push(0)?;
+        let class = self.new_class(nets.len())?;
         for keyed in nets {
-            let old = self.class(keyed.net);
-            let left = at(&self.sizes, old).saturating_sub(1);
-            put(&mut self.sizes, old, left);
-            put(&mut self.classes, keyed.net as usize, class);
+            self.move_to(class, keyed.net);
             changed.push(keyed.net)?;
         }
         Ok(())
+    }
+
+    /// The number of a new class, which is to have so many nets.
+    fn new_class(&mut self, nets: usize) -> Result<usize, NoMemory> {
+        let class = self.sizes.len();
+        self.sizes.push(nets)?;
+        self.at_hand.push(0)?;
+        Ok(class)
+    }
+
+    /// Moves a net to a new class.
+    fn move_to(&mut self, class: usize, net: u32) {
+        let old = self.class(net);
+        let left = at(&self.sizes, old).saturating_sub(1);
+        put(&mut self.sizes, old, left);
+        put(&mut self.classes, net as usize, class);
+    }
+
+    /// Separates a net from the others of its class, if there are any, and gives it if it has got a new
+    /// class.
+    fn split_off(&mut self, alloc: Global, net: u32) -> Result<Vec<u32>, NoMemory> {
+        let mut changed = Vec::new(alloc);
+        if at(&self.sizes, self.class(net)) > 1 {
+            let class = self.new_class(1)?;
+            self.move_to(class, net);
+            changed.push(net)?;
+        }
+        Ok(changed)
     }
 
     /// Separates the nets that differ by themselves, or by the kinds of their drivers.
@@ -197,13 +228,16 @@ impl Partition {
     }
 
     /// Separates those of the nets whose drivers have pins on nets of different classes, and gives the
-    /// nets that have got a new class.
+    /// nets that have got a new class. One net alone leaves its class, whose other nets are not looked at.
     fn split_by_pins(
         &mut self,
         alloc: Global,
         c: &Circuit,
         nets: &[u32],
     ) -> Result<Vec<u32>, NoMemory> {
+        if let [net] = nets {
+            return self.split_off(alloc, *net);
+        }
         let mut keyed = Vec::with_capacity(alloc, nets.len())?;
         for net in nets {
             let key = self.key(c, *net);
@@ -246,6 +280,44 @@ impl Partition {
         }
         Ok(numbers)
     }
+}
+
+/// The nets in the order of their keys. The bits of a vector mostly stand side by side and have one key,
+/// so runs of nets are sorted in place of nets.
+fn in_order(alloc: Global, nets: &[Keyed]) -> Result<Vec<Keyed>, NoMemory> {
+    let mut runs = runs_of(alloc, nets)?;
+    runs.sort_unstable();
+    let mut sorted = Vec::with_capacity(alloc, nets.len())?;
+    for run in &runs {
+        sorted.extend_from_slice(nets.get(run.begin..run.end).unwrap_or(&[]))?;
+    }
+    Ok(sorted)
+}
+
+/// The runs of nets of one key.
+fn runs_of(alloc: Global, nets: &[Keyed]) -> Result<Vec<Run>, NoMemory> {
+    let mut runs = Vec::new(alloc);
+    let mut begin = 0;
+    for place in 1..nets.len() {
+        let key = nets[place - 1].key;
+        if nets[place].key != key {
+            runs.push(Run {
+                key,
+                begin,
+                end: place,
+            })?;
+            begin = place;
+        }
+    }
+    if begin < nets.len() {
+        let key = nets[begin].key;
+        runs.push(Run {
+            key,
+            begin,
+            end: nets.len(),
+        })?;
+    }
+    Ok(runs)
 }
 
 /// The first net of a class: this one, where there has been none.
