@@ -334,6 +334,30 @@ whole 'inside 64 macros' chains 1 \
 whole 'a latch, through its enable' chains 1 \
     'l1 : LATCH [1:3] ("EN .P0-2", "D .S1-8") -> ("Q .S0-2");' \
     -- 'SCALD 1 PERIOD 400' 'CASE 0' 'FAULT ASSERT Q<0> SLOT 1 VALUE C' 'LINK Q<0> SLOT 1 VALUE C' 'LINK EN<0> SLOT 0 VALUE R' 'END UNDRIVEN' 'FAULTS 1'
+whole 'a gate, late by the wire of its own pin and then by itself' chains 1 \
+    'WIRE "A" 5:9;' 'b1 : BUF [10:12] ("A .S1-8") -> ("X");' 'c1 : SETUP_HOLD_CHK {SETUP=20} ("CK .P1-2", "X");' \
+    -- 'SCALD 1 PERIOD 400' 'CASE 0' 'FAULT SETUP c1<0> EDGE 50 SLOT 31 VALUE C' 'LINK X<0> SLOT 31 VALUE C' 'LINK A<0> SLOT 16 VALUE C' 'END UNDRIVEN' 'FAULTS 1'
+whole 'a marked pin, past one that is quiet there' chains 1 \
+    'a1 : AND [2:2] ("E .S1-4", "CK .P2-3" !H) -> ("G");' 'c1 : SETUP_HOLD_CHK {HOLD=2} ("CK", "G");' \
+    -- 'SCALD 1 PERIOD 400' 'CASE 0' 'FAULT HOLD c1<0> EDGE 100 SLOT 102 VALUE R' 'LINK G<0> SLOT 102 VALUE R' 'LINK CK<0> SLOT 100 VALUE R' 'END UNDRIVEN' 'FAULTS 1'
+whole 'a register through its set, past an input that changes' chains 1 \
+    'r1 : REG_RS [2:6] ("CK .P6-7", "D .S1-8", "SET .S1-8", ZERO) -> ("Q");' 'c1 : SETUP_HOLD_CHK {SETUP=20} ("K .P1-2", "Q");' \
+    -- 'SCALD 1 PERIOD 400' 'CASE 0' 'FAULT SETUP c1<0> EDGE 50 SLOT 31 VALUE R' 'LINK Q<0> SLOT 31 VALUE R' 'LINK SET<0> SLOT 29 VALUE C' 'END UNDRIVEN' 'FAULTS 1'
+whole 'set and reset of a latch at once' chains 1 \
+    'l1 : LATCH_RS [1:1] (ZERO, "D", ONE, ONE) -> ("Q");' 'c1 : SETUP_HOLD_CHK {SETUP=1} ("CK .P2-3", "Q");' \
+    -- 'SCALD 1 PERIOD 400' 'CASE 0' 'FAULT SETUP c1<0> EDGE 100 SLOT 100 VALUE C' 'LINK Q<0> SLOT 100 VALUE C' 'END BOTH' 'FAULTS 1'
+whole 'a loop of two, over the start of the period: one link more than there are nets' chains 1 \
+    'b1 : BUF [1:1] ("B") -> ("A");' 'b2 : BUF [1:1] ("A") -> ("B");' 'w1 : MIN_PULSE_CHK {HIGH=2} ("A");' \
+    -- 'SCALD 1 PERIOD 400' 'CASE 0' 'FAULT WIDTH w1<0> HIGH FROM 0 WIDTH 1' 'LINK A<0> SLOT 0 VALUE U' 'LINK B<0> SLOT 399 VALUE U' 'LINK A<0> SLOT 398 VALUE U' 'END REPEAT' 'FAULTS 1'
+whole 'a change while the clock is high' chains 1 \
+    'b1 : BUF [10:10] ("D .S0-2,4-8") -> ("X");' 'c1 : SETUP_RISE_HOLD_FALL_CHK {SETUP=10, HOLD=5} ("CK .P2-3", "X");' \
+    -- 'SCALD 1 PERIOD 400' 'CASE 0' 'FAULT HIGH c1<0> EDGE 100 SLOT 110 VALUE C' 'LINK X<0> SLOT 110 VALUE C' 'LINK D<0> SLOT 100 VALUE C' 'END UNDRIVEN' 'FAULTS 1'
+whole 'a high and a low pulse, each by its own beginning' chains 1 \
+    'w1 : MIN_PULSE_CHK {HIGH=60, LOW=351} ("CK .P2-3");' \
+    -- 'SCALD 1 PERIOD 400' 'CASE 0' 'FAULT WIDTH w1<0> HIGH FROM 100 WIDTH 50' 'LINK CK<0> SLOT 100 VALUE R' 'END UNDRIVEN' 'FAULT WIDTH w1<0> LOW FROM 150 WIDTH 350' 'LINK CK<0> SLOT 150 VALUE F' 'END UNDRIVEN' 'FAULTS 2'
+whole 'past a net that the case holds' chains 1 \
+    'DRAWING ROW;' 'a1 : AND [0:0] ("G .S2-8", "A .S2-8") -> ("X");' 'c1 : SETUP_HOLD_CHK {SETUP=20} ("CK .P2-3", "X");' 'END;' 'CASE "G"=0;' 'CASE "G"=1;' \
+    -- 'SCALD 1 PERIOD 400' 'CASE 1' 'CASE 2' 'FAULT SETUP c1<0> EDGE 100 SLOT 81 VALUE C' 'LINK X<0> SLOT 81 VALUE C' 'LINK A<0> SLOT 81 VALUE C' 'END UNDRIVEN' 'FAULTS 1'
 whole 'margins inside a macro of two bits' margins 0 \
     'MACRO CHK2 {N=2} ("CK", "D"<0:N-1>);' 'c : SETUP_HOLD_CHK {SETUP=20, HOLD=10} ("CK", "D"<0:N-1>);' 'END;' 'DRAWING ROW;' 'u1 : CHK2 ("CK .P2-3", "D .S1-4"<0:1>);' 'END;' \
     -- 'SCALD 1 PERIOD 400' 'MARGIN u1/c<0> SETUP 30 NEXT CASE 0 SETUP EDGE 100 SLOT 50 VALUE C' 'MARGIN u1/c<0> HOLD 89 NEXT CASE 0 HOLD EDGE 100 SLOT 200 VALUE C' 'MARGIN u1/c<1> SETUP 30 NEXT CASE 0 SETUP EDGE 100 SLOT 50 VALUE C' 'MARGIN u1/c<1> HOLD 89 NEXT CASE 0 HOLD EDGE 100 SLOT 200 VALUE C' 'MARGINS 4'
@@ -343,5 +367,14 @@ whole 'margins behind late wires' margins 0 \
 whole 'a margin where the clock is late as a whole' margins 0 \
     'b1 : BUF [10:30] ("CK .P2-3") -> ("X");' 'c1 : SETUP_HOLD_CHK {SETUP=20, HOLD=10} ("X", "D .S1-4");' \
     -- 'SCALD 1 PERIOD 400' 'MARGIN c1<0> SETUP 40 NEXT CASE 0 SETUP EDGE 110 SLOT 50 VALUE C' 'MARGIN c1<0> HOLD 59 NEXT CASE 0 HOLD EDGE 130 SLOT 200 VALUE C' 'MARGINS 2'
+whole 'a change that the greatest hold meets, and no smaller one' margins 0 \
+    'c1 : SETUP_HOLD_CHK {HOLD=10} ("CK .P0-1", "D .S0-8");' \
+    -- 'SCALD 1 PERIOD 400' 'MARGIN c1<0> SETUP 0 NEXT CASE 0 SETUP EDGE 0 SLOT 0 VALUE C' 'MARGIN c1<0> HOLD 389 NEXT CASE 0 HOLD EDGE 0 SLOT 0 VALUE C' 'MARGINS 2'
+whole 'a change while the clock is high counts for setup and for hold' margins 0 \
+    'b1 : BUF [10:10] ("D .S0-2,4-8") -> ("X");' 'c1 : SETUP_RISE_HOLD_FALL_CHK ("CK .P2-3", "X");' \
+    -- 'SCALD 1 PERIOD 400' 'MARGIN c1<0> SETUP FAULT' 'MARGIN c1<0> HOLD FAULT' 'MARGINS 2'
+whole 'pulses, each by its own worst case' margins 0 \
+    'DRAWING ROW;' 'm1 : MUX2 [0:0] ("G", "CK .P2-3", "CK2 .P2-4") -> ("X");' 'w1 : MIN_PULSE_CHK {HIGH=20, LOW=20} ("X");' 'END;' 'CASE "G"=0;' 'CASE "G"=1;' \
+    -- 'SCALD 1 PERIOD 400' 'MARGIN w1<0> HIGH 30 NEXT CASE 1 WIDTH HIGH FROM 100 WIDTH 50' 'MARGIN w1<0> LOW 280 NEXT CASE 2 WIDTH LOW FROM 200 WIDTH 300' 'MARGINS 2'
 
 ended
