@@ -140,15 +140,28 @@ text '3 Syntax 2:9' 'SCALD 1;' 'CLOCK 8 x50;'
 text '3 Syntax 1:9' 'SCALD 1;;'
 helps "    ';' cannot come after ';'"
 early '3 Syntax 4:9' 'a:B()->();'
+helps "    ')' cannot come after '('"
 early '3 Syntax 4:4' 'IF : BUF [0:0] ("A") -> ("X");'
-helps "    ':' cannot come after 'IF'"
+helps "    ':' cannot come after 'IF'" \
+    '    IF is reserved: it is no label, kind, macro, parameter, constant or variable'
+early '3 Syntax 4:4' 'if 1 THEN' 'END;'
+helps "    '1' cannot come after 'if'" \
+    '    is IF meant?'
+early '3 Syntax 4:22' 'b1 : BUF [0:0] ("A") ("X");'
+helps "    '(' cannot come after ')'"
+early '3 Syntax 5:1' 'b1 : BUF [0:0] ("A") -> ("X")' 'b2 : BUF [0:0] ("X") -> ("Y");'
+helps "    'b2' cannot come after ')'" \
+    "    is a ; missing after ')'?"
 early '3 Syntax 4:11' 'b1 : BUF [ONE:1] ("A") -> ("X");'
 early '15 TooDeep 4:75' "b1 : BUF [$(many 65 '(')0$(many 65 ')'):0] (\"A\") -> (\"X\");"
-helps '    counted are uses of macros inside one another, parentheses and minus signs that are open,' \
-    '    operators of one expression, and IFs and FORs'
+helps '    at most 64 parentheses and minus signs of an expression may be open at once, and this is one more'
 early '15 TooDeep 4:75' "b1 : BUF [$(many 33 '-(')0$(many 33 ')'):0] (\"A\") -> (\"X\");"
 early '15 TooDeep 4:139' "b1 : BUF [$(many 65 '- ')0:0] (\"A\") -> (\"X\");"
+helps '    at most 64 parentheses and minus signs of an expression may be open at once, and this is one more'
 early '15 TooDeep 4:140' "b1 : BUF [0$(many 65 '+1'):70] (\"A\") -> (\"X\");"
+helps '    an expression may have at most 64 operators, and this is one more'
+early '15 TooDeep 4:140' "b1 : BUF [0$(many 65 '-1'):70] (\"A\") -> (\"X\");"
+helps '    an expression may have at most 64 operators, and this is one more'
 early '3 Syntax 4:9' 'a:B[1:2,]();'
 early '3 Syntax 4:10' 'a:B[1:2,3]();'
 early '3 Syntax 4:10' 'a:B[1:2,3=4]();'
@@ -159,6 +172,7 @@ early '3 Syntax 4:9' 'a:B[1:2][3:4]();'
 early '15 TooDeep 4:82' "b1 : BUF [0:0, 0:$(many 65 '(')0$(many 65 ')')] (\"A\") -> (\"X\");"
 early '15 TooDeep 4:401' "b1 : BUF [0$(many 64 '+1'):0$(many 64 '+1'), 0$(many 65 '+1'):0] (\"A\") -> (\"X\");"
 early '15 TooDeep 4:641' "$(many 65 'IF 1 THEN ')b1 : BUF [0:0] (\"A\") -> (\"X\"); $(many 65 'END; ')"
+helps '    at most 64 IFs and FORs may be inside one another, and this is one more'
 
 # --- header
 text '3 Syntax 2:13' 'SCALD 2;' 'CLOCK 8 x 0;;'
@@ -168,32 +182,62 @@ text '4 BadHeader 1:1' 'SCALD 0;' 'CLOCK 8 x 50;' 'DRAWING ROW;' 'END;'
 text '4 BadHeader 1:1' 'SCALD 21;' 'CLOCK 8 x 50;' 'DRAWING ROW;' 'END;'
 text '4 BadHeader 2:1' 'SCALD 2;' 'CLOCK 8 x 0;' 'DRAWING ROW;' 'END;'
 text '4 BadHeader 2:1' 'SCALD 1;' 'CLOCK 8 x 0;' 'DRAWING ROW;' 'END;'
-helps '    CLOCK u x k has u and k of at least 1, and a period of u times k ticks, from 2 to 4096'
+helps '    CLOCK u x k has u and k of at least 1, and a period of u times k ticks, from 2 to 4096' \
+    '    8 x 0 are fewer than 2 ticks'
 text '4 BadHeader 2:1' 'SCALD 1;' 'CLOCK 1 x 1;' 'DRAWING ROW;' 'END;'
 text '4 BadHeader 2:1' 'SCALD 1;' 'CLOCK 4097 x 1;' 'DRAWING ROW;' 'END;'
+text '4 BadHeader 2:1' 'SCALD 1;' 'CLOCK 8 x 600;' 'DRAWING ROW;' 'END;'
+helps '    CLOCK u x k has u and k of at least 1, and a period of u times k ticks, from 2 to 4096' \
+    '    4800 is more than 4096, by 704'
 text '4 BadHeader 3:1' 'SCALD 1;' 'CLOCK 8 x 50;' 'WIRE 2:1;' 'DRAWING ROW;' 'END;'
-helps '    WIRE a:b has 0 <= a <= b <= 4095'
+helps '    WIRE a:b has 0 <= a <= b <= 4095' \
+    '    the least, 2, is more than the greatest, 1'
 text '4 BadHeader 3:1' 'SCALD 1;' 'CLOCK 8 x 50;' 'WIRE 0:4096;' 'DRAWING ROW;' 'END;'
 text '4 BadHeader 3:1' 'SCALD 1;' 'CLOCK 8 x 50;' 'PSKEW 4096:0;' 'DRAWING ROW;' 'END;'
-helps '    a skew a:b has a and b of at most 4095'
+helps '    a skew a:b has a and b of at most 4095' \
+    '    4096 is more than 4095, by 1'
 text '4 BadHeader 3:1' 'SCALD 1;' 'CLOCK 8 x 50;' 'CSKEW 0:4096;' 'DRAWING ROW;' 'END;'
 text '4 BadHeader 2:1' 'SCALD 1;' 'CLOCK 8 x 0;' 'DRAWING ROW;' 'WIRE "" 0:1;' 'END;'
 
 # --- names
-for name in 'CK .P2-9' 'CK .P8-3' 'CK .P3-3' 'CK .P02-3' 'CK .P2-3(4096,0)' 'A .S0-2L' 'A .S0-2(1,1)' 'CK .P' ' A' 'A ' 'A  B' '' '/' \
-    'A-B' "$(many 65 A)"; do
-    early '7 BadName 4:17' "b1 : BUF [0:0] (\"$name\") -> (\"X\");"
-done
+# named NAME LINE ..: the name is refused so, and these lines say why
+named() {
+    early '7 BadName 4:17' "b1 : BUF [0:0] (\"$1\") -> (\"X\");"
+    shift
+    helps "$@"
+}
+begins='a name begins with a letter, a digit, _, # or $, or with a / before these'
+has='a name has letters, digits, _, # and $, single spaces, and at its end a space and .S, .P or .C'
+spaced='after a space comes a letter, a digit, _, # or $, or the . of an assertion'
+ends='after an interval comes a comma and the next one, and after those of .P and .C a skew like (2,3), an L'
+named 'CK .P2-9' '    an interval ends with 9, past the end of the period, 8' \
+    '    one that wraps over the end of the period is written 2-1'
+named 'CK .P2-17' '    an interval ends with 17, past the end of the period, 8'
+named 'CK .P8-3' '    unit 8 is past the last: 8 units count from 0'
+named 'CK .P3-3' '    an interval ends where it begins, with 3'
+named 'CK .P02-3' "    after 'CK .P0' there cannot be '2': a number has no 0 in front"
+named 'CK .P20000-3' "    after 'CK .P2000' there cannot be '0': a number has at most 4 digits"
+named 'CK .P2-3(4096,0)' '    a skew is at most 4095 ticks, and this is 4096'
+named 'A .S0-2L' "    after 'A .S0-2' there cannot be 'L': $ends"
+named 'A .S0-2(1,1)' "    after 'A .S0-2' there cannot be '(': $ends"
+named 'CK .P' "    after 'CK .P' the name cannot end: an interval like 2-3 comes here"
+named ' A' "    after '' there cannot be ' ': $begins"
+named 'A ' "    after 'A ' the name cannot end: $spaced"
+named 'A  B' "    after 'A ' there cannot be ' ': $spaced"
+named '' "    after '' the name cannot end: $begins"
+named '/' "    after '/' the name cannot end: after the / comes a letter, a digit, _, # or \$"
+named 'A-B' "    after 'A' there cannot be '-': $has"
+named 'A.B' "    after 'A' there cannot be '.': $has"
+named 'CK .X2-3' "    after 'CK .' there cannot be 'X': an assertion begins with .S, .P or .C"
+named "$(many 65 A)" "    after '$(many 64 A)' there cannot be 'A': the part before an assertion has at most 64 bytes"
 early '20 EdgesOverlap 4:17' 'b1 : BUF [0:0] ("CK .C2-3(25,25)") -> ("X");'
 helps '    make the skew (a,b) of this clock smaller or its pulses longer, or let it be a .P clock, which moves' '    as a whole'
 early '20 EdgesOverlap 4:17' 'b1 : BUF [0:0] ("CK .C2-3(400,0)") -> ("X");'
 macro refused '7 BadName 3:10' 'MACRO M ("/A") -> ("Z");' 'END;' 'DRAWING ROW;' 'END;'
+helps '    a formal of a macro has neither an assertion nor a / before it'
 macro refused '7 BadName 3:10' 'MACRO M ("A .S") -> ("Z");' 'END;' 'DRAWING ROW;' 'END;'
 macro refused '7 BadName 3:10' 'MACRO M ("A .C2-3(25,25)") -> ("Z");' 'END;' 'DRAWING ROW;' 'END;'
 early '7 BadName 4:11' 'a:B();a:B("X .P2-9");'
-helps '    a name is as "A" or "A .S1-4": letters, digits, spaces, _, # and $, then one space and .S, .P or .C' \
-    '    of u units an interval lo-hi has lo below u and hi up to u, and they differ; no number begins with 0' \
-    '    a formal of a macro has neither an assertion nor a / before it'
 
 # --- double names
 early '5 DoubleName 5:1' 'b1 : BUF [0:0] ("A") -> ("X");' 'b1 : BUF [0:0] ("B") -> ("Y");'
@@ -210,11 +254,17 @@ helps "    '\"A\"' stands first at 3:10"
 
 # --- version 2
 early '3 Syntax 4:5' 'FOR I = 0 TO 1 DO' 'END;'
+helps "    'I' cannot come after 'FOR'" \
+    '    FOR and CONST are of version 2, in texts that begin with SCALD 2'
 text '3 Syntax 3:1' 'SCALD 1;' 'CLOCK 8 x 50;' 'CONST N = 4;' 'DRAWING ROW;' 'END;'
+helps "    'CONST' cannot come after ';'" \
+    '    FOR and CONST are of version 2, in texts that begin with SCALD 2'
 text '3 Syntax 3:1' 'SCALD 3;' 'CLOCK 8 x 50;' 'CONST N = 4;' 'DRAWING ROW;' 'END;'
 second '3 Syntax 5:1' 'MACRO M ();' 'END;' 'CONST N = 4;' 'DRAWING ROW;' 'END;'
 second '3 Syntax 4:7' 'DRAWING ROW;' 'CONST N = 4;' 'END;'
 second '3 Syntax 3:7' 'CONST IF = 4;' 'DRAWING ROW;' 'END;'
+helps "    'IF' cannot come after 'CONST'" \
+    '    IF is reserved: it is no label, kind, macro, parameter, constant or variable'
 second '3 Syntax 3:9' 'CONST N : 4;' 'DRAWING ROW;' 'END;'
 second '3 Syntax 3:13' 'CONST N = 4 = 4;' 'DRAWING ROW;' 'END;'
 second '15 TooDeep 3:140' "CONST N = 0$(many 65 '+1');" 'DRAWING ROW;' 'END;'
@@ -255,15 +305,18 @@ helps "    'ADDER' is none. The kinds are BUF, AND, OR, XOR, MUX2, MUX4, MUX8, C
 macro unexpanded '6 UnknownKind 6:1' 'MACRO ADDER ();' 'END;' 'DRAWING ROW;' 'u : ADER ();' 'END;'
 helps "    'ADER' is none: is ADDER meant?"
 drawing '14 Bounds 4:1' 'b1 : BUF ("A") -> ("X");'
-helps '    BUF takes a delay [a:b], 0 <= a <= b <= 4095, or two, [r:R, f:F], each at most 255'
+helps '    BUF takes a delay [a:b], 0 <= a <= b <= 4095, or two, [r:R, f:F], each at most 255' \
+    '    here it has none'
 drawing '14 Bounds 4:1' 'c1 : MIN_PULSE_CHK [0:0] ("A");'
 helps '    MIN_PULSE_CHK takes no delay' \
-    '    MIN_PULSE_CHK takes HIGH and LOW, each once; neither is negative, and each is at most the period'
+    '    MIN_PULSE_CHK takes HIGH and LOW, each once; neither is negative, and each is at most the period' \
+    '    here it has one'
 macro unexpanded '14 Bounds 6:1' 'MACRO M ();' 'END;' 'DRAWING ROW;' 'u : M [0:0] ();' 'END;'
-helps '    a macro takes no delay, and WIRE "A" a:b has 0 <= a <= b <= 4095'
+helps '    a macro takes no delay'
 macro unexpanded '14 Bounds 6:1' 'MACRO M ();' 'END;' 'DRAWING ROW;' 'u : M [0:0, 0:0] ();' 'END;'
 for kind in CHG REG LATCH; do
     drawing '14 Bounds 4:1' "r1 : $kind [1:2, 1:2] (\"CK\", \"D\") -> (\"Q\");"
+    helps "    $kind takes one delay [a:b], 0 <= a <= b <= 4095" '    here it has two'
 done
 for kind in REG_RS LATCH_RS; do
     drawing '14 Bounds 4:1' "r1 : $kind [1:2, 1:2] (\"CK\", \"D\", \"S\", \"R\") -> (\"Q\");"
@@ -273,14 +326,20 @@ for kind in SETUP_HOLD_CHK SETUP_RISE_HOLD_FALL_CHK; do
 done
 drawing '14 Bounds 4:1' 'c1 : MIN_PULSE_CHK [0:0, 0:0] ("A");'
 drawing '9 BadParameter 4:1' 'b1 : BUF [0:0] {N=1} ("A") -> ("X");'
-helps '    BUF takes no parameters'
+helps '    BUF takes no parameters' \
+    "    'N' is none of its parameters"
 drawing '9 BadParameter 4:1' 'c1 : MIN_PULSE_CHK {HIGH=1, HIGH=1} ("A");'
+helps '    MIN_PULSE_CHK takes HIGH and LOW, each once; neither is negative, and each is at most the period' \
+    "    'HIGH' is given twice"
 macro unexpanded '9 BadParameter 6:1' 'MACRO M {N=1} ();' 'END;' 'DRAWING ROW;' 'u : M {P=1} ();' 'END;'
-helps '    a macro takes the parameters in the braces of its head, each once'
+helps '    the parameters of M are: N' \
+    "    'P' is none of its parameters"
 nine='A=1, B=1, C=1, D=1, E=1, F=1, G=1, H=1, I=1'
 for given in "$nine, A=2" "$nine, K=2"; do
     macro unexpanded '9 BadParameter 6:1' "MACRO M {$nine} ();" 'END;' 'DRAWING ROW;' "u : M {$given} ();" 'END;'
 done
+helps '    the parameters of M are: A B C D E F G H I' \
+    "    'K' is none of its parameters"
 drawing '10 Overflow 4:1' 'b1 : BUF [0:9223372036854775807+1] ("A") -> ("X");'
 no_help
 drawing '21 ZeroDivisor 4:1' 'b1 : BUF [0:1/0] ("A") -> ("X");'
@@ -299,25 +358,47 @@ done
 drawing '10 Overflow 4:1' 'b1 : BUF [0:0, 9223372036854775807+1:0] ("A") -> ("X");'
 drawing '21 ZeroDivisor 4:1' 'b1 : BUF [0:0, 0:1/0] ("A") -> ("X");'
 drawing '22 UnknownName 4:1' 'b1 : BUF [0:0, N:0] ("A") -> ("X");'
+drawing '14 Bounds 4:1' 'b1 : BUF [3:2] ("A") -> ("X");'
+helps '    BUF takes a delay [a:b], 0 <= a <= b <= 4095, or two, [r:R, f:F], each at most 255' \
+    '    the least, 3, is more than the greatest, 2'
+drawing '14 Bounds 4:1' 'b1 : BUF [0:0, 1:256] ("A") -> ("X");'
+helps '    BUF takes a delay [a:b], 0 <= a <= b <= 4095, or two, [r:R, f:F], each at most 255' \
+    '    256 is more than 255, by 1'
 drawing '14 Bounds 4:1' 'c1 : SETUP_HOLD_CHK {SETUP=391, HOLD=10} ("CK", "D");'
+helps '    SETUP_HOLD_CHK takes no delay' \
+    '    SETUP_HOLD_CHK takes SETUP and HOLD, each once; neither is negative, and together they are at most the period' \
+    '    401 is more than 400, by 1'
 drawing '14 Bounds 4:1' 'c1 : SETUP_RISE_HOLD_FALL_CHK {SETUP=0-1, HOLD=10} ("CK", "D");'
 drawing '14 Bounds 4:1' 'c1 : MIN_PULSE_CHK {HIGH=401} ("K");'
 drawing '14 Bounds 4:1' 'c1 : MIN_PULSE_CHK {LOW=401} ("K");'
+helps '    MIN_PULSE_CHK takes no delay' \
+    '    MIN_PULSE_CHK takes HIGH and LOW, each once; neither is negative, and each is at most the period' \
+    '    401 is more than 400, by 1'
 drawing '14 Bounds 4:1' 'WIRE "A" 2:1;'
-drawing '14 Bounds 4:1' 'WIRE "A" 0:4096;'
+helps '    WIRE "A" a:b has 0 <= a <= b <= 4095' \
+    '    the least, 2, is more than the greatest, 1'
+drawing '14 Bounds 4:1' 'WIRE "A"<3> 0:4096;'
+helps '    WIRE "A" a:b has 0 <= a <= b <= 4095' \
+    '    4096 is more than 4095, by 1'
 drawing '13 PinCount 4:1' 'b1 : BUF [0:0] ("A", "B") -> ("X");'
-helps '    BUF takes 1 input connection, without !H, and 1 output connection'
+helps '    BUF takes 1 input connection, without !H, and 1 output connection' \
+    '    here it has 2 input and 1 output connections, 0 and 0 of them with !H'
 drawing '13 PinCount 4:1' 'b1 : BUF [0:0] () -> ("X");'
+helps '    BUF takes 1 input connection, without !H, and 1 output connection' \
+    '    here it has 0 input and 1 output connections, 0 and 0 of them with !H'
 drawing '13 PinCount 4:1' 'b1 : BUF [0:0] ("A");'
 drawing '13 PinCount 4:1' 'm1 : MUX4 [0:0] ("S", "A", "B", "C", "D") -> ("X");'
 drawing '13 PinCount 4:1' "a1 : AND [0:0] (\"A\"$(many 16 ', "A"')) -> (\"X\");"
 drawing '13 PinCount 4:1' 'c1 : MIN_PULSE_CHK ("A") -> ("X");'
-helps '    MIN_PULSE_CHK takes 1 input connection, without !H, and no output connection'
+helps '    MIN_PULSE_CHK takes 1 input connection, without !H, and no output connection' \
+    '    here it has 1 input and 1 output connections, 0 and 0 of them with !H'
 drawing '13 PinCount 4:1' 'b1 : BUF [0:0] ("A" !H) -> ("X");'
 drawing '13 PinCount 4:1' 'a1 : AND [0:0] ("A" !H, "B" !H) -> ("X");'
-helps '    AND takes 1 to 16 input connections, one of which may have !H, and 1 output connection'
+helps '    AND takes 1 to 16 input connections, one of which may have !H, and 1 output connection' \
+    '    here it has 2 input and 1 output connections, 2 and 0 of them with !H'
 drawing '13 PinCount 4:1' 'a1 : AND [0:0] ("A", "B") -> ("X" !H);'
 macro unexpanded '15 TooDeep 4:1' 'MACRO M ("A") -> ("Z");' 'x : M ("A") -> ("Z");' 'END;' 'DRAWING ROW;' 'u : M ("A") -> ("X");' 'END;'
+helps '    at most 64 uses of macros may be inside one another, and this is one more'
 macro unexpanded '11 BadRange 6:1' 'MACRO M {N=1} ("A"<0:N>);' 'END;' 'DRAWING ROW;' 'u : M {N=256} ("A");' 'END;'
 drawing '11 BadRange 4:1' 'b1 : BUF [0:0] ("A"<65536>) -> ("X");'
 no_help
@@ -329,6 +410,8 @@ macro unexpanded '11 BadRange 4:1' 'MACRO M ("A"<1:2>) -> ("Z");' 'b1 : BUF [0:0
 drawing '8 AssertionClash 4:1' 'a1 : AND [0:0] ("A .S0-4", "A .S0-5") -> ("X");'
 helps '    give the assertion once, or spell it the same each time; a formal has that of the outer net'
 drawing '8 AssertionClash 4:1' 'a1 : AND [0:0] ("A .S0-2,4-6", "A .S4-6,0-2"<1>) -> ("X");'
+drawing '8 AssertionClash 5:1' 'b1 : BUF [0:0] ("A .S0-4") -> ("X");' 'b2 : AND [0:0] ("B .S", "A"<1>, "A .S0-5"<2>) -> ("Y");'
+helps '    give the assertion once, or spell it the same each time; a formal has that of the outer net'
 macro unexpanded '8 AssertionClash 4:1' 'MACRO M ("A") -> ("Z");' 'b1 : BUF [0:0] ("A .S") -> ("Z");' 'END;' 'DRAWING ROW;' \
     'u : M ("A") -> ("X");' 'END;'
 drawing '12 Width 4:1' 'c1 : MIN_PULSE_CHK ("A"<0:255> & "B");'
@@ -336,8 +419,11 @@ drawing '12 Width 4:1' 'b1 : BUF [0:0] ("A"<0:2>) -> ("X"<0:3>);'
 helps "    connections are as wide as the output, or as a checker's widest one, or have one bit for all" \
     '    a name without a range is its bit 0 alone, and a formal without one is all of its bits'
 drawing '12 Width 4:1' 'c1 : SETUP_HOLD_CHK ("CK"<0:1>, "D"<0:2>);'
+drawing '12 Width 4:1' 'a1 : AND [0:0] ("A"<7:4> & ZERO, "D", "E"<0:3-1>) -> (-"X"<0:3>);'
 macro unexpanded '12 Width 6:1' 'MACRO M ("A") -> ("Z"<0:1>);' 'END;' 'DRAWING ROW;' 'u : M ("A") -> ("X");' 'END;'
 macro unexpanded '12 Width 6:1' 'MACRO M ("A"<0:2>);' 'END;' 'DRAWING ROW;' 'u : M ("A"<0:1>);' 'END;'
+macro unexpanded '12 Width 4:1' 'MACRO M ("A"<0:2>) -> ("Z");' 'b1 : BUF [0:0] ("A") -> ("Z");' 'END;' 'DRAWING ROW;' \
+    'u : M ("A"<0:2>) -> ("X");' 'END;'
 
 # --- two refusals in one statement: the first of the order is answered
 drawing '6 UnknownKind 4:1' 'b1 : BUFF {N=1/0} ("A", "B") -> ("X");'
@@ -364,9 +450,13 @@ drawing '11 BadRange 4:1' 'a1 : AND [0:0] ("A"<0:1>, "B"<0:2>) -> ("X"<65536>);'
 drawing '21 ZeroDivisor 4:1' 'WIRE "A"<65536> 0:1/0;'
 drawing '11 BadRange 4:1' 'WIRE "A"<65536> 2:1;'
 macro unexpanded '13 PinCount 6:1' 'MACRO M ("A"<65536>) -> ("Z");' 'END;' 'DRAWING ROW;' 'u : M ("A", "B") -> ("X");' 'END;'
+helps '    the macro takes 1 input and 1 output connections, 0 and 0 of them with !H' \
+    '    here it has 2 input and 1 output connections, 0 and 0 of them with !H'
 macro unexpanded '21 ZeroDivisor 6:1' 'MACRO M {N=1/0} ("A"<65536>) -> ("Z");' 'END;' 'DRAWING ROW;' 'u : M ("A"<65536>) -> ("X");' 'END;'
 macro unexpanded '22 UnknownName 7:1' 'MACRO M {N=P} ();' 'b : BUF [0:N] ("A") -> ("X");' 'END;' 'MACRO O {P=7} ();' 'u : M ();' 'END;' \
     'DRAWING ROW;' 'o : O ();' 'END;'
+helps '    known are the constants before it, and the parameters of the MACRO and the variables of the FORs' \
+    '    around it'
 
 # --- limits of the expansion
 {
@@ -395,6 +485,12 @@ macro unexpanded '22 UnknownName 7:1' 'MACRO M {N=P} ();' 'b : BUF [0:N] ("A") -
 drawing '17 TwoDrivers 5:1' 'b1 : BUF [0:0] ("A") -> ("X");' 'b2 : BUF [0:0] ("B") -> ("X");'
 helps '    join what drives a net by a MUX2, an AND or an OR'
 drawing '17 TwoDrivers 4:1' 'b1 : BUF [0:0] ("A") -> (ZERO);'
+helps '    join what drives a net by a MUX2, an AND or an OR'
+drawing '17 TwoDrivers 5:1' 'b1 : BUF [0:0] ("A"<0:3>) -> ("X"<0:3>);' 'b2 : BUF [0:0] ("B"<0:1>) -> ("Y" & -"X"<2>);'
+helps '    join what drives a net by a MUX2, an AND or an OR'
+macro unexpanded '17 TwoDrivers 5:1' 'MACRO M ("A") -> ("Z");' 'b1 : BUF [0:0] ("A") -> ("Z");' 'b2 : BUF [0:0] ("A") -> ("Z");' 'END;' \
+    'DRAWING ROW;' 'u1 : M ("A") -> ("X");' 'END;'
+helps '    join what drives a net by a MUX2, an AND or an OR'
 drawing '17 TwoDrivers 6:1' 'b1 : BUF [0:0] ("Y") -> ("X");' 'a1 : AND [0:0] ("CK .P2-3", "X") -> ("Y");' 'b2 : BUF [0:0] ("B") -> ("X");'
 drawing '18 ZeroLoop 4:1' 'b1 : BUF [0:0] ("Y") -> ("X");' 'a1 : AND [0:0] ("CK .P2-3", "X") -> ("Y");'
 helps '    give an element of the loop, or the wire of a net of it, a least delay of 1'

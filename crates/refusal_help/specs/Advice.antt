@@ -11,10 +11,7 @@ advice Syntax = []
 advice BadHeader = []
 advice DoubleName = []
 advice UnknownKind = []
-advice BadName =
-    codes "    a name is as \"A\" or \"A .S1-4\": letters, digits, spaces, _, # and $, then one space and .S, .P or .C\n" ++
-    codes "    of u units an interval lo-hi has lo below u and hi up to u, and they differ; no number begins with 0\n" ++
-    codes "    a formal of a macro has neither an assertion nor a / before it\n"
+advice BadName = []
 advice AssertionClash =
     codes "    give the assertion once, or spell it the same each time; a formal has that of the outer net\n"
 advice BadParameter = []
@@ -25,9 +22,7 @@ advice Width =
     codes "    a name without a range is its bit 0 alone, and a formal without one is all of its bits\n"
 advice PinCount = []
 advice Bounds = []
-advice TooDeep =
-    codes "    counted are uses of macros inside one another, parentheses and minus signs that are open,\n" ++
-    codes "    operators of one expression, and IFs and FORs\n"
+advice TooDeep = []
 advice TooMany =
     codes "    there may be 65536 bits of nets, of elements and of checkers each, 1048576 pins, 262144 statements\n" ++
     codes "    that are reached, and 256 cases\n"

@@ -3,7 +3,7 @@ use Rattle.std.specs.Prelude.{ℕ, Bool, false, ◌&&◌, ◌||◌, ◌==◌, Li
 use Rattle.std.specs.Str.{bytes_eq}
 use Rattle.scald_base.specs.declared.refusal.Place.{Place}
 use Rattle.scald_lex.specs.declared.token.Token.{Token}
-use Rattle.refusal_help.specs.Statement.{before_place, from_place, is_at, spelled}
+use Rattle.refusal_help.specs.Statement.{before_place, first_of, from_after, from_place, is_at, spelled}
 use Rattle.refusal_help.specs.Text.{line, place_text, quoted}
 
 -- ---- the macro, or the drawing, that a place is in
@@ -28,24 +28,23 @@ is_declared word = bytes_eq word (codes "MACRO") || bytes_eq word (codes "CONST"
 
 -- the first token of the text `word` after one of the text `leader`
 abbrev pub first_after : List ℕ → List ℕ → List ℕ → List Token → Option Token
-first_after text leader word [] = None
-first_after text leader word (t ∷ []) = None
-first_after text leader word (t ∷ u ∷ ts) =
-    if bytes_eq (spelled text t) leader && bytes_eq (spelled text u) word then Some u
-    else first_after text leader word (u ∷ ts)
+first_after text leader word tokens = first_of (from_after text leader word tokens)
 
 abbrev pub is_name : List ℕ → Bool
 is_name [] = false
 is_name (b ∷ bs) = b == 34
 
--- The first token of the text `word` before one of the text `follower`: a label stands before a
--- colon, a parameter before a `=`. Formals are names, and stand before any.
+-- A label stands before a colon, a parameter before a `=`. Formals are names, and stand before any.
+unfoldable pub is_before : List ℕ → List ℕ → List ℕ → List Token → Bool
+is_before text word follower [] = false
+is_before text word follower (t ∷ ts) = is_name word || bytes_eq (spelled text t) follower
+
+-- the first token of the text `word` before one of the text `follower`
 abbrev pub first_before : List ℕ → List ℕ → List ℕ → List Token → Option Token
 first_before text word follower [] = None
-first_before text word follower (t ∷ []) = None
-first_before text word follower (t ∷ u ∷ ts) =
-    if bytes_eq (spelled text t) word && (is_name word || bytes_eq (spelled text u) follower) then Some t
-    else first_before text word follower (u ∷ ts)
+first_before text word follower (t ∷ ts) =
+    if bytes_eq (spelled text t) word && is_before text word follower ts then Some t
+    else first_before text word follower ts
 
 -- ---- where a name is taken
 

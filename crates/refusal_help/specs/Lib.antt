@@ -11,3 +11,11 @@ pub mod Double
 pub mod Hint
 pub mod Explained
 pub mod CallWord
+pub mod Tokens
+pub mod Bound
+pub mod Count
+pub mod Deep
+pub mod Limit
+pub mod Naming
+pub mod Parameter
+pub mod Reserved

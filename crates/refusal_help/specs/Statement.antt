@@ -1,5 +1,5 @@
 -- The tokens that a refusal speaks of.
-use Rattle.std.specs.Prelude.{ℕ, Bool, ◌&&◌, ◌==◌, List, [], ◌∷◌, slice_range, codes, Option, Some, None, if◌then◌else◌}
+use Rattle.std.specs.Prelude.{ℕ, Bool, false, ◌&&◌, ◌==◌, List, [], ◌∷◌, slice_range, codes, Option, Some, None, if◌then◌else◌}
 use Rattle.std.specs.Str.{bytes_eq}
 use Rattle.scald_base.specs.declared.refusal.Place.{Place}
 use Rattle.scald_lex.specs.declared.token.Token.{Token}
@@ -16,11 +16,13 @@ abbrev pub from_place : Place → List Token → List Token
 from_place place [] = []
 from_place place (t ∷ ts) = if is_at place t then t ∷ ts else from_place place ts
 
--- the token before the one at a place
+-- the token before the one at a place, where this one stands before them all
+abbrev pub before_from : Place → Option Token → List Token → Option Token
+before_from place last [] = None
+before_from place last (t ∷ ts) = if is_at place t then last else before_from place (Some t) ts
+
 abbrev pub before_place : Place → List Token → Option Token
-before_place place [] = None
-before_place place (t ∷ []) = None
-before_place place (t ∷ u ∷ ts) = if is_at place u then Some t else before_place place (u ∷ ts)
+before_place place tokens = before_from place None tokens
 
 -- the word that says what a use is of, after its label and a colon
 abbrev pub kind_token : List Token → Option Token
@@ -29,10 +31,29 @@ kind_token (t ∷ []) = None
 kind_token (t ∷ u ∷ []) = None
 kind_token (t ∷ u ∷ v ∷ ts) = Some v
 
--- the first macro whose name a word nearly is
+unfoldable pub is_macro : List ℕ → Token → Bool
+is_macro text t = bytes_eq (spelled text t) (codes "MACRO")
+
+-- the first macro whose name a word nearly is, where the first token is a name or is none
+abbrev pub near_from : List ℕ → List ℕ → Bool → List Token → Option Token
+near_from text word named [] = None
+near_from text word named (t ∷ ts) =
+    if named && is_near word (spelled text t) then Some t
+    else near_from text word (is_macro text t) ts
+
 abbrev pub near_macro : List ℕ → List ℕ → List Token → Option Token
-near_macro text word [] = None
-near_macro text word (t ∷ []) = None
-near_macro text word (t ∷ u ∷ ts) =
-    if bytes_eq (spelled text t) (codes "MACRO") && is_near word (spelled text u) then Some u
-    else near_macro text word (u ∷ ts)
+near_macro text word tokens = near_from text word false tokens
+
+-- the tokens from the first one of the text `word` that comes after one of the text `leader`
+abbrev pub led_from : List ℕ → List ℕ → List ℕ → Bool → List Token → List Token
+led_from text leader word led [] = []
+led_from text leader word led (t ∷ ts) =
+    if led && bytes_eq (spelled text t) word then t ∷ ts
+    else led_from text leader word (bytes_eq (spelled text t) leader) ts
+
+abbrev pub from_after : List ℕ → List ℕ → List ℕ → List Token → List Token
+from_after text leader word tokens = led_from text leader word false tokens
+
+abbrev pub first_of : List Token → Option Token
+first_of [] = None
+first_of (t ∷ ts) = Some t

@@ -9,8 +9,10 @@ use Rattle.scald_lex.specs.declared.token.Token.{Token}
 use Rattle.element_kinds.specs.Kinds.{kind_names}
 use Rattle.refusal_help.specs.declared.keyword.Keyword.{Keyword}
 use Rattle.refusal_help.specs.Keyword.{near_keyword, word_of}
+use Rattle.refusal_help.specs.Reserved.{is_later, later_line, reserved_at, reserved_line}
 use Rattle.refusal_help.specs.Statement.{before_place, from_place, spelled}
 use Rattle.refusal_help.specs.Text.{line, quoted}
+use Rattle.refusal_help.specs.Tokens.{is_symbol}
 
 -- ---- what stands here
 
@@ -86,11 +88,20 @@ meant_line text t = keyword_line (meant_keyword text t)
 
 -- ---- all of it
 
-abbrev pub lines_at : List ℕ → Option Token → List Token → List ℕ
-lines_at text before [] = []
-lines_at text before (t ∷ ts) =
-    follow_line text before t ++ (missing_line text before t ++ meant_line text t)
+-- The word before may be meant for another where no colon makes it a label.
+abbrev pub meant_before : List ℕ → Option Token → Token → List ℕ
+meant_before text None t = []
+meant_before text (Some last) t = if is_symbol 58 t.kind then [] else meant_line text last
+
+abbrev pub lines_at : List ℕ → List Token → Option Token → List Token → List ℕ
+lines_at text tokens before [] = []
+lines_at text tokens before (t ∷ ts) =
+    follow_line text before t
+    ++ (missing_line text before t
+    ++ (meant_line text t
+    ++ (meant_before text before t
+    ++ (reserved_line (reserved_at text before t ts) ++ later_line (is_later text tokens before t)))))
 
 abbrev pub syntax_lines : List ℕ → List Token → Place → List ℕ
 syntax_lines text tokens place =
-    lines_at text (before_place place tokens) (from_place place tokens)
+    lines_at text tokens (before_place place tokens) (from_place place tokens)

@@ -10,23 +10,12 @@ pub fn advice(kind: RefusalKind) -> &'static [u8]
     ensures { result.now ≡ advice kind }
 {
     match kind {
-        RefusalKind::BadName => {
-            b"    a name is as \"A\" or \"A .S1-4\": letters, digits, spaces, _, # and $, then one space and .S, .P or .C
-    of u units an interval lo-hi has lo below u and hi up to u, and they differ; no number begins with 0
-    a formal of a macro has neither an assertion nor a / before it
-"
-        }
         RefusalKind::AssertionClash => {
             b"    give the assertion once, or spell it the same each time; a formal has that of the outer net\n"
         }
         RefusalKind::Width => {
             b"    connections are as wide as the output, or as a checker's widest one, or have one bit for all
     a name without a range is its bit 0 alone, and a formal without one is all of its bits
-"
-        }
-        RefusalKind::TooDeep => {
-            b"    counted are uses of macros inside one another, parentheses and minus signs that are open,
-    operators of one expression, and IFs and FORs
 "
         }
         RefusalKind::TooMany => {

@@ -1,11 +1,11 @@
 //! Where a name that is taken stands first.
 
 ghost use Rattle.std.specs.Prelude.{◌≡◌, ◌++◌, OnOk};
-ghost use Rattle.refusal_help.specs.Double.{begins_head, double_lines, first_after, first_before, from_head, is_declared, taken_at};
+ghost use Rattle.refusal_help.specs.Double.{begins_head, double_lines, first_after, first_before, from_head, is_before, is_declared, is_name, taken_at};
 
 use crate::cut::spelled;
 use crate::part::{Part, add_line};
-use crate::statement::{before_place, from_place, is_at};
+use crate::statement::{before_place, first_of, from_after, from_place, is_at};
 use scald_base::{Bytes, NoMemory, Place, same_bytes};
 use scald_lex::Token;
 
@@ -46,33 +46,35 @@ fn is_declared(word: &[u8]) -> bool
 fn first_after(text: &[u8], tokens: &[Token], leader: &[u8], word: &[u8]) -> Option<Token>
     ensures { result ≡ first_after text.now leader.now word.now tokens.now }
 {
-    let mut rest = tokens;
-    'tokens: while let [first, others @ ..] = rest {
-        let [second, ..] = others else {
-            return None;
-        };
-        if same_bytes(spelled(text, *first), leader) && same_bytes(spelled(text, *second), word) {
-            return Some(*second);
-        }
-        rest = others;
+    first_of(from_after(text, tokens, leader, word))
+}
+
+/// Whether a word is a name in quotes.
+fn is_name(word: &[u8]) -> bool
+    ensures { result ≡ is_name word.now }
+{
+    matches!(word, [b'"', ..])
+}
+
+/// Whether tokens begin with one of that text, or with any where the word is a name in quotes.
+#[tactic(auto, unfolding(crate::specs::Double::is_before))]
+fn is_before(text: &[u8], tokens: &[Token], word: &[u8], follower: &[u8]) -> bool
+    ensures { result ≡ is_before text.now word.now follower.now tokens.now }
+{
+    match tokens {
+        [token, ..] => is_name(word) || same_bytes(spelled(text, *token), follower),
+        [] => false,
     }
-    None
 }
 
 /// The first token of this text before one of that text, or before any where the text is a name in quotes.
 fn first_before(text: &[u8], tokens: &[Token], word: &[u8], follower: &[u8]) -> Option<Token>
     ensures { result ≡ first_before text.now word.now follower.now tokens.now }
 {
-    let is_name = matches!(word, [b'"', ..]);
     let mut rest = tokens;
-    'tokens: while let [first, others @ ..] = rest {
-        let [second, ..] = others else {
-            return None;
-        };
-        if same_bytes(spelled(text, *first), word)
-            && (is_name || same_bytes(spelled(text, *second), follower))
-        {
-            return Some(*first);
+    'tokens: while let [token, others @ ..] = rest {
+        if same_bytes(spelled(text, *token), word) && is_before(text, others, word, follower) {
+            return Some(*token);
         }
         rest = others;
     }

@@ -14,13 +14,21 @@ mod shown;
 // words and tokens
 mod keyword;
 mod near;
+mod reserved;
 mod row;
 mod statement;
+mod tokens;
 
 // what is said of a refusal
 mod advice;
+mod bound;
+mod count;
+mod deep;
 mod double;
 mod hint;
+mod limit;
+mod naming;
+mod parameter;
 mod sentence;
 mod syntax;
 
@@ -32,3 +40,10 @@ mod kept;
 pub use call_word::explain_words;
 pub use explain::explain_refusal;
 pub use kept::KeptSource;
+
+// bytes and tokens of a text, for the layer above
+pub use count::after_arrow;
+pub use cut::{after, front, spelled};
+pub use naming::unquoted;
+pub use statement::from_place;
+pub use tokens::{is_symbol, number_of, past};

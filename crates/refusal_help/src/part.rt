@@ -4,6 +4,7 @@
 //! a part of the text may stand there.
 
 ghost use Rattle.std.specs.Prelude.{◌≡◌, ◌++◌, decimal, map, replicate, OnOk};
+ghost use Rattle.std.specs.List.{concat};
 ghost use Rattle.refusal_help.specs.Text.{line, part_text, place_text, printable, quoted, range_text};
 
 use crate::cut::front;
@@ -22,7 +23,7 @@ pub enum Part<'a> {
     /// So many spaces.
     Spaces(u32),
     /// A number, in decimal.
-    Number(u32),
+    Number(u64),
     /// The least and the greatest of some numbers.
     Range(u16, u16),
     /// A place: its line, a colon and its column.
@@ -75,7 +76,7 @@ fn add_spaces(out: &mut Bytes, count: u32) -> Result<(), NoMemory>
 }
 
 /// A number, in decimal.
-fn add_number(out: &mut Bytes, number: u32) -> Result<(), NoMemory>
+fn add_number(out: &mut Bytes, number: u64) -> Result<(), NoMemory>
     ensures { OnOk result (out.new ≡ out.old ++ decimal number) }
 {
     out.extend(Buffer::new().format(number).as_bytes())
@@ -86,19 +87,19 @@ fn add_range(out: &mut Bytes, least: u16, most: u16) -> Result<(), NoMemory>
     ensures { OnOk result (out.new ≡ out.old ++ range_text least most) }
 {
     if least != most {
-        add_number(out, u32::from(least))?;
+        add_number(out, u64::from(least))?;
         out.extend(b" to ")?;
     }
-    add_number(out, u32::from(most))
+    add_number(out, u64::from(most))
 }
 
 /// A place.
 fn add_place(out: &mut Bytes, place: Place) -> Result<(), NoMemory>
     ensures { OnOk result (out.new ≡ out.old ++ place_text place) }
 {
-    add_number(out, place.line)?;
+    add_number(out, u64::from(place.line))?;
     out.extend(b":")?;
-    add_number(out, place.col)
+    add_number(out, u64::from(place.col))
 }
 
 /// One part.
@@ -116,12 +117,20 @@ fn add_part(out: &mut Bytes, part: &Part) -> Result<(), NoMemory>
     }
 }
 
-/// A line of parts.
-pub fn add_line(out: &mut Bytes, parts: &[Part]) -> Result<(), NoMemory>
-    ensures { OnOk result (out.new ≡ out.old ++ line (map part_text parts.now)) }
+/// Parts, one after another.
+pub fn add_parts(out: &mut Bytes, parts: &[Part]) -> Result<(), NoMemory>
+    ensures { OnOk result (out.new ≡ out.old ++ concat (map part_text parts.now)) }
 {
     'parts: for part in parts {
         add_part(out, part)?;
     }
+    Ok(())
+}
+
+/// A line of parts.
+pub fn add_line(out: &mut Bytes, parts: &[Part]) -> Result<(), NoMemory>
+    ensures { OnOk result (out.new ≡ out.old ++ line (map part_text parts.now)) }
+{
+    add_parts(out, parts)?;
     out.push(b'\n')
 }

@@ -1,7 +1,7 @@
 //! The tokens that a refusal speaks of.
 
 ghost use Rattle.std.specs.Prelude.{◌≡◌};
-ghost use Rattle.refusal_help.specs.Statement.{before_place, from_place, is_at, kind_token, near_macro};
+ghost use Rattle.refusal_help.specs.Statement.{before_place, first_of, from_after, from_place, is_at, is_macro, kind_token, near_macro};
 
 use crate::cut::spelled;
 use crate::near::is_near;
@@ -33,14 +33,13 @@ pub fn from_place(tokens: &[Token], place: Place) -> &[Token]
 pub fn before_place(tokens: &[Token], place: Place) -> Option<Token>
     ensures { result ≡ before_place place tokens.now }
 {
+    let mut last = None;
     let mut rest = tokens;
-    'tokens: while let [first, others @ ..] = rest {
-        let [second, ..] = others else {
-            return None;
-        };
-        if is_at(*second, place) {
-            return Some(*first);
+    'tokens: while let [token, others @ ..] = rest {
+        if is_at(*token, place) {
+            return last;
         }
+        last = Some(*token);
         rest = others;
     }
     None
@@ -56,19 +55,53 @@ pub fn kind_token(statement: &[Token]) -> Option<Token>
     }
 }
 
+/// Whether the name of a macro comes after a token.
+#[tactic(auto, unfolding(crate::specs::Statement::is_macro))]
+fn is_macro(text: &[u8], token: Token) -> bool
+    ensures { result ≡ is_macro text.now token }
+{
+    same_bytes(spelled(text, token), b"MACRO")
+}
+
 /// The first macro whose name a word nearly is.
 pub fn near_macro(text: &[u8], tokens: &[Token], word: &[u8]) -> Option<Token>
     ensures { result ≡ near_macro text.now word.now tokens.now }
 {
+    let mut is_named = false;
     let mut rest = tokens;
-    'tokens: while let [first, others @ ..] = rest {
-        let [second, ..] = others else {
-            return None;
-        };
-        if same_bytes(spelled(text, *first), b"MACRO") && is_near(word, spelled(text, *second)) {
-            return Some(*second);
+    'tokens: while let [token, others @ ..] = rest {
+        if is_named && is_near(word, spelled(text, *token)) {
+            return Some(*token);
         }
+        is_named = is_macro(text, *token);
         rest = others;
     }
     None
+}
+
+/// The tokens from the first one of this text that comes after one of that text.
+pub fn from_after<'a>(text: &[u8], tokens: &'a [Token], leader: &[u8], word: &[u8]) -> &'a [Token]
+    ensures { result.now ≡ from_after text.now leader.now word.now tokens.now }
+{
+    let mut is_led = false;
+    let mut rest = tokens;
+    'tokens: while let [token, others @ ..] = rest {
+        let spelled = spelled(text, *token);
+        if is_led && same_bytes(spelled, word) {
+            return rest;
+        }
+        is_led = same_bytes(spelled, leader);
+        rest = others;
+    }
+    rest
+}
+
+/// The first of these tokens.
+pub fn first_of(tokens: &[Token]) -> Option<Token>
+    ensures { result ≡ first_of tokens.now }
+{
+    match tokens {
+        [token, ..] => Some(*token),
+        [] => None,
+    }
 }

@@ -1,13 +1,15 @@
 //! What helps where no drawing continues with a token.
 
 ghost use Rattle.std.specs.Prelude.{◌≡◌, ◌++◌, OnOk};
-ghost use Rattle.refusal_help.specs.Syntax.{ends_statement, follow_line, is_missing, meant_keyword, meant_line, missing_line, named, syntax_lines};
+ghost use Rattle.refusal_help.specs.Syntax.{ends_statement, follow_line, is_missing, meant_before, meant_keyword, meant_line, missing_line, named, syntax_lines};
 ghost use Rattle.refusal_help.specs.Text.{part_text};
 
 use crate::cut::spelled;
 use crate::keyword::{Keyword, near_keyword};
 use crate::part::{Part, add_line};
+use crate::reserved::{add_later, add_reserved};
 use crate::statement::{before_place, from_place};
+use crate::tokens::is_symbol;
 use element_kinds::is_kind_name;
 use scald_base::{Bytes, NoMemory, Place, same_bytes};
 use scald_lex::{Token, TokenKind};
@@ -119,6 +121,21 @@ fn add_meant(out: &mut Bytes, text: &[u8], token: Token) -> Result<(), NoMemory>
     }
 }
 
+/// Which word of the language may be meant by the word before a token that cannot follow it.
+fn add_meant_before(
+    out: &mut Bytes,
+    text: &[u8],
+    before: Option<Token>,
+    token: Token,
+) -> Result<(), NoMemory>
+    ensures { OnOk result (out.new ≡ out.old ++ meant_before text.now before token) }
+{
+    match before {
+        Some(last) if !is_symbol(token, b':') => add_meant(out, text, last),
+        _ => Ok(()),
+    }
+}
+
 /// What stands at the place, after what, and what may be meant.
 pub fn add_syntax(
     out: &mut Bytes,
@@ -128,11 +145,14 @@ pub fn add_syntax(
 ) -> Result<(), NoMemory>
     ensures { OnOk result (out.new ≡ out.old ++ syntax_lines text.now tokens.now place) }
 {
-    let [token, ..] = from_place(tokens, place) else {
+    let [token, others @ ..] = from_place(tokens, place) else {
         return Ok(());
     };
     let before = before_place(tokens, place);
     add_follow(out, text, before, *token)?;
     add_missing(out, text, before, *token)?;
-    add_meant(out, text, *token)
+    add_meant(out, text, *token)?;
+    add_meant_before(out, text, before, *token)?;
+    add_reserved(out, text, before, *token, others)?;
+    add_later(out, text, tokens, before, *token)
 }

@@ -1,20 +1,17 @@
-use Rattle.std.proofs.Common.{◌≡◌, ℕ, List, ◌++◌, ◌∷◌, [], map, append_assoc, ap, sym, ◌∙◌}
+use Rattle.std.proofs.Common.{◌≡◌, ℕ, List, ◌++◌, map, ap, sym, ◌∙◌}
 use Rattle.std.specs.List.{concat, flat_map}
 use Rattle.std.proofs.lemmas.List.{take_all}
 use Rattle.std.proofs.lemmas.List.Concat.{concat_is}
 use Rattle.std.proofs.lemmas.List.Folds.{flat_map-map}
-use Rattle.std.proofs.lemmas.Result.{on_ok_weaker}
 use Rattle.refusal_help.specs.declared.part.Part.{Part}
 use Rattle.refusal_help.specs.Text.{part_text}
-use Rattle.refusal_help.proofs.part.add_line.Goals as goal
+use Rattle.refusal_help.proofs.part.add_parts.Goals as goal
 
 pub returns : goal.returns
 returns c =
     let parts = c.args.parts.now in
     let old = c.args.out.now in
     let texts : flat_map part_text parts ≡ concat (map part_text parts) = sym (concat_is (map part_text parts) ∙ flat_map-map (λ (l : List ℕ). l) part_text parts) in
-    let before : c.parts.out ≡ old ++ concat (map part_text parts) =
     c.parts.invariant
     ∙ ap (λ (xs : List Part). old ++ flat_map part_text xs) (take_all c.parts.part-index parts c.parts-test.false)
-    ∙ ap (λ (l : List ℕ). old ++ l) texts in
-    on_ok_weaker c.push.result (λ added. added ∙ ap (λ (l : List ℕ). l ++ 10 ∷ []) before ∙ append_assoc old (concat (map part_text parts)) (10 ∷ [])) c.push.ensures.ok
+    ∙ ap (λ (l : List ℕ). old ++ l) texts

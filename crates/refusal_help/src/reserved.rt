@@ -1,0 +1,152 @@
+//! Words that are none of a drawing's own.
+
+ghost use Rattle.std.specs.Prelude.{◌≡◌, ◌++◌, OnOk};
+ghost use Rattle.std.specs.List.{find};
+ghost use Rattle.refusal_help.specs.Reserved.{declares, gives, is_later, is_same, later_line, reserved_at, reserved_line, reserved_word};
+
+use crate::cut::spelled;
+use crate::keyword::Keyword;
+use crate::part::{Part, add_line};
+use crate::tokens::{is_symbol, is_word, number_of};
+use scald_base::{Bytes, NoMemory, same_bytes};
+use scald_lex::Token;
+
+/// The words that are reserved.
+const RESERVED: [Keyword; 14] = [
+    Keyword::Scald,
+    Keyword::Clock,
+    Keyword::Wire,
+    Keyword::Pskew,
+    Keyword::Cskew,
+    Keyword::Macro,
+    Keyword::Drawing,
+    Keyword::Case,
+    Keyword::If,
+    Keyword::Then,
+    Keyword::Else,
+    Keyword::End,
+    Keyword::Zero,
+    Keyword::One,
+];
+
+/// The first of these that a word is.
+fn same_among(keywords: &[Keyword], word: &[u8]) -> Option<Keyword>
+    ensures { result ≡ find (is_same word.now) keywords.now }
+{
+    'keywords: for keyword in keywords {
+        if same_bytes(word, keyword.word()) {
+            return Some(*keyword);
+        }
+    }
+    None
+}
+
+/// The reserved word that a word is.
+fn reserved_word(word: &[u8]) -> Option<Keyword>
+    ensures { result ≡ reserved_word word.now }
+{
+    same_among(&RESERVED, word)
+}
+
+/// Whether a name of the drawing's own comes after a token.
+fn declares(text: &[u8], before: Option<Token>) -> bool
+    ensures { result ≡ declares text.now before }
+{
+    match before {
+        None => false,
+        Some(last) => {
+            let word = spelled(text, last);
+            same_bytes(word, b"MACRO") || same_bytes(word, b"DRAWING") || same_bytes(word, b"CONST")
+        }
+    }
+}
+
+/// Whether a name of the drawing's own comes before the first of these tokens.
+fn gives(tokens: &[Token]) -> bool
+    ensures { result ≡ gives tokens.now }
+{
+    match tokens {
+        [first, ..] => is_symbol(*first, b':') || is_symbol(*first, b'='),
+        [] => false,
+    }
+}
+
+/// The reserved word that stands where a name of the drawing's own would: the token itself, or the one
+/// before a colon.
+fn reserved_at(
+    text: &[u8],
+    before: Option<Token>,
+    token: Token,
+    others: &[Token],
+) -> Option<Keyword>
+    ensures { result ≡ reserved_at text.now before token others.now }
+{
+    if is_symbol(token, b':') {
+        match before {
+            Some(last) => reserved_word(spelled(text, last)),
+            None => None,
+        }
+    } else if gives(others) || declares(text, before) {
+        reserved_word(spelled(text, token))
+    } else {
+        None
+    }
+}
+
+/// That a word is reserved.
+pub fn add_reserved(
+    out: &mut Bytes,
+    text: &[u8],
+    before: Option<Token>,
+    token: Token,
+    others: &[Token],
+) -> Result<(), NoMemory>
+    ensures { OnOk result (out.new ≡ out.old ++ reserved_line (reserved_at text.now before token others.now)) }
+{
+    match reserved_at(text, before, token, others) {
+        Some(keyword) => add_line(
+            out,
+            &[
+                Part::Text(b"    "),
+                Part::Text(keyword.word()),
+                Part::Text(
+                    b" is reserved: it is no label, kind, macro, parameter, constant or variable",
+                ),
+            ],
+        ),
+        None => Ok(()),
+    }
+}
+
+/// Whether a word of version 2 stands in a text of these tokens, which is of version 1.
+fn is_later(text: &[u8], tokens: &[Token], before: Option<Token>, token: Token) -> bool
+    ensures { result ≡ is_later text.now tokens.now before token }
+{
+    let [_, version, ..] = tokens else {
+        return false;
+    };
+    if number_of(*version) != 1 {
+        return false;
+    }
+    match before {
+        Some(last) if is_word(token) && same_bytes(spelled(text, last), b"FOR") => true,
+        _ => same_bytes(spelled(text, token), b"CONST"),
+    }
+}
+
+/// That a word is of version 2.
+pub fn add_later(
+    out: &mut Bytes,
+    text: &[u8],
+    tokens: &[Token],
+    before: Option<Token>,
+    token: Token,
+) -> Result<(), NoMemory>
+    ensures { OnOk result (out.new ≡ out.old ++ later_line (is_later text.now tokens.now before token)) }
+{
+    if is_later(text, tokens, before, token) {
+        out.extend(b"    FOR and CONST are of version 2, in texts that begin with SCALD 2\n")
+    } else {
+        Ok(())
+    }
+}
