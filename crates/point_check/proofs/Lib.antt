@@ -12,6 +12,7 @@ pub mod Whose
 pub mod Gathered
 pub mod Kept
 pub mod AsBefore
+pub mod Again
 pub mod Literal
 pub mod Broken
 pub mod Longer

@@ -5,6 +5,7 @@ pub mod Folds
 pub mod Assertion
 pub mod Faults
 pub mod Known
+pub mod Again
 pub mod Break
 pub mod Sound
 pub mod Laws

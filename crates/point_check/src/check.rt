@@ -13,9 +13,9 @@ ghost use Rattle.point_check.specs.Sound.{KeepsConstraints};
 use crate::assertion::{assertion_fault, is_held};
 use crate::before::{Before, instance_before, net_before};
 use crate::checker::limited_fault;
-use crate::folds::Folds;
 use crate::known::PointFaults;
 use crate::mark::mark_fault;
+use crate::recent::Recent;
 use flat_circuit::{Circuit, Fault, Faults, Instance};
 use net_waves::Waves;
 use scald_base::NoMemory;
@@ -26,7 +26,7 @@ use wave_core::CyclicWave;
 /// The fault of an instance, if it has one.
 fn fault_by_kind<W: CyclicWave<Item = Value>>(
     alloc: Global,
-    folds: &mut Folds<W>,
+    recent: &mut Recent<W>,
     c: &Circuit,
     waves: &Waves<W>,
     number: u32,
@@ -38,7 +38,7 @@ fn fault_by_kind<W: CyclicWave<Item = Value>>(
         found ≡ fault_by_kind instance.now.kind c.now (waves_of waves.now) number instance.now) }
 {
     if instance.kind.checks_points() {
-        limited_fault(alloc, folds, c, waves, number, instance, instance.limits)
+        limited_fault(alloc, recent, c, waves, number, instance, instance.limits)
     } else if instance.kind.may_be_marked() {
         mark_fault(alloc, c, waves, number, instance)
     } else {
@@ -51,7 +51,7 @@ fn fault_by_kind<W: CyclicWave<Item = Value>>(
 #[inline(always)]
 pub fn instance_fault<W: CyclicWave<Item = Value>>(
     alloc: Global,
-    folds: &mut Folds<W>,
+    recent: &mut Recent<W>,
     c: &Circuit,
     before: &Option<Before<W>>,
     waves: &Waves<W>,
@@ -70,7 +70,7 @@ pub fn instance_fault<W: CyclicWave<Item = Value>>(
     match c.instance(number) {
         None => Ok(None),
         Some(instance) => {
-            let found = fault_by_kind(alloc, folds, c, waves, number, instance)?;
+            let found = fault_by_kind(alloc, recent, c, waves, number, instance)?;
             Ok(found)
         }
     }
@@ -132,9 +132,9 @@ fn instance_faults<W: CyclicWave<Item = Value>>(
         (range_with_len 0 (length c.now.instances))) }
 {
     let mut faults = Faults::new(alloc);
-    let mut folds = Folds::new();
+    let mut recent = Recent::new();
     for number in 0..c.instance_count() {
-        let found = instance_fault(alloc, &mut folds, c, before, waves, number)?;
+        let found = instance_fault(alloc, &mut recent, c, before, waves, number)?;
         add(&mut faults, found)?;
     }
     Ok(faults)

@@ -9,8 +9,10 @@ ghost use Rattle.element_kinds.specs.Kinds.{checks_points};
 ghost use Rattle.point_check.specs.Faults.{IsPointChecker, limited_fault as fault_with, limited_fault_at};
 
 use crate::edges::first_fault;
-use crate::folds::Folds;
-use flat_circuit::{Circuit, Fault, Instance, Kind, Pin};
+use crate::folds::LastFold;
+use crate::last_check::Constraint;
+use crate::recent::Recent;
+use flat_circuit::{Circuit, Fault, Instance, Pin};
 use net_waves::{Waves, pin_wave};
 use scald_base::NoMemory;
 use skew_algebra::Skewed;
@@ -18,18 +20,10 @@ use std::alloc::Global;
 use step_values::Value;
 use wave_core::CyclicWave;
 
-/// What a checker asks of its input: by its kind and its number, and its setup and hold times, in ticks.
-#[derive(Clone, Copy)]
-struct Constraint {
-    kind: Kind,
-    instance: u32,
-    limits: (u16, u16),
-}
-
 /// The fault of a checker by the waves at its clock and its input.
 fn fault_between<W: CyclicWave<Item = Value>>(
     alloc: Global,
-    folds: &mut Folds<W>,
+    clocks: &mut LastFold<W>,
     asked: Constraint,
     clock: &Skewed<W>,
     input: &Skewed<W>,
@@ -44,8 +38,8 @@ fn fault_between<W: CyclicWave<Item = Value>>(
     if input.is_steady() {
         return Ok(None);
     }
-    let clock_folds = folds.clocks.of(alloc, clock)?;
-    let input_folds = folds.inputs.of(alloc, input)?;
+    let clock_folds = clocks.of(alloc, clock)?;
+    let input_folds = input.folded(alloc)?;
     let Constraint {
         kind,
         instance,
@@ -57,7 +51,7 @@ fn fault_between<W: CyclicWave<Item = Value>>(
 /// The fault of a checker with these pins.
 fn checker_fault<W: CyclicWave<Item = Value>>(
     alloc: Global,
-    folds: &mut Folds<W>,
+    clocks: &mut LastFold<W>,
     c: &Circuit,
     waves: &Waves<W>,
     asked: Constraint,
@@ -74,14 +68,43 @@ fn checker_fault<W: CyclicWave<Item = Value>>(
 {
     let clock_wave = pin_wave(alloc, c, waves, clock)?;
     let input_wave = pin_wave(alloc, c, waves, input)?;
-    let found = fault_between(alloc, folds, asked, &clock_wave, &input_wave)?;
+    let found = fault_between(alloc, clocks, asked, &clock_wave, &input_wave)?;
+    Ok(found)
+}
+
+/// The fault of a checker with these pins, which is not worked out where the last one asked the same
+/// of the same waves.
+fn fault_once<W: CyclicWave<Item = Value>>(
+    alloc: Global,
+    recent: &mut Recent<W>,
+    c: &Circuit,
+    waves: &Waves<W>,
+    asked: Constraint,
+    clock: Pin,
+    input: Pin,
+) -> Result<Option<Fault>, NoMemory>
+    requires clock { PinExists (length c.now.nets) clock }
+    requires input { PinExists (length c.now.nets) input }
+    requires limits { asked.limits.0 + asked.limits.1 ≤ period c.now.header }
+    requires fit { FitWaves c.now waves.now }
+    ensures { let ws = waves_of waves.now in
+        IfOk result (λ found. found ≡ fault_of_checker asked.kind (period c.now.header)
+        asked.instance (wave_shown c.now ws clock) (wave_shown c.now ws input) asked.limits) }
+{
+    if let Some(found) = recent.check.found(c, waves, asked, clock, input) {
+        return Ok(found);
+    }
+    let found = checker_fault(alloc, &mut recent.clock, c, waves, asked, clock, input)?;
+    recent
+        .check
+        .keep(alloc, c, waves, asked, clock, input, found)?;
     Ok(found)
 }
 
 /// The fault of a checker with these limits.
 pub fn limited_fault<W: CyclicWave<Item = Value>>(
     alloc: Global,
-    folds: &mut Folds<W>,
+    recent: &mut Recent<W>,
     c: &Circuit,
     waves: &Waves<W>,
     number: u32,
@@ -103,7 +126,7 @@ pub fn limited_fault<W: CyclicWave<Item = Value>>(
     let pins = checker.pins.as_slice();
     let clock = pins[0];
     let input = pins[1];
-    let found = checker_fault(alloc, folds, c, waves, asked, clock, input)?;
+    let found = fault_once(alloc, recent, c, waves, asked, clock, input)?;
     Ok(found)
 }
 
@@ -128,8 +151,8 @@ pub fn point_fault<W: CyclicWave<Item = Value>>(
     match c.instance(instance) {
         None => unreachable!(),
         Some(checker) => {
-            let folds = &mut Folds::new();
-            let found = limited_fault(alloc, folds, c, waves, instance, checker, limits)?;
+            let recent = &mut Recent::new();
+            let found = limited_fault(alloc, recent, c, waves, instance, checker, limits)?;
             Ok(found)
         }
     }

@@ -18,8 +18,7 @@ struct Fold<W: CyclicWave<Item = Value>> {
     ghost is: { W.cells made ≡ folded values wave },
 }
 
-/// The last wave that was folded, with its fold: checkers side by side mostly have one clock, and inputs that
-/// are the bits of a vector have one wave.
+/// The last wave that was folded, with its fold: checkers side by side mostly have one clock.
 #[derive(Drop)]
 pub struct LastFold<W: CyclicWave<Item = Value>> {
     kept: Option<Fold<W>>,
@@ -47,22 +46,5 @@ impl<W: CyclicWave<Item = Value>> LastFold<W> {
         };
         self.kept = Some(kept);
         Ok(made)
-    }
-}
-
-/// The last folds of clocks and of inputs.
-#[derive(Drop)]
-pub struct Folds<W: CyclicWave<Item = Value>> {
-    pub clocks: LastFold<W>,
-    pub inputs: LastFold<W>,
-}
-
-impl<W: CyclicWave<Item = Value>> Folds<W> {
-    /// Nothing was folded yet.
-    pub fn new() -> Folds<W> {
-        Folds {
-            clocks: LastFold::new(),
-            inputs: LastFold::new(),
-        }
     }
 }

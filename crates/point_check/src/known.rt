@@ -7,7 +7,7 @@ ghost use Rattle.point_check.specs.Faults.{instance_fault as fault_of_instance, 
 ghost use Rattle.point_check.specs.Known.{AreKnown};
 
 use crate::check::{instance_fault, net_fault};
-use crate::folds::Folds;
+use crate::recent::Recent;
 use flat_circuit::{Circuit, Fault};
 use net_waves::Waves;
 use scald_base::{List, NoMemory};
@@ -33,9 +33,9 @@ fn known_instances<W: CyclicWave<Item = Value>>(
         known ≡ map (fault_of_instance c.now (waves_of waves.now)) (range_with_len 0 (length c.now.instances))) }
 {
     let mut known = List::new(alloc);
-    let mut folds = Folds::new();
+    let mut recent = Recent::new();
     for number in 0..c.instance_count() {
-        let found = instance_fault(alloc, &mut folds, c, &None, waves, number)?;
+        let found = instance_fault(alloc, &mut recent, c, &None, waves, number)?;
         known.push(found)?;
     }
     Ok(known)

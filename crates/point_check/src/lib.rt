@@ -11,6 +11,8 @@
 // an input about the edges of a clock
 mod edges;
 mod folds;
+mod last_check;
+mod recent;
 mod window;
 
 // checkers, marked pins and assertions

@@ -18,7 +18,7 @@ first_fault-requires-clause-limits g c =
 
 pub first_fault-requires-clause-periods : goal.first_fault-requires-clause-periods
 first_fault-requires-clause-periods g c =
-    length_folded c.args.input.now (g.W.CyclicWave.cells c.in_ok-input_folds.input_folds) c.in_ok-input_folds.ensures
+    length_folded c.args.input.now (g.W.CyclicWave.cells c.in_ok-input_folds.input_folds) c.in_ok-input_folds.ensures.wave
     ∙ c.requires.periods
     ∙ sym (length_folded c.args.clock.now (g.W.CyclicWave.cells c.in_ok-clock_folds.clock_folds) c.in_ok-clock_folds.ensures)
 
@@ -27,4 +27,4 @@ returns g c =
     checker_is c.args.asked.kind c.args.asked.instance c.args.clock.now c.args.input.now
     (g.W.CyclicWave.cells c.in_ok-clock_folds.clock_folds) (g.W.CyclicWave.cells c.in_ok-input_folds.input_folds) c.args.asked.limits c.first_fault.result
     (let two = c.known.ensures.sized.shortest in omega (arith, two)) (let two = c.known-2.ensures.sized.shortest in omega (arith, two))
-    c.in_ok-clock_folds.ensures c.in_ok-input_folds.ensures c.first_fault.ensures
+    c.in_ok-clock_folds.ensures c.in_ok-input_folds.ensures.wave c.first_fault.ensures
