@@ -69,6 +69,14 @@ class Instance:
         return self.pins
 
 
+class Spread(NamedTuple):
+    """A name without a range, on no formal, that one bit of a connection comes from which is spread over so many."""
+
+    place: Place
+    name: str  # path and base name
+    width: int
+
+
 @dataclass
 class Circuit:
     header: Header
@@ -78,6 +86,7 @@ class Circuit:
     instances: list = field(default_factory=list)  # in the order of expansion
     drivers: dict = field(default_factory=dict)  # the instance whose output a net is
     cases: list = field(default_factory=list)  # of each, the level of each of its nets
+    spreads: list = field(default_factory=list)  # in the order of expansion
 
     @property
     def period(self):

@@ -176,6 +176,7 @@ class Term:
 class Connection:
     terms: list
     is_marked: bool = False
+    place: Optional[Place] = None
 
 
 class Delay(NamedTuple):

@@ -4,7 +4,7 @@
 from typing import NamedTuple
 
 from .assertions import spelling
-from .circuit import Bit, Circuit, Instance, Net, Split
+from .circuit import Bit, Circuit, Instance, Net, Split, Spread
 from .drawing import (
     CHECKERS, ELEMENTS, MARKED_KINDS, SPLIT_KINDS, Binary, Constant, For, If, Minus, Number, Parameter, RefusalKind, Refused,
     WireStatement,
@@ -169,6 +169,16 @@ class Expansion:
             raise Refused(RefusalKind.Width, place)
         return bits
 
+    def note_spread(self, scope, connection, width):
+        """Keeps the name of a connection whose one bit is spread over more, where it is a name alone and no formal."""
+        term = connection.terms[0]
+        if width == 1 or len(connection.terms) > 1 or isinstance(term.what, Constant) or term.range is not None:
+            return
+        base = term.what.base
+        if base not in scope.formals:
+            full = base if base.startswith("/") else scope.path + base
+            self.circuit.spreads.append(Spread(connection.place, full, width))
+
     # --- statements
 
     def expand_body(self, scope, body):
@@ -280,6 +290,7 @@ class Expansion:
         for number, (formal, shape, bits) in enumerate(zip(heads, shapes, connections)):
             is_input = number < len(macro.inputs)
             if is_input and len(bits) == 1:
+                self.note_spread(scope, use.inputs[number], len(shape))
                 bits = bits * len(shape)
             if len(bits) != len(shape):
                 raise Refused(RefusalKind.Width, use.place)
@@ -301,6 +312,10 @@ class Expansion:
         outputs = connections[len(use.inputs) :]
         if use.kind != "CHG" and any(len(bits) not in (1, width) for bits in connections):
             raise Refused(RefusalKind.Width, use.place)
+        if use.kind != "CHG":
+            for connection, bits in zip(use.inputs, connections):
+                if len(bits) == 1:
+                    self.note_spread(scope, connection, width)
         marks = [connection.is_marked for connection in use.inputs]
         for number in range(width):
             if use.kind == "CHG":

@@ -1,5 +1,6 @@
 """Parts of drawings that chance alone would seldom draw: macros that use themselves, a loop that settles slowly, a net that
-is unknown in a part of the period, and one whose wave is quiet and not the same all round."""
+is unknown in a part of the period, one whose wave is quiet and not the same all round, and a checker whose input is launched
+by its own clock."""
 from .drawing import (
     Assign, Binary, Clock, Connection, Constant, Delay, Formal, If, Interval, Macro, Name, Number, Parameter, Range, Still,
     Term, Use,
@@ -87,3 +88,17 @@ def islet(ticks, delay, fall):
         Use("swallow", "BUF", [signal("COAST")], [signal("ROCK")], Delay(swallowed, swallowed), fall=still),
         Use("islet", "AND", [clock("ISLE3", 0, 2), signal("ROCK")], [signal("ISLET")], delay, fall=fall),
     ]
+
+
+def clock_tree(spread, way, delay):
+    """A clock through a buffer, whose delay is spread over some ticks, to a register and to the checker of what the register
+    launches, which comes by a gate of some kind, or straight."""
+    clock = signal("ROOT", None, Clock("P", (Interval(1, 2),), None, False))
+    launched = signal("SENT") if way is None else signal("COME")
+    uses = [
+        Use("tree", "BUF", [clock], [signal("TREE")], Delay(Number(1), Number(1 + spread))),
+        Use("launch", "REG", [signal("TREE"), signal("CARGO")], [signal("SENT")], Delay(Number(1), Number(2))),
+    ]
+    if way is not None:
+        uses.append(Use("way", way, [signal("SENT"), signal("COME" if spread == 2 else "CARGO")], [signal("COME")], delay))
+    return [*uses, Use("arrive", "SETUP_HOLD_CHK", [signal("TREE"), launched], [], None, [Assign("SETUP", Number(1))])]

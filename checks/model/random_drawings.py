@@ -11,7 +11,7 @@ from .drawing import (
     For, Formal, Header, If, Interval, Macro, Minus, Name, Number, Parameter, Range, Still, Term, Use, WireStatement,
 )
 from .expansion import numbers_of, value_of
-from .patterns import haze, islet, ring, signal, tree_macro
+from .patterns import clock_tree, haze, islet, ring, signal, tree_macro
 from .waves import Bounds
 
 CLOCKS = ["CK", "PH"]
@@ -420,6 +420,9 @@ class Maker:
             body += haze(self.random.choice([self.make_intervals(), (Interval(0, 1),)]), *delays)
         if self.header.units == 8 and self.chance(0.1):
             body += islet(self.header.ticks_per_unit, *self.written_split({}))
+        if self.chance(0.1):
+            way = self.random.choice([None, "AND", "XOR", "CHG"])
+            body += clock_tree(self.random.choice([0, 1, 2]), way, self.written_delay(Bounds(1, 2), {}))
         cases = self.make_cases() if self.chance(0.4) else []
         return Drawing(self.header, self.macros, body, cases, self.version, self.constants)
 

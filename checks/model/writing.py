@@ -50,6 +50,7 @@ class Writer:
             self.write(text_of_range(term.range))
 
     def write_connection(self, connection):
+        connection.place = self.here()
         self.write_list(connection.terms, self.write_term, " & ")
         if connection.is_marked:
             self.write(" !H")
