@@ -104,6 +104,16 @@ second() {
     } | refused "$want"
 }
 
+# expanded WANT LINE ..: a text of version 2 of these lines from line 3 on, refused by the expansion
+expanded() {
+    want=$1
+    shift
+    {
+        printf 'SCALD 2;\nCLOCK 8 x 50;\n'
+        printf '%s\n' "$@"
+    } | unexpanded "$want"
+}
+
 # macro WANT HEAD LINE ..: a macro M with this head and body from line 3 on, refused where it is used, or before
 macro() {
     command=$1
@@ -293,8 +303,13 @@ second '5 DoubleName 4:47' 'DRAWING ROW;' 'FOR I = 0 TO 1 DO a : M (); FOR J = 0
 # --- the expansion, in the order in which one statement is looked at
 macro unexpanded '16 TooMany 6:1' 'MACRO E {N=1} ();' 'IF N > 0 THEN' 'a : E {N=N-1} ();' 'b : E {N=N-1} ();' 'END;' 'END;' \
     'DRAWING ROW;' 't : E {N=20} ();' 'END;'
-helps '    there may be 65536 bits of nets, of elements and of checkers each, 1048576 pins, 262144 statements' \
-    '    that are reached, and 256 cases'
+limits_of_nets='    at most 65536 bits of nets and 262144 statements may be reached, and this is past one of these limits'
+limits_of_elements='    at most 65536 bits of nets, 65536 of elements, 1048576 pins and 262144 statements may be reached,'
+limits_of_checkers='    at most 65536 bits of nets, 65536 of checkers, 1048576 pins and 262144 statements may be reached,'
+past_one='    and this is past one of these limits'
+helps "$limits_of_nets"
+expanded '16 TooMany 4:1' 'DRAWING ROW;' 'FOR I = 0 TO 262143 DO END;' 'END;'
+helps '    at most 262144 statements may be reached, each value of a FOR as one, and this is one more'
 drawing '6 UnknownKind 4:1' 'b1 : BUFF [0:0] ("A") -> ("X");'
 helps "    'BUFF' is none: is BUF meant?"
 drawing '6 UnknownKind 4:1' 'g1 : nand [0:0] ("A", "B") -> ("X");'
@@ -344,10 +359,30 @@ drawing '10 Overflow 4:1' 'b1 : BUF [0:9223372036854775807+1] ("A") -> ("X");'
 no_help
 drawing '21 ZeroDivisor 4:1' 'b1 : BUF [0:1/0] ("A") -> ("X");'
 no_help
+# unknown LINE ..: beside what is known, these lines are said
+unknown() {
+    helps '    known are the constants before it, and the parameters of the MACRO and the variables of the FORs' \
+        '    around it' \
+        "$@"
+}
 drawing '22 UnknownName 4:1' 'b1 : BUF [0:N] ("A") -> ("X");'
-helps '    known are the constants before it, and the parameters of the MACRO and the variables of the FORs' \
-    '    around it'
+unknown "    'N' is none of these"
 drawing '22 UnknownName 4:1' 'IF N THEN END;'
+unknown "    'N' is none of these"
+drawing '22 UnknownName 4:1' 'a1 : AND [0:0] ("A" !H, ONE & "B"<0:W>) -> ("X"<0:2>);'
+unknown "    'W' is none of these"
+drawing '22 UnknownName 4:1' 'c1 : SETUP_HOLD_CHK {SETUP=1, HOLD=SETUP} ("CK", "D");'
+unknown "    'SETUP' is none of these"
+macro unexpanded '22 UnknownName 4:1' 'MACRO M {N=1} ("A") -> ("Z");' 'b1 : BUF [N:N+K] ("A") -> ("Z");' 'END;' 'DRAWING ROW;' \
+    'u : M ("A") -> ("X");' 'END;'
+unknown "    'K' is none of these"
+expanded '22 UnknownName 3:1' 'CONST N = M;' 'CONST M = 1;' 'DRAWING ROW;' 'END;'
+unknown "    'M' is none of these"
+expanded '22 UnknownName 5:1' 'CONST N = 1;' 'DRAWING ROW;' 'FOR I = N TO K DO' 'END;' 'END;'
+unknown "    'K' is none of these"
+# a variable of a FOR before it, which may be around it for all that is told
+expanded '22 UnknownName 5:1' 'DRAWING ROW;' 'FOR I = 0 TO 1 DO END;' 'b1 : BUF [0:I] ("A") -> ("X");' 'END;'
+unknown
 for delay in 3:2 0:4096 0-1:0; do
     drawing '14 Bounds 4:1' "b1 : BUF [$delay] (\"A\") -> (\"X\");"
 done
@@ -361,6 +396,13 @@ drawing '22 UnknownName 4:1' 'b1 : BUF [0:0, N:0] ("A") -> ("X");'
 drawing '14 Bounds 4:1' 'b1 : BUF [3:2] ("A") -> ("X");'
 helps '    BUF takes a delay [a:b], 0 <= a <= b <= 4095, or two, [r:R, f:F], each at most 255' \
     '    the least, 3, is more than the greatest, 2'
+macro unexpanded '14 Bounds 4:1' 'MACRO M {N=1} ("A") -> ("Z");' 'b1 : BUF [N:3] ("A") -> ("Z");' 'END;' 'DRAWING ROW;' \
+    'u1 : M {N=5} ("A") -> ("X");' 'END;'
+helps '    BUF takes a delay [a:b], 0 <= a <= b <= 4095, or two, [r:R, f:F], each at most 255' \
+    "    'M' is used at 7:1 alone:" '    u1 : M {N=5} ("A") -> ("X");' '    ^'
+macro unexpanded '14 Bounds 4:1' 'MACRO M {N=1} ("A") -> ("Z");' 'b1 : BUF [N:3] ("A") -> ("Z");' 'END;' 'DRAWING ROW;' \
+    'u1 : M {N=1} ("A") -> ("X");' 'u2 : M {N=5} ("A") -> ("Y");' 'END;'
+helps '    BUF takes a delay [a:b], 0 <= a <= b <= 4095, or two, [r:R, f:F], each at most 255'
 drawing '14 Bounds 4:1' 'b1 : BUF [0:0, 1:256] ("A") -> ("X");'
 helps '    BUF takes a delay [a:b], 0 <= a <= b <= 4095, or two, [r:R, f:F], each at most 255' \
     '    256 is more than 255, by 1'
@@ -401,29 +443,44 @@ macro unexpanded '15 TooDeep 4:1' 'MACRO M ("A") -> ("Z");' 'x : M ("A") -> ("Z"
 helps '    at most 64 uses of macros may be inside one another, and this is one more'
 macro unexpanded '11 BadRange 6:1' 'MACRO M {N=1} ("A"<0:N>);' 'END;' 'DRAWING ROW;' 'u : M {N=256} ("A");' 'END;'
 drawing '11 BadRange 4:1' 'b1 : BUF [0:0] ("A"<65536>) -> ("X");'
-no_help
+helps '    bit 65536 of "A" is past the last, 65535'
 drawing '11 BadRange 4:1' 'b1 : BUF [0:0] ("A"<0-1>) -> ("X");'
+no_help
 drawing '11 BadRange 4:1' 'b1 : BUF [0:0] ("A"<0:256>) -> ("X");'
+helps '    a range has at most 256 bits, and that of "A" has 257'
 drawing '11 BadRange 4:1' 'WIRE "A"<65536> 0:0;'
 macro unexpanded '11 BadRange 4:1' 'MACRO M ("A"<1:2>) -> ("Z");' 'b1 : BUF [0:0] ("A"<0>) -> ("Z");' 'END;' 'DRAWING ROW;' \
     'u : M ("A") -> ("X");' 'END;'
+helps '    the formal "A" has the bits 1 to 2' "    'M' is used at 7:1 alone:" '    u : M ("A") -> ("X");' '    ^'
 drawing '8 AssertionClash 4:1' 'a1 : AND [0:0] ("A .S0-4", "A .S0-5") -> ("X");'
-helps '    give the assertion once, or spell it the same each time; a formal has that of the outer net'
+helps '    give the assertion once, or spell it the same each time; a formal has that of the outer net' \
+    '    here it is "A .S0-5", and "A .S0-4" at 4:17'
 drawing '8 AssertionClash 4:1' 'a1 : AND [0:0] ("A .S0-2,4-6", "A .S4-6,0-2"<1>) -> ("X");'
 drawing '8 AssertionClash 5:1' 'b1 : BUF [0:0] ("A .S0-4") -> ("X");' 'b2 : AND [0:0] ("B .S", "A"<1>, "A .S0-5"<2>) -> ("Y");'
-helps '    give the assertion once, or spell it the same each time; a formal has that of the outer net'
+helps '    give the assertion once, or spell it the same each time; a formal has that of the outer net' \
+    '    here it is "A .S0-5", and "A .S0-4" at 4:17'
 macro unexpanded '8 AssertionClash 4:1' 'MACRO M ("A") -> ("Z");' 'b1 : BUF [0:0] ("A .S") -> ("Z");' 'END;' 'DRAWING ROW;' \
     'u : M ("A") -> ("X");' 'END;'
 drawing '12 Width 4:1' 'c1 : MIN_PULSE_CHK ("A"<0:255> & "B");'
 drawing '12 Width 4:1' 'b1 : BUF [0:0] ("A"<0:2>) -> ("X"<0:3>);'
-helps "    connections are as wide as the output, or as a checker's widest one, or have one bit for all" \
-    '    a name without a range is its bit 0 alone, and a formal without one is all of its bits'
+# wide LINE ..: beside what to do, these lines are said
+wide() {
+    helps "    connections are as wide as the output, or as a checker's widest one, or have one bit for all" \
+        '    a name without a range is its bit 0 alone, and a formal without one is all of its bits' \
+        "$@"
+}
+wide '    bits of the connections: 3 -> 4'
 drawing '12 Width 4:1' 'c1 : SETUP_HOLD_CHK ("CK"<0:1>, "D"<0:2>);'
+wide '    bits of the connections: 2, 3'
 drawing '12 Width 4:1' 'a1 : AND [0:0] ("A"<7:4> & ZERO, "D", "E"<0:3-1>) -> (-"X"<0:3>);'
+wide '    bits of the connections: 5, 1, ? -> 4'
 macro unexpanded '12 Width 6:1' 'MACRO M ("A") -> ("Z"<0:1>);' 'END;' 'DRAWING ROW;' 'u : M ("A") -> ("X");' 'END;'
+wide '    bits of the connections: 1 -> 1' '    bits of the formals: 1 -> 2'
 macro unexpanded '12 Width 6:1' 'MACRO M ("A"<0:2>);' 'END;' 'DRAWING ROW;' 'u : M ("A"<0:1>);' 'END;'
+wide '    bits of the connections: 2' '    bits of the formals: 3'
 macro unexpanded '12 Width 4:1' 'MACRO M ("A"<0:2>) -> ("Z");' 'b1 : BUF [0:0] ("A") -> ("Z");' 'END;' 'DRAWING ROW;' \
     'u : M ("A"<0:2>) -> ("X");' 'END;'
+wide '    bits of the connections: 3 -> 1' "    'M' is used at 7:1 alone:" '    u : M ("A"<0:2>) -> ("X");' '    ^'
 
 # --- two refusals in one statement: the first of the order is answered
 drawing '6 UnknownKind 4:1' 'b1 : BUFF {N=1/0} ("A", "B") -> ("X");'
@@ -455,8 +512,7 @@ helps '    the macro takes 1 input and 1 output connections, 0 and 0 of them wit
 macro unexpanded '21 ZeroDivisor 6:1' 'MACRO M {N=1/0} ("A"<65536>) -> ("Z");' 'END;' 'DRAWING ROW;' 'u : M ("A"<65536>) -> ("X");' 'END;'
 macro unexpanded '22 UnknownName 7:1' 'MACRO M {N=P} ();' 'b : BUF [0:N] ("A") -> ("X");' 'END;' 'MACRO O {P=7} ();' 'u : M ();' 'END;' \
     'DRAWING ROW;' 'o : O ();' 'END;'
-helps '    known are the constants before it, and the parameters of the MACRO and the variables of the FORs' \
-    '    around it'
+unknown
 
 # --- limits of the expansion
 {
@@ -464,16 +520,19 @@ helps '    known are the constants before it, and the parameters of the MACRO an
     ranges 256 'MIN_PULSE_CHK ("A"' ');'
     printf 'WIRE "B" 0:0;\nEND;\n'
 } | unexpanded '16 TooMany 260:1'
+helps "$limits_of_nets"
 {
     printf 'SCALD 1;\nCLOCK 8 x 50;\nDRAWING ROW;\n'
     ranges 256 'BUF [0:0] (ZERO) -> ("A"' ');'
     printf 'b1 : BUF [0:0] (ZERO) -> ("A");\nEND;\n'
 } | unexpanded '16 TooMany 260:1'
+helps "$limits_of_elements" "$past_one"
 {
     printf 'SCALD 1;\nCLOCK 8 x 50;\nDRAWING ROW;\n'
     ranges 256 'MIN_PULSE_CHK ("A"' ');'
     printf 'c1 : MIN_PULSE_CHK ("A");\nEND;\n'
 } | unexpanded '16 TooMany 260:1'
+helps "$limits_of_checkers" "$past_one"
 {
     printf 'SCALD 1;\nCLOCK 8 x 50;\nDRAWING ROW;\n'
     awk -v inputs="$(many 15 '"A"<0:255>, ')" 'BEGIN {
@@ -524,6 +583,7 @@ cases '19 CaseNet 6:15' 'CASE "SEL"=0, "SEL"=1;'
 cases '19 CaseNet 7:6' 'CASE "SEL"=0;' 'CASE "SEL"=2;'
 # shellcheck disable=SC2046
 cases '16 TooMany 262:1' $(many 257 'CASE"SEL"=0; ')
+helps '    a drawing may have at most 256 cases, and this is one more'
 # shellcheck disable=SC2046
 cases '16 TooMany 262:1' 'CASE"NONE"=0;' $(many 256 'CASE"SEL"=0; ')
 {

@@ -2,3 +2,4 @@ pub mod Lines
 pub mod Said
 pub mod Examples
 pub mod ExamplesStatements
+pub mod ExamplesUses

@@ -17,15 +17,11 @@ advice AssertionClash =
 advice BadParameter = []
 advice Overflow = []
 advice BadRange = []
-advice Width =
-    codes "    connections are as wide as the output, or as a checker's widest one, or have one bit for all\n" ++
-    codes "    a name without a range is its bit 0 alone, and a formal without one is all of its bits\n"
+advice Width = []
 advice PinCount = []
 advice Bounds = []
 advice TooDeep = []
-advice TooMany =
-    codes "    there may be 65536 bits of nets, of elements and of checkers each, 1048576 pins, 262144 statements\n" ++
-    codes "    that are reached, and 256 cases\n"
+advice TooMany = []
 advice TwoDrivers =
     codes "    join what drives a net by a MUX2, an AND or an OR\n"
 advice ZeroLoop =
@@ -37,6 +33,4 @@ advice EdgesOverlap =
     codes "    make the skew (a,b) of this clock smaller or its pulses longer, or let it be a .P clock, which moves\n" ++
     codes "    as a whole\n"
 advice ZeroDivisor = []
-advice UnknownName =
-    codes "    known are the constants before it, and the parameters of the MACRO and the variables of the FORs\n" ++
-    codes "    around it\n"
+advice UnknownName = []

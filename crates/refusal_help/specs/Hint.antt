@@ -8,22 +8,21 @@ use Rattle.scald_base.specs.declared.refusal.RefusalKind.{RefusalKind}
 use Rattle.scald_base.specs.declared.refusal.RefusalKind.TheVariants.{BadByte, BadToken, Syntax, BadHeader, DoubleName, UnknownKind, BadName, AssertionClash, BadParameter, Overflow, BadRange, Width, PinCount, Bounds, TooDeep, TooMany, TwoDrivers, ZeroLoop, CaseNet, EdgesOverlap, ZeroDivisor, UnknownName}
 use Rattle.scald_lex.specs.declared.token.Token.{Token}
 use Rattle.element_kinds.specs.declared.kind.Kind.{Kind}
-use Rattle.element_kinds.specs.Kinds.{has_output, kind_of, name_of}
+use Rattle.element_kinds.specs.Kinds.{name_of}
 use Rattle.refusal_help.specs.Advice.{advice}
 use Rattle.refusal_help.specs.Bound.{header_bounds}
-use Rattle.refusal_help.specs.Count.{count_line, head_lines}
 use Rattle.refusal_help.specs.Deep.{deep_note}
 use Rattle.refusal_help.specs.Double.{double_lines}
-use Rattle.refusal_help.specs.Limit.{is_use, use_lines, wire_lines}
 use Rattle.refusal_help.specs.Naming.{name_lines}
 use Rattle.refusal_help.specs.Near.{near}
-use Rattle.refusal_help.specs.Parameter.{macro_lines, wrong_lines}
-use Rattle.refusal_help.specs.Row.{connections_line, delay_line, near_kind, parameters_line}
+use Rattle.refusal_help.specs.Row.{near_kind}
 use Rattle.refusal_help.specs.Shown.{source_line}
 use Rattle.refusal_help.specs.Statement.{before_place, from_place, kind_token, near_macro, spelled}
 use Rattle.refusal_help.specs.Syntax.{syntax_lines}
 use Rattle.refusal_help.specs.Text.{line, printable, quoted}
-use Rattle.refusal_help.specs.Tokens.{after_group, after_kind, head_of, lists}
+use Rattle.refusal_help.specs.OnlyUse.{value_lines}
+use Rattle.refusal_help.specs.Unknown.{unknown_lines}
+use Rattle.refusal_help.specs.UseHint.{assertion_lines, bounds_lines, connections_lines, many_lines, parameters_lines, range_lines, width_lines}
 
 -- ---- bytes and tokens
 
@@ -124,73 +123,7 @@ kind_lines_at text tokens (Some t) = word_lines text tokens (spelled text t)
 abbrev pub kind_lines : List ℕ → List Token → List Token → List ℕ
 kind_lines text tokens statement = kind_lines_at text tokens (kind_token statement)
 
--- ---- what a use takes
-
-abbrev pub kind_at : List ℕ → Option Token → Option Kind
-kind_at text None = None
-kind_at text (Some t) = kind_of (spelled text t)
-
--- the kind that a use is of, where it is of one
-abbrev pub kind_of_use : List ℕ → List Token → Option Kind
-kind_of_use text statement = kind_at text (kind_token statement)
-
-abbrev pub head_named : List ℕ → List Token → Option Token → List Token
-head_named text tokens None = []
-head_named text tokens (Some t) = head_of text (spelled text t) tokens
-
--- the head of the macro that it is of, from its name on
-abbrev pub head_of_use : List ℕ → List Token → List Token → List Token
-head_of_use text tokens statement = head_named text tokens (kind_token statement)
-
-abbrev pub after_name : List Token → List Token
-after_name [] = []
-after_name (t ∷ ts) = ts
-
--- by its kind, or else by its macro's head
-abbrev pub taken_connections : List Token → Option Kind → List ℕ
-taken_connections head (Some kind) = connections_line kind
-taken_connections head None = head_lines head
-
-abbrev pub connections_lines : List ℕ → List Token → List Token → List ℕ
-connections_lines text tokens statement =
-    taken_connections (head_of_use text tokens statement) (kind_of_use text statement)
-    ++ count_line (codes "here it has ") (lists (after_kind statement))
-
-abbrev pub taken_parameters : List ℕ → List Token → Option Kind → List ℕ
-taken_parameters text head (Some kind) = parameters_line kind
-taken_parameters text head None = macro_lines text head
-
-abbrev pub parameters_lines : List ℕ → List Token → List Token → List ℕ
-parameters_lines text tokens statement =
-    taken_parameters text (head_of_use text tokens statement) (kind_of_use text statement)
-    ++ wrong_lines text (kind_of_use text statement) (after_name (head_of_use text tokens statement))
-    (after_group 91 93 (after_kind statement))
-
-abbrev pub checker_line : Kind → List ℕ
-checker_line kind = if has_output kind then [] else parameters_line kind
-
-abbrev pub kind_bounds : List ℕ → List Token → Kind → List Token → List ℕ
-kind_bounds text tokens kind statement =
-    delay_line kind ++ (checker_line kind ++ use_lines text tokens kind statement)
-
-unfoldable pub no_delay : List ℕ
-no_delay = codes "    a macro takes no delay\n"
-
-abbrev pub bounds_by : List ℕ → List Token → List Token → Option Kind → List ℕ
-bounds_by text tokens statement (Some kind) = kind_bounds text tokens kind statement
-bounds_by text tokens statement None = no_delay
-
-unfoldable pub wire_note : List ℕ
-wire_note = codes "    WIRE \"A\" a:b has 0 <= a <= b <= 4095\n"
-
-abbrev pub wire_help : List Token → List ℕ
-wire_help statement = wire_note ++ wire_lines statement
-
--- What is no use is a WIRE statement.
-abbrev pub bounds_lines : List ℕ → List Token → List Token → List ℕ
-bounds_lines text tokens statement =
-    if is_use statement then bounds_by text tokens statement (kind_of_use text statement)
-    else wire_help statement
+-- ---- nesting
 
 -- what is nested too deep
 abbrev pub deep_lines : List ℕ → List Token → Place → List ℕ
@@ -207,21 +140,24 @@ hint_of BadHeader text tokens statement place = header_lines text statement
 hint_of DoubleName text tokens statement place = double_lines text tokens place
 hint_of UnknownKind text tokens statement place = kind_lines text tokens statement
 hint_of BadName text tokens statement place = name_lines text tokens statement
-hint_of AssertionClash text tokens statement place = advice AssertionClash
+hint_of AssertionClash text tokens statement place = assertion_lines text tokens place
 hint_of BadParameter text tokens statement place = parameters_lines text tokens statement
 hint_of Overflow text tokens statement place = advice Overflow
-hint_of BadRange text tokens statement place = advice BadRange
-hint_of Width text tokens statement place = advice Width
+hint_of BadRange text tokens statement place = range_lines text tokens place
+hint_of Width text tokens statement place = width_lines text tokens place
 hint_of PinCount text tokens statement place = connections_lines text tokens statement
 hint_of Bounds text tokens statement place = bounds_lines text tokens statement
 hint_of TooDeep text tokens statement place = deep_lines text tokens place
-hint_of TooMany text tokens statement place = advice TooMany
+hint_of TooMany text tokens statement place = many_lines text statement
 hint_of TwoDrivers text tokens statement place = advice TwoDrivers
 hint_of ZeroLoop text tokens statement place = advice ZeroLoop
 hint_of CaseNet text tokens statement place = advice CaseNet
 hint_of EdgesOverlap text tokens statement place = advice EdgesOverlap
 hint_of ZeroDivisor text tokens statement place = advice ZeroDivisor
-hint_of UnknownName text tokens statement place = advice UnknownName
+hint_of UnknownName text tokens statement place = unknown_lines text tokens place
+
+abbrev pub told : List ℕ → List Token → Refusal → List ℕ
+told text tokens r = hint_of r.kind text tokens (from_place r.place tokens) r.place
 
 abbrev pub hint : List ℕ → List Token → Refusal → List ℕ
-hint text tokens r = hint_of r.kind text tokens (from_place r.place tokens) r.place
+hint text tokens r = told text tokens r ++ value_lines r.kind text tokens r.place

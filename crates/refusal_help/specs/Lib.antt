@@ -19,3 +19,10 @@ pub mod Limit
 pub mod Naming
 pub mod Parameter
 pub mod Reserved
+pub mod Bits
+pub mod Range
+pub mod Clash
+pub mod Many
+pub mod Unknown
+pub mod OnlyUse
+pub mod UseHint

@@ -13,16 +13,6 @@ pub fn advice(kind: RefusalKind) -> &'static [u8]
         RefusalKind::AssertionClash => {
             b"    give the assertion once, or spell it the same each time; a formal has that of the outer net\n"
         }
-        RefusalKind::Width => {
-            b"    connections are as wide as the output, or as a checker's widest one, or have one bit for all
-    a name without a range is its bit 0 alone, and a formal without one is all of its bits
-"
-        }
-        RefusalKind::TooMany => {
-            b"    there may be 65536 bits of nets, of elements and of checkers each, 1048576 pins, 262144 statements
-    that are reached, and 256 cases
-"
-        }
         RefusalKind::TwoDrivers => { b"    join what drives a net by a MUX2, an AND or an OR\n" }
         RefusalKind::ZeroLoop => {
             b"    give an element of the loop, or the wire of a net of it, a least delay of 1\n"
@@ -35,11 +25,6 @@ pub fn advice(kind: RefusalKind) -> &'static [u8]
         RefusalKind::EdgesOverlap => {
             b"    make the skew (a,b) of this clock smaller or its pulses longer, or let it be a .P clock, which moves
     as a whole
-"
-        }
-        RefusalKind::UnknownName => {
-            b"    known are the constants before it, and the parameters of the MACRO and the variables of the FORs
-    around it
 "
         }
         _ => b"",

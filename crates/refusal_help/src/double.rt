@@ -18,7 +18,7 @@ fn begins_head(text: &[u8], token: Token) -> bool
 }
 
 /// The tokens from the last head before a place on: of the macro, or of the drawing, that the place is in.
-fn from_head<'a>(text: &[u8], tokens: &'a [Token], place: Place) -> &'a [Token]
+pub fn from_head<'a>(text: &[u8], tokens: &'a [Token], place: Place) -> &'a [Token]
     ensures { result.now ≡ from_head text.now place tokens.now tokens.now }
 {
     let mut head = tokens;

@@ -2,25 +2,26 @@
 
 ghost use Rattle.std.specs.Prelude.{◌≡◌, ◌++◌, None, OnOk, Some};
 ghost use Rattle.std.specs.Option.{option_copied};
-ghost use Rattle.refusal_help.specs.Hint.{after_name, bounds_by, bounds_lines, byte_at, byte_line, connections_lines, deep_lines, drawn_as, head_of_use, header_lines, header_note, hint, kind_bounds, kind_lines, kind_of_use, near_line, near_use, no_delay, parameters_lines, taken_connections, taken_parameters, token_note, token_lines, wire_help, wire_note, word_lines};
+ghost use Rattle.refusal_help.specs.Hint.{byte_at, byte_line, deep_lines, drawn_as, header_lines, header_note, hint, kind_lines, near_line, near_use, told, token_lines, token_note, word_lines};
 
 use crate::advice::advice;
 use crate::bound::add_header_bounds;
-use crate::count::{add_count, add_head};
 use crate::cut::{after, spelled};
 use crate::deep::deep_note;
 use crate::double::add_double;
-use crate::limit::{add_use_limits, add_wire_limits, is_use};
 use crate::naming::add_name_lines;
 use crate::near::near;
-use crate::parameter::{add_macro_parameters, add_wrong_parameter};
+use crate::only_use::add_values;
 use crate::part::{Part, add_line};
-use crate::row::{add_connections, add_delay, add_parameters, near_kind};
+use crate::row::near_kind;
 use crate::shown::source_line;
 use crate::statement::{before_place, from_place, kind_token, near_macro};
 use crate::syntax::add_syntax;
-use crate::tokens::{after_group, after_kind, head_of};
-use element_kinds::{Kind, kind_named};
+use crate::unknown::add_unknown;
+use crate::use_hint::{
+    add_assertion, add_ranges, add_use_bounds, add_use_connections, add_use_parameters, add_widths,
+    many_note,
+};
 use scald_base::{Bytes, NoMemory, Place, Refusal, RefusalKind, same_bytes};
 use scald_lex::Token;
 
@@ -212,169 +213,6 @@ fn add_kind(
     }
 }
 
-/// The kind that a use is of, where it is of one.
-fn kind_of_use(text: &[u8], statement: &[Token]) -> Option<Kind>
-    ensures { result ≡ kind_of_use text.now statement.now }
-{
-    match kind_token(statement) {
-        Some(token) => kind_named(spelled(text, token)),
-        None => None,
-    }
-}
-
-/// The head of the macro that a use is of, from its name on.
-fn head_of_use<'a>(text: &[u8], tokens: &'a [Token], statement: &[Token]) -> &'a [Token]
-    ensures { result.now ≡ head_of_use text.now tokens.now statement.now }
-{
-    match kind_token(statement) {
-        Some(token) => head_of(text, tokens, spelled(text, token)),
-        None => &[],
-    }
-}
-
-/// The tokens after a macro's name.
-fn after_name(head: &[Token]) -> &[Token]
-    ensures { result.now ≡ after_name head.now }
-{
-    match head {
-        [_, rest @ ..] => rest,
-        [] => &[],
-    }
-}
-
-/// How many connections a kind takes, or else the macro with this head.
-fn add_taken(out: &mut Bytes, head: &[Token], kind: Option<Kind>) -> Result<(), NoMemory>
-    ensures { OnOk result (out.new ≡ out.old ++ taken_connections head.now kind) }
-{
-    match kind {
-        Some(kind) => add_connections(out, kind),
-        None => add_head(out, head),
-    }
-}
-
-/// Which parameters a kind takes, or else the macro with this head.
-fn add_known(
-    out: &mut Bytes,
-    text: &[u8],
-    head: &[Token],
-    kind: Option<Kind>,
-) -> Result<(), NoMemory>
-    ensures { OnOk result (out.new ≡ out.old ++ taken_parameters text.now head.now kind) }
-{
-    match kind {
-        Some(kind) => add_parameters(out, kind),
-        None => add_macro_parameters(out, text, head),
-    }
-}
-
-/// How many connections the use takes, and how many it has.
-fn add_use_connections(
-    out: &mut Bytes,
-    text: &[u8],
-    tokens: &[Token],
-    statement: &[Token],
-) -> Result<(), NoMemory>
-    ensures { OnOk result (out.new ≡ out.old ++ connections_lines text.now tokens.now statement.now) }
-{
-    let head = head_of_use(text, tokens, statement);
-    add_taken(out, head, kind_of_use(text, statement))?;
-    add_count(out, b"here it has ", after_kind(statement))
-}
-
-/// Which parameters the use takes, and which of those that it has is wrong.
-fn add_use_parameters(
-    out: &mut Bytes,
-    text: &[u8],
-    tokens: &[Token],
-    statement: &[Token],
-) -> Result<(), NoMemory>
-    ensures { OnOk result (out.new ≡ out.old ++ parameters_lines text.now tokens.now statement.now) }
-{
-    let kind = kind_of_use(text, statement);
-    let head = head_of_use(text, tokens, statement);
-    add_known(out, text, head, kind)?;
-    add_wrong_parameter(
-        out,
-        text,
-        kind,
-        after_name(head),
-        after_group(after_kind(statement), b'[', b']'),
-    )
-}
-
-/// Which delay and parameters a use of a kind takes, and which it has.
-fn add_kind_bounds(
-    out: &mut Bytes,
-    text: &[u8],
-    tokens: &[Token],
-    kind: Kind,
-    statement: &[Token],
-) -> Result<(), NoMemory>
-    ensures { OnOk result (out.new ≡ out.old ++ kind_bounds text.now tokens.now kind statement.now) }
-{
-    add_delay(out, kind)?;
-    if !kind.has_output() {
-        add_parameters(out, kind)?;
-    }
-    add_use_limits(out, text, tokens, kind, statement)
-}
-
-/// That a macro takes no delay.
-#[tactic(auto, unfolding(crate::specs::Hint::no_delay))]
-fn add_no_delay(out: &mut Bytes) -> Result<(), NoMemory>
-    ensures { OnOk result (out.new ≡ out.old ++ no_delay) }
-{
-    out.extend(b"    a macro takes no delay\n")
-}
-
-/// Which delay and parameters a kind takes, and which a use has; or that a macro takes no delay.
-fn add_bounds_by(
-    out: &mut Bytes,
-    text: &[u8],
-    tokens: &[Token],
-    statement: &[Token],
-    kind: Option<Kind>,
-) -> Result<(), NoMemory>
-    ensures { OnOk result (out.new ≡ out.old ++ bounds_by text.now tokens.now statement.now kind) }
-{
-    match kind {
-        Some(kind) => add_kind_bounds(out, text, tokens, kind, statement),
-        None => add_no_delay(out),
-    }
-}
-
-/// Which bounds a WIRE takes.
-#[tactic(auto, unfolding(crate::specs::Hint::wire_note))]
-fn wire_note() -> &'static [u8]
-    ensures { result.now ≡ wire_note }
-{
-    b"    WIRE \"A\" a:b has 0 <= a <= b <= 4095\n"
-}
-
-/// Which bounds a WIRE takes, and which it has.
-fn add_wire(out: &mut Bytes, statement: &[Token]) -> Result<(), NoMemory>
-    ensures { OnOk result (out.new ≡ out.old ++ wire_help statement.now) }
-{
-    out.extend(wire_note())?;
-    add_wire_limits(out, statement)
-}
-
-/// Which delay and parameters the use takes, or which bounds the WIRE.
-fn add_use_bounds(
-    out: &mut Bytes,
-    text: &[u8],
-    tokens: &[Token],
-    statement: &[Token],
-) -> Result<(), NoMemory>
-    ensures { OnOk result (out.new ≡ out.old ++ bounds_lines text.now tokens.now statement.now) }
-{
-    if is_use(statement) {
-        add_bounds_by(out, text, tokens, statement, kind_of_use(text, statement))
-    } else {
-        add_wire(out, statement)
-    }
-}
-
 /// What is nested too deep at the place.
 fn add_deep(out: &mut Bytes, text: &[u8], tokens: &[Token], place: Place) -> Result<(), NoMemory>
     ensures { OnOk result (out.new ≡ out.old ++ deep_lines text.now tokens.now place) }
@@ -382,15 +220,14 @@ fn add_deep(out: &mut Bytes, text: &[u8], tokens: &[Token], place: Place) -> Res
     out.extend(deep_note(text, before_place(tokens, place), from_place(tokens, place)))
 }
 
-/// Puts what helps with a refusal at the end of the bytes: by the tokens of the text, where it has
-/// tokens. The error is that memory ran out.
-pub fn add_hint(
+/// What helps with a refusal of its kind.
+fn add_told(
     out: &mut Bytes,
     text: &[u8],
     tokens: &[Token],
     refusal: Refusal,
 ) -> Result<(), NoMemory>
-    ensures { OnOk result (out.new ≡ out.old ++ hint text.now tokens.now refusal) }
+    ensures { OnOk result (out.new ≡ out.old ++ told text.now tokens.now refusal) }
 {
     let statement = from_place(tokens, refusal.place);
     match refusal.kind {
@@ -405,6 +242,25 @@ pub fn add_hint(
         RefusalKind::Bounds => add_use_bounds(out, text, tokens, statement),
         RefusalKind::BadName => add_name_lines(out, text, tokens, statement),
         RefusalKind::TooDeep => add_deep(out, text, tokens, refusal.place),
+        RefusalKind::AssertionClash => add_assertion(out, text, tokens, refusal.place),
+        RefusalKind::BadRange => add_ranges(out, text, tokens, refusal.place),
+        RefusalKind::Width => add_widths(out, text, tokens, refusal.place),
+        RefusalKind::TooMany => out.extend(many_note(text, statement)),
+        RefusalKind::UnknownName => add_unknown(out, text, tokens, refusal.place),
         kind => out.extend(advice(kind)),
     }
+}
+
+/// Puts what helps with a refusal at the end of the bytes: by the tokens of the text, where it has
+/// tokens. The error is that memory ran out.
+pub fn add_hint(
+    out: &mut Bytes,
+    text: &[u8],
+    tokens: &[Token],
+    refusal: Refusal,
+) -> Result<(), NoMemory>
+    ensures { OnOk result (out.new ≡ out.old ++ hint text.now tokens.now refusal) }
+{
+    add_told(out, text, tokens, refusal)?;
+    add_values(out, text, tokens, refusal)
 }

@@ -21,16 +21,23 @@ mod tokens;
 
 // what is said of a refusal
 mod advice;
+mod bits;
 mod bound;
+mod clash;
 mod count;
 mod deep;
 mod double;
 mod hint;
 mod limit;
+mod many;
 mod naming;
+mod only_use;
 mod parameter;
+mod range;
 mod sentence;
 mod syntax;
+mod unknown;
+mod use_hint;
 
 // the calls
 mod call_word;

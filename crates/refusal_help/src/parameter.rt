@@ -27,7 +27,7 @@ pub fn ends_assign(token: Token) -> bool
 }
 
 /// Whether a word is one of the parameters in these braces.
-fn is_assigned(text: &[u8], braces: &[Token], word: &[u8]) -> bool
+pub fn is_assigned(text: &[u8], braces: &[Token], word: &[u8]) -> bool
     ensures { result ≡ is_assigned text.now word.now false braces.now }
 {
     let mut is_named = false;
@@ -120,7 +120,7 @@ pub fn braces(tokens: &[Token]) -> &[Token]
 const MOST_TOKENS: usize = 256;
 
 /// So many tokens from the front, or all where there are fewer.
-fn first_tokens(tokens: &[Token]) -> &[Token]
+pub fn first_tokens(tokens: &[Token]) -> &[Token]
     ensures { result.now ≡ take 256 tokens.now }
 {
     let count = MOST_TOKENS.min(tokens.len());

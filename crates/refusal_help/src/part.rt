@@ -76,7 +76,7 @@ fn add_spaces(out: &mut Bytes, count: u32) -> Result<(), NoMemory>
 }
 
 /// A number, in decimal.
-fn add_number(out: &mut Bytes, number: u64) -> Result<(), NoMemory>
+pub fn add_number(out: &mut Bytes, number: u64) -> Result<(), NoMemory>
     ensures { OnOk result (out.new ≡ out.old ++ decimal number) }
 {
     out.extend(Buffer::new().format(number).as_bytes())

@@ -42,7 +42,7 @@ fn same_among(keywords: &[Keyword], word: &[u8]) -> Option<Keyword>
 }
 
 /// The reserved word that a word is.
-fn reserved_word(word: &[u8]) -> Option<Keyword>
+pub fn reserved_word(word: &[u8]) -> Option<Keyword>
     ensures { result ≡ reserved_word word.now }
 {
     same_among(&RESERVED, word)
