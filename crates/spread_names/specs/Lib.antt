@@ -1,0 +1,3 @@
+pub mod Widths
+pub mod Spreads
+pub mod Walk
