@@ -1,10 +1,11 @@
 -- Margins over a period of eight slots, worked out on paper.
-use Rattle.std.specs.Prelude.{◌≡◌, ℕ, true, false, List, [], ◌∷◌, codes, None}
+use Rattle.std.specs.Prelude.{◌≡◌, ℕ, true, false, List, [], ◌∷◌, codes, map, None}
 use Rattle.std.specs.Fmt.{digits}
 use Rattle.std.proofs.Common.{refl}
 use Rattle.scald_base.specs.Clock.{back}
 use Rattle.scald_base.specs.Time.{Header}
 use Rattle.scald_base.specs.declared.assertion.AssertSpec.TheVariants.{None as Unasserted}
+use Rattle.scald_base.specs.declared.outcome.Outcome.TheVariants.{Clean, Faulty as HasFaults, Done, Unsettled, BadWords, TooLong, ReadFault, WriteFault, NoMemory}
 use Rattle.vector_names.specs.declared.bits.Target.TheVariants.{Net as OnNet}
 use Rattle.step_values.specs.declared.value.Value.{Value}
 use Rattle.step_values.specs.declared.value.Value.TheVariants.{Zero, One, S, C, R, F}
@@ -19,14 +20,17 @@ use Rattle.flat_circuit.specs.declared.fault.PointKind.TheVariants.{Setup as Bef
 use Rattle.flat_circuit.specs.declared.fault.Fault.TheVariants.{Point, Width}
 use Rattle.flat_circuit.specs.Circuit.{Circuit}
 use Rattle.net_waves.specs.Waves.{waves_of}
+use Rattle.point_check.specs.Faults.{instance_fault}
 use Rattle.point_check.specs.Point.{checker_fault}
-use Rattle.pulse_check.specs.Faults.{width_fault}
+use Rattle.pulse_check.specs.Faults.{instance_faults, width_fault}
 use Rattle.listing.specs.Fault.{fault_place}
 use Rattle.timing_analysis.specs.Case.{Case}
 use Rattle.margin_report.specs.declared.margin.Parameter.TheVariants.{Setup, Hold, High, Low}
 use Rattle.margin_report.specs.declared.margin.Margin.TheVariants.{Fault as Faulty, Limit, Next}
 use Rattle.margin_report.specs.Margin.{margin}
+use Rattle.margin_report.specs.Promise.{may_answer}
 use Rattle.margin_report.specs.Report.{count_line, margin_line}
+use Rattle.margin_report.specs.Tried.{own_faults, with_value}
 
 abbrev header : Header
 header = record { units = 8; ticks = 1; wire = record { min = 0; max = 0 }; pskew = (0, 0); cskew = (0, 0) }
@@ -113,6 +117,44 @@ high_pulses = refl
 low_pulses : margin (circuit width) (case 0 in_5 ∷ []) 0 width Low ≡ Next 6 0 (Width 0 false 4 6)
 unfolding margin width_fault moved normal back earlier
 low_pulses = refl
+
+-- ---- what counts for a parameter
+
+-- high pulses of two slots where three are asked for, and low ones of six where seven are
+abbrev wider : Instance
+wider = checker MinPulse (3, 7) (pin 0 ∷ [])
+
+own_high : own_faults (circuit wider) (case 0 in_5).waves 0 High ≡ Width 0 true 2 2 ∷ []
+unfolding instance_faults width_fault moved normal back earlier
+own_high = refl
+
+own_low : own_faults (circuit wider) (case 0 in_5).waves 0 Low ≡ Width 0 false 4 6 ∷ []
+unfolding instance_faults width_fault moved normal back earlier
+own_low = refl
+
+no_high : own_faults (circuit width) (case 0 in_5).waves 0 High ≡ []
+unfolding instance_faults width_fault moved normal back earlier
+no_high = refl
+
+own_hold : own_faults (circuit (with_value edge Hold 3)) (case 0 in_5).waves 0 Hold ≡ Point After 0 2 5 67 ∷ []
+unfolding instance_fault checker_fault moved normal back earlier
+own_hold = refl
+
+no_hold : own_faults (circuit edge) (case 0 in_5).waves 0 Hold ≡ []
+unfolding instance_fault checker_fault moved normal back earlier
+no_hold = refl
+
+one_limit_more : map (λ parameter. (with_value edge parameter 5).limits) (Setup ∷ Hold ∷ High ∷ Low ∷ []) ≡ (5, 1) ∷ (1, 5) ∷ (5, 1) ∷ (1, 5) ∷ []
+one_limit_more = refl
+
+-- ---- outcomes
+
+spoken : map may_answer (Done ∷ Unsettled 3 16 ∷ []) ≡ true ∷ true ∷ []
+spoken = refl
+
+never_spoken : map may_answer (Clean ∷ HasFaults 1 ∷ BadWords 0 ∷ TooLong ∷ ReadFault ∷ WriteFault ∷ NoMemory ∷ [])
+    ≡ false ∷ false ∷ false ∷ false ∷ false ∷ false ∷ false ∷ []
+never_spoken = refl
 
 -- ---- lines
 

@@ -1,6 +1,20 @@
 use Rattle.margin_report.proofs.Greatest.{margins_are_true}
 use Rattle.margin_report.proofs.Monotone.{fitting_is_monotone}
+use Rattle.margin_report.proofs.Promised.{finished, given_by, settles}
+use Rattle.margin_report.proofs.Tried.{tried_as_written}
 use Rattle.margin_report.proofs.program.margin_main.Goals as goal
+
+pub returns-clause-finished : goal.returns-clause-finished
+returns-clause-finished g c = finished c.args.words.now _ _ _ _ _ _ c.main_call.ensures.whole
+
+pub returns-clause-given : goal.returns-clause-given
+returns-clause-given g c spoken = given_by c.args.words.now _ _ _ _ _ (c.main_call.ensures.replied spoken)
+
+pub returns-clause-loopless : goal.returns-clause-loopless
+returns-clause-loopless g c text told = settles c.args.words.now text _ _ _ (λ spoken. c.main_call.ensures.truthful text told spoken)
+
+pub returns-clause-as_written : goal.returns-clause-as_written
+returns-clause-as_written g c = tried_as_written
 
 pub returns-clause-monotone : goal.returns-clause-monotone
 returns-clause-monotone g c = fitting_is_monotone
