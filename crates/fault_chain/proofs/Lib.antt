@@ -11,5 +11,6 @@ pub mod Long
 pub mod Whole
 pub mod Delays
 pub mod Drawn
+pub mod Promised
 mod Examples
 mod ExamplesLaws

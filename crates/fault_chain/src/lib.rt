@@ -19,4 +19,5 @@ mod teller;
 pub mod laws;
 
 pub use chain::{Chain, End, Link, Links};
+pub use follow::chain_of;
 pub use program::{ChainProgram, chain_main};

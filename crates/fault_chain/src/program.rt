@@ -1,12 +1,13 @@
 //! The whole call: words and bytes in, bytes and an outcome out.
 
-ghost use Rattle.std.specs.Prelude.{◌≡◌, ◌≢◌, ℕ, List, ◌<◌, length, true, false, Err, IfSome, ◌⊎◌};
+ghost use Rattle.std.specs.Prelude.{◌≡◌, ◌≢◌, ℕ, List, ◌<◌, ◌≤◌, length, true, false, Err, IfSome, ◌⊎◌};
 ghost use Rattle.std.specs.Io.KnownBytes.{IsAtEnd};
 ghost use Rattle.scald_base.specs.Device.{Rose, ReadsFront, ReadsPast};
-ghost use Rattle.program_call.specs.Program.{AreTold, IsAnswered, IsCutShort, asks, is_silent, speaks};
+ghost use Rattle.program_call.specs.Program.{AreTold, IsAnswered, IsCutShort, asks, has_read, is_silent, speaks};
 ghost use Rattle.timing_reply.specs.Program.{most_bytes, no_words};
 ghost use Rattle.fault_chain.specs.Answer.{chains};
 ghost use Rattle.fault_chain.specs.Laws.{ChainsAreWhole, DrawnChainsAreWhole};
+ghost use Rattle.fault_chain.specs.Promise.{SettlesLoopless, WritesChains, may_answer};
 
 use crate::teller::Chains;
 use program_call::{Program, Reply, main_call};
@@ -81,6 +82,13 @@ pub fn chain_main<S: Source, K: Sink>(
         (result ≡ Outcome.NoMemory)
         ⊎ IsAnswered chains words.now text result (K.taken sink.old) (K.taken sink.new) }
 
+    // The same where the text draws a circuit that settles with its cases: the lines of its faults, each with its
+    // chain, and the outcome of as many faults.
+    ensures finished { IfSome (S.left source.old) (λ text. asks chains words.now ≡ true →
+        length text ≤ most_bytes → ¬ Rose (S.faults source.old) (S.faults source.new) →
+        ¬ Rose (K.faults sink.old) (K.faults sink.new) →
+        WritesChains text result (K.taken sink.old) (K.taken sink.new)) }
+
     // Whatever the devices did, an outcome that speaks of the text comes only where it is the text's own,
     // all of the text was read, and all of the answer was written, where the sink tells what it took.
     ensures truthful { (text : List ℕ) →
@@ -90,9 +98,15 @@ pub fn chain_main<S: Source, K: Sink>(
     ensures to_end { IfSome (S.left source.old) (λ text. asks chains words.now ≡ true →
         speaks chains result ≡ true → IsAtEnd (S.left source.new)) }
 
-    // No fault of a device is hidden, and why the other outcomes come.
+    // No fault of a device is hidden.
     ensures source_steady { result ≢ Outcome.ReadFault → S.faults source.new ≡ S.faults source.old }
     ensures sink_steady { result ≢ Outcome.WriteFault → K.faults sink.new ≡ K.faults sink.old }
+
+    // Which outcomes speak of a text, whichever it is, and why the others come. A sink that tells what it took
+    // has a front of the answer's bytes after a failed write, and a source that tells its bytes had one past the
+    // limit where the text is too long.
+    ensures given { speaks chains result ≡ true → may_answer result ≡ true }
+    ensures read_first { has_read chains result ≡ true → asks chains words.now ≡ true }
     ensures read_fault { result ≡ Outcome.ReadFault → Rose (S.faults source.old) (S.faults source.new) }
     ensures write_fault { result ≡ Outcome.WriteFault → Rose (K.faults sink.old) (K.faults sink.new) }
     ensures cut_short { (text : List ℕ) →
@@ -103,6 +117,10 @@ pub fn chain_main<S: Source, K: Sink>(
     ensures long_text { IfSome (S.left source.old) (λ text. asks chains words.now ≡ true →
         most_bytes < length text → ¬ Rose (S.faults source.old) (S.faults source.new) →
         (result ≡ Outcome.NoMemory) ⊎ (result ≡ Outcome.TooLong)) }
+
+    // Waves without loops settle.
+    ensures loopless { (text : List ℕ) → AreTold chains words.now (S.left source.old) text →
+        SettlesLoopless text result }
 
     // The chain of each fault of a case at rest is whole: where the delays of a circuit are in their bounds,
     // and so in each circuit that a text draws.
