@@ -1,0 +1,9 @@
+use Rattle.std.proofs.Common.{◌≡◌, map}
+use Rattle.std.specs.List.{range_with_len}
+use Rattle.circuit_notes.specs.Arrivals.{feeders_in, node_feeders}
+use Rattle.circuit_notes.specs.Parts.{together}
+use Rattle.circuit_notes.specs.Paths.{is_looped}
+use Rattle.circuit_notes.proofs.launched.nodes.Given as goal
+
+abbrev pub invariant-loop-net : goal.invariant-loop-net
+invariant-loop-net l = map node_feeders l.nodes.items ≡ map (feeders_in l.c (is_looped (together l.parts))) (range_with_len 0 l.net)

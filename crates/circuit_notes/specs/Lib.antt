@@ -1,0 +1,11 @@
+pub mod Arrivals
+pub mod Idle
+pub mod Late
+pub mod Loops
+pub mod Parts
+pub mod Paths
+pub mod Pins
+pub mod Search
+pub mod Told
+pub mod Unchecked
+pub mod Unread
