@@ -15,10 +15,39 @@ answers() {
     fi
 }
 
-# marked WANT: standard error says the place, and then has the line of the text with a mark under the place. Of what
-# stands past column 72 the mark alone is looked at.
+# sentence KIND: what is said of each refusal of this kind
+sentence() {
+    case $1 in
+    BadByte) echo 'a byte that is neither printable ASCII nor a tab nor the end of a line' ;;
+    BadToken) echo 'no word, number, name or symbol stands here' ;;
+    Syntax) echo 'no drawing continues like this' ;;
+    BadHeader) echo 'a number of the header is out of its bounds' ;;
+    DoubleName) echo 'this name is already taken' ;;
+    UnknownKind) echo 'there is no such kind and no such macro' ;;
+    BadName) echo 'this is not how a signal is named' ;;
+    AssertionClash) echo 'a signal has another assertion here than before, or a formal has one' ;;
+    BadParameter) echo 'a parameter is unknown, or is given twice' ;;
+    Overflow) echo 'a value does not fit 64 bits' ;;
+    BadRange) echo "a bit's number is not 0 to 65535 or not the formal's, or a range has more than 256 bits" ;;
+    Width) echo 'two widths differ here, or one is more than 256 bits' ;;
+    PinCount) echo 'too many connections, or too few, or a mark !H where none may be' ;;
+    Bounds) echo 'a delay or a limit is out of its bounds, or is missing, or may not be here' ;;
+    TooDeep) echo 'more than 64 are nested here' ;;
+    TooMany) echo 'this is one more than a drawing may have' ;;
+    TwoDrivers) echo 'this output is a constant, or is driven before' ;;
+    ZeroLoop) echo 'a loop without delay leads here' ;;
+    CaseNet) echo 'a case may not set this net so' ;;
+    EdgesOverlap) echo 'two edges of this clock may come in one slot' ;;
+    ZeroDivisor) echo 'a division by zero' ;;
+    UnknownName) echo 'an expression has a name that means nothing here' ;;
+    esac
+}
+
+# marked WANT: standard error says the place and a sentence, and then has the line of the text with a mark under the
+# place. Of what stands past column 72 the mark alone is looked at.
 marked() {
-    LC_ALL=C awk -v place="${1##* }" '
+    refusal=${1#* }
+    LC_ALL=C awk -v place="${1##* }" -v sentence="$(sentence "${refusal%% *}")" '
         function blanks(count) { return sprintf("%" count "s", "") }
         FILENAME == ARGV[1] { text[FNR] = $0; next }
         { said[FNR] = $0 }
@@ -28,7 +57,7 @@ marked() {
             gsub(/[\t\r]/, " ", line)
             gsub(/[^ -~]/, "?", line)
             before = at[2] > 72 ? 39 : at[2] - 1
-            exit !(index(said[1], "scald: " place ": ") == 1 && length(said[1]) > length(place) + 20 &&
+            exit !(said[1] == "scald: " place ": " sentence &&
                 (at[2] > 72 || said[2] == "    " substr(line, 1, 100)) &&
                 said[3] == "    " blanks(before) "^")
         }' "$work/text" "$work/said" || {
@@ -147,6 +176,8 @@ text '3 Syntax 2:1' 'SCALD 1;' 'clock 8 x 50;'
 helps "    'clock' cannot come after ';'" \
     '    is CLOCK meant?'
 text '3 Syntax 2:9' 'SCALD 1;' 'CLOCK 8 x50;'
+text '3 Syntax 3:1' 'SCALD 1;' 'CLOCK 8 x 50;'
+helps "    the end of the text cannot come after ';'"
 text '3 Syntax 1:9' 'SCALD 1;;'
 helps "    ';' cannot come after ';'"
 early '3 Syntax 4:9' 'a:B()->();'
@@ -194,8 +225,16 @@ text '4 BadHeader 2:1' 'SCALD 2;' 'CLOCK 8 x 0;' 'DRAWING ROW;' 'END;'
 text '4 BadHeader 2:1' 'SCALD 1;' 'CLOCK 8 x 0;' 'DRAWING ROW;' 'END;'
 helps '    CLOCK u x k has u and k of at least 1, and a period of u times k ticks, from 2 to 4096' \
     '    8 x 0 are fewer than 2 ticks'
+# clock LINE: beside the bounds of CLOCK, this line is said
+clock() {
+    helps '    CLOCK u x k has u and k of at least 1, and a period of u times k ticks, from 2 to 4096' "$1"
+}
 text '4 BadHeader 2:1' 'SCALD 1;' 'CLOCK 1 x 1;' 'DRAWING ROW;' 'END;'
+clock '    1 x 1 are fewer than 2 ticks'
 text '4 BadHeader 2:1' 'SCALD 1;' 'CLOCK 4097 x 1;' 'DRAWING ROW;' 'END;'
+clock '    4097 is more than 4096, by 1'
+text '4 BadHeader 2:1' 'SCALD 1;' 'CLOCK 1 x 4098;' 'DRAWING ROW;' 'END;'
+clock '    4098 is more than 4096, by 2'
 text '4 BadHeader 2:1' 'SCALD 1;' 'CLOCK 8 x 600;' 'DRAWING ROW;' 'END;'
 helps '    CLOCK u x k has u and k of at least 1, and a period of u times k ticks, from 2 to 4096' \
     '    4800 is more than 4096, by 704'
@@ -238,6 +277,15 @@ named '' "    after '' the name cannot end: $begins"
 named '/' "    after '/' the name cannot end: after the / comes a letter, a digit, _, # or \$"
 named 'A-B' "    after 'A' there cannot be '-': $has"
 named 'A.B' "    after 'A' there cannot be '.': $has"
+named 'A .SX' "    after 'A .S' there cannot be 'X': after .S comes an interval like 1-4, or nothing"
+named 'CK .P2' "    after 'CK .P2' the name cannot end: the unit in which an interval begins is followed by a - and its end"
+named 'CK .P2-' "    after 'CK .P2-' the name cannot end: the end of an interval is a number"
+named 'CK .P2-3(' "    after 'CK .P2-3(' the name cannot end: a skew is written like (2,3)"
+named 'CK .P2-3(1)' "    after 'CK .P2-3(1' there cannot be ')': a skew is written like (2,3)"
+named 'CK .P2-3(1,L)' "    after 'CK .P2-3(1,' there cannot be 'L': a skew is written like (2,3)"
+named 'CK .P2-3(1,2L' "    after 'CK .P2-3(1,2' there cannot be 'L': a skew is written like (2,3)"
+named 'CK .P2-3(1,1)X' "    after 'CK .P2-3(1,1)' there cannot be 'X': after a skew comes an L, or nothing"
+named 'CK .P2-3LL' "    after 'CK .P2-3L' there cannot be 'L': nothing comes after the L"
 named 'CK .X2-3' "    after 'CK .' there cannot be 'X': an assertion begins with .S, .P or .C"
 named "$(many 65 A)" "    after '$(many 64 A)' there cannot be 'A': the part before an assertion has at most 64 bytes"
 early '20 EdgesOverlap 4:17' 'b1 : BUF [0:0] ("CK .C2-3(25,25)") -> ("X");'
@@ -312,8 +360,20 @@ expanded '16 TooMany 4:1' 'DRAWING ROW;' 'FOR I = 0 TO 262143 DO END;' 'END;'
 helps '    at most 262144 statements may be reached, each value of a FOR as one, and this is one more'
 drawing '6 UnknownKind 4:1' 'b1 : BUFF [0:0] ("A") -> ("X");'
 helps "    'BUFF' is none: is BUF meant?"
-drawing '6 UnknownKind 4:1' 'g1 : nand [0:0] ("A", "B") -> ("X");'
-helps "    'nand' is drawn as AND with a - before its output"
+# drawn WORD WAY: no kind has this name, and what has it elsewhere is drawn so
+drawn() {
+    drawing '6 UnknownKind 4:1' "g1 : $1 [0:0] (\"A\", \"B\") -> (\"X\");"
+    helps "    '$1' is drawn as $2"
+}
+drawn nand 'AND with a - before its output'
+drawn NOR 'OR with a - before its output'
+drawn xnor 'XOR with a - before its output'
+for name in INV not; do
+    drawn "$name" 'BUF with a - before its input'
+done
+for name in DFF ff; do
+    drawn "$name" REG
+done
 drawing '6 UnknownKind 4:1' 'u1 : ADDER ("A") -> ("X");'
 helps "    'ADDER' is none. The kinds are BUF, AND, OR, XOR, MUX2, MUX4, MUX8, CHG, REG, REG_RS, LATCH, LATCH_RS," \
     '    SETUP_HOLD_CHK, SETUP_RISE_HOLD_FALL_CHK and MIN_PULSE_CHK; a - before a connection inverts it'
