@@ -288,9 +288,20 @@ named 'CK .P2-3(1,1)X' "    after 'CK .P2-3(1,1)' there cannot be 'X': after a s
 named 'CK .P2-3LL' "    after 'CK .P2-3L' there cannot be 'L': nothing comes after the L"
 named 'CK .X2-3' "    after 'CK .' there cannot be 'X': an assertion begins with .S, .P or .C"
 named "$(many 65 A)" "    after '$(many 64 A)' there cannot be 'A': the part before an assertion has at most 64 bytes"
+# overlap LINE: beside what to do, this line is said
+overlap() {
+    helps '    make the skew (a,b) of this clock smaller or its pulses longer, or let it be a .P clock, which moves' \
+        '    as a whole' \
+        "$1"
+}
 early '20 EdgesOverlap 4:17' 'b1 : BUF [0:0] ("CK .C2-3(25,25)") -> ("X");'
-helps '    make the skew (a,b) of this clock smaller or its pulses longer, or let it be a .P clock, which moves' '    as a whole'
+overlap '    its edges at units 2 and 3 are 50 ticks apart, and with the skew (25,25) have to be more than 50'
 early '20 EdgesOverlap 4:17' 'b1 : BUF [0:0] ("CK .C2-3(400,0)") -> ("X");'
+overlap '    its edges at units 2 and 3 are 50 ticks apart, and with the skew (400,0) have to be more than 400'
+early '20 EdgesOverlap 4:17' 'b1 : BUF [0:0] ("CK .C7-1(60,60)L") -> ("X");'
+overlap '    its edges at units 7 and 1 are 100 ticks apart, and with the skew (60,60) have to be more than 120'
+text '20 EdgesOverlap 5:17' 'SCALD 1;' 'CLOCK 8 x 50;' 'CSKEW 100:0;' 'DRAWING ROW;' 'b1 : BUF [0:0] ("CK .C0-4,5-7") -> ("X");' 'END;'
+overlap '    its edges at units 4 and 5 are 50 ticks apart, and with the skew (100,0) have to be more than 100'
 macro refused '7 BadName 3:10' 'MACRO M ("/A") -> ("Z");' 'END;' 'DRAWING ROW;' 'END;'
 helps '    a formal of a macro has neither an assertion nor a / before it'
 macro refused '7 BadName 3:10' 'MACRO M ("A .S") -> ("Z");' 'END;' 'DRAWING ROW;' 'END;'

@@ -7,7 +7,7 @@ ghost use Rattle.name_fault.specs.Naming.{after_close, after_end, after_number, 
 use crate::read::{Misread, Mode, Read};
 
 /// Nothing is read.
-fn new_name() -> Read
+pub fn new_name() -> Read
     ensures { result ≡ new_name }
 {
     Read {
@@ -26,7 +26,7 @@ fn is_inner(byte: u8) -> bool
     byte.is_ascii_alphanumeric() || matches!(byte, b'_' | b'#' | b'$')
 }
 
-fn is_digit(byte: u8) -> bool
+pub fn is_digit(byte: u8) -> bool
     ensures { result ≡ is_digit byte }
 {
     b'0' <= byte && byte <= b'9'
@@ -241,7 +241,7 @@ fn in_number(units: u64, read: Read, byte: u8) -> Result<Read, Misread>
 
 /// The name with one byte more.
 #[tactic(auto, unfolding(crate::specs::Naming::step))]
-fn step(units: u64, read: Read, byte: u8) -> Result<Read, Misread>
+pub fn step(units: u64, read: Read, byte: u8) -> Result<Read, Misread>
     ensures { result ≡ step units read byte }
 {
     match read.mode {
@@ -257,7 +257,7 @@ fn step(units: u64, read: Read, byte: u8) -> Result<Read, Misread>
         Mode::End => in_number(units, read, byte),
         Mode::Open => digit_from(read, byte, Mode::Early, 0),
         Mode::Early => in_number(units, read, byte),
-        Mode::Comma => digit_from(read, byte, Mode::Late, 0),
+        Mode::Comma => digit_from(read, byte, Mode::Late, read.number),
         Mode::Late => in_number(units, read, byte),
         Mode::Closed => after_close(read, byte),
         Mode::Low => Err(Misread::Follow(Mode::Low)),

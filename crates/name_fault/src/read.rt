@@ -45,7 +45,7 @@ pub struct Read {
     pub is_clock: bool,
     /// How many bytes the base has.
     pub length: u16,
-    /// The unit in which the interval begins.
+    /// The unit in which the interval begins, or the first number of a skew.
     pub first: u64,
     /// The value of the digits that were read last.
     pub number: u64,

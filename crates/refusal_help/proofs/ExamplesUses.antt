@@ -7,6 +7,8 @@ use Rattle.scald_lex.specs.declared.token.TokenKind.{TokenKind}
 use Rattle.scald_lex.specs.declared.token.TokenKind.TheVariants.{Word, Number, Name, Arrow, Symbol}
 use Rattle.refusal_help.specs.Bits.{bits_line, bits_with, bits_word, separates, separator}
 use Rattle.refusal_help.specs.Clash.{clash_line, clash_lines, clashes, earlier_clash}
+use Rattle.name_fault.specs.Naming.{step}
+use Rattle.refusal_help.specs.Edge.{edges_lines, gap_line}
 use Rattle.refusal_help.specs.OnlyUse.{is_use_of, only_use}
 use Rattle.refusal_help.specs.Parameter.{begins_assign, ends_assign}
 use Rattle.refusal_help.specs.Range.{fault_at, range_line}
@@ -71,6 +73,18 @@ other_assertion = refl
 same_assertion : clash_lines (codes "\"A .S0-4\"\"A .S0-4\"") (at Name 0 9 ∷ at Name 9 18 ∷ []) (at Name 9 18 ∷ []) ≡ []
 unfolding clash_line clashes earlier_clash
 same_assertion = refl
+
+-- ---- edges: a name after SCALD 1; CLOCK 8 x 50;
+
+abbrev clocked : List Token
+clocked =
+    at Word 0 5 ∷ at (Number (pos 1)) 6 7 ∷ symbol 59 7 ∷ at Word 8 13 ∷ at (Number (pos 8)) 14 15 ∷ at Word 16 17 ∷
+    at (Number (pos 50)) 18 20 ∷ symbol 59 20 ∷ at Name 21 38 ∷ []
+
+near : edges_lines (codes "SCALD 1;CLOCK 8 x 50;\"CK .C2-3(25,25)\"") clocked (record { line = 1; col = 22 }) (Some (2, 3)) ≡
+    codes "    its edges at units 2 and 3 are 50 ticks apart, and with the skew (25,25) have to be more than 50\n"
+unfolding digits gap_line step
+near = refl
 
 -- ---- IF N THEN, and the same after a constant N and before it
 

@@ -1,8 +1,9 @@
 -- All that a person is told of a refusal.
-use Rattle.std.specs.Prelude.{◌≡◌, ℕ, List, [], ◌∷◌, ◌++◌, codes}
+use Rattle.std.specs.Prelude.{◌≡◌, ℕ, List, [], ◌∷◌, ◌++◌, codes, Option}
 use Rattle.scald_base.specs.declared.refusal.Refusal.{Refusal}
 use Rattle.scald_lex.specs.declared.token.Token.{Token}
 use Rattle.scald_lex.specs.Tokens.{AreTokens, IsRefused}
+use Rattle.refusal_help.specs.Edge.{AreEdges, edges_lines}
 use Rattle.refusal_help.specs.Hint.{hint}
 use Rattle.refusal_help.specs.Sentence.{sentence}
 use Rattle.refusal_help.specs.Shown.{shown}
@@ -16,10 +17,14 @@ pub data UsesTokens (text : List ℕ) : List Token → Type 0 where
 abbrev pub first_line : Refusal → List ℕ
 first_line r = line (codes "scald: " ∷ place_text r.place ∷ codes ": " ∷ sentence r.kind ∷ [])
 
-abbrev pub explained : List ℕ → List Token → Refusal → List ℕ
-explained text tokens r = first_line r ++ shown text r.place ++ hint text tokens r
+abbrev pub explained : List ℕ → List Token → Option (ℕ × ℕ) → Refusal → List ℕ
+explained text tokens edges r =
+    first_line r ++ shown text r.place ++ hint text tokens r ++ edges_lines text tokens r.place edges
 
+-- The edges are two that may come in one slot, or none.
 pub record IsExplained (text : List ℕ) (r : Refusal) (bytes : List ℕ) : Type 0 where
   pub tokens : List Token
   pub used : UsesTokens text tokens
-  pub are : bytes ≡ explained text tokens r
+  pub edges : Option (ℕ × ℕ)
+  pub near : AreEdges text tokens r.place edges
+  pub are : bytes ≡ explained text tokens edges r

@@ -25,4 +25,5 @@ pub mod Clash
 pub mod Many
 pub mod Unknown
 pub mod OnlyUse
+pub mod Edge
 pub mod UseHint

@@ -1,14 +1,16 @@
 //! All that a person is told of a refusal.
 
 ghost use Rattle.std.specs.Prelude.{◌≡◌, ◌++◌, ◌<◌, ◌-◌, ◌^◌, length, IfOk, OnOk};
+ghost use Rattle.refusal_help.specs.Edge.{AreEdges};
 ghost use Rattle.refusal_help.specs.Explained.{IsExplained, UsesTokens, first_line};
 
+use crate::edge::{add_edges, edges_at};
 use crate::hint::add_hint;
 use crate::part::{Part, add_line};
 use crate::sentence::sentence;
 use crate::shown::add_shown;
-use scald_base::{Bytes, NoMemory, Refusal, Stop};
-use scald_lex::{TokenList, tokens};
+use scald_base::{Bytes, NoMemory, Refusal, RefusalKind, Stop};
+use scald_lex::{Token, TokenList, tokens};
 use std::alloc::Global;
 
 /// The tokens of a text, and none where it has no tokens.
@@ -38,6 +40,16 @@ fn add_first(out: &mut Bytes, refusal: Refusal) -> Result<(), NoMemory>
     )
 }
 
+/// The edges of the clock at the place that may come in one slot, where the refusal is for that.
+fn edges_of(text: &[u8], tokens: &[Token], refusal: Refusal) -> Option<(u64, u64)>
+    ensures { AreEdges text.now tokens.now refusal.place result }
+{
+    match refusal.kind {
+        RefusalKind::EdgesOverlap => edges_at(text, tokens, refusal.place),
+        _ => None,
+    }
+}
+
 /// What a person is told of a text that is refused so: the place and a sentence, the line of the text
 /// with a mark under the place, and what may help. The one error is that memory ran out.
 pub fn explain_refusal(alloc: Global, text: &[u8], refusal: Refusal) -> Result<Bytes, NoMemory>
@@ -49,5 +61,7 @@ pub fn explain_refusal(alloc: Global, text: &[u8], refusal: Refusal) -> Result<B
     add_first(&mut out, refusal)?;
     add_shown(&mut out, text, refusal.place)?;
     add_hint(&mut out, text, list.as_slice(), refusal)?;
+    let edges = edges_of(text, list.as_slice(), refusal);
+    add_edges(&mut out, text, list.as_slice(), refusal.place, edges)?;
     Ok(out)
 }

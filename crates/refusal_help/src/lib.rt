@@ -27,6 +27,7 @@ mod clash;
 mod count;
 mod deep;
 mod double;
+mod edge;
 mod hint;
 mod limit;
 mod many;
