@@ -10,7 +10,7 @@ use Rattle.refusal_help.specs.Tokens.{number_of, units_of}
 
 -- ---- the skew of a clock
 
--- no number of a skew is more than 4,095
+-- the two numbers of a statement of the header, and none where there is no statement
 abbrev pub skew_in : List Token → ℕ × ℕ
 skew_in (t ∷ u ∷ v ∷ w ∷ ts) = (number_of u.kind, number_of w.kind)
 skew_in tokens = (0, 0)
@@ -22,7 +22,7 @@ header_skew text tokens = skew_in (from_after text (codes ";") (codes "CSKEW") t
 abbrev pub clock_skew : List ℕ → List Token → List ℕ → ℕ × ℕ
 clock_skew text tokens name = unwrap_or (skew_of (units_of tokens) name) (header_skew text tokens)
 
--- how many ticks edges may be apart and meet
+-- how many ticks edges may be apart and still meet: no number of a skew is more than 4,095
 abbrev pub spread : ℕ × ℕ → ℕ
 spread skew = min skew.0 4095 + min skew.1 4095
 
@@ -43,7 +43,7 @@ name_of text (t ∷ ts) = unquoted (spelled text t)
 abbrev pub name_at : List ℕ → List Token → Place → List ℕ
 name_at text tokens place = name_of text (from_place place tokens)
 
--- two edges of it that may meet, where they were looked for
+-- none, or two of its edges that may meet
 abbrev pub AreEdges : List ℕ → List Token → Place → Option (ℕ × ℕ) → Type 0
 AreEdges text tokens place edges =
     IfSome edges (AreNear (units_of tokens) (name_at text tokens place) (reach text tokens (name_at text tokens place)))
