@@ -2,23 +2,35 @@
 
 ghost use Rattle.std.specs.Prelude.{◌≤◌};
 
-use crate::rows::{expect, expect_bytes, expect_eq};
-use crate::texts::words_of;
+use crate::rows::{expect, expect_eq, expect_text};
+use crate::texts::{Call, calls_of, expect_rows, words_of};
 use scald_base::{
-    Bytes, Calls, CountSink, MemorySink, MemorySource, NoMemory, Place, Refusal, RefusalKind,
-    SureSource,
+    Bytes, Calls, CountSink, MemorySink, MemorySource, NoMemory, Place, Refusal, RefusalKind, Sink,
+    Source, SureSource,
 };
 use scald_tool::{Outcome, tool_main};
 use std::alloc::Global;
 use std::process::Abort;
 
-const FIRST: &[u8] =
-    b"SCALD 1;\nCLOCK 8 x 50;\nDRAWING ROW;\nc1 : SETUP_HOLD_CHK {SETUP=20, HOLD=10} (\"CK .P2-3\", \"D .S1-4\");\nEND;\n";
+/// The first drawing, which has 106 bytes.
+const FIRST: &[u8] = br#"SCALD 1;
+CLOCK 8 x 50;
+DRAWING ROW;
+c1 : SETUP_HOLD_CHK {SETUP=20, HOLD=10} ("CK .P2-3", "D .S1-4");
+END;
+"#;
 
-const FIRST_REPORT: &[u8] =
-    b"SCALD 1 PERIOD 400\nNETS 2 INSTANCES 0 CHECKS 1\nCASE 0 BASE 0 ROUNDS 0 T 1\nWAVE CK<0> SKEW 0 0:100 R:1 1:49 F:1 0:249\nWAVE D<0> SKEW 0 C:51 S:149 C:200\nCLEAN\n";
+/// Its report, which has 157.
+const FIRST_REPORT: &[u8] = b"SCALD 1 PERIOD 400
+NETS 2 INSTANCES 0 CHECKS 1
+CASE 0 BASE 0 ROUNDS 0 T 1
+WAVE CK<0> SKEW 0 0:100 R:1 1:49 F:1 0:249
+WAVE D<0> SKEW 0 C:51 S:149 C:200
+CLEAN
+";
 
-/// How many bytes a device moves in a call, which of its calls fails, and how many bytes it has room for.
+/// How many bytes a device moves in a call, which of its calls fails, and how many bytes it has
+/// room for.
 #[derive(Clone, Copy)]
 struct Device {
     piece: u32,
@@ -40,19 +52,30 @@ struct End {
     taken: usize,
 }
 
-fn calls_of(alloc: Global, failing: Option<u32>) -> Result<Calls, NoMemory> {
-    let mut calls = Calls::new(alloc);
-    if let Some(number) = failing {
-        calls.push(number)?;
-    }
-    Ok(calls)
+/// A source of the first drawing.
+fn source_of(alloc: Global, from: Device) -> Result<MemorySource, NoMemory>
+    requires { 1 ≤ from.piece }
+{
+    let failing = calls_of(alloc, from.failing)?;
+    Ok(MemorySource::new(Bytes::of(alloc, FIRST)?, from.piece, failing))
 }
 
-/// The call to these words over the first drawing and these devices ends so, and writes a front of its report.
+/// What `tool_main` answers to a word.
+fn outcome_of<S: Source, K: Sink>(
+    alloc: Global,
+    word: &str,
+    source: &mut S,
+    sink: &mut K,
+) -> Result<Outcome, NoMemory> {
+    let words = words_of(alloc, word)?;
+    Ok(tool_main(alloc, &words, source, sink))
+}
+
+/// The call to verify the first drawing over these devices ends so, and writes a front of its
+/// report.
 fn ends(
     rt: &(impl Abort + AllocGlobal),
     name: &str,
-    words: &[&[u8]],
     from: Device,
     to: Device,
     wanted: End,
@@ -61,11 +84,9 @@ fn ends(
     requires to { 1 ≤ to.piece }
 {
     let alloc = rt.alloc();
-    let words = words_of(alloc, words)?;
-    let text = Bytes::of(alloc, FIRST)?;
-    let mut source = MemorySource::new(text, from.piece, calls_of(alloc, from.failing)?);
+    let mut source = source_of(alloc, from)?;
     let mut sink = MemorySink::new(alloc, to.room, to.piece, calls_of(alloc, to.failing)?)?;
-    let outcome = tool_main(alloc, &words, &mut source, &mut sink);
+    let outcome = outcome_of(alloc, "verify", &mut source, &mut sink)?;
     expect_eq(rt, name, &outcome, &wanted.outcome);
     expect_eq(rt, name, &source.left().len(), &wanted.left);
     expect_eq(rt, name, &sink.taken().len(), &wanted.taken);
@@ -87,7 +108,7 @@ fn devices(rt: HostRuntime) -> Result<(), NoMemory> {
             left: 106_usize.saturating_sub(16 * call as usize),
             taken: 0,
         };
-        ends(&rt, "a read fails", &[b"verify"], from, SURE, end)?;
+        ends(&rt, "a read fails", from, SURE, end)?;
     }
     for call in 0..5 {
         let to = Device {
@@ -100,7 +121,7 @@ fn devices(rt: HostRuntime) -> Result<(), NoMemory> {
             left: 0,
             taken: 32 * call as usize,
         };
-        ends(&rt, "a write fails", &[b"verify"], SURE, to, end)?;
+        ends(&rt, "a write fails", SURE, to, end)?;
     }
     Ok(())
 }
@@ -123,7 +144,7 @@ fn into_room(
         left: 0,
         taken,
     };
-    ends(rt, name, &[b"verify"], SURE, to, end)
+    ends(rt, name, SURE, to, end)
 }
 
 #[test]
@@ -132,61 +153,77 @@ fn a_sink_with_room(rt: HostRuntime) -> Result<(), NoMemory> {
     into_room(&rt, "too little room", 100, Outcome::WriteFault, 100)
 }
 
-/// The name of a row, unrecognised words, and the number of the first with which no form continues.
-type WordRow = (&'static str, &'static [&'static [u8]], u32);
-
-const WORDS: [WordRow; 14] = [
-    ("no word", &[], 0),
-    ("no such form", &[b"check"], 0),
-    ("no such form either", &[b"upgrades"], 0),
-    ("no such mode", &[b"verify", b"twice"], 1),
-    ("no round", &[b"verify", b"rounds=0"], 1),
-    ("a zero before the rounds", &[b"verify", b"rounds=05"], 1),
-    (
-        "a mode after the rounds",
-        &[b"verify", b"rounds=5", b"faults"],
-        2,
-    ),
-    ("two modes", &[b"verify", b"waves", b"faults"], 2),
-    (
-        "two modes around the rounds",
-        &[b"verify", b"waves", b"rounds=5", b"faults"],
-        3,
-    ),
-    ("a mode of another form", &[b"format", b"waves"], 1),
-    ("a word past `upgrade`", &[b"upgrade", b"2"], 1),
-    ("no sections", &[b"bench"], 1),
-    ("too many sections", &[b"bench", b"201"], 1),
-    ("a word past the last", &[b"bench", b"3", b"3"], 2),
-];
-
-/// Nothing is read for a row's words, and nothing is written.
-fn has_no_form(
-    rt: &(impl Abort + AllocGlobal),
-    (name, words, number): WordRow,
-) -> Result<(), NoMemory> {
-    let end = End {
-        outcome: Outcome::BadWords(number),
-        left: 106,
-        taken: 0,
-    };
-    ends(rt, name, words, SURE, SURE, end)
-}
+/// Unrecognised words, and the number of the first with which no form continues: nothing is read
+/// or written.
+const WORDS: &str = "
+#### no word
+words:
+drawing:
+answer: BadWords(0), unread
+#### no such form
+words: check
+drawing:
+answer: BadWords(0), unread
+#### no such form either
+words: upgrades
+drawing:
+answer: BadWords(0), unread
+#### no such mode
+words: verify twice
+drawing:
+answer: BadWords(1), unread
+#### no round
+words: verify rounds=0
+drawing:
+answer: BadWords(1), unread
+#### a zero before the rounds
+words: verify rounds=05
+drawing:
+answer: BadWords(1), unread
+#### a mode after the rounds
+words: verify rounds=5 faults
+drawing:
+answer: BadWords(2), unread
+#### two modes
+words: verify waves faults
+drawing:
+answer: BadWords(2), unread
+#### two modes around the rounds
+words: verify waves rounds=5 faults
+drawing:
+answer: BadWords(3), unread
+#### a mode of another form
+words: format waves
+drawing:
+answer: BadWords(1), unread
+#### a word past `upgrade`
+words: upgrade 2
+drawing:
+answer: BadWords(1), unread
+#### no sections
+words: bench
+drawing:
+answer: BadWords(1), unread
+#### too many sections
+words: bench 201
+drawing:
+answer: BadWords(1), unread
+#### a word past the last
+words: bench 3 3
+drawing:
+answer: BadWords(2), unread
+";
 
 #[test]
 fn words_of_no_form(rt: HostRuntime) -> Result<(), NoMemory> {
-    for row in &WORDS {
-        has_no_form(&rt, *row)?;
-    }
-    Ok(())
+    expect_rows(&rt, Call::Tool, WORDS)
 }
 
 #[test]
 fn devices_that_never_fail(rt: HostRuntime) -> Result<(), NoMemory> {
-    let words = words_of(rt.alloc(), &[b"verify"])?;
     let mut source = SureSource::new(Bytes::of(rt.alloc(), FIRST)?);
     let mut sink = CountSink::new();
-    let outcome = tool_main(rt.alloc(), &words, &mut source, &mut sink);
+    let outcome = outcome_of(rt.alloc(), "verify", &mut source, &mut sink)?;
     expect_eq(&rt, "the outcome", &outcome, &Outcome::Clean);
     expect_eq(&rt, "the bytes written", &sink.length(), &157);
     expect_eq(&rt, "the bytes left", &source.left().len(), &0);
@@ -209,18 +246,17 @@ fn spaces(alloc: Global, pieces: usize, more: usize) -> Result<Bytes, NoMemory> 
 fn is_at_limit(
     rt: &(impl Abort + AllocGlobal),
     name: &str,
-    word: &[u8],
+    word: &str,
     more: usize,
     wanted: Outcome,
-    bytes: &[u8],
+    bytes: &str,
 ) -> Result<(), NoMemory> {
     let alloc = rt.alloc();
-    let words = words_of(alloc, &[word])?;
     let mut source = SureSource::new(spaces(alloc, 1024, more)?);
     let mut sink = MemorySink::new(alloc, 4096, 4096, Calls::new(alloc))?;
-    let outcome = tool_main(alloc, &words, &mut source, &mut sink);
+    let outcome = outcome_of(alloc, word, &mut source, &mut sink)?;
     expect_eq(rt, name, &outcome, &wanted);
-    expect_bytes(rt, name, sink.taken(), bytes);
+    expect_text(rt, name, sink.taken(), bytes);
     expect_eq(rt, name, &source.left().len(), &0);
     Ok(())
 }
@@ -234,15 +270,9 @@ fn bytes_at_the_limit(rt: HostRuntime) -> Result<(), NoMemory> {
     };
     let kind = RefusalKind::Syntax;
     let refused = Outcome::Refused(Refusal { kind, place });
-    let line = b"REFUSED 3 Syntax 1:4194305\n";
-    is_at_limit(&rt, "the most bytes", b"verify", 0, refused, line)?;
-    is_at_limit(&rt, "one more", b"verify", 1, Outcome::TooLong, b"")?;
-    is_at_limit(
-        &rt,
-        "one more, to format",
-        b"format",
-        1,
-        Outcome::TooLong,
-        b"",
-    )
+    let line = "REFUSED 3 Syntax 1:4194305\n";
+    let long = Outcome::TooLong;
+    is_at_limit(&rt, "the most bytes", "verify", 0, refused, line)?;
+    is_at_limit(&rt, "one more", "verify", 1, long, "")?;
+    is_at_limit(&rt, "one more, to format", "format", 1, long, "")
 }

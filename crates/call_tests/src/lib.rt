@@ -1,14 +1,16 @@
-//! What is tested of the whole calls: words, devices that fail or fill up, and texts that are cut short,
-//! formatted, or verified by both kinds of waves; the margins and the chains of texts; sections; and runs
-//! that are made and judged. Each row has what comes in, and the outcome and the bytes that go out as they
-//! were worked out on paper.
+//! What is tested of the whole calls: words, devices that fail or fill up, and texts that are cut
+//! short, formatted, or verified by both kinds of waves; the margins and the chains of texts;
+//! sections; and runs that are made and judged. Each row has what comes in, and the outcome and
+//! the bytes that go out as they were worked out on paper.
 //!
-//! The crate has tests alone, and nothing stands on it.
+//! The crate has tests alone, and nothing stands on it. `tables` has how a table of rows is read.
 #![tactic(auto)]
 
-// how a row is run and judged
+// how a row is read, run and judged
 #[cfg(test)]
 mod rows;
+#[cfg(test)]
+mod tables;
 #[cfg(test)]
 mod texts;
 

@@ -14,10 +14,13 @@ pub fn expect_eq<T: PartialEq + Debug>(rt: &impl Abort, name: &str, came: &T, wa
     }
 }
 
-/// The bytes that came are those that were wanted.
-pub fn expect_bytes(rt: &impl Abort, name: &str, came: &[u8], want: &[u8]) {
-    if *came != *want {
-        rt.panic(format_args!("{name}: {came:?}, not {want:?}"))
+/// The bytes that came are those of the text that was wanted.
+pub fn expect_text(rt: &impl Abort, name: &str, came: &[u8], want: &str) {
+    if *came != *want.as_bytes() {
+        match str::from_utf8(came) {
+            Ok(text) => rt.panic(format_args!("{name}: this came:\n{text}\nin place of:\n{want}")),
+            Err(_) => rt.panic(format_args!("{name}: {came:?}, not {want}")),
+        }
     }
 }
 

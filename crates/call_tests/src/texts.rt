@@ -1,74 +1,105 @@
-//! How the rows are run: words and texts in pieces, over devices in memory.
+//! How the rows are run: words and texts, over devices in memory.
 
-use crate::rows::{expect_bytes, expect_eq};
+use crate::rows::{expect, expect_text};
+use crate::tables::{row_of, write_text};
+use fault_chain::chain_main;
+use margin_report::margin_main;
 use scald_base::{Bytes, Calls, MemorySink, MemorySource, NoMemory};
-use scald_tool::{Outcome, Words, tool_main};
+use scald_tool::{Words, tool_main};
+use section_compose::sections_main;
 use std::alloc::Global;
+use std::fmt::Debug;
 use std::process::Abort;
+use trace_tool::trace_main;
 
-/// The first three lines of a drawing in a period of 8 units of 50 ticks.
-pub const FRAME: &[u8] = b"SCALD 1;\nCLOCK 8 x 50;\nDRAWING ROW;\n";
+/// The main calls.
+#[derive(Clone, Copy)]
+pub enum Call {
+    Tool,
+    Margins,
+    Chains,
+    Sections,
+    Traces,
+}
 
-/// The first two of them, where macros stand before the drawing.
-pub const HEAD: &[u8] = b"SCALD 1;\nCLOCK 8 x 50;\n";
-
-/// The same two frames in version 2 of the language.
-pub const FRAME_2: &[u8] = b"SCALD 2;\nCLOCK 8 x 50;\nDRAWING ROW;\n";
-
-pub const HEAD_2: &[u8] = b"SCALD 2;\nCLOCK 8 x 50;\n";
-
-/// The end of a drawing's last line, and its END.
-pub const END: &[u8] = b"\nEND;\n";
-
-pub fn words_of(alloc: Global, texts: &[&[u8]]) -> Result<Words, NoMemory> {
+/// The words that have blanks between them.
+pub fn words_of(alloc: Global, text: &str) -> Result<Words, NoMemory> {
     let mut words = Words::new(alloc);
-    for text in texts {
-        words.push(Bytes::of(alloc, text)?)?;
+    for word in text.split_whitespace() {
+        words.push(Bytes::of(alloc, word.as_bytes())?)?;
     }
     Ok(words)
 }
 
-pub fn text_of(alloc: Global, pieces: &[&[u8]]) -> Result<Bytes, NoMemory> {
-    let mut text = Bytes::new(alloc);
-    for piece in pieces {
-        text.extend(piece)?;
+/// The calls of a device that fail: this one, or none.
+pub fn calls_of(alloc: Global, failing: Option<u32>) -> Result<Calls, NoMemory> {
+    let mut calls = Calls::new(alloc);
+    if let Some(number) = failing {
+        calls.push(number)?;
     }
-    Ok(text)
+    Ok(calls)
 }
 
-/// A name, the words, the pieces of a text, the outcome, and what is written.
-#[derive(Clone, Copy)]
-pub struct Row {
-    pub name: &'static str,
-    pub words: &'static [&'static [u8]],
-    pub text: &'static [&'static [u8]],
-    pub outcome: Outcome,
-    pub bytes: &'static [u8],
+fn debug_of(alloc: Global, outcome: impl Debug + Drop) -> Result<String, NoMemory> {
+    Ok(format!(in alloc; "{outcome:?}")?)
 }
 
-/// Looks at the answer of each row.
-pub fn expect_answers(rt: &(impl Abort + AllocGlobal), rows: &[Row]) -> Result<(), NoMemory> {
-    for row in rows {
-        answers(rt, row.name, row.words, row.text, row.outcome, row.bytes)?;
+/// The outcome of a call to these words over these devices, as `Debug` writes it.
+pub fn outcome_of(
+    alloc: Global,
+    call: Call,
+    words: &str,
+    source: &mut MemorySource,
+    sink: &mut MemorySink,
+) -> Result<String, NoMemory> {
+    let words = words_of(alloc, words)?;
+    match call {
+        Call::Tool => debug_of(alloc, tool_main(alloc, &words, source, sink)),
+        Call::Margins => debug_of(alloc, margin_main(alloc, &words, source, sink)),
+        Call::Chains => debug_of(alloc, chain_main(alloc, &words, source, sink)),
+        Call::Sections => debug_of(alloc, sections_main(alloc, &words, source, sink)),
+        Call::Traces => debug_of(alloc, trace_main(alloc, &words, source, sink)),
     }
+}
+
+/// The call to these words and this text has this outcome, and writes exactly these bytes. It reads
+/// the whole text, or where the outcome says `unread` nothing of it.
+pub fn answers(
+    rt: &(impl Abort + AllocGlobal),
+    call: Call,
+    name: &str,
+    words: &str,
+    text: &[u8],
+    (outcome, bytes): (&str, &str),
+) -> Result<(), NoMemory> {
+    let alloc = rt.alloc();
+    let mut source = MemorySource::new(Bytes::of(alloc, text)?, 4096, Calls::new(alloc));
+    let mut sink = MemorySink::new(alloc, 262_144, 4096, Calls::new(alloc))?;
+    let came = outcome_of(alloc, call, words, &mut source, &mut sink)?;
+    let (wanted, left) = match outcome.strip_suffix(", unread") {
+        Some(wanted) => (wanted, text.len()),
+        None => (outcome, 0),
+    };
+    expect_text(rt, name, came.as_bytes(), wanted);
+    expect_text(rt, name, sink.taken(), bytes);
+    expect(rt, name, source.left().len() == left);
     Ok(())
 }
 
-/// The call to these words and to the text in these pieces has this outcome, and writes exactly these bytes.
-pub fn answers(
+/// Looks at the answers of each row of a table.
+pub fn expect_rows(
     rt: &(impl Abort + AllocGlobal),
-    name: &str,
-    words: &[&[u8]],
-    text: &[&[u8]],
-    outcome: Outcome,
-    bytes: &[u8],
+    call: Call,
+    table: &str,
 ) -> Result<(), NoMemory> {
-    let alloc = rt.alloc();
-    let words = words_of(alloc, words)?;
-    let mut source = MemorySource::new(text_of(alloc, text)?, 4096, Calls::new(alloc));
-    let mut sink = MemorySink::new(alloc, 4096, 4096, Calls::new(alloc))?;
-    let answer = tool_main(alloc, &words, &mut source, &mut sink);
-    expect_eq(rt, name, &answer, &outcome);
-    expect_bytes(rt, name, sink.taken(), bytes);
+    for piece in table.split("#### ").skip(1) {
+        let row = row_of(rt, piece);
+        let mut text = Bytes::new(rt.alloc());
+        write_text(row, &mut text)?;
+        for words in row.words.split("|") {
+            let answer = (row.outcome, row.bytes);
+            answers(rt, call, row.name, words, text.as_slice(), answer)?;
+        }
+    }
     Ok(())
 }
