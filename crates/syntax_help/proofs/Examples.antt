@@ -1,0 +1,59 @@
+-- The tokens that are tried are one of each kind that the grammar tells apart; texts with them, and
+-- what is said, worked out on paper.
+use Rattle.std.proofs.Common.{◌≡◌, ℕ, List, [], ◌∷◌, map, refl}
+use Rattle.std.specs.Prelude.{codes}
+use Rattle.drawing_grammar.specs.Lexeme.{symbol_terminal, word_terminal}
+use Rattle.drawing_grammar.specs.declared.terminal.Terminal.{Terminal}
+use Rattle.drawing_grammar.specs.declared.terminal.Terminal.TheVariants as grammar
+use Rattle.syntax_help.specs.declared.sample.Sample.TheVariants.{Word, Scald, Clock, Wire, Pskew, Cskew, Macro, Drawing, Case, If, Then, Else, End, Zero, One, Const, To, Do, Ticks, Hazard, Arrow, Semicolon, Colon, Comma, OpenParenthesis, CloseParenthesis, Less, Greater, OpenBracket, CloseBracket, OpenBrace, CloseBrace, Equals, Plus, Minus, Star, Slash, Ampersand, Exclamation}
+use Rattle.syntax_help.specs.Sample.{spelling}
+use Rattle.syntax_help.specs.Told.{expected_line}
+use Rattle.syntax_help.specs.Trial.{next_line, trial}
+
+-- the words
+reserved : map word_terminal (map spelling
+    (Scald ∷ Clock ∷ Wire ∷ Pskew ∷ Cskew ∷ Macro ∷ Drawing ∷ Case ∷ If ∷ Then ∷ Else ∷ End ∷ Zero ∷ One ∷ []))
+    ≡ grammar.Scald ∷ grammar.Clock ∷ grammar.Wire ∷ grammar.Pskew ∷ grammar.Cskew ∷ grammar.Macro ∷ grammar.Drawing
+    ∷ grammar.Case ∷ grammar.If ∷ grammar.Then ∷ grammar.Else ∷ grammar.End ∷ grammar.Zero ∷ grammar.One ∷ []
+unfolding word_terminal
+reserved = refl
+
+others : map word_terminal (map spelling (Word ∷ Const ∷ To ∷ Do ∷ Ticks ∷ Hazard ∷ []))
+    ≡ grammar.Word ∷ grammar.Word ∷ grammar.Word ∷ grammar.Word ∷ grammar.Word ∷ grammar.Word ∷ []
+unfolding word_terminal
+others = refl
+
+-- the symbols
+by_byte : List ℕ → Terminal
+by_byte [] = grammar.EndOfText
+by_byte (b ∷ bs) = symbol_terminal b
+
+symbols : map by_byte (map spelling
+    (Semicolon ∷ Colon ∷ Comma ∷ OpenParenthesis ∷ CloseParenthesis ∷ Less ∷ Greater ∷ OpenBracket ∷ CloseBracket
+    ∷ OpenBrace ∷ CloseBrace ∷ Equals ∷ Plus ∷ Minus ∷ Star ∷ Slash ∷ Ampersand ∷ Exclamation ∷ []))
+    ≡ grammar.Semicolon ∷ grammar.Colon ∷ grammar.Comma ∷ grammar.OpenParenthesis ∷ grammar.CloseParenthesis
+    ∷ grammar.Less ∷ grammar.Greater ∷ grammar.OpenBracket ∷ grammar.CloseBracket ∷ grammar.OpenBrace
+    ∷ grammar.CloseBrace ∷ grammar.Equals ∷ grammar.Plus ∷ grammar.Minus ∷ grammar.Star ∷ grammar.Slash
+    ∷ grammar.Ampersand ∷ grammar.Exclamation ∷ []
+unfolding by_byte symbol_terminal
+symbols = refl
+
+-- texts, and the places of their tokens
+clock_tried : trial (codes "SCALD 1;") (codes "CLOCK") ≡ codes "SCALD 1;\nCLOCK"
+clock_tried = refl
+
+end_tried : trial (codes "SCALD 1;") [] ≡ codes "SCALD 1;\n"
+end_tried = refl
+
+after_fourth : next_line (record { line = 4; col = 22 }) ≡ record { line = 5; col = 1 }
+after_fourth = refl
+
+after_last : next_line (record { line = 4294967295; col = 22 }) ≡ record { line = 4294967295; col = 1 }
+after_last = refl
+
+-- what is said
+two : expected_line (Arrow ∷ Semicolon ∷ []) ≡ codes "    what may stand here: -> ;\n"
+two = refl
+
+none : expected_line [] ≡ codes "    what may stand here:\n"
+none = refl

@@ -1,0 +1,4 @@
+pub mod Sample
+pub mod Trial
+pub mod Expected
+pub mod Told
