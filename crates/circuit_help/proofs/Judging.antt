@@ -1,0 +1,39 @@
+-- Whether a text is refused at a place, by its one refusal or by its circuit.
+use Rattle.std.proofs.Common.{◌≡◌, ℕ, Bool, true, false, List, [], ◌++◌, ap, sym, subst, ◌∙◌}
+use Rattle.scald_base.specs.declared.refusal.Place.{Place}
+use Rattle.scald_base.specs.declared.refusal.Refusal.{Refusal}
+use Rattle.scald_lex.specs.declared.token.Token.{Token}
+use Rattle.flat_circuit.specs.declared.case.CaseValue.{CaseValue}
+use Rattle.flat_circuit.specs.Circuit.{Circuit}
+use Rattle.drawn_circuit.specs.Drawn.{DrawsCircuit, IsTextRefused}
+use Rattle.drawn_circuit.specs.Laws.{NotBoth, OneRefusal}
+use Rattle.refusal_help.specs.Statement.{spelled}
+use Rattle.circuit_help.specs.Reached.{IsRefusedAt, IsTold, Says, cut_text, nothing, reached, reached_line}
+use Rattle.circuit_help.specs.Rule.{is_at}
+
+pub drawn_is_not : (text : List ℕ) (place : Place) (c : Circuit) (cases : List (List CaseValue)) → NotBoth →
+    DrawsCircuit text c cases → ¬ IsRefusedAt text place
+drawn_is_not text place c cases law drawn = λ at. law text at.refusal c cases at.refused drawn
+
+pub refused_is : (text : List ℕ) (place : Place) (r : Refusal) (b : Bool) → OneRefusal → IsTextRefused text r →
+    b ≡ is_at r.place place → Says (IsRefusedAt text place) b
+refused_is text place r true law is e = record { refusal = r; refused = is; there = sym e }
+refused_is text place r false law is e = λ at.
+    let same : at.refusal ≡ r = law text at.refusal r at.refused is in
+    let there : is_at at.refusal.place place ≡ is_at r.place place =
+    ap (λ (s : Refusal). is_at s.place place) same in
+    absurd (let f : false ≡ true = e ∙ sym there ∙ at.there in cc)
+
+pub reached_told : (text : List ℕ) (place : Place) (t : Token) (end : ℕ) (with without : Bool)
+    (old new : List ℕ) → Says (IsRefusedAt (cut_text text end) place) with →
+    Says (IsRefusedAt (cut_text text t.start) place) without → with ≡ true → without ≡ false → old ≡ [] →
+    new ≡ old ++ reached_line (spelled text t) t.place → IsTold text place new
+reached_told text place t end true false old new is is_not e f none put =
+    let whole : new ≡ reached_line (spelled text t) t.place =
+    put ∙ ap (λ (l : List ℕ). l ++ reached_line (spelled text t) t.place) none in
+    subst (IsTold text place) (sym whole) (reached t end is is_not)
+reached_told text place t end false without old new is is_not e f none put = absurd (let g : false ≡ true = e in cc)
+reached_told text place t end true true old new is is_not e f none put = absurd (let g : true ≡ false = f in cc)
+
+pub none_reached : (text : List ℕ) (place : Place) (bytes : List ℕ) → bytes ≡ [] → IsTold text place bytes
+none_reached text place bytes none = subst (IsTold text place) (sym none) nothing

@@ -1,0 +1,74 @@
+-- Which net an output drives that is driven before. A checker in place of the use shows it, since
+-- the use's outputs are then the checker's input.
+use Rattle.std.specs.Prelude.{◌≡◌, ℕ, true, List, [], ◌∷◌, ◌++◌, slice_get, codes, Option, Some, None}
+use Rattle.scald_base.specs.declared.refusal.Place.{Place}
+use Rattle.scald_lex.specs.declared.token.Token.{Token}
+use Rattle.scald_lex.specs.Tokens.{AreTokens}
+use Rattle.vector_names.specs.declared.bits.Target.{Target}
+use Rattle.vector_names.specs.declared.bits.Target.TheVariants.{Net as OnNet, Constant}
+use Rattle.flat_circuit.specs.declared.case.CaseValue.{CaseValue}
+use Rattle.flat_circuit.specs.declared.instance.Instance.{Instance}
+use Rattle.flat_circuit.specs.declared.instance.Pin.{Pin}
+use Rattle.flat_circuit.specs.Circuit.{Circuit, driver}
+use Rattle.drawn_circuit.specs.Drawn.{DrawsCircuit}
+use Rattle.refusal_help.specs.Count.{after_arrow}
+use Rattle.refusal_help.specs.Statement.{from_place}
+use Rattle.circuit_help.specs.Lines.{driven_line}
+use Rattle.circuit_help.specs.Made.{overwritten}
+use Rattle.circuit_help.specs.Rule.{is_at}
+
+-- ---- the text with a checker
+
+abbrev pub cuts_by : Token → List Token → Option (ℕ × ℕ)
+cuts_by kind [] = None
+cuts_by kind (outputs ∷ ts) = Some (kind.start, outputs.start)
+
+-- where the kind of a use begins, and where its outputs do
+abbrev pub cuts : List Token → Option (ℕ × ℕ)
+cuts (t ∷ u ∷ kind ∷ ts) = cuts_by kind (after_arrow (t ∷ u ∷ kind ∷ ts))
+cuts tokens = None
+
+-- A checker stands in place of the kind, the delay and the inputs of a use.
+abbrev pub as_checker : List ℕ → ℕ → ℕ → List ℕ
+as_checker text kind outputs = overwritten text (codes "MIN_PULSE_CHK") kind outputs
+
+-- ---- what its pins are on
+
+abbrev pub where_driven : Target → Option Instance → Option Target
+where_driven target None = None
+where_driven target (Some j) = Some target
+
+-- a net that something drives, or a constant
+abbrev pub driven_target : Circuit → Target → Option Target
+driven_target c (OnNet net) = where_driven (OnNet net) (driver c net)
+driven_target c (Constant one) = Some (Constant one)
+
+abbrev pub pin_target : Circuit → List Pin → Option Target
+pin_target c [] = None
+pin_target c (pin ∷ pins) = driven_target c pin.target
+
+-- An instance of the statement at the place has its first pin on this, and it is driven.
+pub record IsOutput (c : Circuit) (place : Place) (target : Target) : Type 0 where
+  pub number : ℕ
+  pub element : Instance
+  pub is : slice_get c.instances number ≡ Some element
+  pub there : is_at element.place place ≡ true
+  pub on : pin_target c element.pins ≡ Some target
+
+-- ---- what is said
+
+abbrev pub output_lines : Circuit → Target → List ℕ
+output_lines c (OnNet net) = codes "    it is driven before:\n" ++ driven_line c net
+output_lines c (Constant one) = codes "    nothing may drive ZERO or ONE\n"
+
+-- by the circuit of a text with a checker at the place
+pub data IsToldBy (made : List ℕ) (place : Place) : List ℕ → Type 0 where
+  nothing : IsToldBy made place []
+  told : (c : Circuit) (cases : List (List CaseValue)) (target : Target) →
+      DrawsCircuit made c cases → IsOutput c place target → IsToldBy made place (output_lines c target)
+
+pub data IsTold (text : List ℕ) (place : Place) : List ℕ → Type 0 where
+  untold : IsTold text place []
+  by_circuit : (tokens : List Token) (kind outputs : ℕ) (bytes : List ℕ) → AreTokens text tokens →
+      cuts (from_place place tokens) ≡ Some (kind, outputs) →
+      IsToldBy (as_checker text kind outputs) place bytes → IsTold text place bytes

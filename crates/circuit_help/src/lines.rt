@@ -1,0 +1,62 @@
+//! Lines on nets.
+
+ghost use Rattle.std.specs.Prelude.{◌≡◌, ◌++◌, OnOk};
+ghost use Rattle.std.specs.List.{flat_map};
+ghost use Rattle.circuit_help.specs.Lines.{driven_line, nets_lines};
+
+use flat_circuit::Circuit;
+use listing::{Piece, add_line, net_piece};
+use scald_base::{Bytes, NoMemory};
+
+/// The most nets that are named.
+const MOST_NAMED: usize = 8;
+
+/// A net, and where the statement of its driver stands.
+pub fn add_driven(out: &mut Bytes, c: &Circuit, net: u32) -> Result<(), NoMemory>
+    ensures { OnOk result (out.new ≡ out.old ++ driven_line c.now net) }
+{
+    match c.driver_of(net) {
+        Some(element) => add_line(
+            out,
+            &[
+                Piece::Text(b"        "),
+                net_piece(c, net),
+                Piece::Text(b" is driven at "),
+                Piece::Number(u64::from(element.place.line)),
+                Piece::Byte(b':'),
+                Piece::Number(u64::from(element.place.col)),
+                Piece::Text(b" by "),
+                Piece::Bit(element.path.as_slice(), element.bit),
+            ],
+        ),
+        None => add_line(
+            out,
+            &[
+                Piece::Text(b"        "),
+                net_piece(c, net),
+                Piece::Text(b" is not driven"),
+            ],
+        ),
+    }
+}
+
+/// These nets.
+fn add_each(out: &mut Bytes, c: &Circuit, nets: &[u32]) -> Result<(), NoMemory>
+    ensures { OnOk result (out.new ≡ out.old ++ flat_map (driven_line c.now) nets.now) }
+{
+    'nets: for net in nets {
+        add_driven(out, c, *net)?;
+    }
+    Ok(())
+}
+
+/// The first of these nets, and whether there are more.
+pub fn add_nets(out: &mut Bytes, c: &Circuit, nets: &[u32]) -> Result<(), NoMemory>
+    ensures { OnOk result (out.new ≡ out.old ++ nets_lines c.now nets.now) }
+{
+    add_each(out, c, &nets[..nets.len().min(MOST_NAMED)])?;
+    if nets.len() > MOST_NAMED {
+        out.extend(b"        and so on\n")?;
+    }
+    Ok(())
+}
