@@ -340,7 +340,14 @@ done
 status=$?
 : >"$work/out"
 says "a loop that does not settle" 3 \
-    'scald: the net that is named still changes after the last round; unless rounds=N was asked for, a loop leads to it' "$status"
+    'scald: the net that is named still changes after the last round; unless rounds=N was asked for, a loop leads to it
+    it is in a loop, each net of which comes from the next:
+        X<1> is driven at 9:3 by pass<0>
+        X<0> is driven at 8:3 by gate<0>
+        X<4> is driven at 9:3 by pass<3>
+        X<3> is driven at 9:3 by pass<2>
+        X<2> is driven at 9:3 by pass<1>
+        X<1> is driven at 9:3 by pass<0>' "$status"
 
 # --- runs
 

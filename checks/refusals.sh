@@ -171,28 +171,37 @@ early '2 BadToken 4:4' 'b1 _: BUF [0:1] ("A") -> ("X");'
 
 # --- grammar
 printf '' | refused '3 Syntax 1:1'
-helps '    the end of the text cannot come first'
+helps '    the end of the text cannot come first' \
+    '    what may stand here: SCALD'
 text '3 Syntax 2:1' 'SCALD 1;' 'clock 8 x 50;'
 helps "    'clock' cannot come after ';'" \
-    '    is CLOCK meant?'
+    '    is CLOCK meant?' \
+    '    what may stand here: CLOCK'
 text '3 Syntax 2:9' 'SCALD 1;' 'CLOCK 8 x50;'
 text '3 Syntax 3:1' 'SCALD 1;' 'CLOCK 8 x 50;'
-helps "    the end of the text cannot come after ';'"
+helps "    the end of the text cannot come after ';'" \
+    '    what may stand here: WIRE PSKEW CSKEW MACRO DRAWING'
 text '3 Syntax 1:9' 'SCALD 1;;'
-helps "    ';' cannot come after ';'"
+helps "    ';' cannot come after ';'" \
+    '    what may stand here: CLOCK'
 early '3 Syntax 4:9' 'a:B()->();'
-helps "    ')' cannot come after '('"
+helps "    ')' cannot come after '('" \
+    '    what may stand here: "name" ZERO ONE -'
 early '3 Syntax 4:4' 'IF : BUF [0:0] ("A") -> ("X");'
 helps "    ':' cannot come after 'IF'" \
-    '    IF is reserved: it is no label, kind, macro, parameter, constant or variable'
+    '    IF is reserved: it is no label, kind, macro, parameter, constant or variable' \
+    '    what may stand here: word number ( -'
 early '3 Syntax 4:4' 'if 1 THEN' 'END;'
 helps "    '1' cannot come after 'if'" \
-    '    is IF meant?'
+    '    is IF meant?' \
+    '    what may stand here: :'
 early '3 Syntax 4:22' 'b1 : BUF [0:0] ("A") ("X");'
-helps "    '(' cannot come after ')'"
+helps "    '(' cannot come after ')'" \
+    '    what may stand here: -> ;'
 early '3 Syntax 5:1' 'b1 : BUF [0:0] ("A") -> ("X")' 'b2 : BUF [0:0] ("X") -> ("Y");'
 helps "    'b2' cannot come after ')'" \
-    "    is a ; missing after ')'?"
+    "    is a ; missing after ')'?" \
+    '    what may stand here: ;'
 early '3 Syntax 4:11' 'b1 : BUF [ONE:1] ("A") -> ("X");'
 early '15 TooDeep 4:75' "b1 : BUF [$(many 65 '(')0$(many 65 ')'):0] (\"A\") -> (\"X\");"
 helps '    at most 64 parentheses and minus signs of an expression may be open at once, and this is one more'
@@ -324,16 +333,19 @@ helps "    '\"A\"' stands first at 3:10"
 # --- version 2
 early '3 Syntax 4:5' 'FOR I = 0 TO 1 DO' 'END;'
 helps "    'I' cannot come after 'FOR'" \
-    '    FOR and CONST are of version 2, in texts that begin with SCALD 2'
+    '    FOR and CONST are of version 2, in texts that begin with SCALD 2' \
+    '    what may stand here: :'
 text '3 Syntax 3:1' 'SCALD 1;' 'CLOCK 8 x 50;' 'CONST N = 4;' 'DRAWING ROW;' 'END;'
 helps "    'CONST' cannot come after ';'" \
-    '    FOR and CONST are of version 2, in texts that begin with SCALD 2'
+    '    FOR and CONST are of version 2, in texts that begin with SCALD 2' \
+    '    what may stand here: WIRE PSKEW CSKEW MACRO DRAWING'
 text '3 Syntax 3:1' 'SCALD 3;' 'CLOCK 8 x 50;' 'CONST N = 4;' 'DRAWING ROW;' 'END;'
 second '3 Syntax 5:1' 'MACRO M ();' 'END;' 'CONST N = 4;' 'DRAWING ROW;' 'END;'
 second '3 Syntax 4:7' 'DRAWING ROW;' 'CONST N = 4;' 'END;'
 second '3 Syntax 3:7' 'CONST IF = 4;' 'DRAWING ROW;' 'END;'
 helps "    'IF' cannot come after 'CONST'" \
-    '    IF is reserved: it is no label, kind, macro, parameter, constant or variable'
+    '    IF is reserved: it is no label, kind, macro, parameter, constant or variable' \
+    '    what may stand here: word'
 second '3 Syntax 3:9' 'CONST N : 4;' 'DRAWING ROW;' 'END;'
 second '3 Syntax 3:13' 'CONST N = 4 = 4;' 'DRAWING ROW;' 'END;'
 second '15 TooDeep 3:140' "CONST N = 0$(many 65 '+1');" 'DRAWING ROW;' 'END;'
@@ -343,6 +355,8 @@ second '3 Syntax 4:7' 'DRAWING ROW;' 'FOR I : BUF [0:0] ("A") -> ("X");' 'END;'
 second '3 Syntax 4:11' 'DRAWING ROW;' 'FOR : FOR = 0 TO 1 DO' 'END;' 'END;'
 second '3 Syntax 4:11' 'DRAWING ROW;' 'FOR I = 0 = 1 TO 1 DO' 'END;' 'END;'
 second '3 Syntax 4:11' 'DRAWING ROW;' 'FOR I = 0 1 DO' 'END;' 'END;'
+helps "    '1' cannot come after '0'" \
+    '    what may stand here: TO + - * /'
 second '3 Syntax 4:11' 'DRAWING ROW;' 'FOR I = 0 DO' 'END;' 'END;'
 second '3 Syntax 4:16' 'DRAWING ROW;' 'FOR I = 0 TO 1 THEN' 'END;' 'END;'
 second '3 Syntax 4:19' 'DRAWING ROW;' 'FOR I = 0 TO 1 DO ELSE' 'END;' 'END;'
@@ -446,7 +460,7 @@ drawing '22 UnknownName 4:1' 'c1 : SETUP_HOLD_CHK {SETUP=1, HOLD=SETUP} ("CK", "
 unknown "    'SETUP' is none of these"
 macro unexpanded '22 UnknownName 4:1' 'MACRO M {N=1} ("A") -> ("Z");' 'b1 : BUF [N:N+K] ("A") -> ("Z");' 'END;' 'DRAWING ROW;' \
     'u : M ("A") -> ("X");' 'END;'
-unknown "    'K' is none of these"
+unknown "    'K' is none of these" '    it is reached by u at 7:1'
 expanded '22 UnknownName 3:1' 'CONST N = M;' 'CONST M = 1;' 'DRAWING ROW;' 'END;'
 unknown "    'M' is none of these"
 expanded '22 UnknownName 5:1' 'CONST N = 1;' 'DRAWING ROW;' 'FOR I = N TO K DO' 'END;' 'END;'
@@ -470,10 +484,16 @@ helps '    BUF takes a delay [a:b], 0 <= a <= b <= 4095, or two, [r:R, f:F], eac
 macro unexpanded '14 Bounds 4:1' 'MACRO M {N=1} ("A") -> ("Z");' 'b1 : BUF [N:3] ("A") -> ("Z");' 'END;' 'DRAWING ROW;' \
     'u1 : M {N=5} ("A") -> ("X");' 'END;'
 helps '    BUF takes a delay [a:b], 0 <= a <= b <= 4095, or two, [r:R, f:F], each at most 255' \
-    "    'M' is used at 7:1 alone:" '    u1 : M {N=5} ("A") -> ("X");' '    ^'
+    "    'M' is used at 7:1 alone:" '    u1 : M {N=5} ("A") -> ("X");' '    ^' \
+    '    it is reached by u1 at 7:1'
 macro unexpanded '14 Bounds 4:1' 'MACRO M {N=1} ("A") -> ("Z");' 'b1 : BUF [N:3] ("A") -> ("Z");' 'END;' 'DRAWING ROW;' \
-    'u1 : M {N=1} ("A") -> ("X");' 'u2 : M {N=5} ("A") -> ("Y");' 'END;'
-helps '    BUF takes a delay [a:b], 0 <= a <= b <= 4095, or two, [r:R, f:F], each at most 255'
+    'u1 : M {N=1} ("A") -> ("X");' 'u2 : M {N=5} ("A") -> ("Y");' 'u3 : M {N=6} ("A") -> ("V");' 'END;'
+helps '    BUF takes a delay [a:b], 0 <= a <= b <= 4095, or two, [r:R, f:F], each at most 255' \
+    '    it is reached by u2 at 8:1'
+macro unexpanded '14 Bounds 4:1' 'MACRO M {N=1} ("A") -> ("Z");' 'b1 : BUF [N:3] ("A") -> ("Z");' 'END;' 'DRAWING ROW;' \
+    'u1 : M {N=1} ("A") -> ("X");' 'IF 1 THEN' 'u2 : M {N=5} ("A") -> ("Y");' 'ELSE' 'END;' 'WIRE "A" 0:1;' 'END;'
+helps '    BUF takes a delay [a:b], 0 <= a <= b <= 4095, or two, [r:R, f:F], each at most 255' \
+    '    it is reached by IF at 8:1'
 drawing '14 Bounds 4:1' 'b1 : BUF [0:0, 1:256] ("A") -> ("X");'
 helps '    BUF takes a delay [a:b], 0 <= a <= b <= 4095, or two, [r:R, f:F], each at most 255' \
     '    256 is more than 255, by 1'
@@ -511,7 +531,8 @@ helps '    AND takes 1 to 16 input connections, one of which may have !H, and 1 
     '    here it has 2 input and 1 output connections, 2 and 0 of them with !H'
 drawing '13 PinCount 4:1' 'a1 : AND [0:0] ("A", "B") -> ("X" !H);'
 macro unexpanded '15 TooDeep 4:1' 'MACRO M ("A") -> ("Z");' 'x : M ("A") -> ("Z");' 'END;' 'DRAWING ROW;' 'u : M ("A") -> ("X");' 'END;'
-helps '    at most 64 uses of macros may be inside one another, and this is one more'
+helps '    at most 64 uses of macros may be inside one another, and this is one more' \
+    '    it is reached by u at 7:1'
 macro unexpanded '11 BadRange 6:1' 'MACRO M {N=1} ("A"<0:N>);' 'END;' 'DRAWING ROW;' 'u : M {N=256} ("A");' 'END;'
 drawing '11 BadRange 4:1' 'b1 : BUF [0:0] ("A"<65536>) -> ("X");'
 helps '    bit 65536 of "A" is past the last, 65535'
@@ -522,7 +543,8 @@ helps '    a range has at most 256 bits, and that of "A" has 257'
 drawing '11 BadRange 4:1' 'WIRE "A"<65536> 0:0;'
 macro unexpanded '11 BadRange 4:1' 'MACRO M ("A"<1:2>) -> ("Z");' 'b1 : BUF [0:0] ("A"<0>) -> ("Z");' 'END;' 'DRAWING ROW;' \
     'u : M ("A") -> ("X");' 'END;'
-helps '    the formal "A" has the bits 1 to 2' "    'M' is used at 7:1 alone:" '    u : M ("A") -> ("X");' '    ^'
+helps '    the formal "A" has the bits 1 to 2' "    'M' is used at 7:1 alone:" '    u : M ("A") -> ("X");' '    ^' \
+    '    it is reached by u at 7:1'
 drawing '8 AssertionClash 4:1' 'a1 : AND [0:0] ("A .S0-4", "A .S0-5") -> ("X");'
 helps '    give the assertion once, or spell it the same each time; a formal has that of the outer net' \
     '    here it is "A .S0-5", and "A .S0-4" at 4:17'
@@ -551,7 +573,8 @@ macro unexpanded '12 Width 6:1' 'MACRO M ("A"<0:2>);' 'END;' 'DRAWING ROW;' 'u :
 wide '    bits of the connections: 2' '    bits of the formals: 3'
 macro unexpanded '12 Width 4:1' 'MACRO M ("A"<0:2>) -> ("Z");' 'b1 : BUF [0:0] ("A") -> ("Z");' 'END;' 'DRAWING ROW;' \
     'u : M ("A"<0:2>) -> ("X");' 'END;'
-wide '    bits of the connections: 3 -> 1' "    'M' is used at 7:1 alone:" '    u : M ("A"<0:2>) -> ("X");' '    ^'
+wide '    bits of the connections: 3 -> 1' "    'M' is used at 7:1 alone:" '    u : M ("A"<0:2>) -> ("X");' '    ^' \
+    '    it is reached by u at 7:1'
 
 # --- two refusals in one statement: the first of the order is answered
 drawing '6 UnknownKind 4:1' 'b1 : BUFF {N=1/0} ("A", "B") -> ("X");'
@@ -583,7 +606,7 @@ helps '    the macro takes 1 input and 1 output connections, 0 and 0 of them wit
 macro unexpanded '21 ZeroDivisor 6:1' 'MACRO M {N=1/0} ("A"<65536>) -> ("Z");' 'END;' 'DRAWING ROW;' 'u : M ("A"<65536>) -> ("X");' 'END;'
 macro unexpanded '22 UnknownName 7:1' 'MACRO M {N=P} ();' 'b : BUF [0:N] ("A") -> ("X");' 'END;' 'MACRO O {P=7} ();' 'u : M ();' 'END;' \
     'DRAWING ROW;' 'o : O ();' 'END;'
-unknown
+unknown '    it is reached by o at 10:1'
 
 # --- limits of the expansion
 {
@@ -613,17 +636,29 @@ helps "$limits_of_checkers" "$past_one"
 
 # --- the circuit
 drawing '17 TwoDrivers 5:1' 'b1 : BUF [0:0] ("A") -> ("X");' 'b2 : BUF [0:0] ("B") -> ("X");'
-helps '    join what drives a net by a MUX2, an AND or an OR'
+helps '    join what drives a net by a MUX2, an AND or an OR' \
+    '    it is driven before:' \
+    '        X<0> is driven at 4:1 by b1<0>'
 drawing '17 TwoDrivers 4:1' 'b1 : BUF [0:0] ("A") -> (ZERO);'
-helps '    join what drives a net by a MUX2, an AND or an OR'
+helps '    join what drives a net by a MUX2, an AND or an OR' \
+    '    nothing may drive ZERO or ONE'
 drawing '17 TwoDrivers 5:1' 'b1 : BUF [0:0] ("A"<0:3>) -> ("X"<0:3>);' 'b2 : BUF [0:0] ("B"<0:1>) -> ("Y" & -"X"<2>);'
-helps '    join what drives a net by a MUX2, an AND or an OR'
+helps '    join what drives a net by a MUX2, an AND or an OR' \
+    '    it is driven before:' \
+    '        X<2> is driven at 4:1 by b1<2>'
 macro unexpanded '17 TwoDrivers 5:1' 'MACRO M ("A") -> ("Z");' 'b1 : BUF [0:0] ("A") -> ("Z");' 'b2 : BUF [0:0] ("A") -> ("Z");' 'END;' \
     'DRAWING ROW;' 'u1 : M ("A") -> ("X");' 'END;'
-helps '    join what drives a net by a MUX2, an AND or an OR'
+helps '    join what drives a net by a MUX2, an AND or an OR' \
+    '    it is driven before:' \
+    '        X<0> is driven at 4:1 by u1/b1<0>' \
+    '    it is reached by u1 at 8:1'
 drawing '17 TwoDrivers 6:1' 'b1 : BUF [0:0] ("Y") -> ("X");' 'a1 : AND [0:0] ("CK .P2-3", "X") -> ("Y");' 'b2 : BUF [0:0] ("B") -> ("X");'
 drawing '18 ZeroLoop 4:1' 'b1 : BUF [0:0] ("Y") -> ("X");' 'a1 : AND [0:0] ("CK .P2-3", "X") -> ("Y");'
-helps '    give an element of the loop, or the wire of a net of it, a least delay of 1'
+helps '    give an element of the loop, or the wire of a net of it, a least delay of 1' \
+    '    it is in a loop, each net of which comes from the next:' \
+    '        X<0> is driven at 4:1 by b1<0>' \
+    '        Y<0> is driven at 5:1 by a1<0>' \
+    '        X<0> is driven at 4:1 by b1<0>'
 drawing '18 ZeroLoop 4:1' 'r1 : REG [0:0] ("CK .P2-3", "Q") -> ("Q");'
 drawing '18 ZeroLoop 4:1' 'b1 : BUF [0:5, 3:3] ("X") -> ("X");'
 drawing '18 ZeroLoop 4:1' 'b1 : BUF [3:3, 0:5] ("X") -> ("X");'
@@ -641,16 +676,21 @@ cases() {
         printf '%s\n' "$@"
     } | unexpanded "$want"
 }
-cases '19 CaseNet 6:6' 'CASE "X"=0;'
-helps '    it may set a net that nothing drives and that asserts .S or nothing: to 0 or 1, once, and without' \
-    '    its assertion; a net inside a macro has to come out by a formal'
-cases '19 CaseNet 6:6' 'CASE "NONE"=0;'
-cases '19 CaseNet 6:6' 'CASE "SEL"<1>=0;'
-cases '19 CaseNet 6:6' 'CASE "CK"=0;'
-cases '19 CaseNet 6:6' 'CASE "PH"=0;'
-cases '19 CaseNet 6:6' 'CASE "SEL .S"=0;'
-cases '19 CaseNet 6:6' 'CASE "SEL"=2;'
-cases '19 CaseNet 6:15' 'CASE "SEL"=0, "SEL"=1;'
+# told WANT LINE WHY: a case of this line is refused so, and this line says why
+told() {
+    cases "$1" "$2"
+    helps '    it may set a net that nothing drives and that asserts .S or nothing: to 0 or 1, once, and without' \
+        '    its assertion; a net inside a macro has to come out by a formal' \
+        "$3"
+}
+told '19 CaseNet 6:6' 'CASE "X"=0;' '        X<0> is driven at 4:1 by m1<0>'
+told '19 CaseNet 6:6' 'CASE "NONE"=0;' '    there is no net NONE<0>'
+told '19 CaseNet 6:6' 'CASE "SEL"<1>=0;' '    there is no net SEL<1>'
+told '19 CaseNet 6:6' 'CASE "CK"=0;' '    CK<0> asserts a clock'
+told '19 CaseNet 6:6' 'CASE "PH"=0;' '    PH<0> asserts a clock'
+told '19 CaseNet 6:6' 'CASE "SEL .S"=0;' '    in a CASE a name stands without its assertion'
+told '19 CaseNet 6:6' 'CASE "SEL"=2;' '    it is set to 0 or to 1, and not to 2'
+told '19 CaseNet 6:15' 'CASE "SEL"=0, "SEL"=1;' '    this CASE names it before'
 cases '19 CaseNet 7:6' 'CASE "SEL"=0;' 'CASE "SEL"=2;'
 # shellcheck disable=SC2046
 cases '16 TooMany 262:1' $(many 257 'CASE"SEL"=0; ')

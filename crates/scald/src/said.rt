@@ -7,16 +7,20 @@ ghost use Rattle.scald.specs.Said.{bad_count, forms, no_memory, too_long, unread
 
 use crate::named::Answer;
 use crate::traced::say_trace;
+use circuit_help::{
+    explain_case, explain_drivers, explain_reached, explain_unsettled, explain_zero_loop,
+};
 use refusal_help::{explain_refusal, explain_words};
-use scald_base::{Bytes, NoMemory, Refusal};
+use scald_base::{Bytes, NoMemory, Refusal, RefusalKind};
 use scald_tool::{Outcome, Words};
 use section_compose::SectionsOutcome;
 use section_rules::{Piece, sections_of};
 use std::alloc::Global;
 use std::io::Eprint;
 use std::str;
+use syntax_help::explain_expected;
 
-/// The most bytes of a text that a refusal is explained of: any text that is not too long.
+/// The most bytes of a text that is explained: any text that is not too long.
 const MOST_BYTES: usize = 4_194_304;
 
 /// The forms of words that the program knows.
@@ -125,11 +129,49 @@ pub fn say_lines(rt: &impl Eprint, lines: Result<Bytes, NoMemory>) {
     }
 }
 
+/// Says what is found by reading a text that is refused once more, or a part of it.
+fn say_more(rt: &(impl Eprint + AllocGlobal), text: &[u8], refusal: Refusal)
+    requires { length text.now < 2 ^ 31 }
+{
+    let alloc = rt.alloc();
+    match refusal.kind {
+        RefusalKind::Syntax => say_lines(rt, explain_expected(alloc, text, refusal.place)),
+        RefusalKind::CaseNet => say_lines(rt, explain_case(alloc, text, refusal.place)),
+        RefusalKind::TwoDrivers => {
+            say_lines(rt, explain_drivers(alloc, text, refusal.place));
+            say_lines(rt, explain_reached(alloc, text, refusal.place));
+        }
+        RefusalKind::ZeroLoop => {
+            say_lines(rt, explain_zero_loop(alloc, text, refusal.place));
+            say_lines(rt, explain_reached(alloc, text, refusal.place));
+        }
+        // These are of the text, and a circuit that is too large is not made again.
+        RefusalKind::BadByte
+        | RefusalKind::BadToken
+        | RefusalKind::BadHeader
+        | RefusalKind::BadName
+        | RefusalKind::EdgesOverlap
+        | RefusalKind::DoubleName
+        | RefusalKind::TooMany => {}
+        _ => say_lines(rt, explain_reached(alloc, text, refusal.place)),
+    }
+}
+
 /// Says what is wrong with a text that is refused, where it was kept.
 pub fn say_refusal(rt: &(impl Eprint + AllocGlobal), text: Option<&[u8]>, refusal: Refusal) {
     if let Some(text) = text {
         if text.len() <= MOST_BYTES {
             say_lines(rt, explain_refusal(rt.alloc(), text, refusal));
+            say_more(rt, text, refusal);
+        }
+    }
+}
+
+/// Says what leads to the net at a place in name order that does not settle, where the text was kept.
+fn say_loop(rt: &(impl Eprint + AllocGlobal), text: Option<&[u8]>, net: u32) {
+    if let Some(text) = text {
+        if text.len() <= MOST_BYTES {
+            say_lines(rt, explain_unsettled(rt.alloc(), text, net));
         }
     }
 }
@@ -173,6 +215,9 @@ fn say_outcome(
     }
     if let Some(why) = why(outcome) {
         say(rt, why);
+    }
+    if let Outcome::Unsettled { net, .. } = outcome {
+        say_loop(rt, text, *net);
     }
 }
 
