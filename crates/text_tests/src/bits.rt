@@ -6,35 +6,35 @@ use std::alloc::Global;
 use std::process::Abort;
 use vector_names::{BitRef, Bits, Target, VectorFault, bits_of, complement, concat, spread};
 
-/// A row: its name, the first and the last number of a range, and what comes.
-fn range_is(
-    rt: &(impl Abort + AllocGlobal),
-    name: &str,
-    first: i64,
-    last: i64,
-    expected: Result<&[u16], VectorFault>,
-) {
+/// The name of a row, the first and the last number of a range, and its numbers.
+type RangeRow = (&'static str, i64, i64, Result<&'static [u16], VectorFault>);
+
+const BAD: Result<&[u16], VectorFault> = Err(VectorFault::BadRange);
+
+const RANGES: [RangeRow; 8] = [
+    ("upwards", 0, 3, Ok(&[0, 1, 2, 3])),
+    ("downwards", 3, 1, Ok(&[3, 2, 1])),
+    ("one bit", 7, 7, Ok(&[7])),
+    ("the last bits", 65_534, 65_535, Ok(&[65_534, 65_535])),
+    ("before the first bit", -1, 3, BAD),
+    ("past the last bit", 65_535, 65_536, BAD),
+    ("257 bits upwards", 0, 256, BAD),
+    ("257 bits downwards", 256, 0, BAD),
+];
+
+/// Looks at the numbers of a row's range.
+fn is_range(rt: &(impl Abort + AllocGlobal), (name, first, last, want): RangeRow) {
     match bits_of(rt.alloc(), first, last) {
-        Ok(numbers) => expect_eq(rt, name, &Ok(numbers.as_slice()), &expected),
-        Err(fault) => expect_eq(rt, name, &Err(fault), &expected),
+        Ok(numbers) => expect_eq(rt, name, &Ok(numbers.as_slice()), &want),
+        Err(fault) => expect_eq(rt, name, &Err(fault), &want),
     }
 }
 
 #[test]
 fn ranges(rt: HostRuntime) {
-    range_is(&rt, "upwards", 0, 3, Ok(&[0, 1, 2, 3]));
-    range_is(&rt, "downwards", 3, 1, Ok(&[3, 2, 1]));
-    range_is(&rt, "one bit", 7, 7, Ok(&[7]));
-    range_is(&rt, "the last bits", 65534, 65535, Ok(&[65534, 65535]));
-}
-
-#[test]
-fn no_ranges(rt: HostRuntime) {
-    let bad = Err(VectorFault::BadRange);
-    range_is(&rt, "before the first bit", -1, 3, bad);
-    range_is(&rt, "past the last bit", 65535, 65536, bad);
-    range_is(&rt, "257 bits upwards", 0, 256, bad);
-    range_is(&rt, "257 bits downwards", 256, 0, bad);
+    for row in &RANGES {
+        is_range(&rt, *row);
+    }
 }
 
 /// The widths of a range and of what it is spread to.
@@ -62,38 +62,26 @@ fn bits(alloc: Global, count: u32) -> Result<Bits, NoMemory> {
     Ok(bits)
 }
 
+/// How many bits there are where so many stand before so many others.
 fn joined_len(alloc: Global, a: u32, b: u32) -> Result<Option<usize>, NoMemory> {
-    match concat(alloc, &bits(alloc, a)?, &bits(alloc, b)?) {
-        Ok(both) => Ok(Some(both.len())),
-        Err(_) => Ok(None),
-    }
+    let (a, b) = (bits(alloc, a)?, bits(alloc, b)?);
+    Ok(concat(alloc, &a, &b).ok().map(|both| both.len()))
 }
 
-#[test]
-fn joins(rt: HostRuntime) {
-    let alloc = rt.alloc();
-    expect_eq(
-        &rt,
-        "256 bits",
-        &joined_len(alloc, 100, 156),
-        &Ok(Some(256)),
-    );
-    expect_eq(&rt, "257 bits", &joined_len(alloc, 100, 157), &Ok(None));
-}
-
+/// How many bits there are where so many are spread to a width.
 fn spread_len(alloc: Global, count: u32, width: u16) -> Result<Option<usize>, NoMemory> {
-    match spread(alloc, &bits(alloc, count)?, width) {
-        Ok(wide) => Ok(Some(wide.len())),
-        Err(_) => Ok(None),
-    }
+    let bits = bits(alloc, count)?;
+    Ok(spread(alloc, &bits, width).ok().map(|wide| wide.len()))
 }
 
 #[test]
-fn spreads(rt: HostRuntime) {
-    let alloc = rt.alloc();
-    expect_eq(&rt, "of one bit", &spread_len(alloc, 1, 4), &Ok(Some(4)));
-    expect_eq(&rt, "of as many", &spread_len(alloc, 4, 4), &Ok(Some(4)));
-    expect_eq(&rt, "of fewer", &spread_len(alloc, 3, 4), &Ok(None));
+fn joins_and_spreads(rt: HostRuntime) {
+    let a = rt.alloc();
+    expect_eq(&rt, "256 bits", &joined_len(a, 100, 156), &Ok(Some(256)));
+    expect_eq(&rt, "257 bits", &joined_len(a, 100, 157), &Ok(None));
+    expect_eq(&rt, "of one bit", &spread_len(a, 1, 4), &Ok(Some(4)));
+    expect_eq(&rt, "of as many", &spread_len(a, 4, 4), &Ok(Some(4)));
+    expect_eq(&rt, "of fewer", &spread_len(a, 3, 4), &Ok(None));
 }
 
 #[test]

@@ -1,7 +1,5 @@
 //! Whole transfers over devices in memory and over the standard library's.
 
-ghost use Rattle.std.specs.Prelude.{◌-◌, ◌^◌, ◌<◌, ◌≤◌};
-
 use crate::rows::{expect_eq, expect_list};
 use scald_base::{
     Bytes, Calls, CountSink, List, MemorySink, MemorySource, NoMemory, ReadEnd, StdSink, StdSource,
@@ -25,82 +23,105 @@ fn expect_bytes(
     }
 }
 
-/// Reads the whole text in pieces, with failing calls, and looks at what came of it and what is
-/// left.
-fn reading(
+/// A source of the text, which gives it in such pieces.
+fn source_of(alloc: Global, piece: u16, failing: &[u32]) -> Result<MemorySource, NoMemory> {
+    let failing = calls_of(alloc, failing)?;
+    let text = Bytes::of(alloc, TEXT)?;
+    Ok(MemorySource::new(text, u32::from(piece).max(1), failing))
+}
+
+/// The name of a row, how many bytes a call gives, which calls fail, how many bytes may come, what comes
+/// of reading them all, and what is left.
+type ReadRow = (
+    &'static str,
+    u16,
+    &'static [u32],
+    u16,
+    Result<&'static [u8], ReadEnd>,
+    &'static [u8],
+);
+
+const ALL: Result<&[u8], ReadEnd> = Ok(TEXT);
+
+const LONG: Result<&[u8], ReadEnd> = Err(ReadEnd::TooLong);
+
+const FAULT: Result<&[u8], ReadEnd> = Err(ReadEnd::ReadFault);
+
+const READS: [ReadRow; 9] = [
+    ("in one call", 4096, &[], 100, ALL, b""),
+    ("a byte a call", 1, &[], 100, ALL, b""),
+    ("in pieces of 16", 16, &[], 100, ALL, b""),
+    ("the limit is met", 7, &[], 26, ALL, b""),
+    ("one past the limit", 7, &[], 25, LONG, b""),
+    ("far past it", 4096, &[], 9, LONG, b"klmnopqrstuvwxyz"),
+    ("the first call fails", 4096, &[0], 100, FAULT, TEXT),
+    ("the third fails", 8, &[7, 2], 100, FAULT, b"qrstuvwxyz"),
+    ("at the end", 26, &[1], 100, FAULT, b""),
+];
+
+/// Reads the text as a row says.
+fn is_read(
     rt: &(impl Abort + AllocGlobal),
-    name: &str,
-    piece: u32,
-    failing: &[u32],
-    limit: u32,
-    want: Result<&[u8], ReadEnd>,
-    left: &[u8],
-) -> Result<(), NoMemory>
-    requires piece { 1 ≤ piece }
-    requires limit { limit < 2 ^ 32 - 1 }
-{
+    (name, piece, failing, limit, want, left): ReadRow,
+) -> Result<(), NoMemory> {
     let alloc = rt.alloc();
-    let mut source = MemorySource::new(Bytes::of(alloc, TEXT)?, piece, calls_of(alloc, failing)?);
-    expect_bytes(rt, name, read_all(alloc, &mut source, limit), want);
+    let mut source = source_of(alloc, piece, failing)?;
+    let came = read_all(alloc, &mut source, u32::from(limit));
+    expect_bytes(rt, name, came, want);
     expect_list(rt, name, source.left(), left);
     Ok(())
 }
 
 #[test]
-fn reads_all(rt: HostRuntime) -> Result<(), NoMemory> {
-    let all = Ok(TEXT);
-    reading(&rt, "in one call", 4096, &[], 100, all, b"")?;
-    reading(&rt, "a byte a call", 1, &[], 100, all, b"")?;
-    reading(&rt, "in pieces of 16", 16, &[], 100, all, b"")?;
-    reading(&rt, "the limit is met", 7, &[], 26, all, b"")
+fn reads(rt: HostRuntime) -> Result<(), NoMemory> {
+    for row in &READS {
+        is_read(&rt, *row)?;
+    }
+    Ok(())
 }
 
-#[test]
-fn stops_reading(rt: HostRuntime) -> Result<(), NoMemory> {
-    let long = Err(ReadEnd::TooLong);
-    reading(&rt, "one past the limit", 7, &[], 25, long, b"")?;
-    reading(&rt, "far past it", 4096, &[], 9, long, b"klmnopqrstuvwxyz")?;
-    let fault = Err(ReadEnd::ReadFault);
-    reading(&rt, "the first call fails", 4096, &[0], 100, fault, TEXT)?;
-    reading(
-        &rt,
-        "the third fails",
-        8,
-        &[7, 2],
-        100,
-        fault,
-        b"qrstuvwxyz",
-    )?;
-    reading(&rt, "at the end", 26, &[1], 100, fault, b"")
-}
+/// The name of a row, how much room there is, how many bytes a call takes, which calls fail, what comes of
+/// writing ten bytes, and what is taken.
+type WriteRow = (
+    &'static str,
+    u16,
+    u16,
+    &'static [u32],
+    Result<(), WriteFault>,
+    &'static [u8],
+);
 
-/// Writes ten bytes into so much room, in pieces, with failing calls, and looks at what was taken.
-fn writing(
+const FULL: Result<(), WriteFault> = Err(WriteFault);
+
+const WRITES: [WriteRow; 5] = [
+    ("in one call", 10, 100, &[], Ok(()), b"abcdefghij"),
+    ("a byte a call", 30, 1, &[], Ok(()), b"abcdefghij"),
+    ("room for nine", 9, 4, &[], FULL, b"abcdefghi"),
+    ("no room", 0, 4, &[], FULL, b""),
+    ("the second call fails", 30, 4, &[1], FULL, b"abcd"),
+];
+
+/// Writes ten bytes as a row says.
+fn is_written(
     rt: &(impl Abort + AllocGlobal),
-    name: &str,
-    room: u32,
-    piece: u32,
-    failing: &[u32],
-    want: Result<(), WriteFault>,
-    taken: &[u8],
-) -> Result<(), NoMemory>
-    requires { 1 ≤ piece }
-{
+    (name, room, piece, failing, want, taken): WriteRow,
+) -> Result<(), NoMemory> {
     let alloc = rt.alloc();
-    let mut sink = MemorySink::new(alloc, room, piece, calls_of(alloc, failing)?)?;
-    expect_eq(rt, name, &write_all(&mut sink, b"abcdefghij"), &want);
+    let failing = calls_of(alloc, failing)?;
+    let piece = u32::from(piece).max(1);
+    let mut sink = MemorySink::new(alloc, u32::from(room), piece, failing)?;
+    let came = write_all(&mut sink, b"abcdefghij");
+    expect_eq(rt, name, &came, &want);
     expect_list(rt, name, sink.taken(), taken);
     Ok(())
 }
 
 #[test]
 fn writes(rt: HostRuntime) -> Result<(), NoMemory> {
-    let full = Err(WriteFault);
-    writing(&rt, "in one call", 10, 100, &[], Ok(()), b"abcdefghij")?;
-    writing(&rt, "a byte a call", 30, 1, &[], Ok(()), b"abcdefghij")?;
-    writing(&rt, "room for nine", 9, 4, &[], full, b"abcdefghi")?;
-    writing(&rt, "no room", 0, 4, &[], full, b"")?;
-    writing(&rt, "the second call fails", 30, 4, &[1], full, b"abcd")
+    for row in &WRITES {
+        is_written(&rt, *row)?;
+    }
+    Ok(())
 }
 
 #[test]

@@ -10,6 +10,13 @@ const LEAST: i64 = -9223372036854775808;
 
 const GREATEST: i64 = 9223372036854775807;
 
+/// The expression `left op right`.
+fn binary(alloc: Global, left: Expr, op: Op, right: Expr) -> Result<Expr, NoMemory> {
+    let left = Box::new(alloc, left)?;
+    let right = Box::new(alloc, right)?;
+    Ok(Expr::Binary(op, left, right))
+}
+
 /// The value of `left op right`.
 fn of_numbers(
     alloc: Global,
@@ -17,40 +24,36 @@ fn of_numbers(
     op: Op,
     right: i64,
 ) -> Result<Result<i64, ExprFault>, NoMemory> {
-    let left = Box::new(alloc, Expr::Number(left))?;
-    let right = Box::new(alloc, Expr::Number(right))?;
-    let env = Env::new(alloc);
-    Ok(eval(&Expr::Binary(op, left, right), &env))
+    let sum = binary(alloc, Expr::Number(left), op, Expr::Number(right))?;
+    Ok(eval(&sum, &Env::new(alloc)))
 }
 
-fn word(alloc: Global, text: &[u8]) -> Result<Bytes, NoMemory> {
-    let mut bytes = Bytes::new(alloc);
-    bytes.extend(text)?;
-    Ok(bytes)
+/// N is 20, and W is the least number.
+fn bind(alloc: Global, env: &mut Env) -> Result<(), NoMemory> {
+    for (letter, value) in [(b'N', 20), (b'W', LEAST)] {
+        let name = Bytes::of(alloc, &[letter])?;
+        env.push(Binding { name, value })?;
+    }
+    Ok(())
 }
 
-/// The value of `-parameter op 1 / divisor`, where N is 20 and W is the least number.
+/// The expression `-parameter + 1 / divisor`.
+fn sum_of(alloc: Global, parameter: &[u8], divisor: i64) -> Result<Expr, NoMemory> {
+    let quotient = binary(alloc, Expr::Number(1), Op::Div, Expr::Number(divisor))?;
+    let named = Box::new(alloc, Expr::Param(Bytes::of(alloc, parameter)?))?;
+    binary(alloc, Expr::Negate(named), Op::Add, quotient)
+}
+
+/// Its value where N is 20 and W is the least number.
 fn of_parameter(
     alloc: Global,
     parameter: &[u8],
-    op: Op,
     divisor: i64,
 ) -> Result<Result<i64, ExprFault>, NoMemory> {
+    let sum = sum_of(alloc, parameter, divisor)?;
     let mut env = Env::new(alloc);
-    env.push(Binding {
-        name: word(alloc, b"N")?,
-        value: 20,
-    })?;
-    env.push(Binding {
-        name: word(alloc, b"W")?,
-        value: LEAST,
-    })?;
-    let named = Box::new(alloc, Expr::Param(word(alloc, parameter)?))?;
-    let left = Box::new(alloc, Expr::Negate(named))?;
-    let one = Box::new(alloc, Expr::Number(1))?;
-    let by = Box::new(alloc, Expr::Number(divisor))?;
-    let right = Box::new(alloc, Expr::Binary(Op::Div, one, by))?;
-    Ok(eval(&Expr::Binary(op, left, right), &env))
+    bind(alloc, &mut env)?;
+    Ok(eval(&sum, &env))
 }
 
 /// The name of a row, its left side, the operator, the right side, and the value.
@@ -110,34 +113,26 @@ fn operators(rt: HostRuntime) {
     }
 }
 
-/// Looks at the value of `-parameter + 1 / divisor`.
-fn sum_is(
-    rt: &(impl Abort + AllocGlobal),
-    name: &str,
-    parameter: &[u8],
-    divisor: i64,
-    want: Result<i64, ExprFault>,
-) {
-    let value = of_parameter(rt.alloc(), parameter, Op::Add, divisor);
+/// The name of a row, the parameter, the divisor, and the value.
+type SumRow = (&'static str, &'static [u8], i64, Result<i64, ExprFault>);
+
+/// Sums whose sides both have a value, or of which the left or the right has none.
+const SUMS: [SumRow; 4] = [
+    ("both sides", b"N", 1, Ok(-19)),
+    ("no value, before zero", b"M", 0, Err(ExprFault::Unknown)),
+    ("too large, before zero", b"W", 0, Err(ExprFault::Overflow)),
+    ("zero alone", b"N", 0, Err(ExprFault::ZeroDivisor)),
+];
+
+/// Looks at the value of a row's sum.
+fn is_summed(rt: &(impl Abort + AllocGlobal), (name, parameter, divisor, want): SumRow) {
+    let value = of_parameter(rt.alloc(), parameter, divisor);
     expect_eq(rt, name, &value, &Ok(want));
 }
 
 #[test]
 fn left_before_right(rt: HostRuntime) {
-    sum_is(&rt, "both sides", b"N", 1, Ok(-19));
-    sum_is(
-        &rt,
-        "no value, before zero",
-        b"M",
-        0,
-        Err(ExprFault::Unknown),
-    );
-    sum_is(
-        &rt,
-        "too large, before zero",
-        b"W",
-        0,
-        Err(ExprFault::Overflow),
-    );
-    sum_is(&rt, "zero alone", b"N", 0, Err(ExprFault::ZeroDivisor));
+    for row in &SUMS {
+        is_summed(&rt, *row);
+    }
 }
