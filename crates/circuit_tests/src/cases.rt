@@ -2,11 +2,12 @@
 
 ghost use Rattle.std.specs.List.{All};
 ghost use Rattle.wave_table.specs.Table.{AreKnown};
-ghost use Rattle.case_analysis.specs.Listed.{IsListed};
+ghost use Rattle.case_analysis.specs.Case.{NetsExist};
 
-use crate::drawings::{Drawn, HEAD, read_circuit};
+use crate::drawings::{HEAD, drawn};
 use crate::rows::expect_eq;
 use case_analysis::{base, case_waves, reach, tick};
+use drawn_circuit::Drawn;
 use fixpoint_engine::{EngineEnd, Store};
 use net_waves::Waves;
 use std::alloc::Global;
@@ -29,7 +30,7 @@ fn third(store: &Store<SlotWave<Value>>, numbers: &[u32]) -> Option<Value>
 /// Of the first case, if there is one: the round at which it settles, the printed tick, and the value of
 /// the third net.
 fn first_case(alloc: Global, drawn: &Drawn) -> Result<Option<(u32, u64, Option<Value>)>, EngineEnd>
-    requires { All (IsListed drawn.now.circuit) drawn.now.cases }
+    requires { All (NetsExist drawn.now.circuit) drawn.now.cases }
 {
     let c = &drawn.circuit;
     match drawn.cases.get(0) {
@@ -52,7 +53,7 @@ b1 : BUF [1:1] ("X"<0:1>) -> ("X"<1:2>);
 END;
 CASE "X"<0>=1;
 "#;
-    let drawn = read_circuit(rt.alloc(), &[HEAD, lines])?;
+    let drawn = drawn(rt.alloc(), &[HEAD, lines])?;
     let came = first_case(rt.alloc(), &drawn);
     expect_eq(
         &rt,

@@ -1,6 +1,6 @@
 //! How circuits are built and read.
 
-use crate::drawings::{HEAD, read_circuit};
+use crate::drawings::{HEAD, drawn};
 use crate::rows::{expect, expect_eq};
 use flat_circuit::{Circuit, Split};
 use scald_base::{Delay, Place, Refusal, RefusalKind, Stop};
@@ -76,7 +76,7 @@ END;
 /// Looks at the refusal of a row.
 fn is_refused(rt: &(impl Abort + AllocGlobal), (name, lines, kind, line): RefusalRow) {
     let place = Place { line, col: 1 };
-    let outcome = read_circuit(rt.alloc(), &[HEAD, lines]).err();
+    let outcome = drawn(rt.alloc(), &[HEAD, lines]).err();
     expect_eq(
         rt,
         name,
@@ -150,9 +150,7 @@ fn last_delays(circuit: &Circuit) -> Option<Delays> {
 
 /// Looks at the delays of a row.
 fn is_delayed(rt: &(impl Abort + AllocGlobal), (name, drawing, want): DelayRow) {
-    let outcome = read_circuit(rt.alloc(), &[HEAD, drawing]).map(|drawn| last_delays(
-        &drawn.circuit,
-    ));
+    let outcome = drawn(rt.alloc(), &[HEAD, drawing]).map(|drawn| last_delays(&drawn.circuit));
     expect_eq(rt, name, &outcome, &Ok(Some(want)));
 }
 
@@ -181,7 +179,7 @@ b1 : BUF [1:3] ("Y") -> ("X");
 b2 : BUF [1:3] ("X") -> ("A");
 END;
 "#;
-    let drawn = read_circuit(rt.alloc(), &[HEAD, lines])?;
+    let drawn = drawn(rt.alloc(), &[HEAD, lines])?;
     expect(&rt, "a chain", is_chain(&drawn.circuit));
     Ok(())
 }

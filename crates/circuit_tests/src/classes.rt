@@ -1,9 +1,10 @@
 //! Two gates side by side that differ in one thing, and what the classes of their nets are then; and the
 //! classes of whole drawings.
 
-use crate::drawings::{Drawn, HEAD, read_circuit};
+use crate::drawings::{HEAD, drawn};
 use crate::rows::expect_eq;
 use class_table::{ClassMap, classes, stable};
+use drawn_circuit::Drawn;
 use scald_base::{NoMemory, Stop};
 use std::alloc::Global;
 use std::process::Abort;
@@ -180,7 +181,7 @@ END;
 
 /// Three sections of eight bits in a chain, as `bench 3` has them. The 57 nets are numbered as the text names
 /// them: Q0, D1, the clock CK, Q1, D2, Q2, D3 and Q3.
-const SECTIONS: &[u8] = br#"WIRE 0:2;
+pub const SECTIONS: &[u8] = br#"WIRE 0:2;
 DRAWING BENCH;
 g1 : CHG [20:60] ("Q0 .S4-3"<0:7>) -> ("D1"<0:7>);
 c1 : SETUP_HOLD_CHK {SETUP=20, HOLD=5} ("CK .P2-3", "D1"<0:7>);
@@ -217,14 +218,14 @@ fn are_stable(drawn: &Drawn, classes: &ClassMap) -> bool {
 
 /// Whether the classes of these numbers are stable.
 fn are_stable_by(alloc: Global, pieces: &[&[u8]], numbers: &[u32]) -> Result<bool, Stop> {
-    let drawn = read_circuit(alloc, pieces)?;
+    let drawn = drawn(alloc, pieces)?;
     let classes = map(alloc, numbers)?;
     Ok(are_stable(&drawn, &classes))
 }
 
 /// Whether the classes that are made have these numbers, and are stable.
 fn are_made(alloc: Global, pieces: &[&[u8]], numbers: &[u32]) -> Result<bool, Stop> {
-    let drawn = read_circuit(alloc, pieces)?;
+    let drawn = drawn(alloc, pieces)?;
     let made = classes(alloc, &drawn.circuit, &drawn.cases)?;
     Ok(made.as_slice() == numbers && are_stable(&drawn, &made))
 }

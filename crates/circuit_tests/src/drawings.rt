@@ -2,29 +2,22 @@
 
 ghost use Rattle.std.specs.Prelude.{◌≡◌, ◌<◌, ◌≤◌, ℕ, IfOk, IsTrue, length};
 ghost use Rattle.std.specs.List.{All};
+ghost use Rattle.wave_table.specs.Table.{AreKnown, waves_at};
 ghost use Rattle.net_waves.specs.Waves.{FitWaves, waves_of};
-ghost use Rattle.case_analysis.specs.Listed.{IsListed};
+ghost use Rattle.case_analysis.specs.Case.{NetsExist};
 
-use case_analysis::check_cases;
-use drawing_reader::read_drawing;
-use flat_circuit::{CaseList, Circuit};
-use macro_expander::expand;
+use case_analysis::base;
+use drawn_circuit::{Drawn, read_circuit};
+use fixpoint_engine::{EngineEnd, Settled, Store};
+use flat_circuit::Circuit;
 use net_waves::Waves;
 use scald_base::{Bytes, NoMemory, Stop};
-use scald_lex::tokens;
 use std::alloc::Global;
 use step_values::Value;
-use wave_core::CyclicWave;
+use wave_core::{CyclicWave, SlotWave};
 
 /// The first two lines of a drawing in a period of 8 units of 50 ticks.
 pub const HEAD: &[u8] = b"SCALD 1;\nCLOCK 8 x 50;\n";
-
-/// A circuit, and the cases that its drawing lists.
-#[derive(Drop)]
-pub struct Drawn {
-    pub circuit: Circuit,
-    pub cases: CaseList,
-}
 
 /// The pieces of a text, one after the other.
 fn text_of(alloc: Global, pieces: &[&[u8]]) -> Result<Bytes, NoMemory> {
@@ -36,18 +29,28 @@ fn text_of(alloc: Global, pieces: &[&[u8]]) -> Result<Bytes, NoMemory> {
 }
 
 /// The circuit of the drawing in these pieces, and its cases.
-pub fn read_circuit(alloc: Global, pieces: &[&[u8]]) -> Result<Drawn, Stop>
-    ensures { IfOk result (λ drawn. All (IsListed drawn.circuit) drawn.cases) }
+pub fn drawn(alloc: Global, pieces: &[&[u8]]) -> Result<Drawn, Stop>
+    ensures { IfOk result (λ drawn. All (NetsExist drawn.circuit) drawn.cases) }
 {
     let text = text_of(alloc, pieces)?;
     if text.len() > 4096 {
         return Err(Stop::NoMemory);
     }
-    let list = tokens(alloc, text.as_slice())?;
-    let drawing = read_drawing(alloc, text.as_slice(), &list)?;
-    let circuit = expand(alloc, &drawing)?;
-    let cases = check_cases(alloc, &circuit, &drawing)?;
-    Ok(Drawn { circuit, cases })
+    read_circuit(alloc, text.as_slice())
+}
+
+/// The settled base: what `base` answers, with less said of it.
+pub fn settled(
+    alloc: Global,
+    c: &Circuit,
+    store: &mut Store<SlotWave<Value>>,
+    limit: u32,
+) -> Result<Settled, EngineEnd>
+    ensures known { IfOk result (λ s. AreKnown store.new s.numbers) }
+    ensures within { IfOk result (λ s. s.rounds ≤ limit) }
+    ensures fit { IfOk result (λ s. FitWaves c.now (waves_at store.new s.numbers)) }
+{
+    base(alloc, c, store, limit)
 }
 
 /// Whether the waves of these nets have this period.

@@ -3,10 +3,9 @@
 
 ghost use Rattle.net_waves.specs.Waves.{FitWaves};
 
-use crate::drawings::{HEAD, read_circuit};
+use crate::drawings::{HEAD, drawn, settled};
 use crate::rows::expect_eq;
-use case_analysis::base;
-use fixpoint_engine::Store;
+use fixpoint_engine::{EngineEnd, Store};
 use flat_circuit::{Circuit, Fault, Kind, PointKind};
 use net_waves::Waves;
 use point_check::{check_points, point_fault};
@@ -130,14 +129,17 @@ fn expect_other_limits<W: CyclicWave<Item = Value>>(
     );
 }
 
+/// Looks at the faults of the waves that have settled.
+fn expect_faults(rt: &(impl Abort + AllocGlobal), c: &Circuit) -> Result<(), EngineEnd> {
+    let mut store: Store<SlotWave<Value>> = Store::new(rt.alloc());
+    let settled = settled(rt.alloc(), c, &mut store, 0)?;
+    let waves = Waves::new(store.waves(), settled.numbers.as_slice());
+    expect_other_limits(rt, c, &waves);
+    Ok(expect_found(rt, c, &waves)?)
+}
+
 #[test]
 fn answers(rt: HostRuntime) -> Result<(), Fail> {
-    let drawn = read_circuit(rt.alloc(), &[HEAD, CHECKED])?;
-    let c = &drawn.circuit;
-    let mut store: Store<SlotWave<Value>> = Store::new(rt.alloc());
-    let settled = base(rt.alloc(), c, &mut store, 0)?;
-    let waves = Waves::new(store.waves(), settled.numbers.as_slice());
-    expect_found(&rt, c, &waves)?;
-    expect_other_limits(&rt, c, &waves);
-    Ok(())
+    let drawn = drawn(rt.alloc(), &[HEAD, CHECKED])?;
+    Ok(expect_faults(&rt, &drawn.circuit)?)
 }

@@ -1,12 +1,12 @@
 //! Reports on a circuit of one net and on a gate with two delays, spelled out on paper.
 
-ghost use Rattle.std.specs.Prelude.{◌<◌, IfOk, length};
+ghost use Rattle.std.specs.Prelude.{◌<◌, ◌≤◌, IfOk, length};
 ghost use Rattle.net_waves.specs.Waves.{FitWaves};
 
-use crate::drawings::{are_fit, read_circuit};
+use crate::drawings::{are_fit, drawn, settled};
 use crate::rows::expect_bytes;
-use case_analysis::{base, reach, tick};
-use fixpoint_engine::Store;
+use case_analysis::{reach, tick};
+use fixpoint_engine::{EngineEnd, Store};
 use flat_circuit::{Circuit, Fault, Faults};
 use listing::{
     CaseHead, Mode, begin_report, end_report, write_case, write_refusal, write_summary,
@@ -64,31 +64,41 @@ fn head_of(number: u32) -> CaseHead {
     }
 }
 
-/// A report of three cases, one in each mode.
-fn three_cases<W: CyclicWave<Item = Value>>(
-    rt: &impl Abort,
-    alloc: Global,
+/// Writes a report of three cases, one in each mode.
+fn write_cases<W: CyclicWave<Item = Value>>(
     c: &Circuit,
     waves: &Waves<W>,
-) -> Result<Bytes, NoMemory> {
-    assert!(rt; are_fit(c, waves));
-    let faults = one_fault(alloc)?;
-    let mut out = Bytes::new(alloc);
-    begin_report(c, 1, &mut out)?;
-    write_case(c, head_of(1), waves, &faults, Mode::Full, &mut out)?;
-    write_case(c, head_of(2), waves, &faults, Mode::Waves, &mut out)?;
-    write_case(c, head_of(3), waves, &faults, Mode::Faults, &mut out)?;
-    end_report(3, &mut out)?;
-    Ok(out)
+    faults: &Faults,
+    out: &mut Bytes,
+) -> Result<(), NoMemory>
+    requires { FitWaves c.now waves.now }
+{
+    begin_report(c, 1, out)?;
+    write_case(c, head_of(1), waves, faults, Mode::Full, out)?;
+    write_case(c, head_of(2), waves, faults, Mode::Waves, out)?;
+    write_case(c, head_of(3), waves, faults, Mode::Faults, out)?;
+    end_report(3, out)
+}
+
+/// The report of three cases of the one net.
+fn three_cases(
+    rt: &(impl Abort + AllocGlobal),
+    c: &Circuit,
+    out: &mut Bytes,
+) -> Result<(), NoMemory> {
+    let mut table = WaveTable::new(rt.alloc());
+    let numbers = [one_wave(rt.alloc(), &mut table)?];
+    let faults = one_fault(rt.alloc())?;
+    let waves = Waves::new(&table, &numbers);
+    assert!(rt; are_fit(c, &waves));
+    write_cases(c, &waves, &faults, out)
 }
 
 #[test]
 fn one_net_in_each_mode(rt: HostRuntime) -> Result<(), Fail> {
-    let drawn = read_circuit(rt.alloc(), &[ONE_NET])?;
-    let mut table = WaveTable::new(rt.alloc());
-    let numbers = [one_wave(rt.alloc(), &mut table)?];
-    let waves = Waves::new(&table, &numbers);
-    let out = three_cases(&rt, rt.alloc(), &drawn.circuit, &waves)?;
+    let drawn = drawn(rt.alloc(), &[ONE_NET])?;
+    let mut out = Bytes::new(rt.alloc());
+    three_cases(&rt, &drawn.circuit, &mut out)?;
     let expected = b"SCALD 1 PERIOD 8\n\
         NETS 1 INSTANCES 0 CHECKS 0\n\
         STABLE u1/K<3>\n\
@@ -114,29 +124,42 @@ w1 : MIN_PULSE_CHK {HIGH=53} ("X");
 END;
 "#;
 
-/// The report of a circuit's base, which settles after one round, with the faults of its pulses.
-fn base_report(alloc: Global, c: &Circuit) -> Result<Bytes, Fail> {
-    let mut store: Store<SlotWave<Value>> = Store::new(alloc);
-    let settled = base(alloc, c, &mut store, 1)?;
-    let waves = Waves::new(store.waves(), settled.numbers.as_slice());
+/// Writes the report of a base that settled after so many rounds.
+fn write_base<W: CyclicWave<Item = Value>>(
+    c: &Circuit,
+    rounds: u32,
+    waves: &Waves<W>,
+    faults: &Faults,
+    out: &mut Bytes,
+) -> Result<(), NoMemory>
+    requires few { rounds ≤ 10000000 }
+    requires fit { FitWaves c.now waves.now }
+{
     let head = CaseHead {
         number: 0,
-        base: settled.rounds,
+        base: rounds,
         rounds: 0,
-        tick: tick(reach(c), settled.rounds, 0),
+        tick: tick(reach(c), rounds, 0),
     };
+    begin_report(c, 2, out)?;
+    write_case(c, head, waves, faults, Mode::Full, out)?;
+    end_report(1, out)
+}
+
+/// The report of a circuit's base, which settles after one round, with the faults of its pulses.
+fn base_report(alloc: Global, c: &Circuit, out: &mut Bytes) -> Result<(), EngineEnd> {
+    let mut store: Store<SlotWave<Value>> = Store::new(alloc);
+    let settled = settled(alloc, c, &mut store, 1)?;
+    let waves = Waves::new(store.waves(), settled.numbers.as_slice());
     let faults = check_pulses(alloc, c, &waves)?;
-    let mut out = Bytes::new(alloc);
-    begin_report(c, 2, &mut out)?;
-    write_case(c, head, &waves, &faults, Mode::Full, &mut out)?;
-    end_report(1, &mut out)?;
-    Ok(out)
+    Ok(write_base(c, settled.rounds, &waves, &faults, out)?)
 }
 
 #[test]
 fn two_delays(rt: HostRuntime) -> Result<(), Fail> {
-    let drawn = read_circuit(rt.alloc(), &[TWO_DELAYS])?;
-    let out = base_report(rt.alloc(), &drawn.circuit)?;
+    let drawn = drawn(rt.alloc(), &[TWO_DELAYS])?;
+    let mut out = Bytes::new(rt.alloc());
+    base_report(rt.alloc(), &drawn.circuit, &mut out)?;
     let expected = b"SCALD 2 PERIOD 400\n\
         NETS 2 INSTANCES 1 CHECKS 1\n\
         CASE 0 BASE 1 ROUNDS 0 T 18\n\
@@ -149,23 +172,22 @@ fn two_delays(rt: HostRuntime) -> Result<(), Fail> {
 }
 
 /// The lines that stand in place of a report, and the last one of a clean report.
-fn single_lines(alloc: Global, c: &Circuit) -> Result<Bytes, NoMemory> {
-    let mut out = Bytes::new(alloc);
-    end_report(0, &mut out)?;
+fn write_lines(c: &Circuit, out: &mut Bytes) -> Result<(), NoMemory> {
+    end_report(0, out)?;
     let place = Place { line: 4, col: 1 };
     let kind = RefusalKind::ZeroLoop;
-    write_refusal(&Refusal { kind, place }, &mut out)?;
+    write_refusal(&Refusal { kind, place }, out)?;
     if c.by_name(0).is_some() {
-        write_unsettled(c, 0, 1657, &mut out)?;
+        write_unsettled(c, 0, 1657, out)?;
     }
-    write_summary(c, 3, 2, 189, 4, &mut out)?;
-    Ok(out)
+    write_summary(c, 3, 2, 189, 4, out)
 }
 
 #[test]
 fn lines_by_themselves(rt: HostRuntime) -> Result<(), Fail> {
-    let drawn = read_circuit(rt.alloc(), &[ONE_NET])?;
-    let out = single_lines(rt.alloc(), &drawn.circuit)?;
+    let drawn = drawn(rt.alloc(), &[ONE_NET])?;
+    let mut out = Bytes::new(rt.alloc());
+    write_lines(&drawn.circuit, &mut out)?;
     let expected = b"CLEAN\nREFUSED 18 ZeroLoop 4:1\nUNSETTLED u1/K<3> ROUND 1657\n\
         BENCH 3 NETS 1 INSTANCES 0 CHECKS 0 ROUNDS 2 T 189 FAULTS 4\n";
     expect_bytes(&rt, "lines by themselves", out.as_slice(), expected);

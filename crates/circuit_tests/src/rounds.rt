@@ -2,10 +2,12 @@
 
 ghost use Rattle.std.specs.Prelude.{◌≤◌};
 
-use crate::drawings::{Drawn, HEAD, read_circuit};
+use crate::classes::SECTIONS;
+use crate::drawings::{HEAD, drawn, settled};
 use crate::rows::expect_eq;
-use case_analysis::{base, base_classes, default_limit, reach, tick};
-use class_table::{ClassMap, stable};
+use case_analysis::{base_classes, default_limit, reach, tick};
+use class_table::{ClassMap, classes, stable};
+use drawn_circuit::Drawn;
 use fixpoint_engine::{EngineEnd, Settled, Store};
 use flat_circuit::Circuit;
 use scald_base::{NoMemory, Stop};
@@ -49,7 +51,7 @@ type BaseRow = (
     u32,
 );
 
-const BASES: [BaseRow; 8] = [
+const BASES: [BaseRow; 9] = [
     (
         "500 buffers",
         CHAIN,
@@ -60,6 +62,17 @@ const BASES: [BaseRow; 8] = [
             tick: 1002,
         }),
         2116,
+    ),
+    (
+        "three sections",
+        SECTIONS,
+        9,
+        Ok(Rest {
+            rounds: 2,
+            evals: 64,
+            tick: 189,
+        }),
+        1664,
     ),
     (
         "two buffers",
@@ -150,7 +163,7 @@ fn numbers_of(c: &Circuit, settled: &Settled) -> Rest
 /// How the base ends.
 fn by_nets(alloc: Global, c: &Circuit, limit: u16) -> Result<Rest, EngineEnd> {
     let mut store: Store<SlotWave<Value>> = Store::new(alloc);
-    let settled = base(alloc, c, &mut store, u32::from(limit))?;
+    let settled = settled(alloc, c, &mut store, u32::from(limit))?;
     Ok(numbers_of(c, &settled))
 }
 
@@ -163,33 +176,35 @@ fn lone_classes(alloc: Global, c: &Circuit) -> Result<ClassMap, NoMemory> {
     Ok(classes)
 }
 
-/// How the base ends over classes of one net each, if these are stable.
-fn by_classes(alloc: Global, drawn: &Drawn, limit: u16) -> Result<Option<Rest>, EngineEnd> {
+/// How the base ends over these classes, if they are stable.
+fn by_classes(
+    alloc: Global,
+    drawn: &Drawn,
+    classes: &ClassMap,
+    limit: u16,
+) -> Result<Option<Rest>, EngineEnd> {
     let c = &drawn.circuit;
-    let classes = lone_classes(alloc, c)?;
-    if classes.len() != c.net_count() as usize || !stable(c, &drawn.cases, &classes) {
+    if classes.len() != c.net_count() as usize || !stable(c, &drawn.cases, classes) {
         return Ok(None);
     }
     let mut store: Store<SlotWave<Value>> = Store::new(alloc);
     let most = u32::from(limit);
-    let settled = base_classes(alloc, c, &mut store, &drawn.cases, &classes, most)?;
+    let settled = base_classes(alloc, c, &mut store, &drawn.cases, classes, most)?;
     Ok(Some(numbers_of(c, &settled)))
 }
 
-/// Looks at the base of a row, net by net and by classes.
+/// Looks at the base of a row, net by net and by classes of one net each.
 fn ends_so(
     rt: &(impl Abort + AllocGlobal),
     (name, lines, limit, want, default): BaseRow,
 ) -> Result<(), Stop> {
-    let drawn = read_circuit(rt.alloc(), &[HEAD, lines])?;
-    expect_eq(rt, name, &by_nets(rt.alloc(), &drawn.circuit, limit), &want);
-    expect_eq(
-        rt,
-        name,
-        &by_classes(rt.alloc(), &drawn, limit),
-        &want.map(Some),
-    );
-    expect_eq(rt, name, &default_limit(&drawn.circuit), &default);
+    let drawn = drawn(rt.alloc(), &[HEAD, lines])?;
+    let c = &drawn.circuit;
+    expect_eq(rt, name, &by_nets(rt.alloc(), c, limit), &want);
+    let lone = lone_classes(rt.alloc(), c)?;
+    let rest = by_classes(rt.alloc(), &drawn, &lone, limit);
+    expect_eq(rt, name, &rest, &want.map(Some));
+    expect_eq(rt, name, &default_limit(c), &default);
     Ok(())
 }
 
@@ -233,9 +248,24 @@ fn is_limited(rt: &(impl Abort + AllocGlobal), c: &Circuit, (name, limit, want):
 
 #[test]
 fn a_loop_rests_late(rt: HostRuntime) -> Result<(), Stop> {
-    let drawn = read_circuit(rt.alloc(), &[HEAD, LOOP])?;
+    let drawn = drawn(rt.alloc(), &[HEAD, LOOP])?;
     for row in &LIMITS {
         is_limited(&rt, &drawn.circuit, *row);
     }
+    Ok(())
+}
+
+/// The nets of a class are evaluated once: eight evaluations of three sections in place of 64.
+#[test]
+fn classes_save_evaluations(rt: HostRuntime) -> Result<(), Stop> {
+    let drawn = drawn(rt.alloc(), &[HEAD, SECTIONS])?;
+    let made = classes(rt.alloc(), &drawn.circuit, &drawn.cases)?;
+    let rest = by_classes(rt.alloc(), &drawn, &made, 9);
+    let wanted = Rest {
+        rounds: 2,
+        evals: 8,
+        tick: 189,
+    };
+    expect_eq(&rt, "by classes", &rest, &Ok(Some(wanted)));
     Ok(())
 }
