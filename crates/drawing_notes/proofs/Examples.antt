@@ -1,0 +1,26 @@
+-- What is told of a circuit that has no case, worked out on paper: with notes and with none.
+use Rattle.std.specs.Prelude.{◌≡◌, false, [], ◌∷◌, codes, None}
+use Rattle.std.specs.Fmt.{digits}
+use Rattle.std.proofs.Common.{refl}
+use Rattle.scald_base.specs.declared.outcome.Outcome.TheVariants.{Clean, Faulty}
+use Rattle.element_kinds.specs.declared.kind.Kind.TheVariants.{SetupHold}
+use Rattle.listing.specs.Head.{period_line}
+use Rattle.circuit_notes.specs.Idle.{idle_line}
+use Rattle.circuit_notes.specs.Paths.{Ways}
+use Rattle.circuit_notes.proofs.Examples.{three, instance, on}
+use Rattle.wave_notes.specs.Unclocked.{unclocked_line}
+use Rattle.drawing_notes.specs.Report.{count_line, notes_told}
+
+-- nothing leads to anything
+abbrev no_ways : Ways
+no_ways = record { together = λ i j. false; arrival = λ net. None; launched = λ clock net. false }
+
+-- a checker of nothing on a clock that never comes
+two_notes : notes_told no_ways [] 2 (three (instance (codes "c1") SetupHold (0, 0) (on 0 ∷ on 1 ∷ []) None ∷ []) None None None) 0 []
+    ≡ (Faulty 2, codes "SCALD 2 PERIOD 8\nNOTE UNCLOCKED c1<0> PIN 0 A<0>\nNOTE IDLE c1<0>\nNOTES 2\n")
+unfolding digits period_line unclocked_line idle_line count_line
+two_notes = refl
+
+no_note : notes_told no_ways [] 1 (three [] None None None) 0 [] ≡ (Clean, codes "SCALD 1 PERIOD 8\nCLEAN\n")
+unfolding digits period_line count_line
+no_note = refl

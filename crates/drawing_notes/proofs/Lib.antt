@@ -1,0 +1,5 @@
+pub mod Examples
+pub mod Lawful
+pub mod Promised
+pub mod Replying
+pub mod Reporting

@@ -1,0 +1,5 @@
+use Rattle.drawing_notes.proofs.Lawful.{notes_are_lawful}
+use Rattle.drawing_notes.proofs.program.NotesProgramProgram.laws.Goals as goal
+
+pub returns : goal.returns
+returns c = notes_are_lawful

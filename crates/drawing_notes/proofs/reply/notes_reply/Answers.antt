@@ -1,0 +1,19 @@
+use Rattle.std.proofs.Common.{◌∙◌, ap, subst, sym}
+use Rattle.drawing_tree.specs.Tree.{drawing_of}
+use Rattle.drawing_grammar.proofs.TextLaws.{one_drawing}
+use Rattle.drawing_grammar.specs.Refused.{IsRefusal}
+use Rattle.drawn_circuit.specs.Drawn.{undrawn}
+use Rattle.spread_names.specs.Spreads.{spreads}
+use Rattle.drawing_notes.proofs.Replying.{refused_is}
+use Rattle.drawing_notes.proofs.reply.notes_reply.Goals as goal
+
+pub circuit_reply-requires-clause-spread : goal.circuit_reply-requires-clause-spread
+circuit_reply-requires-clause-spread c = λ d draws.
+    c.as_slice.ensures ∙ c.in_ok-spreads-in-Ok.ensures
+    ∙ ap spreads (one_drawing c.args.text.now (drawing_of c.in-Ok.drawing) d c.in-Ok.ensures.drawn draws)
+
+pub returns-in-Err-Refused : goal.returns-in-Err-Refused
+returns-in-Err-Refused c =
+    refused_is c.args.text.now _ _
+    (undrawn (subst (IsRefusal c.args.text.now) (sym c.in-Err-Refused.refusal-is) (c.in-Err-Refused.ensures.refused c.in-Err-Refused.refusal c.in-Err-Refused.field-0-is)))
+    c.refused.ensures.outcome c.refused.ensures.bytes

@@ -1,0 +1,4 @@
+pub mod Answer
+pub mod Noted
+pub mod Promise
+pub mod Report
