@@ -7,12 +7,13 @@ use Rattle.scald_base.specs.declared.assertion.AssertSpec.{AssertSpec}
 use Rattle.scald_base.specs.declared.assertion.AssertSpec.TheVariants.{None as Unasserted, Stable}
 use Rattle.vector_names.specs.declared.bits.Target.TheVariants.{Net as OnNet, Constant}
 use Rattle.element_kinds.specs.declared.kind.Kind.{Kind}
-use Rattle.element_kinds.specs.declared.kind.Kind.TheVariants.{Buf, Reg, Latch, SetupHold, RiseFall, MinPulse}
+use Rattle.element_kinds.specs.declared.kind.Kind.TheVariants.{And, Buf, Chg, Reg, Latch, SetupHold, RiseFall, MinPulse}
 use Rattle.flat_circuit.specs.declared.instance.Pin.{Pin}
 use Rattle.flat_circuit.specs.declared.instance.Instance.{Instance}
 use Rattle.flat_circuit.specs.declared.net.Net.{Net}
 use Rattle.flat_circuit.specs.Circuit.{Circuit}
 use Rattle.circuit_notes.specs.declared.launched.Arrival.{Arrival}
+use Rattle.circuit_notes.specs.Pins.{has_clock, target_text}
 use Rattle.circuit_notes.specs.Idle.{idle, idle_line}
 use Rattle.circuit_notes.specs.Unchecked.{unchecked, unchecked_line}
 use Rattle.circuit_notes.specs.Unread.{unread, unread_line}
@@ -24,8 +25,8 @@ use Rattle.circuit_notes.specs.Late.{late, late_line}
 abbrev pub header : Header
 header = record { units = 8; ticks = 1; wire = record { min = 0; max = 0 }; pskew = (0, 0); cskew = (0, 0) }
 
-abbrev pub net : List ℕ → AssertSpec → Option ℕ → Net
-net name spec driver = record { name = name; bit = 0; spec = spec; wire = record { min = 0; max = 2 }; driver = driver }
+abbrev pub net : List ℕ → AssertSpec → ℕ → Option ℕ → Net
+net name spec wire driver = record { name = name; bit = 0; spec = spec; wire = record { min = 0; max = wire }; driver = driver }
 
 abbrev pub on : ℕ → Pin
 on i = record { target = OnNet i; inverted = false; hold = false }
@@ -67,10 +68,30 @@ instance path kind limits pins (Some i) =
 abbrev pub three : List Instance → Option ℕ → Option ℕ → Option ℕ → Circuit
 three js a b c = record {
   header = header;
-  nets = net (codes "A") Unasserted a ∷ net (codes "B") Unasserted b ∷ net (codes "C") (Stable []) c ∷ [];
+  nets = net (codes "A") Unasserted 2 a ∷ net (codes "B") Unasserted 2 b ∷ net (codes "C") (Stable []) 7 c ∷ [];
   instances = js;
   order = 0 ∷ 1 ∷ 2 ∷ [];
 }
+
+-- a buffer from C to each of two nets, whose names are in another order than their numbers
+abbrev two_outputs : Circuit
+two_outputs = record {
+  header = header;
+  nets = net (codes "B") Unasserted 2 (Some 0) ∷ net (codes "A") Unasserted 2 (Some 1) ∷ net (codes "C") (Stable []) 7 None ∷ [];
+  instances = instance (codes "b1") Buf (0, 0) (on 2 ∷ []) (Some 0) ∷ instance (codes "b2") Buf (0, 0) (on 2 ∷ []) (Some 1) ∷ [];
+  order = 1 ∷ 0 ∷ 2 ∷ [];
+}
+
+-- ---- pins
+
+storage_and_checkers_of_points : (has_clock Reg ≡ true) × (has_clock Latch ≡ true) × (has_clock SetupHold ≡ true)
+    × (has_clock RiseFall ≡ true) × (has_clock MinPulse ≡ false) × (has_clock Buf ≡ false) × (has_clock Chg ≡ false)
+storage_and_checkers_of_points = (refl, refl, refl, refl, refl, refl, refl)
+
+nets_and_constants : (target_text two_outputs (OnNet 1) ≡ codes "A<0>") × (target_text two_outputs (Constant true) ≡ codes "ONE")
+    × (target_text two_outputs (Constant false) ≡ codes "ZERO")
+unfolding digits
+nets_and_constants = (refl, refl, refl)
 
 -- ---- IDLE
 
@@ -90,6 +111,9 @@ from_rise_to_fall = refl
 any_width : idle (checker MinPulse (1, 1)) ≡ codes "NOTE IDLE c1<0>\n" ∷ []
 unfolding digits idle_line
 any_width = refl
+
+no_checker : idle two_outputs ≡ []
+no_checker = refl
 
 two_ticks : (idle (checker MinPulse (2, 1)) ≡ []) × (idle (checker MinPulse (0, 2)) ≡ [])
 two_ticks = (refl, refl)
@@ -148,6 +172,13 @@ read_by_one : (unread (buffer (instance (codes "r1") Reg (0, 0) (on 0 ∷ on 1 �
     × (unread (buffer (instance (codes "w1") MinPulse (1, 1) (on 1 ∷ []) None ∷ [])) ≡ [])
 read_by_one = (refl, refl)
 
+read_by_a_complement : unread (buffer (instance (codes "w1") MinPulse (1, 1) (turned 1 ∷ []) None ∷ [])) ≡ []
+read_by_a_complement = refl
+
+by_their_names : unread two_outputs ≡ codes "NOTE UNREAD A<0>\n" ∷ codes "NOTE UNREAD B<0>\n" ∷ []
+unfolding digits unread_line
+by_their_names = refl
+
 -- C asserts that it is stable, and A is not driven
 asserts_or_is_none : unread (three (instance (codes "b1") Buf (0, 0) (on 0 ∷ []) (Some 2) ∷ []) None None (Some 0)) ≡ []
 asserts_or_is_none = refl
@@ -167,6 +198,18 @@ one_loop = refl
 no_loop : loops (buffer []) none_together ≡ []
 no_loop = refl
 
+-- by its first net in the order of names
+first_by_name : loops two_outputs first_two ≡ codes "NOTE LOOP A<0> NETS 2\n" ∷ []
+unfolding digits loop_line
+first_by_name = refl
+
+abbrev each_by_itself : ℕ → ℕ → Bool
+each_by_itself i j = first_two i j && (i == j)
+
+two_loops : loops two_outputs each_by_itself ≡ codes "NOTE LOOP A<0> NETS 1\n" ∷ codes "NOTE LOOP B<0> NETS 1\n" ∷ []
+unfolding digits loop_line
+two_loops = refl
+
 -- ---- LATE: what comes at B after some ticks, its wire of two, and a period of eight
 
 abbrev after : ℕ → ℕ → Option Arrival
@@ -181,3 +224,15 @@ one_tick_late = refl
 
 just_in_time : late launched (after 6) ≡ []
 just_in_time = refl
+
+-- at the second pin of what the register drives: storage, or a gate that passes it on
+abbrev beyond : Kind → Circuit
+beyond kind = three (instance (codes "r1") Reg (0, 0) (on 0 ∷ high ∷ []) (Some 1) ∷ instance (codes "e2") kind (0, 0) (on 0 ∷ on 1 ∷ []) (Some 2) ∷ []) None (Some 0) (Some 1)
+
+ends_at_storage : (late (beyond Reg) (after 7) ≡ codes "NOTE LATE e2<0> PIN 1 B<0> TICKS 9 FROM r1<0>\n" ∷ [])
+    × (late (beyond Latch) (after 7) ≡ codes "NOTE LATE e2<0> PIN 1 B<0> TICKS 9 FROM r1<0>\n" ∷ [])
+unfolding digits late_line
+ends_at_storage = (refl, refl)
+
+passed_on : (late (beyond And) (after 7) ≡ []) × (late (beyond Chg) (after 7) ≡ [])
+passed_on = (refl, refl)

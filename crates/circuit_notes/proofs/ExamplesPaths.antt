@@ -1,11 +1,13 @@
 -- Paths, worked out on paper: nets on one loop and nets beside it, and what storage launches.
-use Rattle.std.specs.Prelude.{◌≡◌, ℕ, ◌+◌, ◌<◌, ◌==◌, ◌||◌, ◌⊎◌, Bool, true, false, [], ◌∷◌, codes, Some, None}
+use Rattle.std.specs.Prelude.{◌≡◌, ℕ, ◌+◌, ◌<◌, ◌==◌, ◌||◌, ◌⊎◌, Bool, true, false, [], ◌∷◌, codes, slice_get, Some, None}
 use Rattle.std.proofs.Common.{zero, suc, inl, inr, refl, sym, ap, subst, ◌∙◌, arith}
 use Rattle.std.proofs.lemmas.Bool.{eqb-true, or_cases}
 use Rattle.element_kinds.specs.declared.kind.Kind.TheVariants.{And, Buf, Reg}
 use Rattle.flat_circuit.specs.Circuit.{Circuit, driver, wire_at}
 use Rattle.flat_circuit.specs.Loop.{Reaches, By_one, And_then}
-use Rattle.circuit_notes.specs.Paths.{leads, Leads, AreTogether, greatest_delay, Launches, Stored, Passed, IsLatest, IsArrival}
+use Rattle.flat_circuit.specs.declared.instance.Instance.{Instance}
+use Rattle.circuit_notes.specs.Pins.{clock_of, pin_net}
+use Rattle.circuit_notes.specs.Paths.{leads, Leads, AreTogether, TellsLoops, greatest_delay, Launches, Stored, Passed, IsLatest, IsArrival, IsLaunchedBy, TellsLaunches}
 use Rattle.circuit_notes.proofs.Examples.{three, instance, on, high}
 
 -- ---- two buffers from A to B and back, and one from B to C
@@ -41,11 +43,27 @@ beside_it t = from_c t.back
         first (By_one {i} {j} led) at = stays i j led at
         first (And_then {i} {m} {j} led path) at = stays i m led at
 
+-- so neither no two nets are on one loop nor all of them
+abbrev never : ℕ → ℕ → Bool
+never i j = false
+
+abbrev always : ℕ → ℕ → Bool
+always i j = true
+
+false_is_not_true : ¬ (false ≡ true)
+false_is_not_true is = cc
+
+not_no_loop : ¬ TellsLoops ring never
+not_no_loop tells = false_is_not_true ((tells 0 1).1 there_and_back)
+
+not_one_loop : ¬ TellsLoops ring always
+not_one_loop tells = beside_it ((tells 1 2).0 refl)
+
 -- ---- a register that drives A, and a buffer from A to B: delays of 3 and 3 ticks at most, and a wire of 2
 
 abbrev row : Circuit
 row = three (
-    instance (codes "r1") Reg (0, 0) (on 2 ∷ on 2 ∷ []) (Some 0) ∷ instance (codes "b1") Buf (0, 0) (on 0 ∷ []) (Some 1) ∷ [])
+    instance (codes "r1") Reg (0, 0) (on 2 ∷ on 0 ∷ []) (Some 0) ∷ instance (codes "b1") Buf (0, 0) (on 0 ∷ []) (Some 1) ∷ [])
     (Some 0) (Some 1) None
 
 abbrev no_loops : ℕ → Bool
@@ -56,6 +74,15 @@ at_its_output = Stored refl refl refl
 
 past_a_gate : Launches row no_loops 0 1 8
 past_a_gate = Passed at_its_output refl refl
+
+-- with the wire of the net that leads, which is C's of 7 here
+abbrev from_c : Circuit
+from_c = three (
+    instance (codes "r1") Reg (0, 0) (on 1 ∷ on 1 ∷ []) (Some 2) ∷ instance (codes "b1") Buf (0, 0) (on 2 ∷ []) (Some 0) ∷ [])
+    (Some 1) None (Some 0)
+
+past_its_wire : Launches from_c no_loops 0 0 13
+past_its_wire = Passed {from = 2} {ticks = 3} (Stored refl refl refl) refl refl
 
 -- no path passes a loop
 abbrev loop_at_b : ℕ → Bool
@@ -94,6 +121,32 @@ less_than_the_latest is = elim (is.latest 0 8 past_a_gate) [ inl less ↦ omega 
 
 more_than_the_latest : ¬ IsLatest row no_loops 1 (record { ticks = 9; storage = 0 })
 more_than_the_latest is = let e = (launched_at_b 0 9 is.comes).1 in omega (arith, e)
+
+-- ---- its clock is on C, and its input on A
+
+by_its_clock : IsLaunchedBy row no_loops 2 1
+by_its_clock = record {
+  storage = 0;
+  instance = instance (codes "r1") Reg (0, 0) (on 2 ∷ on 0 ∷ []) (Some 0);
+  is = refl;
+  clocked = refl;
+  ticks = 8;
+  leads = past_a_gate;
+}
+
+not_by_its_input : ¬ IsLaunchedBy row no_loops 0 1
+not_by_its_input t = by t.storage (launched_at_b t.storage t.ticks t.leads).0 t.instance t.is t.clocked
+  where
+    by : (k : ℕ) → k ≡ 0 → (j : Instance) → slice_get row.instances k ≡ Some j → pin_net (clock_of j) ≡ Some 0 → ⊥
+    by zero at j is clocked = cc
+    by (suc k) at j is clocked = cc
+
+-- so the register's clock launches something, and not each clock does
+not_none : ¬ TellsLaunches row no_loops never
+not_none tells = false_is_not_true ((tells 2 1).1 by_its_clock)
+
+not_each : ¬ TellsLaunches row no_loops always
+not_each tells = not_by_its_input ((tells 0 1).0 refl)
 
 -- ---- two registers, A and B, and a gate from both to C: of sums that are the same, the earlier storage's
 
