@@ -1,8 +1,7 @@
 //! Runs that are made and judged: words and a text, and the outcome and the bytes that they have.
 
-use crate::rows::expect_text;
-use crate::texts::{Call, answers, expect_rows, outcome_of};
-use scald_base::{Bytes, Calls, MemorySink, MemorySource, NoMemory};
+use crate::texts::{Call, answers, ends_so, expect_rows};
+use scald_base::{Bytes, NoMemory};
 use std::process::Abort;
 
 /// Runs that are drawn. The lowest bits of the words of seed 0 are 1110 0111; a delay and a wire
@@ -318,22 +317,6 @@ u1 : ALUSLICE ("MAIN CLK .P5-6", "ENABLE .S4-7", "A .S7-6"<0:35>,
 END;
 "#;
 
-/// Puts the run that these words draw of a drawing at the end of `trace`.
-fn draw(
-    rt: &(impl Abort + AllocGlobal),
-    text: &str,
-    words: &str,
-    trace: &mut Bytes,
-) -> Result<(), NoMemory> {
-    let alloc = rt.alloc();
-    let drawing = Bytes::of(alloc, text.as_bytes())?;
-    let mut source = MemorySource::new(drawing, 4096, Calls::new(alloc));
-    let mut sink = MemorySink::new(alloc, 262_144, 4096, Calls::new(alloc))?;
-    let outcome = outcome_of(alloc, Call::Traces, words, &mut source, &mut sink)?;
-    expect_text(rt, words, outcome.as_bytes(), "Done");
-    Ok(trace.extend(sink.taken())?)
-}
-
 /// From this tick on nothing breaks in the run.
 fn nothing_breaks(
     rt: &(impl Abort + AllocGlobal),
@@ -356,9 +339,10 @@ fn expect_drawn(
 ) -> Result<(), NoMemory> {
     let words = format!(in rt.alloc(); "run {ticks} {seed}")?;
     let mut trace = Bytes::new(rt.alloc());
-    draw(rt, text, &words, &mut trace)?;
-    trace.extend(text.as_bytes())?;
-    nothing_breaks(rt, &words, trace.as_slice(), from)
+    let (name, drawing): (&str, &[u8]) = (&words, text.as_bytes());
+    ends_so(rt, Call::Traces, (name, name), drawing, "Done", &mut trace)?;
+    trace.extend(drawing)?;
+    nothing_breaks(rt, name, trace.as_slice(), from)
 }
 
 #[test]

@@ -45,7 +45,7 @@ fn debug_of(alloc: Global, outcome: impl Debug + Drop) -> Result<String, NoMemor
 }
 
 /// The outcome of a call to these words over these devices, as `Debug` writes it.
-pub fn outcome_of(
+fn outcome_of(
     alloc: Global,
     call: Call,
     words: &str,
@@ -62,15 +62,15 @@ pub fn outcome_of(
     }
 }
 
-/// The call to these words and this text has this outcome, and writes exactly these bytes. It reads
-/// the whole text, or where the outcome says `unread` nothing of it.
-pub fn answers(
+/// The call to these words and this text has this outcome, and what it writes is put at the end of
+/// `written`. It reads the whole text, or where the outcome says `unread` nothing of it.
+pub fn ends_so(
     rt: &(impl Abort + AllocGlobal),
     call: Call,
-    name: &str,
-    words: &str,
+    (name, words): (&str, &str),
     text: &[u8],
-    (outcome, bytes): (&str, &str),
+    outcome: &str,
+    written: &mut Bytes,
 ) -> Result<(), NoMemory> {
     let alloc = rt.alloc();
     let mut source = MemorySource::new(Bytes::of(alloc, text)?, 4096, Calls::new(alloc));
@@ -81,8 +81,22 @@ pub fn answers(
         None => (outcome, 0),
     };
     expect_text(rt, name, came.as_bytes(), wanted);
-    expect_text(rt, name, sink.taken(), bytes);
     expect(rt, name, source.left().len() == left);
+    Ok(written.extend(sink.taken())?)
+}
+
+/// The call to these words and this text has this outcome, and writes exactly these bytes.
+pub fn answers(
+    rt: &(impl Abort + AllocGlobal),
+    call: Call,
+    name: &str,
+    words: &str,
+    text: &[u8],
+    (outcome, bytes): (&str, &str),
+) -> Result<(), NoMemory> {
+    let mut written = Bytes::new(rt.alloc());
+    ends_so(rt, call, (name, words), text, outcome, &mut written)?;
+    expect_text(rt, name, written.as_slice(), bytes);
     Ok(())
 }
 
