@@ -1,7 +1,8 @@
 #!/bin/sh
-# Compares the report, the margins and, where one stands beside it, the chains of each drawing of examples/ with
-# those that stand beside it, and the status with the last line; and in examples/sections/ the reports, and that of all
-# sections together. A drawing of examples/ whose report has faults has chains.
+# Compares the report, the margins and, where they stand beside it, the notes and the chains of each drawing of examples/
+# with those that stand beside it, and the status with the last line; and in examples/sections/ the reports, and that of all
+# sections together. A drawing of examples/ whose report has faults has chains, and one
+# without notes beside it has none.
 # Usage: checks/examples.sh [PROGRAM]. Where none is named and none is built it says so and ends with 0.
 . "$(dirname -- "$0")/common.sh"
 begin "${1-}"
@@ -10,7 +11,7 @@ begin "${1-}"
 status_of() {
     case $(tail -n 1 "$1") in
     CLEAN | MARGINS*) echo 0 ;;
-    FAULTS*) echo 1 ;;
+    FAULTS* | NOTES*) echo 1 ;;
     REFUSED*) echo 2 ;;
     UNSETTLED*) echo 3 ;;
     *) echo none ;;
@@ -30,6 +31,18 @@ for drawing in "$top"/examples/*.scald "$top"/examples/sections/*.scald; do
     wanted=$(status_of "$report")
     [ "$status" = "$wanted" ] || failure "$name: status $status in place of $wanted"
     cmp -s "$work/report" "$report" || failure "$name: another report"
+
+    # The notes, where there are any.
+    notes=${drawing%.scald}.notes
+    "$program" notes <"$drawing" >"$work/notes"
+    status=$?
+    if [ -f "$notes" ]; then
+        wanted=$(status_of "$notes")
+        [ "$status" = "$wanted" ] || failure "$name: notes with status $status in place of $wanted"
+        cmp -s "$work/notes" "$notes" || failure "$name: other notes"
+    else
+        [ "$status" = 0 ] || failure "$name: notes with status $status, and none beside it"
+    fi
 
     # The margins, and the chains where there are faults.
     margins=${drawing%.scald}.margins
@@ -72,7 +85,7 @@ status=$?
 [ "$status" = "$(status_of "$processor.report")" ] || failure "processor: another status: $status"
 cmp -s "$work/report" "$processor.report" || failure "processor: another report"
 
-for report in "$top"/examples/*.report "$top"/examples/*.margins "$top"/examples/*.chains \
+for report in "$top"/examples/*.report "$top"/examples/*.notes "$top"/examples/*.margins "$top"/examples/*.chains \
     "$top"/examples/sections/*.report "$top"/examples/sections/*.margins; do
     [ -f "${report%.*}.scald" ] || [ -f "${report%.*}.sections" ] ||
         failure "$(basename -- "$report"): no drawing beside it"

@@ -167,6 +167,7 @@ says() {
 
 forms='scald: these words are none of its forms, which are
     scald verify [waves|faults] [rounds=N] <DRAWING    whether the drawing keeps its constraints, with its waves and faults
+    scald notes <DRAWING                               what the drawing does not say
     scald format <DRAWING                              the drawing in its canonical form
     scald upgrade <DRAWING                             the drawing in version 2 of the language
     scald margins <DRAWING                             by how much more each checker may ask for
@@ -224,6 +225,10 @@ none "'3 ' cannot come after 'bench'" bench '3 '
 none "'VERIFY' is none of its words: is verify meant?" VERIFY
 none "'Upgrade' is none of its words: is upgrade meant?" Upgrade
 # no word stands beside these
+none "'notes' cannot come after 'notes'" notes notes
+none "'faults' cannot come after 'notes'" notes faults
+none "'' cannot come after 'notes'" notes ''
+none "'note' is none of its words: is notes meant?" note
 none "'margins' cannot come after 'margins'" margins margins
 none "'waves' cannot come after 'margins'" margins waves
 none "'' cannot come after 'margins'" margins ''

@@ -312,6 +312,18 @@ whole 'a case of a global net, which is named inside of a macro' verify 0 \
     -- 'SCALD 1 PERIOD 400' 'NETS 3 INSTANCES 1 CHECKS 0' 'STABLE /SEL<0>' 'CASE 1 BASE 1 ROUNDS 1 T 3' 'WAVE /SEL<0> SKEW 0 0:400' \
     'WAVE IN<0> SKEW 0 C:51 S:349' 'WAVE OUT<0> SKEW 0 0:400' 'CLEAN'
 
+# --- notes
+whole 'notes of each kind, in their order' notes 1 \
+    'c1 : SETUP_HOLD_CHK {SETUP=1} ("CLK", "D .S1-4");' 'w1 : MIN_PULSE_CHK {HIGH=1} ("CK .P2-3");' 'r1 : REG [5:10] ("CK", "D") -> ("Q");' \
+    'k1 : CHG [20:395] ("Q") -> ("E"<0:1>);' 'b1 : BUF [1:1] ("E") -> ("X .S"<0:1>);' 't1 : BUF [20:40] ("CK") -> ("T");' \
+    'r2 : REG [5:10] ("T", "E") -> ("P");' 'c2 : SETUP_HOLD_CHK {SETUP=1} ("T", "P");' 'x1 : XOR [1:1] ("CK", "L") -> ("L");' \
+    -- 'SCALD 1 PERIOD 400' 'NOTE UNCLOCKED c1<0> PIN 0 CLK<0>' 'NOTE IDLE w1<0>' 'NOTE UNCHECKED r1<0> D<0>' 'NOTE UNCHECKED r2<0> E<0>' \
+    'NOTE UNREAD E<1>' 'NOTE SPREAD 8:17 E WIDTH 2' 'NOTE LATE r2<0> PIN 1 E<0> TICKS 405 FROM r1<0>' 'NOTE LOOP L<0> NETS 1' \
+    'NOTE UNKNOWN CASE 0 NETS 1 L<0>' 'NOTE COMMON c2<0> T<0> TICKS 20' 'NOTES 10'
+whole 'nothing to note' notes 0 \
+    'r1 : REG [5:10] ("CK .P2-3", "D .S1-4") -> ("Q .S3-2");' 'c1 : SETUP_HOLD_CHK {SETUP=20, HOLD=10} ("CK", "D");' \
+    -- 'SCALD 1 PERIOD 400' 'CLEAN'
+
 # --- chains and margins
 whole 'a late input, latest through its wire' chains 1 \
     'WIRE 0:20;' 'DRAWING ROW;' 'c1 : SETUP_HOLD_CHK {SETUP=31, HOLD=10} ("CK .P2-3", "D .S1-4");' 'END;' \

@@ -1,4 +1,4 @@
-"""A model of `scald verify`, `margins`, `chains` and `sections`: a second account of what a drawing means, and several
+"""A model of `scald verify`, `notes`, `margins`, `chains` and `sections`: a second account of what a drawing means, and several
 together.
 
 It is written from docs/LANGUAGE.md and docs/MEANING.md, in other words than the definitions in crates/*/specs and
@@ -16,6 +16,7 @@ In the order in which a drawing flows through them:
     circuit     nets, pins and instances       margins   how much more checkers may ask for
     rules       a circuit's own rules, cases   chains    where faults come from
                                                report    the answers: their lines and statuses
+                                               notes     what a drawing does not say
                                                sections  several drawings, each by itself, and joined
 
 It is tried on random_drawings, with patterns that chance would seldom draw; mending and spoiling make most of them good,

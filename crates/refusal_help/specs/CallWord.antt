@@ -3,12 +3,13 @@ use Rattle.std.specs.Prelude.{ℕ, zero, suc, Bool, not, ◌&&◌, List, [], ◌
 use Rattle.std.specs.List.{find}
 use Rattle.std.specs.Str.{bytes_eq}
 use Rattle.refusal_help.specs.declared.call_word.CallWord.{CallWord}
-use Rattle.refusal_help.specs.declared.call_word.CallWord.TheVariants.{Verify, Format, Upgrade, Margins, Chains, Sections, Run, Judge, Bench, Waves, Faults, Rounds, Case}
+use Rattle.refusal_help.specs.declared.call_word.CallWord.TheVariants.{Verify, Notes, Format, Upgrade, Margins, Chains, Sections, Run, Judge, Bench, Waves, Faults, Rounds, Case}
 use Rattle.refusal_help.specs.Near.{is_near}
 use Rattle.refusal_help.specs.Text.{line, quoted}
 
 abbrev pub word_of : CallWord → List ℕ
 word_of Verify = codes "verify"
+word_of Notes = codes "notes"
 word_of Format = codes "format"
 word_of Upgrade = codes "upgrade"
 word_of Margins = codes "margins"
@@ -24,7 +25,7 @@ word_of Case = codes "case=K"
 
 -- the words that a form begins with, and those that may follow
 abbrev pub commands : List CallWord
-commands = Verify ∷ Format ∷ Upgrade ∷ Margins ∷ Chains ∷ Sections ∷ Run ∷ Judge ∷ Bench ∷ []
+commands = Verify ∷ Notes ∷ Format ∷ Upgrade ∷ Margins ∷ Chains ∷ Sections ∷ Run ∷ Judge ∷ Bench ∷ []
 
 abbrev pub options : List CallWord
 options = Waves ∷ Faults ∷ Rounds ∷ Case ∷ []

@@ -14,6 +14,7 @@ use std::alloc::Global;
 #[derive(Clone, Copy)]
 pub enum CallWord {
     Verify,
+    Notes,
     Format,
     Upgrade,
     Margins,
@@ -29,8 +30,9 @@ pub enum CallWord {
 }
 
 /// The words that a form begins with.
-const COMMANDS: [CallWord; 9] = [
+const COMMANDS: [CallWord; 10] = [
     CallWord::Verify,
+    CallWord::Notes,
     CallWord::Format,
     CallWord::Upgrade,
     CallWord::Margins,
@@ -56,6 +58,7 @@ impl CallWord {
     {
         match self {
             CallWord::Verify => b"verify",
+            CallWord::Notes => b"notes",
             CallWord::Format => b"format",
             CallWord::Upgrade => b"upgrade",
             CallWord::Margins => b"margins",

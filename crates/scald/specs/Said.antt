@@ -14,6 +14,7 @@ abbrev pub forms : List ℕ
 forms =
     codes "scald: these words are none of its forms, which are\n" ++
     (codes "    scald verify [waves|faults] [rounds=N] <DRAWING    whether the drawing keeps its constraints, with its waves and faults\n" ++
+    (codes "    scald notes <DRAWING                               what the drawing does not say\n" ++
     (codes "    scald format <DRAWING                              the drawing in its canonical form\n" ++
     (codes "    scald upgrade <DRAWING                             the drawing in version 2 of the language\n" ++
     (codes "    scald margins <DRAWING                             by how much more each checker may ask for\n" ++
@@ -21,7 +22,7 @@ forms =
     (codes "    scald sections <DRAWINGS                           verify of drawings with a line ===== between them, each by itself and joined\n" ++
     (codes "    scald run T SEED [case=K] <DRAWING                 a run of T ticks that a seed draws, 1 to 4096, as a trace\n" ++
     (codes "    scald judge F <TRACE-AND-DRAWING                   whether the trace is a run, and what breaks in it from tick F on\n" ++
-    codes "    scald bench N                                      what is found in a made drawing of N sections, 1 to 200"))))))))
+    codes "    scald bench N                                      what is found in a made drawing of N sections, 1 to 200")))))))))
 
 abbrev pub no_memory : List ℕ
 no_memory = codes "scald: there is not enough memory"

@@ -3,6 +3,7 @@
 ghost use Rattle.std.specs.Prelude.{◌≡◌};
 ghost use Rattle.scald.specs.Named.{call_of, status_of};
 
+use drawing_notes::notes_main;
 use fault_chain::chain_main;
 use margin_report::margin_main;
 use scald_base::{List, Outcome, Sink, Source, Words};
@@ -16,6 +17,8 @@ use trace_tool::{TraceOutcome, trace_main, trace_status};
 enum Call {
     /// That of the verifier, by all words.
     Tool,
+    /// That of the notes.
+    Notes,
     /// That of the margins.
     Margins,
     /// That of the chains.
@@ -54,7 +57,9 @@ fn call_of(words: &Words) -> Call
     let [first, ..] = words.as_slice() else {
         return Call::Tool;
     };
-    if first.as_slice() == b"margins".as_slice() {
+    if first.as_slice() == b"notes".as_slice() {
+        Call::Notes
+    } else if first.as_slice() == b"margins".as_slice() {
         Call::Margins
     } else if first.as_slice() == b"chains".as_slice() {
         Call::Chains
@@ -74,7 +79,20 @@ fn tool<S: Source, K: Sink>(alloc: Global, words: &Words, source: &mut S, sink: 
     tool_main(alloc, words, source, sink)
 }
 
-/// The outcome of the margins. No word may follow theirs, so where one does, it is wrong.
+/// The outcome of the notes. No word may follow theirs, so where one does, it is wrong.
+fn notes<S: Source, K: Sink>(
+    alloc: Global,
+    words: &Words,
+    source: &mut S,
+    sink: &mut K,
+) -> Outcome {
+    if words.len() > 1 {
+        return Outcome::BadWords(1);
+    }
+    notes_main(alloc, &List::new(alloc), source, sink)
+}
+
+/// The outcome of the margins. No word may follow theirs.
 fn margins<S: Source, K: Sink>(
     alloc: Global,
     words: &Words,
@@ -132,6 +150,7 @@ pub fn answer_to<S: Source, K: Sink>(
 ) -> Answer {
     match call_of(words) {
         Call::Tool => Answer::Drawing(tool(alloc, words, source, sink)),
+        Call::Notes => Answer::Drawing(notes(alloc, words, source, sink)),
         Call::Margins => Answer::Drawing(margins(alloc, words, source, sink)),
         Call::Chains => Answer::Drawing(chains(alloc, words, source, sink)),
         Call::Sections => Answer::Sections(sections(alloc, words, source, sink)),

@@ -29,6 +29,7 @@ pub fn forms() -> &'static str
 {
     "scald: these words are none of its forms, which are
     scald verify [waves|faults] [rounds=N] <DRAWING    whether the drawing keeps its constraints, with its waves and faults
+    scald notes <DRAWING                               what the drawing does not say
     scald format <DRAWING                              the drawing in its canonical form
     scald upgrade <DRAWING                             the drawing in version 2 of the language
     scald margins <DRAWING                             by how much more each checker may ask for
