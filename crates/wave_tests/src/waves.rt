@@ -2,7 +2,8 @@
 
 use crate::cells::{M, S, Slot, expect_slots};
 use crate::rows::expect;
-use std::test::Fail;
+use scald_base::NoMemory;
+use std::process::Abort;
 use wave_core::{CyclicWave, SlotWave};
 
 /// By how many slots a wave of five is turned, and what comes.
@@ -15,17 +16,35 @@ const TURNS: [(u16, [Slot; 5]); 6] = [
     (4096, [S, M, M, S, S]),
 ];
 
-/// Each turn of a wave of five slots, and of one of two.
+/// Looks at each slot of a wave that is turned.
+fn expect_turned(
+    rt: &(impl Abort + AllocGlobal),
+    name: &str,
+    wave: &SlotWave<Slot>,
+    by: u16,
+    want: &[Slot],
+) -> Result<(), NoMemory> {
+    let turned = wave.rotate(rt.alloc(), by)?;
+    expect_slots(rt, name, &turned, want);
+    Ok(())
+}
+
+/// Each turn of a wave of five slots.
 #[test]
-fn rotations(rt: HostRuntime) -> Result<(), Fail> {
-    let a = rt.alloc();
-    let five = SlotWave::from_slots(a, &[M, M, S, S, S])?;
+fn rotations(rt: HostRuntime) -> Result<(), NoMemory> {
+    let five = SlotWave::from_slots(rt.alloc(), &[M, M, S, S, S])?;
     for (by, want) in &TURNS {
-        expect_slots(&rt, "of five", &five.rotate(a, *by)?, want);
+        expect_turned(&rt, "of five", &five, *by, want)?;
     }
-    let two = SlotWave::from_slots(a, &[M, S])?;
-    expect_slots(&rt, "of two", &two.rotate(a, 1)?, &[S, M]);
-    expect_slots(&rt, "of two, back again", &two.rotate(a, 2)?, &[M, S]);
+    Ok(())
+}
+
+/// Turns of a wave of two slots.
+#[test]
+fn short_rotations(rt: HostRuntime) -> Result<(), NoMemory> {
+    let two = SlotWave::from_slots(rt.alloc(), &[M, S])?;
+    expect_turned(&rt, "of two", &two, 1, &[S, M])?;
+    expect_turned(&rt, "of two, back again", &two, 2, &[M, S])?;
     Ok(())
 }
 
@@ -39,40 +58,69 @@ const FOLDS: [(u16, [Slot; 7]); 6] = [
     (6, [M, M, M, M, M, M, M]),
 ];
 
+/// Looks at each slot of a wave that is folded.
+fn expect_folded(
+    rt: &(impl Abort + AllocGlobal),
+    name: &str,
+    wave: &SlotWave<Slot>,
+    back: u16,
+    want: &[Slot],
+) -> Result<(), NoMemory> {
+    assert!(rt; back < wave.period());
+    let folded = wave.fold(rt.alloc(), back)?;
+    expect_slots(rt, name, &folded, want);
+    Ok(())
+}
+
 /// Each fold of a wave of seven slots with one change, which lasts so many slots longer.
 #[test]
-fn folds(rt: HostRuntime) -> Result<(), Fail> {
-    let a = rt.alloc();
-    let seven = SlotWave::from_slots(a, &[S, S, S, S, M, S, S])?;
+fn folds(rt: HostRuntime) -> Result<(), NoMemory> {
+    let seven = SlotWave::from_slots(rt.alloc(), &[S, S, S, S, M, S, S])?;
     for (back, want) in &FOLDS {
-        if *back < seven.period() {
-            expect_slots(&rt, "of seven", &seven.fold(a, *back)?, want);
-        }
+        expect_folded(&rt, "of seven", &seven, *back, want)?;
     }
-    let two = SlotWave::from_slots(a, &[M, S])?;
-    expect_slots(&rt, "of two", &two.fold(a, 1)?, &[M, M]);
-    expect_slots(&rt, "of two, none", &two.fold(a, 0)?, &[M, S]);
+    Ok(())
+}
+
+/// Folds of a wave of two slots.
+#[test]
+fn short_folds(rt: HostRuntime) -> Result<(), NoMemory> {
+    let two = SlotWave::from_slots(rt.alloc(), &[M, S])?;
+    expect_folded(&rt, "of two", &two, 1, &[M, M])?;
+    expect_folded(&rt, "of two, none", &two, 0, &[M, S])?;
+    Ok(())
+}
+
+/// Looks at a map of a wave, and at a copy of it.
+fn expect_copies(rt: &(impl Abort + AllocGlobal), one: &SlotWave<Slot>) -> Result<(), NoMemory> {
+    let mapped = one.map(rt.alloc(), |c| if c == S { M } else { S })?;
+    expect_slots(rt, "mapped", &mapped, &[S, S, M, M]);
+    let same = one.copy(rt.alloc())?;
+    expect(rt, "the same", one.equal(&same));
+    Ok(())
+}
+
+/// Looks at a wave beside another: their pairs in order, and that they are not equal.
+fn expect_pairs(rt: &(impl Abort + AllocGlobal), one: &SlotWave<Slot>) -> Result<(), NoMemory> {
+    let other = SlotWave::from_slots(rt.alloc(), &[M, S, M, S])?;
+    expect(rt, "another", !one.equal(&other));
+    assert!(rt; one.period() == other.period());
+    let less = one.zip(rt.alloc(), &other, |c, d| if d == S { c } else { S })?;
+    expect_slots(rt, "in order", &less, &[S, M, S, S]);
     Ok(())
 }
 
 /// Maps, pairs, copies and compares.
 #[test]
-fn others(rt: HostRuntime) -> Result<(), Fail> {
-    let a = rt.alloc();
-    let one = SlotWave::from_slots(a, &[M, M, S, S])?;
-    let other = SlotWave::from_slots(a, &[M, S, M, S])?;
-    expect_slots(
-        &rt,
-        "mapped",
-        &one.map(a, |c| if c == S { M } else { S })?,
-        &[S, S, M, M],
-    );
-    let less = one.zip(a, &other, |c, d| if d == S { c } else { S })?;
-    expect_slots(&rt, "in order", &less, &[S, M, S, S]);
-    let same = one.copy(a)?;
-    expect(&rt, "the same", one.equal(&same));
-    expect(&rt, "another", !one.equal(&other));
-    let uniform: SlotWave<Slot> = SlotWave::uniform(a, 3, M)?;
+fn others(rt: HostRuntime) -> Result<(), NoMemory> {
+    let one = SlotWave::from_slots(rt.alloc(), &[M, M, S, S])?;
+    expect_copies(&rt, &one)?;
+    expect_pairs(&rt, &one)
+}
+
+#[test]
+fn a_uniform_wave(rt: HostRuntime) -> Result<(), NoMemory> {
+    let uniform: SlotWave<Slot> = SlotWave::uniform(rt.alloc(), 3, M)?;
     expect_slots(&rt, "uniform", &uniform, &[M, M, M]);
     Ok(())
 }
