@@ -1,6 +1,6 @@
 //! What is tested of the whole calls: words, devices that fail or fill up, and texts that are cut
-//! short, formatted, or verified by both kinds of waves; the margins and the chains of texts;
-//! sections; and runs that are made and judged. Each row has what comes in, and the outcome and
+//! short, formatted, or verified by both kinds of waves; the notes, the margins and the chains of
+//! texts; sections; and runs that are made and judged. Each row has what comes in, and the outcome and
 //! the bytes that go out as they were worked out on paper.
 //!
 //! The crate has tests alone, and nothing stands on it. `tables` has how a table of rows is read.
@@ -27,6 +27,12 @@ mod chains;
 mod fault_reports;
 #[cfg(test)]
 mod margins;
+#[cfg(test)]
+mod name_notes;
+#[cfg(test)]
+mod notes;
+#[cfg(test)]
+mod path_notes;
 #[cfg(test)]
 mod refusals;
 #[cfg(test)]

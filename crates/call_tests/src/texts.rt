@@ -2,6 +2,7 @@
 
 use crate::rows::{expect, expect_text};
 use crate::tables::{row_of, write_text};
+use drawing_notes::notes_main;
 use fault_chain::chain_main;
 use margin_report::margin_main;
 use scald_base::{Bytes, Calls, MemorySink, MemorySource, NoMemory};
@@ -16,6 +17,7 @@ use trace_tool::trace_main;
 #[derive(Clone, Copy)]
 pub enum Call {
     Tool,
+    Notes,
     Margins,
     Chains,
     Sections,
@@ -55,6 +57,7 @@ fn outcome_of(
     let words = words_of(alloc, words)?;
     match call {
         Call::Tool => debug_of(alloc, tool_main(alloc, &words, source, sink)),
+        Call::Notes => debug_of(alloc, notes_main(alloc, &words, source, sink)),
         Call::Margins => debug_of(alloc, margin_main(alloc, &words, source, sink)),
         Call::Chains => debug_of(alloc, chain_main(alloc, &words, source, sink)),
         Call::Sections => debug_of(alloc, sections_main(alloc, &words, source, sink)),
