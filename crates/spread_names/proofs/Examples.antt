@@ -7,7 +7,7 @@ use Rattle.scald_base.specs.declared.refusal.Place.{Place}
 use Rattle.scald_base.specs.declared.assertion.AssertSpec.TheVariants.{None as Unasserted}
 use Rattle.scald_expr.specs.Expression.{Expression, Number, Param, Binary}
 use Rattle.scald_expr.specs.declared.expr.Op.TheVariants.{Sub}
-use Rattle.drawing_tree.specs.Tree.{Range, Item, Zero, Named, Term, Connection, Use, Statement, If, For, Statements, nil, cons, else_, Formal, Macro, Drawing}
+use Rattle.drawing_tree.specs.Tree.{Range, Item, Zero, One, Named, Term, Connection, Use, Statement, If, For, Statements, nil, cons, else_, Formal, Macro, Drawing}
 use Rattle.macro_expander.specs.Macros.{given_to, inside_of}
 use Rattle.spread_names.specs.declared.spread.Spread.{Spread}
 use Rattle.spread_names.specs.Spreads.{spreading_at, spreads}
@@ -152,6 +152,28 @@ checker :
 unfolding spreads spreading_at
 checker = refl
 
+-- the terms of a connection have their bits together
+terms_of_an_output :
+    spreads (alone (used (codes "b") (codes "BUF") (name 7 (codes "A") None ∷ [])
+    (connection 9 (local (codes "X") (to 1) ∷ local (codes "Y") None ∷ []) ∷ [])))
+    ≡ spread 7 (codes "A") 3 ∷ []
+unfolding spreads spreading_at
+terms_of_an_output = refl
+
+terms_of_an_input :
+    spreads (alone (used (codes "k") (codes "SETUP_HOLD_CHK")
+    (name 6 (codes "CK") None ∷ connection 7 (term Zero ∷ term One ∷ local (codes "D") (to 1) ∷ []) ∷ [])
+    [])) ≡ spread 6 (codes "CK") 4 ∷ []
+unfolding spreads spreading_at
+terms_of_an_input = refl
+
+-- a range of more than 256 bits is refused, and has none
+no_range :
+    spreads (alone (used (codes "b") (codes "BUF") (name 7 (codes "A") None ∷ [])
+    (name 9 (codes "X") (to 256) ∷ []))) ≡ []
+unfolding spreads spreading_at
+no_range = refl
+
 -- ---- macros
 
 -- four bits of "D" in, and in the body "C" and its formals over four bits
@@ -184,6 +206,28 @@ as_wide_as_its_formal :
 unfolding spreads spreading_at given_to inside_of
 as_wide_as_its_formal = refl
 
+-- four bits of "Q" out, and in the body names over it and over as many bits by the parameter
+abbrev driving : Macro
+driving = record {
+  name = codes "DRIVING";
+  params = (record { name = codes "N"; value = number 4 }) ∷ [];
+  ins = [];
+  outs = formal (codes "Q") (bits (number 0) (Binary Sub (Param (codes "N")) (number 1))) ∷ [];
+  body = cons (used (codes "b") (codes "BUF") (name 20 (codes "C") None ∷ []) (name 9 (codes "Q") None ∷ []))
+      (cons (buffer (name 21 (codes "Q") None))
+      (cons (used (codes "c") (codes "BUF") (name 22 (codes "E") None ∷ [])
+      (name 9 (codes "Y") (bits (number 1) (Param (codes "N"))) ∷ [])) nil));
+  place = at 2;
+}
+
+-- the net outside is driven, and not spread
+over_an_output :
+    spreads (drawn (driving ∷ []) (cons (used (codes "u") (codes "DRIVING") []
+    (name 6 (codes "X") None ∷ [])) nil))
+    ≡ spread 20 (codes "u/C") 4 ∷ spread 22 (codes "u/E") 4 ∷ []
+unfolding spreads spreading_at given_to inside_of
+over_an_output = refl
+
 -- ---- IF and FOR
 
 -- once for each value, and in the body of a macro by the path of each use
@@ -206,6 +250,25 @@ each_turn :
 unfolding digits spreads spreading_at given_to inside_of
 each_turn = refl
 
+-- a macro in a macro: the value of a FOR stands where the use is, and not again below it
+abbrev outer : Macro
+outer = record {
+  name = codes "OUTER";
+  params = [];
+  ins = [];
+  outs = [];
+  body = cons (For (codes "i") (number 1) (number 1)
+      (cons (used (codes "v") (codes "SIMPLE") [] []) nil) (at 1)) nil;
+  place = at 2;
+}
+
+macro_in_a_macro :
+    spreads (drawn (simple ∷ outer ∷ []) (cons (For (codes "j") (number 2) (number 2)
+    (cons (used (codes "u") (codes "OUTER") [] []) nil) (at 1)) nil))
+    ≡ spread 20 (codes "u#2/v#1/C") 4 ∷ []
+unfolding digits spreads spreading_at given_to inside_of
+macro_in_a_macro = refl
+
 -- what is not chosen spreads nothing
 abbrev choice : ℕ → Drawing
 choice test = alone (If (number test) (cons (buffer (name 7 (codes "A") None)) nil)
@@ -214,6 +277,13 @@ choice test = alone (If (number test) (cons (buffer (name 7 (codes "A") None)) n
 chosen : spreads (choice 1) ++ spreads (choice 0) ≡ spread 7 (codes "A") 4 ∷ spread 8 (codes "B") 4 ∷ []
 unfolding spreads spreading_at
 chosen = refl
+
+-- nothing says which is chosen
+no_choice :
+    spreads (alone (If (Param (codes "P")) (cons (buffer (name 7 (codes "A") None)) nil)
+    (else_ (cons (buffer (name 8 (codes "B") None)) nil)) (at 1))) ≡ []
+unfolding spreads spreading_at
+no_choice = refl
 
 no_turn :
     spreads (alone (For (codes "i") (number 2) (number 1)
