@@ -1,5 +1,5 @@
 -- The edges of a clock, by the bytes of its name, in a period of so many units.
-use Rattle.std.specs.Prelude.{◌≡◌, ℕ, ◌+◌, ◌-◌, ◌%◌, ◌<◌, ◌≤◌, Bool, true, false, not, ◌&&◌, ◌||◌, ◌==◌, nat_le, nat_lt, List, [], ◌∷◌, Option, Some, None, Result, Ok, Err, if◌then◌else◌}
+use Rattle.std.specs.Prelude.{◌≡◌, ℕ, ◌+◌, ◌-◌, ◌*◌, ◌%◌, ◌<◌, ◌≤◌, Bool, true, false, not, ◌&&◌, ◌||◌, ◌==◌, nat_le, nat_lt, List, [], ◌∷◌, Option, Some, None, Result, Ok, Err, if◌then◌else◌}
 use Rattle.scald_base.specs.Word.{is_digit}
 use Rattle.name_fault.specs.declared.read.Mode.{Mode}
 use Rattle.name_fault.specs.declared.read.Mode.TheVariants.{End, Late}
@@ -49,6 +49,15 @@ pub record AreNear (units : ℕ) (name : List ℕ) (reach : ℕ) (edges : ℕ ×
   pub second : is_edge units name edges.1 ≡ true
   pub ordered : edges.0 < edges.1
   pub near : edges.1 ≤ edges.0 + reach
+
+-- no two in this period and the next
+abbrev pub NoneNear : ℕ → List ℕ → ℕ → Type 0
+NoneNear units name reach = (edges : ℕ × ℕ) → edges.1 < 2 * units → ¬ AreNear units name reach edges
+
+-- the edge before one at a unit, where it is at most so many units before it
+abbrev pub near_before : Option ℕ → ℕ → ℕ → Option ℕ
+near_before None unit reach = None
+near_before (Some first) unit reach = if nat_le (unit - first) reach then Some first else None
 
 -- ---- its skew
 

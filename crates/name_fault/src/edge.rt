@@ -1,7 +1,7 @@
 //! The edges of a clock, by the bytes of its name.
 
-ghost use Rattle.std.specs.Prelude.{◌≡◌, ◌<◌, ◌≤◌, IfSome};
-ghost use Rattle.name_fault.specs.Edges.{AreNear, holds, holds_last, is_edge, is_held, skew_of};
+ghost use Rattle.std.specs.Prelude.{◌≡◌, ◌<◌, ◌≤◌, IfSome, None};
+ghost use Rattle.name_fault.specs.Edges.{AreNear, NoneNear, holds, holds_last, is_edge, is_held, near_before, skew_of};
 
 use crate::end::{is_digit, new_name, step};
 use crate::read::{Mode, Read};
@@ -62,19 +62,31 @@ fn is_edge(units: u64, name: &[u8], unit: u64) -> bool
     if before { !after } else { after }
 }
 
-/// Two edges of the clock of a name that are at most so many units apart, in this period and the next.
+/// The edge before one at a unit, where it is at most so many units before it.
+fn near_before(last: Option<u64>, unit: u64, reach: u64) -> Option<u64>
+    ensures { result ≡ near_before last unit reach }
+{
+    match last {
+        Some(first) if unit.saturating_sub(first) <= reach => Some(first),
+        _ => None,
+    }
+}
+
+/// Two edges of the clock of a name that are at most so many units apart, in this period and the next, or `None`
+/// where there are no two such edges.
 pub fn near_edges(units: u64, name: &[u8], reach: u64) -> Option<(u64, u64)>
     requires some { 0 < units }
     requires few { units ≤ 4096 }
-    ensures { IfSome result (AreNear units name.now reach) }
+    ensures found { IfSome result (AreNear units name.now reach) }
+    ensures none { result ≡ None → NoneNear units name.now reach }
 {
     let mut last = None;
     'units: for unit in 0..2 * units {
         if is_edge(units, name, unit) {
-            match last {
-                Some(first) if unit.saturating_sub(first) <= reach => return Some((first, unit)),
-                _ => last = Some(unit),
+            if let Some(first) = near_before(last, unit, reach) {
+                return Some((first, unit));
             }
+            last = Some(unit);
         }
     }
     None

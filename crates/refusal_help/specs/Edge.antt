@@ -1,8 +1,10 @@
 -- Which edges of a clock may come in one slot.
-use Rattle.std.specs.Prelude.{ℕ, ◌+◌, ◌-◌, ◌*◌, ◌/◌, ◌%◌, min, max, List, [], ◌∷◌, codes, decimal, Option, Some, None, unwrap_or, IfSome}
+use Rattle.std.specs.Prelude.{◌≡◌, ℕ, Bool, true, false, not, ◌&&◌, ◌==◌, nat_le, ◌+◌, ◌-◌, ◌*◌, ◌/◌, ◌%◌, min, max, List, [], ◌∷◌, length, codes, decimal, Option, Some, None, unwrap_or}
 use Rattle.scald_base.specs.declared.refusal.Place.{Place}
+use Rattle.scald_base.specs.declared.refusal.RefusalKind.{RefusalKind}
+use Rattle.scald_base.specs.Refusal.{number_of as kind_number}
 use Rattle.scald_lex.specs.declared.token.Token.{Token}
-use Rattle.name_fault.specs.Edges.{AreNear, skew_of}
+use Rattle.name_fault.specs.Edges.{AreNear, NoneNear, skew_of}
 use Rattle.refusal_help.specs.Naming.{unquoted}
 use Rattle.refusal_help.specs.Statement.{from_after, from_place, spelled}
 use Rattle.refusal_help.specs.Text.{line}
@@ -43,10 +45,30 @@ name_of text (t ∷ ts) = unquoted (spelled text t)
 abbrev pub name_at : List ℕ → List Token → Place → List ℕ
 name_at text tokens place = name_of text (from_place place tokens)
 
--- none, or two of its edges that may meet
+-- They are looked for in a name of at most 256 bytes, where the header counts 1 to 4,096 units of a tick or more.
+abbrev pub is_searched : List ℕ → List Token → Place → Bool
+is_searched text tokens place =
+    not (units_of tokens == 0)
+    && (nat_le (units_of tokens) 4096
+    && (not (ticks_of tokens == 0) && nat_le (length (name_at text tokens place)) 256))
+
+abbrev pub NoEdges : List ℕ → List Token → Place → Type 0
+NoEdges text tokens place =
+    NoneNear (units_of tokens) (name_at text tokens place) (reach text tokens (name_at text tokens place))
+
+-- two of its edges that may meet, or none where no two may
 abbrev pub AreEdges : List ℕ → List Token → Place → Option (ℕ × ℕ) → Type 0
-AreEdges text tokens place edges =
-    IfSome edges (AreNear (units_of tokens) (name_at text tokens place) (reach text tokens (name_at text tokens place)))
+AreEdges text tokens place None = is_searched text tokens place ≡ true → NoEdges text tokens place
+AreEdges text tokens place (Some edges) =
+    AreNear (units_of tokens) (name_at text tokens place) (reach text tokens (name_at text tokens place)) edges
+
+-- They are told where a refusal is for edges that may meet.
+abbrev pub EdgesIf : Bool → List ℕ → List Token → Place → Option (ℕ × ℕ) → Type 0
+EdgesIf true text tokens place edges = AreEdges text tokens place edges
+EdgesIf false text tokens place edges = edges ≡ None
+
+abbrev pub is_overlap : RefusalKind → Bool
+is_overlap kind = kind_number kind == 20
 
 -- ---- what is said
 

@@ -3,7 +3,7 @@ use Rattle.std.specs.Prelude.{◌≡◌, ℕ, List, [], ◌∷◌, ◌++◌, cod
 use Rattle.scald_base.specs.declared.refusal.Refusal.{Refusal}
 use Rattle.scald_lex.specs.declared.token.Token.{Token}
 use Rattle.scald_lex.specs.Tokens.{AreTokens, IsRefused}
-use Rattle.refusal_help.specs.Edge.{AreEdges, edges_lines}
+use Rattle.refusal_help.specs.Edge.{EdgesIf, edges_lines, is_overlap}
 use Rattle.refusal_help.specs.Hint.{hint}
 use Rattle.refusal_help.specs.Sentence.{sentence}
 use Rattle.refusal_help.specs.Shown.{shown}
@@ -21,10 +21,10 @@ abbrev pub explained : List ℕ → List Token → Option (ℕ × ℕ) → Refus
 explained text tokens edges r =
     first_line r ++ shown text r.place ++ hint text tokens r ++ edges_lines text tokens r.place edges
 
--- The edges are two that may come in one slot, or none.
+-- The edges are two that may come in one slot, where the refusal is for that, or none.
 pub record IsExplained (text : List ℕ) (r : Refusal) (bytes : List ℕ) : Type 0 where
   pub tokens : List Token
   pub used : UsesTokens text tokens
   pub edges : Option (ℕ × ℕ)
-  pub near : AreEdges text tokens r.place edges
+  pub near : EdgesIf (is_overlap r.kind) text tokens r.place edges
   pub are : bytes ≡ explained text tokens edges r

@@ -1,7 +1,7 @@
 //! Which edges of a clock may come in one slot.
 
 ghost use Rattle.std.specs.Prelude.{◌≡◌, ◌≤◌, ◌++◌, OnOk};
-ghost use Rattle.refusal_help.specs.Edge.{AreEdges, clock_skew, edges_line, edges_lines, gap_line, name_at, skew_in, spread, ticks_of};
+ghost use Rattle.refusal_help.specs.Edge.{AreEdges, clock_skew, is_searched, edges_line, edges_lines, gap_line, name_at, skew_in, spread, ticks_of};
 
 use crate::cut::spelled;
 use crate::naming::unquoted;
@@ -63,19 +63,27 @@ fn name_at<'a>(text: &'a [u8], tokens: &[Token], place: Place) -> &'a [u8]
     }
 }
 
+/// Whether the edges of the clock at a place are looked for.
+fn is_searched(text: &[u8], tokens: &[Token], place: Place) -> bool
+    ensures { result ≡ is_searched text.now tokens.now place }
+{
+    units_of(tokens) != 0
+        && units_of(tokens) <= 4096
+        && ticks_of(tokens) != 0
+        && name_at(text, tokens, place).len() <= MOST_BYTES
+}
+
 /// Two edges of the clock at a place that may come in one slot, by the units at which they come, which go on
 /// over the end of the period.
 pub fn edges_at(text: &[u8], tokens: &[Token], place: Place) -> Option<(u64, u64)>
     ensures { AreEdges text.now tokens.now place result }
 {
-    let name = name_at(text, tokens, place);
-    let units = units_of(tokens);
-    let ticks = ticks_of(tokens);
-    if units == 0 || units > 4096 || ticks == 0 || name.len() > MOST_BYTES {
+    if !is_searched(text, tokens, place) {
         return None;
     }
+    let name = name_at(text, tokens, place);
     let skew = clock_skew(text, tokens, name);
-    near_edges(units, name, spread(skew) / ticks)
+    near_edges(units_of(tokens), name, spread(skew) / ticks_of(tokens))
 }
 
 /// Edges at two units, so many ticks apart, in a clock of this skew, by which they meet at most so far apart.

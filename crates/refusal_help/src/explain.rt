@@ -1,7 +1,7 @@
 //! All that a person is told of a refusal.
 
 ghost use Rattle.std.specs.Prelude.{◌≡◌, ◌++◌, ◌<◌, ◌-◌, ◌^◌, length, IfOk, OnOk};
-ghost use Rattle.refusal_help.specs.Edge.{AreEdges};
+ghost use Rattle.refusal_help.specs.Edge.{EdgesIf, is_overlap};
 ghost use Rattle.refusal_help.specs.Explained.{IsExplained, UsesTokens, first_line};
 
 use crate::edge::{add_edges, edges_at};
@@ -40,13 +40,21 @@ fn add_first(out: &mut Bytes, refusal: Refusal) -> Result<(), NoMemory>
     )
 }
 
+/// Whether a refusal is for edges that may come in one slot.
+fn is_overlap(kind: RefusalKind) -> bool
+    ensures { result ≡ is_overlap kind }
+{
+    matches!(kind, RefusalKind::EdgesOverlap)
+}
+
 /// The edges of the clock at the place that may come in one slot, where the refusal is for that.
 fn edges_of(text: &[u8], tokens: &[Token], refusal: Refusal) -> Option<(u64, u64)>
-    ensures { AreEdges text.now tokens.now refusal.place result }
+    ensures { EdgesIf (is_overlap refusal.kind) text.now tokens.now refusal.place result }
 {
-    match refusal.kind {
-        RefusalKind::EdgesOverlap => edges_at(text, tokens, refusal.place),
-        _ => None,
+    if is_overlap(refusal.kind) {
+        edges_at(text, tokens, refusal.place)
+    } else {
+        None
     }
 }
 
