@@ -197,11 +197,28 @@ helps "    '1' cannot come after 'if'" \
     '    what may stand here: :'
 early '3 Syntax 4:22' 'b1 : BUF [0:0] ("A") ("X");'
 helps "    '(' cannot come after ')'" \
-    '    what may stand here: -> ;'
+    '    what may stand here: -> ;' \
+    '    is -> missing here?'
 early '3 Syntax 5:1' 'b1 : BUF [0:0] ("A") -> ("X")' 'b2 : BUF [0:0] ("X") -> ("Y");'
 helps "    'b2' cannot come after ')'" \
-    "    is a ; missing after ')'?" \
-    '    what may stand here: ;'
+    '    what may stand here: ;' \
+    '    is ; missing here?'
+early '3 Syntax 5:1' 'b1 : AND [0:0] ("A"' '"B") -> ("X");'
+helps "    '\"B\"' cannot come after '\"A\"'" \
+    '    what may stand here: , ) < & !' \
+    '    is , missing here?'
+early '3 Syntax 5:1' 'b1 : BUF [0:0] ("A"' '-> ("X");'
+helps "    '->' cannot come after '\"A\"'" \
+    '    what may stand here: , ) < & !' \
+    '    is ) missing here?'
+early '3 Syntax 4:16' 'b1 : BUF [0:10 ("A") -> ("X");'
+helps "    '(' cannot come after '10'" \
+    '    what may stand here: , ] + - * /' \
+    '    is ] missing here?'
+early '3 Syntax 5:1' 'IF 2 > 1' 'b1 : BUF [0:0] ("A") -> ("X");' 'END;'
+helps "    'b1' cannot come after '1'" \
+    '    what may stand here: THEN + - * /' \
+    '    is THEN missing here?'
 early '3 Syntax 4:11' 'b1 : BUF [ONE:1] ("A") -> ("X");'
 early '15 TooDeep 4:75' "b1 : BUF [$(many 65 '(')0$(many 65 ')'):0] (\"A\") -> (\"X\");"
 helps '    at most 64 parentheses and minus signs of an expression may be open at once, and this is one more'
@@ -356,7 +373,8 @@ second '3 Syntax 4:11' 'DRAWING ROW;' 'FOR : FOR = 0 TO 1 DO' 'END;' 'END;'
 second '3 Syntax 4:11' 'DRAWING ROW;' 'FOR I = 0 = 1 TO 1 DO' 'END;' 'END;'
 second '3 Syntax 4:11' 'DRAWING ROW;' 'FOR I = 0 1 DO' 'END;' 'END;'
 helps "    '1' cannot come after '0'" \
-    '    what may stand here: TO + - * /'
+    '    what may stand here: TO + - * /' \
+    '    is TO missing here?'
 second '3 Syntax 4:11' 'DRAWING ROW;' 'FOR I = 0 DO' 'END;' 'END;'
 second '3 Syntax 4:16' 'DRAWING ROW;' 'FOR I = 0 TO 1 THEN' 'END;' 'END;'
 second '3 Syntax 4:19' 'DRAWING ROW;' 'FOR I = 0 TO 1 DO ELSE' 'END;' 'END;'

@@ -1,5 +1,5 @@
 -- What helps where no drawing continues with a token.
-use Rattle.std.specs.Prelude.{ℕ, Bool, true, false, not, ◌&&◌, ◌||◌, ◌==◌, nat_lt, List, [], ◌∷◌, ◌++◌, codes, Option, Some, None, if◌then◌else◌}
+use Rattle.std.specs.Prelude.{ℕ, Bool, true, false, not, ◌||◌, List, [], ◌∷◌, ◌++◌, codes, Option, Some, None, if◌then◌else◌}
 use Rattle.std.specs.List.{list_any}
 use Rattle.std.specs.Str.{bytes_eq}
 use Rattle.scald_base.specs.declared.refusal.Place.{Place}
@@ -36,28 +36,6 @@ no_follower name last = line (codes "    " ∷ name ∷ codes " cannot come afte
 abbrev pub follow_line : List ℕ → Option Token → Token → List ℕ
 follow_line text None t = no_first (named text t)
 follow_line text (Some last) t = no_follower (named text t) (named text last)
-
--- ---- a missing `;`
-
-abbrev pub ends_statement : TokenKind → Bool
-ends_statement Word = false
-ends_statement (Number n) = false
-ends_statement Name = false
-ends_statement Arrow = false
-ends_statement (Symbol b) = b == 59
-ends_statement End = false
-
--- The token begins a line, and no `;` ends what is before it.
-abbrev pub is_missing : Token → Token → Bool
-is_missing last t = not (ends_statement last.kind) && nat_lt last.place.line t.place.line
-
-abbrev pub missing_after : List ℕ → List ℕ
-missing_after last = line (codes "    is a ; missing after " ∷ last ∷ codes "?" ∷ [])
-
-abbrev pub missing_line : List ℕ → Option Token → Token → List ℕ
-missing_line text None t = []
-missing_line text (Some last) t =
-    if is_missing last t then missing_after (named text last) else []
 
 -- ---- a word of the language that is nearly written
 
@@ -97,10 +75,9 @@ abbrev pub lines_at : List ℕ → List Token → Option Token → List Token �
 lines_at text tokens before [] = []
 lines_at text tokens before (t ∷ ts) =
     follow_line text before t
-    ++ (missing_line text before t
     ++ (meant_line text t
     ++ (meant_before text before t
-    ++ (reserved_line (reserved_at text before t ts) ++ later_line (is_later text tokens before t)))))
+    ++ (reserved_line (reserved_at text before t ts) ++ later_line (is_later text tokens before t))))
 
 abbrev pub syntax_lines : List ℕ → List Token → Place → List ℕ
 syntax_lines text tokens place =

@@ -1,7 +1,7 @@
 //! What helps where no drawing continues with a token.
 
 ghost use Rattle.std.specs.Prelude.{◌≡◌, ◌++◌, OnOk};
-ghost use Rattle.refusal_help.specs.Syntax.{ends_statement, follow_line, is_missing, meant_before, meant_keyword, meant_line, missing_line, named, syntax_lines};
+ghost use Rattle.refusal_help.specs.Syntax.{follow_line, meant_before, meant_keyword, meant_line, named, syntax_lines};
 ghost use Rattle.refusal_help.specs.Text.{part_text};
 
 use crate::cut::spelled;
@@ -51,42 +51,6 @@ fn add_follow(
                 named(text, last),
             ],
         ),
-    }
-}
-
-/// Whether a token is a `;`.
-fn ends_statement(token: Token) -> bool
-    ensures { result ≡ ends_statement token.kind }
-{
-    matches!(token.kind, TokenKind::Symbol(b';'))
-}
-
-/// Whether a token begins a line, and no `;` ends what is before it.
-fn is_missing(last: Token, token: Token) -> bool
-    ensures { result ≡ is_missing last token }
-{
-    !ends_statement(last) && last.place.line < token.place.line
-}
-
-/// Whether a `;` may be missing.
-fn add_missing(
-    out: &mut Bytes,
-    text: &[u8],
-    before: Option<Token>,
-    token: Token,
-) -> Result<(), NoMemory>
-    ensures { OnOk result (out.new ≡ out.old ++ missing_line text.now before token) }
-{
-    match before {
-        Some(last) if is_missing(last, token) => add_line(
-            out,
-            &[
-                Part::Text(b"    is a ; missing after "),
-                named(text, last),
-                Part::Text(b"?"),
-            ],
-        ),
-        _ => Ok(()),
     }
 }
 
@@ -150,7 +114,6 @@ pub fn add_syntax(
     };
     let before = before_place(tokens, place);
     add_follow(out, text, before, *token)?;
-    add_missing(out, text, before, *token)?;
     add_meant(out, text, *token)?;
     add_meant_before(out, text, before, *token)?;
     add_reserved(out, text, before, *token, others)?;

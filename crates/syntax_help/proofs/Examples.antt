@@ -1,13 +1,13 @@
 -- The tokens that are tried are one of each kind that the grammar tells apart; texts with them, and
 -- what is said, worked out on paper.
 use Rattle.std.proofs.Common.{◌≡◌, ℕ, List, [], ◌∷◌, map, refl}
-use Rattle.std.specs.Prelude.{codes}
+use Rattle.std.specs.Prelude.{codes, Some, None}
 use Rattle.drawing_grammar.specs.Lexeme.{symbol_terminal, word_terminal}
 use Rattle.drawing_grammar.specs.declared.terminal.Terminal.{Terminal}
 use Rattle.drawing_grammar.specs.declared.terminal.Terminal.TheVariants as grammar
 use Rattle.syntax_help.specs.declared.sample.Sample.TheVariants.{Word, Scald, Clock, Wire, Pskew, Cskew, Macro, Drawing, Case, If, Then, Else, End, Zero, One, Const, To, Do, Ticks, Hazard, Arrow, Semicolon, Colon, Comma, OpenParenthesis, CloseParenthesis, Less, Greater, OpenBracket, CloseBracket, OpenBrace, CloseBrace, Equals, Plus, Minus, Star, Slash, Ampersand, Exclamation}
 use Rattle.syntax_help.specs.Sample.{spelling}
-use Rattle.syntax_help.specs.Told.{expected_line}
+use Rattle.syntax_help.specs.Told.{expected_line, missing_line}
 use Rattle.syntax_help.specs.Trial.{next_line, trial}
 
 -- the words
@@ -57,3 +57,12 @@ two = refl
 
 none : expected_line [] ≡ codes "    what may stand here:\n"
 none = refl
+
+semicolon : missing_line (Some Semicolon) ≡ codes "    is ; missing here?\n"
+semicolon = refl
+
+word : missing_line (Some Then) ≡ codes "    is THEN missing here?\n"
+word = refl
+
+nothing : missing_line None ≡ []
+nothing = refl

@@ -1,19 +1,18 @@
 -- What is told of the tokens that are found.
 use Rattle.std.proofs.Common.{◌≡◌, ℕ, List, [], ◌++◌, ap, sym, subst, ◌∙◌}
+use Rattle.std.specs.Prelude.{OnOk, Result}
+use Rattle.std.proofs.lemmas.List.{append_assoc}
 use Rattle.scald_base.specs.declared.refusal.Place.{Place}
-use Rattle.syntax_help.specs.declared.sample.Sample.{Sample}
-use Rattle.syntax_help.specs.Expected.{AreExpected}
-use Rattle.syntax_help.specs.Sample.{samples}
-use Rattle.syntax_help.specs.Told.{IsTold, IsToldAfter, expected_line, nothing}
-
-pub found_told : (front : List ℕ) (place : Place) (found : List Sample) (old new : List ℕ) →
-    AreExpected front place samples found → old ≡ [] → new ≡ old ++ expected_line found →
-    IsToldAfter front place new
-found_told front place found old new expected none put = record {
-  found = found;
-  expected = expected;
-  are = put ∙ ap (λ (l : List ℕ). l ++ expected_line found) none;
-}
+use Rattle.syntax_help.specs.Told.{IsTold, nothing}
 
 pub nothing_told : (text : List ℕ) (place : Place) (bytes : List ℕ) → bytes ≡ [] → IsTold text place bytes
 nothing_told text place bytes none = subst (IsTold text place) (sym none) nothing
+
+-- three texts, put one after another
+pub three_put : {A E : Type 0} (r : Result A E) (new two one old a b c word : List ℕ) → one ≡ old ++ a →
+    two ≡ one ++ word → word ≡ b → OnOk r (new ≡ two ++ c) → OnOk r (new ≡ old ++ (a ++ (b ++ c)))
+three_put r new two one old a b c word first second is put =
+    let there : two ≡ (old ++ a) ++ b = second ∙ ap (λ (l : List ℕ). l ++ word) first ∙ ap (λ (w : List ℕ). (old ++ a) ++ w) is in
+    let all : two ++ c ≡ old ++ (a ++ (b ++ c)) =
+    ap (λ (l : List ℕ). l ++ c) there ∙ append_assoc (old ++ a) b c ∙ append_assoc old a (b ++ c) in
+    subst (λ (l : List ℕ). OnOk r (new ≡ l)) all put

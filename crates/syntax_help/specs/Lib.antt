@@ -1,4 +1,5 @@
 pub mod Sample
 pub mod Trial
 pub mod Expected
+pub mod Missing
 pub mod Told

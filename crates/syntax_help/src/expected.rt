@@ -13,7 +13,7 @@ use std::alloc::Global;
 
 /// Whether a token is listed: it may stand there, and it is not one of the words where any word
 /// may.
-fn is_listed(
+pub fn is_listed(
     alloc: Global,
     front: &[u8],
     place: Place,

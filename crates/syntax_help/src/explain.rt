@@ -2,11 +2,13 @@
 
 ghost use Rattle.std.specs.Prelude.{◌≡◌, ◌++◌, ◌<◌, ◌^◌, length, IfOk, OnOk};
 ghost use Rattle.std.specs.List.{flat_map};
-ghost use Rattle.syntax_help.specs.Told.{IsTold, IsToldAfter, expected_line, first_start, sample_text};
+ghost use Rattle.syntax_help.specs.Told.{IsTold, IsToldAfter, expected_line, missing_line, question, sample_text};
+ghost use Rattle.refusal_help.specs.Statement.{first_of};
 
 use crate::expected::expected;
+use crate::missing::missing;
 use crate::sample::Sample;
-use refusal_help::{from_place, front};
+use refusal_help::{from_place, front, spelled};
 use scald_base::{Bytes, NoMemory, Place, Stop};
 use scald_lex::{Token, tokens};
 use std::alloc::Global;
@@ -41,30 +43,53 @@ fn add_expected(out: &mut Bytes, found: &[Sample]) -> Result<(), NoMemory>
     out.push(b'\n')
 }
 
-/// Where the first of these tokens begins, in bytes of the text.
-fn first_start(tokens: &[Token]) -> Option<u32>
-    ensures { result ≡ first_start tokens.now }
+/// Whether a token is missing.
+fn add_question(out: &mut Bytes, sample: Sample) -> Result<(), NoMemory>
+    ensures { OnOk result (out.new ≡ out.old ++ question sample) }
+{
+    out.extend(b"    is ")?;
+    out.extend(sample.called())?;
+    out.extend(b" missing here?\n")
+}
+
+/// The question of a token that may be missing.
+fn add_missing(out: &mut Bytes, missing: Option<Sample>) -> Result<(), NoMemory>
+    ensures { OnOk result (out.new ≡ out.old ++ missing_line missing) }
+{
+    match missing {
+        Some(sample) => add_question(out, sample),
+        None => Ok(()),
+    }
+}
+
+/// The first of these tokens.
+fn first_of(tokens: &[Token]) -> Option<Token>
+    ensures { result ≡ first_of tokens.now }
 {
     match tokens {
-        [first, ..] => Some(first.start),
+        [first, ..] => Some(*first),
         [] => None,
     }
 }
 
-/// What is said of the tokens that may stand after the front of a text, which ends at this place.
-fn told(alloc: Global, front: &[u8], place: Place) -> Result<Bytes, NoMemory>
-    requires { length front.now < 2 ^ 31 }
-    ensures { IfOk result (IsToldAfter front.now place) }
+/// What is said of the tokens that may stand after the front of a text, which ends at this place, and
+/// of one that may be missing before this token.
+fn told(alloc: Global, front: &[u8], place: Place, token: &[u8]) -> Result<Bytes, NoMemory>
+    requires short { length front.now < 2 ^ 20 }
+    requires small { length token.now < 2 ^ 31 }
+    ensures { IfOk result (IsToldAfter front.now place token.now) }
 {
     let found = expected(alloc, front, place)?;
+    let missing = missing(alloc, front, place, token)?;
     let mut out = Bytes::new(alloc);
     add_expected(&mut out, found.as_slice())?;
+    add_missing(&mut out, missing)?;
     Ok(out)
 }
 
-/// Of a text that is refused for its grammar at a place: which tokens may stand there, where at
-/// most 262,144 bytes stand before it. These are read once for each token. The one error is that
-/// memory ran out.
+/// Of a text that is refused for its grammar at a place: which tokens may stand there, and which one may
+/// be missing, where at most 262,144 bytes stand before it. These are read at most three times for each
+/// token. The one error is that memory ran out.
 pub fn explain_expected(alloc: Global, text: &[u8], place: Place) -> Result<Bytes, NoMemory>
     requires { length text.now < 2 ^ 31 }
     ensures { IfOk result (IsTold text.now place) }
@@ -74,8 +99,11 @@ pub fn explain_expected(alloc: Global, text: &[u8], place: Place) -> Result<Byte
         Err(Stop::Refused(_)) => return Ok(Bytes::new(alloc)),
         Err(Stop::NoMemory) => return Err(NoMemory),
     };
-    match first_start(from_place(list.as_slice(), place)) {
-        Some(start) if start <= MOST_BYTES => told(alloc, front(text, start as usize), place),
+    match first_of(from_place(list.as_slice(), place)) {
+        Some(token) if token.start <= MOST_BYTES => {
+            let before = front(text, token.start as usize);
+            told(alloc, before, place, spelled(text, token))
+        }
         _ => Ok(Bytes::new(alloc)),
     }
 }

@@ -26,7 +26,7 @@ fn refusal_of(alloc: Global, text: &[u8]) -> Result<Option<Refusal>, NoMemory>
 }
 
 /// The front of a text, and then a token on a line of its own.
-fn trial(alloc: Global, front: &[u8], token: &[u8]) -> Result<Bytes, NoMemory>
+pub fn trial(alloc: Global, front: &[u8], token: &[u8]) -> Result<Bytes, NoMemory>
     ensures { IfOk result (λ text. text ≡ trial front.now token.now) }
 {
     let mut text = Bytes::new(alloc);
@@ -37,7 +37,7 @@ fn trial(alloc: Global, front: &[u8], token: &[u8]) -> Result<Bytes, NoMemory>
 }
 
 /// The first place of the next line, as far as 32 bits count.
-fn next_line(place: Place) -> Place
+pub fn next_line(place: Place) -> Place
     ensures { result ≡ next_line place }
 {
     Place {

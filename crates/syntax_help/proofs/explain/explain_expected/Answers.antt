@@ -1,8 +1,8 @@
-use Rattle.std.proofs.Common.{◌≡◌, ℕ, List, ◌∙◌, ap, subst, sym}
+use Rattle.std.proofs.Common.{◌≡◌, ℕ, List, ◌∙◌, take, ap, subst, sym}
 use Rattle.std.specs.Prelude.{Some}
 use Rattle.std.proofs.lemmas.Result.{IfOk-weaker}
-use Rattle.syntax_help.specs.Told.{IsTold, IsToldAfter, first_start, told}
-use Rattle.refusal_help.specs.Statement.{from_place}
+use Rattle.refusal_help.specs.Statement.{first_of, from_place}
+use Rattle.syntax_help.specs.Told.{IsTold, IsToldAfter, told}
 use Rattle.syntax_help.proofs.Telling.{nothing_told}
 use Rattle.syntax_help.proofs.explain.explain_expected.Goals as goal
 
@@ -13,11 +13,12 @@ pub returns-in-Some : goal.returns-in-Some
 returns-in-Some c =
     let text = c.args.text.now in let place = c.args.place in
     let here : from_place place c.as_slice.result.now ≡ from_place place c.in-Ok.list = ap (from_place place) c.as_slice.ensures in
-    let start : first_start (from_place place c.in-Ok.list) ≡ Some c.in-Some.start =
-    ap first_start (sym here) ∙ ap first_start (sym c.from_place.ensures) ∙ sym c.first_start.ensures ∙ c.in-Some.is in
-    IfOk-weaker c.told.result (IsToldAfter c.front.result.now place) (IsTold text place)
-    (λ bytes said. told c.in-Ok.list c.in-Some.start bytes c.in-Ok.ensures.found start
-    (subst (λ (front : List ℕ). IsToldAfter front place bytes) c.front.ensures said))
+    let first : first_of (from_place place c.in-Ok.list) ≡ Some c.in-Some.token =
+    ap first_of (sym here) ∙ ap first_of (sym c.from_place.ensures) ∙ sym c.first_of.ensures ∙ c.in-Some.is in
+    IfOk-weaker c.told.result (IsToldAfter c.front-before.result.now place c.spelled.result.now) (IsTold text place)
+    (λ bytes said. told c.in-Ok.list c.in-Some.token bytes c.in-Ok.ensures.found first
+    (subst (λ (token : List ℕ). IsToldAfter (take c.in-Some.token.start text) place token bytes) c.spelled.ensures
+    (subst (λ (front : List ℕ). IsToldAfter front place c.spelled.result.now bytes) c.front-before.ensures said)))
     c.told.ensures
 
 pub returns : goal.returns
