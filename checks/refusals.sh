@@ -241,6 +241,20 @@ early '15 TooDeep 4:401' "b1 : BUF [0$(many 64 '+1'):0$(many 64 '+1'), 0$(many 6
 early '15 TooDeep 4:641' "$(many 65 'IF 1 THEN ')b1 : BUF [0:0] (\"A\") -> (\"X\"); $(many 65 'END; ')"
 helps '    at most 64 IFs and FORs may be inside one another, and this is one more'
 
+second '3 Syntax 7:1' 'MACRO M ("A") -> ("Z");' 'IF 1 THEN' 'b1 : BUF [0:0] ("A") -> ("Z");' 'END;' 'DRAWING ROW;' 'END;'
+helps "    'DRAWING' cannot come after ';'" \
+    '    the MACRO at 3:1 has no END before this' \
+    '    what may stand here: word WIRE IF END'
+second '3 Syntax 6:1' 'MACRO M ();' 'IF 1 THEN' 'ELSE' 'DRAWING ROW;' 'END;'
+helps "    'DRAWING' cannot come after 'ELSE'" \
+    '    the MACRO at 3:1 has no END before this' \
+    '    the IF at 4:1 has no END before this' \
+    '    what may stand here: word WIRE IF END'
+second '3 Syntax 7:1' 'DRAWING ROW;' 'FOR I = 0 TO 1 DO' 'b1 : BUF [0:0] ("A"<I>) -> ("X"<I>);' 'END;'
+helps "    the end of the text cannot come after ';'" \
+    '    the DRAWING at 3:1 has no END before this' \
+    '    what may stand here: word WIRE IF END'
+
 # --- header
 text '3 Syntax 2:13' 'SCALD 2;' 'CLOCK 8 x 0;;'
 text '4 BadHeader 1:1' 'SCALD 3;' 'CLOCK 8 x 50;' 'DRAWING ROW;' 'END;'

@@ -6,6 +6,7 @@ pub mod Row
 pub mod Statement
 pub mod Advice
 pub mod Sentence
+pub mod Unended
 pub mod Syntax
 pub mod Double
 pub mod Hint

@@ -13,6 +13,7 @@ use Rattle.refusal_help.specs.Reserved.{is_later, later_line, reserved_at, reser
 use Rattle.refusal_help.specs.Statement.{before_place, from_place, spelled}
 use Rattle.refusal_help.specs.Text.{line, quoted}
 use Rattle.refusal_help.specs.Tokens.{is_symbol}
+use Rattle.refusal_help.specs.Unended.{unended_lines}
 
 -- ---- what stands here
 
@@ -77,7 +78,8 @@ lines_at text tokens before (t ∷ ts) =
     follow_line text before t
     ++ (meant_line text t
     ++ (meant_before text before t
-    ++ (reserved_line (reserved_at text before t ts) ++ later_line (is_later text tokens before t))))
+    ++ (reserved_line (reserved_at text before t ts)
+    ++ (later_line (is_later text tokens before t) ++ unended_lines text tokens t))))
 
 abbrev pub syntax_lines : List ℕ → List Token → Place → List ℕ
 syntax_lines text tokens place =

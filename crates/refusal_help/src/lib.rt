@@ -37,6 +37,7 @@ mod parameter;
 mod range;
 mod sentence;
 mod syntax;
+mod unended;
 mod unknown;
 mod use_hint;
 

@@ -10,6 +10,7 @@ use crate::part::{Part, add_line};
 use crate::reserved::{add_later, add_reserved};
 use crate::statement::{before_place, from_place};
 use crate::tokens::is_symbol;
+use crate::unended::add_unended;
 use element_kinds::is_kind_name;
 use scald_base::{Bytes, NoMemory, Place, same_bytes};
 use scald_lex::{Token, TokenKind};
@@ -117,5 +118,6 @@ pub fn add_syntax(
     add_meant(out, text, *token)?;
     add_meant_before(out, text, before, *token)?;
     add_reserved(out, text, before, *token, others)?;
-    add_later(out, text, tokens, before, *token)
+    add_later(out, text, tokens, before, *token)?;
+    add_unended(out, text, tokens, *token)
 }
