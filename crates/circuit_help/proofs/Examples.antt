@@ -7,7 +7,7 @@ use Rattle.scald_lex.specs.declared.token.TokenKind.TheVariants.{Word, Number, N
 use Rattle.circuit_help.specs.Cases.{case_cut, entry_bit, entry_value, has_point}
 use Rattle.circuit_help.specs.Drivers.{as_checker, cuts}
 use Rattle.circuit_help.specs.Loops.{begins, from_net, last_net}
-use Rattle.circuit_help.specs.Reached.{cut_text}
+use Rattle.circuit_help.specs.Reached.{begins_statement, cut_text}
 use Rattle.circuit_help.specs.ZeroLoop.{cuts as delay_cuts, slowed}
 
 abbrev at : TokenKind → ℕ → ℕ → Token
@@ -26,6 +26,20 @@ with_delay = refl
 
 before_use : cut_text (codes "DRAWING D; u : M (); END;") 10 ≡ codes "DRAWING D;END;"
 before_use = refl
+
+-- ---- a statement begins after a `;`
+
+abbrev on_column : TokenKind → ℕ → Token
+on_column kind col = record { kind = kind; place = record { line = 1; col = col }; start = 0; end = 1 }
+
+after_it : begins_statement (record { line = 1; col = 3 }) (on_column (Symbol 59) 1 ∷ on_column Word 3 ∷ []) ≡ true
+after_it = refl
+
+not_at_it : begins_statement (record { line = 1; col = 1 }) (on_column (Symbol 59) 1 ∷ on_column Word 3 ∷ []) ≡ false
+not_at_it = refl
+
+not_after_a_word : begins_statement (record { line = 1; col = 3 }) (on_column Word 1 ∷ on_column Word 3 ∷ []) ≡ false
+not_after_a_word = refl
 
 -- ---- where they are made: b : BUF [0:0] ("A") -> ("X");
 

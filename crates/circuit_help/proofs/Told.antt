@@ -33,11 +33,11 @@ pub no_loop_told : (text : List ℕ) (place : ℕ) (bytes : List ℕ) → bytes 
 no_loop_told text place bytes none = subst (loop.IsTold text place) (sym none) loop.nothing
 
 pub zero_told : (text : List ℕ) (place : Place) (c : Circuit) (cases : List (List CaseValue)) (net : ℕ)
-    (nets old new : List ℕ) → DrawsCircuit text c cases → old ≡ [] →
+    (nets old new : List ℕ) → DrawsCircuit text c cases → zero.IsDrivenAt c place net → old ≡ [] →
     new ≡ old ++ loop.way_lines c (WithoutDelay place) net nets → zero.IsToldBy text place new
-zero_told text place c cases net nets old new drawn none is =
+zero_told text place c cases net nets old new drawn driven none is =
     subst (zero.IsToldBy text place) (sym (put old new (loop.way_lines c (WithoutDelay place) net nets) none is))
-    (zero.told c cases net nets drawn)
+    (zero.told c cases net nets drawn driven)
 
 pub no_zero_told : (text : List ℕ) (place : Place) (bytes : List ℕ) → bytes ≡ [] → zero.IsToldBy text place bytes
 no_zero_told text place bytes none = subst (zero.IsToldBy text place) (sym none) zero.nothing

@@ -1,16 +1,16 @@
 //! By which statement of the drawing a place in a macro is reached.
 
 ghost use Rattle.std.specs.Prelude.{◌≡◌, ◌++◌, ◌<◌, ◌≤◌, ◌-◌, ◌^◌, length, IfOk, OnOk};
-ghost use Rattle.circuit_help.specs.Reached.{IsRefusedAt, IsTold, Says, cut_text, reached_line};
+ghost use Rattle.circuit_help.specs.Reached.{IsRefusedAt, IsTold, IsToldOf, Says, begins_statement, cut_text, first_of, reached_line};
 
 use crate::rule::is_at;
 use crate::statements::{Statement, statements};
 use drawn_circuit::laws::{refused_text_draws_nothing, text_has_one_refusal};
 use drawn_circuit::read_circuit;
 use listing::{Piece, add_line};
-use refusal_help::{front, spelled};
+use refusal_help::{from_place, front, is_symbol, spelled};
 use scald_base::{Bytes, NoMemory, Place, Stop};
-use scald_lex::tokens;
+use scald_lex::{Token, tokens};
 use std::alloc::Global;
 
 /// The most bytes of a text that is read again and again.
@@ -108,21 +108,61 @@ fn add_statement(out: &mut Bytes, word: &[u8], place: Place) -> Result<(), NoMem
     )
 }
 
+/// Whether a token at a place comes right after a `;`.
+fn begins_statement(tokens: &[Token], place: Place) -> bool
+    ensures { result ≡ begins_statement place tokens.now }
+{
+    let mut rest = tokens;
+    'tokens: while let [first, others @ ..] = rest {
+        let [second, ..] = others else {
+            return false;
+        };
+        if is_symbol(*first, b';') && is_at(second.place, place) {
+            return true;
+        }
+        rest = others;
+    }
+    false
+}
+
+/// The first of these tokens.
+fn first_of(tokens: &[Token]) -> Option<Token>
+    ensures { result ≡ first_of tokens.now }
+{
+    match tokens {
+        [first, ..] => Some(*first),
+        [] => None,
+    }
+}
+
 /// What is told of a statement of the drawing: that with it the text is refused at the place, and
 /// without it it is not.
-fn told(alloc: Global, text: &[u8], statement: Statement, place: Place) -> Result<Bytes, NoMemory>
+fn told(
+    alloc: Global,
+    text: &[u8],
+    tokens: &[Token],
+    statement: Statement,
+    place: Place,
+) -> Result<Bytes, NoMemory>
     requires { length text.now ≤ 262144 }
-    ensures { IfOk result (IsTold text.now place) }
+    ensures { IfOk result (IsToldOf text.now tokens.now place) }
 {
+    let at = statement.first.place;
+    let Some(first) = first_of(from_place(tokens, at)) else {
+        return Ok(Bytes::new(alloc));
+    };
+    let begins = begins_statement(tokens, at);
+    if !begins {
+        return Ok(Bytes::new(alloc));
+    }
     let with = is_refused_with(alloc, text, statement.end, place)?;
     if !with {
         return Ok(Bytes::new(alloc));
     }
-    let without = is_refused_with(alloc, text, statement.first.start, place)?;
+    let without = is_refused_with(alloc, text, first.start, place)?;
     if without {
         return Ok(Bytes::new(alloc));
     }
-    let first = statement.first;
     let mut out = Bytes::new(alloc);
     add_statement(&mut out, spelled(text, first), first.place)?;
     Ok(out)
@@ -149,7 +189,7 @@ pub fn explain_reached(alloc: Global, text: &[u8], place: Place) -> Result<Bytes
     }
     let number = searched(alloc, text, found.as_slice(), place)?;
     match found.get(number) {
-        Some(statement) => told(alloc, text, *statement, place),
+        Some(statement) => told(alloc, text, list.as_slice(), *statement, place),
         None => Ok(Bytes::new(alloc)),
     }
 }

@@ -1,7 +1,7 @@
 //! A loop without delay that leads to a use.
 
-ghost use Rattle.std.specs.Prelude.{◌≡◌, ◌<◌, ◌-◌, ◌^◌, length, IfOk};
-ghost use Rattle.circuit_help.specs.ZeroLoop.{IsTold, IsToldBy, cuts};
+ghost use Rattle.std.specs.Prelude.{◌≡◌, ◌<◌, ◌-◌, ◌^◌, length, IfOk, IfSome};
+ghost use Rattle.circuit_help.specs.ZeroLoop.{IsDrivenAt, IsTold, IsToldBy, cuts};
 
 use crate::loops::add_way;
 use crate::made::{keeps_places, overwritten};
@@ -32,7 +32,9 @@ fn cuts(statement: &[Token]) -> Option<(u32, u32)>
 }
 
 /// The net that the first instance of the statement at the place drives.
-fn output_of(c: &Circuit, place: Place) -> Option<u32> {
+fn output_of(c: &Circuit, place: Place) -> Option<u32>
+    ensures { IfSome result (IsDrivenAt c.now place) }
+{
     'instances: for number in 0..c.instance_count() {
         if let Some(element) = c.instance(number) {
             if is_at(element.place, place) {

@@ -1,4 +1,6 @@
-use Rattle.circuit_help.proofs.Judging.{none_reached}
+use Rattle.std.proofs.lemmas.Result.{IfOk-weaker}
+use Rattle.circuit_help.specs.Reached.{IsTold, IsToldOf}
+use Rattle.circuit_help.proofs.Judging.{none_reached, told_of}
 use Rattle.circuit_help.proofs.reached.explain_reached.Goals as goal
 
 pub returns-then-text-gt-MOST_BYTES : goal.returns-then-text-gt-MOST_BYTES
@@ -14,3 +16,10 @@ returns-then-not-is_in_macro c =
 
 pub returns : goal.returns
 returns c = none_reached c.args.text.now c.args.place c.new-in-None.result c.new-in-None.ensures
+
+pub returns-in-Some : goal.returns-in-Some
+returns-in-Some c =
+    let text = c.args.text.now in let place = c.args.place in let seen = c.as_slice-in-Some.result.now in
+    IfOk-weaker c.told.result (IsToldOf text seen place) (IsTold text place)
+    (λ bytes said. told_of text c.in-Ok.list seen place bytes c.in-Ok.ensures.found c.as_slice-in-Some.ensures said)
+    c.told.ensures

@@ -11,4 +11,4 @@ pub returns : goal.returns
 returns c =
     let drawn = c.in-Ok.drawn in
     zero_told c.args.text.now c.args.place drawn.circuit drawn.cases c.in-Some.net c.as_slice.result.now
-    c.new-out.result c.add_way.new.out c.in-Ok.ensures.drawn c.new-out.ensures c.in_ok-add_way.ensures
+    c.new-out.result c.add_way.new.out c.in-Ok.ensures.drawn c.in-Some.ensures c.new-out.ensures c.in_ok-add_way.ensures
