@@ -38,9 +38,13 @@ pub fn key_of_net(c: &Circuit, net: u32) -> Key {
     }
 }
 
+/// The bounds of a delay as one number.
+fn number_of_delay(delay: Delay) -> u64 {
+    u64::from(delay.min) << 16 | u64::from(delay.max)
+}
+
 fn and_delay(key: Key, delay: Delay) -> Key {
-    key.followed_by(u64::from(delay.min))
-        .followed_by(u64::from(delay.max))
+    key.followed_by(number_of_delay(delay))
 }
 
 fn and_split(key: Key, split: Option<Split>) -> Key {
@@ -86,12 +90,9 @@ fn and_driver(key: Key, driver: Option<&Instance>) -> Key {
 }
 
 fn and_instance(key: Key, instance: &Instance) -> Key {
-    let key = and_delay(key.followed_by(instance.kind as u64), instance.delay);
-    let key = and_split(key, instance.split);
-    and_pins(
-        key.followed_by(u64::from(instance.out_inverted)),
-        instance.pins.as_slice(),
-    )
+    let shape = (instance.kind as u64) << 1 | u64::from(instance.out_inverted);
+    let key = key.followed_by(shape << 32 | number_of_delay(instance.delay));
+    and_pins(and_split(key, instance.split), instance.pins.as_slice())
 }
 
 fn and_pins(mut key: Key, pins: &[Pin]) -> Key {
