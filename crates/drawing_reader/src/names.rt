@@ -2,11 +2,11 @@
 
 ghost use Rattle.std.specs.Prelude.{◌≡◌, ◌↔◌, ◌∷◌, [], IsTrue, IfOk, IfErr, MatchResult, MatchOption, false};
 ghost use Rattle.std.specs.List.{list_all};
-ghost use Rattle.assertion_syntax.specs.Name.{IsBase};
+ghost use Rattle.assertion_syntax.specs.Name.{IsBase, is_base_byte, well_spaced};
 ghost use Rattle.scald_base.specs.Fitting.{Fits};
 ghost use Rattle.drawing_grammar.specs.Lexeme.{lexeme_of, lexemes, terminal};
 ghost use Rattle.drawing_reader.specs.Known.{IsKnown};
-ghost use Rattle.drawing_grammar.specs.Names.{is_inner, named, names_at, head_behind, names_from, IsPlain, MayStand, IsNameFault, IsGood, AreGood, IsNameStop};
+ghost use Rattle.drawing_grammar.specs.Names.{named, names_at, head_behind, names_from, IsPlain, MayStand, IsNameFault, IsGood, AreGood, IsNameStop};
 
 use crate::cursor::{terminal_of, text_of};
 use crate::signal::unquoted;
@@ -50,30 +50,45 @@ fn fault(name: &SignalName, of_formal: bool, header: &Header) -> Option<RefusalK
     }
 }
 
-/// Whether a byte may stand anywhere in a base.
-fn is_inner(byte: u8) -> bool
-    ensures { result ≡ is_inner byte }
+/// Whether a base may have this byte.
+fn is_base_byte(byte: u8) -> bool
+    ensures { result ≡ is_base_byte byte }
 {
-    byte.is_ascii_alphanumeric() || matches!(byte, b'_' | b'#' | b'$')
+    byte.is_ascii_alphanumeric() || matches!(byte, b' ' | b'_' | b'#' | b'$')
 }
 
-fn are_inner(text: &[u8]) -> bool
-    ensures { result ≡ list_all is_inner text.now }
+fn are_base_bytes(text: &[u8]) -> bool
+    ensures { result ≡ list_all is_base_byte text.now }
 {
-    text.iter().all(|byte| is_inner(*byte))
+    text.iter().all(|byte| is_base_byte(*byte))
 }
 
-/// Whether a text is a base without spaces, as most names are: such a name may stand anywhere.
+/// Whether each space stands between two other bytes, and some byte is there.
+fn is_well_spaced(text: &[u8]) -> bool
+    ensures { result ≡ well_spaced false text.now }
+{
+    let mut after_byte = false;
+    'bytes: for byte in text {
+        let is_space = *byte == b' ';
+        if is_space && !after_byte {
+            return false;
+        }
+        after_byte = !is_space;
+    }
+    after_byte
+}
+
+/// Whether a text is a base, as most names are: such a name may stand anywhere.
 fn is_bare(text: &[u8]) -> bool
     ensures { IsTrue result → IsBase text.now }
 {
-    if text.is_empty() {
-        return false;
-    }
     if text.len() > 64 {
         return false;
     }
-    are_inner(text)
+    if !are_base_bytes(text) {
+        return false;
+    }
+    is_well_spaced(text)
 }
 
 /// Whether a name outside of a head is the one that is known.
