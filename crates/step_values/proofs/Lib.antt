@@ -4,3 +4,4 @@ pub mod Examples
 pub mod Filled
 pub mod Sound
 pub mod Quiet
+pub mod Written

@@ -1,18 +1,21 @@
-use Rattle.std.proofs.Common.{refl, arith}
-use Rattle.step_values.specs.Image.{and_of}
-use Rattle.step_values.proofs.Filled.{filled2, index2_below}
+use Rattle.std.proofs.Common.{List, [], ◌∷◌, refl}
+use Rattle.step_values.specs.declared.value.Value.{Value}
+use Rattle.step_values.specs.declared.value.Value.TheVariants.{Zero, One, S, C, R, F, U}
+use Rattle.step_values.specs.Image.{and_of, and_image, image1, image2}
+use Rattle.step_values.proofs.Written.{by_rows}
 use Rattle.step_values.proofs.tables.and2.Goals as goal
 
-pub loop-index-init : goal.loop-index-init
-loop-index-init c = record {
-  size = refl;
-  below = λ v w h. absurd (omega arith);
-}
-
-pub loop-index-preserved : goal.loop-index-preserved
-loop-index-preserved c =
-    filled2 and_of c.loop-index.entries c.loop-index.index _ _ c.and_value.result (omega arith)
-    c.value_at.ensures c.value_at-in-loop-index.ensures c.and_value.ensures c.loop-index.invariant
+abbrev written : List Value
+written =
+    Zero ∷ Zero ∷ Zero ∷ Zero ∷ Zero ∷ Zero ∷ Zero ∷
+    Zero ∷ One ∷ S ∷ C ∷ R ∷ F ∷ U ∷
+    Zero ∷ S ∷ S ∷ C ∷ R ∷ F ∷ U ∷
+    Zero ∷ C ∷ C ∷ C ∷ C ∷ C ∷ U ∷
+    Zero ∷ R ∷ R ∷ C ∷ R ∷ C ∷ U ∷
+    Zero ∷ F ∷ F ∷ C ∷ C ∷ F ∷ U ∷
+    Zero ∷ U ∷ U ∷ U ∷ U ∷ U ∷ U ∷ []
 
 pub returns : goal.returns
-returns c v w = c.loop-index.invariant.below v w (omega (arith, index2_below v w))
+unfolding and_of and_image image2 image1
+returns c = by_rows and_of written (refl, refl, refl, refl, refl, refl, refl) (refl, refl, refl, refl, refl, refl, refl) (refl, refl, refl, refl, refl, refl, refl) (refl, refl, refl, refl, refl, refl, refl)
+    (refl, refl, refl, refl, refl, refl, refl) (refl, refl, refl, refl, refl, refl, refl) (refl, refl, refl, refl, refl, refl, refl)

@@ -1,18 +1,21 @@
-use Rattle.std.proofs.Common.{refl, arith}
-use Rattle.step_values.specs.Image.{xor_of}
-use Rattle.step_values.proofs.Filled.{filled2, index2_below}
+use Rattle.std.proofs.Common.{List, [], ◌∷◌, refl}
+use Rattle.step_values.specs.declared.value.Value.{Value}
+use Rattle.step_values.specs.declared.value.Value.TheVariants.{Zero, One, S, C, R, F, U}
+use Rattle.step_values.specs.Image.{xor_of, xor_image, image1, image2}
+use Rattle.step_values.proofs.Written.{by_rows}
 use Rattle.step_values.proofs.tables.xor2.Goals as goal
 
-pub loop-index-init : goal.loop-index-init
-loop-index-init c = record {
-  size = refl;
-  below = λ v w h. absurd (omega arith);
-}
-
-pub loop-index-preserved : goal.loop-index-preserved
-loop-index-preserved c =
-    filled2 xor_of c.loop-index.entries c.loop-index.index _ _ c.xor_value.result (omega arith)
-    c.value_at.ensures c.value_at-in-loop-index.ensures c.xor_value.ensures c.loop-index.invariant
+abbrev written : List Value
+written =
+    Zero ∷ One ∷ S ∷ C ∷ R ∷ F ∷ U ∷
+    One ∷ Zero ∷ S ∷ C ∷ F ∷ R ∷ U ∷
+    S ∷ S ∷ S ∷ C ∷ C ∷ C ∷ U ∷
+    C ∷ C ∷ C ∷ C ∷ C ∷ C ∷ U ∷
+    R ∷ F ∷ C ∷ C ∷ C ∷ C ∷ U ∷
+    F ∷ R ∷ C ∷ C ∷ C ∷ C ∷ U ∷
+    U ∷ U ∷ U ∷ U ∷ U ∷ U ∷ U ∷ []
 
 pub returns : goal.returns
-returns c v w = c.loop-index.invariant.below v w (omega (arith, index2_below v w))
+unfolding xor_of xor_image image2 image1
+returns c = by_rows xor_of written (refl, refl, refl, refl, refl, refl, refl) (refl, refl, refl, refl, refl, refl, refl) (refl, refl, refl, refl, refl, refl, refl) (refl, refl, refl, refl, refl, refl, refl)
+    (refl, refl, refl, refl, refl, refl, refl) (refl, refl, refl, refl, refl, refl, refl) (refl, refl, refl, refl, refl, refl, refl)

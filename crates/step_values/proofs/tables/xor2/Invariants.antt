@@ -1,6 +1,0 @@
-use Rattle.step_values.specs.Image.{xor_of}
-use Rattle.step_values.proofs.Filled.{Filled2}
-use Rattle.step_values.proofs.tables.xor2.Given as goal
-
-abbrev pub invariant-loop-index : goal.invariant-loop-index
-invariant-loop-index l = Filled2 xor_of l.entries l.index
