@@ -206,6 +206,30 @@ fn imaged<W: CyclicWave<Item = Value>, I: Image>(
     }
 }
 
+/// What an element makes of its pins' waves, without their skews. Those of one pin or two are not copied.
+fn imaged_own<W: CyclicWave<Item = Value>, I: Image>(
+    alloc: Global,
+    image: &I,
+    pins: &[PinWave<W>],
+    period: u16,
+) -> Result<W, NoMemory>
+    requires period { period ≡ period_of (map (λ p. p.wave) pins.now) }
+    requires long { IsPeriod period }
+    requires periods { HaveOnePeriod (map (λ p. p.wave) pins.now) }
+    ensures { let waves = map (λ p. p.wave) pins.now in
+        IfOk result (λ w. W.cells w
+        ≡ slots (period_of waves) (λ p. I.value_of image.now (cells_in values waves p))) }
+{
+    match pins {
+        [only] => imaged_alone(alloc, image, only.wave.wave()),
+        [one, other] => imaged_both(alloc, image, one.wave.wave(), other.wave.wave()),
+        _ => {
+            let waves = own_waves(alloc, pins)?;
+            imaged_slots(alloc, image, &waves, period)
+        }
+    }
+}
+
 /// What an element makes of its pins' waves slot by slot, with one skew for all of them.
 pub fn by_slots<W: CyclicWave<Item = Value>, I: Image>(
     alloc: Global,
@@ -220,8 +244,7 @@ pub fn by_slots<W: CyclicWave<Item = Value>, I: Image>(
         ≡ skewed (slots (period_of waves) (λ p. I.value_of image.now (cells_in values waves p))) skew) }
     ensures skew { IfOk result (λ m. m.skew ≡ skew) }
 {
-    let waves = own_waves(alloc, pins)?;
-    let made = imaged(alloc, image, &waves, pins[0].wave.period())?;
+    let made = imaged_own(alloc, image, pins, pins[0].wave.period())?;
     Ok(Made { wave: made, skew })
 }
 
