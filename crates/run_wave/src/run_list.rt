@@ -220,6 +220,33 @@ impl<T: Cell + Drop> RunList<T> {
         self.runs[place].cell
     }
 
+    /// The cell of a slot, and the first slot after it that has another one, or the number of slots.
+    pub fn run_at(&self, slot: u16) -> (T, u16)
+        requires { slot < length (cells_of self.now.runs.items) }
+        ensures cell { slice_get (cells_of self.now.runs.items) slot ≡ Some result.0 }
+        ensures end { SameUntil (cells_of self.now.runs.items) slot result.1 }
+    {
+        let (place, end) = self.run_with(slot);
+        (self.runs[place].cell, end)
+    }
+
+    /// The slots from one of them on: what is left of its run, and the runs after it.
+    pub fn from(&self, slot: u16) -> Rest<T>
+        requires { slot < length (cells_of self.now.runs.items) }
+        ensures cells { cells_of (result.run ∷ drop result.next self.now.runs.items)
+            ≡ drop slot (cells_of self.now.runs.items) }
+        ensures some { 0 < result.run.width }
+    {
+        let (place, end) = self.run_with(slot);
+        Rest {
+            run: Run {
+                cell: self.runs[place].cell,
+                width: end - slot,
+            },
+            next: place + 1,
+        }
+    }
+
     /// The first slot after this one that has another cell than it, or the number of slots where
     /// there is none.
     pub fn same_until(&self, slot: u16) -> u16

@@ -1,9 +1,9 @@
 //! A wave that keeps its cells as runs.
 
-ghost use Rattle.std.specs.Prelude.{◌≡◌, length};
+ghost use Rattle.std.specs.Prelude.{◌≡◌, ◌<◌, IfOk, length, map, zip};
 ghost use Rattle.std.specs.List.{sum_by};
 ghost use Rattle.run_wave.specs.Run.{IsRuns, cells_of};
-ghost use Rattle.wave_core.specs.Slots.{IsPeriod};
+ghost use Rattle.wave_core.specs.Slots.{IsPeriod, later};
 
 use crate::run::Run;
 use crate::run_list::RunList;
@@ -28,6 +28,31 @@ impl<T: Cell + Drop> RunWave<T> {
         ensures few { IsRuns result.now }
     {
         &self.list.runs
+    }
+}
+
+impl<T: Cell + Drop> RunWave<T> {
+    /// The wave whose slots have the join of the cells there and `by` slots earlier.
+    fn joined_later(&self, alloc: Global, by: u16) -> Result<RunWave<T>, NoMemory>
+        requires some { 0 < by }
+        requires below { by < self.now.list.slots }
+        ensures { IfOk result (λ w. cells_of w.list.runs.items ≡ map (λ q. T.kind.join q.0 q.1)
+            (zip (cells_of self.now.list.runs.items) (later T.kind (cells_of self.now.list.runs.items) by))) }
+    {
+        let most = self.list.run_count().saturating_mul(2).saturating_add(1);
+        let mut list = RunList::with_room(alloc, most)?;
+        let mut now = self.list.whole();
+        let mut earlier = self.list.from(self.list.slots - by);
+        'parts: while now.run.width > 0 {
+            let width = min(now.run.width, earlier.run.width);
+            list.push(now.cell().join(earlier.cell()), width)?;
+            now = self.list.after(&now, width);
+            earlier = self.list.after(&earlier, width);
+            if earlier.run.width == 0 {
+                earlier = self.list.whole();
+            }
+        }
+        Ok(RunWave { list })
     }
 }
 
@@ -62,6 +87,10 @@ impl<T: Cell + Drop> CyclicWave for RunWave<T> {
 
     fn same_until(&self, slot: u16) -> u16 {
         self.list.same_until(slot)
+    }
+
+    fn run_at(&self, slot: u16) -> (T, u16) {
+        self.list.run_at(slot)
     }
 
     fn equal(&self, other: &RunWave<T>) -> bool {
@@ -114,8 +143,7 @@ impl<T: Cell + Drop> CyclicWave for RunWave<T> {
         let mut reach = 0;
         while reach < back {
             let by = min(reach + 1, back - reach);
-            let before = wave.rotate(alloc, by)?;
-            wave = wave.zip(alloc, &before, |cell, earlier| cell.join(earlier))?;
+            wave = wave.joined_later(alloc, by)?;
             reach += by;
         }
         Ok(wave)

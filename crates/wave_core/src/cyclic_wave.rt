@@ -50,6 +50,15 @@ pub trait CyclicWave: Sized + Drop {
         self.period()
     }
 
+    /// The cell of a slot, and the first slot after it that has another one, or the period.
+    fn run_at(&self, slot: u16) -> (Self::Item, u16)
+        requires { slot < length (cells self.now) }
+        ensures cell { slice_get (cells self.now) slot ≡ Some result.0 }
+        ensures end { SameUntil (cells self.now) slot result.1 }
+    {
+        (self.at(slot), self.same_until(slot))
+    }
+
     /// Whether the two have the same cells.
     fn equal(&self, other: &Self) -> bool
         ensures { IsTrue result ↔ (cells self.now ≡ cells other.now) };

@@ -15,12 +15,13 @@ pub fn joined_from<W: CyclicWave>(wave: &W, from: u16, count: u16) -> W::Item
     ensures { result ≡ join_round W.Item.kind (W.cells wave.now) from (count - 1) }
 {
     let period = wave.period();
-    let mut all = wave.at(from);
-    let mut place = wave.same_until(from) - from;
+    let (mut all, end) = wave.run_at(from);
+    let mut place = end - from;
     while place < count {
         let slot = (from + place) % period;
-        all = all.join(wave.at(slot));
-        place += wave.same_until(slot) - slot;
+        let (cell, end) = wave.run_at(slot);
+        all = all.join(cell);
+        place += end - slot;
     }
     all
 }

@@ -23,10 +23,11 @@ pub fn first_where<W: CyclicWave, F: Fn(W::Item) -> bool>(
     let mut place = 0;
     while place < count {
         let slot = (from + place) % period;
-        if test(wave.at(slot)) {
+        let (cell, end) = wave.run_at(slot);
+        if test(cell) {
             return Some(place);
         }
-        place += wave.same_until(slot) - slot;
+        place += end - slot;
     }
     None
 }

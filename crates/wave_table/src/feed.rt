@@ -15,9 +15,8 @@ pub fn feed<W: CyclicWave<Item = Value>, H: Hasher>(wave: &W, state: &mut H)
     let period = wave.period();
     let mut slot = 0;
     'runs: while slot < period {
-        let end = wave.same_until(slot);
-        let letter = wave.at(slot).letter();
-        state.write_u32(u32::from(letter) * 65_536 + u32::from(period - end));
+        let (cell, end) = wave.run_at(slot);
+        state.write_u32(u32::from(cell.letter()) * 65_536 + u32::from(period - end));
         slot = end;
     }
 }
