@@ -81,9 +81,9 @@ impl<W: CyclicWave<Item = Value>, K: Evaluated> Evaluations<W, K> {
         ensures means { IfOk result (IsNumber self.new wave) }
     {
         let count = self.waves.len();
-        let words = wave_words(wave.wave());
         let number = self.waves.number(wave)?;
         if self.waves.len() > count {
+            let words = wave_words(self.waves.wave(number).wave());
             self.recent.add(words);
             self.whole.add(words);
         }
