@@ -107,7 +107,7 @@ fn all_pins(alloc: Global, ins: &[Joined]) -> Result<Pins, NoMemory>
 fn column(alloc: Global, ins: &[Joined], k: usize) -> Result<Pins, NoMemory>
     ensures { IfOk result (λ pins. pins ≡ map (column_ref k) ins.now) }
 {
-    let mut pins = List::new(alloc);
+    let mut pins = List::with_room(alloc, ins.len())?;
     for connection in ins {
         pins.push(pin(bit_at(connection.bits.as_slice(), k), connection.hold))?;
     }

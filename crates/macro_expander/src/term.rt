@@ -53,7 +53,7 @@ fn net_bits(
     ensures { BitsAt expansion.old expansion.new
         result (spec_net_bits (path.now ++ base.now) spec.now place numbers.now (state_of expansion.old)) }
 {
-    let mut bits = List::new(alloc);
+    let mut bits = List::with_room(alloc, numbers.len())?;
     for number in numbers {
         bits.push(net(expansion, path, base, *number, spec, place)?)?;
     }
