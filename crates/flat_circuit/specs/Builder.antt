@@ -36,7 +36,7 @@ pub record Nets : Type 0 where
   pub wires : List Bounds
 
 abbrev pub name_of_key : NetName → Name
-name_of_key k = record { text = k.text.items; bit = k.bit }
+name_of_key k = record { text = k.text; bit = k.bit }
 
 abbrev pub net_entries : List (NetName × Bounds) → Nets
 net_entries entries = record { names = map (λ (p : NetName × Bounds). name_of_key p.0) entries; wires = map (λ (p : NetName × Bounds). p.1) entries }
@@ -95,6 +95,13 @@ same_name a b = bytes_eq a.text b.text && a.bit == b.bit
 
 abbrev pub has_name : List Name → Name → Bool
 has_name names name = list_any (same_name name) names
+
+-- The names with this one, and their wire bounds with its own, where it is new.
+abbrev pub with_name : List Name → Name → List Name
+with_name names name = if has_name names name then names else names ++ name ∷ []
+
+abbrev pub with_wire : List Name → Name → List Bounds → Bounds → List Bounds
+with_wire names name wires wire = if has_name names name then wires else wires ++ wire ∷ []
 
 -- A name gets its number: a new one the next, and the header's wire bounds.
 abbrev pub after_number : Built → Name → Built

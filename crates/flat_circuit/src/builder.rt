@@ -9,7 +9,7 @@ ghost use Rattle.flat_circuit.specs.Builder.{empty, IsBuilt, GivesNet, IsNetRefu
 use crate::assertions::{Assertions, is_asserted};
 use crate::instance::Instance;
 use crate::net_table::{NetName, NetTable};
-use scald_base::{AssertSpec, Delay, Header, List, NoMemory, Place, RefusalKind, Stop};
+use scald_base::{AssertSpec, Bytes, Delay, Header, List, NoMemory, Place, RefusalKind, Stop};
 use std::alloc::Global;
 use std::marker::Model;
 
@@ -114,7 +114,7 @@ impl Builder {
             return None;
         }
         let name = self.nets.name(next as usize);
-        if name.bit == bit && is_joined(&name.text, path, base) {
+        if name.bit == bit && is_joined(name.text.as_slice(), path, base) {
             Some(next)
         } else {
             None
@@ -140,11 +140,11 @@ impl Builder {
             text: joined(self.alloc, path, base)?,
             bit,
         };
-        if self.assertions.clashes(&name.text, spec) {
+        if self.assertions.clashes(name.text.as_slice(), spec) {
             return Err(Stop::refused(RefusalKind::AssertionClash, place));
         }
         let asserted_before = self.assertions.len();
-        self.assert(&name.text, spec)?;
+        self.assert(name.text.as_slice(), spec)?;
         match self.number(name, place) {
             Ok(number) => Ok(number),
             Err(stop) => {
@@ -184,16 +184,11 @@ impl Builder {
         ensures refused { IfErr result (λ stop.
             (self.new ≡ self.old) × IsNumberRefusal self.old (name_of_key name) place stop) }
     {
-        if let Some(number) = self.nets.number_of(&name) {
-            return Ok(number as u32);
-        }
-        let number = self.nets.len();
-        if number >= MOST_BITS {
-            return Err(Stop::refused(RefusalKind::TooMany, place));
-        }
         let wire = self.default_wire();
-        self.nets.add(name, wire)?;
-        Ok(number as u32)
+        match self.nets.number(name, wire, MOST_BITS)? {
+            Some(number) => Ok(number as u32),
+            None => Err(Stop::refused(RefusalKind::TooMany, place)),
+        }
     }
 
     /// Sets the bounds of a net's wires, which are the header's where none are set; those that are set
@@ -257,11 +252,11 @@ fn is_joined(text: &[u8], path: &[u8], base: &[u8]) -> bool
 }
 
 /// The bytes of one and then those of the other.
-fn joined(alloc: Global, path: &[u8], base: &[u8]) -> Result<Vec<u8>, NoMemory>
-    ensures { IfOk result (λ text. text.items ≡ path.now ++ base.now) }
+fn joined(alloc: Global, path: &[u8], base: &[u8]) -> Result<Bytes, NoMemory>
+    ensures { IfOk result (λ text. text ≡ path.now ++ base.now) }
 {
-    let mut text = Vec::with_capacity(alloc, path.len() + base.len())?;
-    text.extend_from_slice(path)?;
-    text.extend_from_slice(base)?;
+    let mut text = Bytes::with_room(alloc, path.len().saturating_add(base.len()))?;
+    text.extend(path)?;
+    text.extend(base)?;
     Ok(text)
 }

@@ -149,7 +149,9 @@ impl Scope {
     pub fn labelled(&self, alloc: Global, label: &[u8]) -> Result<Bytes, NoMemory>
         ensures { IfOk result (λ whole. whole ≡ self.now.path ++ label.now ++ self.now.suffix) }
     {
-        let mut whole = Bytes::of(alloc, self.path.as_slice())?;
+        let room = self.path.len().saturating_add(label.len());
+        let mut whole = Bytes::with_room(alloc, room.saturating_add(self.suffix.len()))?;
+        whole.extend(self.path.as_slice())?;
         whole.extend(label)?;
         whole.extend(self.suffix.as_slice())?;
         Ok(whole)

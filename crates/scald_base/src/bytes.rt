@@ -9,6 +9,7 @@ ghost use Rattle.std.specs.Str.{bytes_eq};
 use crate::list::NoMemory;
 use smallvec::SmallVec;
 use std::alloc::Global;
+use std::hash::{Hash, Hasher};
 use std::marker::Model;
 
 /// Whether two texts are the same, byte for byte.
@@ -48,6 +49,20 @@ impl Eq for Bytes {
     ghost laws = { nat_list_eq_equiv };
 }
 
+impl Hash for Bytes {
+    ghost use Rattle.std.proofs.Common.{ap};
+    ghost use Rattle.std.proofs.lemmas.Slice.Eq.{bytes_eq-Decides};
+
+    ghost hash_input = { λ b. b ∷ [] };
+
+    ghost respects_eq = { λ a b e. ap (λ bytes. bytes ∷ []) ((bytes_eq-Decides a b).0 e) };
+
+    // All bytes in one write: a hasher takes several at once.
+    fn hash<H: Hasher>(&self, state: &mut H) {
+        state.write(self.as_slice());
+    }
+}
+
 impl Bytes {
     /// No bytes. It needs no allocation yet.
     pub fn new(alloc: Global) -> Bytes
@@ -63,6 +78,14 @@ impl Bytes {
         ensures copied { IfOk result (λ copied. copied ≡ bytes.now) }
     {
         let items = SmallVec::from_slice(alloc, bytes)?;
+        Ok(Bytes { items })
+    }
+
+    /// No bytes, with room for so many.
+    pub fn with_room(alloc: Global, bytes: usize) -> Result<Bytes, NoMemory>
+        ensures { IfOk result (λ none. none ≡ []) }
+    {
+        let items = SmallVec::with_capacity(alloc, bytes)?;
         Ok(Bytes { items })
     }
 
