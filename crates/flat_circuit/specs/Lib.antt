@@ -9,3 +9,4 @@ pub mod Laws
 pub mod Builder
 pub mod Search
 pub mod Steps
+pub mod Stretch
