@@ -8,6 +8,7 @@ ghost use Rattle.flat_circuit.specs.Circuit.{IsCircuit, driver, net_names};
 
 use crate::instance::Instance;
 use crate::net::Net;
+use crate::readers::Readers;
 use scald_base::{Header, List};
 use std::cmp::Ordering;
 use std::marker::Model;
@@ -21,7 +22,7 @@ pub struct Circuit {
     pub(crate) nets: List<Net>,
     pub(crate) instances: List<Instance>,
     /// The instances that read each net.
-    pub(crate) readers: Vec<Vec<u32>>,
+    pub(crate) readers: Vec<Readers>,
     /// The nets' numbers, sorted by name and bit.
     pub(crate) order: Vec<u32>,
 }

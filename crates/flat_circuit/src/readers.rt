@@ -9,15 +9,19 @@ ghost use Rattle.flat_circuit.specs.Steps.{row_at, row_noted, row_told, rows_of,
 use crate::instance::{Instance, Pin};
 use element_kinds::Kind;
 use scald_base::NoMemory;
+use smallvec::SmallVec;
 use std::alloc::Global;
 use vector_names::Target;
+
+/// The readers of a net, of which most have few: four need no memory of their own.
+pub type Readers = SmallVec<u32, 4>;
 
 /// For each of so many nets, the instances with an output that listen to it, each once, ascending.
 pub(crate) fn readers(
     alloc: Global,
     instances: &[Instance],
     nets: usize,
-) -> Result<Vec<Vec<u32>>, NoMemory>
+) -> Result<Vec<Readers>, NoMemory>
     requires within { All (InstanceExists nets) instances.now }
     requires few { length instances.now < 2 ^ 32 }
     ensures { IfOk result (λ rows. rows_of rows.items ≡ map (readers_of instances.now) (range_with_len 0 nets)) }
@@ -29,18 +33,18 @@ pub(crate) fn readers(
     Ok(rows)
 }
 
-fn empty_rows(alloc: Global, count: usize) -> Result<Vec<Vec<u32>>, NoMemory>
+fn empty_rows(alloc: Global, count: usize) -> Result<Vec<Readers>, NoMemory>
     ensures { IfOk result (λ rows. rows_of rows.items ≡ map (λ _. []) (range_with_len 0 count)) }
 {
-    let mut rows = Vec::new(alloc);
+    let mut rows = Vec::with_capacity(alloc, count)?;
     for _k in 0..count {
-        rows.push(Vec::new(alloc))?;
+        rows.push(Readers::new(alloc))?;
     }
     Ok(rows)
 }
 
 // Notes instance k at the nets of its listening pins, if it has an output.
-fn note_instance(rows: &mut Vec<Vec<u32>>, instance: &Instance, k: u32) -> Result<(), NoMemory>
+fn note_instance(rows: &mut Vec<Readers>, instance: &Instance, k: u32) -> Result<(), NoMemory>
     requires { InstanceExists (length rows.old.items) instance.now }
     ensures long { OnOk result (length rows.new.items ≡ length rows.old.items) }
     ensures told { OnOk result
@@ -54,7 +58,7 @@ fn note_instance(rows: &mut Vec<Vec<u32>>, instance: &Instance, k: u32) -> Resul
     }
 }
 
-fn note_pins(rows: &mut Vec<Vec<u32>>, kind: Kind, pins: &[Pin], k: u32) -> Result<(), NoMemory>
+fn note_pins(rows: &mut Vec<Readers>, kind: Kind, pins: &[Pin], k: u32) -> Result<(), NoMemory>
     requires { All (PinExists (length rows.old.items)) pins.now }
     ensures long { OnOk result (length rows.new.items ≡ length rows.old.items) }
     ensures told { OnOk result ((i : ℕ) →
@@ -68,7 +72,7 @@ fn note_pins(rows: &mut Vec<Vec<u32>>, kind: Kind, pins: &[Pin], k: u32) -> Resu
 
 // Notes instance k at the net of its pin at a place, if that pin listens.
 fn note_pin(
-    rows: &mut Vec<Vec<u32>>,
+    rows: &mut Vec<Readers>,
     kind: Kind,
     place: usize,
     target: Target,
@@ -92,7 +96,7 @@ fn note_pin(
     }
 }
 
-fn note_at(rows: &mut Vec<Vec<u32>>, i: u32, k: u32) -> Result<(), NoMemory>
+fn note_at(rows: &mut Vec<Readers>, i: u32, k: u32) -> Result<(), NoMemory>
     requires { i < length rows.old.items }
     ensures long { OnOk result (length rows.new.items ≡ length rows.old.items) }
     ensures told { OnOk result ((x : ℕ) → row_at (rows_of rows.new.items)
@@ -102,10 +106,10 @@ fn note_at(rows: &mut Vec<Vec<u32>>, i: u32, k: u32) -> Result<(), NoMemory>
     Ok(())
 }
 
-fn note_row(row: &mut Vec<u32>, k: u32) -> Result<(), NoMemory>
+fn note_row(row: &mut Readers, k: u32) -> Result<(), NoMemory>
     ensures { OnOk result (row.new.items ≡ row_noted row.old.items k) }
 {
-    if !last_is_it(row, k) {
+    if !last_is_it(row.as_slice(), k) {
         row.push(k)?;
     }
     Ok(())
