@@ -145,7 +145,8 @@ fn is_same_spans(a: &[Span], b: &[Span]) -> bool
     a == b
 }
 
-fn copied(alloc: Global, spec: &AssertSpec) -> Result<AssertSpec, NoMemory>
+/// The same once more.
+pub(crate) fn copied(alloc: Global, spec: &AssertSpec) -> Result<AssertSpec, NoMemory>
     ensures { IfOk result (λ copy. copy ≡ spec.now) }
 {
     Ok(match spec {

@@ -1,10 +1,12 @@
 //! How a builder ends: the circuit's rules, and the circuit.
 
-ghost use Rattle.std.specs.Prelude.{◌≡◌, ◌<◌, length, IfOk, MatchResult};
-ghost use Rattle.flat_circuit.specs.Builder.{Stands, IsRefusal};
+ghost use Rattle.std.specs.Prelude.{◌≡◌, ◌<◌, List, length, IfOk, MatchResult};
+ghost use Rattle.std.specs.List.{All};
+ghost use Rattle.flat_circuit.specs.Name.{name_at};
+ghost use Rattle.flat_circuit.specs.Builder.{Asserted, Stands, IsRefusal, spec_of as spec_for};
 ghost use Rattle.flat_circuit.specs.Steps.{AreNets, IsNet, specs_of};
 
-use crate::assertions::Assertions;
+use crate::assertions::{Assertions, copied};
 use crate::builder::Builder;
 use crate::circuit::Circuit;
 use crate::drivers::drivers;
@@ -13,7 +15,7 @@ use crate::net_table::NetTable;
 use crate::order::by_name;
 use crate::passages::no_loop;
 use crate::readers::readers;
-use scald_base::{Bytes, List, NoMemory, Stop};
+use scald_base::{AssertSpec, Bytes, List, NoMemory, Stop};
 use std::alloc::Global;
 
 impl Builder {
@@ -61,26 +63,47 @@ fn nets(
 {
     let mut nets = List::new(alloc);
     for i in 0..table.len() {
-        nets.push(net(alloc, table, assertions, i, drivers[i])?)?;
+        let spec = spec_of(alloc, nets.as_slice(), table, assertions, i)?;
+        nets.push(net(alloc, table, spec, i, drivers[i])?)?;
     }
     Ok(nets)
+}
+
+/// What is asserted of the net of a number: the same as of the one before it, where that is of its vector.
+fn spec_of(
+    alloc: Global,
+    nets: &[Net],
+    table: &NetTable,
+    assertions: &Assertions,
+    i: usize,
+) -> Result<AssertSpec, NoMemory>
+    requires number { i < length table.now.names }
+    requires before { All (λ n. n.spec ≡ spec_for assertions.now n.name) nets.now }
+    ensures { IfOk result (λ spec. spec ≡ spec_for assertions.now (name_at table.now.names i).text) }
+{
+    let text = table.name(i).text.as_slice();
+    match nets.last() {
+        Some(before) if before.name.as_slice() == text => copied(alloc, &before.spec),
+        _ => assertions.of(alloc, text),
+    }
 }
 
 fn net(
     alloc: Global,
     table: &NetTable,
-    assertions: &Assertions,
+    spec: AssertSpec,
     i: usize,
     driver: Option<u32>,
 ) -> Result<Net, NoMemory>
     requires { i < length table.now.names }
-    ensures { IfOk result (IsNet table.now.names table.now.wires assertions.now driver i) }
+    ensures { IfOk result (λ n. (asserted : List Asserted) → spec ≡ spec_for asserted (name_at table.now.names i).text →
+        IsNet table.now.names table.now.wires asserted driver i n) }
 {
     let name = table.name(i);
     Ok(Net {
-        name: Bytes::of(alloc, &name.text)?,
+        name: Bytes::of(alloc, name.text.as_slice())?,
         bit: name.bit,
-        spec: assertions.of(alloc, &name.text)?,
+        spec,
         wire: table.wire_at(i),
         driver,
     })
