@@ -1,6 +1,6 @@
 -- What an evaluation depends on: the kind of an instance, its delays, what is complemented and marked, and the numbers of
 -- the waves of what its pins are on. Instances that have these in common make one wave.
-use Rattle.std.specs.Prelude.{◌≡◌, ℕ, ◌++◌, false, true, List, map, position, zip, if◌then◌else◌, Option, Some, None}
+use Rattle.std.specs.Prelude.{◌≡◌, ℕ, ◌+◌, ◌*◌, ◌++◌, false, true, List, map, position, zip, if◌then◌else◌, Option, Some, None}
 use Rattle.std.specs.Hash as fed
 use Rattle.scald_base.specs.Time.{Bounds, Header}
 use Rattle.step_values.specs.declared.value.Value.{Value}
@@ -49,12 +49,16 @@ key_makes k ws =
 
 -- ---- what it feeds to a hasher
 
+-- the wave and the complement of a pin as one number
+abbrev pub pin_word : KeyPin → ℕ
+pin_word p = p.wave * 2 + (if p.inverted then 1 else 0)
+
 abbrev pub pin_fed : KeyPin → List (List ℕ)
-pin_fed p = fed.u32 p.wave ++ fed.bool p.inverted
+pin_fed p = fed.u64 (pin_word p)
 
 -- Of so many keys as have one delay and one list of waves at their pins few differ in what is left out.
 abbrev pub key_fed : Key → List (List ℕ)
-key_fed k = fed.u16 k.least ++ fed.u16 k.greatest ++ fed.slice pin_fed k.pins
+key_fed k = fed.u32 (k.least * 65536 + k.greatest) ++ fed.slice pin_fed k.pins
 
 -- ---- keys of instances
 

@@ -7,7 +7,7 @@ ghost use Rattle.skew_algebra.specs.Wave.{Wave};
 ghost use Rattle.flat_circuit.specs.Instances.{PinExists, TargetExists};
 ghost use Rattle.wave_table.specs.Table.{AreKnown, Grows, wave_at, waves_at};
 ghost use Rattle.net_waves.specs.Waves.{pin_wave as wave_shown, target_wave, waves_of};
-ghost use Rattle.fixpoint_engine.specs.Key.{AreConstants, IsKeyOf, shown_by};
+ghost use Rattle.fixpoint_engine.specs.Key.{AreConstants, IsKeyOf, pin_word, shown_by};
 
 use element_kinds::Kind;
 use flat_circuit::{Circuit, Instance, Pin, Target};
@@ -31,6 +31,15 @@ pub struct KeyPin {
     pub hold: bool,
 }
 
+impl KeyPin {
+    /// The wave and the complement as one number, which a hasher takes at once.
+    fn word(&self) -> u64
+        ensures { result ≡ pin_word self.now }
+    {
+        u64::from(self.wave) * 2 + u64::from(self.inverted)
+    }
+}
+
 impl Hash for KeyPin {
     ghost use Rattle.std.proofs.Common.{ap};
     ghost use Rattle.fixpoint_engine.specs.Key.{pin_fed};
@@ -41,8 +50,7 @@ impl Hash for KeyPin {
     ghost respects_eq = { λ p q e. ap pin_fed (pin_is p q e) };
 
     fn hash<H: Hasher>(&self, state: &mut H) {
-        self.wave.hash(state);
-        self.inverted.hash(state);
+        state.write_u64(self.word());
     }
 }
 
@@ -84,8 +92,9 @@ impl Hash for Key {
     ghost respects_eq = { λ j k e. ap key_fed (same_key j k e) };
 
     fn hash<H: Hasher>(&self, state: &mut H) {
-        self.least.hash(state);
-        self.greatest.hash(state);
+        let least = self.least;
+        let greatest = self.greatest;
+        state.write_u32(u32::from(least) * 65_536 + u32::from(greatest));
         self.pins.as_slice().hash(state);
     }
 }
@@ -185,7 +194,7 @@ fn key_pins(
         map (λ p. shown_by p (wave_at table p.wave)) keys
         ≡ map (wave_shown c.now (waves_of (waves_at table numbers.now))) pins.now) }
 {
-    let mut keys = List::new(alloc);
+    let mut keys = List::with_room(alloc, pins.len())?;
     for pin in pins {
         keys.push(key_pin(c, constants, numbers, *pin))?;
     }
