@@ -12,3 +12,4 @@ pub mod Worklist
 pub mod Classes
 pub mod Laws
 pub mod Members
+pub mod Hearers

@@ -1,5 +1,5 @@
 -- The nets of a class, the first of which stands for all of them: it alone is evaluated, and they all change to its wave.
-use Rattle.std.specs.Prelude.{◌≡◌, ℕ, zero, suc, ◌<◌, ◌==◌, Bool, true, ◌&&◌, nat_lt, if◌then◌else◌, List, [], ◌∷◌, length, map, slice_index_or, Option, Some, None}
+use Rattle.std.specs.Prelude.{◌≡◌, ℕ, zero, suc, ◌<◌, ◌≤◌, ◌==◌, Bool, true, ◌&&◌, nat_lt, if◌then◌else◌, List, [], ◌∷◌, length, map, slice_index_or, Option, Some, None}
 use Rattle.std.specs.List.{flat_map, range_with_len}
 use Rattle.class_table.specs.Alike.{class_of}
 use Rattle.fixpoint_engine.specs.Settled.{marked_in}
@@ -24,11 +24,28 @@ for_class classes ch = map (λ i. (i, ch.1)) (members_below classes (class_of cl
 abbrev pub for_classes : List ℕ → List Change → List Change
 for_classes classes changes = flat_map (for_class classes) changes
 
--- For each net the last one of its class before it, and for each class its last net.
-pub record AreLast (classes : List ℕ) (before : List (Option ℕ)) (last : ℕ → Option ℕ) : Type 0 where
+-- The last net of a class so far: in a list by the class's number, or else by a map.
+abbrev pub last_in : List (Option ℕ) → (ℕ → Option ℕ) → ℕ → Option ℕ
+last_in near far class = if nat_lt class (length near) then slice_index_or near class None else far class
+
+-- what is known of the first nets of the classes of the nets below a number
+pub record AreFirsts (ks firsts : List ℕ) (m : ℕ) : Type 0 where
+  pub each_net : length firsts ≡ m
+  pub is : (i : ℕ) → i < m → is_first ks (slice_index_or firsts i 0) ≡ true
+  pub alike : (i : ℕ) → i < m → class_of ks (slice_index_or firsts i 0) ≡ class_of ks i
+  pub below : (i : ℕ) → i < m → slice_index_or firsts i 0 ≤ i
+
+-- for each first net the last one of its class below a number
+pub record AreLasts (ks lasts : List ℕ) (m : ℕ) : Type 0 where
+  pub each_net : length lasts ≡ m
+  pub is : (i : ℕ) → i < m → is_first ks i ≡ true → Some (slice_index_or lasts i 0) ≡ last_below ks (class_of ks i) m
+
+-- For each net the last one of its class before it and the first one of its class, and for each of those the last one.
+pub record AreMembers (classes : List ℕ) (before : List (Option ℕ)) (firsts lasts : List ℕ) : Type 0 where
   pub each_net : length before ≡ length classes
-  pub of_net : (i : ℕ) → i < length classes → slice_index_or before i None ≡ last_below classes (class_of classes i) i
-  pub of_class : (class : ℕ) → last class ≡ last_below classes class (length classes)
+  pub before_is : (i : ℕ) → i < length classes → slice_index_or before i None ≡ last_below classes (class_of classes i) i
+  pub firsts_are : AreFirsts classes firsts (length classes)
+  pub lasts_are : AreLasts classes lasts (length classes)
 
 -- ---- where classes may be left out: each net is then a class of its own
 
@@ -50,3 +67,8 @@ is_evaluated active classes i = marked_in active i && leads_in classes i
 abbrev pub for_all : Option (List ℕ) → List Change → List Change
 for_all None changes = changes
 for_all (Some classes) changes = for_classes classes changes
+
+-- the nets for which these stand
+abbrev pub all_in : Option (List ℕ) → List ℕ → List ℕ
+all_in None nets = nets
+all_in (Some classes) nets = flat_map (λ i. members_below classes (class_of classes i) (length classes)) nets

@@ -1,14 +1,16 @@
 //! What one round changes.
 
-ghost use Rattle.std.specs.Prelude.{◌≡◌, ◌<◌, ◌++◌, ◌∷◌, [], IfOk, OnOk, List, length, map};
+ghost use Rattle.std.specs.Prelude.{◌≡◌, ◌<◌, ◌++◌, ◌∷◌, [], IfOk, OnOk, List, Some, length, map, true};
 ghost use Rattle.std.specs.List.{All};
 ghost use Rattle.step_values.specs.declared.value.Value.{Value as OfValues};
 ghost use Rattle.skew_algebra.specs.Wave.{Wave};
 ghost use Rattle.wave_table.specs.Table.{AreKnown, Grows, wave_at, waves_at};
 ghost use Rattle.net_waves.specs.Waves.{FitWaves, waves_of};
 ghost use Rattle.fixpoint_engine.specs.Key.{AreConstants};
+ghost use Rattle.fixpoint_engine.specs.Members.{for_class, for_classes, leads_in};
 ghost use Rattle.fixpoint_engine.specs.Worklist.{changed, changes_of};
 
+use crate::class_nets::ClassNets;
 use crate::key::{Constants, Store};
 use crate::value::evaluated;
 use flat_circuit::Circuit;
@@ -90,5 +92,37 @@ pub fn apply(numbers: &mut Numbers, changes: &[Change])
 {
     for change in changes {
         numbers.set(change.net as usize, change.number);
+    }
+}
+
+/// Puts the number of a new wave in the place of the old one, for all nets of the class of the net that changes.
+fn apply_class(numbers: &mut Numbers, classes: &ClassNets, change: Change)
+    requires each_net { length classes.now ≡ length numbers.old }
+    requires first { leads_in (Some classes.now) change.net ≡ true }
+    ensures each_net { length numbers.new ≡ length numbers.old }
+    ensures known { (table : List (Wave OfValues)) → AreKnown table numbers.old →
+        change.number < length table → AreKnown table numbers.new }
+    ensures changed { (table : List (Wave OfValues)) → waves_at table numbers.new
+        ≡ changed (waves_at table numbers.old) (for_class classes.now (change.net, wave_at table change.number)) }
+{
+    let mut at = classes.last(change.net);
+    while let Some(net) = at {
+        numbers.set(net as usize, change.number);
+        at = classes.previous(net);
+    }
+}
+
+/// The same for all nets of the classes of those that change, which stand for them.
+pub fn apply_classes(numbers: &mut Numbers, classes: &ClassNets, changes: &[Change])
+    requires each_net { length classes.now ≡ length numbers.old }
+    requires firsts { All (λ ch. leads_in (Some classes.now) ch.net ≡ true) changes.now }
+    ensures known { (table : List (Wave OfValues)) → AreKnown table numbers.old →
+        AreKnown table (map (λ ch. ch.number) changes.now) → AreKnown table numbers.new }
+    ensures changed { (table : List (Wave OfValues)) → waves_at table numbers.new
+        ≡ changed (waves_at table numbers.old)
+        (for_classes classes.now (map (λ ch. (ch.net, wave_at table ch.number)) changes.now)) }
+{
+    for change in changes {
+        apply_class(numbers, classes, *change);
     }
 }

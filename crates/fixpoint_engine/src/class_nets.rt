@@ -1,15 +1,15 @@
 //! The nets of each class.
 
-ghost use Rattle.std.specs.Prelude.{◌≡◌, ◌<◌, IfOk, Some, length};
+ghost use Rattle.std.specs.Prelude.{◌≡◌, ◌<◌, IfOk, Some, length, true};
 ghost use Rattle.std.specs.Option.{option_copied};
 ghost use Rattle.class_table.specs.Alike.{class_of};
 ghost use Rattle.fixpoint_engine.specs.Members.{is_evaluated, last_below, leads_in};
 
+use crate::last_nets::LastNets;
 use crate::net_set::NetSet;
 use class_table::ClassMap;
 use scald_base::NoMemory;
 use std::alloc::Global;
-use std::collections::HashMap;
 use std::marker::Model;
 
 /// The nets of each class, from the last to the first. Contracts see the class of each net.
@@ -18,20 +18,21 @@ pub struct ClassNets {
     classes: Vec<u32>,
     /// For each net the last one of its class before it.
     before: Vec<Option<u32>>,
-    /// For each class its last net.
-    last: HashMap<u32, u32>,
+    /// For each net the first one of its class, which stands for all of them.
+    firsts: Vec<u32>,
+    /// For each net that stands for its class, the last one of the class.
+    lasts: Vec<u32>,
 }
 
 impl Model for ClassNets {
-    ghost use Rattle.std.specs.Prelude.{List, ℕ, nat_eq};
-    ghost use Rattle.std.specs.HashMap.{get};
-    ghost use Rattle.fixpoint_engine.specs.Members.{AreLast};
+    ghost use Rattle.std.specs.Prelude.{List, ℕ};
+    ghost use Rattle.fixpoint_engine.specs.Members.{AreMembers};
 
     ghost Value = { List ℕ };
 
     ghost view = { λ t. t.classes.items };
 
-    ghost invariant = { λ t. AreLast t.classes.items t.before.items (get nat_eq t.last) };
+    ghost invariant = { λ t. AreMembers t.classes.items t.before.items t.firsts.items t.lasts.items };
 }
 
 impl ClassNets {
@@ -41,24 +42,44 @@ impl ClassNets {
         ensures { IfOk result (λ t. t ≡ numbers.now) }
     {
         let classes = Vec::from_slice(alloc, numbers.as_slice())?;
-        let mut before = Vec::new(alloc);
-        let mut last = HashMap::new(alloc);
+        let mut before = Vec::with_capacity(alloc, nets as usize)?;
+        let mut firsts = Vec::with_capacity(alloc, nets as usize)?;
+        let mut lasts = Vec::with_capacity(alloc, nets as usize)?;
+        let mut last = LastNets::new(alloc, nets)?;
         for net in 0..nets {
-            before.push(last.insert(classes[net as usize], net)?)?;
+            let earlier = last.put(classes[net as usize], net)?;
+            let first = match earlier {
+                Some(one) => firsts[one as usize],
+                None => net,
+            };
+            before.push(earlier)?;
+            firsts.push(first)?;
+            lasts.push(net)?;
+            lasts[first as usize] = net;
         }
         Ok(ClassNets {
             classes,
             before,
-            last,
+            firsts,
+            lasts,
         })
     }
 
-    /// The last net of the class that a net is of.
-    pub fn last(&self, net: u32) -> Option<u32>
+    /// The first net of the class that a net is of.
+    pub fn first(&self, net: u32) -> u32
         requires { net < length self.now }
-        ensures { result ≡ last_below self.now (class_of self.now net) (length self.now) }
+        ensures first { leads_in (Some self.now) result ≡ true }
+        ensures alike { class_of self.now result ≡ class_of self.now net }
     {
-        self.last.get(&self.classes[net as usize]).copied()
+        self.firsts[net as usize]
+    }
+
+    /// The last net of the class for which a net stands.
+    pub fn last(&self, first: u32) -> Option<u32>
+        requires { leads_in (Some self.now) first ≡ true }
+        ensures { result ≡ last_below self.now (class_of self.now first) (length self.now) }
+    {
+        Some(self.lasts[first as usize])
     }
 
     /// The last net before this one that is of its class.
@@ -70,7 +91,7 @@ impl ClassNets {
     }
 
     /// Whether there is such a net, and none before it is of its class.
-    fn leads(&self, net: u32) -> bool
+    pub fn leads(&self, net: u32) -> bool
         ensures { result ≡ leads_in (Some self.now) net }
     {
         match self.before.get(net as usize) {

@@ -24,6 +24,8 @@ mod readers;
 // nets of one class, which change together
 mod class_changes;
 mod class_nets;
+mod hearers;
+mod last_nets;
 
 // rounds until they settle, and what holds of them
 mod laws;

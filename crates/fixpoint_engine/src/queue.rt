@@ -1,17 +1,19 @@
 //! The nets that are to be evaluated in a round.
 
-ghost use Rattle.std.specs.Prelude.{◌≡◌, ◌<◌, ◌==◌, ◌&&◌, [], ℕ, IfOk, OnOk, false, length, map, replicate};
+ghost use Rattle.std.specs.Prelude.{◌≡◌, ◌<◌, ◌+◌, ◌==◌, ◌&&◌, [], ℕ, IfOk, IfSome, OnOk, false, length, map, replicate, true};
 ghost use Rattle.std.specs.List.{All};
 ghost use Rattle.std.specs.Option.{option_copied};
 ghost use Rattle.flat_circuit.specs.Instances.{out_at};
 ghost use Rattle.flat_circuit.specs.Circuit.{driver};
 ghost use Rattle.fixpoint_engine.specs.Settled.{FitActive, marked_in};
-ghost use Rattle.fixpoint_engine.specs.Members.{is_evaluated};
+ghost use Rattle.fixpoint_engine.specs.Hearers.{AreHearers, row_of};
+ghost use Rattle.fixpoint_engine.specs.Members.{all_in, is_evaluated, leads_in};
 ghost use Rattle.fixpoint_engine.specs.Work.{hears_in};
 ghost use Rattle.fixpoint_engine.specs.Worklist.{Adds, IsQueue, among, drives_in};
 
 use crate::changes::Change;
 use crate::class_nets::{ClassNets, is_evaluated};
+use crate::hearers::Hearers;
 use crate::net_set::NetSet;
 use crate::readers::{output_of, readers_of};
 use flat_circuit::Circuit;
@@ -133,26 +135,46 @@ impl Queue {
         Ok(())
     }
 
+    /// Lets the active nets wait that hear the class for which this net stands.
+    fn add_firsts(&mut self, hearers: &Hearers, active: &NetSet, first: u32) -> Result<(), NoMemory>
+        requires row { first + 1 < length hearers.now.begins }
+        requires each_net { All (λ i. i < length self.old.marks) (row_of hearers.now first) }
+        ensures { OnOk result (Adds (λ i. marked_in active.now i && among (row_of hearers.now first) i) self.old self.new) }
+    {
+        for net in hearers.of_first(first) {
+            if active.has(*net) {
+                self.add(*net)?;
+            }
+        }
+        Ok(())
+    }
+
     /// In place of those that wait: the active nets whose drivers listen to a net that changed, of each
-    /// class the first.
+    /// class the first. A net that changed stands for all of its class.
     pub fn refill(
         &mut self,
         c: &Circuit,
         classes: Option<&ClassNets>,
+        hearers: &Hearers,
         active: &NetSet,
         changes: &[Change],
     ) -> Result<(), NoMemory>
         requires active { FitActive c.now active.now }
         requires each_net { length self.old.marks ≡ length c.now.nets }
         requires exist { All (λ ch. ch.net < length c.now.nets) changes.now }
+        requires firsts { All (λ ch. leads_in (option_copied classes) ch.net ≡ true) changes.now }
+        requires hearers { IfSome (option_copied classes) (λ classes. AreHearers c.now classes hearers.now) }
         ensures each_net { OnOk result (length self.new.marks ≡ length c.now.nets) }
         ensures due { OnOk result
             ((i : ℕ) → marked_in self.new.marks i ≡ (is_evaluated active.now (option_copied classes.entry) i
-            && hears_in (among (map (λ ch. ch.net) changes.now)) (driver c.now i))) }
+            && hears_in (among (all_in (option_copied classes.entry) (map (λ ch. ch.net) changes.now))) (driver c.now i))) }
     {
         self.clear();
         for change in changes {
-            self.add_hearers(c, classes, active, change.net)?;
+            match classes {
+                Some(_) => self.add_firsts(hearers, active, change.net)?,
+                None => self.add_hearers(c, classes, active, change.net)?,
+            }
         }
         Ok(())
     }

@@ -1,6 +1,6 @@
 //! Rounds until they settle.
 
-ghost use Rattle.std.specs.Prelude.{◌≡◌, ◌+◌, ◌<◌, ◌≤◌, ℕ, IfErr, IfOk, MatchOption, false, length, map, take};
+ghost use Rattle.std.specs.Prelude.{◌≡◌, ◌+◌, ◌<◌, ◌≤◌, ℕ, IfErr, IfOk, IfSome, MatchOption, false, length, map, take};
 ghost use Rattle.std.specs.List.{All};
 ghost use Rattle.std.specs.Option.{option_copied};
 ghost use Rattle.class_table.specs.Stable.{IsStable};
@@ -12,13 +12,15 @@ ghost use Rattle.fixpoint_engine.specs.Rounds.{round};
 ghost use Rattle.fixpoint_engine.specs.Settled.{AreAtRest, FitActive, KeepRuns, marked_in};
 ghost use Rattle.fixpoint_engine.specs.Work.{work_to};
 ghost use Rattle.fixpoint_engine.specs.Classes.{OneStandsForAll, AreTogether, GoTogether, HaveOneWave, class_work_to};
+ghost use Rattle.fixpoint_engine.specs.Hearers.{AreHearers};
 ghost use Rattle.fixpoint_engine.specs.Members.{numbers_in};
 ghost use Rattle.fixpoint_engine.specs.End.{EndsAt, EndsFor, IsFirstIn};
 ghost use Rattle.fixpoint_engine.specs.Worklist.{among};
 
-use crate::changes::{Change, apply};
-use crate::class_changes::class_changes;
+use crate::changes::{Change, changes};
+use crate::class_changes::{apply_all, for_all};
 use crate::class_nets::ClassNets;
+use crate::hearers::Hearers;
 use crate::key::{Constants, Store, constant_numbers};
 use crate::net_set::NetSet;
 use crate::queue::Queue;
@@ -134,6 +136,7 @@ fn rounds_from<W: CyclicWave<Item = Value>>(
     store: &mut Store<W>,
     constants: Constants,
     classes: Option<&ClassNets>,
+    hearers: &Hearers,
     start: &Numbers,
     active: &NetSet,
     limit: u32,
@@ -142,6 +145,7 @@ fn rounds_from<W: CyclicWave<Item = Value>>(
     requires known { AreKnown store.old start.now }
     requires waves { FitWaves c.now (waves_at store.old start.now) }
     requires active { FitActive c.now active.now }
+    requires hearers { IfSome (option_copied classes) (λ classes. AreHearers c.now classes hearers.now) }
     requires classes { OneStandsForAll c.now (marked_in active.now)
         (numbers_in (length c.now.nets) (option_copied classes)) (waves_of (waves_at store.old start.now)) }
     ensures grows { Grows store.old store.new }
@@ -167,7 +171,7 @@ fn rounds_from<W: CyclicWave<Item = Value>>(
     let mut evals = 0;
     'rounds: loop {
         let now = numbers.as_slice();
-        let made = class_changes(alloc, c, store, classes, constants, now, queue.nets())?;
+        let made = changes(alloc, c, store, constants, now, queue.nets())?;
         evals += queue.nets().len() as u64;
         if made.is_empty() {
             return Ok(Settled {
@@ -177,10 +181,11 @@ fn rounds_from<W: CyclicWave<Item = Value>>(
             });
         }
         if rounds == limit {
-            return Err(unsettled(alloc, c, &made, limit)?);
+            let all = for_all(alloc, classes, &made)?;
+            return Err(unsettled(alloc, c, &all, limit)?);
         }
-        queue.refill(c, classes, active, &made)?;
-        apply(&mut numbers, &made);
+        queue.refill(c, classes, hearers, active, &made)?;
+        apply_all(&mut numbers, classes, &made);
         numbers = shortened(alloc, store, kept, numbers)?;
         rounds += 1;
     }
@@ -192,6 +197,7 @@ fn settle_firsts<W: CyclicWave<Item = Value>>(
     c: &Circuit,
     store: &mut Store<W>,
     classes: Option<&ClassNets>,
+    hearers: &Hearers,
     start: &Numbers,
     active: &NetSet,
     limit: u32,
@@ -199,6 +205,7 @@ fn settle_firsts<W: CyclicWave<Item = Value>>(
     requires known { AreKnown store.old start.now }
     requires waves { FitWaves c.now (waves_at store.old start.now) }
     requires active { FitActive c.now active.now }
+    requires hearers { IfSome (option_copied classes) (λ classes. AreHearers c.now classes hearers.now) }
     requires classes { OneStandsForAll c.now (marked_in active.now)
         (numbers_in (length c.now.nets) (option_copied classes)) (waves_of (waves_at store.old start.now)) }
     ensures grows { Grows store.old store.new }
@@ -216,7 +223,9 @@ fn settle_firsts<W: CyclicWave<Item = Value>>(
         IfErr result (EndsFor c.now.order (round c.now (marked_in active.now) first) limit) }
 {
     let constants = constant_numbers(alloc, c.header(), store)?;
-    rounds_from(alloc, c, store, constants, classes, start, active, limit)
+    rounds_from(
+        alloc, c, store, constants, classes, hearers, start, active, limit,
+    )
 }
 
 /// Rounds over the active nets, from the waves at the start, until a round is as the one before: the
@@ -250,7 +259,8 @@ pub fn settle<W: CyclicWave<Item = Value>>(
     ensures unsettled { let first = waves_of (waves_at store.old start.now) in
         IfErr result (EndsFor c.now.order (round c.now (marked_in active.now) first) limit) }
 {
-    settle_firsts(alloc, c, store, None, start, active, limit)
+    let hearers = Hearers::none(alloc);
+    settle_firsts(alloc, c, store, None, &hearers, start, active, limit)
 }
 
 /// The answer of `settle`, where nothing tells the nets of one class apart, in the circuit and in each of
@@ -293,5 +303,15 @@ pub fn settle_classes<W: CyclicWave<Item = Value>>(
 {
     c.known();
     let classes = ClassNets::of(alloc, numbers, c.net_count())?;
-    settle_firsts(alloc, c, store, Some(&classes), start, active, limit)
+    let hearers = Hearers::of(alloc, c, &classes)?;
+    settle_firsts(
+        alloc,
+        c,
+        store,
+        Some(&classes),
+        &hearers,
+        start,
+        active,
+        limit,
+    )
 }
