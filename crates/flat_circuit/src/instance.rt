@@ -1,8 +1,14 @@
 //! The bits of elements and checkers.
 
+ghost use Rattle.std.specs.Prelude.{◌≡◌, [], ◌∷◌, ◌++◌, length, slice_get, false, IfOk, OnOk, OnErr};
+ghost use Rattle.std.specs.Option.{option_copied};
+
 use crate::split::Split;
 use element_kinds::Kind;
-use scald_base::{Bytes, Delay, List, Place};
+use scald_base::{Bytes, Delay, NoMemory, Place};
+use smallvec::SmallVec;
+use std::alloc::Global;
+use std::marker::Model;
 use vector_names::Target;
 
 /// One pin: what it is on, whether it shows the complement, and whether it is marked `!H`.
@@ -13,8 +19,94 @@ pub struct Pin {
     pub hold: bool,
 }
 
-/// The pins of an instance, in the order of its kind.
-pub type Pins = List<Pin>;
+impl Default for Pin {
+    ghost use Rattle.vector_names.specs.declared.bits.Target.TheVariants.{Constant};
+
+    ghost is_default = { λ p. p ≡ record { target = Constant false; inverted = false; hold = false } };
+
+    fn default() -> Pin {
+        Pin {
+            target: Target::Constant(false),
+            inverted: false,
+            hold: false,
+        }
+    }
+}
+
+/// The pins of an instance, in the order of its kind, which contracts see as the list of them. Most have one or
+/// two, which lie in the value itself, and only more take memory.
+#[derive(Drop, Debug)]
+pub struct Pins {
+    items: SmallVec<Pin, 2>,
+}
+
+impl Model for Pins {
+    ghost use Rattle.std.specs.Prelude.{List};
+
+    ghost Value = { List Pin };
+
+    ghost view = { λ p. p.items.items };
+}
+
+impl PartialEq for Pins {
+    ghost use Rattle.std.specs.Cmp.Lexicographic.{pointwise, lists_per};
+    ghost use Rattle.std.specs.Cmp.{on_per};
+
+    ghost eq = { λ x y. pointwise ⟦<Pin as PartialEq>⟧.eq x y };
+
+    ghost laws = { on_per (λ x. x) (lists_per ⟦<Pin as PartialEq>⟧.laws) };
+
+    fn eq(&self, other: &Pins) -> bool {
+        self.as_slice() == other.as_slice()
+    }
+}
+
+impl Eq for Pins {
+    ghost use Rattle.std.specs.Cmp.Lexicographic.{lists_equiv};
+    ghost use Rattle.std.specs.Cmp.{on_equiv};
+
+    ghost laws = { on_equiv (λ x. x) (lists_equiv ⟦<Pin as Eq>⟧.laws) };
+}
+
+impl Pins {
+    /// No pins, with room for so many.
+    pub fn with_room(alloc: Global, pins: usize) -> Result<Pins, NoMemory>
+        ensures { IfOk result (λ none. none ≡ []) }
+    {
+        let items = SmallVec::with_capacity(alloc, pins)?;
+        Ok(Pins { items })
+    }
+
+    /// How many pins there are.
+    pub fn len(&self) -> usize
+        ensures { result ≡ length self.now }
+    {
+        self.items.len()
+    }
+
+    /// The pin at a place from 0, or `None` exactly past the end.
+    pub fn get(&self, i: usize) -> Option<&Pin>
+        ensures { option_copied result ≡ slice_get self.now i }
+    {
+        self.as_slice().get(i)
+    }
+
+    /// The pins as a slice.
+    pub fn as_slice(&self) -> &[Pin]
+        ensures { result.now ≡ self.now }
+    {
+        self.items.as_slice()
+    }
+
+    /// Puts a pin at the end. Where memory runs out the pins are as before.
+    pub fn push(&mut self, pin: Pin) -> Result<(), NoMemory>
+        ensures ok { OnOk result (self.new ≡ self.old ++ pin ∷ []) }
+        ensures err { OnErr result (self.new ≡ self.old) }
+    {
+        self.items.push(pin)?;
+        Ok(())
+    }
+}
 
 /// One bit of an element or of a checker.
 #[derive(Drop, PartialEq, Eq, Debug)]

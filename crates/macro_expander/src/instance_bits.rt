@@ -12,7 +12,7 @@ use crate::expansion::Expansion;
 use crate::primitive::Plan;
 use drawing_tree::UseStmt;
 use flat_circuit::{Instance, Kind, Pin, Pins};
-use scald_base::{Bytes, List, NoMemory, Stop};
+use scald_base::{Bytes, NoMemory, Stop};
 use std::alloc::Global;
 use vector_names::{BitRef, Target};
 
@@ -97,7 +97,7 @@ fn add_all(pins: &mut Pins, connection: &Joined) -> Result<(), NoMemory>
 fn all_pins(alloc: Global, ins: &[Joined]) -> Result<Pins, NoMemory>
     ensures { IfOk result (λ pins. pins ≡ flat_map all_refs ins.now) }
 {
-    let mut pins = List::new(alloc);
+    let mut pins = Pins::with_room(alloc, ins.len())?;
     for connection in ins {
         add_all(&mut pins, connection)?;
     }
@@ -107,7 +107,7 @@ fn all_pins(alloc: Global, ins: &[Joined]) -> Result<Pins, NoMemory>
 fn column(alloc: Global, ins: &[Joined], k: usize) -> Result<Pins, NoMemory>
     ensures { IfOk result (λ pins. pins ≡ map (column_ref k) ins.now) }
 {
-    let mut pins = List::with_room(alloc, ins.len())?;
+    let mut pins = Pins::with_room(alloc, ins.len())?;
     for connection in ins {
         pins.push(pin(bit_at(connection.bits.as_slice(), k), connection.hold))?;
     }
