@@ -12,10 +12,18 @@ use crate::cursor::{Cursor, text_of};
 use crate::signal::signal;
 use assertion_syntax::SignalName;
 use drawing_grammar::{Keyword, Terminal};
-use drawing_tree::{Conn, Conns, Item, RangeExpr, Term, Terms};
-use scald_base::{Place, RefusalKind, Stop};
+use drawing_tree::{Conn, Conns, Item, RangeExpr, Term, Terms, WrittenRange};
+use scald_base::{NoMemory, Place, RefusalKind, Stop};
 use scald_expr::Expr;
 use std::alloc::Global;
+
+/// The same in memory of its own.
+pub fn boxed<T: Drop>(alloc: Global, value: T) -> Result<Box<T>, NoMemory>
+    ensures { IfOk result (λ made. made.inside ≡ value) }
+{
+    let made = Box::new(alloc, value)?;
+    Ok(made)
+}
 
 impl<'a> Cursor<'a> {
     fn range_end(&mut self, alloc: Global) -> Result<Option<Expr>, Stop>
@@ -32,7 +40,7 @@ impl<'a> Cursor<'a> {
     }
 
     /// A range, where one stands here.
-    pub fn range(&mut self, alloc: Global) -> Result<Option<RangeExpr>, Stop>
+    pub fn range(&mut self, alloc: Global) -> Result<WrittenRange, Stop>
         ensures reads { (rest : List Need) → Gives result (λ x v.
             (option_map range_of x, v)) (ahead self.old (part Range 0 ∷ rest)) (ahead self.new rest) }
         ensures no_longer { length self.new.rest.now ≤ length self.old.rest.now }
@@ -44,11 +52,12 @@ impl<'a> Cursor<'a> {
         let first = self.own_sum(alloc)?;
         let last = self.range_end(alloc)?;
         self.mark(Terminal::Greater)?;
-        Ok(Some(RangeExpr { first, last }))
+        let range = boxed(alloc, RangeExpr { first, last })?;
+        Ok(Some(range))
     }
 
     /// A net, with its range where one follows.
-    pub fn net(&mut self, alloc: Global) -> Result<(SignalName, Option<RangeExpr>), Stop>
+    pub fn net(&mut self, alloc: Global) -> Result<(SignalName, WrittenRange), Stop>
         ensures reads { NetAt result self.old self.new }
         ensures no_longer { length self.new.rest.now ≤ length self.old.rest.now }
     {

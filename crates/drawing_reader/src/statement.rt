@@ -12,6 +12,7 @@ ghost use Rattle.drawing_reader.specs.Reader.{tokens_at, ahead, body, DetailsAt,
 ghost use Rattle.drawing_grammar.specs.Front.{first_terminal, at_loop};
 ghost use Rattle.drawing_grammar.specs.declared.edition.Edition.{Edition as Version};
 
+use crate::connection::boxed;
 use crate::cursor::Cursor;
 use drawing_grammar::{Edition, Keyword, Terminal};
 use drawing_tree::{
@@ -32,14 +33,14 @@ fn put(all: &mut Stmts, next: Stmt) -> Result<(), NoMemory>
 #[derive(Drop)]
 struct Delays {
     delay: Option<(Expr, Expr)>,
-    fall: Option<(Expr, Expr)>,
+    fall: Option<Box<(Expr, Expr)>>,
 }
 
 /// What follows the kind of a use.
 #[derive(Drop)]
 struct Details {
     delay: Option<(Expr, Expr)>,
-    fall: Option<(Expr, Expr)>,
+    fall: Option<Box<(Expr, Expr)>>,
     params: Assigns,
     ins: Conns,
     outs: Conns,
@@ -112,7 +113,7 @@ impl<'a> Cursor<'a> {
     }
 
     /// A comma and the delay of falls, or nothing.
-    fn fall(&mut self, alloc: Global) -> Result<Option<(Expr, Expr)>, Stop>
+    fn fall(&mut self, alloc: Global) -> Result<Option<Box<(Expr, Expr)>>, Stop>
         ensures reads { (rest : List Need) → Gives result (λ x v.
             (option_map both_of x, v)) (ahead self.old (part FallPart 0 ∷ rest)) (ahead self.new rest) }
         ensures no_longer { length self.new.rest.now ≤ length self.old.rest.now }
@@ -122,6 +123,7 @@ impl<'a> Cursor<'a> {
         }
         self.bump();
         let bounds = self.two_sums(alloc)?;
+        let bounds = boxed(alloc, bounds)?;
         Ok(Some(bounds))
     }
 

@@ -11,6 +11,9 @@ pub struct RangeExpr {
     pub last: Option<Expr>,
 }
 
+/// A range, where one is written. Most terms have none, so it has memory of its own.
+pub type WrittenRange = Option<Box<RangeExpr>>;
+
 /// What a term stands for.
 #[derive(Drop, PartialEq, Eq, Debug)]
 pub enum Item {
@@ -19,7 +22,7 @@ pub enum Item {
     /// The constant 1.
     One,
     /// Bits of a net: those of the range, or where none is written those that the name alone means.
-    Named(SignalName, Option<RangeExpr>),
+    Named(SignalName, WrittenRange),
 }
 
 /// Bits of one net or a constant, complemented where a minus stands before them.

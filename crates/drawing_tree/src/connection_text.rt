@@ -7,7 +7,7 @@ ghost use Rattle.assertion_syntax.specs.Name.{name_text};
 ghost use Rattle.drawing_tree.specs.Tree.{range_of, item_of, term_of, connection_of};
 ghost use Rattle.drawing_tree.specs.Canonical.{quoted, bounds_text, last_text, range_text, signal_text, item_text, term_text, connection_text};
 
-use crate::connection::{Conn, Item, RangeExpr, Term};
+use crate::connection::{Conn, Item, Term, WrittenRange};
 use crate::expression_text::add_sum;
 use crate::printed::{Printed, add_joined};
 use assertion_syntax::{SignalName, write_name};
@@ -36,7 +36,7 @@ fn add_last(out: &mut Bytes, last: &Option<Expr>) -> Result<(), NoMemory>
 }
 
 /// Puts a range at the end, where there is one.
-pub fn add_range(out: &mut Bytes, range: &Option<RangeExpr>) -> Result<(), NoMemory>
+pub fn add_range(out: &mut Bytes, range: &WrittenRange) -> Result<(), NoMemory>
     ensures { OnOk result (out.new ≡ out.old ++ range_text (option_map range_of range.now)) }
 {
     let Some(range) = range else {
@@ -83,7 +83,7 @@ pub fn add_signal(
     alloc: Global,
     out: &mut Bytes,
     name: &SignalName,
-    range: &Option<RangeExpr>,
+    range: &WrittenRange,
 ) -> Result<(), NoMemory>
     ensures { OnOk result (out.new ≡ out.old ++ signal_text name.now (option_map range_of range.now)) }
 {

@@ -1,6 +1,6 @@
 //! A whole drawing.
 
-use crate::connection::RangeExpr;
+use crate::connection::WrittenRange;
 use crate::statement::{Assign, Assigns, Stmts};
 use assertion_syntax::SignalName;
 use scald_base::{Bytes, Header, List, Place};
@@ -12,7 +12,7 @@ pub type Defaults = List<Assign>;
 #[derive(Drop, PartialEq, Eq, Debug)]
 pub struct Formal {
     pub base: Bytes,
-    pub range: Option<RangeExpr>,
+    pub range: WrittenRange,
 }
 
 /// Formals of a macro.

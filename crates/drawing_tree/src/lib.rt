@@ -17,7 +17,7 @@ mod printed;
 mod statement;
 mod statement_text;
 
-pub use connection::{Conn, Conns, Item, RangeExpr, Term, Terms};
+pub use connection::{Conn, Conns, Item, RangeExpr, Term, Terms, WrittenRange};
 pub use drawing::{
     CaseEntries, CaseEntry, CaseStmt, CaseStmts, Defaults, Drawing, Formal, Formals, MacroDef,
     MacroDefs, Places,

@@ -1,6 +1,6 @@
 //! Statements.
 
-use crate::connection::{Conns, RangeExpr};
+use crate::connection::{Conns, WrittenRange};
 use assertion_syntax::SignalName;
 use scald_base::{Bytes, List, Place};
 use scald_expr::Expr;
@@ -24,7 +24,7 @@ pub struct UseStmt {
     pub delay: Option<(Expr, Expr)>,
     /// The least and the greatest delay of falls, in ticks, where two delays are written. Without a
     /// `delay`, which no text draws, it counts as not there.
-    pub fall: Option<(Expr, Expr)>,
+    pub fall: Option<Box<(Expr, Expr)>>,
     pub params: Assigns,
     pub ins: Conns,
     pub outs: Conns,
@@ -35,7 +35,7 @@ pub struct UseStmt {
 #[derive(Drop, PartialEq, Eq, Debug)]
 pub struct WireStmt {
     pub name: SignalName,
-    pub range: Option<RangeExpr>,
+    pub range: WrittenRange,
     pub min: Expr,
     pub max: Expr,
     pub place: Place,

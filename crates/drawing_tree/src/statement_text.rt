@@ -34,7 +34,7 @@ pub fn add_params(alloc: Global, out: &mut Bytes, params: &[Assign]) -> Result<(
 }
 
 /// Puts a comma and the delay of falls at the end, where there is one.
-fn add_fall(out: &mut Bytes, fall: &Option<(Expr, Expr)>) -> Result<(), NoMemory>
+fn add_fall(out: &mut Bytes, fall: &Option<Box<(Expr, Expr)>>) -> Result<(), NoMemory>
     ensures { OnOk result (out.new ≡ out.old ++ fall_text (option_map both_of fall.now)) }
 {
     let Some(fall) = fall else {
@@ -48,7 +48,7 @@ fn add_fall(out: &mut Bytes, fall: &Option<(Expr, Expr)>) -> Result<(), NoMemory
 fn add_delay(
     out: &mut Bytes,
     delay: &Option<(Expr, Expr)>,
-    fall: &Option<(Expr, Expr)>,
+    fall: &Option<Box<(Expr, Expr)>>,
 ) -> Result<(), NoMemory>
     ensures { OnOk result
         (out.new ≡ out.old ++ delay_text (option_map both_of delay.now) (option_map both_of fall.now)) }

@@ -47,6 +47,17 @@ impl<T: Tree> Tree for Option<T> {
     }
 }
 
+impl<T: Tree + Drop> Tree for Box<T> {
+    ghost Shape = { T.Shape };
+
+    ghost shape = { λ b. T.shape b.inside };
+
+    fn again(&self, alloc: Global) -> Result<Box<T>, NoMemory> {
+        let same = T::again(self, alloc)?;
+        Ok(Box::new(alloc, same)?)
+    }
+}
+
 impl Tree for Expr {
     ghost Shape = { Expression };
 
@@ -57,12 +68,12 @@ impl Tree for Expr {
             Expr::Number(number) => Ok(Expr::Number(*number)),
             Expr::Param(name) => Ok(Expr::Param(bytes(alloc, name)?)),
             Expr::Negate(operand) => {
-                let operand = operand.again(alloc)?;
+                let operand = Expr::again(operand, alloc)?;
                 Ok(Expr::Negate(Box::new(alloc, operand)?))
             }
             Expr::Binary(op, left, right) => {
-                let left = left.again(alloc)?;
-                let right = right.again(alloc)?;
+                let left = Expr::again(left, alloc)?;
+                let right = Expr::again(right, alloc)?;
                 let left = Box::new(alloc, left)?;
                 let right = Box::new(alloc, right)?;
                 Ok(Expr::Binary(*op, left, right))

@@ -130,16 +130,20 @@ pub(crate) fn delay_between(min: i64, max: i64) -> Result<Delay, RefusalKind>
     delay_within(LONGEST_DELAY, min, max)
 }
 
+fn both_values(bounds: &(Expr, Expr), env: &Env) -> Result<(i64, i64), RefusalKind>
+    ensures { result ≡ spec_both_values env.now (both_of bounds.now) }
+{
+    let min = value(&bounds.0, env)?;
+    let max = value(&bounds.1, env)?;
+    Ok((min, max))
+}
+
 fn written_delay(delay: &Option<(Expr, Expr)>, env: &Env) -> Result<Option<(i64, i64)>, RefusalKind>
     ensures { result ≡ spec_written_delay env.now (option_map both_of delay.now) }
 {
     match delay {
         None => Ok(None),
-        Some((min, max)) => {
-            let min = value(min, env)?;
-            let max = value(max, env)?;
-            Ok(Some((min, max)))
-        }
+        Some(bounds) => Ok(Some(both_values(bounds, env)?)),
     }
 }
 
@@ -149,7 +153,10 @@ fn written_fall(statement: &UseStmt, env: &Env) -> Result<Option<(i64, i64)>, Re
 {
     match statement.delay {
         None => Ok(None),
-        Some(_) => written_delay(&statement.fall, env),
+        Some(_) => match &statement.fall {
+            None => Ok(None),
+            Some(bounds) => Ok(Some(both_values(bounds, env)?)),
+        },
     }
 }
 

@@ -7,7 +7,7 @@ ghost use Rattle.drawing_tree.specs.Tree.{range_of};
 ghost use Rattle.macro_expander.specs.Terms.{valued, last_of, ends_of, written_ends as spec_written_ends, numbers_of, kind_of_fault as spec_kind};
 ghost use Rattle.macro_expander.specs.Steps.{JudgedAt};
 
-use drawing_tree::RangeExpr;
+use drawing_tree::{RangeExpr, WrittenRange};
 use scald_base::{List, Place, RefusalKind, Stop};
 use scald_expr::{Env, Expr, ExprFault, eval};
 use std::alloc::Global;
@@ -61,7 +61,7 @@ fn ends(range: &RangeExpr, env: &Env) -> Result<(i64, i64), RefusalKind>
 }
 
 /// The first and the last number of a range, where one is written, or why it is refused.
-pub fn written_ends(range: &Option<RangeExpr>, env: &Env) -> Result<Option<(i64, i64)>, RefusalKind>
+pub fn written_ends(range: &WrittenRange, env: &Env) -> Result<Option<(i64, i64)>, RefusalKind>
     ensures { result ≡ spec_written_ends env.now (option_map range_of range.now) }
 {
     match range {
