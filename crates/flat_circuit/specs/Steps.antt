@@ -17,7 +17,7 @@ use Rattle.flat_circuit.specs.declared.search.Node.{Node}
 use Rattle.element_kinds.specs.Kinds.{listens}
 use Rattle.flat_circuit.specs.Name.{Name, name_at}
 use Rattle.flat_circuit.specs.Instances.{out_at, pins_at, least_delay_at, is_on, reads, readers_of, numbers_from, IsTaken}
-use Rattle.flat_circuit.specs.Loop.{IsLooped}
+use Rattle.flat_circuit.specs.Loop.{IsLooped, HoldsOfNone}
 use Rattle.flat_circuit.specs.Circuit.{net_name, net_names}
 use Rattle.flat_circuit.specs.Builder.{Asserted, spec_of, bounds_at, IsFirst}
 
@@ -126,3 +126,15 @@ pub record IsNet (names : List Name) (ws : List Bounds) (given : List Asserted) 
   pub wire_is : n.wire ≡ bounds_at ws i
   pub spec_is : n.spec ≡ spec_of given n.name
   pub driver_is : n.driver ≡ driver
+
+-- ---- both rules, and the nets where they hold
+
+pub record AreRuled (names : List Name) (ws : List Bounds) (specs : List AssertSpec) (js : List Instance) (nets : List Net) : Type 0 where
+  pub drivers : List (Option ℕ)
+  pub driven : DrivenTo js (length names) (length js) drivers
+  pub none_looped : HoldsOfNone (IsLooped (bounds_at ws) js) js
+  pub are : AreNets names ws specs drivers nets
+
+-- at the first output that is taken, or where none is at the first instance that a loop reaches
+abbrev pub StopsAtRule : List Bounds → List Instance → Stop → Type 0
+StopsAtRule ws js stop = StopsAtTaken js stop ⊎ (HoldsOfNone (IsTaken js) js × StopsAtLoop ws js stop)

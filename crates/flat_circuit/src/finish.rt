@@ -1,15 +1,17 @@
 //! How a builder ends: the circuit's rules, and the circuit.
 
-ghost use Rattle.std.specs.Prelude.{◌≡◌, ◌<◌, List, length, IfOk, MatchResult};
+ghost use Rattle.std.specs.Prelude.{◌≡◌, ◌<◌, ◌^◌, List, length, IfOk, MatchResult};
 ghost use Rattle.std.specs.List.{All};
 ghost use Rattle.flat_circuit.specs.Name.{name_at};
 ghost use Rattle.flat_circuit.specs.Builder.{Asserted, Stands, IsRefusal, spec_of as spec_for};
-ghost use Rattle.flat_circuit.specs.Steps.{AreNets, IsNet, specs_of};
+ghost use Rattle.flat_circuit.specs.Instances.{InstanceExists};
+ghost use Rattle.flat_circuit.specs.Steps.{AreNets, AreRuled, IsNet, StopsAtRule, specs_of};
 
 use crate::assertions::{Assertions, copied};
 use crate::builder::Builder;
 use crate::circuit::Circuit;
 use crate::drivers::drivers;
+use crate::instance::Instance;
 use crate::net::Net;
 use crate::net_table::NetTable;
 use crate::order::by_name;
@@ -36,10 +38,8 @@ impl Builder {
             pins: _,
             recent: _,
         } = self;
-        let drivers = drivers(alloc, instances.as_slice(), table.len())?;
-        no_loop(alloc, &table, &drivers, instances.as_slice())?;
-        let readers = readers(alloc, instances.as_slice(), table.len())?;
-        let nets = nets(alloc, &table, &assertions, &drivers)?;
+        let nets = checked_nets(alloc, table, &assertions, instances.as_slice())?;
+        let readers = readers(alloc, instances.as_slice(), nets.len())?;
         let order = by_name(alloc, nets.as_slice())?;
         Ok(Circuit {
             header,
@@ -49,6 +49,25 @@ impl Builder {
             order,
         })
     }
+}
+
+/// The nets with their drivers, where the rules hold. The table of names goes before the readers are listed.
+fn checked_nets(
+    alloc: Global,
+    table: NetTable,
+    assertions: &Assertions,
+    instances: &[Instance],
+) -> Result<List<Net>, Stop>
+    requires within { All (InstanceExists (length table.names)) instances.now }
+    requires few { length instances.now < 2 ^ 32 }
+    ensures { MatchResult result
+        (AreRuled table.names table.wires (specs_of assertions.now table.names) instances.now)
+        (StopsAtRule table.wires instances.now) }
+{
+    let drivers = drivers(alloc, instances, table.len())?;
+    no_loop(alloc, &table, &drivers, instances)?;
+    let nets = nets(alloc, &table, assertions, &drivers)?;
+    Ok(nets)
 }
 
 fn nets(
