@@ -42,7 +42,8 @@ use Rattle.fixpoint_engine.proofs.Due.{among_waiting, waiting_count, changes_is,
 use Rattle.fixpoint_engine.proofs.Sound.{round_sound}
 use Rattle.fixpoint_engine.proofs.Turns.{nets_of, Turn, turn_rests, turn_reaches, turn_fits, turn_ends}
 use Rattle.fixpoint_engine.proofs.Classes.{differ_together, rounds_same}
-use Rattle.fixpoint_engine.proofs.Members.{is_with, nets_in, nets_for_classes, exist_for_classes, waves_for_classes, IsTo}
+use Rattle.fixpoint_engine.specs.Members.{is_with}
+use Rattle.fixpoint_engine.proofs.Members.{nets_in, nets_for_classes, exist_for_classes, waves_for_classes, IsTo}
 use Rattle.fixpoint_engine.proofs.Alone.{for_all_is}
 
 -- ---- the first net of a class

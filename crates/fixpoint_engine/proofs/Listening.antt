@@ -15,6 +15,8 @@ use Rattle.flat_circuit.specs.declared.instance.Instance.{Instance}
 use Rattle.element_kinds.specs.Kinds.{listens}
 use Rattle.flat_circuit.specs.Instances.{is_on, any_listens, reads, numbers_from, readers_of, out_of, out_at}
 use Rattle.flat_circuit.specs.Circuit.{Circuit, IsCircuit, driver_at, instance_in, driver}
+use Rattle.class_table.specs.Alike.{class_of}
+use Rattle.fixpoint_engine.specs.Members.{is_with}
 use Rattle.fixpoint_engine.specs.Settled.{marked_in}
 use Rattle.fixpoint_engine.specs.Work.{is_on_any, hears_from, hears_in}
 use Rattle.fixpoint_engine.specs.Worklist.{Queue, Adds, among, drives_in}
@@ -70,6 +72,25 @@ pub heard_more : (d : Option Instance) (active : Bool) (nets more : List ℕ) (n
 heard_more d active nets more net before after ends was is =
     is ∙ (λ k. was k || (active && hears_in (λ j. net == j) d)) ∙ spread active (hears_in (among nets) d) (hears_in (λ j. net == j) d)
     ∙ ap (λ b. active && b) (sym (ap (λ (ns : List ℕ). hears_in (among ns) d) ends ∙ hears_more nets net d))
+  where
+    spread : (a b c : Bool) → ((a && b) || (a && c)) ≡ (a && (b || c))
+    spread true b c = refl
+    spread false b c = refl
+
+-- the same of the classes of the nets
+with_more : (ks nets : List ℕ) (net : ℕ) (d : Option Instance) → hears_in (is_with ks (nets ++ net ∷ [])) d ≡ (hears_in (is_with ks nets) d || hears_in (λ j. class_of ks net == class_of ks j) d)
+with_more ks nets net d =
+    hears_same (is_with ks (nets ++ net ∷ [])) (λ j. is_with ks nets j || (class_of ks net == class_of ks j)) d
+    (λ j. list_any-append (λ n. class_of ks n == class_of ks j) nets (net ∷ []) ∙ ap (λ b. is_with ks nets j || b) (or-false (class_of ks net == class_of ks j)))
+    ∙ hears_either (is_with ks nets) (λ j. class_of ks net == class_of ks j) d
+
+pub class_heard : (ks : List ℕ) (d : Option Instance) (active : Bool) (nets more : List ℕ) (net : ℕ) (before after : Bool) → more ≡ nets ++ net ∷ [] →
+    before ≡ (active && hears_in (is_with ks nets) d) → after ≡ (before || (active && hears_in (λ j. class_of ks net == class_of ks j) d)) →
+    after ≡ (active && hears_in (is_with ks more) d)
+class_heard ks d active nets more net before after ends was is =
+    is ∙ (λ k. was k || (active && hears_in (λ j. class_of ks net == class_of ks j) d))
+    ∙ spread active (hears_in (is_with ks nets) d) (hears_in (λ j. class_of ks net == class_of ks j) d)
+    ∙ ap (λ b. active && b) (sym (ap (λ (ns : List ℕ). hears_in (is_with ks ns) d) ends ∙ with_more ks nets net d))
   where
     spread : (a b c : Bool) → ((a && b) || (a && c)) ≡ (a && (b || c))
     spread true b c = refl

@@ -18,7 +18,7 @@ use Rattle.class_table.specs.Alike.{class_of}
 use Rattle.net_waves.specs.Waves.{Waves}
 use Rattle.fixpoint_engine.specs.Worklist.{Change, among, changed}
 use Rattle.fixpoint_engine.specs.Classes.{is_first}
-use Rattle.fixpoint_engine.specs.Members.{AreFirsts, AreLasts, last_below, members_below, for_class, for_classes, leads_in}
+use Rattle.fixpoint_engine.specs.Members.{is_with, AreFirsts, AreLasts, last_below, members_below, for_class, for_classes, leads_in}
 
 -- ---- from one net of a class to the one before
 
@@ -170,10 +170,6 @@ member_tests ks class i below = both_ways (among (members_below ks class (length
     from is = among_members ks class (length ks) i below (sym (eqb-true class (class_of ks i) is))
 
 -- ---- changes for all nets of their classes
-
--- the class of one of the nets is that of the net
-abbrev pub is_with : List ℕ → List ℕ → ℕ → Bool
-is_with ks nets i = list_any (λ net. class_of ks net == class_of ks i) nets
 
 abbrev pub nets_in : List Change → List ℕ
 nets_in changes = map (λ (ch : Change). ch.0) changes

@@ -25,9 +25,9 @@ pub record AreRows (rows : Rows) : Type 0 where
 
 -- whether a net hears a class and stands for its own
 abbrev pub hears_class : Circuit → List ℕ → ℕ → ℕ → Bool
-hears_class c classes class i = leads_in (Some classes) i && hears_in (λ j. class_of classes j == class) (driver c i)
+hears_class c classes class i = leads_in (Some classes) i && hears_in (λ j. class == class_of classes j) (driver c i)
 
 -- Where a net stands for its class, its row has the nets that hear the class.
 pub record AreHearers (c : Circuit) (classes : List ℕ) (rows : Rows) : Type 0 where
-  pub each_net : length rows.begins ≡ length c.nets + 1
+  pub each_net : length rows.begins ≡ length classes + 1
   pub are : (net i : ℕ) → leads_in (Some classes) net ≡ true → among (row_of rows net) i ≡ hears_class c classes (class_of classes net) i

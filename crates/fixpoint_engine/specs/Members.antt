@@ -1,6 +1,6 @@
 -- The nets of a class, the first of which stands for all of them: it alone is evaluated, and they all change to its wave.
 use Rattle.std.specs.Prelude.{◌≡◌, ℕ, zero, suc, ◌<◌, ◌≤◌, ◌==◌, Bool, true, ◌&&◌, nat_lt, if◌then◌else◌, List, [], ◌∷◌, length, map, slice_index_or, Option, Some, None}
-use Rattle.std.specs.List.{flat_map, range_with_len}
+use Rattle.std.specs.List.{flat_map, list_any, range_with_len}
 use Rattle.class_table.specs.Alike.{class_of}
 use Rattle.fixpoint_engine.specs.Settled.{marked_in}
 use Rattle.fixpoint_engine.specs.Worklist.{Change}
@@ -68,7 +68,6 @@ abbrev pub for_all : Option (List ℕ) → List Change → List Change
 for_all None changes = changes
 for_all (Some classes) changes = for_classes classes changes
 
--- the nets for which these stand
-abbrev pub all_in : Option (List ℕ) → List ℕ → List ℕ
-all_in None nets = nets
-all_in (Some classes) nets = flat_map (λ i. members_below classes (class_of classes i) (length classes)) nets
+-- the class of one of the nets is that of the net
+abbrev pub is_with : List ℕ → List ℕ → ℕ → Bool
+is_with classes nets i = list_any (λ net. class_of classes net == class_of classes i) nets

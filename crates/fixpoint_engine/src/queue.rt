@@ -1,13 +1,14 @@
 //! The nets that are to be evaluated in a round.
 
-ghost use Rattle.std.specs.Prelude.{◌≡◌, ◌<◌, ◌+◌, ◌==◌, ◌&&◌, [], ℕ, IfOk, IfSome, OnOk, false, length, map, replicate, true};
+ghost use Rattle.std.specs.Prelude.{◌≡◌, ◌<◌, ◌==◌, ◌&&◌, [], ℕ, IfOk, OnOk, Some, false, length, map, replicate, true};
 ghost use Rattle.std.specs.List.{All};
 ghost use Rattle.std.specs.Option.{option_copied};
 ghost use Rattle.flat_circuit.specs.Instances.{out_at};
 ghost use Rattle.flat_circuit.specs.Circuit.{driver};
 ghost use Rattle.fixpoint_engine.specs.Settled.{FitActive, marked_in};
-ghost use Rattle.fixpoint_engine.specs.Hearers.{AreHearers, row_of};
-ghost use Rattle.fixpoint_engine.specs.Members.{all_in, is_evaluated, leads_in};
+ghost use Rattle.class_table.specs.Alike.{class_of};
+ghost use Rattle.fixpoint_engine.specs.Hearers.{AreHearers};
+ghost use Rattle.fixpoint_engine.specs.Members.{is_evaluated, is_with, leads_in};
 ghost use Rattle.fixpoint_engine.specs.Work.{hears_in};
 ghost use Rattle.fixpoint_engine.specs.Worklist.{Adds, IsQueue, among, drives_in};
 
@@ -136,45 +137,84 @@ impl Queue {
     }
 
     /// Lets the active nets wait that hear the class for which this net stands.
-    fn add_firsts(&mut self, hearers: &Hearers, active: &NetSet, first: u32) -> Result<(), NoMemory>
-        requires row { first + 1 < length hearers.now.begins }
-        requires each_net { All (λ i. i < length self.old.marks) (row_of hearers.now first) }
-        ensures { OnOk result (Adds (λ i. marked_in active.now i && among (row_of hearers.now first) i) self.old self.new) }
+    fn add_firsts(
+        &mut self,
+        c: &Circuit,
+        classes: &ClassNets,
+        hearers: &Hearers,
+        active: &NetSet,
+        first: u32,
+    ) -> Result<(), NoMemory>
+        requires each_net { length self.old.marks ≡ length classes.now }
+        requires hearers { AreHearers c.now classes.now hearers.now }
+        requires first { leads_in (Some classes.now) first ≡ true }
+        ensures { OnOk result (Adds (λ i. is_evaluated active.now (Some classes.now) i
+            && hears_in (λ j. class_of classes.now first == class_of classes.now j) (driver c.now i)) self.old self.new) }
     {
+        let _ = c;
+        let _ = classes;
         for net in hearers.of_first(first) {
-            if active.has(*net) {
-                self.add(*net)?;
-            }
+            self.add_active(active, *net)?;
+        }
+        Ok(())
+    }
+
+    /// Lets a net wait, if it is active.
+    fn add_active(&mut self, active: &NetSet, net: u32) -> Result<(), NoMemory>
+        requires { net < length self.old.marks }
+        ensures { OnOk result (Adds (λ i. marked_in active.now i && net == i) self.old self.new) }
+    {
+        if active.has(net) {
+            self.add(net)?;
+        }
+        Ok(())
+    }
+
+    /// In place of those that wait: the active nets that hear a class of which the first net changed, and stand for
+    /// theirs.
+    pub fn refill_firsts(
+        &mut self,
+        c: &Circuit,
+        classes: &ClassNets,
+        hearers: &Hearers,
+        active: &NetSet,
+        changes: &[Change],
+    ) -> Result<(), NoMemory>
+        requires each_net { length self.old.marks ≡ length classes.now }
+        requires hearers { AreHearers c.now classes.now hearers.now }
+        requires firsts { All (λ ch. leads_in (Some classes.now) ch.net ≡ true) changes.now }
+        ensures each_net { OnOk result (length self.new.marks ≡ length classes.now) }
+        ensures due { OnOk result
+            ((i : ℕ) → marked_in self.new.marks i ≡ (is_evaluated active.now (Some classes.now) i
+            && hears_in (is_with classes.now (map (λ ch. ch.net) changes.now)) (driver c.now i))) }
+    {
+        self.clear();
+        for change in changes {
+            self.add_firsts(c, classes, hearers, active, change.net)?;
         }
         Ok(())
     }
 
     /// In place of those that wait: the active nets whose drivers listen to a net that changed, of each
-    /// class the first. A net that changed stands for all of its class.
+    /// class the first.
     pub fn refill(
         &mut self,
         c: &Circuit,
         classes: Option<&ClassNets>,
-        hearers: &Hearers,
         active: &NetSet,
         changes: &[Change],
     ) -> Result<(), NoMemory>
         requires active { FitActive c.now active.now }
         requires each_net { length self.old.marks ≡ length c.now.nets }
         requires exist { All (λ ch. ch.net < length c.now.nets) changes.now }
-        requires firsts { All (λ ch. leads_in (option_copied classes) ch.net ≡ true) changes.now }
-        requires hearers { IfSome (option_copied classes) (λ classes. AreHearers c.now classes hearers.now) }
         ensures each_net { OnOk result (length self.new.marks ≡ length c.now.nets) }
         ensures due { OnOk result
             ((i : ℕ) → marked_in self.new.marks i ≡ (is_evaluated active.now (option_copied classes.entry) i
-            && hears_in (among (all_in (option_copied classes.entry) (map (λ ch. ch.net) changes.now))) (driver c.now i))) }
+            && hears_in (among (map (λ ch. ch.net) changes.now)) (driver c.now i))) }
     {
         self.clear();
         for change in changes {
-            match classes {
-                Some(_) => self.add_firsts(hearers, active, change.net)?,
-                None => self.add_hearers(c, classes, active, change.net)?,
-            }
+            self.add_hearers(c, classes, active, change.net)?;
         }
         Ok(())
     }

@@ -35,7 +35,7 @@ index_mut-requires c =
     let below : net < length ks = omega (arith, long, c.loop-net-test.true) in
     let key = class_read ks net c.index.result.now below c.index.ensures in
     let found : c.in_ok-earlier.earlier ≡ last_below ks (class_of ks net) net =
-        c.in_ok-earlier.ensures.old ∙ c.loop-net.invariant.last c.index.result.now ∙ ap (λ (k : ℕ). last_below ks k net) key in
+    c.in_ok-earlier.ensures.old ∙ c.loop-net.invariant.last c.index.result.now ∙ ap (λ (k : ℕ). last_below ks k net) key in
     let first_is : IsFirstOf ks net c.match-earlier.first = elim c.match-earlier.branch [
       | in-Some w ↦ subst (IsFirstOf ks net) (sym w.first-is)
           (first_some ks c.loop-net.firsts.items net w.in-Some.one w.index-in-Some.result.now c.loop-net.invariant.firsts_are
@@ -44,7 +44,7 @@ index_mut-requires c =
     ] in
     let each = c.loop-net.invariant.lasts_are.each_net in
     let grown : length c.push-in-loop-net-2.new.self.items ≡ length c.loop-net.lasts.items + 1 =
-        ap length c.in_ok-push-3.ensures.items ∙ length_push c.loop-net.lasts.items net in
+    ap length c.in_ok-push-3.ensures.items ∙ length_push c.loop-net.lasts.items net in
     let low = first_is.below in
     omega (arith, each, grown, low)
 
@@ -56,7 +56,7 @@ loop-net-preserved c =
     let below : net < length ks = omega (arith, long, c.loop-net-test.true) in
     let key = class_read ks net c.index.result.now below c.index.ensures in
     let found : c.in_ok-earlier.earlier ≡ last_below ks (class_of ks net) net =
-        c.in_ok-earlier.ensures.old ∙ c.loop-net.invariant.last c.index.result.now ∙ ap (λ (k : ℕ). last_below ks k net) key in
+    c.in_ok-earlier.ensures.old ∙ c.loop-net.invariant.last c.index.result.now ∙ ap (λ (k : ℕ). last_below ks k net) key in
     let first_is : IsFirstOf ks net c.match-earlier.first = elim c.match-earlier.branch [
       | in-Some w ↦ subst (IsFirstOf ks net) (sym w.first-is)
           (first_some ks c.loop-net.firsts.items net w.in-Some.one w.index-in-Some.result.now c.loop-net.invariant.firsts_are
