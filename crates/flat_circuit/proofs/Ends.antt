@@ -1,5 +1,5 @@
 -- How the parts of a circuit come together.
-use Rattle.std.proofs.Common.{◌≡◌, ℕ, zero, suc, ◌+◌, ◌<◌, Bool, true, false, cond, List, [], ◌∷◌, ◌++◌, length, map, get_or, take, Option, refl, ap, sym, subst, ◌∙◌, arith}
+use Rattle.std.proofs.Common.{◌≡◌, ℕ, zero, suc, ◌+◌, ◌<◌, Bool, true, false, cond, List, [], ◌∷◌, ◌++◌, length, map, get_or, take, Option, refl, ap, sym, subst, ◌∙◌, arith, inl, inr}
 use Rattle.std.specs.List.{All}
 use Rattle.std.specs.Str.{bytes_eq}
 use Rattle.std.proofs.lemmas.List.{length-map, map_push, take_more}
@@ -12,10 +12,11 @@ use Rattle.scald_base.specs.declared.refusal.Stop.TheVariants.{Refused, NoMemory
 use Rattle.flat_circuit.specs.declared.net.Net.{Net}
 use Rattle.flat_circuit.specs.declared.instance.Instance.{Instance}
 use Rattle.flat_circuit.specs.Name.{Name, nameless, IsNameOrder}
-use Rattle.flat_circuit.specs.Loop.{IsLooped, HoldsOfNone}
+use Rattle.flat_circuit.specs.Instances.{IsTaken}
+use Rattle.flat_circuit.specs.Loop.{HoldsOfNone}
 use Rattle.flat_circuit.specs.Circuit.{IsCircuit, net_name, net_names, wire_at, driver_at}
 use Rattle.flat_circuit.specs.Builder.{built, Nets, Asserted, spec_of, bounds_at, IsBuilt, IsRefusal, IsRuleBroken, Stands}
-use Rattle.flat_circuit.specs.Steps.{DrivenTo, AreNets, IsNet, specs_of, entry, StopsAtLoop}
+use Rattle.flat_circuit.specs.Steps.{DrivenTo, AreNets, AreRuled, IsNet, specs_of, entry, StopsAtLoop, StopsAtRule, StopsAtTaken}
 use Rattle.flat_circuit.proofs.Driven.{drivers_are, not_taken}
 use Rattle.flat_circuit.proofs.Loops.{none_looped_by}
 
@@ -38,6 +39,19 @@ nets_step names ws given ds nets n i d l lw ld h a =
       specs_are = map_step (λ (x : Net). x.spec) nets n (specs_of given names) i (spec_of given nameless.text) (omega (arith, length-map names (λ (x : Name). spec_of given x.text))) a.specs_are s;
       drivers_are = map_step (λ (x : Net). x.driver) nets n ds i d (omega arith) a.drivers_are h.driver_is;
     }
+
+-- nets with the specs of the first names have each that of its own
+pub specs_by_names : (given : List Asserted) (names : List Name) (i : ℕ) (nets : List Net) →
+    net_names nets ≡ take i names → map (λ (n : Net). n.spec) nets ≡ take i (specs_of given names) → All (λ (n : Net). n.spec ≡ spec_of given n.name) nets
+specs_by_names given names i [] e s = All-nil (λ (n : Net). n.spec ≡ spec_of given n.name)
+specs_by_names given names zero (n ∷ ns) e s = absurd (cc)
+specs_by_names given [] (suc i) (n ∷ ns) e s = absurd (cc)
+specs_by_names given (x ∷ xs) (suc i) (n ∷ ns) e s =
+    let name : net_name n ≡ x = cc in
+    let more : net_names ns ≡ take i xs = cc in
+    let spec : n.spec ≡ spec_of given x.text = cc in
+    let rest : map (λ (m : Net). m.spec) ns ≡ take i (specs_of given xs) = cc in
+    All-cons (λ (m : Net). m.spec ≡ spec_of given m.name) n ns (spec ∙ ap (λ (y : Name). spec_of given y.text) (sym name)) (specs_by_names given xs i ns more rest)
 
 -- ---- what holds of the nets
 
@@ -71,10 +85,18 @@ nets_long nets names e = sym (length-map nets net_name) ∙ ap length e
 
 -- ---- the end
 
-pub circuit_is : (h : Header) (t : Nets) (given : List Asserted) (js : List Instance) (nets : List Net) (order : List ℕ) (ds : List (Option ℕ)) →
-    IsBuilt (built h t given js) → DrivenTo js (length t.names) (length js) ds → HoldsOfNone (IsLooped (bounds_at t.wires) js) js → AreNets t.names t.wires (specs_of given t.names) ds nets →
+-- where the drivers stand, no output is taken
+pub none_taken : (js : List Instance) (n : ℕ) (ds : List (Option ℕ)) → DrivenTo js n (length js) ds → HoldsOfNone (IsTaken js) js
+none_taken js n ds dr = λ k l x. not_taken js n (length js) ds dr k l x
+
+pub circuit_is : (h : Header) (t : Nets) (given : List Asserted) (js : List Instance) (nets : List Net) (order : List ℕ) →
+    IsBuilt (built h t given js) → AreRuled t.names t.wires (specs_of given t.names) js nets →
     IsNameOrder (net_names nets) order → IsCircuit (record { header = h; nets = nets; instances = js; order = order })
-circuit_is h t given js nets order ds b dr nl an o =
+circuit_is h t given js nets order b r o =
+    let ds = r.drivers in
+    let dr = r.driven in
+    let nl = r.none_looped in
+    let an = r.are in
     let l = nets_long nets t.names an.names_are in
     let da = drivers_are js (length t.names) ds dr in
     let same : (i : ℕ) → driver_at nets i ≡ entry ds i = λ i. driver_by_entry nets i ∙ ap (λ (x : List (Option ℕ)). entry x i) an.drivers_are in
@@ -90,21 +112,29 @@ circuit_is h t given js nets order ds b dr nl an o =
       by_name = o;
     }
 
-pub stands_is : (h : Header) (t : Nets) (given : List Asserted) (js : List Instance) (nets : List Net) (order : List ℕ) (ds : List (Option ℕ)) →
-    DrivenTo js (length t.names) (length js) ds → HoldsOfNone (IsLooped (bounds_at t.wires) js) js → AreNets t.names t.wires (specs_of given t.names) ds nets →
+pub stands_is : (h : Header) (t : Nets) (given : List Asserted) (js : List Instance) (nets : List Net) (order : List ℕ) →
+    AreRuled t.names t.wires (specs_of given t.names) js nets →
     Stands (built h t given js) (record { header = h; nets = nets; instances = js; order = order })
-stands_is h t given js nets order ds dr nl an = record {
+stands_is h t given js nets order r = record {
   head = refl;
-  names_are = an.names_are;
-  wires_are = an.wires_are;
-  specs_are = an.specs_are;
+  names_are = r.are.names_are;
+  wires_are = r.are.wires_are;
+  specs_are = r.are.specs_are;
   instances_are = refl;
-  none_taken = λ k l x. not_taken js (length t.names) (length js) ds dr k l x;
-  none_looped = nl;
+  none_taken = none_taken js (length t.names) r.drivers r.driven;
+  none_looped = r.none_looped;
 }
 
-pub refusal_looped : (h : Header) (t : Nets) (given : List Asserted) (js : List Instance) (ds : List (Option ℕ)) (stop : Stop) →
-    DrivenTo js (length t.names) (length js) ds → StopsAtLoop t.wires js stop → IsRefusal (built h t given js) stop
-refusal_looped h t given js ds NoMemory dr s = tt
-refusal_looped h t given js ds (Refused r) dr s =
-    subst (IsRuleBroken (built h t given js) r.place) (sym s.0) ((λ k l x. not_taken js (length t.names) (length js) ds dr k l x), s.1)
+refusal_taken : (h : Header) (t : Nets) (given : List Asserted) (js : List Instance) (stop : Stop) → StopsAtTaken js stop → IsRefusal (built h t given js) stop
+refusal_taken h t given js NoMemory s = tt
+refusal_taken h t given js (Refused r) s = subst (IsRuleBroken (built h t given js) r.place) (sym s.0) s.1
+
+refusal_looped : (h : Header) (t : Nets) (given : List Asserted) (js : List Instance) (stop : Stop) → HoldsOfNone (IsTaken js) js → StopsAtLoop t.wires js stop → IsRefusal (built h t given js) stop
+refusal_looped h t given js NoMemory n s = tt
+refusal_looped h t given js (Refused r) n s = subst (IsRuleBroken (built h t given js) r.place) (sym s.0) (n, s.1)
+
+pub refusal_ruled : (h : Header) (t : Nets) (given : List Asserted) (js : List Instance) (stop : Stop) → StopsAtRule t.wires js stop → IsRefusal (built h t given js) stop
+refusal_ruled h t given js stop s = elim s as (λ _. IsRefusal (built h t given js) stop) [
+  | inl a ↦ refusal_taken h t given js stop a
+  | inr b ↦ refusal_looped h t given js stop b.0 b.1
+]

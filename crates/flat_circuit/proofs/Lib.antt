@@ -15,6 +15,7 @@ pub mod Examples
 pub mod Walk
 pub mod Driven
 pub mod Names
+pub mod Stretches
 pub mod Numbered
 pub mod Loops
 pub mod Rows

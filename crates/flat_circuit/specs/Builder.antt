@@ -96,13 +96,6 @@ same_name a b = bytes_eq a.text b.text && a.bit == b.bit
 abbrev pub has_name : List Name → Name → Bool
 has_name names name = list_any (same_name name) names
 
--- The names with this one, and their wire bounds with its own, where it is new.
-abbrev pub with_name : List Name → Name → List Name
-with_name names name = if has_name names name then names else names ++ name ∷ []
-
-abbrev pub with_wire : List Name → Name → List Bounds → Bounds → List Bounds
-with_wire names name wires wire = if has_name names name then wires else wires ++ wire ∷ []
-
 -- A name gets its number: a new one the next, and the header's wire bounds.
 abbrev pub after_number : Built → Name → Built
 after_number b name = if has_name b.names name then b else record b { names = b.names ++ name ∷ []; wires = b.wires ++ b.header.wire ∷ [] }

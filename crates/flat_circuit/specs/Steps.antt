@@ -1,5 +1,5 @@
 -- What the steps of a builder's end say to each other.
-use Rattle.std.specs.Prelude.{◌≡◌, ℕ, ◌+◌, ◌-◌, ◌<◌, Bool, true, false, ◌&&◌, ◌==◌, if◌then◌else◌, List, [], ◌∷◌, ◌++◌, length, map, drop, slice_get, slice_set, slice_index_or, Option, Some, None, is_some, MatchOption, option_to_list}
+use Rattle.std.specs.Prelude.{◌≡◌, ◌⊎◌, ℕ, ◌+◌, ◌-◌, ◌<◌, Bool, true, false, ◌&&◌, ◌==◌, if◌then◌else◌, List, [], ◌∷◌, ◌++◌, length, map, drop, slice_get, slice_set, slice_index_or, Option, Some, None, is_some, MatchOption, option_to_list}
 use Rattle.std.specs.List.{All}
 use Rattle.smallvec.specs.SmallVec.{SmallVec}
 use Rattle.scald_base.specs.Time.{Bounds}

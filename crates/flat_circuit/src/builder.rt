@@ -184,11 +184,16 @@ impl Builder {
         ensures refused { IfErr result (λ stop.
             (self.new ≡ self.old) × IsNumberRefusal self.old (name_of_key name) place stop) }
     {
-        let wire = self.default_wire();
-        match self.nets.number(name, wire, MOST_BITS)? {
-            Some(number) => Ok(number as u32),
-            None => Err(Stop::refused(RefusalKind::TooMany, place)),
+        if let Some(number) = self.nets.number_of(&name) {
+            return Ok(number as u32);
         }
+        let number = self.nets.len();
+        if number >= MOST_BITS {
+            return Err(Stop::refused(RefusalKind::TooMany, place));
+        }
+        let wire = self.default_wire();
+        self.nets.add(name, wire)?;
+        Ok(number as u32)
     }
 
     /// Sets the bounds of a net's wires, which are the header's where none are set; those that are set

@@ -8,6 +8,7 @@ use element_kinds::Kind;
 use scald_base::{Bytes, Delay, NoMemory, Place};
 use smallvec::SmallVec;
 use std::alloc::Global;
+use std::default::MadeWith;
 use std::marker::Model;
 use vector_names::Target;
 
@@ -33,77 +34,82 @@ impl Default for Pin {
     }
 }
 
-/// The pins of an instance, in the order of its kind, which contracts see as the list of them. Most have one or
-/// two, which lie in the value itself, and only more take memory.
+/// The pins of an instance, in the order of its kind. Most have one or two.
+pub type Pins = Few<Pin>;
+
+/// A growing list, which contracts see as the list of its items. One or two lie in the value itself, and
+/// only more take memory.
 #[derive(Drop, Debug)]
-pub struct Pins {
-    items: SmallVec<Pin, 2>,
+pub struct Few<T> {
+    items: SmallVec<T, 2>,
 }
 
-impl Model for Pins {
+impl<T> Model for Few<T> {
     ghost use Rattle.std.specs.Prelude.{List};
 
-    ghost Value = { List Pin };
+    ghost Value = { List T };
 
-    ghost view = { λ p. p.items.items };
+    ghost view = { λ a. a.items.items };
 }
 
-impl PartialEq for Pins {
+impl<T: PartialEq> PartialEq for Few<T> {
     ghost use Rattle.std.specs.Cmp.Lexicographic.{pointwise, lists_per};
     ghost use Rattle.std.specs.Cmp.{on_per};
 
-    ghost eq = { λ x y. pointwise ⟦<Pin as PartialEq>⟧.eq x y };
+    ghost eq = { λ x y. pointwise T.eq x y };
 
-    ghost laws = { on_per (λ x. x) (lists_per ⟦<Pin as PartialEq>⟧.laws) };
+    ghost laws = { on_per (λ x. x) (lists_per T.laws) };
 
-    fn eq(&self, other: &Pins) -> bool {
+    fn eq(&self, other: &Few<T>) -> bool {
         self.as_slice() == other.as_slice()
     }
 }
 
-impl Eq for Pins {
+impl<T: Eq> Eq for Few<T> {
     ghost use Rattle.std.specs.Cmp.Lexicographic.{lists_equiv};
     ghost use Rattle.std.specs.Cmp.{on_equiv};
 
-    ghost laws = { on_equiv (λ x. x) (lists_equiv ⟦<Pin as Eq>⟧.laws) };
+    ghost laws = { on_equiv (λ x. x) (lists_equiv T.Eq.laws) };
 }
 
-impl Pins {
-    /// No pins, with room for so many.
-    pub fn with_room(alloc: Global, pins: usize) -> Result<Pins, NoMemory>
-        ensures { IfOk result (λ none. none ≡ []) }
-    {
-        let items = SmallVec::with_capacity(alloc, pins)?;
-        Ok(Pins { items })
-    }
-
-    /// How many pins there are.
+impl<T> Few<T> {
+    /// How many items there are.
     pub fn len(&self) -> usize
         ensures { result ≡ length self.now }
     {
         self.items.len()
     }
 
-    /// The pin at a place from 0, or `None` exactly past the end.
-    pub fn get(&self, i: usize) -> Option<&Pin>
+    /// The item at a place from 0, or `None` exactly past the end.
+    pub fn get(&self, i: usize) -> Option<&T>
         ensures { option_copied result ≡ slice_get self.now i }
     {
         self.as_slice().get(i)
     }
 
-    /// The pins as a slice.
-    pub fn as_slice(&self) -> &[Pin]
+    /// The items as a slice.
+    pub fn as_slice(&self) -> &[T]
         ensures { result.now ≡ self.now }
     {
         self.items.as_slice()
     }
+}
 
-    /// Puts a pin at the end. Where memory runs out the pins are as before.
-    pub fn push(&mut self, pin: Pin) -> Result<(), NoMemory>
-        ensures ok { OnOk result (self.new ≡ self.old ++ pin ∷ []) }
+impl<T: MadeWith<Global> + Drop> Few<T> {
+    /// No items, with room for so many.
+    pub fn with_room(alloc: Global, items: usize) -> Result<Few<T>, NoMemory>
+        ensures { IfOk result (λ none. none ≡ []) }
+    {
+        let items = SmallVec::with_capacity(alloc, items)?;
+        Ok(Few { items })
+    }
+
+    /// Appends an item. Where memory runs out the list is as before, and the item is dropped.
+    pub fn push(&mut self, item: T) -> Result<(), NoMemory>
+        ensures ok { OnOk result (self.new ≡ self.old ++ item ∷ []) }
         ensures err { OnErr result (self.new ≡ self.old) }
     {
-        self.items.push(pin)?;
+        self.items.push(item)?;
         Ok(())
     }
 }

@@ -30,7 +30,7 @@ pub use case::{Case, CaseList, CaseValue};
 pub use circuit::Circuit;
 pub use element_kinds::Kind;
 pub use fault::{Fault, Faults, PointKind, append_faults};
-pub use instance::{Instance, Pin, Pins};
+pub use instance::{Few, Instance, Pin, Pins};
 pub use laws::{
     fronts_are_runs, later_parts_are_runs, runs_go_by_instances, unnamed_bits_are_free,
 };

@@ -1,11 +1,10 @@
 //! The nets' numbers and wire bounds, while a circuit is built.
 
-ghost use Rattle.std.specs.Prelude.{◌≡◌, ◌<◌, ◌≤◌, [], length, slice_set, IfNone, IfOk, IfSome, OnErr, false};
+ghost use Rattle.std.specs.Prelude.{◌≡◌, ◌<◌, [], ◌∷◌, ◌++◌, length, slice_set, OnOk, OnErr, MatchOption, true, false};
 ghost use Rattle.flat_circuit.specs.Name.{IsNumber, name_at};
-ghost use Rattle.flat_circuit.specs.Builder.{has_name, name_of_key, bounds_at, with_name, with_wire};
+ghost use Rattle.flat_circuit.specs.Builder.{has_name, name_of_key, bounds_at};
 
 use indexmap::IndexMap;
-use indexmap::map::Entry;
 use scald_base::{Bytes, Delay, NoMemory};
 use std::alloc::Global;
 use std::marker::Model;
@@ -50,35 +49,24 @@ impl NetTable {
         self.nets.len()
     }
 
-    /// The number of a name. A new one gets the next number, with these bounds of its wires, where fewer than
-    /// `most` have one, and else none.
-    pub(crate) fn number(
-        &mut self,
-        name: NetName,
-        wire: Delay,
-        most: usize,
-    ) -> Result<Option<usize>, NoMemory>
-        ensures given { IfOk result (λ number. IfSome number (λ i.
-            IsNumber self.new.names (name_of_key name) i)) }
-        ensures names { IfOk result (λ number. IfSome number (λ _.
-            self.new.names ≡ with_name self.old.names (name_of_key name))) }
-        ensures wires { IfOk result (λ number. IfSome number (λ _.
-            self.new.wires ≡ with_wire self.old.names (name_of_key name) self.old.wires wire)) }
-        ensures none { IfOk result (λ number. IfNone number ((has_name self.old.names (name_of_key name) ≡ false)
-            × (most ≤ length self.old.names) × (self.new ≡ self.old))) }
+    /// The number of a name.
+    pub(crate) fn number_of(&self, name: &NetName) -> Option<usize>
+        ensures { MatchOption result (has_name self.now.names (name_of_key name.now) ≡ false) (λ i.
+            (has_name self.now.names (name_of_key name.now) ≡ true) × IsNumber self.now.names
+            (name_of_key name.now) i) }
+    {
+        self.nets.get_index_of(name)
+    }
+
+    /// Gives a new name the next number.
+    pub(crate) fn add(&mut self, name: NetName, wire: Delay) -> Result<(), NoMemory>
+        requires { has_name self.old.names (name_of_key name) ≡ false }
+        ensures names { OnOk result (self.new.names ≡ self.old.names ++ name_of_key name ∷ []) }
+        ensures wires { OnOk result (self.new.wires ≡ self.old.wires ++ wire ∷ []) }
         ensures err { OnErr result (self.new ≡ self.old) }
     {
-        match self.nets.entry(name)? {
-            Entry::Occupied(found) => Ok(Some(found.index())),
-            Entry::Vacant(place) => {
-                let number = place.index();
-                if number >= most {
-                    return Ok(None);
-                }
-                place.insert(wire);
-                Ok(Some(number))
-            }
-        }
+        self.nets.insert(name, wire)?;
+        Ok(())
     }
 
     /// The name of a number.

@@ -47,8 +47,8 @@ fn nearly_by_name(alloc: Global, nets: &[Net]) -> Result<Vec<u32>, NoMemory>
     let mut stretches = stretches(alloc, nets)?;
     sort_parts(nets, &mut stretches, 0, PARTS);
     let mut order = Vec::with_capacity(alloc, nets.len())?;
-    for stretch in &stretches {
-        add_stretch(&mut order, *stretch)?;
+    for place in 0..stretches.len() {
+        add_stretch(&mut order, stretches[place])?;
     }
     Ok(order)
 }
@@ -69,7 +69,7 @@ fn sort_parts(nets: &[Net], stretches: &mut [Stretch], first: usize, parts: usiz
             sort_parts(
                 nets,
                 &mut stretches[begin..end],
-                first + PART_BYTES,
+                first.saturating_add(PART_BYTES),
                 parts - 1,
             );
         }

@@ -10,7 +10,7 @@ returns-in-Some c =
     let i = c.self.inside in
     let l = rw c.deref.ensures.value at c.in-Some.ensures.lookup in
     let f = row_found i.instances i.readers.items (length i.nets) c.args.net c.in-Some.row.now c.self.invariant.1 (get_is i.readers.items c.args.net c.in-Some.row.now l.3.0 l.1) in
-    subst (λ (x : Circuit). (c.args.net < length x.nets) × (c.as_slice.result.now ≡ readers_of x.instances c.args.net)) c.self.view_is (f.0, c.as_slice.ensures.value ∙ f.1)
+    subst (λ (x : Circuit). (c.args.net < length x.nets) × (c.as_slice.result.now ≡ readers_of x.instances c.args.net)) c.self.view_is (f.0, c.as_slice.ensures ∙ f.1)
 
 pub returns-in-None : goal.returns-in-None
 returns-in-None c =
