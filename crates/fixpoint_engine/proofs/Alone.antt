@@ -1,5 +1,5 @@
 -- Where there are no classes, each net is one of its own: it stands for itself alone, and all nets that are due are evaluated.
-use Rattle.std.proofs.Common.{◌≡◌, ℕ, zero, suc, ◌+◌, ◌<◌, ◌≤◌, ◌==◌, inl, inr, Bool, true, false, not, ◌&&◌, cond, All, List, [], ◌∷◌, ◌++◌, length, map, refl, sym, ap, subst, ◌∙◌, arith, zero-add, count_by, Option, Some, None, is_some}
+use Rattle.std.proofs.Common.{◌≡◌, ℕ, zero, suc, ◌+◌, ◌<◌, ◌≤◌, ◌==◌, inl, inr, Bool, true, false, not, ◌&&◌, cond, All, List, [], ◌∷◌, ◌++◌, length, map, refl, sym, ap, ◌∙◌, arith, zero-add, count_by, Option, Some, None, is_some}
 use Rattle.std.specs.List.{range_with_len}
 use Rattle.std.specs.Prelude.{IfSome}
 use Rattle.std.proofs.lemmas.Bool.{cases_lt, eqb-true, eqb-false, lt-ltb}
@@ -77,10 +77,7 @@ pub each_numbered : (n : ℕ) (classes : Option (List ℕ)) → length (numbers_
 each_numbered n None each = tt
 each_numbered n (Some ks) each = each
 
-pub at_some : {A : Type 0} (P : A → Type 0) (o : Option A) (x : A) → o ≡ Some x → IfSome o P → P x
-at_some {A} P o x is holds = let at : IfSome (Some x) P = subst (λ (found : Option A). IfSome found P) is holds in at
-
-leads_first : (n : ℕ) (classes : Option (List ℕ)) (i : ℕ) → length (numbers_in n classes) ≡ n → i < n → leads_in classes i ≡ is_first (numbers_in n classes) i
+pub leads_first : (n : ℕ) (classes : Option (List ℕ)) (i : ℕ) → length (numbers_in n classes) ≡ n → i < n → leads_in classes i ≡ is_first (numbers_in n classes) i
 leads_first n None i each below = sym (own_first n i below)
 leads_first n (Some ks) i each below = ap (λ (b : Bool). b && is_first ks i) (lt-ltb i (length ks) (omega (arith, each, below)))
 

@@ -8,11 +8,13 @@ pub mod Normal
 pub mod Places
 pub mod Reached
 pub mod Rest
+pub mod Rows
 pub mod Changing
 pub mod Waiting
 pub mod Listening
 pub mod Turns
 pub mod Due
+pub mod Firsts
 pub mod Examples
 pub mod Classes
 pub mod Members

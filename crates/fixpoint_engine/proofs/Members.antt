@@ -142,7 +142,7 @@ members_are ks class (suc m) = by (class_of ks m == class) refl (λ k d below. l
     by true e rest = All-cons (IsMember ks class (suc m)) m (members_below ks class m) (eqb-true (class_of ks m) class e, omega arith) rest
     by false e rest = rest
 
-among_members : (ks : List ℕ) (class m i : ℕ) → i < m → class_of ks i ≡ class → among (members_below ks class m) i ≡ true
+pub among_members : (ks : List ℕ) (class m i : ℕ) → i < m → class_of ks i ≡ class → among (members_below ks class m) i ≡ true
 unfolding members_below
 among_members ks class zero i below is = absurd (omega arith)
 among_members ks class (suc m) i below is = by (class_of ks m == class) refl (λ less. among_members ks class m i less is)

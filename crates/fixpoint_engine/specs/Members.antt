@@ -3,7 +3,7 @@ use Rattle.std.specs.Prelude.{◌≡◌, ℕ, zero, suc, ◌<◌, ◌≤◌, ◌
 use Rattle.std.specs.List.{flat_map, list_any, range_with_len}
 use Rattle.class_table.specs.Alike.{class_of}
 use Rattle.fixpoint_engine.specs.Settled.{marked_in}
-use Rattle.fixpoint_engine.specs.Worklist.{Change}
+use Rattle.fixpoint_engine.specs.Worklist.{Change, among}
 use Rattle.fixpoint_engine.specs.Classes.{is_first}
 
 -- the last net of a class below a number
@@ -71,3 +71,8 @@ for_all (Some classes) changes = for_classes classes changes
 -- the class of one of the nets is that of the net
 abbrev pub is_with : List ℕ → List ℕ → ℕ → Bool
 is_with classes nets i = list_any (λ net. class_of classes net == class_of classes i) nets
+
+-- The net changes, where each of these stands for its class, or for itself where there are none.
+abbrev pub is_with_any : Option (List ℕ) → List ℕ → ℕ → Bool
+is_with_any None nets = among nets
+is_with_any (Some classes) nets = is_with classes nets

@@ -19,7 +19,8 @@ use wave_table::Numbers;
 fn add_class(made: &mut Vec<Change>, classes: &ClassNets, change: Change) -> Result<(), NoMemory>
     requires { leads_in (Some classes.now) change.net ≡ true }
     ensures { OnOk result ((read : ℕ → Wave OfValues) → map (λ ch. (ch.net, read ch.number)) made.new.items
-        ≡ map (λ ch. (ch.net, read ch.number)) made.old.items ++ for_class classes.now (change.net, read change.number)) }
+        ≡ map (λ ch. (ch.net, read ch.number)) made.old.items
+        ++ for_class classes.now (change.net, read change.number)) }
 {
     let mut at = classes.last(change.net);
     while let Some(net) = at {

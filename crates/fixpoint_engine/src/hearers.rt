@@ -1,101 +1,149 @@
 //! Which nets hear a class.
 
-ghost use Rattle.std.specs.Prelude.{◌≡◌, ◌+◌, ◌<◌, IfOk, IfSome, Some, length, true};
-ghost use Rattle.std.specs.List.{All};
-ghost use Rattle.flat_circuit.specs.Instances.{PinExists};
+ghost use Rattle.std.specs.Prelude.{◌≡◌, ◌<◌, ◌==◌, ◌&&◌, ◌||◌, [], ℕ, IfOk, IfSome, OnOk, Some, length, map, true};
+ghost use Rattle.std.specs.List.{All, range_with_len};
+ghost use Rattle.element_kinds.specs.Kinds.{listens};
+ghost use Rattle.flat_circuit.specs.Instances.{PinExists, TargetExists};
+ghost use Rattle.class_table.specs.Alike.{class_of};
 ghost use Rattle.fixpoint_engine.specs.Members.{leads_in};
-ghost use Rattle.fixpoint_engine.specs.Hearers.{AreHearers, row_of};
+ghost use Rattle.fixpoint_engine.specs.Work.{hears_from, is_on_any};
+ghost use Rattle.fixpoint_engine.specs.Worklist.{among};
+ghost use Rattle.fixpoint_engine.specs.Hearers.{AreHearers, hears_class, is_net, row_of, rows_of};
 
 use crate::class_nets::ClassNets;
-use flat_circuit::{Circuit, Instance, Target};
+use element_kinds::Kind;
+use flat_circuit::{Circuit, Pin};
 use scald_base::NoMemory;
+use smallvec::SmallVec;
 use std::alloc::Global;
 use std::marker::Model;
+use vector_names::Target;
+
+/// The nets that hear one class, of which most have few: four need no memory of their own.
+type Row = SmallVec<u32, 4>;
 
 /// For each class the nets that stand for theirs and whose drivers listen to a net of the class. So a round
 /// costs what hears the classes that change, and not all of their nets.
 #[derive(Drop)]
 pub struct Hearers {
-    /// Where the rows of the nets begin that stand for their classes, and after the last net the end of all.
-    begins: Vec<u32>,
-    nets: Vec<u32>,
+    /// At each net that stands for its class, what hears the class.
+    rows: Vec<Row>,
 }
 
 impl Model for Hearers {
     ghost use Rattle.std.specs.Prelude.{List, ℕ};
-    ghost use Rattle.fixpoint_engine.specs.Hearers.{AreRows, Rows};
+    ghost use Rattle.fixpoint_engine.specs.Hearers.{rows_of};
 
-    ghost Value = { Rows };
+    ghost Value = { List (List ℕ) };
 
-    ghost view = { λ h. record { begins = h.begins.items; nets = h.nets.items } };
+    ghost view = { λ h. rows_of h.rows.items };
+}
 
-    ghost invariant = { λ h. AreRows (record { begins = h.begins.items; nets = h.nets.items }) };
+fn empty_rows(alloc: Global, count: u32) -> Result<Vec<Row>, NoMemory>
+    ensures { IfOk result (λ rows. rows_of rows.items ≡ map (λ _. []) (range_with_len 0 count)) }
+{
+    let mut rows = Vec::with_capacity(alloc, count as usize)?;
+    for _k in 0..count {
+        rows.push(Row::new(alloc))?;
+    }
+    Ok(rows)
 }
 
 /// The net that stands for the class of what a pin is on, where the pin is on a net and its kind listens to it.
-fn heard(classes: &ClassNets, driver: &Instance, place: usize) -> Option<u32>
-    requires { All (PinExists (length classes.now)) driver.now.pins }
-    ensures { IfSome result (λ first. leads_in (Some classes.now) first ≡ true) }
+fn heard(classes: &ClassNets, kind: Kind, place: usize, target: Target) -> Option<u32>
+    requires { TargetExists (length classes.now) target }
+    ensures first { IfSome result (λ first. leads_in (Some classes.now) first ≡ true) }
+    ensures is { (net : ℕ) → leads_in (Some classes.now) net ≡ true → is_net result net
+        ≡ (listens kind place && is_on_any (λ j. class_of classes.now net == class_of classes.now j) target) }
 {
-    if !driver.kind.listens(place) {
+    if !kind.listens(place) {
         return None;
     }
-    match driver.pins.get(place)?.target {
+    match target {
         Target::Net(net) => Some(classes.first(net)),
         Target::Constant(_) => None,
     }
 }
 
-/// Counts a net at the classes that its driver listens to.
-fn count_hearer(begins: &mut [u32], classes: &ClassNets, driver: &Instance) {
-    for place in 0..driver.pins.len() {
-        if let Some(first) = heard(classes, driver, place) {
-            begins[first as usize] += 1;
-        }
-    }
+/// Puts a net into a row.
+fn add_at(rows: &mut Vec<Row>, first: u32, net: u32) -> Result<(), NoMemory>
+    requires { first < length rows.old.items }
+    ensures long { OnOk result (length rows.new.items ≡ length rows.old.items) }
+    ensures added { OnOk result ((other i : ℕ) → among (row_of (rows_of rows.new.items) other) i
+        ≡ (among (row_of (rows_of rows.old.items) other) i || ((first == other) && (net == i)))) }
+{
+    rows[first as usize].push(net)?;
+    Ok(())
 }
 
-/// Puts a net before those that hear the same classes and were put. Their rows begin there.
-fn put_hearer(
-    nets: &mut [u32],
-    begins: &mut [u32],
+/// Puts a net into the row of the class that a pin of its driver listens to.
+fn add_pin(
+    rows: &mut Vec<Row>,
     classes: &ClassNets,
-    driver: &Instance,
+    kind: Kind,
+    place: usize,
+    target: Target,
     net: u32,
-) {
-    for place in 0..driver.pins.len() {
-        if let Some(first) = heard(classes, driver, place) {
-            begins[first as usize] -= 1;
-            nets[begins[first as usize] as usize] = net;
-        }
+) -> Result<(), NoMemory>
+    requires each_net { length rows.old.items ≡ length classes.now }
+    requires exists { TargetExists (length classes.now) target }
+    ensures long { OnOk result (length rows.new.items ≡ length rows.old.items) }
+    ensures added { OnOk result ((first i : ℕ) → leads_in (Some classes.now) first ≡ true →
+        among (row_of (rows_of rows.new.items) first) i ≡ (among (row_of (rows_of rows.old.items) first) i
+        || ((listens kind place && is_on_any (λ j. class_of classes.now first == class_of classes.now j) target)
+        && (net == i)))) }
+{
+    match heard(classes, kind, place, target) {
+        Some(first) => add_at(rows, first, net),
+        None => Ok(()),
     }
 }
 
-/// The driver of a net that stands for its class.
-fn first_driver<'a>(c: &'a Circuit, classes: &ClassNets, net: u32) -> Option<&'a Instance> {
-    if classes.leads(net) {
-        c.driver_of(net)
-    } else {
-        None
+/// Puts a net into the rows of the classes that the pins of its driver listen to.
+fn add_pins(
+    rows: &mut Vec<Row>,
+    classes: &ClassNets,
+    kind: Kind,
+    pins: &[Pin],
+    net: u32,
+) -> Result<(), NoMemory>
+    requires each_net { length rows.old.items ≡ length classes.now }
+    requires exist { All (PinExists (length classes.now)) pins.now }
+    ensures long { OnOk result (length rows.new.items ≡ length rows.old.items) }
+    ensures added { OnOk result ((first i : ℕ) → leads_in (Some classes.now) first ≡ true →
+        among (row_of (rows_of rows.new.items) first) i ≡ (among (row_of (rows_of rows.old.items) first) i
+        || (hears_from (λ j. class_of classes.now first == class_of classes.now j) kind 0 pins.now && (net == i)))) }
+{
+    for place in 0..pins.len() {
+        add_pin(rows, classes, kind, place, pins[place].target, net)?;
     }
+    Ok(())
 }
 
-/// Puts the sum of the counts so far in the place of each, and gives the sum of all.
-fn add_up(counts: &mut [u32]) -> u32 {
-    let mut sum = 0;
-    for place in 0..counts.len() {
-        sum += counts[place];
-        counts[place] = sum;
+/// Puts a net that stands for its class into the rows of the classes that it hears.
+fn add_net(rows: &mut Vec<Row>, c: &Circuit, classes: &ClassNets, net: u32) -> Result<(), NoMemory>
+    requires each_net { length rows.old.items ≡ length classes.now }
+    requires classes { length classes.now ≡ length c.now.nets }
+    ensures long { OnOk result (length rows.new.items ≡ length rows.old.items) }
+    ensures added { OnOk result ((first i : ℕ) → leads_in (Some classes.now) first ≡ true →
+        among (row_of (rows_of rows.new.items) first) i ≡ (among (row_of (rows_of rows.old.items) first) i
+        || (hears_class c.now classes.now (class_of classes.now first) net && (net == i)))) }
+{
+    if !classes.leads(net) {
+        return Ok(());
     }
-    sum
+    c.known();
+    match c.driver_of(net) {
+        Some(driver) => add_pins(rows, classes, driver.kind, driver.pins.as_slice(), net),
+        None => Ok(()),
+    }
 }
 
 impl Hearers {
     /// No rows, where there are no classes.
     pub fn none(alloc: Global) -> Hearers {
         Hearers {
-            begins: Vec::new(alloc),
-            nets: Vec::new(alloc),
+            rows: Vec::new(alloc),
         }
     }
 
@@ -104,30 +152,18 @@ impl Hearers {
         requires { length classes.now ≡ length c.now.nets }
         ensures { IfOk result (AreHearers c.now classes.now) }
     {
-        c.known();
-        let mut begins = Vec::from_elem(alloc, 0, c.net_count() as usize + 1)?;
+        let mut rows = empty_rows(alloc, c.net_count())?;
         for net in 0..c.net_count() {
-            if let Some(driver) = first_driver(c, classes, net) {
-                count_hearer(&mut begins, classes, driver);
-            }
+            add_net(&mut rows, c, classes, net)?;
         }
-        let total = add_up(&mut begins);
-        let mut nets = Vec::from_elem(alloc, 0, total as usize)?;
-        for net in 0..c.net_count() {
-            if let Some(driver) = first_driver(c, classes, net) {
-                put_hearer(&mut nets, &mut begins, classes, driver, net);
-            }
-        }
-        Ok(Hearers { begins, nets })
+        Ok(Hearers { rows })
     }
 
     /// The nets that hear the class for which a net stands. A net may be there more than once.
     pub fn of_first(&self, net: u32) -> &[u32]
-        requires { net + 1 < length self.now.begins }
+        requires { net < length self.now }
         ensures { result.now ≡ row_of self.now net }
     {
-        let begin = self.begins[net as usize] as usize;
-        let end = self.begins[net as usize + 1] as usize;
-        &self.nets[begin..end]
+        self.rows[net as usize].as_slice()
     }
 }

@@ -194,7 +194,7 @@ fn key_pins(
         map (λ p. shown_by p (wave_at table p.wave)) keys
         ≡ map (wave_shown c.now (waves_of (waves_at table numbers.now))) pins.now) }
 {
-    let mut keys = List::with_room(alloc, pins.len())?;
+    let mut keys = List::new(alloc);
     for pin in pins {
         keys.push(key_pin(c, constants, numbers, *pin))?;
     }

@@ -1,6 +1,6 @@
 //! The nets that are to be evaluated in a round.
 
-ghost use Rattle.std.specs.Prelude.{◌≡◌, ◌<◌, ◌==◌, ◌&&◌, [], ℕ, IfOk, OnOk, Some, false, length, map, replicate, true};
+ghost use Rattle.std.specs.Prelude.{◌≡◌, ◌<◌, ◌==◌, ◌&&◌, [], ℕ, IfOk, IfSome, OnOk, Some, false, length, map, replicate, true};
 ghost use Rattle.std.specs.List.{All};
 ghost use Rattle.std.specs.Option.{option_copied};
 ghost use Rattle.flat_circuit.specs.Instances.{out_at};
@@ -8,7 +8,7 @@ ghost use Rattle.flat_circuit.specs.Circuit.{driver};
 ghost use Rattle.fixpoint_engine.specs.Settled.{FitActive, marked_in};
 ghost use Rattle.class_table.specs.Alike.{class_of};
 ghost use Rattle.fixpoint_engine.specs.Hearers.{AreHearers};
-ghost use Rattle.fixpoint_engine.specs.Members.{is_evaluated, is_with, leads_in};
+ghost use Rattle.fixpoint_engine.specs.Members.{is_evaluated, is_with, is_with_any, leads_in};
 ghost use Rattle.fixpoint_engine.specs.Work.{hears_in};
 ghost use Rattle.fixpoint_engine.specs.Worklist.{Adds, IsQueue, among, drives_in};
 
@@ -149,7 +149,8 @@ impl Queue {
         requires hearers { AreHearers c.now classes.now hearers.now }
         requires first { leads_in (Some classes.now) first ≡ true }
         ensures { OnOk result (Adds (λ i. is_evaluated active.now (Some classes.now) i
-            && hears_in (λ j. class_of classes.now first == class_of classes.now j) (driver c.now i)) self.old self.new) }
+            && hears_in (λ j. class_of classes.now first == class_of classes.now j) (driver c.now i))
+            self.old self.new) }
     {
         let _ = c;
         let _ = classes;
@@ -172,7 +173,7 @@ impl Queue {
 
     /// In place of those that wait: the active nets that hear a class of which the first net changed, and stand for
     /// theirs.
-    pub fn refill_firsts(
+    fn refill_firsts(
         &mut self,
         c: &Circuit,
         classes: &ClassNets,
@@ -197,7 +198,7 @@ impl Queue {
 
     /// In place of those that wait: the active nets whose drivers listen to a net that changed, of each
     /// class the first.
-    pub fn refill(
+    fn refill(
         &mut self,
         c: &Circuit,
         classes: Option<&ClassNets>,
@@ -217,5 +218,33 @@ impl Queue {
             self.add_hearers(c, classes, active, change.net)?;
         }
         Ok(())
+    }
+
+    /// In place of those that wait: the active nets whose drivers listen to a net that changes with these, of each
+    /// class the first. Where there are classes, each of these nets stands for all of its own.
+    pub fn refill_all(
+        &mut self,
+        c: &Circuit,
+        classes: Option<&ClassNets>,
+        hearers: &Hearers,
+        active: &NetSet,
+        changes: &[Change],
+    ) -> Result<(), NoMemory>
+        requires active { FitActive c.now active.now }
+        requires each_net { length self.old.marks ≡ length c.now.nets }
+        requires classes { IfSome (option_copied classes) (λ each. length each ≡ length c.now.nets) }
+        requires hearers { IfSome (option_copied classes) (λ each. AreHearers c.now each hearers.now) }
+        requires exist { All (λ ch. ch.net < length c.now.nets) changes.now }
+        requires firsts { All (λ ch. leads_in (option_copied classes) ch.net ≡ true) changes.now }
+        ensures each_net { OnOk result (length self.new.marks ≡ length c.now.nets) }
+        ensures due { OnOk result
+            ((i : ℕ) → marked_in self.new.marks i ≡ (is_evaluated active.now (option_copied classes.entry) i
+            && hears_in (is_with_any (option_copied classes.entry) (map (λ ch. ch.net) changes.now))
+            (driver c.now i))) }
+    {
+        match classes {
+            Some(classes) => self.refill_firsts(c, classes, hearers, active, changes),
+            None => self.refill(c, None, active, changes),
+        }
     }
 }

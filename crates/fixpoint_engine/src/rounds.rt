@@ -184,10 +184,7 @@ fn rounds_from<W: CyclicWave<Item = Value>>(
             let all = for_all(alloc, classes, &made)?;
             return Err(unsettled(alloc, c, &all, limit)?);
         }
-        match classes {
-            Some(classes) => queue.refill_firsts(c, classes, hearers, active, &made)?,
-            None => queue.refill(c, None, active, &made)?,
-        }
+        queue.refill_all(c, classes, hearers, active, &made)?;
         apply_all(&mut numbers, classes, &made);
         numbers = shortened(alloc, store, kept, numbers)?;
         rounds += 1;

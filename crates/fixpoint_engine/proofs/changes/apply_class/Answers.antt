@@ -1,4 +1,4 @@
-use Rattle.std.proofs.Common.{◌∙◌, ◌<◌, ℕ, List, Option, ap, refl, sym, arith, length, map}
+use Rattle.std.proofs.Common.{◌∙◌, ℕ, List, Option, ap, refl, sym, arith, length, map}
 use Rattle.std.proofs.lemmas.List.{length-set, map-set}
 use Rattle.class_table.specs.Alike.{class_of}
 use Rattle.wave_table.specs.Table.{wave_at, waves_at}

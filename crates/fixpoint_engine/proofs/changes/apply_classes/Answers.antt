@@ -1,4 +1,4 @@
-use Rattle.std.proofs.Common.{◌∙◌, length, map, take, get_or, ap, refl, sym}
+use Rattle.std.proofs.Common.{◌∙◌, map, ap}
 use Rattle.std.proofs.lemmas.List.{take_all}
 use Rattle.wave_table.specs.Table.{wave_at, waves_at}
 use Rattle.fixpoint_engine.specs.Members.{for_classes}
