@@ -8,6 +8,9 @@ abbrev pub feeders_at : Option Node → List ℕ
 feeders_at None = []
 feeders_at (Some n) = n.feeders.items
 
+abbrev pub node_feeders : Node → List ℕ
+node_feeders n = n.feeders.items
+
 -- the nodes that feed a node
 abbrev pub feeders_of : List Node → ℕ → List ℕ
 feeders_of nodes j = feeders_at (slice_get nodes j)
