@@ -1,6 +1,6 @@
 -- A drawing as a tree of what it holds, without where its parts lie in memory.
 use Rattle.std.specs.Prelude.{ℕ, Bool, List, [], ◌∷◌, map, Option, Some, None, option_map, IfSome, ⊤}
-use Rattle.std.specs.Global.{Vec}
+use Rattle.std.specs.Global.{Vec, Box}
 use Rattle.scald_base.specs.Time.{Header}
 use Rattle.scald_base.specs.declared.refusal.Place.{Place}
 use Rattle.scald_expr.specs.Expression.{Expression, expression_of}
@@ -123,10 +123,14 @@ pub record Drawing : Type 0 where
 abbrev pub range_of : RangeExpr → Range
 range_of r = record { first = expression_of r.first; last = option_map expression_of r.last }
 
+-- a range, where one is written
+abbrev pub written_range_of : Option (Box RangeExpr) → Option Range
+written_range_of range = option_map (λ (b : Box RangeExpr). range_of b.value) range
+
 abbrev pub item_of : written.Item → Item
 item_of item.Zero = Zero
 item_of item.One = One
-item_of (item.Named name range) = Named name (option_map range_of range)
+item_of (item.Named name range) = Named name (written_range_of range)
 
 abbrev pub term_of : written_term.Term → Term
 term_of t = record { minus = t.minus; item = item_of t.item }
@@ -140,12 +144,16 @@ assignment_of a = record { name = a.name; value = expression_of a.value }
 abbrev pub both_of : Expr × Expr → Expression × Expression
 both_of pair = (expression_of pair.0, expression_of pair.1)
 
+-- the delay of falls, where one is written
+abbrev pub written_fall_of : Option (Box (Expr × Expr)) → Option (Expression × Expression)
+written_fall_of fall = option_map (λ (b : Box (Expr × Expr)). both_of b.value) fall
+
 abbrev pub use_of : UseStmt → UseStatement
 use_of u = record {
   label = u.label;
   kind = u.kind;
   delay = option_map both_of u.delay;
-  fall = option_map both_of u.fall;
+  fall = written_fall_of u.fall;
   params = map assignment_of u.params;
   ins = map connection_of u.ins;
   outs = map connection_of u.outs;
@@ -155,7 +163,7 @@ use_of u = record {
 abbrev pub wire_of : WireStmt → WireStatement
 wire_of w = record {
   name = w.name;
-  range = option_map range_of w.range;
+  range = written_range_of w.range;
   min = expression_of w.min;
   max = expression_of w.max;
   place = w.place;
@@ -200,7 +208,7 @@ else_of None = no_else
 else_of (Some v) = else_ (statements_of v.items)
 
 abbrev pub formal_of : written_formal.Formal → Formal
-formal_of f = record { base = f.base; range = option_map range_of f.range }
+formal_of f = record { base = f.base; range = written_range_of f.range }
 
 abbrev pub macro_of : MacroDef → Macro
 macro_of m = record {

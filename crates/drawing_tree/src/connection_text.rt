@@ -4,7 +4,7 @@ ghost use Rattle.std.specs.Prelude.{◌≡◌, ◌++◌, IsTrue, OnOk, option_ma
 ghost use Rattle.std.specs.List.{join_by};
 ghost use Rattle.scald_expr.specs.Expression.{expression_of};
 ghost use Rattle.assertion_syntax.specs.Name.{name_text};
-ghost use Rattle.drawing_tree.specs.Tree.{range_of, item_of, term_of, connection_of};
+ghost use Rattle.drawing_tree.specs.Tree.{written_range_of, item_of, term_of, connection_of};
 ghost use Rattle.drawing_tree.specs.Canonical.{quoted, bounds_text, last_text, range_text, signal_text, item_text, term_text, connection_text};
 
 use crate::connection::{Conn, Item, Term, WrittenRange};
@@ -37,7 +37,7 @@ fn add_last(out: &mut Bytes, last: &Option<Expr>) -> Result<(), NoMemory>
 
 /// Puts a range at the end, where there is one.
 pub fn add_range(out: &mut Bytes, range: &WrittenRange) -> Result<(), NoMemory>
-    ensures { OnOk result (out.new ≡ out.old ++ range_text (option_map range_of range.now)) }
+    ensures { OnOk result (out.new ≡ out.old ++ range_text (written_range_of range.now)) }
 {
     let Some(range) = range else {
         return Ok(());
@@ -85,7 +85,7 @@ pub fn add_signal(
     name: &SignalName,
     range: &WrittenRange,
 ) -> Result<(), NoMemory>
-    ensures { OnOk result (out.new ≡ out.old ++ signal_text name.now (option_map range_of range.now)) }
+    ensures { OnOk result (out.new ≡ out.old ++ signal_text name.now (written_range_of range.now)) }
 {
     add_name(alloc, out, name)?;
     add_range(out, range)

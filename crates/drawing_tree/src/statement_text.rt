@@ -2,7 +2,7 @@
 
 ghost use Rattle.std.specs.Prelude.{◌≡◌, ◌++◌, OnOk, IfOk, option_map, map, codes};
 ghost use Rattle.scald_expr.specs.Expression.{expression_of};
-ghost use Rattle.drawing_tree.specs.Tree.{assignment_of, connection_of, both_of, use_of, wire_of, statement_of, statements_of, if_of, for_of};
+ghost use Rattle.drawing_tree.specs.Tree.{assignment_of, connection_of, both_of, written_fall_of, use_of, wire_of, statement_of, statements_of, if_of, for_of};
 ghost use Rattle.drawing_tree.specs.ExpressionText.{condition_text};
 ghost use Rattle.drawing_tree.specs.Canonical.{for_text, assignment_text, params_text, fall_text, delay_text, connection_text, inputs_text, outputs_text, use_head, use_text, wire_text, line, deeper, statement_lines, statements_lines};
 
@@ -35,7 +35,7 @@ pub fn add_params(alloc: Global, out: &mut Bytes, params: &[Assign]) -> Result<(
 
 /// Puts a comma and the delay of falls at the end, where there is one.
 fn add_fall(out: &mut Bytes, fall: &Option<Box<(Expr, Expr)>>) -> Result<(), NoMemory>
-    ensures { OnOk result (out.new ≡ out.old ++ fall_text (option_map both_of fall.now)) }
+    ensures { OnOk result (out.new ≡ out.old ++ fall_text (written_fall_of fall.now)) }
 {
     let Some(fall) = fall else {
         return Ok(());
@@ -51,7 +51,7 @@ fn add_delay(
     fall: &Option<Box<(Expr, Expr)>>,
 ) -> Result<(), NoMemory>
     ensures { OnOk result
-        (out.new ≡ out.old ++ delay_text (option_map both_of delay.now) (option_map both_of fall.now)) }
+        (out.new ≡ out.old ++ delay_text (option_map both_of delay.now) (written_fall_of fall.now)) }
 {
     let Some(delay) = delay else {
         return Ok(());
