@@ -1,22 +1,24 @@
 -- Each circuit has an order of evaluation, and so a run from each start.
-use Rattle.std.proofs.Common.{◌≡◌, ◌≢◌, ℕ, zero, suc, ◌+◌, ◌<◌, ◌≤◌, true, false, eqb, List, [], ◌∷◌, ◌++◌, length, get_or, refl, sym, subst, ◌∙◌, arith, inl, inr, All}
+use Rattle.std.proofs.Common.{◌≡◌, ◌≢◌, ℕ, zero, suc, ◌+◌, ◌<◌, ◌≤◌, true, false, eqb, List, [], ◌∷◌, ◌++◌, length, get_or, refl, sym, subst, arith, inl, inr, All}
 use Rattle.std.specs.Prelude.{◌⊎◌}
 use Rattle.std.specs.List.{list_any}
 use Rattle.std.proofs.lemmas.Bool.{or_cases, eqb-true, false_from_ne_true, cases_eq}
-use Rattle.std.proofs.lemmas.List.{get_or_default, get_or_push}
+use Rattle.std.proofs.lemmas.List.{get_or_push}
 use Rattle.std.proofs.lemmas.List.Elements.{All-nil, All-push}
 use Rattle.std.proofs.lemmas.List.Folds.{list_any_at}
 use Rattle.std.proofs.lemmas.Map.Keys.{IsDistinct-from_apart}
 use Rattle.std.proofs.lemmas.Map.Steps.{length-le_from_distinct_below}
 use Rattle.flat_circuit.specs.Circuit.{Circuit, IsCircuit}
 use Rattle.flat_circuit.specs.Loop.{By_one, And_then}
-use Rattle.trace_sim.specs.Search.{Feeds, Leads, AreLoopless, StandsBefore, IsPlaced, IsSorted}
+use Rattle.node_order.specs.Node.{Feeds, Leads, AreLoopless}
+use Rattle.node_order.specs.Sorted.{StandsBefore, IsPlaced, IsSorted}
+use Rattle.node_order.proofs.Nodes.{reaches_map}
+use Rattle.node_order.proofs.Walk.{before_more, length_more, placed_more}
 use Rattle.trace_sim.specs.Order.{IsEvaluationOrder, feeders_in}
 use Rattle.trace_sim.specs.Choice.{choices_of}
 use Rattle.trace_sim.specs.Laws.{RunsExist}
 use Rattle.trace_sim.specs.Making.{made, begun}
-use Rattle.trace_sim.proofs.Walk.{before_more, length_more, placed_more}
-use Rattle.trace_sim.proofs.Orders.{out_below, reaches_map, feeds_reads, reads_feeds, no_loop_of_readers}
+use Rattle.trace_sim.proofs.Orders.{out_below, feeds_reads, no_loop_of_readers, order_by}
 use Rattle.trace_sim.proofs.Made.{simulated}
 
 -- all that feeds j, however far back, ends
@@ -160,18 +162,6 @@ module _ (feeders : ℕ → List ℕ) (n : ℕ) (loopless : AreLoopless feeders)
   sorted = let q = all_placed n (omega arith) in (q.order, record { placed = q.partial.placed; inside = q.partial.inside; whole = q.has })
 
 -- ---- of a circuit
-
-order_by : (c : Circuit) (order : List ℕ) → IsCircuit c → IsSorted (feeders_in c) (length c.instances) order → IsEvaluationOrder c order
-order_by c order known s = record {
-  inside = s.inside;
-  whole = λ k l. let w = s.whole k l in (w.place, w.before, get_or_default order w.place k 0 w.before ∙ w.is);
-  once = s.placed.once;
-  after = λ a b la lb r.
-      let p = s.placed.fed b (get_or order a 0) lb (reads_feeds c known (get_or order a 0) (get_or order b 0) r) in
-      let l = p.before in
-      let same = s.placed.once p.place a (omega arith) la p.is in
-      omega arith;
-}
 
 pub order_exists : (c : Circuit) → IsCircuit c → (order : List ℕ) × IsEvaluationOrder c order
 order_exists c known =

@@ -5,7 +5,6 @@ pub mod Agreeing
 pub mod Fixed
 pub mod Converse
 pub mod Chosen
-pub mod Walk
 pub mod Orders
 pub mod Turns
 pub mod Exists

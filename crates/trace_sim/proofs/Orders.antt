@@ -1,11 +1,10 @@
 -- Readers at once go round no loop.
 use Rattle.std.proofs.Common.{◌≡◌, ℕ, zero, suc, ◌+◌, ◌<◌, ◌≤◌, Bool, true, false, cond, ◌&&◌, nat_eq, List, [], ◌∷◌, ◌++◌, length, map, get_or, Option, Some, None, refl, ap, sym, subst, ◌∙◌, arith}
 use Rattle.std.specs.Prelude.{is_some, option_to_list}
-use Rattle.std.specs.List.{Contains, range_with_len, All}
+use Rattle.std.specs.List.{Contains, range_with_len}
 use Rattle.std.proofs.lemmas.Bool.{and_parts, eqb-true, eq-eqb}
 use Rattle.std.proofs.lemmas.List.Elements.{All-from_get_or}
-use Rattle.std.proofs.lemmas.List.{length-map, get_or_default}
-use Rattle.std.proofs.lemmas.List.FromFn.{length-map-range_with_len}
+use Rattle.std.proofs.lemmas.List.{get_or_default}
 use Rattle.flat_circuit.specs.declared.instance.Pin.{Pin}
 use Rattle.flat_circuit.specs.declared.instance.Instance.{Instance}
 use Rattle.flat_circuit.specs.declared.net.Net.{Net}
@@ -15,9 +14,11 @@ use Rattle.flat_circuit.specs.Instances.{out_at, pins_at, least_delay_at}
 use Rattle.flat_circuit.specs.Circuit.{Circuit, IsCircuit, wire_at, driver_at}
 use Rattle.flat_circuit.specs.Loop.{PassesOn, Reaches, By_one, And_then}
 use Rattle.flat_circuit.proofs.Driven.{get_none}
-use Rattle.trace_sim.specs.declared.search.Node.{Node}
-use Rattle.trace_sim.specs.Search.{Feeds, AreLoopless, AreInRange, feeders_of, IsSorted}
-use Rattle.trace_sim.specs.Order.{ReadsAtOnce, IsEvaluationOrder, at_once_driver, at_once_list, feeders_in, node_feeders}
+use Rattle.node_order.specs.declared.node.Node.{Node}
+use Rattle.node_order.specs.Node.{Feeds, AreLoopless, AreInRange, feeders_of, node_feeders}
+use Rattle.node_order.specs.Sorted.{IsSorted}
+use Rattle.node_order.proofs.Nodes.{feeders_are, feeds_as, nodes_long, reaches_map, sorted_as}
+use Rattle.trace_sim.specs.Order.{ReadsAtOnce, IsEvaluationOrder, at_once_driver, at_once_list, feeders_in}
 
 -- ---- round a loop of readers each passes on at once
 
@@ -134,64 +135,42 @@ reads_feeds c known d k r =
     let z : nat_eq (least_delay_at c.instances k) 0 ≡ true = eq-eqb (least_delay_at c.instances k) 0 r.at_once in
     record { at = g.at; below = rw (o, z) g.below; is = rw (o, z) g.is }
 
--- ---- the nodes of the search
+-- an order of what feeds is one of what is read at once
+pub order_by : (c : Circuit) (order : List ℕ) → IsCircuit c → IsSorted (feeders_in c) (length c.instances) order → IsEvaluationOrder c order
+order_by c order known s = record {
+  inside = s.inside;
+  whole = λ k l. let w = s.whole k l in (w.place, w.before, get_or_default order w.place k 0 w.before ∙ w.is);
+  once = s.placed.once;
+  after = λ a b la lb r.
+      let p = s.placed.fed b (get_or order a 0) lb (reads_feeds c known (get_or order a 0) (get_or order b 0) r) in
+      let l = p.before in
+      let same = s.placed.once p.place a (omega arith) la p.is in
+      omega arith;
+}
 
-pins_are : (nodes : List Node) (f : ℕ → List ℕ) (a n : ℕ) → map node_feeders nodes ≡ map f (range_with_len a n) → ((j : ℕ) → a + n ≤ j → f j ≡ []) → (j i : ℕ) → a + j ≡ i → feeders_of nodes j ≡ f i
-pins_are [] f a zero e h j i q = sym (h i (omega arith))
-pins_are [] f a (suc n) e h j i q = absurd (cc)
-pins_are (x ∷ xs) f a zero e h j i q = absurd (cc)
-pins_are (x ∷ xs) f a (suc n) e h zero i q = let z : x.feeders.items ≡ f a = cc in let y : a ≡ i = omega arith in subst (λ v. x.feeders.items ≡ f v) y z
-pins_are (x ∷ xs) f a (suc n) e h (suc j) i q = pins_are xs f (a + 1) n (cc) (λ j l. h j (omega arith)) j i (omega arith)
+-- ---- the nodes of the search
 
 nothing_out : (js : List Instance) (k : ℕ) → length js ≤ k → out_at js k ≡ None
 nothing_out js k h = rw (get_none js k h) refl
 
-node_is : (c : Circuit) (nodes : List Node) → map node_feeders nodes ≡ map (feeders_in c) (range_with_len 0 (length c.instances)) → (k : ℕ) → feeders_of nodes k ≡ feeders_in c k
-node_is c nodes e k = pins_are nodes (feeders_in c) 0 (length c.instances) e (λ j l. rw (nothing_out c.instances j (omega arith)) refl) k k (omega arith)
+module _ (c : Circuit) (nodes : List Node) (made : map node_feeders nodes ≡ map (feeders_in c) (range_with_len 0 (length c.instances))) where
+  node_is : (k : ℕ) → feeders_of nodes k ≡ feeders_in c k
+  node_is = feeders_are nodes (feeders_in c) (length c.instances) made (λ j past. rw (nothing_out c.instances j past) refl)
 
-nodes_long : (nodes : List Node) (f : ℕ → List ℕ) (n : ℕ) → map node_feeders nodes ≡ map f (range_with_len 0 n) → length nodes ≡ n
-nodes_long nodes f n e = sym (length-map nodes node_feeders) ∙ ap length e ∙ length-map-range_with_len f 0 n
+  long : length nodes ≡ length c.instances
+  long = nodes_long nodes (feeders_in c) (length c.instances) made
 
-node_reads : (c : Circuit) (nodes : List Node) → IsCircuit c →
-    map node_feeders nodes ≡ map (feeders_in c) (range_with_len 0 (length c.instances)) → (d k : ℕ) → Feeds (feeders_of nodes) d k → ReadsAtOnce c d k
-node_reads c nodes known e d k f = let q = node_is c nodes e k in feeds_reads c known d k (record { at = f.at; below = rw q at f.below; is = rw q at f.is })
+  node_reads : IsCircuit c → (d k : ℕ) → Feeds (feeders_of nodes) d k → ReadsAtOnce c d k
+  node_reads known d k f = feeds_reads c known d k (feeds_as (feeders_of nodes) (feeders_in c) node_is d k f)
 
-pub reaches_map : {R S : ℕ → ℕ → Type 0} → ((i j : ℕ) → R i j → S i j) → {i j : ℕ} → Reaches R i j → Reaches S i j
-reaches_map f (By_one {i} {j} r) = By_one (f i j r)
-reaches_map f (And_then {i} {m} {j} r q) = And_then (f i m r) (reaches_map f q)
+  pub nodes_loopless : IsCircuit c → AreLoopless (feeders_of nodes)
+  nodes_loopless known i l = no_loop_of_readers c known i (reaches_map (node_reads known) l)
 
-pub nodes_loopless : (c : Circuit) (nodes : List Node) → IsCircuit c → map node_feeders nodes ≡ map (feeders_in c) (range_with_len 0 (length c.instances)) → AreLoopless (feeders_of nodes)
-nodes_loopless c nodes known e i l = no_loop_of_readers c known i (reaches_map (node_reads c nodes known e) l)
+  pub nodes_in : IsCircuit c → AreInRange nodes
+  nodes_in known j = All-from_get_or (λ i. i < length nodes) (feeders_of nodes j) 0 (λ i l.
+      let reads = node_reads known (get_or (feeders_of nodes j) i 0) j (record { at = i; below = l; is = refl }) in
+      let below = out_below c.instances (get_or (feeders_of nodes j) i 0) reads.net reads.drives in
+      omega (arith, below, long))
 
-pub nodes_in : (c : Circuit) (nodes : List Node) → IsCircuit c → map node_feeders nodes ≡ map (feeders_in c) (range_with_len 0 (length c.instances)) → AreInRange nodes
-nodes_in c nodes known e j =
-    let m = nodes_long nodes (feeders_in c) (length c.instances) e in
-    All-from_get_or (λ i. i < length nodes) (feeders_of nodes j) 0 (λ i l.
-    let p = node_reads c nodes known e (get_or (feeders_of nodes j) i 0) j (record { at = i; below = l; is = refl }) in
-    let b = out_below c.instances (get_or (feeders_of nodes j) i 0) p.net p.drives in
-    omega arith)
-
--- ---- what the search finds is an order
-
-in_order : (c : Circuit) (nodes : List Node) (order : List ℕ) →
-    IsCircuit c → map node_feeders nodes ≡ map (feeders_in c) (range_with_len 0 (length c.instances)) → IsSorted (feeders_of nodes)
-    (length nodes) order → (a b : ℕ) → a < length order → b < length order → ReadsAtOnce c (get_or order a 0) (get_or order b 0) → a < b
-in_order c nodes order known e s a b la lb r =
-    let g = reads_feeds c known (get_or order a 0) (get_or order b 0) r in
-    let q = node_is c nodes e (get_or order b 0) in
-    let f : Feeds (feeders_of nodes) (get_or order a 0) (get_or order b 0) = record { at = g.at; below = rw q g.below; is = rw q g.is } in
-    let p = s.placed.fed b (get_or order a 0) lb f in
-    let l = p.before in
-    let same = s.placed.once p.place a (omega arith) la p.is in
-    omega arith
-
-pub order_is : (c : Circuit) (nodes : List Node) (order : List ℕ) → IsCircuit c → map node_feeders nodes ≡ map (feeders_in c)
-    (range_with_len 0 (length c.instances)) → IsSorted (feeders_of nodes) (length nodes) order → IsEvaluationOrder c order
-order_is c nodes order known e s =
-    let m = nodes_long nodes (feeders_in c) (length c.instances) e in
-    record {
-      inside = subst (λ n. All (λ k. k < n) order) m s.inside;
-      whole = λ k l. let w = s.whole k (omega arith) in (w.place, w.before, get_or_default order w.place k 0 w.before ∙ w.is);
-      once = s.placed.once;
-      after = in_order c nodes order known e s;
-    }
+  pub order_is : (order : List ℕ) → IsCircuit c → IsSorted (feeders_of nodes) (length nodes) order → IsEvaluationOrder c order
+  order_is order known s = order_by c order known (sorted_as (feeders_of nodes) (feeders_in c) (length nodes) (length c.instances) order node_is long s)

@@ -35,7 +35,7 @@ apart_at (x ∷ xs) d zero (suc j) before below = at_each xs d.0 j (omega arith)
 apart_at (x ∷ xs) d (suc i) (suc j) before below = apart_at xs d.1 i j (omega arith) (omega arith)
 
 -- a net has one place
-one_place : (c : Circuit) → IsCircuit c → (i j : ℕ) → i < j → j < length c.order → get_or c.order i 0 ≢ get_or c.order j 0
+pub one_place : (c : Circuit) → IsCircuit c → (i j : ℕ) → i < j → j < length c.order → get_or c.order i 0 ≢ get_or c.order j 0
 one_place c known i j before below same =
     let distinct = IsDistinct-IsPermutation eqb same_either_way (range_with_len 0 (length (net_names c.nets))) c.order known.by_name.each
     (range_distinct (length (net_names c.nets))) in
@@ -54,18 +54,22 @@ same_place c known i j n first second =
     ]
 
 -- each place has a net
-pub net_inside : (c : Circuit) → IsCircuit c → (place n : ℕ) → slice_get c.order place ≡ Some n → n < length c.nets
-net_inside c known place n has =
+pub net_below : (c : Circuit) → IsCircuit c → (place : ℕ) → place < length c.order → get_or c.order place 0 < length c.nets
+net_below c known place below =
     let count = length (net_names c.nets) in
     let long : count ≡ length c.nets = length-map c.nets net_name in
     let all = All-permutation (λ (n : ℕ). n < count) (range_with_len 0 count) c.order known.by_name.each (range_inside count) in
-    let here : get_or c.order place 0 < count = all place 0 (slice_get_within c.order place n has) in
-    let is = get_or_from_slice_get c.order place n 0 has in omega arith
+    let here : get_or c.order place 0 < count = all place 0 below in omega arith
   where
     range_inside : (n : ℕ) → All (λ (k : ℕ). k < n) (range_with_len 0 n)
     range_inside n k d inside =
         let long = length-range_with_len 0 n in
         let is = get_or-range_with_len 0 n k d (omega arith) in omega arith
+
+pub net_inside : (c : Circuit) → IsCircuit c → (place n : ℕ) → slice_get c.order place ≡ Some n → n < length c.nets
+net_inside c known place n has =
+    let below = net_below c known place (slice_get_within c.order place n has) in
+    let is = get_or_from_slice_get c.order place n 0 has in omega (arith, below, is)
 
 -- and each net a place
 pub record HasPlace (order : List ℕ) (n : ℕ) : Type 0 where

@@ -2,6 +2,5 @@ pub mod Choice
 pub mod Simulated
 pub mod Laws
 pub mod Order
-pub mod Search
 pub mod Making
 pub mod Failure

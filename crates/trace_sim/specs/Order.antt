@@ -7,7 +7,6 @@ use Rattle.flat_circuit.specs.declared.instance.Pin.{Pin}
 use Rattle.flat_circuit.specs.declared.net.Net.{Net}
 use Rattle.flat_circuit.specs.Instances.{out_at, pins_at, least_delay_at}
 use Rattle.flat_circuit.specs.Circuit.{Circuit, wire_at, driver_at}
-use Rattle.trace_sim.specs.declared.search.Node.{Node}
 
 -- Instance k may read at once what d drives: k may have no delay, nor need the wire have one.
 -- Nothing is asked of d's own delay: whatever it is, d's bit at a tick has to be made before k reads
@@ -50,6 +49,3 @@ feeders_in c k =
     if is_some (out_at c.instances k) && least_delay_at c.instances k == 0
     then at_once_list c.nets (pins_at c.instances k)
     else []
-
-abbrev pub node_feeders : Node → List ℕ
-node_feeders n = n.feeders.items

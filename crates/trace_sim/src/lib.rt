@@ -20,7 +20,6 @@ mod levels;
 mod making;
 mod order;
 mod rows;
-mod search;
 
 pub use choice::{Choice, DelayPicks, Levels, Traces, WirePicks};
 pub use failure::first_failure;

@@ -2,10 +2,11 @@
 
 ghost use Rattle.std.specs.Prelude.{◌≡◌, ◌<◌, ◌++◌, length, map, option_to_list, IfOk, OnOk};
 ghost use Rattle.std.specs.List.{range_with_len};
-ghost use Rattle.trace_sim.specs.Order.{IsEvaluationOrder, feeders_in, at_once_driver, at_once_list, node_feeders};
+ghost use Rattle.node_order.specs.Node.{node_feeders};
+ghost use Rattle.trace_sim.specs.Order.{IsEvaluationOrder, feeders_in, at_once_driver, at_once_list};
 
-use crate::search::{Node, sorted};
 use flat_circuit::{Circuit, Pin, Target};
+use node_order::{Node, sorted};
 use scald_base::NoMemory;
 use std::alloc::Global;
 
