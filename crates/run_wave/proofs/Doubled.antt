@@ -1,12 +1,12 @@
 -- A fold over more slots from one over fewer: joined with itself some slots later.
 use Rattle.std.proofs.Common.{◌≡◌, ℕ, zero, suc, ◌+◌, ◌-◌, ◌<◌, ◌≤◌, ◌⊎◌, inl, inr, List, ◌∷◌, length, get_or, map, refl, sym, ap, ◌∙◌, arith}
-use Rattle.std.specs.List.{AllZip, zip}
+use Rattle.std.specs.List.{zip}
 use Rattle.std.proofs.lemmas.Bool.{cases_lt}
 use Rattle.scald_base.specs.Clock.{back}
 use Rattle.scald_base.proofs.Back.{back_back}
 use Rattle.wave_core.specs.Cell.{Cells, IsLawful}
 use Rattle.wave_core.specs.Slots.{slots_from, slots, earlier, later, join_to, fold_at, folded}
-use Rattle.wave_core.proofs.Slots.{length_slots, earlier_slots, mapped}
+use Rattle.wave_core.proofs.Slots.{length_slots, earlier_slots}
 use Rattle.wave_core.proofs.Fold.{join_to_same}
 
 slots_from_same : {T : Type 0} (n i : ℕ) (f h : ℕ → T) → ((p : ℕ) → f p ≡ h p) → slots_from n i f ≡ slots_from n i h
@@ -90,10 +90,7 @@ module _ {T : Type 0} (k : Cells T) (laws : IsLawful k) where
       (λ p. overlap (λ o. earlier k cells p o) n s t meet e)
 
   -- a step of the loop
-  pub doubled_step : (R : T × T → T → Type 0) (xs wave before next : List T) (n s t : ℕ) → ((q : T × T) (c : T) → R q c → c ≡ k.join q.0 q.1) →
-      0 < length xs → s ≤ n + 1 → t ≡ n + s → wave ≡ folded k xs n → before ≡ later k wave s → AllZip R (zip wave before) next → next ≡ folded k xs t
-  doubled_step R xs wave before next n s t is some meet e so_far turned made =
-      let again : before ≡ later k (folded k xs n) s = turned ∙ ap (λ (l : List T). later k l s) so_far in
-      mapped R (λ (q : T × T). k.join q.0 q.1) (zip wave before) next is made
-      ∙ (λ i. map (λ (q : T × T). k.join q.0 q.1) (zip (so_far i) (again i)))
-      ∙ doubled xs n s t some meet e
+  pub doubled_step : (xs wave next : List T) (n s t : ℕ) → 0 < length xs → s ≤ n + 1 → t ≡ n + s → wave ≡ folded k xs n →
+      next ≡ map (λ (q : T × T). k.join q.0 q.1) (zip wave (later k wave s)) → next ≡ folded k xs t
+  doubled_step xs wave next n s t some meet e so_far made =
+      made ∙ ap (λ (l : List T). map (λ (q : T × T). k.join q.0 q.1) (zip l (later k l s))) so_far ∙ doubled xs n s t some meet e

@@ -4,5 +4,6 @@ mod Unique
 mod Turned
 mod Marks
 mod Zipped
+mod Joined
 mod Doubled
 mod Examples

@@ -3,7 +3,7 @@ use Rattle.std.proofs.Common.{◌≡◌, ℕ, zero, suc, ◌+◌, ◌-◌, ◌<�
 use Rattle.std.specs.Prelude.{replicate}
 use Rattle.std.specs.List.{sum_by}
 use Rattle.std.proofs.lemmas.List.Sums.{sum_by-cons}
-use Rattle.std.proofs.lemmas.List.{append_assoc, replicate-append-replicate, length-replicate, length-append, take_more, drop_more, take-append-drop, length-take, length-drop, drop-replicate, append-nil}
+use Rattle.std.proofs.lemmas.List.{append_assoc, replicate-append-replicate, length-replicate, length-append, take_more, drop_more, take-append-drop, length-take, length-drop, drop-replicate, drop_all, append-nil}
 use Rattle.run_wave.specs.declared.run.Run.{Run}
 use Rattle.run_wave.specs.Run.{cells_of, BeginsWithout, IsRuns, EndsWith}
 
@@ -131,6 +131,28 @@ module _ {T : Type 0} where
   take_replicate_min (suc n) zero c = let e : 0 ≡ min (suc n) 0 = omega arith in ap (λ (m : ℕ). replicate m c) e
   take_replicate_min (suc n) (suc w) c =
       ap (λ (l : List T). c ∷ l) (take_replicate_min n w c) ∙ (let e : suc (min n w) ≡ min (suc n) (suc w) = omega arith in ap (λ (m : ℕ). replicate m c) e)
+
+  drop_run : (n w : ℕ) (c : T) (xs : List T) → n ≤ w → drop n (replicate w c ++ xs) ≡ replicate (w - n) c ++ xs
+  drop_run zero w c xs within = let e : w ≡ w - 0 = omega arith in ap (λ (m : ℕ). replicate m c ++ xs) e
+  drop_run (suc n) zero c xs within = absurd (omega (arith, within))
+  drop_run (suc n) (suc w) c xs within =
+      let e : w - n ≡ suc w - suc n = omega arith in
+      drop_run n w c xs (omega (arith, within)) ∙ ap (λ (m : ℕ). replicate m c ++ xs) e
+
+  -- the slots from one in run i on: what is left of the run, and the runs after it
+  pub from_run : (rs : List (Run T)) (i slot end : ℕ) (r : Run T) → i < length rs → r ≡ get_or rs i r → length (cells_of (take i rs)) ≤ slot →
+      slot < end → end ≡ length (cells_of (take (i + 1) rs)) →
+      replicate (end - slot) r.cell ++ cells_of (drop (i + 1) rs) ≡ drop slot (cells_of rs)
+  from_run rs i slot end r below is begun behind last =
+      let more = length_cells_of_more rs i r below is in
+      let left : r.width - (slot - length (cells_of (take i rs))) ≡ end - slot = omega (arith, more, begun, behind, last) in
+      sym
+      (ap (drop slot) (cells_of_parts rs i)
+      ∙ drop_append slot (cells_of (take i rs)) (cells_of (drop i rs))
+      ∙ ap (λ (l : List T). l ++ drop (slot - length (cells_of (take i rs))) (cells_of (drop i rs))) (drop_all slot (cells_of (take i rs)) begun)
+      ∙ ap (drop (slot - length (cells_of (take i rs)))) (cells_of_ahead rs i r below is)
+      ∙ drop_run (slot - length (cells_of (take i rs))) r.width r.cell (cells_of (drop (i + 1) rs)) (omega (arith, more, begun, behind, last))
+      ∙ ap (λ (m : ℕ). replicate m r.cell ++ cells_of (drop (i + 1) rs)) left)
 
   -- the slots from `start` on, with one run more
   pub dropped_more : (rs : List (Run T)) (i start left : ℕ) (r : Run T) → i < length rs → r ≡ get_or rs i r →

@@ -7,7 +7,6 @@ use Rattle.std.proofs.Math.Nat.{add-mul-mod_self_right, mod-eq_of_lt}
 use Rattle.scald_base.proofs.Back.{back_sub, back_zero}
 use Rattle.wave_core.specs.Cell.{Cells}
 use Rattle.wave_core.specs.Slots.{slots_from, slots, earlier, later, fold_at, folded}
-use Rattle.wave_core.proofs.Slots.{length_slots}
 
 module _ {T : Type 0} where
   is_slots_from : (n i : ℕ) (f : ℕ → T) (xs : List T) (d : T) → length xs ≡ n → ((j : ℕ) → j < n → get_or xs j d ≡ f (i + j)) → xs ≡ slots_from n i f
@@ -95,9 +94,6 @@ module _ {T : Type 0} where
   turned_cells k xs none front whole period by e some empty e' e'' =
       e'' ∙ ap (λ (l : List T). l ++ take (period - by % period) xs) (e' ∙ ap (λ (l : List T). l ++ drop (period - by % period) xs) empty)
       ∙ turned k xs period by e some
-
-  pub length_later : (k : Cells T) (xs : List T) (by : ℕ) → length (later k xs by) ≡ length xs
-  length_later k xs by = length_slots (length xs) (λ p. earlier k xs p by)
 
   -- a fold over no slots before
   pub folded_none : (k : Cells T) (xs : List T) → 0 < length xs → xs ≡ folded k xs 0

@@ -1,6 +1,8 @@
-use Rattle.std.proofs.Common.{rules, arith, ◌≡◌, ◌≤◌, ◌<◌, ◌+◌, ◌-◌, length, min, refl, sym, ap, ◌∙◌}
+use Rattle.std.proofs.Common.{arith, ◌≡◌, ◌≤◌, ◌<◌, ◌+◌, ◌-◌, length, min, refl, ap, ◌∙◌}
+use Rattle.wave_core.proofs.Slots.{length_slots}
+use Rattle.wave_core.specs.Slots.{fold_at}
 use Rattle.run_wave.specs.Run.{cells_of}
-use Rattle.run_wave.proofs.Turned.{length_later, folded_none}
+use Rattle.run_wave.proofs.Turned.{folded_none}
 use Rattle.run_wave.proofs.Doubled.{doubled_step}
 use Rattle.run_wave.proofs.run_wave.RunWaveCyclicWave.fold.Goals as goal
 
@@ -12,9 +14,14 @@ loop-reach-init g c =
       within = omega arith;
     }
 
-pub zip-requires-clause-periods : goal.zip-requires-clause-periods
-zip-requires-clause-periods g c =
-    sym (ap length c.in_ok-before.ensures ∙ length_later g.T.Cell.kind (cells_of c.loop-reach.wave.list.runs.items) c.min-by.result)
+pub joined_later-requires-clause-below : goal.joined_later-requires-clause-below
+joined_later-requires-clause-below g c =
+    let xs = cells_of c.args.self.now.list.runs.items in
+    let by : c.min-by.result ≡ min (c.loop-reach.reach + 1) (c.args.back - c.loop-reach.reach) = grind arith in
+    let long : length (cells_of c.loop-reach.wave.list.runs.items) ≡ length xs =
+    ap length c.loop-reach.invariant.so_far ∙ length_slots (length xs) (fold_at g.T.Cell.kind xs c.loop-reach.reach) in
+    let counted = c.loop-reach.wave.list.counted in
+    omega (arith, by, long, counted, c.requires)
 
 pub loop-reach-preserved : goal.loop-reach-preserved
 loop-reach-preserved g c =
@@ -23,9 +30,8 @@ loop-reach-preserved g c =
     let more : c.loop-reach.reach < c.args.back = omega arith in
     let within : c.loop-reach.reach + c.min-by.result ≤ c.args.back = omega (arith, by, more) in
     record {
-      so_far = doubled_step g.T.Cell.kind g.met.T.Cell.laws _ (cells_of c.args.self.now.list.runs.items) (cells_of c.loop-reach.wave.list.runs.items)
-          (cells_of c.in_ok-before.before.list.runs.items) (cells_of c.in_ok-wave-2.wave.list.runs.items) c.loop-reach.reach c.min-by.result
-          (c.loop-reach.reach + c.min-by.result) (λ q x h. search rules) (omega (arith, shortest)) (omega (arith, by)) refl
-          c.loop-reach.invariant.so_far c.in_ok-before.ensures c.in_ok-wave-2.ensures;
+      so_far = doubled_step g.T.Cell.kind g.met.T.Cell.laws (cells_of c.args.self.now.list.runs.items) (cells_of c.loop-reach.wave.list.runs.items)
+          (cells_of c.in_ok-wave-2.wave.list.runs.items) c.loop-reach.reach c.min-by.result (c.loop-reach.reach + c.min-by.result)
+          (omega (arith, shortest)) (omega (arith, by)) refl c.loop-reach.invariant.so_far c.in_ok-wave-2.ensures;
       within = within;
     }
