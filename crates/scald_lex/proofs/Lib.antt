@@ -6,6 +6,7 @@ pub mod Cuts
 pub mod Unique
 pub mod Whole
 pub mod Spelt
+pub mod Coded
 pub mod Stands
 pub mod Longest
 pub mod Placed

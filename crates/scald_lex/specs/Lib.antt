@@ -1,6 +1,7 @@
 pub mod Bytes
 pub mod Place
 pub mod Piece
+pub mod Packed
 pub mod Tokens
 pub mod Scan
 pub mod Laws

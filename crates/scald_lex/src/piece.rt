@@ -10,7 +10,7 @@ use crate::bytes;
 use crate::token::TokenKind;
 
 /// The greatest number that a token may stand for.
-const GREATEST_NUMBER: u64 = 9223372036854775807;
+pub const GREATEST_NUMBER: u64 = 9223372036854775807;
 
 /// The most bytes of a word.
 const LONGEST_WORD: usize = 64;

@@ -5,20 +5,41 @@ ghost use Rattle.scald_base.specs.declared.refusal.Stop.TheVariants.{NoMemory as
 ghost use Rattle.scald_base.specs.declared.refusal.Refusal.{Refusal};
 ghost use Rattle.scald_lex.specs.declared.token.Token.{Token};
 ghost use Rattle.scald_lex.specs.declared.token.TokenKind.TheVariants.{End};
+ghost use Rattle.scald_lex.specs.Packed.{HasCode};
 ghost use Rattle.scald_lex.specs.Place.{first_place, next_place, place_behind, IsPlacedStop};
 ghost use Rattle.scald_lex.specs.Tokens.{IsAllowed, IsBadByte, AreTokens, IsRefused};
 ghost use Rattle.scald_lex.specs.Scan.{IsRead, IsStop, GivesList, GivesRefusal};
 
 use crate::bytes;
+use crate::packed::{PackedList, PackedToken, unpacked};
 use crate::piece::{Piece, front};
 use crate::token::{Token, TokenKind, TokenList};
 use scald_base::{NoMemory, Place, RefusalKind, Stop};
 use std::alloc::Global;
 
+/// The tokens of the text as `packed_tokens` gives them, each with its kind. It takes memory for both lists.
+pub fn tokens(alloc: Global, text: &[u8]) -> Result<TokenList, Stop>
+    requires { length text.now < 2 ^ 32 - 1 }
+    ensures found { IfOk result (λ list. AreTokens text.now list) }
+    ensures refused { IfErr result (λ stop. IsStop text.now stop) }
+    ensures placed { IfErr result (λ stop. IsPlacedStop text.now stop) }
+    ensures only_list { (list : List Token) → AreTokens text.now list → GivesList list result }
+    ensures only_refusal { (r : Refusal) → IsRefused text.now r → GivesRefusal r result }
+{
+    let packed = match packed_tokens(alloc, text) {
+        Ok(packed) => packed,
+        Err(stop) => return Err(stop),
+    };
+    match unpacked(alloc, packed.as_slice()) {
+        Ok(list) => Ok(list),
+        Err(NoMemory) => Err(Stop::NoMemory),
+    }
+}
+
 /// The tokens of the text, the last of which is its end. Refused are, with their places, `BadByte` before
 /// any token is looked at, and `BadToken` where no token begins, or one that is too long, too large or not
 /// closed. A refusal has the place of a byte of the text. It takes memory for the list alone.
-pub fn tokens(alloc: Global, text: &[u8]) -> Result<TokenList, Stop>
+pub fn packed_tokens(alloc: Global, text: &[u8]) -> Result<PackedList, Stop>
     requires { length text.now < 2 ^ 32 - 1 }
     ensures found { IfOk result (λ list. AreTokens text.now list) }
     ensures refused { IfErr result (λ stop. IsStop text.now stop) }
@@ -30,7 +51,7 @@ pub fn tokens(alloc: Global, text: &[u8]) -> Result<TokenList, Stop>
 }
 
 /// The tokens, or the refusal. That there are no others is a law of the text.
-fn read(alloc: Global, text: &[u8]) -> Result<TokenList, Stop>
+fn read(alloc: Global, text: &[u8]) -> Result<PackedList, Stop>
     requires { length text.now < 2 ^ 32 - 1 }
     ensures found { IfOk result (λ list. AreTokens text.now list) }
     ensures refused { IfErr result (λ stop. IsStop text.now stop) }
@@ -110,7 +131,7 @@ fn behind_byte(place: Place, byte: u8) -> Place
 struct Scan {
     at: usize,
     place: Place,
-    list: TokenList,
+    list: PackedList,
 }
 
 impl Scan {
@@ -120,7 +141,7 @@ impl Scan {
         Scan {
             at: 0,
             place: Place { line: 1, col: 1 },
-            list: TokenList::new(alloc),
+            list: PackedList::new(alloc),
         }
     }
 
@@ -192,7 +213,8 @@ impl Scan {
 
     /// Lists the token of this kind that stands here.
     fn push(&mut self, kind: TokenKind, count: usize) -> Result<(), NoMemory>
-        requires { self.old.at + count < 2 ^ 32 }
+        requires fits { self.old.at + count < 2 ^ 32 }
+        requires coded { HasCode kind }
         ensures { OnOk result (self.new ≡ record {
           at = self.old.at;
           place = self.old.place;
@@ -204,16 +226,16 @@ impl Scan {
           } ∷ [];
         }) }
     {
-        self.list.push(Token {
+        self.list.push(PackedToken::new(Token {
             kind,
             place: self.place,
             start: self.at as u32,
             end: (self.at + count) as u32,
-        })
+        }))
     }
 
     /// The whole list, with the end.
-    fn finish(mut self) -> Result<TokenList, Stop>
+    fn finish(mut self) -> Result<PackedList, Stop>
         requires { self.at < 2 ^ 32 }
         ensures found { IfOk result (λ list.
             list ≡ self.list ++ record { kind = End; place = self.place; start = self.at; end = self.at } ∷ []) }

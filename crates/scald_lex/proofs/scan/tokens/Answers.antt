@@ -1,12 +1,6 @@
-use Rattle.scald_lex.proofs.Placed.{stop_is_placed}
-use Rattle.scald_lex.proofs.Unique.{only_list, only_refusal}
+use Rattle.std.proofs.Common.{◌∙◌}
 use Rattle.scald_lex.proofs.scan.tokens.Goals as goal
 
-pub returns-clause-placed : goal.returns-clause-placed
-returns-clause-placed c = stop_is_placed c.args.text.now c.read.result c.read.ensures.refused
-
-pub returns-clause-only_list : goal.returns-clause-only_list
-returns-clause-only_list c = only_list c.args.text.now c.read.result c.read.ensures.found c.read.ensures.refused
-
-pub returns-clause-only_refusal : goal.returns-clause-only_refusal
-returns-clause-only_refusal c = only_refusal c.args.text.now c.read.result c.read.ensures.found c.read.ensures.refused
+pub returns-in-Ok-unpacked-clause-only_list : goal.returns-in-Ok-unpacked-clause-only_list
+returns-in-Ok-unpacked-clause-only_list c list are =
+    c.in-Ok-unpacked.ensures ∙ c.as_slice.ensures ∙ c.in-Ok.ensures.only_list list are

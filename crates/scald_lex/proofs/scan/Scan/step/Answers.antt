@@ -3,6 +3,8 @@ use Rattle.std.proofs.lemmas.List.{append-nil}
 use Rattle.scald_lex.specs.declared.piece.Piece.TheVariants.{Space, LineEnd, Comment, Lexeme}
 use Rattle.scald_lex.specs.Scan.{IsStop}
 use Rattle.scald_lex.proofs.Pieces.{advances}
+use Rattle.scald_lex.proofs.Spelt.{spelt}
+use Rattle.scald_lex.proofs.Coded.{has_code}
 use Rattle.scald_lex.proofs.Cuts.{on_line_fits, line_fits, takes_on_line, takes_line_end, stands_here, none_here, refused_here, listed}
 use Rattle.scald_lex.proofs.scan.Scan.step.Goals as goal
 
@@ -33,8 +35,15 @@ move_on-requires-in-Comment-clause-col c =
     let stands = stands_here c.args.text.now s.at c.front.result c.in-Some.piece (Comment c.in-Comment.count) c.front.ensures c.in-Some.is c.in-Comment.is in
     (on_line_fits c.args.text.now s c.in-Comment.count c.requires.read c.requires.short (advances _ (Comment c.in-Comment.count) stands)).1
 
-pub push-requires : goal.push-requires
-push-requires c =
+pub push-requires-clause-coded : goal.push-requires-clause-coded
+push-requires-clause-coded c =
+    let s = c.args.self.now in
+    let piece = Lexeme c.in-Lexeme.kind c.in-Lexeme.count in
+    has_code c.in-Lexeme.kind _ (spelt _ piece
+    (stands_here c.args.text.now s.at c.front.result c.in-Some.piece piece c.front.ensures c.in-Some.is c.in-Lexeme.is))
+
+pub push-requires-clause-fits : goal.push-requires-clause-fits
+push-requires-clause-fits c =
     let s = c.args.self.now in
     let piece = Lexeme c.in-Lexeme.kind c.in-Lexeme.count in
     let stands = stands_here c.args.text.now s.at c.front.result c.in-Some.piece piece c.front.ensures c.in-Some.is c.in-Lexeme.is in
