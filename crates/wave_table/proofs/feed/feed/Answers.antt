@@ -7,13 +7,13 @@ pub runs-preserved : goal.runs-preserved
 runs-preserved g c =
     let cells = g.W.CyclicWave.cells c.args.wave.now in
     let all = fold g.H.Hasher.write c.args.state.now (cells_fed cells) in
-    let until = c.same_until-end.ensures in
+    let until = c.run_at-cell.ensures.end in
     let long : c.period-period.result ≡ length cells = c.period-period.ensures in
-    let left : c.period-period.result - c.same_until-end.result ≡ length cells - c.same_until-end.result = ap (λ n. n - c.same_until-end.result) long in
+    let left : c.period-period.result - c.run_at-cell.result.1 ≡ length cells - c.run_at-cell.result.1 = ap (λ n. n - c.run_at-cell.result.1) long in
     record {
       within = until.within;
-      fed = feeds_more g.H.Hasher.write cells c.runs.slot c.same_until-end.result c.at.result c.from.result c.from-in-runs.result
-          c.runs.state c.write_u32.new.self all until c.at.ensures (c.from.ensures ∙ c.letter-letter.ensures) (c.from-in-runs.ensures ∙ left)
+      fed = feeds_more g.H.Hasher.write cells c.runs.slot c.run_at-cell.result.1 c.run_at-cell.result.0 c.from.result c.from-in-runs.result
+          c.runs.state c.write_u32.new.self all until c.run_at-cell.ensures.cell (c.from.ensures ∙ c.letter.ensures) (c.from-in-runs.ensures ∙ left)
           c.runs.invariant.fed c.write_u32.ensures;
     }
 
