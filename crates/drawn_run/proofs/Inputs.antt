@@ -12,12 +12,13 @@ use Rattle.flat_circuit.specs.Circuit.{Circuit, IsCircuit}
 use Rattle.class_table.specs.Alike.{value_in}
 use Rattle.trace_sim.specs.Choice.{Bits}
 use Rattle.trace_sim.specs.Simulated.{bit_of}
+use Rattle.trace_sim.proofs.Places.{has_place}
 use Rattle.drawn_run.specs.Draw.{draw_each, seeded}
 use Rattle.drawn_run.specs.Drawn.{draw_offset, draw_pick, draw_run}
 use Rattle.drawn_run.specs.Input.{AreGiven, bits_in, given_at, given_in, given_row}
 use Rattle.drawn_run.specs.Laws.{CasesHold, InputsMeet, OneDrawn}
 use Rattle.drawn_run.proofs.Keeping.{IsShift, drawn_at, given_constant, keeps_given, offset_within, same_bits}
-use Rattle.drawn_run.proofs.Places.{has_place}
+use Rattle.drawn_run.proofs.Places.{row_of}
 
 -- ---- a net and its place
 
@@ -30,12 +31,12 @@ record Given (c : Circuit) (values : List CaseValue) (ticks : ℕ) (shifts : Lis
 given_of : (c : Circuit) (values : List CaseValue) (ticks : ℕ) (shifts : List ℕ) (free rows : Bits) → IsCircuit c →
     AreGiven c values ticks shifts free rows → (i : ℕ) → i < length c.nets → Given c values ticks shifts free rows i
 given_of c values ticks shifts free rows known given i below =
-    let place = has_place c known i below in
+    let at = has_place c known i below in
     record {
-      place = place.0;
-      inside = place.1;
-      here = place.2;
-      row = subst (λ (n : ℕ). slice_get rows n ≡ Some (given_row c values ticks shifts free place.0)) place.2 (given.are place.0 place.1);
+      place = at.place;
+      inside = slice_get_within c.order at.place i at.is;
+      here = get_or_from_slice_get c.order at.place i 0 at.is;
+      row = row_of c values ticks shifts free rows given i at;
     }
 
 -- what a net shows at a tick
@@ -95,10 +96,9 @@ one_given : (c : Circuit) (values : List CaseValue) (ticks : ℕ) (shifts : List
 one_given c values ticks shifts free rows others known given other =
     ext_get_or [] rows others (given.each ∙ sym other.each) (λ i below.
     let inside : i < length c.nets = (let long = given.each in omega arith) in
-    let place = has_place c known i inside in
+    let at = has_place c known i inside in
     let row = λ (bits : Bits) (are : AreGiven c values ticks shifts free bits).
-    get_or_from_slice_get bits i (given_row c values ticks shifts free place.0) []
-    (subst (λ (n : ℕ). slice_get bits n ≡ Some (given_row c values ticks shifts free place.0)) place.2 (are.are place.0 place.1)) in
+    get_or_from_slice_get bits i (given_row c values ticks shifts free at.place) [] (row_of c values ticks shifts free bits are i at) in
     row rows given ∙ sym (row others other))
 
 pub one_drawn : OneDrawn

@@ -4,7 +4,8 @@ use Rattle.std.proofs.lemmas.List.{length-set}
 use Rattle.flat_circuit.specs.Name.{net_at}
 use Rattle.flat_circuit.proofs.Numbered.{order_long}
 use Rattle.drawn_run.specs.Input.{given_row}
-use Rattle.drawn_run.proofs.Places.{net_inside, rows_more}
+use Rattle.trace_sim.proofs.Places.{net_below}
+use Rattle.drawn_run.proofs.Places.{rows_more}
 use Rattle.drawn_run.proofs.seed.given.Goals as goal
 
 pub row_at-requires : goal.row_at-requires
@@ -18,7 +19,7 @@ set-requires c =
     let circuit = c.args.c.now in
     let long = order_long circuit.nets circuit.order c.known.ensures.by_name in
     let below : c.loop-place.place < length circuit.order = omega (arith, long, c.loop-place-test.true, c.net_count-place-end.ensures) in
-    let inside = net_inside circuit c.known.ensures c.loop-place.place below in
+    let inside = net_below circuit c.known.ensures c.loop-place.place below in
     subst (λ n. n < length c.loop-place.rows) (sym c.net_at.ensures)
     (subst (λ n. get_or circuit.order c.loop-place.place 0 < n) (sym c.loop-place.invariant.each) inside)
 
