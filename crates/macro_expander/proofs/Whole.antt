@@ -24,7 +24,7 @@ use Rattle.macro_expander.specs.Flat.{flat, const_values, nothing_yet, deepest}
 use Rattle.macro_expander.specs.Library.{HoldsMacros, IsLibrary}
 use Rattle.macro_expander.specs.Numbered.{Failed, GivesDone, state_of, scope_of}
 use Rattle.macro_expander.specs.Statements.{statements_in}
-use Rattle.macro_expander.specs.Stands.{IsCircuitOf, IsStopOf}
+use Rattle.macro_expander.specs.Stands.{IsCircuitOf, IsExpansionOf, IsStopOf}
 
 -- ---- well formed drawings fit
 
@@ -65,8 +65,8 @@ well_formed_fits d w = record {
 
 -- ---- the end
 
-module _ (d : Drawing) (e : Expansion) (expanded : flat d ≡ Gives tt (state_of e)) where
-  pub circuit_is : (c : Circuit) → Finished e.builder c → IsCircuitOf d c
+module _ (d : Drawing) (e : Expansion) (expanded : IsExpansionOf d e) where
+  circuit_is : (c : Circuit) → Finished e.builder c → IsCircuitOf d c
   circuit_is c f = record {
     state = state_of e;
     expanded = expanded;
@@ -79,7 +79,7 @@ module _ (d : Drawing) (e : Expansion) (expanded : flat d ≡ Gives tt (state_of
     };
   }
 
-  pub rule_stops : IsBuilt e.builder → (stop : Stop) → IsRefusal e.builder stop → IsStopOf d stop
+  rule_stops : IsBuilt e.builder → (stop : Stop) → IsRefusal e.builder stop → IsStopOf d stop
   rule_stops built NoMemory h = tt
   rule_stops built (Refused r) h = inr (record {
     state = state_of e;
@@ -89,6 +89,11 @@ module _ (d : Drawing) (e : Expansion) (expanded : flat d ≡ Gives tt (state_of
     is_built = built;
     broken = h;
   })
+
+pub finished : (d : Drawing) (e : Expansion) → IsExpansionOf d e → IsBuilt e.builder → (r : Result Circuit Stop) →
+    MatchResult r (Finished e.builder) (IsRefusal e.builder) → MatchResult r (IsCircuitOf d) (IsStopOf d)
+finished d e is built (Ok c) h = circuit_is d e is c h
+finished d e is built (Err stop) h = rule_stops d e is built stop h
 
 pub expansion_stops : (d : Drawing) (stop : Stop) → Failed stop (flat d) → IsStopOf d stop
 expansion_stops d NoMemory h = tt
@@ -133,7 +138,5 @@ module _ (d : written_drawing.Drawing) (ticks : ℕ) (l : Library) (ticks_are : 
   pub body_stops : (stop : Stop) → Failed stop the_act → IsStopOf (drawing_of d) stop
   body_stops stop h = expansion_stops (drawing_of d) stop (subst (λ (o : Outcome (Unit {0})). Failed stop o) act_is h)
 
-  pub ends : (e : Expansion) → GivesDone begun e the_act → IsBuilt e.builder → (r : Result Circuit Stop) →
-      MatchResult r (Finished e.builder) (IsRefusal e.builder) → MatchResult r (IsCircuitOf (drawing_of d)) (IsStopOf (drawing_of d))
-  ends e g built (Ok c) h = circuit_is (drawing_of d) e (sym act_is ∙ g.is) c h
-  ends e g built (Err stop) h = rule_stops (drawing_of d) e (sym act_is ∙ g.is) built stop h
+  pub expansion_is : (e : Expansion) → GivesDone begun e the_act → IsExpansionOf (drawing_of d) e
+  expansion_is e g = sym act_is ∙ g.is

@@ -74,6 +74,10 @@ abbrev pub unless_many : Option CaseStmt → Result (List (List CaseBit)) Refusa
 unless_many (Some c) cases = Err (record { kind = TooMany; place = c.place })
 unless_many None cases = cases
 
+-- what these cases set in a drawing whose flat circuit is this
+abbrev pub listed_cases : State → List CaseStmt → Result (List (List CaseBit)) Refusal
+listed_cases s written = unless_many (slice_get written most_cases) (cases_behind s [] written)
+
 -- the cases of a drawing whose flat circuit is this
 unfoldable pub cases_of : State → Drawing → Result (List (List CaseBit)) Refusal
-cases_of s d = unless_many (slice_get d.cases most_cases) (cases_behind s [] d.cases)
+cases_of s d = listed_cases s d.cases

@@ -7,10 +7,11 @@ use Rattle.flat_circuit.specs.Name.{Name}
 use Rattle.flat_circuit.specs.Circuit.{Circuit, net_names}
 use Rattle.flat_circuit.specs.Builder.{Built, IsBuilt, IsRefusal, spec_of}
 use Rattle.drawing_tree.specs.Tree.{Drawing}
+use Rattle.macro_expander.specs.declared.expansion.Expansion.{Expansion}
 use Rattle.macro_expander.specs.Named.{State}
 use Rattle.macro_expander.specs.Outcome.{Gives, Fails}
 use Rattle.macro_expander.specs.Flat.{flat}
-use Rattle.macro_expander.specs.Numbered.{instance_of}
+use Rattle.macro_expander.specs.Numbered.{instance_of, state_of}
 
 -- The same header; exactly the same nets, each once, in the order of their first use; of each the assertion of its base
 -- name and the bounds of its wire; and the same instance and checker bits in the same order, each pin and output on the
@@ -28,6 +29,10 @@ pub record IsCircuitOf (d : Drawing) (c : Circuit) : Type 0 where
   pub state : State
   pub expanded : flat d ≡ Gives tt state
   pub stands : Stands state c
+
+-- All statements of the drawing are expanded so.
+abbrev pub IsExpansionOf : Drawing → Expansion → Type 0
+IsExpansionOf d e = flat d ≡ Gives tt (state_of e)
 
 -- a flat circuit with its nets by numbers
 pub record IsNumbered (s : State) (b : Built) : Type 0 where

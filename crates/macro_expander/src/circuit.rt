@@ -1,9 +1,9 @@
 //! The circuit of a drawing.
 
 ghost use Rattle.std.specs.Prelude.{MatchResult};
-ghost use Rattle.drawing_tree.specs.Tree.{drawing_of};
+ghost use Rattle.drawing_tree.specs.Tree.{Drawing as Drawn, drawing_of};
 ghost use Rattle.drawing_tree.specs.WellFormed.{IsWellFormed};
-ghost use Rattle.macro_expander.specs.Stands.{IsCircuitOf, IsStopOf};
+ghost use Rattle.macro_expander.specs.Stands.{IsCircuitOf, IsExpansionOf, IsStopOf};
 
 use crate::constants::{constants, copied_env};
 use crate::expansion::Expansion;
@@ -27,6 +27,18 @@ pub fn expand(alloc: Global, drawing: &Drawing) -> Result<Circuit, Stop>
     requires { IsWellFormed (drawing_of drawing.now) }
     ensures { MatchResult result (IsCircuitOf (drawing_of drawing.now)) (IsStopOf (drawing_of drawing.now)) }
 {
+    match expanded(alloc, drawing) {
+        Ok(expansion) => expansion.finish(),
+        Err(stop) => Err(stop),
+    }
+}
+
+/// The statements of a drawing, expanded as `expand` does, or their first refusal. Nothing of the
+/// drawing is needed after it: where memory counts, the drawing goes before `finish` is called.
+pub fn expanded(alloc: Global, drawing: &Drawing) -> Result<Expansion, Stop>
+    requires { IsWellFormed (drawing_of drawing.now) }
+    ensures { MatchResult result (IsExpansionOf (drawing_of drawing.now)) (IsStopOf (drawing_of drawing.now)) }
+{
     let consts = constants(alloc, &drawing.consts, &drawing.const_places)?;
     let top = Scope::top(alloc, copied_env(alloc, &consts)?);
     let period = drawing.header.period();
@@ -43,10 +55,20 @@ pub fn expand(alloc: Global, drawing: &Drawing) -> Result<Circuit, Stop>
         &top,
         DEEPEST,
     )?;
-    let Expansion {
-        builder,
-        statements: _,
-    } = expansion;
-    builder.known();
-    builder.finish()
+    Ok(expansion)
+}
+
+impl Expansion {
+    /// The circuit of the drawing that is expanded so, or the refusal of the first rule of circuits that
+    /// it breaks.
+    pub fn finish(self) -> Result<Circuit, Stop>
+        ensures { (d : Drawn) → IsExpansionOf d self → MatchResult result (IsCircuitOf d) (IsStopOf d) }
+    {
+        let Expansion {
+            builder,
+            statements: _,
+        } = self;
+        builder.known();
+        builder.finish()
+    }
 }

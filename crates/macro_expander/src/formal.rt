@@ -99,7 +99,9 @@ fn parameters_by(
     Ok(env)
 }
 
-fn parameters(
+/// The parameters of a macro with their values, where a use gives these: a default names constants
+/// alone. The first that has no value is refused at this place; `NoMemory` comes where memory runs out.
+pub fn parameters(
     alloc: Global,
     consts: &Env,
     given: &Env,

@@ -1,6 +1,6 @@
 //! What a use of a primitive says before its connections are looked at.
 
-ghost use Rattle.std.specs.Prelude.{◌≡◌, ◌≤◌, ◌+◌, ◌∷◌, [], map, is_some, option_map};
+ghost use Rattle.std.specs.Prelude.{◌≡◌, ◌≤◌, ◌+◌, ◌∷◌, [], map, is_some, option_map, Some};
 ghost use Rattle.std.specs.List.{list_any};
 ghost use Rattle.std.specs.Str.{bytes_eq};
 ghost use Rattle.element_kinds.specs.Kinds.{kind_of};
@@ -124,38 +124,43 @@ fn delay_within(longest: u16, min: i64, max: i64) -> Result<Delay, RefusalKind>
 }
 
 /// The bounds of the one delay of an element, or of a wire.
-pub(crate) fn delay_between(min: i64, max: i64) -> Result<Delay, RefusalKind>
+pub fn delay_between(min: i64, max: i64) -> Result<Delay, RefusalKind>
     ensures { result ≡ spec_delay_between min max }
 {
     delay_within(LONGEST_DELAY, min, max)
 }
 
-fn both_values(bounds: &(Expr, Expr), env: &Env) -> Result<(i64, i64), RefusalKind>
-    ensures { result ≡ spec_both_values env.now (both_of bounds.now) }
+/// The values of the two expressions of a delay.
+fn both_values(bounds: &(Expr, Expr), env: &Env) -> Result<Option<(i64, i64)>, RefusalKind>
+    ensures { result ≡ spec_written_delay env.now (Some (both_of bounds.now)) }
 {
     let min = value(&bounds.0, env)?;
     let max = value(&bounds.1, env)?;
-    Ok((min, max))
+    Ok(Some((min, max)))
 }
 
-fn written_delay(delay: &Option<(Expr, Expr)>, env: &Env) -> Result<Option<(i64, i64)>, RefusalKind>
+/// The values of the delay of a use, where one is written, or why one has none.
+pub fn written_delay(
+    delay: &Option<(Expr, Expr)>,
+    env: &Env,
+) -> Result<Option<(i64, i64)>, RefusalKind>
     ensures { result ≡ spec_written_delay env.now (option_map both_of delay.now) }
 {
     match delay {
         None => Ok(None),
-        Some(bounds) => Ok(Some(both_values(bounds, env)?)),
+        Some(bounds) => both_values(bounds, env),
     }
 }
 
 /// The fall delay of a use, which without a delay counts as not there.
-fn written_fall(statement: &UseStmt, env: &Env) -> Result<Option<(i64, i64)>, RefusalKind>
+pub fn written_fall(statement: &UseStmt, env: &Env) -> Result<Option<(i64, i64)>, RefusalKind>
     ensures { result ≡ spec_written_delay env.now (fall_of (use_of statement.now)) }
 {
     match statement.delay {
         None => Ok(None),
         Some(_) => match &statement.fall {
             None => Ok(None),
-            Some(bounds) => Ok(Some(both_values(bounds, env)?)),
+            Some(bounds) => both_values(bounds, env),
         },
     }
 }
@@ -169,8 +174,8 @@ fn split_of(rise: (i64, i64), fall: (i64, i64)) -> Result<Split, RefusalKind>
     Ok(Split { rise, fall })
 }
 
-/// The bounds of all delays, and the two delays where two are written.
-fn delays_of(
+/// The bounds of all delays, and the two delays where two are written, or why they are refused.
+pub fn delays_of(
     delay: Option<(i64, i64)>,
     fall: Option<(i64, i64)>,
 ) -> Result<(Delay, Option<Split>), RefusalKind>
@@ -232,7 +237,8 @@ fn limits_for(period: u16, check: Check, given: &Env) -> Result<(u16, u16), Refu
     }
 }
 
-fn limits_of(period: u16, kind: Kind, given: &Env) -> Result<(u16, u16), RefusalKind>
+/// The limits of a checker whose use gives these values, or why they are refused; another kind has none.
+pub fn limits_of(period: u16, kind: Kind, given: &Env) -> Result<(u16, u16), RefusalKind>
     ensures { result ≡ spec_limits_of period kind given.now }
 {
     match kind.check() {

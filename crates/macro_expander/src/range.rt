@@ -3,7 +3,7 @@
 ghost use Rattle.std.specs.Prelude.{◌≡◌, Ok};
 ghost use Rattle.std.specs.Option.{option_map};
 ghost use Rattle.scald_expr.specs.Expression.{expression_of};
-ghost use Rattle.drawing_tree.specs.Tree.{range_of};
+ghost use Rattle.drawing_tree.specs.Tree.{range_of, written_range_of};
 ghost use Rattle.macro_expander.specs.Terms.{valued, last_of, ends_of, written_ends as spec_written_ends, numbers_of, kind_of_fault as spec_kind};
 ghost use Rattle.macro_expander.specs.Steps.{JudgedAt};
 
@@ -62,7 +62,7 @@ fn ends(range: &RangeExpr, env: &Env) -> Result<(i64, i64), RefusalKind>
 
 /// The first and the last number of a range, where one is written, or why it is refused.
 pub fn written_ends(range: &WrittenRange, env: &Env) -> Result<Option<(i64, i64)>, RefusalKind>
-    ensures { result ≡ spec_written_ends env.now (option_map range_of range.now) }
+    ensures { result ≡ spec_written_ends env.now (written_range_of range.now) }
 {
     match range {
         None => Ok(None),

@@ -39,8 +39,8 @@ fn suffix(alloc: Global, around: &[u8], value: i64) -> Result<Bytes, NoMemory>
     Ok(suffix)
 }
 
-/// Puts copies of bindings after others.
-pub(crate) fn add_bindings(alloc: Global, env: &mut Env, more: &[Binding]) -> Result<(), NoMemory>
+/// Puts copies of bindings after others. `NoMemory` comes where memory runs out.
+pub fn add_bindings(alloc: Global, env: &mut Env, more: &[Binding]) -> Result<(), NoMemory>
     ensures { OnOk result (env.new ≡ env.old ++ more.now) }
 {
     for given in more {

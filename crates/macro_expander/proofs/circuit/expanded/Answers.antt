@@ -2,8 +2,8 @@ use Rattle.std.proofs.lemmas.Result.{err_from_is_err_and}
 use Rattle.std.proofs.Common.{◌∙◌}
 use Rattle.std.proofs.lemmas.List.{length-map}
 use Rattle.drawing_tree.specs.Tree.{assignment_of, drawing_of}
-use Rattle.macro_expander.proofs.Whole.{consts_stop, top_is, well_formed_fits, library_is, body_fits, body_stops, ends}
-use Rattle.macro_expander.proofs.circuit.expand.Goals as goal
+use Rattle.macro_expander.proofs.Whole.{consts_stop, top_is, well_formed_fits, library_is, body_fits, body_stops, expansion_is}
+use Rattle.macro_expander.proofs.circuit.expanded.Goals as goal
 
 pub body-requires-clause-library : goal.body-requires-clause-library
 body-requires-clause-library c =
@@ -34,6 +34,6 @@ returns-in_err-body c =
 
 pub returns : goal.returns
 returns c =
-    ends c.args.drawing.now c.period-period.result c.in_ok-library.library c.period-period.ensures.is c.in_ok-consts.consts c.in_ok-consts.ensures c.in_ok-library.ensures
-    c.new.result c.new.ensures c.top-top.result (top_is c.top-top.ensures c.in_ok-copied_env.ensures) c.deref.result.now c.deref.ensures.value
-    c.body.new.expansion c.in_ok-body.ensures c.known.ensures c.finish.result c.finish.ensures
+    expansion_is c.args.drawing.now c.period-period.result c.in_ok-library.library c.period-period.ensures.is c.in_ok-consts.consts c.in_ok-consts.ensures
+    c.in_ok-library.ensures c.new.result c.new.ensures c.top-top.result (top_is c.top-top.ensures c.in_ok-copied_env.ensures) c.deref.result.now c.deref.ensures.value
+    c.body.new.expansion c.in_ok-body.ensures
