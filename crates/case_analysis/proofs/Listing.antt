@@ -20,9 +20,8 @@ use Rattle.fixpoint_engine.specs.Settled.{marked_in}
 use Rattle.fixpoint_engine.proofs.Waiting.{unmarked, marked_set}
 use Rattle.drawing_tree.specs.declared.drawing.CaseEntry.{CaseEntry}
 use Rattle.drawing_tree.specs.declared.drawing.CaseStmt.{CaseStmt}
-use Rattle.drawing_tree.specs.Tree.{Drawing}
 use Rattle.macro_expander.specs.Named.{State}
-use Rattle.macro_expander.specs.Cases.{CaseBit, entry_bit, is_set as is_named, may_set, case_bits, cases_behind, most_cases, unless_many, cases_of}
+use Rattle.macro_expander.specs.Cases.{CaseBit, entry_bit, is_set as is_named, may_set, case_bits, cases_behind, most_cases, unless_many}
 use Rattle.macro_expander.specs.Stands.{Stands}
 use Rattle.case_analysis.specs.Case.{NetsExist, is_set}
 use Rattle.case_analysis.proofs.Entries.{none_past}
@@ -165,22 +164,19 @@ module _ (c : Circuit) (written rest later : List CaseStmt) (cases : List (List 
       refused : (r : Refusal) (s : State) → case_bits s [] w.entries ≡ Err r → cases_behind s (map (bits_of c.nets) cases) (w ∷ later) ≡ Err r
       refused r s h = rw h refl
 
-module _ (c : Circuit) (d : Drawing) where
-  pub too_many : (w : CaseStmt) → slice_get d.cases most_cases ≡ Some w → AreCasesStop c d (Refused (record { kind = TooMany; place = w.place }))
-  unfolding cases_of
-  too_many w at s stands = ap (λ (o : Option CaseStmt). unless_many o (cases_behind s [] d.cases)) at
+module _ (c : Circuit) (written : List CaseStmt) where
+  pub too_many : (w : CaseStmt) → slice_get written most_cases ≡ Some w → AreCasesStop c written (Refused (record { kind = TooMany; place = w.place }))
+  too_many w at s stands = ap (λ (o : Option CaseStmt). unless_many o (cases_behind s [] written)) at
 
-  pub first_wrong : (stop : Stop) → slice_get d.cases most_cases ≡ None → AreNoCases c d.cases stop → AreCasesStop c d stop
-  unfolding cases_of
+  pub first_wrong : (stop : Stop) → slice_get written most_cases ≡ None → AreNoCases c written stop → AreCasesStop c written stop
   first_wrong NoMemory few wrong = tt
-  first_wrong (Refused r) few wrong = λ s stands. ap (λ (o : Option CaseStmt). unless_many o (cases_behind s [] d.cases)) few ∙ wrong s stands
+  first_wrong (Refused r) few wrong = λ s stands. ap (λ (o : Option CaseStmt). unless_many o (cases_behind s [] written)) few ∙ wrong s stands
 
-  pub all_listed : (cases : List (List CaseValue)) → slice_get d.cases most_cases ≡ None → AreCases c d.cases cases → AreCasesOf c d cases
-  unfolding cases_of
-  all_listed cases few are s stands = ap (λ (o : Option CaseStmt). unless_many o (cases_behind s [] d.cases)) few ∙ are s stands
+  pub all_listed : (cases : List (List CaseValue)) → slice_get written most_cases ≡ None → AreCases c written cases → AreCasesOf c written cases
+  all_listed cases few are s stands = ap (λ (o : Option CaseStmt). unless_many o (cases_behind s [] written)) few ∙ are s stands
 
-  pub whole_answer : (answer : Result (List (List CaseValue)) Stop) → slice_get d.cases most_cases ≡ None →
-      MatchResult answer (AreCases c d.cases) (AreNoCases c d.cases) → MatchResult answer (AreCasesOf c d) (AreCasesStop c d)
+  pub whole_answer : (answer : Result (List (List CaseValue)) Stop) → slice_get written most_cases ≡ None →
+      MatchResult answer (AreCases c written) (AreNoCases c written) → MatchResult answer (AreCasesOf c written) (AreCasesStop c written)
   whole_answer (Ok cases) few is = all_listed cases few is
   whole_answer (Err stop) few is = first_wrong stop few is
 

@@ -11,9 +11,8 @@ use Rattle.flat_circuit.specs.Circuit.{Circuit, net_names}
 use Rattle.fixpoint_engine.specs.Settled.{marked_in}
 use Rattle.drawing_tree.specs.declared.drawing.CaseEntry.{CaseEntry}
 use Rattle.drawing_tree.specs.declared.drawing.CaseStmt.{CaseStmt}
-use Rattle.drawing_tree.specs.Tree.{Drawing}
 use Rattle.macro_expander.specs.Named.{State}
-use Rattle.macro_expander.specs.Cases.{CaseBit, entry_name, is_clock, is_set as is_named, may_set, case_bits, cases_behind, cases_of}
+use Rattle.macro_expander.specs.Cases.{CaseBit, entry_name, is_clock, is_set as is_named, may_set, case_bits, cases_behind, listed_cases}
 use Rattle.macro_expander.specs.Stands.{Stands}
 use Rattle.case_analysis.specs.Case.{NetsExist, is_set}
 
@@ -44,14 +43,14 @@ bit_of nets v = record { name = name_at (net_names nets) v.net; one = v.one }
 abbrev pub bits_of : List Net → List CaseValue → List CaseBit
 bits_of nets values = map (bit_of nets) values
 
--- Of whichever flat circuit this one stands for, these are the cases of the drawing.
-abbrev pub AreCasesOf : Circuit → Drawing → List (List CaseValue) → Type 0
-AreCasesOf c d cases = (s : State) → Stands s c → cases_of s d ≡ Ok (map (bits_of c.nets) cases)
+-- Of whichever flat circuit this one stands for, these are the cases that are written.
+abbrev pub AreCasesOf : Circuit → List CaseStmt → List (List CaseValue) → Type 0
+AreCasesOf c written cases = (s : State) → Stands s c → listed_cases s written ≡ Ok (map (bits_of c.nets) cases)
 
--- The drawing's cases are refused so.
-abbrev pub AreCasesStop : Circuit → Drawing → Stop → Type 0
-AreCasesStop c d NoMemory = Unit {0}
-AreCasesStop c d (Refused r) = (s : State) → Stands s c → cases_of s d ≡ Err r
+-- The cases that are written are refused so.
+abbrev pub AreCasesStop : Circuit → List CaseStmt → Stop → Type 0
+AreCasesStop c written NoMemory = Unit {0}
+AreCasesStop c written (Refused r) = (s : State) → Stands s c → listed_cases s written ≡ Err r
 
 -- the same of cases that are not too many
 abbrev pub AreCases : Circuit → List CaseStmt → List (List CaseValue) → Type 0

@@ -5,14 +5,13 @@ ghost use Rattle.std.specs.List.{All};
 ghost use Rattle.flat_circuit.specs.Name.{IsNumber};
 ghost use Rattle.flat_circuit.specs.Builder.{is_asserted};
 ghost use Rattle.flat_circuit.specs.Circuit.{net_names};
-ghost use Rattle.drawing_tree.specs.Tree.{drawing_of};
 ghost use Rattle.macro_expander.specs.Cases.{entry_name};
 ghost use Rattle.macro_expander.specs.Terms.{net_text};
 ghost use Rattle.case_analysis.specs.Listed.{AreCases, AreCasesOf, AreCasesStop, AreNoCases, IsCaseOf, IsCaseStop, IsJudged, IsListed, MaySet, is_free, may_set_at};
 
 use crate::parts::net_of;
 use assertion_syntax::SignalName;
-use drawing_tree::{CaseEntry, CaseStmt, Drawing};
+use drawing_tree::{CaseEntry, CaseStmt, CaseStmts};
 use fixpoint_engine::NetSet;
 use flat_circuit::{Case, CaseList, CaseValue, Circuit, Net};
 use scald_base::{AssertSpec, Bytes, List, NoMemory, RefusalKind, Stop};
@@ -157,18 +156,17 @@ fn cases_of(alloc: Global, c: &Circuit, written: &[CaseStmt]) -> Result<CaseList
     Ok(cases)
 }
 
-/// The cases of a drawing, whose circuit is given. The 257th case is refused, wherever it is, and then the
+/// The cases that a drawing lists, whose circuit is given. The 257th case is refused, wherever it is, and then the
 /// first entry that names a net with an assertion, or one that does not exist, is driven, is an asserted
 /// clock or was named before in the same case, or whose value is not 0 or 1; `NoMemory` comes where
 /// memory runs out.
-pub fn check_cases(alloc: Global, c: &Circuit, drawing: &Drawing) -> Result<CaseList, Stop>
-    ensures is { MatchResult result (AreCasesOf c.now (drawing_of drawing.now))
-        (AreCasesStop c.now (drawing_of drawing.now)) }
+pub fn check_cases(alloc: Global, c: &Circuit, written: &CaseStmts) -> Result<CaseList, Stop>
+    ensures is { MatchResult result (AreCasesOf c.now written.now) (AreCasesStop c.now written.now) }
     ensures listed { IfOk result (All (IsListed c.now)) }
     ensures few { IfOk result (λ cases. length cases ≤ 256) }
 {
-    match drawing.cases.get(MOST_CASES) {
+    match written.get(MOST_CASES) {
         Some(case) => Err(Stop::refused(RefusalKind::TooMany, case.place)),
-        None => cases_of(alloc, c, drawing.cases.as_slice()),
+        None => cases_of(alloc, c, written.as_slice()),
     }
 }

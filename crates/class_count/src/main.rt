@@ -13,7 +13,7 @@ use fixpoint_engine::{EngineEnd, Store};
 use flat_circuit::{CaseList, Circuit};
 use macro_expander::expand;
 use scald_base::{Bytes, NoMemory, ReadEnd, StdSource, Stop, read_all};
-use scald_lex::tokens;
+use scald_lex::packed_tokens;
 use std::alloc::Global;
 use std::io;
 use std::process::ExitCode;
@@ -119,7 +119,7 @@ fn count_of_text(alloc: Global, text: &[u8]) -> Result<Count, Stop> {
     if text.len() > MOST_BYTES as usize {
         return Err(Stop::NoMemory);
     }
-    let list = tokens(alloc, text)?;
+    let list = packed_tokens(alloc, text)?;
     let drawing = read_drawing(alloc, text, &list)?;
     let circuit = expand(alloc, &drawing)?;
     Ok(classified(alloc, &circuit)?)

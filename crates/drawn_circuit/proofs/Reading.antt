@@ -1,5 +1,5 @@
 -- What each step of the way from a text to its circuit gives, or is refused for.
-use Rattle.std.proofs.Common.{◌≡◌, ℕ, List, subst}
+use Rattle.std.proofs.Common.{◌≡◌, ℕ, List, Result, subst}
 use Rattle.std.specs.List.{All}
 use Rattle.std.proofs.lemmas.List.Elements.{All-weaker}
 use Rattle.scald_base.specs.declared.refusal.Refusal.{Refusal}
@@ -15,6 +15,8 @@ use Rattle.drawing_grammar.specs.CanonicalDraws.{TextDraws}
 use Rattle.drawing_grammar.specs.Refused.{IsRefusal, no_tokens, no_drawing}
 use Rattle.flat_circuit.specs.declared.case.CaseValue.{CaseValue}
 use Rattle.flat_circuit.specs.Circuit.{Circuit}
+use Rattle.macro_expander.specs.Named.{State}
+use Rattle.macro_expander.specs.Cases.{CaseBit, cases_of, listed_cases}
 use Rattle.macro_expander.specs.Stands.{IsStopOf}
 use Rattle.case_analysis.specs.Case.{NetsExist}
 use Rattle.case_analysis.specs.Listed.{AreCasesStop, IsListed}
@@ -49,11 +51,16 @@ pub expansion_refusal : (text : List ℕ) (d : Drawing) (stop : Stop) (r : Refus
     TextDraws text d → IsStopOf d stop → stop ≡ Refused r → IsTextRefused text r
 expansion_refusal text d stop r draws is e = unexpanded d draws (subst (IsStopOf d) e is)
 
+pub cases_are : (s : State) (d : Drawing) (r : Result (List (List CaseBit)) Refusal) →
+    listed_cases s d.cases ≡ r → cases_of s d ≡ r
+unfolding cases_of
+cases_are s d r is = is
+
 pub cases_refusal : (text : List ℕ) (d : Drawing) (c : Circuit) (draws : Draws text d c)
-    (stop : Stop) (r : Refusal) → AreCasesStop c d stop → stop ≡ Refused r → IsTextRefused text r
+    (stop : Stop) (r : Refusal) → AreCasesStop c d.cases stop → stop ≡ Refused r → IsTextRefused text r
 cases_refusal text d c draws stop r is e =
-    let told : AreCasesStop c d (Refused r) = subst (AreCasesStop c d) e is in
-    wrong_cases d c draws (told draws.circuit.state draws.circuit.stands)
+    let told : AreCasesStop c d.cases (Refused r) = subst (AreCasesStop c d.cases) e is in
+    wrong_cases d c draws (cases_are draws.circuit.state d _ (told draws.circuit.state draws.circuit.stands))
 
 -- the nets of the cases that are listed exist
 pub listed_exist : (c : Circuit) (cases : List (List CaseValue)) → All (IsListed c) cases →

@@ -12,11 +12,11 @@ ghost use Rattle.drawn_circuit.specs.Drawn.{DrawsAs, DrawsCircuit, IsTextRefused
 
 use case_analysis::check_cases;
 use drawing_reader::read_drawing;
-use drawing_tree::Drawing;
+use drawing_tree::{CaseStmts, Drawing};
 use flat_circuit::{CaseList, Circuit};
-use macro_expander::expand;
+use macro_expander::expanded;
 use scald_base::Stop;
-use scald_lex::tokens;
+use scald_lex::packed_tokens;
 use std::alloc::Global;
 
 /// The drawing that a text of fewer than 4,294,967,295 bytes draws; or `Refused`, where it draws none,
@@ -27,7 +27,7 @@ pub fn read_text(alloc: Global, text: &[u8]) -> Result<Drawing, Stop>
     ensures formed { IfOk result (λ drawing. IsWellFormed (drawing_of drawing)) }
     ensures refused { IfErr result (λ stop. (r : Refusal) → stop ≡ Stop.Refused r → IsRefusal text.now r) }
 {
-    let tokens = match tokens(alloc, text) {
+    let tokens = match packed_tokens(alloc, text) {
         Ok(tokens) => tokens,
         Err(stop) => return Err(stop),
     };
@@ -35,6 +35,24 @@ pub fn read_text(alloc: Global, text: &[u8]) -> Result<Drawing, Stop>
         Ok(drawing) => Ok(drawing),
         Err(stop) => Err(stop),
     }
+}
+
+/// The version of a drawing and its cases. All else of it goes, and the memory that it takes.
+fn version_and_cases(drawing: Drawing) -> (u8, CaseStmts)
+    ensures version { result.0 ≡ drawing.version }
+    ensures cases { result.1 ≡ drawing.cases }
+{
+    let Drawing {
+        version,
+        header: _,
+        consts: _,
+        const_places: _,
+        macros: _,
+        name: _,
+        body: _,
+        cases,
+    } = drawing;
+    (version, cases)
 }
 
 /// A circuit and the cases in which it is evaluated, and the version of the language that it is drawn in.
@@ -60,14 +78,20 @@ pub fn read_circuit(alloc: Global, text: &[u8]) -> Result<Drawn, Stop>
         Ok(drawing) => drawing,
         Err(stop) => return Err(stop),
     };
-    let circuit = match expand(alloc, &drawing) {
+    let expansion = match expanded(alloc, &drawing) {
+        Ok(expansion) => expansion,
+        Err(stop) => return Err(stop),
+    };
+    // The tree of a large drawing takes as much as its circuit: it goes before that is finished.
+    let (version, written) = version_and_cases(drawing);
+    let circuit = match expansion.finish() {
         Ok(circuit) => circuit,
         Err(stop) => return Err(stop),
     };
     circuit.known();
-    match check_cases(alloc, &circuit, &drawing) {
+    match check_cases(alloc, &circuit, &written) {
         Ok(cases) => Ok(Drawn {
-            version: drawing.version,
+            version,
             circuit,
             cases,
         }),

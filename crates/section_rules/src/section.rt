@@ -7,7 +7,7 @@ ghost use Rattle.section_rules.specs.Drawn.{DrawsSection, IsSectionRefused};
 
 use drawn_circuit::read_text;
 use flat_circuit::Circuit;
-use macro_expander::expand;
+use macro_expander::expanded;
 use scald_base::Stop;
 use std::alloc::Global;
 
@@ -36,7 +36,13 @@ pub fn read_section(alloc: Global, text: &[u8]) -> Result<Section, Stop>
     };
     let version = drawing.version;
     let has_case = !drawing.cases.is_empty();
-    let circuit = match expand(alloc, &drawing) {
+    let expansion = match expanded(alloc, &drawing) {
+        Ok(expansion) => expansion,
+        Err(stop) => return Err(stop),
+    };
+    // The tree goes before the circuit is finished.
+    drop(drawing);
+    let circuit = match expansion.finish() {
         Ok(circuit) => circuit,
         Err(stop) => return Err(stop),
     };

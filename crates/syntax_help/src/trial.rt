@@ -5,7 +5,7 @@ ghost use Rattle.syntax_help.specs.Trial.{IsRefusalOf, IsTrial, is_syntax_at, ne
 
 use drawing_reader::read_drawing;
 use scald_base::{Bytes, NoMemory, Place, Refusal, RefusalKind, Stop};
-use scald_lex::tokens;
+use scald_lex::packed_tokens;
 use std::alloc::Global;
 
 /// Why a text draws no drawing, or `None` where it draws one.
@@ -13,7 +13,7 @@ fn refusal_of(alloc: Global, text: &[u8]) -> Result<Option<Refusal>, NoMemory>
     requires { length text.now < 2 ^ 32 - 1 }
     ensures { IfOk result (IsRefusalOf text.now) }
 {
-    let list = match tokens(alloc, text) {
+    let list = match packed_tokens(alloc, text) {
         Ok(list) => list,
         Err(Stop::Refused(refusal)) => return Ok(Some(refusal)),
         Err(Stop::NoMemory) => return Err(NoMemory),

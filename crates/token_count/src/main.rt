@@ -4,7 +4,7 @@
 #![tactic(auto)]
 
 use scald_base::{Bytes, ReadEnd, StdSource, Stop, read_all};
-use scald_lex::tokens;
+use scald_lex::packed_tokens;
 use std::io;
 use std::process::ExitCode;
 
@@ -29,7 +29,7 @@ fn main(rt: HostRuntime) -> io::Result<ExitCode> {
     if text.len() > MOST_BYTES as usize {
         return Ok(ExitCode::from(5));
     }
-    match tokens(rt.alloc(), text.as_slice()) {
+    match packed_tokens(rt.alloc(), text.as_slice()) {
         Ok(list) => {
             let count = list.len();
             println!(rt; "{count} tokens")?;

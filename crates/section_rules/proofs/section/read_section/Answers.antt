@@ -7,7 +7,13 @@ use Rattle.section_rules.proofs.section.read_section.Goals as goal
 pub returns-in-Err-clause-refused : goal.returns-in-Err-clause-refused
 returns-in-Err-clause-refused c r e = undrawn (c.in-Err.ensures.refused r e)
 
-pub returns-in-Err-expand-clause-refused : goal.returns-in-Err-expand-clause-refused
-returns-in-Err-expand-clause-refused c r e =
+pub returns-in-Err-expanded-clause-refused : goal.returns-in-Err-expanded-clause-refused
+returns-in-Err-expanded-clause-refused c r e =
     let drawing = drawing_of c.in-Ok.drawing in
-    unexpanded drawing c.in-Ok.ensures.drawn (subst (IsStopOf drawing) e c.in-Err-expand.ensures)
+    unexpanded drawing c.in-Ok.ensures.drawn (subst (IsStopOf drawing) e c.in-Err-expanded.ensures)
+
+pub returns-in-Err-finish-clause-refused : goal.returns-in-Err-finish-clause-refused
+returns-in-Err-finish-clause-refused c r e =
+    let drawing = drawing_of c.in-Ok.drawing in
+    unexpanded drawing c.in-Ok.ensures.drawn
+    (subst (IsStopOf drawing) e (c.in-Err-finish.ensures drawing c.in-Ok-expanded.ensures))
