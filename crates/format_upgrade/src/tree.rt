@@ -50,7 +50,7 @@ impl<T: Tree> Tree for Option<T> {
 impl<T: Tree + Drop> Tree for Box<T> {
     ghost Shape = { T.Shape };
 
-    ghost shape = { λ b. T.shape b.inside };
+    ghost shape = { λ b. T.shape b.value };
 
     fn again(&self, alloc: Global) -> Result<Box<T>, NoMemory> {
         let same = T::again(self, alloc)?;
