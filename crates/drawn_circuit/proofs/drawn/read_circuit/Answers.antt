@@ -1,5 +1,6 @@
 use Rattle.std.proofs.Common.{sym}
 use Rattle.drawing_tree.specs.Tree.{drawing_of}
+use Rattle.macro_expander.specs.Stands.{IsCircuitOf}
 use Rattle.drawn_circuit.proofs.Reading.{text_refusal, expansion_refusal, cases_refusal, cases_are, listed_exist}
 use Rattle.drawn_circuit.proofs.drawn.read_circuit.Goals as goal
 
@@ -26,23 +27,25 @@ returns-clause-refused c r e =
 pub returns-in-Ok-check_cases-clause-drawn : goal.returns-in-Ok-check_cases-clause-drawn
 returns-in-Ok-check_cases-clause-drawn c =
     let d = drawing_of c.in-Ok.drawing in
-    let circuit = c.in-Ok-finish.ensures d c.in-Ok-expanded.ensures in
+    let circuit : IsCircuitOf d c.in-Ok-finish.circuit = c.in-Ok-finish.ensures d c.in-Ok-expanded.ensures in
+    let cases = rw c.version_and_cases.ensures.cases at c.in-Ok-check_cases.ensures.is in
     record {
       drawing = d;
       draws = record { drawn = c.in-Ok.ensures.drawn; circuit = circuit; is_circuit = c.known.ensures };
-      are = cases_are circuit.state d _ (rw c.version_and_cases.ensures.cases at c.in-Ok-check_cases.ensures.is circuit.state circuit.stands);
+      are = cases_are circuit.state d _ (cases circuit.state circuit.stands);
       listed = c.in-Ok-check_cases.ensures.listed;
     }
 
 pub returns-in-Ok-check_cases-clause-version : goal.returns-in-Ok-check_cases-clause-version
 returns-in-Ok-check_cases-clause-version c =
     let d = drawing_of c.in-Ok.drawing in
-    let circuit = c.in-Ok-finish.ensures d c.in-Ok-expanded.ensures in
+    let circuit : IsCircuitOf d c.in-Ok-finish.circuit = c.in-Ok-finish.ensures d c.in-Ok-expanded.ensures in
+    let cases = rw c.version_and_cases.ensures.cases at c.in-Ok-check_cases.ensures.is in
     record {
       draws = record {
         drawing = d;
         draws = record { drawn = c.in-Ok.ensures.drawn; circuit = circuit; is_circuit = c.known.ensures };
-        are = cases_are circuit.state d _ (rw c.version_and_cases.ensures.cases at c.in-Ok-check_cases.ensures.is circuit.state circuit.stands);
+        are = cases_are circuit.state d _ (cases circuit.state circuit.stands);
         listed = c.in-Ok-check_cases.ensures.listed;
       };
       version = sym c.version_and_cases.ensures.version;
