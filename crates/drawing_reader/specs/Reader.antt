@@ -1,6 +1,6 @@
 -- What a cursor has before it.
 use Rattle.std.specs.Prelude.{◌≡◌, ℕ, List, [], ◌∷◌, map, Option, Some, None, option_map, Result, Ok, Err}
-use Rattle.std.specs.Global.{Vec}
+use Rattle.std.specs.Global.{Vec, Box}
 use Rattle.scald_base.specs.declared.refusal.Place.{Place}
 use Rattle.scald_base.specs.declared.refusal.Stop.{Stop}
 use Rattle.drawing_grammar.specs.declared.header.NumberPair.{NumberPair}
@@ -8,7 +8,7 @@ use Rattle.scald_lex.specs.declared.token.Token as lex
 use Rattle.assertion_syntax.specs.declared.name.SignalName.{SignalName}
 use Rattle.drawing_tree.specs.declared.connection.RangeExpr.{RangeExpr}
 use Rattle.drawing_tree.specs.declared.statement.Stmt.{Stmt}
-use Rattle.drawing_tree.specs.Tree.{range_of, assignment_of, both_of, connection_of, statements_of}
+use Rattle.drawing_tree.specs.Tree.{written_range_of, assignment_of, both_of, written_fall_of, connection_of, statements_of}
 use Rattle.drawing_grammar.specs.declared.terminal.Keyword.TheVariants.{By, To, Do}
 use Rattle.drawing_grammar.specs.declared.edition.Edition.{Edition}
 use Rattle.scald_expr.specs.declared.expr.Expr.{Expr}
@@ -61,8 +61,8 @@ ClockAt (Ok x) old new = (c : Lexeme) × (a : Lexeme) × (b : Lexeme) × (x ≡ 
 ClockAt (Err s) old new = (rest : List Need) → Fails (ahead old (clock_needs rest)) s
 
 -- A net, with its range where one is written.
-abbrev pub NetAt : Result (SignalName × Option RangeExpr) Stop → Cursor → Cursor → Type 0
-NetAt (Ok x) old new = (t : Lexeme) × (x.0 ≡ signal_of t) × ((rest : List Need) → Moves (ahead old (item Name ∷ part Range 0 ∷ rest)) (ahead new rest) (λ v. (t, (option_map range_of x.1, v))))
+abbrev pub NetAt : Result (SignalName × Option (Box RangeExpr)) Stop → Cursor → Cursor → Type 0
+NetAt (Ok x) old new = (t : Lexeme) × (x.0 ≡ signal_of t) × ((rest : List Need) → Moves (ahead old (item Name ∷ part Range 0 ∷ rest)) (ahead new rest) (λ v. (t, (written_range_of x.1, v))))
 NetAt (Err s) old new = (rest : List Need) → Fails (ahead old (item Name ∷ part Range 0 ∷ rest)) s
 
 -- The variable of a FOR, and the first and the last value that it takes.
@@ -84,7 +84,7 @@ DetailsAt (Ok x) old new =
     (places : List Place) × ((rest : List Need) →
     Moves (ahead old (details rest))
     (ahead new rest) (λ v. (
-      record { delay = option_map both_of x.delay; fall = option_map both_of x.fall },
+      record { delay = option_map both_of x.delay; fall = written_fall_of x.fall },
       (record { items = map assignment_of x.params; places = places }, (map connection_of x.ins, (map connection_of x.outs, v))),
     )))
 DetailsAt (Err s) old new = (rest : List Need) → Fails (ahead old (details rest)) s

@@ -1,8 +1,8 @@
 //! Reads ranges and connections.
 
-ghost use Rattle.std.specs.Prelude.{◌≡◌, ◌≤◌, ◌<◌, List, ◌∷◌, map, length, is_some, option_map, true};
+ghost use Rattle.std.specs.Prelude.{◌≡◌, ◌≤◌, ◌<◌, List, ◌∷◌, map, length, is_some, option_map, true, IfOk};
 ghost use Rattle.scald_expr.specs.Expression.{expression_of};
-ghost use Rattle.drawing_tree.specs.Tree.{range_of, item_of, term_of, connection_of};
+ghost use Rattle.drawing_tree.specs.Tree.{written_range_of, item_of, term_of, connection_of};
 ghost use Rattle.drawing_grammar.specs.Grammar.{Need, part, group, Range, RangeEnd, Term as TermPart, Atom, Hold, Conn as ConnGroup, SomeConns, Conns as ConnsGroup, Outputs};
 ghost use Rattle.drawing_grammar.specs.Machine.{Gives, choice};
 ghost use Rattle.drawing_reader.specs.Reader.{tokens_at, ahead, NetAt};
@@ -19,7 +19,7 @@ use std::alloc::Global;
 
 /// The same in memory of its own.
 pub fn boxed<T: Drop>(alloc: Global, value: T) -> Result<Box<T>, NoMemory>
-    ensures { IfOk result (λ made. made.inside ≡ value) }
+    ensures { IfOk result (λ made. made.value ≡ value) }
 {
     let made = Box::new(alloc, value)?;
     Ok(made)
@@ -42,7 +42,7 @@ impl<'a> Cursor<'a> {
     /// A range, where one stands here.
     pub fn range(&mut self, alloc: Global) -> Result<WrittenRange, Stop>
         ensures reads { (rest : List Need) → Gives result (λ x v.
-            (option_map range_of x, v)) (ahead self.old (part Range 0 ∷ rest)) (ahead self.new rest) }
+            (written_range_of x, v)) (ahead self.old (part Range 0 ∷ rest)) (ahead self.new rest) }
         ensures no_longer { length self.new.rest.now ≤ length self.old.rest.now }
     {
         if !self.starts(Terminal::Less) {

@@ -11,13 +11,13 @@ ghost use Rattle.drawing_grammar.specs.Front.{first_terminal, first_place, first
 
 use drawing_grammar::{Edition, Keyword, Terminal, symbol_terminal, word_terminal};
 use scald_base::{Place, RefusalKind, Stop};
-use scald_lex::{Token, TokenKind};
+use scald_lex::{PackedToken, Token, TokenKind};
 
 /// Reads the tokens of a text from the front.
 #[derive(Drop)]
 pub struct Cursor<'a> {
     pub text: &'a [u8],
-    pub rest: &'a [Token],
+    pub rest: &'a [PackedToken],
     /// How many binary operators of the expression have come.
     pub operators: usize,
 }
@@ -55,7 +55,7 @@ impl<'a> Cursor<'a> {
     {
         match self.rest.first() {
             None => Terminal::EndOfText,
-            Some(token) => terminal_of(self.text, *token),
+            Some(token) => terminal_of(self.text, token.token()),
         }
     }
 
@@ -65,7 +65,7 @@ impl<'a> Cursor<'a> {
     {
         match self.rest.first() {
             None => Place { line: 0, col: 0 },
-            Some(token) => token.place,
+            Some(token) => token.token().place,
         }
     }
 
@@ -80,7 +80,10 @@ impl<'a> Cursor<'a> {
     pub fn peek(&self) -> Option<Token>
         ensures { result ≡ first_token self.now.rest.now }
     {
-        self.rest.first().copied()
+        match self.rest.first() {
+            None => None,
+            Some(token) => Some(token.token()),
+        }
     }
 
     /// Goes past the next token, where one is left.
@@ -161,7 +164,7 @@ impl<'a> Cursor<'a> {
     {
         match self.rest.first() {
             None => &[],
-            Some(token) => text_of(self.text, *token),
+            Some(token) => text_of(self.text, token.token()),
         }
     }
 

@@ -18,14 +18,14 @@ use crate::names::judged_names;
 use crate::reader::{Sketch, read_sketch};
 use drawing_tree::Drawing;
 use scald_base::Stop;
-use scald_lex::TokenList;
+use scald_lex::PackedList;
 use std::alloc::Global;
 
 /// The drawing of a text, whose tokens these are, or its first refusal: `Syntax` or `TooDeep`,
 /// whichever token comes first; then `BadHeader`; then `BadName` and `EdgesOverlap`, name by name; then
 /// `DoubleName`. A refusal has the place of one of the tokens. The drawing is well formed, and its canonical
 /// text draws it again, places aside, where that text does not nest too deep.
-pub fn read_drawing(alloc: Global, text: &[u8], tokens: &TokenList) -> Result<Drawing, Stop>
+pub fn read_drawing(alloc: Global, text: &[u8], tokens: &PackedList) -> Result<Drawing, Stop>
     requires { AreTokens text.now tokens.now }
     ensures drawn { IfOk result (λ d. Draws (lexemes text.now tokens.now) (drawing_of d)) }
     ensures formed { IfOk result (λ d. IsWellFormed (drawing_of d)) }
@@ -41,7 +41,7 @@ pub fn read_drawing(alloc: Global, text: &[u8], tokens: &TokenList) -> Result<Dr
 }
 
 /// The drawing, or the refusal. That there are no others is a law of the tokens.
-fn judged_drawing(alloc: Global, text: &[u8], tokens: &TokenList) -> Result<Drawing, Stop>
+fn judged_drawing(alloc: Global, text: &[u8], tokens: &PackedList) -> Result<Drawing, Stop>
     requires { AreTokens text.now tokens.now }
     ensures drawn { IfOk result (λ d. Draws (lexemes text.now tokens.now) (drawing_of d)) }
     ensures refused { IfErr result (λ stop. IsWrongStop (lexemes text.now tokens.now) stop) }

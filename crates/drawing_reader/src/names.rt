@@ -13,7 +13,7 @@ use crate::signal::unquoted;
 use assertion_syntax::{NameEnd, NameFault, SignalName, fits, read_name};
 use drawing_grammar::Terminal;
 use scald_base::{AssertSpec, Header, Place, RefusalKind, Stop};
-use scald_lex::Token;
+use scald_lex::{PackedToken, Token};
 use std::alloc::Global;
 
 /// Whether a name may be a formal's: it is neither global nor has an assertion.
@@ -168,7 +168,7 @@ fn judge_token<'a>(
 pub fn judged_names(
     alloc: Global,
     text: &[u8],
-    tokens: &[Token],
+    tokens: &[PackedToken],
     header: &Header,
 ) -> Result<(), Stop>
     ensures { MatchResult result (λ _. AreGood header.now (names_from false (lexemes text.now tokens.now)))
@@ -178,7 +178,7 @@ pub fn judged_names(
     // A base alone is a name that may stand anywhere.
     let mut known: &[u8] = b"A";
     'tokens: for token in tokens {
-        let (next, now) = judge_token(alloc, text, *token, in_head, known, header)?;
+        let (next, now) = judge_token(alloc, text, token.token(), in_head, known, header)?;
         in_head = next;
         known = now;
     }

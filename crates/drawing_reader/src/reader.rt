@@ -20,7 +20,7 @@ use crate::cursor::Cursor;
 use drawing_grammar::{Edition, Head, Keyword, NumberPair, Terminal, WrittenHeader};
 use drawing_tree::{CaseStmts, MacroDefs, Stmts};
 use scald_base::{Bytes, List, Place, RefusalKind, Stop};
-use scald_lex::{TokenKind, TokenList};
+use scald_lex::{PackedList, TokenKind};
 use std::alloc::Global;
 
 /// A drawing as its text is written, before its header and its names are judged.
@@ -234,7 +234,7 @@ impl<'a> Cursor<'a> {
 
 /// What the tokens of a text stand for, or the first token that is refused: `Syntax` where no text goes on with it,
 /// `TooDeep` where it is beyond a limit.
-pub fn read_sketch(alloc: Global, text: &[u8], tokens: &TokenList) -> Result<Sketch, Stop>
+pub fn read_sketch(alloc: Global, text: &[u8], tokens: &PackedList) -> Result<Sketch, Stop>
     requires { AreTokens text.now tokens.now }
     ensures found { IfOk result (λ found. Reads (lexemes text.now tokens.now) (sketch_of found)) }
     ensures refused { IfErr result (λ stop. IsStop (lexemes text.now tokens.now) stop) }

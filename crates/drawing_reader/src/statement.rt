@@ -3,7 +3,7 @@
 ghost use Rattle.std.specs.Prelude.{◌≡◌, ◌≢◌, ◌≤◌, ◌<◌, true, false, ℕ, List, [], ◌∷◌, ◌++◌, map, length, OnOk, option_map, Some, None};
 ghost use Rattle.scald_expr.specs.Expression.{expression_of};
 ghost use Rattle.drawing_tree.specs.Tree as tree;
-ghost use Rattle.drawing_tree.specs.Tree.{assignment_of, both_of, connection_of, use_of, wire_of, statement_of, statements_of, else_of};
+ghost use Rattle.drawing_tree.specs.Tree.{assignment_of, both_of, written_fall_of, connection_of, use_of, wire_of, statement_of, statements_of, else_of};
 ghost use Rattle.drawing_grammar.specs.Grammar.{Need, fresh, mark, part, group, own_sum, Expr as Whole, Assign as AssignPart, Assigns as AssignsGroup, Parameters, Conns as ConnsGroup, Outputs, Delay as DelayPart, Fall as FallPart, Statement as StatementPart, Statements as StatementsGroup, Otherwise as OtherwisePart};
 ghost use Rattle.std.specs.Prelude.{is_some};
 ghost use Rattle.drawing_grammar.specs.declared.terminal.Terminal.TheVariants.{EndOfText};
@@ -115,7 +115,7 @@ impl<'a> Cursor<'a> {
     /// A comma and the delay of falls, or nothing.
     fn fall(&mut self, alloc: Global) -> Result<Option<Box<(Expr, Expr)>>, Stop>
         ensures reads { (rest : List Need) → Gives result (λ x v.
-            (option_map both_of x, v)) (ahead self.old (part FallPart 0 ∷ rest)) (ahead self.new rest) }
+            (written_fall_of x, v)) (ahead self.old (part FallPart 0 ∷ rest)) (ahead self.new rest) }
         ensures no_longer { length self.new.rest.now ≤ length self.old.rest.now }
     {
         if !self.starts(Terminal::Comma) {
@@ -130,7 +130,7 @@ impl<'a> Cursor<'a> {
     /// The delay of a use in brackets, with that of falls where two are written, or nothing.
     fn delays(&mut self, alloc: Global) -> Result<Delays, Stop>
         ensures reads { (rest : List Need) →
-            Gives result (λ x v. (record { delay = option_map both_of x.delay; fall = option_map both_of x.fall }, v))
+            Gives result (λ x v. (record { delay = option_map both_of x.delay; fall = written_fall_of x.fall }, v))
             (ahead self.old (part DelayPart 0 ∷ rest)) (ahead self.new rest) }
         ensures no_longer { length self.new.rest.now ≤ length self.old.rest.now }
     {

@@ -18,5 +18,5 @@ returns-in_err-bounds-clause-reads c = let p =
     refl (c.starts.ensures.yes (cc)) c.bump.ensures.taken c.bump.ensures.operators rest) (c.in_err-bounds.ensures.reads _))
 
 pub returns-clause-reads : goal.returns-clause-reads
-returns-clause-reads c = λ rest. moves (plainly g.fall 0 c.args.self.now c.bump.new.self c.bump.result
-    refl (c.starts.ensures.yes (cc)) c.bump.ensures.taken c.bump.ensures.operators rest) (c.in_ok-bounds.ensures.reads _)
+returns-clause-reads c = λ rest. rw c.in_ok-bounds-2.ensures (moves (plainly g.fall 0 c.args.self.now c.bump.new.self c.bump.result
+    refl (c.starts.ensures.yes (cc)) c.bump.ensures.taken c.bump.ensures.operators rest) (c.in_ok-bounds.ensures.reads _))

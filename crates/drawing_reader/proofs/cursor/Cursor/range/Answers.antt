@@ -30,6 +30,6 @@ returns-in_err-mark-clause-reads c = let p = err_from_is_err_and c.from_residual
     c.bump.ensures.operators rest) (c.in_ok-first.ensures.reads _)) (c.in_ok-last.ensures.reads _)) (c.in_err-mark.ensures.reads _))
 
 pub returns-clause-reads : goal.returns-clause-reads
-returns-clause-reads c = λ rest.
-    moves (moves (moves (plainly g.range 0 c.args.self.now c.bump.new.self c.bump.result refl (c.starts.ensures.yes (cc)) c.bump.ensures.taken
-    c.bump.ensures.operators rest) (c.in_ok-first.ensures.reads _)) (c.in_ok-last.ensures.reads _)) (c.in_ok-mark.ensures.reads _)
+returns-clause-reads c = λ rest. rw c.in_ok-range.ensures
+    (moves (moves (moves (plainly g.range 0 c.args.self.now c.bump.new.self c.bump.result refl (c.starts.ensures.yes (cc)) c.bump.ensures.taken
+    c.bump.ensures.operators rest) (c.in_ok-first.ensures.reads _)) (c.in_ok-last.ensures.reads _)) (c.in_ok-mark.ensures.reads _))
