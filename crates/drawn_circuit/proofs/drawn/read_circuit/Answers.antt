@@ -22,13 +22,13 @@ returns-clause-refused c r e =
     let d = drawing_of c.in-Ok.drawing in
     cases_refusal c.args.text.now d c.in-Ok-finish.circuit
     (record { drawn = c.in-Ok.ensures.drawn; circuit = c.in-Ok-finish.ensures d c.in-Ok-expanded.ensures; is_circuit = c.known.ensures })
-    c.in-Err-check_cases.stop r (rw c.version_and_cases.ensures.cases at c.in-Err-check_cases.ensures.is) e
+    c.in-Err-check_cases.stop r (rw c.version_and_cases-version.ensures.cases at c.in-Err-check_cases.ensures.is) e
 
 pub returns-in-Ok-check_cases-clause-drawn : goal.returns-in-Ok-check_cases-clause-drawn
 returns-in-Ok-check_cases-clause-drawn c =
     let d = drawing_of c.in-Ok.drawing in
     let circuit : IsCircuitOf d c.in-Ok-finish.circuit = c.in-Ok-finish.ensures d c.in-Ok-expanded.ensures in
-    let cases = rw c.version_and_cases.ensures.cases at c.in-Ok-check_cases.ensures.is in
+    let cases = rw c.version_and_cases-version.ensures.cases at c.in-Ok-check_cases.ensures.is in
     record {
       drawing = d;
       draws = record { drawn = c.in-Ok.ensures.drawn; circuit = circuit; is_circuit = c.known.ensures };
@@ -40,7 +40,7 @@ pub returns-in-Ok-check_cases-clause-version : goal.returns-in-Ok-check_cases-cl
 returns-in-Ok-check_cases-clause-version c =
     let d = drawing_of c.in-Ok.drawing in
     let circuit : IsCircuitOf d c.in-Ok-finish.circuit = c.in-Ok-finish.ensures d c.in-Ok-expanded.ensures in
-    let cases = rw c.version_and_cases.ensures.cases at c.in-Ok-check_cases.ensures.is in
+    let cases = rw c.version_and_cases-version.ensures.cases at c.in-Ok-check_cases.ensures.is in
     record {
       draws = record {
         drawing = d;
@@ -48,7 +48,7 @@ returns-in-Ok-check_cases-clause-version c =
         are = cases_are circuit.state d _ (cases circuit.state circuit.stands);
         listed = c.in-Ok-check_cases.ensures.listed;
       };
-      version = sym c.version_and_cases.ensures.version;
+      version = sym c.version_and_cases-version.ensures.version;
     }
 
 pub returns-in-Ok-check_cases-clause-exist : goal.returns-in-Ok-check_cases-clause-exist
