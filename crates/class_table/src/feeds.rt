@@ -11,7 +11,7 @@ pub struct Feeds {
     /// The nets that are fed: those that the first net feeds before those of the second, and so on.
     fed: Vec<u32>,
     /// Where those begin that a net feeds, and after the last net the end of all.
-    begins: Vec<usize>,
+    begins: Vec<u32>,
     /// Which nets stand in the list that is made.
     is_listed: Vec<bool>,
 }
@@ -26,7 +26,7 @@ impl Feeds {
         }
         let total = add_up(&mut begins);
         begins.push(total)?;
-        let mut fed = Vec::from_elem(alloc, 0, total)?;
+        let mut fed = Vec::from_elem(alloc, 0, total as usize)?;
         for to in 0..c.net_count() {
             put_pins(&mut fed, &mut begins, pins_of(c, to), to);
         }
@@ -42,8 +42,8 @@ impl Feeds {
     pub fn fed_by(&mut self, alloc: Global, changed: &[u32]) -> Result<Vec<u32>, NoMemory> {
         let mut nets = Vec::new(alloc);
         for from in changed {
-            let begin = at(&self.begins, *from as usize);
-            let end = at(&self.begins, (*from as usize).saturating_add(1));
+            let begin = at(&self.begins, *from as usize) as usize;
+            let end = at(&self.begins, (*from as usize).saturating_add(1)) as usize;
             for net in self.fed.get(begin..end).unwrap_or(&[]) {
                 if list(&mut self.is_listed, *net) {
                     nets.push(*net)?;
@@ -79,7 +79,7 @@ fn pins_of(c: &Circuit, net: u32) -> &[Pin] {
 }
 
 /// Counts each of these pins at its net.
-fn count_pins(counts: &mut [usize], pins: &[Pin]) {
+fn count_pins(counts: &mut [u32], pins: &[Pin]) {
     for pin in pins {
         if let Target::Net(from) = pin.target {
             let count = at(counts, from as usize).saturating_add(1);
@@ -89,8 +89,8 @@ fn count_pins(counts: &mut [usize], pins: &[Pin]) {
 }
 
 /// Puts the sum of the counts so far in the place of each, and gives the sum of all.
-fn add_up(counts: &mut [usize]) -> usize {
-    let mut sum: usize = 0;
+fn add_up(counts: &mut [u32]) -> u32 {
+    let mut sum: u32 = 0;
     for place in 0..counts.len() {
         sum = sum.saturating_add(counts[place]);
         counts[place] = sum;
@@ -99,14 +99,12 @@ fn add_up(counts: &mut [usize]) -> usize {
 }
 
 /// Puts a net before those that the nets of its driver's pins feed. Their places begin there.
-fn put_pins(fed: &mut [u32], begins: &mut [usize], pins: &[Pin], to: u32) {
+fn put_pins(fed: &mut [u32], begins: &mut [u32], pins: &[Pin], to: u32) {
     for pin in pins {
         if let Target::Net(from) = pin.target {
             let place = at(begins, from as usize).saturating_sub(1);
             put(begins, from as usize, place);
-            if place < fed.len() {
-                fed[place] = to;
-            }
+            put(fed, place as usize, to);
         }
     }
 }

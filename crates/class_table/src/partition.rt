@@ -16,32 +16,74 @@ use flat_circuit::{Case, CaseList, Circuit, Pin, Target};
 use scald_base::{List, NoMemory};
 use std::alloc::Global;
 
-/// A net by the key of what tells it apart.
-#[derive(Clone, Copy, PartialEq, Eq, PartialOrd, Ord, Debug)]
-struct Keyed {
-    key: Key,
-    net: u32,
-}
-
 /// Nets of one key that stand side by side, at these places of a list.
 #[derive(Clone, Copy, PartialEq, Eq, PartialOrd, Ord, Debug)]
 struct Run {
     key: Key,
-    begin: usize,
-    end: usize,
+    begin: u32,
+    end: u32,
+}
+
+/// Nets by the keys of what tells them apart. The bits of a vector mostly stand side by side and have one
+/// key, so keys are those of runs of nets and not of nets.
+#[derive(Drop, Debug)]
+struct Keyed {
+    nets: Vec<u32>,
+    runs: Vec<Run>,
+}
+
+impl Keyed {
+    /// No nets, with room for so many.
+    fn with_room(alloc: Global, nets: usize) -> Result<Keyed, NoMemory> {
+        Ok(Keyed {
+            nets: Vec::with_capacity(alloc, nets)?,
+            runs: Vec::new(alloc),
+        })
+    }
+
+    fn push(&mut self, key: Key, net: u32) -> Result<(), NoMemory> {
+        let begin = self.nets.len() as u32;
+        let end = begin.saturating_add(1);
+        self.nets.push(net)?;
+        let runs = self.runs.len();
+        if runs > 0 && self.runs[runs - 1].key == key {
+            self.runs[runs - 1].end = end;
+        } else {
+            self.runs.push(Run { key, begin, end })?;
+        }
+        Ok(())
+    }
+
+    /// The same nets in the order of their keys.
+    fn in_order(self, alloc: Global) -> Result<Keyed, NoMemory> {
+        let Keyed { nets, mut runs } = self;
+        runs.sort_unstable();
+        let mut sorted = Vec::with_capacity(alloc, nets.len())?;
+        for place in 0..runs.len() {
+            let Run { key, begin, end } = runs[place];
+            let new_begin = sorted.len() as u32;
+            sorted.extend_from_slice(nets.get(begin as usize..end as usize).unwrap_or(&[]))?;
+            runs[place] = Run {
+                key,
+                begin: new_begin,
+                end: sorted.len() as u32,
+            };
+        }
+        Ok(Keyed { nets: sorted, runs })
+    }
 }
 
 /// Nets of one class and one key, at these places of a list.
 #[derive(Clone, Copy, PartialEq, Eq, Debug)]
 struct Part {
-    class: usize,
-    begin: usize,
-    end: usize,
+    class: u32,
+    begin: u32,
+    end: u32,
 }
 
 impl Part {
     /// How many nets there are.
-    fn size(&self) -> usize {
+    fn size(&self) -> u32 {
         self.end.saturating_sub(self.begin)
     }
 }
@@ -50,11 +92,11 @@ impl Part {
 #[derive(Drop, Debug)]
 struct Partition {
     /// The class of each net.
-    classes: Vec<usize>,
+    classes: Vec<u32>,
     /// How many nets each class has.
-    sizes: Vec<usize>,
+    sizes: Vec<u32>,
     /// How many nets of each class are in the parts at hand: none between two splits.
-    at_hand: Vec<usize>,
+    at_hand: Vec<u32>,
 }
 
 impl Partition {
@@ -65,17 +107,17 @@ impl Partition {
             sizes: Vec::new(alloc),
             at_hand: Vec::new(alloc),
         };
-        partition.sizes.push(nets as usize)?;
+        partition.sizes.push(nets)?;
         partition.at_hand.push(0)?;
         Ok(partition)
     }
 
-    fn class(&self, net: u32) -> usize {
+    fn class(&self, net: u32) -> u32 {
         at(&self.classes, net as usize)
     }
 
     /// The class of what a pin is on. Constants count as one: the nets of a class have them alike.
-    fn class_of_pin(&self, pin: Pin) -> usize {
+    fn class_of_pin(&self, pin: Pin) -> u32 {
         match pin.target {
             Target::Net(net) => self.class(net),
             Target::Constant(_) => 0,
@@ -84,44 +126,45 @@ impl Partition {
 
     /// The key of the class of a net, and of the classes that its driver's pins are on.
     fn key(&self, c: &Circuit, net: u32) -> Key {
-        let mut key = Key::EMPTY.followed_by(self.class(net) as u64);
+        let mut key = Key::EMPTY.followed_by(u64::from(self.class(net)));
         if let Some(driver) = c.driver_of(net) {
             for pin in driver.pins.as_slice() {
-                key = key.followed_by(self.class_of_pin(*pin) as u64);
+                key = key.followed_by(u64::from(self.class_of_pin(*pin)));
             }
         }
         key
     }
 
     /// The parts into which nets fall that stand in the order of their keys.
-    fn parts(&self, alloc: Global, nets: &[Keyed]) -> Result<Vec<Part>, NoMemory> {
-        let mut parts = Vec::new(alloc);
-        let mut begin = 0;
-        for place in 1..nets.len() {
-            if nets[place].key != nets[place - 1].key {
-                parts.push(self.part(nets, begin, place))?;
-                begin = place;
+    fn parts(&self, alloc: Global, keyed: &Keyed) -> Result<Vec<Part>, NoMemory> {
+        let mut parts: Vec<Part> = Vec::new(alloc);
+        let mut before = None;
+        for run in &keyed.runs {
+            let count = parts.len();
+            if count > 0 && before == Some(run.key) {
+                parts[count - 1].end = run.end;
+            } else {
+                parts.push(self.part(&keyed.nets, *run))?;
             }
-        }
-        if begin < nets.len() {
-            parts.push(self.part(nets, begin, nets.len()))?;
+            before = Some(run.key);
         }
         Ok(parts)
     }
 
-    fn part(&self, nets: &[Keyed], begin: usize, end: usize) -> Part {
-        let class = match nets.get(begin) {
-            Some(first) => self.class(first.net),
-            None => 0,
-        };
-        Part { class, begin, end }
+    fn part(&self, nets: &[u32], run: Run) -> Part {
+        Part {
+            class: self.class(at(nets, run.begin as usize)),
+            begin: run.begin,
+            end: run.end,
+        }
     }
 
     /// Makes a class of the nets of each key, but for the largest of those that make up a class, and gives
     /// the nets that have got a new class. Nets of one key are of one class.
-    fn split(&mut self, alloc: Global, nets: Vec<Keyed>) -> Result<Vec<u32>, NoMemory> {
-        let nets = in_order(alloc, &nets)?;
-        let mut parts = self.parts(alloc, &nets)?;
+    fn split(&mut self, alloc: Global, keyed: Keyed) -> Result<Vec<u32>, NoMemory> {
+        let keyed = keyed.in_order(alloc)?;
+        let mut parts = self.parts(alloc, &keyed)?;
+        let Keyed { nets, runs: _ } = keyed;
         parts.sort_unstable_by(|a, b| (a.class, b.size()).cmp(&(b.class, a.size())));
         self.take_at_hand(&parts);
         let changed = self.make_classes(alloc, &nets, &parts)?;
@@ -132,15 +175,15 @@ impl Partition {
     /// Counts the nets of the parts at hand, in the class that each part is of.
     fn take_at_hand(&mut self, parts: &[Part]) {
         for part in parts {
-            let count = at(&self.at_hand, part.class).saturating_add(part.size());
-            put(&mut self.at_hand, part.class, count);
+            let count = at(&self.at_hand, part.class as usize).saturating_add(part.size());
+            put(&mut self.at_hand, part.class as usize, count);
         }
     }
 
     /// No part is at hand any more.
     fn let_go(&mut self, parts: &[Part]) {
         for part in parts {
-            put(&mut self.at_hand, part.class, 0);
+            put(&mut self.at_hand, part.class as usize, 0);
         }
     }
 
@@ -149,15 +192,18 @@ impl Partition {
     fn make_classes(
         &mut self,
         alloc: Global,
-        nets: &[Keyed],
+        nets: &[u32],
         parts: &[Part],
     ) -> Result<Vec<u32>, NoMemory> {
         let mut changed = Vec::new(alloc);
         let mut before = None;
         for part in parts {
-            let is_whole = at(&self.at_hand, part.class) == at(&self.sizes, part.class);
+            let class = part.class as usize;
+            let is_whole = at(&self.at_hand, class) == at(&self.sizes, class);
             if before == Some(part.class) || !is_whole {
-                let members = nets.get(part.begin..part.end).unwrap_or(&[]);
+                let members = nets
+                    .get(part.begin as usize..part.end as usize)
+                    .unwrap_or(&[]);
                 self.make_class(members, &mut changed)?;
             }
             before = Some(part.class);
@@ -165,26 +211,26 @@ impl Partition {
         Ok(changed)
     }
 
-    fn make_class(&mut self, nets: &[Keyed], changed: &mut Vec<u32>) -> Result<(), NoMemory> {
-        let class = self.new_class(nets.len())?;
-        for keyed in nets {
-            self.move_to(class, keyed.net);
-            changed.push(keyed.net)?;
+    fn make_class(&mut self, nets: &[u32], changed: &mut Vec<u32>) -> Result<(), NoMemory> {
+        let class = self.new_class(nets.len() as u32)?;
+        for net in nets {
+            self.move_to(class, *net);
+            changed.push(*net)?;
         }
         Ok(())
     }
 
     /// The number of a new class, which is to have so many nets.
-    fn new_class(&mut self, nets: usize) -> Result<usize, NoMemory> {
-        let class = self.sizes.len();
+    fn new_class(&mut self, nets: u32) -> Result<u32, NoMemory> {
+        let class = self.sizes.len() as u32;
         self.sizes.push(nets)?;
         self.at_hand.push(0)?;
         Ok(class)
     }
 
     /// Moves a net to a new class.
-    fn move_to(&mut self, class: usize, net: u32) {
-        let old = self.class(net);
+    fn move_to(&mut self, class: u32, net: u32) {
+        let old = self.class(net) as usize;
         let left = at(&self.sizes, old).saturating_sub(1);
         put(&mut self.sizes, old, left);
         put(&mut self.classes, net as usize, class);
@@ -194,7 +240,7 @@ impl Partition {
     /// class.
     fn split_off(&mut self, alloc: Global, net: u32) -> Result<Vec<u32>, NoMemory> {
         let mut changed = Vec::new(alloc);
-        if at(&self.sizes, self.class(net)) > 1 {
+        if at(&self.sizes, self.class(net) as usize) > 1 {
             let class = self.new_class(1)?;
             self.move_to(class, net);
             changed.push(net)?;
@@ -204,26 +250,24 @@ impl Partition {
 
     /// Separates the nets that differ by themselves, or by the kinds of their drivers.
     fn split_by_kind(&mut self, alloc: Global, c: &Circuit) -> Result<(), NoMemory> {
-        let mut nets = Vec::with_capacity(alloc, c.net_count() as usize)?;
+        let mut keyed = Keyed::with_room(alloc, c.net_count() as usize)?;
         for net in 0..c.net_count() {
-            let key = key_of_net(c, net);
-            nets.push(Keyed { key, net })?;
+            keyed.push(key_of_net(c, net), net)?;
         }
-        self.split(alloc, nets)?;
+        self.split(alloc, keyed)?;
         Ok(())
     }
 
     /// Separates the nets to which a case gives a value from those to which it does not.
     fn split_by_case(&mut self, alloc: Global, case: &Case, one: bool) -> Result<(), NoMemory> {
-        let mut nets = Vec::new(alloc);
+        let mut keyed = Keyed::with_room(alloc, 0)?;
         for value in case.as_slice() {
             if value.one == one {
-                let net = value.net;
-                let key = Key::EMPTY.followed_by(self.class(net) as u64);
-                nets.push(Keyed { key, net })?;
+                let key = Key::EMPTY.followed_by(u64::from(self.class(value.net)));
+                keyed.push(key, value.net)?;
             }
         }
-        self.split(alloc, nets)?;
+        self.split(alloc, keyed)?;
         Ok(())
     }
 
@@ -238,10 +282,9 @@ impl Partition {
         if let [net] = nets {
             return self.split_off(alloc, *net);
         }
-        let mut keyed = Vec::with_capacity(alloc, nets.len())?;
+        let mut keyed = Keyed::with_room(alloc, nets.len())?;
         for net in nets {
-            let key = self.key(c, *net);
-            keyed.push(Keyed { key, net: *net })?;
+            keyed.push(self.key(c, *net), *net)?;
         }
         self.split(alloc, keyed)
     }
@@ -282,46 +325,9 @@ impl Partition {
     }
 }
 
-/// The nets in the order of their keys. The bits of a vector mostly stand side by side and have one key,
-/// so runs of nets are sorted in place of nets.
-fn in_order(alloc: Global, nets: &[Keyed]) -> Result<Vec<Keyed>, NoMemory> {
-    let mut runs = runs_of(alloc, nets)?;
-    runs.sort_unstable();
-    let mut sorted = Vec::with_capacity(alloc, nets.len())?;
-    for run in &runs {
-        sorted.extend_from_slice(nets.get(run.begin..run.end).unwrap_or(&[]))?;
-    }
-    Ok(sorted)
-}
-
-/// The runs of nets of one key.
-fn runs_of(alloc: Global, nets: &[Keyed]) -> Result<Vec<Run>, NoMemory> {
-    let mut runs = Vec::new(alloc);
-    let mut begin = 0;
-    for place in 1..nets.len() {
-        let key = nets[place - 1].key;
-        if nets[place].key != key {
-            runs.push(Run {
-                key,
-                begin,
-                end: place,
-            })?;
-            begin = place;
-        }
-    }
-    if begin < nets.len() {
-        let key = nets[begin].key;
-        runs.push(Run {
-            key,
-            begin,
-            end: nets.len(),
-        })?;
-    }
-    Ok(runs)
-}
-
 /// The first net of a class: this one, where there has been none.
-fn first_of(firsts: &mut [Option<u32>], class: usize, net: u32) -> u32 {
+fn first_of(firsts: &mut [Option<u32>], class: u32, net: u32) -> u32 {
+    let class = class as usize;
     if class >= firsts.len() {
         return net;
     }
