@@ -4,10 +4,9 @@ use Rattle.std.specs.Cmp.{both_ways}
 use Rattle.std.specs.List.{range_with_len}
 use Rattle.std.proofs.Math.Bool.{or-false}
 use Rattle.std.proofs.lemmas.Bool.{and_parts, or_right, false_from_ne_true, eqb-true, eqb-false, eq-eqb, lt-ltb, ltb-true}
-use Rattle.std.proofs.lemmas.List.{length-map, take_more, drop_more, drop_all, get_or-set_same, get_or-set_other}
+use Rattle.std.proofs.lemmas.List.{take_more, drop_more, drop_all, get_or-set_same, get_or-set_other}
 use Rattle.std.proofs.lemmas.List.Folds.{list_any-append}
 use Rattle.std.proofs.lemmas.List.FromFn.{length-map-range_with_len}
-use Rattle.smallvec.specs.SmallVec.{SmallVec}
 use Rattle.vector_names.specs.declared.bits.Target.{Target}
 use Rattle.vector_names.specs.declared.bits.Target.TheVariants.{Net as OnNet}
 use Rattle.element_kinds.specs.declared.kind.Kind.{Kind}
@@ -19,41 +18,33 @@ use Rattle.fixpoint_engine.specs.Classes.{is_first}
 use Rattle.fixpoint_engine.specs.Members.{leads_in}
 use Rattle.fixpoint_engine.specs.Work.{is_on_any, hears_from, hears_in}
 use Rattle.fixpoint_engine.specs.Worklist.{among}
-use Rattle.fixpoint_engine.specs.Hearers.{AreHearers, hears_class, row_of, rows_of}
+use Rattle.fixpoint_engine.specs.Hearers.{AreHearers, hears_class, row_of}
 use Rattle.fixpoint_engine.proofs.Members.{one_first}
 
 -- ---- one row
 
-pub row_read : (rows : List (SmallVec ℕ)) (i : ℕ) (v : SmallVec ℕ) → i < length rows → v ≡ get_or rows i v → row_of (rows_of rows) i ≡ v.items
+pub row_read : (rows : List (List ℕ)) (i : ℕ) (v : List ℕ) → i < length rows → v ≡ get_or rows i v → row_of rows i ≡ v
 row_read [] i v below is = absurd (omega arith)
-row_read (x ∷ xs) zero v below is = ap (λ (y : SmallVec ℕ). y.items) (sym is)
+row_read (x ∷ xs) zero v below is = sym is
 row_read (x ∷ xs) (suc i) v below is = row_read xs i v (omega arith) is
-
-rows_set : (rows : List (SmallVec ℕ)) (i : ℕ) (w : SmallVec ℕ) → rows_of (set rows i w) ≡ set (rows_of rows) i w.items
-rows_set [] i w = refl
-rows_set (x ∷ xs) zero w = refl
-rows_set (x ∷ xs) (suc i) w = ap (λ (rest : List (List ℕ)). x.items ∷ rest) (rows_set xs i w)
 
 one_more : (nets : List ℕ) (net i : ℕ) → among (nets ++ net ∷ []) i ≡ (among nets i || (net == i))
 one_more nets net i = list_any-append (λ n. n == i) nets (net ∷ []) ∙ ap (λ b. among nets i || b) (or-false (net == i))
 
-pub row_added : (rows : List (SmallVec ℕ)) (first net : ℕ) (v w : SmallVec ℕ) → first < length rows → v ≡ get_or rows first v → w.items ≡ v.items ++ net ∷ [] →
-    (other i : ℕ) → among (row_of (rows_of (set rows first w)) other) i ≡ (among (row_of (rows_of rows) other) i || ((first == other) && (net == i)))
-row_added rows first net v w below is pushed other i = ap (λ (rs : List (List ℕ)). among (row_of rs other) i) (rows_set rows first w) ∙ by (first == other) refl
+pub row_added : (rows : List (List ℕ)) (first net : ℕ) (v w : List ℕ) → first < length rows → v ≡ get_or rows first v → w ≡ v ++ net ∷ [] →
+    (other i : ℕ) → among (row_of (set rows first w) other) i ≡ (among (row_of rows other) i || ((first == other) && (net == i)))
+row_added rows first net v w below is pushed other i = by (first == other) refl
   where
-    long : first < length (rows_of rows)
-    long = let same = length-map rows (λ (r : SmallVec ℕ). r.items) in omega (arith, same, below)
-
     by : (here : Bool) → (first == other) ≡ here →
-        among (row_of (set (rows_of rows) first w.items) other) i ≡ (among (row_of (rows_of rows) other) i || (here && (net == i)))
+        among (row_of (set rows first w) other) i ≡ (among (row_of rows other) i || (here && (net == i)))
     by true e =
         let same : first ≡ other = eqb-true first other e in
-        ap (λ (k : ℕ). among (row_of (set (rows_of rows) first w.items) k) i) (sym same)
-        ∙ ap (λ (row : List ℕ). among row i) (get_or-set_same (rows_of rows) first w.items [] long ∙ pushed ∙ ap (λ (row : List ℕ). row ++ net ∷ []) (sym (row_read rows first v below is)))
-        ∙ one_more (row_of (rows_of rows) first) net i ∙ ap (λ (k : ℕ). among (row_of (rows_of rows) k) i || (net == i)) same
+        ap (λ (k : ℕ). among (row_of (set rows first w) k) i) (sym same)
+        ∙ ap (λ (row : List ℕ). among row i) (get_or-set_same rows first w [] below ∙ pushed ∙ ap (λ (row : List ℕ). row ++ net ∷ []) (sym (row_read rows first v below is)))
+        ∙ one_more (row_of rows first) net i ∙ ap (λ (k : ℕ). among (row_of rows k) i || (net == i)) same
     by false e =
-        ap (λ (row : List ℕ). among row i) (get_or-set_other (rows_of rows) first other w.items [] (λ same. eqb-false first other e (sym same)))
-        ∙ sym (or-false (among (row_of (rows_of rows) other) i))
+        ap (λ (row : List ℕ). among row i) (get_or-set_other rows first other w [] (λ same. eqb-false first other e (sym same)))
+        ∙ sym (or-false (among (row_of rows other) i))
 
 -- ---- the net that stands for the class of a pin's net
 

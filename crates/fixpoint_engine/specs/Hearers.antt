@@ -1,16 +1,12 @@
 -- Which nets hear a class: those that stand for their classes and whose drivers listen to a net of it.
-use Rattle.std.specs.Prelude.{◌≡◌, ℕ, ◌==◌, true, false, Bool, ◌&&◌, List, [], length, map, slice_index_or, Option, Some, None}
-use Rattle.smallvec.specs.SmallVec.{SmallVec}
+use Rattle.std.specs.Prelude.{◌≡◌, ℕ, ◌==◌, true, false, Bool, ◌&&◌, List, [], length, slice_index_or, Option, Some, None}
 use Rattle.flat_circuit.specs.Circuit.{Circuit, driver}
 use Rattle.class_table.specs.Alike.{class_of}
 use Rattle.fixpoint_engine.specs.Members.{leads_in}
 use Rattle.fixpoint_engine.specs.Work.{hears_in}
 use Rattle.fixpoint_engine.specs.Worklist.{among}
 
--- rows of nets, one for each net
-abbrev pub rows_of : List (SmallVec ℕ) → List (List ℕ)
-rows_of rows = map (λ r. r.items) rows
-
+-- of rows of nets, one for each net, that of a net
 abbrev pub row_of : List (List ℕ) → ℕ → List ℕ
 row_of rows i = slice_index_or rows i []
 

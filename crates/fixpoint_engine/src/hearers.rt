@@ -8,19 +8,18 @@ ghost use Rattle.class_table.specs.Alike.{class_of};
 ghost use Rattle.fixpoint_engine.specs.Members.{leads_in};
 ghost use Rattle.fixpoint_engine.specs.Work.{hears_from, is_on_any};
 ghost use Rattle.fixpoint_engine.specs.Worklist.{among};
-ghost use Rattle.fixpoint_engine.specs.Hearers.{AreHearers, hears_class, is_net, row_of, rows_of};
+ghost use Rattle.fixpoint_engine.specs.Hearers.{AreHearers, hears_class, is_net, row_of};
 
 use crate::class_nets::ClassNets;
 use element_kinds::Kind;
-use flat_circuit::{Circuit, Pin};
+use flat_circuit::{Circuit, Few, Pin};
 use scald_base::NoMemory;
-use smallvec::SmallVec;
 use std::alloc::Global;
 use std::marker::Model;
 use vector_names::Target;
 
-/// The nets that hear one class, of which most have few: four need no memory of their own.
-type Row = SmallVec<u32, 4>;
+/// The nets that hear one class, of which most have one or two.
+type Row = Few<u32>;
 
 /// For each class the nets that stand for theirs and whose drivers listen to a net of the class. So a round
 /// costs what hears the classes that change, and not all of their nets.
@@ -32,15 +31,14 @@ pub struct Hearers {
 
 impl Model for Hearers {
     ghost use Rattle.std.specs.Prelude.{List, ℕ};
-    ghost use Rattle.fixpoint_engine.specs.Hearers.{rows_of};
 
     ghost Value = { List (List ℕ) };
 
-    ghost view = { λ h. rows_of h.rows.items };
+    ghost view = { λ h. h.rows.items };
 }
 
 fn empty_rows(alloc: Global, count: u32) -> Result<Vec<Row>, NoMemory>
-    ensures { IfOk result (λ rows. rows_of rows.items ≡ map (λ _. []) (range_with_len 0 count)) }
+    ensures { IfOk result (λ rows. rows.items ≡ map (λ _. []) (range_with_len 0 count)) }
 {
     let mut rows = Vec::with_capacity(alloc, count as usize)?;
     for _k in 0..count {
@@ -69,8 +67,8 @@ fn heard(classes: &ClassNets, kind: Kind, place: usize, target: Target) -> Optio
 fn add_at(rows: &mut Vec<Row>, first: u32, net: u32) -> Result<(), NoMemory>
     requires { first < length rows.old.items }
     ensures long { OnOk result (length rows.new.items ≡ length rows.old.items) }
-    ensures added { OnOk result ((other i : ℕ) → among (row_of (rows_of rows.new.items) other) i
-        ≡ (among (row_of (rows_of rows.old.items) other) i || ((first == other) && (net == i)))) }
+    ensures added { OnOk result ((other i : ℕ) → among (row_of rows.new.items other) i
+        ≡ (among (row_of rows.old.items other) i || ((first == other) && (net == i)))) }
 {
     rows[first as usize].push(net)?;
     Ok(())
@@ -89,7 +87,7 @@ fn add_pin(
     requires exists { TargetExists (length classes.now) target }
     ensures long { OnOk result (length rows.new.items ≡ length rows.old.items) }
     ensures added { OnOk result ((first i : ℕ) → leads_in (Some classes.now) first ≡ true →
-        among (row_of (rows_of rows.new.items) first) i ≡ (among (row_of (rows_of rows.old.items) first) i
+        among (row_of rows.new.items first) i ≡ (among (row_of rows.old.items first) i
         || ((listens kind place && is_on_any (λ j. class_of classes.now first == class_of classes.now j) target)
         && (net == i)))) }
 {
@@ -111,7 +109,7 @@ fn add_pins(
     requires exist { All (PinExists (length classes.now)) pins.now }
     ensures long { OnOk result (length rows.new.items ≡ length rows.old.items) }
     ensures added { OnOk result ((first i : ℕ) → leads_in (Some classes.now) first ≡ true →
-        among (row_of (rows_of rows.new.items) first) i ≡ (among (row_of (rows_of rows.old.items) first) i
+        among (row_of rows.new.items first) i ≡ (among (row_of rows.old.items first) i
         || (hears_from (λ j. class_of classes.now first == class_of classes.now j) kind 0 pins.now && (net == i)))) }
 {
     for place in 0..pins.len() {
@@ -126,7 +124,7 @@ fn add_net(rows: &mut Vec<Row>, c: &Circuit, classes: &ClassNets, net: u32) -> R
     requires classes { length classes.now ≡ length c.now.nets }
     ensures long { OnOk result (length rows.new.items ≡ length rows.old.items) }
     ensures added { OnOk result ((first i : ℕ) → leads_in (Some classes.now) first ≡ true →
-        among (row_of (rows_of rows.new.items) first) i ≡ (among (row_of (rows_of rows.old.items) first) i
+        among (row_of rows.new.items first) i ≡ (among (row_of rows.old.items first) i
         || (hears_class c.now classes.now (class_of classes.now first) net && (net == i)))) }
 {
     if !classes.leads(net) {

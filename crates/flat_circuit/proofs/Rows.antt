@@ -11,8 +11,7 @@ use Rattle.flat_circuit.specs.declared.instance.Pin.{Pin}
 use Rattle.flat_circuit.specs.declared.instance.Instance.{Instance}
 use Rattle.element_kinds.specs.Kinds.{listens}
 use Rattle.flat_circuit.specs.Instances.{is_on, any_listens, reads, numbers_from, readers_of}
-use Rattle.flat_circuit.specs.Steps.{Row, row_at, row_noted, row_told, last_is, is_it, told_by, RowsTo, rows_of}
-use Rattle.smallvec.specs.SmallVec.{SmallVec}
+use Rattle.flat_circuit.specs.Steps.{Row, row_at, row_noted, row_told, last_is, is_it, told_by, RowsTo}
 
 last_new : (row : Row) (k : ℕ) → slice_get (row ++ k ∷ []) (length row) ≡ Some k
 last_new [] k = refl
@@ -90,17 +89,17 @@ rows_step js n k rows rows' j l e long told h = record {
 pub rows_done : (js : List Instance) (n k : ℕ) (rows : List Row) → length js ≤ k → RowsTo js n k rows → rows ≡ map (readers_of js) (range_with_len 0 n)
 rows_done js n k rows l h = fill_by_all (readers_of js) rows n [] h.long (λ i b. let t = h.told i b in let d = drop_all k js l in sym (append-nil (row_at rows i)) ∙ rw d at t)
 
-rows_get : (rows : List (SmallVec ℕ)) (i : ℕ) (v : SmallVec ℕ) → i < length rows → v ≡ get_or rows i v → row_at (rows_of rows) i ≡ v.items
+rows_get : (rows : List Row) (i : ℕ) (v : Row) → i < length rows → v ≡ get_or rows i v → row_at rows i ≡ v
 rows_get [] i v l e = absurd (omega arith)
-rows_get (x ∷ xs) zero v l e = ap (λ (y : SmallVec ℕ). y.items) (sym e)
+rows_get (x ∷ xs) zero v l e = sym e
 rows_get (x ∷ xs) (suc i) v l e = rows_get xs i v (omega arith) e
 
-rows_set : (rows : List (SmallVec ℕ)) (i x : ℕ) (w : SmallVec ℕ) → i < length rows → row_at (rows_of (set rows i w)) x ≡ cond (nat_eq i x) w.items (row_at (rows_of rows) x)
+rows_set : (rows : List Row) (i x : ℕ) (w : Row) → i < length rows → row_at (set rows i w) x ≡ cond (nat_eq i x) w (row_at rows x)
 rows_set [] i x w l = absurd (omega arith)
 rows_set (r ∷ rs) zero zero w l = refl
 rows_set (r ∷ rs) zero (suc x) w l = let e : nat_eq 0 (suc x) ≡ false = grind (arith, nat_tests) in rw e refl
 rows_set (r ∷ rs) (suc i) zero w l = let e : nat_eq (suc i) 0 ≡ false = grind (arith, nat_tests) in rw e refl
-rows_set (r ∷ rs) (suc i) (suc x) w l = rows_set rs i x w (omega arith) ∙ same i x w.items (row_at (rows_of rs) x) where
+rows_set (r ∷ rs) (suc i) (suc x) w l = rows_set rs i x w (omega arith) ∙ same i x w (row_at rs x) where
   same : (i x : ℕ) (a b : Row) → cond (nat_eq i x) a b ≡ cond (nat_eq (suc i) (suc x)) a b
   same i x a b = let e : nat_eq i x ≡ nat_eq (suc i) (suc x) = grind (arith, nat_tests) in ap (λ t. cond t a b) e
 
@@ -108,36 +107,36 @@ eq_cases : (i x : ℕ) (b : Bool) (p q r : Row) → nat_eq i x ≡ b → (i ≡ 
 eq_cases i x true p q r e f = f (grind (arith, nat_tests))
 eq_cases i x false p q r e f = refl
 
-pub row_written : (rows : List (SmallVec ℕ)) (i k : ℕ) (v w : SmallVec ℕ) → i < length rows → v ≡ get_or rows i v → w.items ≡ row_noted v.items k →
-    (x : ℕ) → row_at (rows_of (set rows i w)) x ≡ cond (nat_eq i x) (row_noted (row_at (rows_of rows) x) k) (row_at (rows_of rows) x)
+pub row_written : (rows : List Row) (i k : ℕ) (v w : Row) → i < length rows → v ≡ get_or rows i v → w ≡ row_noted v k →
+    (x : ℕ) → row_at (set rows i w) x ≡ cond (nat_eq i x) (row_noted (row_at rows x) k) (row_at rows x)
 row_written rows i k v w l e h x =
-    rows_set rows i x w l ∙ eq_cases i x (nat_eq i x) w.items (row_noted (row_at (rows_of rows) x) k) (row_at (rows_of rows) x)
-    refl (λ q. h ∙ ap (λ r. row_noted r k) (sym (rows_get rows i v l e)) ∙ ap (λ y. row_noted (row_at (rows_of rows) y) k) q)
+    rows_set rows i x w l ∙ eq_cases i x (nat_eq i x) w (row_noted (row_at rows x) k) (row_at rows x)
+    refl (λ q. h ∙ ap (λ r. row_noted r k) (sym (rows_get rows i v l e)) ∙ ap (λ y. row_noted (row_at rows y) k) q)
 
-found_from : (f : ℕ → Row) (rows : List (SmallVec ℕ)) (a n i : ℕ) (r : SmallVec ℕ) →
-    map (λ (y : SmallVec ℕ). y.items) rows ≡ map f (range_with_len a n) →
-    slice_get rows i ≡ Some r → (i < n) × (r.items ≡ f (a + i))
+found_from : (f : ℕ → Row) (rows : List Row) (a n i : ℕ) (r : Row) →
+    rows ≡ map f (range_with_len a n) →
+    slice_get rows i ≡ Some r → (i < n) × (r ≡ f (a + i))
 found_from f [] a n i r e h = absurd (cc)
 found_from f (x ∷ xs) a zero i r e h = absurd (cc)
 found_from f (x ∷ xs) a (suc n) zero r e h =
     let z : x ≡ r = cc in
-    let y : x.items ≡ f a = cc in
+    let y : x ≡ f a = cc in
     let q : a + 0 ≡ a = omega arith in
-    (omega arith, rw q (ap (λ (v : SmallVec ℕ). v.items) (sym z) ∙ y))
+    (omega arith, rw q (sym z ∙ y))
 found_from f (x ∷ xs) a (suc n) (suc i) r e h = let p = found_from f xs (a + 1) n i r (cc) h in let b = p.0 in let q : a + 1 + i ≡ a + suc i = omega arith in (omega arith, p.1 ∙ ap f q)
 
-pub row_found : (js : List Instance) (rows : List (SmallVec ℕ)) (n i : ℕ) (r : SmallVec ℕ) →
-    map (λ (y : SmallVec ℕ). y.items) rows ≡ map (readers_of js) (range_with_len 0 n) → slice_get rows i ≡ Some r → (i < n) × (r.items ≡ readers_of js i)
+pub row_found : (js : List Instance) (rows : List Row) (n i : ℕ) (r : Row) →
+    rows ≡ map (readers_of js) (range_with_len 0 n) → slice_get rows i ≡ Some r → (i < n) × (r ≡ readers_of js i)
 row_found js rows n i r e h = let p = found_from (readers_of js) rows 0 n i r e h in let z : 0 + i ≡ i = omega arith in (p.0, p.1 ∙ ap (readers_of js) z)
 
-missing_from : (f : ℕ → Row) (rows : List (SmallVec ℕ)) (a n i : ℕ) → map (λ (y : SmallVec ℕ). y.items) rows ≡ map f (range_with_len a n) → slice_get rows i ≡ None → n ≤ i
+missing_from : (f : ℕ → Row) (rows : List Row) (a n i : ℕ) → rows ≡ map f (range_with_len a n) → slice_get rows i ≡ None → n ≤ i
 missing_from f [] a zero i e h = omega arith
 missing_from f [] a (suc n) i e h = absurd (cc)
 missing_from f (x ∷ xs) a zero i e h = omega arith
 missing_from f (x ∷ xs) a (suc n) zero e h = absurd (cc)
 missing_from f (x ∷ xs) a (suc n) (suc i) e h = let p = missing_from f xs (a + 1) n i (cc) h in omega arith
 
-pub row_missing : (js : List Instance) (rows : List (SmallVec ℕ)) (n i : ℕ) →
-    map (λ (y : SmallVec ℕ). y.items) rows ≡ map (readers_of js) (range_with_len 0 n) →
+pub row_missing : (js : List Instance) (rows : List Row) (n i : ℕ) →
+    rows ≡ map (readers_of js) (range_with_len 0 n) →
     slice_get rows i ≡ None → n ≤ i
 row_missing js rows n i e h = missing_from (readers_of js) rows 0 n i e h

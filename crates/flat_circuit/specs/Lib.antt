@@ -1,3 +1,5 @@
+pub mod Few
+pub mod Text
 pub mod Kind
 pub mod Split
 pub mod Name

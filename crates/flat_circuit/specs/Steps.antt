@@ -1,7 +1,6 @@
 -- What the steps of a builder's end say to each other.
 use Rattle.std.specs.Prelude.{◌≡◌, ◌⊎◌, ℕ, ◌+◌, ◌-◌, ◌<◌, Bool, true, false, ◌&&◌, ◌==◌, if◌then◌else◌, List, [], ◌∷◌, ◌++◌, length, map, drop, slice_get, slice_set, slice_index_or, Option, Some, None, is_some, MatchOption, option_to_list}
 use Rattle.std.specs.List.{All}
-use Rattle.smallvec.specs.SmallVec.{SmallVec}
 use Rattle.scald_base.specs.Time.{Bounds}
 use Rattle.scald_base.specs.declared.assertion.AssertSpec.{AssertSpec}
 use Rattle.scald_base.specs.declared.refusal.RefusalKind.TheVariants.{TwoDrivers, ZeroLoop}
@@ -75,9 +74,6 @@ StopsAtLoop ws js (Refused r) = (r.kind ≡ ZeroLoop) × IsFirst (IsLooped (boun
 
 abbrev pub Row : Type 0
 Row = List ℕ
-
-abbrev pub rows_of : List (SmallVec ℕ) → List Row
-rows_of rows = map (λ r. r.items) rows
 
 abbrev pub row_at : List Row → ℕ → Row
 row_at rows i = slice_index_or rows i []

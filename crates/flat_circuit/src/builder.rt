@@ -9,7 +9,8 @@ ghost use Rattle.flat_circuit.specs.Builder.{empty, IsBuilt, GivesNet, IsNetRefu
 use crate::assertions::{Assertions, is_asserted};
 use crate::instance::Instance;
 use crate::net_table::{NetName, NetTable};
-use scald_base::{AssertSpec, Bytes, Delay, Header, List, NoMemory, Place, RefusalKind, Stop};
+use crate::text::Text;
+use scald_base::{AssertSpec, Delay, Header, List, NoMemory, Place, RefusalKind, Stop};
 use std::alloc::Global;
 use std::marker::Model;
 
@@ -137,7 +138,7 @@ impl Builder {
             IfErr result (λ stop. (self.new ≡ self.old) × IsNetRefusal self.old name spec.now place stop) }
     {
         let name = NetName {
-            text: joined(self.alloc, path, base)?,
+            text: Text::joined(self.alloc, path, base)?,
             bit,
         };
         if self.assertions.clashes(name.text.as_slice(), spec) {
@@ -254,14 +255,4 @@ fn is_joined(text: &[u8], path: &[u8], base: &[u8]) -> bool
         Some(rest) => rest == base,
         None => false,
     }
-}
-
-/// The bytes of one and then those of the other.
-fn joined(alloc: Global, path: &[u8], base: &[u8]) -> Result<Bytes, NoMemory>
-    ensures { IfOk result (λ text. text ≡ path.now ++ base.now) }
-{
-    let mut text = Bytes::with_room(alloc, path.len().saturating_add(base.len()))?;
-    text.extend(path)?;
-    text.extend(base)?;
-    Ok(text)
 }

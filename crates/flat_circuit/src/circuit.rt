@@ -39,7 +39,7 @@ impl Model for Circuit {
 
     ghost invariant = { λ c.
         IsCircuit (record { header = c.header; nets = c.nets; instances = c.instances; order = c.order.items })
-        × (map (λ r. r.items) c.readers.items ≡ map (readers_of c.instances) (range_with_len 0 (length c.nets))) };
+        × (c.readers.items ≡ map (readers_of c.instances) (range_with_len 0 (length c.nets))) };
 }
 
 impl Circuit {

@@ -17,7 +17,8 @@ use crate::net_table::NetTable;
 use crate::order::by_name;
 use crate::passages::no_loop;
 use crate::readers::readers;
-use scald_base::{AssertSpec, Bytes, List, NoMemory, Stop};
+use crate::text::Text;
+use scald_base::{AssertSpec, List, NoMemory, Stop};
 use std::alloc::Global;
 
 impl Builder {
@@ -120,10 +121,10 @@ fn net(
 {
     let name = table.name(i);
     Ok(Net {
-        name: Bytes::of(alloc, name.text.as_slice())?,
-        bit: name.bit,
+        name: Text::of(alloc, name.text.as_slice())?,
         spec,
-        wire: table.wire_at(i),
         driver,
+        wire: table.wire_at(i),
+        bit: name.bit,
     })
 }

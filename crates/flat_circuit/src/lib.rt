@@ -13,6 +13,7 @@ mod case;
 mod circuit;
 mod drivers;
 mod fault;
+mod few;
 mod finish;
 mod instance;
 mod laws;
@@ -23,6 +24,7 @@ mod passages;
 mod readers;
 mod search;
 mod split;
+mod text;
 
 pub use assertions::is_same_assertion;
 pub use builder::Builder;
@@ -30,10 +32,12 @@ pub use case::{Case, CaseList, CaseValue};
 pub use circuit::Circuit;
 pub use element_kinds::Kind;
 pub use fault::{Fault, Faults, PointKind, append_faults};
-pub use instance::{Few, Instance, Pin, Pins};
+pub use few::Few;
+pub use instance::{Instance, Pin, Pins};
 pub use laws::{
     fronts_are_runs, later_parts_are_runs, runs_go_by_instances, unnamed_bits_are_free,
 };
 pub use net::Net;
 pub use split::{Split, equal_delays_are_one, every_tick_counts, rise_mirrors_fall};
+pub use text::Text;
 pub use vector_names::Target;

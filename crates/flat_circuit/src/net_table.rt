@@ -4,15 +4,16 @@ ghost use Rattle.std.specs.Prelude.{◌≡◌, ◌<◌, [], ◌∷◌, ◌++◌,
 ghost use Rattle.flat_circuit.specs.Name.{IsNumber, name_at};
 ghost use Rattle.flat_circuit.specs.Builder.{has_name, name_of_key, bounds_at};
 
+use crate::text::Text;
 use indexmap::IndexMap;
-use scald_base::{Bytes, Delay, NoMemory};
+use scald_base::{Delay, NoMemory};
 use std::alloc::Global;
 use std::marker::Model;
 
 /// The whole text of path and base name, and the bit.
 #[derive(Drop, PartialEq, Eq, Hash)]
 pub struct NetName {
-    pub text: Bytes,
+    pub text: Text,
     pub bit: u16,
 }
 

@@ -4,17 +4,17 @@ ghost use Rattle.std.specs.Prelude.{◌≡◌, ◌<◌, ◌^◌, ◌&&◌, ◌==
 ghost use Rattle.std.specs.List.{All, range_with_len};
 ghost use Rattle.element_kinds.specs.Kinds.{listens};
 ghost use Rattle.flat_circuit.specs.Instances.{InstanceExists, PinExists, TargetExists, is_on, readers_of};
-ghost use Rattle.flat_circuit.specs.Steps.{row_at, row_noted, row_told, rows_of, told_by, last_is};
+ghost use Rattle.flat_circuit.specs.Steps.{row_at, row_noted, row_told, told_by, last_is};
 
+use crate::few::Few;
 use crate::instance::{Instance, Pin};
 use element_kinds::Kind;
 use scald_base::NoMemory;
-use smallvec::SmallVec;
 use std::alloc::Global;
 use vector_names::Target;
 
-/// The readers of a net, of which most have few: four need no memory of their own.
-pub type Readers = SmallVec<u32, 4>;
+/// The readers of a net, of which most have one or two.
+pub type Readers = Few<u32>;
 
 /// For each of so many nets, the instances with an output that listen to it, each once, ascending.
 pub(crate) fn readers(
@@ -24,7 +24,7 @@ pub(crate) fn readers(
 ) -> Result<Vec<Readers>, NoMemory>
     requires within { All (InstanceExists nets) instances.now }
     requires few { length instances.now < 2 ^ 32 }
-    ensures { IfOk result (λ rows. rows_of rows.items ≡ map (readers_of instances.now) (range_with_len 0 nets)) }
+    ensures { IfOk result (λ rows. rows.items ≡ map (readers_of instances.now) (range_with_len 0 nets)) }
 {
     let mut rows = empty_rows(alloc, nets)?;
     for k in 0..instances.len() {
@@ -34,7 +34,7 @@ pub(crate) fn readers(
 }
 
 fn empty_rows(alloc: Global, count: usize) -> Result<Vec<Readers>, NoMemory>
-    ensures { IfOk result (λ rows. rows_of rows.items ≡ map (λ _. []) (range_with_len 0 count)) }
+    ensures { IfOk result (λ rows. rows.items ≡ map (λ _. []) (range_with_len 0 count)) }
 {
     let mut rows = Vec::with_capacity(alloc, count)?;
     for _k in 0..count {
@@ -48,8 +48,8 @@ fn note_instance(rows: &mut Vec<Readers>, instance: &Instance, k: u32) -> Result
     requires { InstanceExists (length rows.old.items) instance.now }
     ensures long { OnOk result (length rows.new.items ≡ length rows.old.items) }
     ensures told { OnOk result
-        ((i : ℕ) → row_at (rows_of rows.new.items) i
-        ≡ told_by instance.now i k (row_at (rows_of rows.old.items) i)) }
+        ((i : ℕ) → row_at rows.new.items i
+        ≡ told_by instance.now i k (row_at rows.old.items i)) }
 {
     if instance.out.is_some() {
         note_pins(rows, instance.kind, instance.pins.as_slice(), k)
@@ -62,7 +62,7 @@ fn note_pins(rows: &mut Vec<Readers>, kind: Kind, pins: &[Pin], k: u32) -> Resul
     requires { All (PinExists (length rows.old.items)) pins.now }
     ensures long { OnOk result (length rows.new.items ≡ length rows.old.items) }
     ensures told { OnOk result ((i : ℕ) →
-        row_at (rows_of rows.new.items) i ≡ row_told kind i k 0 pins.now (row_at (rows_of rows.old.items) i)) }
+        row_at rows.new.items i ≡ row_told kind i k 0 pins.now (row_at rows.old.items i)) }
 {
     for t in 0..pins.len() {
         note_pin(rows, kind, t, pins[t].target, k)?;
@@ -81,8 +81,8 @@ fn note_pin(
     requires { TargetExists (length rows.old.items) target }
     ensures long { OnOk result (length rows.new.items ≡ length rows.old.items) }
     ensures told { OnOk result
-        ((i : ℕ) → row_at (rows_of rows.new.items) i ≡ (if listens kind place && is_on i
-        target then row_noted (row_at (rows_of rows.old.items) i) k else row_at (rows_of rows.old.items) i)) }
+        ((i : ℕ) → row_at rows.new.items i ≡ (if listens kind place && is_on i
+        target then row_noted (row_at rows.old.items i) k else row_at rows.old.items i)) }
 {
     if !kind.listens(place) {
         return Ok(());
@@ -99,15 +99,15 @@ fn note_pin(
 fn note_at(rows: &mut Vec<Readers>, i: u32, k: u32) -> Result<(), NoMemory>
     requires { i < length rows.old.items }
     ensures long { OnOk result (length rows.new.items ≡ length rows.old.items) }
-    ensures told { OnOk result ((x : ℕ) → row_at (rows_of rows.new.items)
-        x ≡ (if i == x then row_noted (row_at (rows_of rows.old.items) x) k else row_at (rows_of rows.old.items) x)) }
+    ensures told { OnOk result ((x : ℕ) → row_at rows.new.items
+        x ≡ (if i == x then row_noted (row_at rows.old.items x) k else row_at rows.old.items x)) }
 {
     note_row(&mut rows[i as usize], k)?;
     Ok(())
 }
 
 fn note_row(row: &mut Readers, k: u32) -> Result<(), NoMemory>
-    ensures { OnOk result (row.new.items ≡ row_noted row.old.items k) }
+    ensures { OnOk result (row.new ≡ row_noted row.old k) }
 {
     if !last_is_it(row.as_slice(), k) {
         row.push(k)?;

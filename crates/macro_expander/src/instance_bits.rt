@@ -11,8 +11,8 @@ use crate::connection::Joined;
 use crate::expansion::Expansion;
 use crate::primitive::Plan;
 use drawing_tree::UseStmt;
-use flat_circuit::{Instance, Kind, Pin, Pins};
-use scald_base::{Bytes, NoMemory, Stop};
+use flat_circuit::{Instance, Kind, Pin, Pins, Text};
+use scald_base::{NoMemory, Stop};
 use std::alloc::Global;
 use vector_names::{BitRef, Target};
 
@@ -174,7 +174,7 @@ fn instance(alloc: Global, wiring: &Wiring, k: u16) -> Result<Instance, NoMemory
 {
     let output = output(wiring.outs, k as usize);
     Ok(Instance {
-        path: Bytes::of(alloc, wiring.path)?,
+        path: Text::of(alloc, wiring.path)?,
         bit: k,
         kind: wiring.kind,
         delay: wiring.plan.delay,

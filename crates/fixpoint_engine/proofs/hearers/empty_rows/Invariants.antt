@@ -1,7 +1,6 @@
 use Rattle.std.proofs.Common.{◌≡◌, [], map}
 use Rattle.std.specs.List.{range_with_len}
-use Rattle.fixpoint_engine.specs.Hearers.{rows_of}
 use Rattle.fixpoint_engine.proofs.hearers.empty_rows.Given as goal
 
 abbrev pub invariant-loop-k : goal.invariant-loop-k
-invariant-loop-k l = rows_of l.rows.items ≡ map (λ _. []) (range_with_len 0 l._k)
+invariant-loop-k l = l.rows.items ≡ map (λ _. []) (range_with_len 0 l._k)

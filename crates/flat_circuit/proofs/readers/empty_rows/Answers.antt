@@ -1,11 +1,7 @@
 use Rattle.std.proofs.Common.{◌∙◌, ◌++◌, ◌∷◌, [], ap, sym, ℕ, List, arith}
-use Rattle.smallvec.specs.SmallVec.{SmallVec}
-use Rattle.std.proofs.lemmas.List.{map_push}
 use Rattle.std.proofs.lemmas.List.FromFn.{map-range_with_len_more}
-use Rattle.flat_circuit.specs.Steps.{rows_of}
 use Rattle.flat_circuit.proofs.readers.empty_rows.Goals as goal
 
 pub loop-k-preserved : goal.loop-k-preserved
-loop-k-preserved c = ap rows_of c.in_ok-push.ensures.items ∙ map_push (λ (v : SmallVec ℕ). v.items) c.loop-k.rows.items c.new.result
-    ∙ rw c.new.ensures.items (ap (λ (x : List (List ℕ)). x ++ [] ∷ []) c.loop-k.invariant)
+loop-k-preserved c = c.in_ok-push.ensures.items ∙ rw c.new.ensures (ap (λ (x : List (List ℕ)). x ++ [] ∷ []) c.loop-k.invariant)
     ∙ sym (map-range_with_len_more (λ _. []) 0 c.loop-k._k c.loop-k._k (omega arith))

@@ -1,5 +1,5 @@
-use Rattle.flat_circuit.specs.Steps.{RowsTo, rows_of}
+use Rattle.flat_circuit.specs.Steps.{RowsTo}
 use Rattle.flat_circuit.proofs.readers.readers.Given as goal
 
 abbrev pub invariant-loop-k : goal.invariant-loop-k
-invariant-loop-k l = RowsTo l.instances l.nets l.k (rows_of l.rows.items)
+invariant-loop-k l = RowsTo l.instances l.nets l.k l.rows.items
