@@ -3,7 +3,7 @@
 ghost use Rattle.step_values.specs.Image.{and_of, latch_of, latch_rs_of, mux2_of, or_of, reg_rs_of, xor_of};
 ghost use Rattle.step_values.specs.Table.{IsTable2, IsTable3, IsTable4};
 
-use crate::gate_image::{and_value, mux2_value, or_value, xor_value};
+use crate::gate_image::mux2_value;
 use crate::storage_image::{latch_rs_value, latch_value, reg_rs_value};
 use crate::table::{Table, value_at};
 use crate::value::Value;
