@@ -1,5 +1,5 @@
 -- How the parts of a circuit come together.
-use Rattle.std.proofs.Common.{◌≡◌, ℕ, zero, suc, ◌+◌, ◌<◌, Bool, true, false, cond, List, [], ◌∷◌, ◌++◌, length, map, get_or, take, Option, refl, ap, sym, subst, ◌∙◌, arith, inl, inr}
+use Rattle.std.proofs.Common.{◌≡◌, ℕ, zero, suc, ◌+◌, ◌<◌, Bool, true, false, cond, List, [], ◌∷◌, ◌++◌, length, map, get_or, take, drop, Option, refl, ap, sym, subst, ◌∙◌, arith, inl, inr}
 use Rattle.std.specs.List.{All}
 use Rattle.std.specs.Str.{bytes_eq}
 use Rattle.std.proofs.lemmas.List.{length-map, map_push, take_more}
@@ -11,13 +11,14 @@ use Rattle.scald_base.specs.declared.refusal.Stop.{Stop}
 use Rattle.scald_base.specs.declared.refusal.Stop.TheVariants.{Refused, NoMemory}
 use Rattle.flat_circuit.specs.declared.net.Net.{Net}
 use Rattle.flat_circuit.specs.declared.instance.Instance.{Instance}
-use Rattle.flat_circuit.specs.Name.{Name, nameless, IsNameOrder}
+use Rattle.flat_circuit.specs.Name.{Name, name_at, nameless, IsNameOrder}
 use Rattle.flat_circuit.specs.Instances.{IsTaken}
 use Rattle.flat_circuit.specs.Loop.{HoldsOfNone}
 use Rattle.flat_circuit.specs.Circuit.{IsCircuit, net_name, net_names, wire_at, driver_at}
-use Rattle.flat_circuit.specs.Builder.{built, Nets, Asserted, spec_of, bounds_at, IsBuilt, IsRefusal, IsRuleBroken, Stands}
+use Rattle.flat_circuit.specs.Builder.{built, Nets, name_of_key, net_entries, Asserted, spec_of, bounds_at, IsBuilt, IsRefusal, IsRuleBroken, Stands}
 use Rattle.flat_circuit.specs.Steps.{DrivenTo, AreNets, AreRuled, IsNet, specs_of, entry, StopsAtLoop, StopsAtRule, StopsAtTaken}
 use Rattle.flat_circuit.proofs.Driven.{drivers_are, not_taken}
+use Rattle.flat_circuit.proofs.Tables.{Entry}
 use Rattle.flat_circuit.proofs.Loops.{none_looped_by}
 
 -- ---- the nets, one after another
@@ -39,6 +40,14 @@ nets_step names ws given ds nets n i d l lw ld h a =
       specs_are = map_step (λ (x : Net). x.spec) nets n (specs_of given names) i (spec_of given nameless.text) (omega (arith, length-map names (λ (x : Name). spec_of given x.text))) a.specs_are s;
       drivers_are = map_step (λ (x : Net). x.driver) nets n ds i d (omega arith) a.drivers_are h.driver_is;
     }
+
+-- what is left of the entries from the place of the next net on, and the first of it
+pub entry_at : (es rest : List Entry) (i : ℕ) (e : Entry) → drop i es ≡ e ∷ rest →
+    (i < length es) × (rest ≡ drop (i + 1) es) × (name_at (net_entries es).names i ≡ name_of_key e.0) × (bounds_at (net_entries es).wires i ≡ e.1)
+entry_at [] rest zero e h = absurd (cc)
+entry_at [] rest (suc i) e h = absurd (cc)
+entry_at (x ∷ xs) rest zero e h = (omega arith, cc, cc, cc)
+entry_at (x ∷ xs) rest (suc i) e h = let p = entry_at xs rest i e h in let b = p.0 in (omega arith, p.1, p.2, p.3)
 
 -- nets with the specs of the first names have each that of its own
 pub specs_by_names : (given : List Asserted) (names : List Name) (i : ℕ) (nets : List Net) →

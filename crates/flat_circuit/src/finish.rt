@@ -2,10 +2,9 @@
 
 ghost use Rattle.std.specs.Prelude.{◌≡◌, ◌<◌, ◌^◌, List, length, IfOk, MatchResult};
 ghost use Rattle.std.specs.List.{All};
-ghost use Rattle.flat_circuit.specs.Name.{name_at};
-ghost use Rattle.flat_circuit.specs.Builder.{Asserted, Stands, IsRefusal, spec_of as spec_for};
+ghost use Rattle.flat_circuit.specs.Builder.{Stands, IsRefusal, spec_of as spec_for};
 ghost use Rattle.flat_circuit.specs.Instances.{InstanceExists};
-ghost use Rattle.flat_circuit.specs.Steps.{AreNets, AreRuled, IsNet, StopsAtRule, specs_of};
+ghost use Rattle.flat_circuit.specs.Steps.{AreNets, AreRuled, StopsAtRule, specs_of};
 
 use crate::assertions::{Assertions, copied};
 use crate::builder::Builder;
@@ -17,7 +16,6 @@ use crate::net_table::NetTable;
 use crate::order::by_name;
 use crate::passages::no_loop;
 use crate::readers::readers;
-use crate::text::Text;
 use scald_base::{AssertSpec, List, NoMemory, Stop};
 use std::alloc::Global;
 
@@ -67,64 +65,49 @@ fn checked_nets(
 {
     let drivers = drivers(alloc, instances, table.len())?;
     no_loop(alloc, &table, &drivers, instances)?;
-    let nets = nets(alloc, &table, assertions, &drivers)?;
+    let nets = nets(alloc, table, assertions, &drivers)?;
     Ok(nets)
 }
 
+/// The nets with what the table says of them, what is asserted of them and what drives them. Their names are moved.
 fn nets(
     alloc: Global,
-    table: &NetTable,
+    table: NetTable,
     assertions: &Assertions,
     drivers: &[Option<u32>],
 ) -> Result<List<Net>, NoMemory>
-    requires { length drivers.now ≡ length table.now.names }
+    requires { length drivers.now ≡ length table.names }
     ensures { IfOk result
-        (AreNets table.now.names table.now.wires (specs_of assertions.now table.now.names) drivers.now) }
+        (AreNets table.names table.wires (specs_of assertions.now table.names) drivers.now) }
 {
     let mut nets = List::new(alloc);
-    for i in 0..table.len() {
-        let spec = spec_of(alloc, nets.as_slice(), table, assertions, i)?;
-        nets.push(net(alloc, table, spec, i, drivers[i])?)?;
+    for entry in table.into_entries() {
+        let (name, wire) = entry;
+        let spec = spec_of(alloc, nets.as_slice(), assertions, name.text.as_slice())?;
+        let driver = drivers[nets.len()];
+        nets.push(Net {
+            name: name.text,
+            spec,
+            driver,
+            wire,
+            bit: name.bit,
+        })?;
     }
     Ok(nets)
 }
 
-/// What is asserted of the net of a number: the same as of the one before it, where that is of its vector.
+/// What is asserted of a text: the same as of the last net, where that is of its vector.
 fn spec_of(
     alloc: Global,
     nets: &[Net],
-    table: &NetTable,
     assertions: &Assertions,
-    i: usize,
+    text: &[u8],
 ) -> Result<AssertSpec, NoMemory>
-    requires number { i < length table.now.names }
-    requires before { All (λ n. n.spec ≡ spec_for assertions.now n.name) nets.now }
-    ensures { IfOk result (λ spec. spec ≡ spec_for assertions.now (name_at table.now.names i).text) }
+    requires { All (λ n. n.spec ≡ spec_for assertions.now n.name) nets.now }
+    ensures { IfOk result (λ spec. spec ≡ spec_for assertions.now text.now) }
 {
-    let text = table.name(i).text.as_slice();
     match nets.last() {
         Some(before) if before.name.as_slice() == text => copied(alloc, &before.spec),
         _ => assertions.of(alloc, text),
     }
-}
-
-fn net(
-    alloc: Global,
-    table: &NetTable,
-    spec: AssertSpec,
-    i: usize,
-    driver: Option<u32>,
-) -> Result<Net, NoMemory>
-    requires { i < length table.now.names }
-    ensures { IfOk result (λ n. (asserted : List Asserted) → spec ≡ spec_for asserted (name_at table.now.names i).text →
-        IsNet table.now.names table.now.wires asserted driver i n) }
-{
-    let name = table.name(i);
-    Ok(Net {
-        name: Text::of(alloc, name.text.as_slice())?,
-        spec,
-        driver,
-        wire: table.wire_at(i),
-        bit: name.bit,
-    })
 }

@@ -2,10 +2,11 @@
 
 ghost use Rattle.std.specs.Prelude.{◌≡◌, ◌<◌, [], ◌∷◌, ◌++◌, length, slice_set, OnOk, OnErr, MatchOption, true, false};
 ghost use Rattle.flat_circuit.specs.Name.{IsNumber, name_at};
-ghost use Rattle.flat_circuit.specs.Builder.{has_name, name_of_key, bounds_at};
+ghost use Rattle.flat_circuit.specs.Builder.{has_name, name_of_key, net_entries, bounds_at};
 
 use crate::text::Text;
 use indexmap::IndexMap;
+use indexmap::map::IntoIter;
 use scald_base::{Delay, NoMemory};
 use std::alloc::Global;
 use std::marker::Model;
@@ -86,6 +87,13 @@ impl NetTable {
             Some((_, wire)) => *wire,
             None => Delay { min: 0, max: 0 },
         }
+    }
+
+    /// The names with the bounds of their wires, in the order of their numbers, without what finds a number.
+    pub(crate) fn into_entries(self) -> IntoIter<NetName, Delay>
+        ensures { net_entries result ≡ self }
+    {
+        self.nets.into_iter()
     }
 
     /// Sets the bounds of a net's wires.
