@@ -16,7 +16,7 @@ use crate::parts::{instance_of, net_of};
 use fixpoint_engine::{EngineEnd, NetSet, Settled, Store, settle};
 use flat_circuit::{Circuit, Net, is_same_assertion};
 use pin_waves::interface_wave;
-use scald_base::{Header, List, NoMemory};
+use scald_base::{AssertSpec, Header, List, NoMemory};
 use skew_algebra::Skewed;
 use std::alloc::Global;
 use step_values::Value;
@@ -38,7 +38,9 @@ pub fn unknown_wave<W: CyclicWave<Item = Value>>(
 fn are_asserted_alike(a: &Net, b: &Net) -> bool
     ensures { MatchBool result (AreAssertedAlike a.now b.now) (¬ (AreAssertedAlike a.now b.now)) }
 {
-    a.driver.is_none() && b.driver.is_none() && is_same_assertion(&a.spec, &b.spec)
+    a.driver.is_none()
+        && b.driver.is_none()
+        && is_same_assertion(a.spec.or(&AssertSpec::None), b.spec.or(&AssertSpec::None))
 }
 
 /// The number of the wave that a net begins with, from those of the nets before it. The bits of a bus mostly
@@ -65,7 +67,7 @@ fn number_after<W: CyclicWave<Item = Value>>(
     if net > 0 && are_asserted_alike(net_of(c, net - 1), this) {
         return Ok(before[net as usize - 1]);
     }
-    store.number(interface_wave(alloc, &this.spec, c.header())?)
+    store.number(interface_wave(alloc, this.spec.or(&AssertSpec::None), c.header())?)
 }
 
 /// The numbers of the waves that the base begins with.

@@ -71,7 +71,7 @@ fn net_named(alloc: Global, c: &Circuit, entry: &CaseEntry) -> Result<Option<u32
 fn is_free(net: &Net) -> bool
     ensures { result ≡ is_free (Some net.now) }
 {
-    match net.spec {
+    match net.spec.or(&AssertSpec::None) {
         AssertSpec::Precision(_) | AssertSpec::Clock(_) => false,
         AssertSpec::None | AssertSpec::Stable(_) => net.driver.is_none(),
     }

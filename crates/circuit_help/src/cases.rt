@@ -86,7 +86,7 @@ fn add_net(out: &mut Bytes, c: &Circuit, net: u32, value: u64) -> Result<(), NoM
         return add_driven(out, c, net);
     }
     match c.net(net) {
-        Some(found) if is_clock(&found.spec) => add_line(
+        Some(found) if is_clock(found.spec.or(&AssertSpec::None)) => add_line(
             out,
             &[
                 Piece::Text(b"    "),

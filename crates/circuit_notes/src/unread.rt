@@ -60,7 +60,8 @@ fn is_plain_output(c: &Circuit, net: u32) -> bool
     ensures { result ≡ is_plain_output (slice_get c.now.nets net) }
 {
     match c.net(net) {
-        Some(found) => found.driver.is_some() && matches!(found.spec, AssertSpec::None),
+        Some(found) => found.driver.is_some()
+            && matches!(found.spec.or(&AssertSpec::None), AssertSpec::None),
         None => false,
     }
 }

@@ -31,7 +31,10 @@ impl Key {
 pub fn key_of_net(c: &Circuit, net: u32) -> Key {
     match c.net(net) {
         Some(named) => {
-            let key = and_spec(and_delay(Key::EMPTY, named.wire), &named.spec);
+            let key = and_spec(
+                and_delay(Key::EMPTY, named.wire),
+                named.spec.or(&AssertSpec::None),
+            );
             and_driver(key, c.driver_of(net))
         }
         None => Key::EMPTY,

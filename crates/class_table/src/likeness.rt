@@ -6,6 +6,7 @@ ghost use Rattle.std.specs.List.{AllZip};
 ghost use Rattle.class_table.specs.Alike.{CasesAlike, DriversAlike, InstancesAlike, NetsAlike, PinsAlike, TargetsAlike, class_of, instance_of, value_in};
 
 use flat_circuit::{Case, CaseValue, Circuit, Instance, Net, Pin, Target, is_same_assertion};
+use scald_base::AssertSpec;
 
 /// The class of the net of a number; past the last it is 0.
 pub fn class_of(classes: &[u32], net: u32) -> u32
@@ -122,7 +123,10 @@ pub fn are_nets_alike(
         (¬ (NetsAlike c.now cases.now classes.now number other net.now other_net.now)) }
 {
     net.wire == other_net.wire
-        && is_same_assertion(&net.spec, &other_net.spec)
+        && is_same_assertion(
+            net.spec.or(&AssertSpec::None),
+            other_net.spec.or(&AssertSpec::None),
+        )
         && are_drivers_alike(classes, driver(c, net.driver), driver(c, other_net.driver))
         && are_cases_alike(cases, number, other)
 }

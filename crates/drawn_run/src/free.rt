@@ -31,7 +31,7 @@ fn draw_offset<R: Rng>(rng: &mut R, c: &Circuit, net: u32) -> u32
     match c.net(net) {
         None => 0,
         Some(found) => match found.driver {
-            None => draw_shift(rng, c.header(), &found.spec),
+            None => draw_shift(rng, c.header(), found.spec.or(&AssertSpec::None)),
             Some(_) => 0,
         },
     }

@@ -204,7 +204,7 @@ fn given_bit(
         Some(one) => one,
         None => match net.driver {
             Some(_) => bit_at(free, t),
-            None => asserted_bit(h, &net.spec, by, free, t, before),
+            None => asserted_bit(h, net.spec.or(&AssertSpec::None), by, free, t, before),
         },
     }
 }

@@ -1,3 +1,4 @@
+pub mod Assertion
 pub mod Few
 pub mod Text
 pub mod Kind

@@ -6,6 +6,7 @@ ghost use Rattle.flat_circuit.specs.Builder.{Stands, IsRefusal, spec_of as spec_
 ghost use Rattle.flat_circuit.specs.Instances.{InstanceExists};
 ghost use Rattle.flat_circuit.specs.Steps.{AreNets, AreRuled, StopsAtRule, specs_of};
 
+use crate::assertion::Assertion;
 use crate::assertions::{Assertions, copied};
 use crate::builder::Builder;
 use crate::circuit::Circuit;
@@ -102,12 +103,16 @@ fn spec_of(
     nets: &[Net],
     assertions: &Assertions,
     text: &[u8],
-) -> Result<AssertSpec, NoMemory>
+) -> Result<Assertion, NoMemory>
     requires { All (λ n. n.spec ≡ spec_for assertions.now n.name) nets.now }
     ensures { IfOk result (λ spec. spec ≡ spec_for assertions.now text.now) }
 {
-    match nets.last() {
-        Some(before) if before.name.as_slice() == text => copied(alloc, &before.spec),
-        _ => assertions.of(alloc, text),
-    }
+    let spec = match nets.last() {
+        Some(before) if before.name.as_slice() == text => copied(
+            alloc,
+            before.spec.or(&AssertSpec::None),
+        )?,
+        _ => assertions.of(alloc, text)?,
+    };
+    Assertion::of(alloc, spec)
 }

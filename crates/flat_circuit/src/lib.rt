@@ -7,6 +7,7 @@
 //! `element_kinds`, and `specs/Split` what a gate with two delays does in it.
 #![tactic(auto)]
 
+mod assertion;
 mod assertions;
 mod builder;
 mod case;
@@ -26,6 +27,7 @@ mod search;
 mod split;
 mod text;
 
+pub use assertion::Assertion;
 pub use assertions::is_same_assertion;
 pub use builder::Builder;
 pub use case::{Case, CaseList, CaseValue};

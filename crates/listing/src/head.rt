@@ -53,7 +53,8 @@ fn is_taken_stable(c: &Circuit, net: u32) -> bool
     ensures { result ≡ is_taken_stable (slice_get c.now.nets net) }
 {
     match c.net(net) {
-        Some(found) => found.driver.is_none() && matches!(found.spec, AssertSpec::None),
+        Some(found) => found.driver.is_none()
+            && matches!(found.spec.or(&AssertSpec::None), AssertSpec::None),
         None => false,
     }
 }

@@ -19,7 +19,7 @@ use wave_core::CyclicWave;
 pub fn is_held(net: &Net) -> bool
     ensures { result ≡ held net.now }
 {
-    net.driver.is_some() && !matches!(net.spec, AssertSpec::None)
+    net.driver.is_some() && !matches!(net.spec.or(&AssertSpec::None), AssertSpec::None)
 }
 
 /// Whether the one value permits this step, and the other does not.

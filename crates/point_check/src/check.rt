@@ -18,7 +18,7 @@ use crate::mark::mark_fault;
 use crate::recent::Recent;
 use flat_circuit::{Circuit, Fault, Faults, Instance};
 use net_waves::Waves;
-use scald_base::NoMemory;
+use scald_base::{AssertSpec, NoMemory};
 use std::alloc::Global;
 use step_values::Value;
 use wave_core::CyclicWave;
@@ -103,7 +103,13 @@ pub fn net_fault<W: CyclicWave<Item = Value>>(
                 return Ok(None);
             }
             let wave = waves.at(number);
-            let found = assertion_fault(alloc, c.header(), &net.spec, number, wave)?;
+            let found = assertion_fault(
+                alloc,
+                c.header(),
+                net.spec.or(&AssertSpec::None),
+                number,
+                wave,
+            )?;
             Ok(found)
         }
     }

@@ -77,11 +77,25 @@ pub fn net_end(
     let Some(net) = c.net(number) else {
         return Ok(None);
     };
-    if net.driver.is_none() || matches!(net.spec, AssertSpec::None) {
+    if net.driver.is_none() || matches!(net.spec.or(&AssertSpec::None), AssertSpec::None) {
         return Ok(None);
     }
     match bits.get(number as usize) {
-        None => row_end(alloc, c.header(), &net.spec, &[], from, ticks),
-        Some(row) => row_end(alloc, c.header(), &net.spec, row.as_slice(), from, ticks),
+        None => row_end(
+            alloc,
+            c.header(),
+            net.spec.or(&AssertSpec::None),
+            &[],
+            from,
+            ticks,
+        ),
+        Some(row) => row_end(
+            alloc,
+            c.header(),
+            net.spec.or(&AssertSpec::None),
+            row.as_slice(),
+            from,
+            ticks,
+        ),
     }
 }

@@ -9,6 +9,7 @@ ghost use Rattle.run_judge.specs.Interface.{KeepsAt, Strays, StraysFirst};
 
 use crate::interface::meets;
 use flat_circuit::Circuit;
+use scald_base::AssertSpec;
 use trace_sim::Levels;
 
 // The bits of a net; none past the last.
@@ -35,7 +36,11 @@ fn keeps_at(c: &Circuit, ticks: u16, bits: &[Levels], place: u32) -> bool
     if net.driver.is_some() {
         return true;
     }
-    meets(c.header(), &net.spec, row_of(bits, number))
+    meets(
+        c.header(),
+        net.spec.or(&AssertSpec::None),
+        row_of(bits, number),
+    )
 }
 
 /// The place in name order of the first net that nothing drives and whose bits do not keep its

@@ -98,7 +98,11 @@ fn number_across<W: CyclicWave<Item = Value>>(
     ensures is { IfOk result (IsNumber store.new (start_with c.now (λ _. true) net)) }
 {
     match c.net(net) {
-        Some(found) => store.number(wave_across(alloc, c.header(), &found.spec)?),
+        Some(found) => store.number(wave_across(
+            alloc,
+            c.header(),
+            found.spec.or(&AssertSpec::None),
+        )?),
         None => unreachable!(),
     }
 }

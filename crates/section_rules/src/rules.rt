@@ -139,7 +139,10 @@ fn asserts_otherwise(circuit: &Circuit, net: &Net) -> bool
     ensures { result ≡ asserts_otherwise net.now circuit.now }
 {
     match same_net(circuit, net) {
-        Some(other) => !is_same_assertion(&net.spec, &other.spec),
+        Some(other) => !is_same_assertion(
+            net.spec.or(&AssertSpec::None),
+            other.spec.or(&AssertSpec::None),
+        ),
         None => false,
     }
 }
@@ -228,7 +231,7 @@ fn crossing_rule(sections: &[Section], circuit: &Circuit, net: &Net) -> Option<R
 {
     if !(is_driven(net) && crosses(sections, net)) {
         None
-    } else if matches!(net.spec, AssertSpec::None) {
+    } else if matches!(net.spec.or(&AssertSpec::None), AssertSpec::None) {
         Some(Rule::Unasserted)
     } else if is_at_once(circuit, net) {
         Some(Rule::Delay)
