@@ -9,7 +9,7 @@ use Rattle.flat_circuit.specs.declared.case.CaseValue.{CaseValue}
 use Rattle.flat_circuit.specs.Circuit.{Circuit}
 use Rattle.drawn_circuit.specs.Drawn.{DrawsCircuit, IsTextRefused}
 use Rattle.drawn_circuit.specs.Laws.{NotBoth, OneRefusal}
-use Rattle.refusal_help.specs.Statement.{from_place, spelled}
+use Rattle.help_text.specs.Statement.{from_place, spelled}
 use Rattle.circuit_help.specs.Reached.{IsRefusedAt, IsTold, IsToldOf, Says, begins_statement, by_tokens, cut_text, first_of, none, nothing, reached, reached_line}
 use Rattle.circuit_help.specs.Rule.{is_at}
 

@@ -9,7 +9,7 @@ use Rattle.flat_circuit.specs.declared.case.CaseValue.{CaseValue}
 use Rattle.flat_circuit.specs.Circuit.{Circuit}
 use Rattle.flat_circuit.specs.Name.{net_at}
 use Rattle.drawn_circuit.specs.Drawn.{DrawsCircuit}
-use Rattle.refusal_help.specs.Statement.{from_place}
+use Rattle.help_text.specs.Statement.{from_place}
 use Rattle.circuit_help.specs.declared.rule.Rule.TheVariants.{Listening, WithoutDelay}
 use Rattle.circuit_help.specs.Cases as case
 use Rattle.circuit_help.specs.Drivers as driver

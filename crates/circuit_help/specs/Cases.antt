@@ -15,9 +15,8 @@ use Rattle.flat_circuit.specs.Name.{IsNumber}
 use Rattle.listing.specs.Names.{net_text}
 use Rattle.listing.specs.Text.{line}
 use Rattle.drawn_circuit.specs.Drawn.{DrawsCircuit}
-use Rattle.refusal_help.specs.Naming.{unquoted}
-use Rattle.refusal_help.specs.Statement.{from_place, spelled}
-use Rattle.refusal_help.specs.Tokens.{is_symbol, number_of}
+use Rattle.help_text.specs.Statement.{from_place, spelled, unquoted}
+use Rattle.help_text.specs.Tokens.{is_symbol, number_of}
 use Rattle.circuit_help.specs.Lines.{driven_by}
 
 -- ---- the entry

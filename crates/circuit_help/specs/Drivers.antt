@@ -11,8 +11,8 @@ use Rattle.flat_circuit.specs.declared.instance.Instance.{Instance}
 use Rattle.flat_circuit.specs.declared.instance.Pin.{Pin}
 use Rattle.flat_circuit.specs.Circuit.{Circuit, driver}
 use Rattle.drawn_circuit.specs.Drawn.{DrawsCircuit}
-use Rattle.refusal_help.specs.Count.{after_arrow}
-use Rattle.refusal_help.specs.Statement.{from_place}
+use Rattle.help_text.specs.Tokens.{after_arrow}
+use Rattle.help_text.specs.Statement.{from_place}
 use Rattle.circuit_help.specs.Lines.{driven_line}
 use Rattle.circuit_help.specs.Made.{overwritten}
 use Rattle.circuit_help.specs.Rule.{is_at}

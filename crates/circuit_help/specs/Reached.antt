@@ -6,8 +6,8 @@ use Rattle.scald_lex.specs.declared.token.Token.{Token}
 use Rattle.scald_lex.specs.Tokens.{AreTokens}
 use Rattle.listing.specs.Text.{line}
 use Rattle.drawn_circuit.specs.Drawn.{IsTextRefused}
-use Rattle.refusal_help.specs.Statement.{from_place, spelled}
-use Rattle.refusal_help.specs.Tokens.{is_symbol}
+use Rattle.help_text.specs.Statement.{from_place, spelled}
+use Rattle.help_text.specs.Tokens.{is_symbol}
 use Rattle.circuit_help.specs.Rule.{is_at}
 
 -- The text up to a byte, with the end of a drawing after it: the byte is one at the end of a

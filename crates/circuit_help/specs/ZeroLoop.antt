@@ -9,8 +9,8 @@ use Rattle.flat_circuit.specs.declared.case.CaseValue.{CaseValue}
 use Rattle.flat_circuit.specs.declared.instance.Instance.{Instance}
 use Rattle.flat_circuit.specs.Circuit.{Circuit}
 use Rattle.drawn_circuit.specs.Drawn.{DrawsCircuit}
-use Rattle.refusal_help.specs.Statement.{from_place}
-use Rattle.refusal_help.specs.Tokens.{past}
+use Rattle.help_text.specs.Statement.{from_place}
+use Rattle.help_text.specs.Tokens.{past}
 use Rattle.circuit_help.specs.declared.rule.Rule.TheVariants.{WithoutDelay}
 use Rattle.circuit_help.specs.Loops.{way_lines}
 use Rattle.circuit_help.specs.Made.{overwritten}

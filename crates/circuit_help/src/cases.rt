@@ -6,8 +6,8 @@ ghost use Rattle.circuit_help.specs.Cases.{IsFound, IsTold, IsToldBy, IsToldOf, 
 use crate::lines::add_driven;
 use drawn_circuit::read_circuit;
 use flat_circuit::{Circuit, Net};
+use help_text::{from_place, front, is_symbol, number_of, spelled, unquoted};
 use listing::{Piece, add_line, net_piece};
-use refusal_help::{from_place, front, is_symbol, number_of, spelled, unquoted};
 use scald_base::{AssertSpec, Bytes, NoMemory, Place, Stop, same_bytes};
 use scald_lex::{Token, tokens};
 use std::alloc::Global;

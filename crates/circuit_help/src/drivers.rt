@@ -8,7 +8,7 @@ use crate::made::{keeps_places, overwritten};
 use crate::rule::is_at;
 use drawn_circuit::read_circuit;
 use flat_circuit::{Circuit, Pin};
-use refusal_help::{after_arrow, from_place};
+use help_text::{after_arrow, from_place};
 use scald_base::{Bytes, NoMemory, Place, Stop};
 use scald_lex::{Token, tokens};
 use std::alloc::Global;

@@ -3,7 +3,7 @@
 ghost use Rattle.std.specs.Prelude.{◌≡◌, ◌++◌, map, IfOk, OnOk};
 ghost use Rattle.circuit_help.specs.Made.{blank, overwritten};
 
-use refusal_help::{after, front};
+use help_text::{after, front};
 use scald_base::{Bytes, NoMemory};
 use std::alloc::Global;
 

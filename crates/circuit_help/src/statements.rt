@@ -3,7 +3,7 @@
 //! What is found here is not relied on: `reached` looks what a text that ends with one is refused
 //! for.
 
-use refusal_help::{is_symbol, spelled};
+use help_text::{is_symbol, spelled};
 use scald_base::{List, NoMemory, same_bytes};
 use scald_lex::{Token, TokenKind};
 use std::alloc::Global;

@@ -9,7 +9,7 @@ use crate::rule::{Rule, is_at};
 use crate::search::way_back;
 use drawn_circuit::read_circuit;
 use flat_circuit::Circuit;
-use refusal_help::{from_place, past};
+use help_text::{from_place, past};
 use scald_base::{Bytes, NoMemory, Place, Stop};
 use scald_lex::{Token, tokens};
 use std::alloc::Global;

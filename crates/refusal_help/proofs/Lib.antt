@@ -1,5 +1,3 @@
-pub mod Lines
 pub mod Said
 pub mod Examples
-pub mod ExamplesStatements
 pub mod ExamplesUses

@@ -12,8 +12,7 @@ advice BadHeader = []
 advice DoubleName = []
 advice UnknownKind = []
 advice BadName = []
-advice AssertionClash =
-    codes "    give the assertion once, or spell it the same each time; a formal has that of the outer net\n"
+advice AssertionClash = []
 advice BadParameter = []
 advice Overflow = []
 advice BadRange = []

@@ -2,10 +2,10 @@
 use Rattle.std.specs.Prelude.{ℕ, zero, suc, Bool, not, ◌&&◌, List, [], ◌∷◌, slice_get, codes, Option, Some, None}
 use Rattle.std.specs.List.{find}
 use Rattle.std.specs.Str.{bytes_eq}
+use Rattle.help_text.specs.Near.{is_near}
+use Rattle.help_text.specs.Text.{line, quoted}
 use Rattle.refusal_help.specs.declared.call_word.CallWord.{CallWord}
 use Rattle.refusal_help.specs.declared.call_word.CallWord.TheVariants.{Verify, Notes, Format, Upgrade, Margins, Chains, Sections, Run, Judge, Bench, Waves, Faults, Rounds, Case}
-use Rattle.refusal_help.specs.Near.{is_near}
-use Rattle.refusal_help.specs.Text.{line, quoted}
 
 abbrev pub word_of : CallWord → List ℕ
 word_of Verify = codes "verify"

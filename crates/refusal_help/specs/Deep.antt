@@ -4,8 +4,8 @@ use Rattle.std.specs.Str.{bytes_eq}
 use Rattle.scald_lex.specs.declared.token.TokenKind.{TokenKind}
 use Rattle.scald_lex.specs.declared.token.TokenKind.TheVariants.{Word, Number, Symbol}
 use Rattle.scald_lex.specs.declared.token.Token.{Token}
-use Rattle.refusal_help.specs.Statement.{spelled}
-use Rattle.refusal_help.specs.Tokens.{is_symbol}
+use Rattle.help_text.specs.Statement.{spelled}
+use Rattle.help_text.specs.Tokens.{is_symbol}
 
 abbrev pub is_operand : List ℕ → TokenKind → Bool
 is_operand word (Number n) = true

@@ -3,11 +3,11 @@ use Rattle.std.specs.Prelude.{◌≡◌, ℕ, List, [], ◌∷◌, ◌++◌, cod
 use Rattle.scald_base.specs.declared.refusal.Refusal.{Refusal}
 use Rattle.scald_lex.specs.declared.token.Token.{Token}
 use Rattle.scald_lex.specs.Tokens.{AreTokens, IsRefused}
-use Rattle.refusal_help.specs.Edge.{EdgesIf, edges_lines, is_overlap}
+use Rattle.help_text.specs.Shown.{shown}
+use Rattle.help_text.specs.Text.{line, place_text}
+use Rattle.name_help.specs.Edge.{EdgesIf, edges_lines, is_overlap}
 use Rattle.refusal_help.specs.Hint.{hint}
 use Rattle.refusal_help.specs.Sentence.{sentence}
-use Rattle.refusal_help.specs.Shown.{shown}
-use Rattle.refusal_help.specs.Text.{line, place_text}
 
 -- The tokens of the text, or none where a byte or a token of it is refused.
 pub data UsesTokens (text : List ℕ) : List Token → Type 0 where

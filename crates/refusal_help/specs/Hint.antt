@@ -1,28 +1,26 @@
 -- What helps with a refusal, by its text.
-use Rattle.std.specs.Prelude.{ℕ, ◌-◌, ◌||◌, ◌==◌, List, [], ◌∷◌, ◌++◌, map, drop, codes, decimal, Option, Some, None, if◌then◌else◌}
-use Rattle.std.specs.Str.{bytes_eq}
+use Rattle.std.specs.Prelude.{ℕ, ◌-◌, ◌==◌, List, [], ◌∷◌, ◌++◌, drop, codes, decimal, Option, Some, None, if◌then◌else◌}
 use Rattle.scald_base.specs.Word.{is_digit, is_letter}
 use Rattle.scald_base.specs.declared.refusal.Place.{Place}
 use Rattle.scald_base.specs.declared.refusal.Refusal.{Refusal}
 use Rattle.scald_base.specs.declared.refusal.RefusalKind.{RefusalKind}
 use Rattle.scald_base.specs.declared.refusal.RefusalKind.TheVariants.{BadByte, BadToken, Syntax, BadHeader, DoubleName, UnknownKind, BadName, AssertionClash, BadParameter, Overflow, BadRange, Width, PinCount, Bounds, TooDeep, TooMany, TwoDrivers, ZeroLoop, CaseNet, EdgesOverlap, ZeroDivisor, UnknownName}
 use Rattle.scald_lex.specs.declared.token.Token.{Token}
-use Rattle.element_kinds.specs.declared.kind.Kind.{Kind}
-use Rattle.element_kinds.specs.Kinds.{name_of}
+use Rattle.help_text.specs.Shown.{source_line}
+use Rattle.help_text.specs.Statement.{before_place, from_place}
+use Rattle.help_text.specs.Text.{line}
+use Rattle.name_help.specs.Clash.{assertion_lines}
+use Rattle.name_help.specs.Double.{double_lines}
+use Rattle.name_help.specs.KindName.{kind_lines}
+use Rattle.name_help.specs.Naming.{name_lines}
+use Rattle.name_help.specs.Unknown.{unknown_lines}
+use Rattle.statement_help.specs.UseHint.{bounds_lines, connections_lines, parameters_lines, range_lines, width_lines}
 use Rattle.refusal_help.specs.Advice.{advice}
-use Rattle.refusal_help.specs.Bound.{header_bounds}
 use Rattle.refusal_help.specs.Deep.{deep_note}
-use Rattle.refusal_help.specs.Double.{double_lines}
-use Rattle.refusal_help.specs.Naming.{name_lines}
-use Rattle.refusal_help.specs.Near.{near}
-use Rattle.refusal_help.specs.Row.{near_kind}
-use Rattle.refusal_help.specs.Shown.{source_line}
-use Rattle.refusal_help.specs.Statement.{before_place, from_place, kind_token, near_macro, spelled}
-use Rattle.refusal_help.specs.Syntax.{syntax_lines}
-use Rattle.refusal_help.specs.Text.{line, printable, quoted}
+use Rattle.refusal_help.specs.Header.{header_lines}
+use Rattle.refusal_help.specs.Many.{many_lines}
 use Rattle.refusal_help.specs.OnlyUse.{value_lines}
-use Rattle.refusal_help.specs.Unknown.{unknown_lines}
-use Rattle.refusal_help.specs.UseHint.{assertion_lines, bounds_lines, connections_lines, many_lines, parameters_lines, range_lines, width_lines}
+use Rattle.refusal_help.specs.Syntax.{syntax_lines}
 
 -- ---- bytes and tokens
 
@@ -56,72 +54,6 @@ note_of (Some b) = token_note b
 
 abbrev pub token_lines : List ℕ → Place → List ℕ
 token_lines text place = note_of (byte_at text place)
-
--- ---- the header
-
--- the bounds of the numbers of a statement, by its word
-abbrev pub header_note : List ℕ → List ℕ
-header_note word =
-    if bytes_eq word (codes "SCALD") then codes "    the version is 1 or 2\n"
-    else if bytes_eq word (codes "CLOCK") then
-    codes "    CLOCK u x k has u and k of at least 1, and a period of u times k ticks, from 2 to 4096\n"
-    else if bytes_eq word (codes "WIRE") then codes "    WIRE a:b has 0 <= a <= b <= 4095\n"
-    else codes "    a skew a:b has a and b of at most 4095\n"
-
-abbrev pub header_lines : List ℕ → List Token → List ℕ
-header_lines text [] = []
-header_lines text (t ∷ ts) = header_note (spelled text t) ++ header_bounds text (t ∷ ts)
-
--- ---- kinds
-
--- how what is no kind here is drawn, by its usual name
-abbrev pub drawn_as : List ℕ → Option (List ℕ)
-drawn_as word =
-    if near 0 word (codes "NAND") then Some (codes "AND with a - before its output")
-    else if near 0 word (codes "NOR") then Some (codes "OR with a - before its output")
-    else if near 0 word (codes "XNOR") then Some (codes "XOR with a - before its output")
-    else if near 0 word (codes "INV") || near 0 word (codes "NOT") then
-    Some (codes "BUF with a - before its input")
-    else if near 0 word (codes "DFF") || near 0 word (codes "FF") then Some (codes "REG")
-    else None
-
-abbrev pub spelled_in : List ℕ → Option Token → Option (List ℕ)
-spelled_in text None = None
-spelled_in text (Some t) = Some (spelled text t)
-
-abbrev pub or_macro : List ℕ → List Token → List ℕ → Option Kind → Option (List ℕ)
-or_macro text tokens word (Some kind) = Some (name_of kind)
-or_macro text tokens word None = spelled_in text (near_macro text word tokens)
-
--- the kind or else the macro that a word nearly is
-abbrev pub near_use : List ℕ → List Token → List ℕ → Option (List ℕ)
-near_use text tokens word = or_macro text tokens word (near_kind word)
-
-abbrev pub kinds_note : List ℕ
-kinds_note =
-    codes " is none. The kinds are BUF, AND, OR, XOR, MUX2, MUX4, MUX8, CHG, REG, REG_RS, LATCH, LATCH_RS,\n" ++
-    codes "    SETUP_HOLD_CHK, SETUP_RISE_HOLD_FALL_CHK and MIN_PULSE_CHK; a - before a connection inverts it"
-
--- by the word that it nearly is, where there is one
-abbrev pub near_line : List ℕ → Option (List ℕ) → List ℕ
-near_line word None = line (codes "    " ∷ quoted word ∷ kinds_note ∷ [])
-near_line word (Some other) =
-    line (codes "    " ∷ quoted word ∷ codes " is none: is " ∷ map printable other ∷ codes " meant?" ∷ [])
-
-abbrev pub way_line : List ℕ → Option (List ℕ) → Option (List ℕ) → List ℕ
-way_line word other (Some way) = line (codes "    " ∷ quoted word ∷ codes " is drawn as " ∷ way ∷ [])
-way_line word other None = near_line word other
-
-abbrev pub word_lines : List ℕ → List Token → List ℕ → List ℕ
-word_lines text tokens word = way_line word (near_use text tokens word) (drawn_as word)
-
-abbrev pub kind_lines_at : List ℕ → List Token → Option Token → List ℕ
-kind_lines_at text tokens None = []
-kind_lines_at text tokens (Some t) = word_lines text tokens (spelled text t)
-
--- what a use that names no kind may mean
-abbrev pub kind_lines : List ℕ → List Token → List Token → List ℕ
-kind_lines text tokens statement = kind_lines_at text tokens (kind_token statement)
 
 -- ---- nesting
 

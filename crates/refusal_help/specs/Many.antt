@@ -1,8 +1,12 @@
 -- Which limits of a circuit a statement may be past.
-use Rattle.std.specs.Prelude.{ℕ, List, ◌++◌, codes, Option, Some, None, if◌then◌else◌}
+use Rattle.std.specs.Prelude.{ℕ, List, ◌++◌, codes, Option, Some, None, if◌then◌else◌, [], ◌∷◌}
 use Rattle.std.specs.Str.{bytes_eq}
 use Rattle.element_kinds.specs.declared.kind.Kind.{Kind}
 use Rattle.element_kinds.specs.Kinds.{has_output}
+use Rattle.scald_lex.specs.declared.token.Token.{Token}
+use Rattle.help_text.specs.Statement.{spelled}
+use Rattle.help_text.specs.Tokens.{is_use}
+use Rattle.statement_help.specs.UseHint.{kind_of_use}
 
 unfoldable pub nets_note : List ℕ
 nets_note = codes "    at most 65536 bits of nets and 262144 statements may be reached, and this is past one of these limits\n"
@@ -36,3 +40,9 @@ word_limits word =
 abbrev pub use_limits : Option Kind → List ℕ
 use_limits None = nets_note
 use_limits (Some kind) = if has_output kind then elements_note else checkers_note
+
+-- the limits that it may be past
+abbrev pub many_lines : List ℕ → List Token → List ℕ
+many_lines text [] = []
+many_lines text (t ∷ ts) =
+    if is_use (t ∷ ts) then use_limits (kind_of_use text (t ∷ ts)) else word_limits (spelled text t)

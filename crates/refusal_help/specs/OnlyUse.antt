@@ -6,11 +6,11 @@ use Rattle.scald_base.specs.declared.refusal.Place.{Place}
 use Rattle.scald_base.specs.declared.refusal.RefusalKind.{RefusalKind}
 use Rattle.scald_base.specs.declared.refusal.RefusalKind.TheVariants.{BadByte, BadToken, Syntax, BadHeader, DoubleName, UnknownKind, BadName, AssertionClash, BadParameter, Overflow, BadRange, Width, PinCount, Bounds, TooDeep, TooMany, TwoDrivers, ZeroLoop, CaseNet, EdgesOverlap, ZeroDivisor, UnknownName}
 use Rattle.scald_lex.specs.declared.token.Token.{Token}
-use Rattle.refusal_help.specs.Double.{from_head}
-use Rattle.refusal_help.specs.Shown.{shown}
-use Rattle.refusal_help.specs.Statement.{spelled}
-use Rattle.refusal_help.specs.Text.{line, place_text, quoted}
-use Rattle.refusal_help.specs.Tokens.{is_symbol}
+use Rattle.help_text.specs.Head.{from_head}
+use Rattle.help_text.specs.Shown.{shown}
+use Rattle.help_text.specs.Statement.{spelled}
+use Rattle.help_text.specs.Text.{line, place_text, quoted}
+use Rattle.help_text.specs.Tokens.{is_symbol}
 
 -- ---- the uses of a macro
 

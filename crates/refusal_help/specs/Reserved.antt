@@ -1,27 +1,12 @@
 -- Words that are none of a drawing's own.
 use Rattle.std.specs.Prelude.{ℕ, Bool, true, false, ◌&&◌, ◌||◌, ◌==◌, List, [], ◌∷◌, codes, Option, Some, None, if◌then◌else◌}
-use Rattle.std.specs.List.{find}
 use Rattle.std.specs.Str.{bytes_eq}
 use Rattle.scald_lex.specs.declared.token.Token.{Token}
-use Rattle.refusal_help.specs.declared.keyword.Keyword.{Keyword}
-use Rattle.refusal_help.specs.declared.keyword.Keyword.TheVariants.{Scald, Clock, Wire, Pskew, Cskew, Macro, Drawing, Case, If, Then, Else, End, Zero, One}
-use Rattle.refusal_help.specs.Keyword.{word_of}
-use Rattle.refusal_help.specs.Statement.{spelled}
-use Rattle.refusal_help.specs.Text.{line}
-use Rattle.refusal_help.specs.Tokens.{is_symbol, is_word, number_of}
-
--- ---- reserved words
-
-abbrev pub reserved : List Keyword
-reserved =
-    Scald ∷ Clock ∷ Wire ∷ Pskew ∷ Cskew ∷ Macro ∷ Drawing ∷ Case ∷ If ∷ Then ∷ Else ∷ End ∷ Zero
-    ∷ One ∷ []
-
-abbrev pub is_same : List ℕ → Keyword → Bool
-is_same word keyword = bytes_eq word (word_of keyword)
-
-abbrev pub reserved_word : List ℕ → Option Keyword
-reserved_word word = find (is_same word) reserved
+use Rattle.help_text.specs.declared.keyword.Keyword.{Keyword}
+use Rattle.help_text.specs.Keyword.{word_of, reserved_word}
+use Rattle.help_text.specs.Statement.{spelled}
+use Rattle.help_text.specs.Text.{line}
+use Rattle.help_text.specs.Tokens.{is_symbol, is_word, number_of}
 
 -- a name of the drawing's own comes after the token
 abbrev pub declares : List ℕ → Option Token → Bool

@@ -7,12 +7,12 @@ use Rattle.scald_lex.specs.declared.token.TokenKind.{TokenKind}
 use Rattle.scald_lex.specs.declared.token.TokenKind.TheVariants.{Word, Number, Name, Arrow, Symbol, End}
 use Rattle.scald_lex.specs.declared.token.Token.{Token}
 use Rattle.element_kinds.specs.Kinds.{kind_names}
-use Rattle.refusal_help.specs.declared.keyword.Keyword.{Keyword}
-use Rattle.refusal_help.specs.Keyword.{near_keyword, word_of}
+use Rattle.help_text.specs.declared.keyword.Keyword.{Keyword}
+use Rattle.help_text.specs.Keyword.{near_keyword, word_of}
+use Rattle.help_text.specs.Statement.{before_place, from_place, spelled}
+use Rattle.help_text.specs.Text.{line, quoted}
+use Rattle.help_text.specs.Tokens.{is_symbol}
 use Rattle.refusal_help.specs.Reserved.{is_later, later_line, reserved_at, reserved_line}
-use Rattle.refusal_help.specs.Statement.{before_place, from_place, spelled}
-use Rattle.refusal_help.specs.Text.{line, quoted}
-use Rattle.refusal_help.specs.Tokens.{is_symbol}
 use Rattle.refusal_help.specs.Unended.{unended_lines}
 
 -- ---- what stands here

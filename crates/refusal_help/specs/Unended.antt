@@ -5,9 +5,9 @@ use Rattle.scald_base.specs.declared.refusal.Place.{Place}
 use Rattle.scald_lex.specs.declared.token.TokenKind.{TokenKind}
 use Rattle.scald_lex.specs.declared.token.TokenKind.TheVariants.{Word, Number, Name, Arrow, Symbol, End}
 use Rattle.scald_lex.specs.declared.token.Token.{Token}
-use Rattle.refusal_help.specs.Statement.{is_at, spelled}
-use Rattle.refusal_help.specs.Text.{line, place_text}
-use Rattle.refusal_help.specs.Tokens.{is_symbol}
+use Rattle.help_text.specs.Statement.{is_at, spelled}
+use Rattle.help_text.specs.Text.{line, place_text}
+use Rattle.help_text.specs.Tokens.{is_symbol}
 
 -- ---- what an END ends
 

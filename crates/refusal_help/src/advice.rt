@@ -10,9 +10,6 @@ pub fn advice(kind: RefusalKind) -> &'static [u8]
     ensures { result.now ≡ advice kind }
 {
     match kind {
-        RefusalKind::AssertionClash => {
-            b"    give the assertion once, or spell it the same each time; a formal has that of the outer net\n"
-        }
         RefusalKind::TwoDrivers => { b"    join what drives a net by a MUX2, an AND or an OR\n" }
         RefusalKind::ZeroLoop => {
             b"    give an element of the loop, or the wire of a net of it, a least delay of 1\n"

@@ -5,8 +5,7 @@ ghost use Rattle.std.specs.Option.{option_copied};
 ghost use Rattle.std.specs.List.{find};
 ghost use Rattle.refusal_help.specs.CallWord.{after_meant, before_meant, is_nearly, line_of, meant_at, meant_text, word_before, word_of, words_line};
 
-use crate::near::is_near;
-use crate::part::{Part, add_line};
+use help_text::{Part, add_line, is_near};
 use scald_base::{Bytes, NoMemory, Words, same_bytes};
 use std::alloc::Global;
 

@@ -3,8 +3,7 @@
 ghost use Rattle.std.specs.Prelude.{◌≡◌};
 ghost use Rattle.refusal_help.specs.Deep.{deep_note, follows_operand, is_operator, word_note};
 
-use crate::cut::spelled;
-use crate::tokens::is_symbol;
+use help_text::{is_symbol, spelled};
 use scald_base::same_bytes;
 use scald_lex::{Token, TokenKind};
 

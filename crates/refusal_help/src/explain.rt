@@ -1,14 +1,13 @@
 //! All that a person is told of a refusal.
 
 ghost use Rattle.std.specs.Prelude.{◌≡◌, ◌++◌, ◌<◌, ◌-◌, ◌^◌, length, IfOk, OnOk};
-ghost use Rattle.refusal_help.specs.Edge.{EdgesIf, is_overlap};
+ghost use Rattle.name_help.specs.Edge.{EdgesIf, is_overlap};
 ghost use Rattle.refusal_help.specs.Explained.{IsExplained, UsesTokens, first_line};
 
-use crate::edge::{add_edges, edges_at};
 use crate::hint::add_hint;
-use crate::part::{Part, add_line};
 use crate::sentence::sentence;
-use crate::shown::add_shown;
+use help_text::{Part, add_line, add_shown};
+use name_help::{add_edges, edges_at};
 use scald_base::{Bytes, NoMemory, Refusal, RefusalKind, Stop};
 use scald_lex::{Token, TokenList, tokens};
 use std::alloc::Global;

@@ -1,29 +1,21 @@
 //! What helps with a refusal, by its text.
 
-ghost use Rattle.std.specs.Prelude.{◌≡◌, ◌++◌, None, OnOk, Some};
-ghost use Rattle.std.specs.Option.{option_copied};
-ghost use Rattle.refusal_help.specs.Hint.{byte_at, byte_line, deep_lines, drawn_as, header_lines, header_note, hint, kind_lines, near_line, near_use, told, token_lines, token_note, word_lines};
+ghost use Rattle.std.specs.Prelude.{◌≡◌, ◌++◌, OnOk};
+ghost use Rattle.refusal_help.specs.Hint.{byte_at, byte_line, deep_lines, hint, told, token_lines, token_note};
 
 use crate::advice::advice;
-use crate::bound::add_header_bounds;
-use crate::cut::{after, spelled};
 use crate::deep::deep_note;
-use crate::double::add_double;
-use crate::naming::add_name_lines;
-use crate::near::near;
+use crate::header::add_header;
+use crate::many::many_note;
 use crate::only_use::add_values;
-use crate::part::{Part, add_line};
-use crate::row::near_kind;
-use crate::shown::source_line;
-use crate::statement::{before_place, from_place, kind_token, near_macro};
 use crate::syntax::add_syntax;
-use crate::unknown::add_unknown;
-use crate::use_hint::{
-    add_assertion, add_ranges, add_use_bounds, add_use_connections, add_use_parameters, add_widths,
-    many_note,
-};
-use scald_base::{Bytes, NoMemory, Place, Refusal, RefusalKind, same_bytes};
+use help_text::{Part, add_line, after, before_place, from_place, source_line};
+use name_help::{add_assertion, add_double, add_kind, add_name_lines, add_unknown};
+use scald_base::{Bytes, NoMemory, Place, Refusal, RefusalKind};
 use scald_lex::Token;
+use statement_help::{
+    add_ranges, add_use_bounds, add_use_connections, add_use_parameters, add_widths,
+};
 
 /// The byte at a place.
 fn byte_at(text: &[u8], place: Place) -> Option<u8>
@@ -75,140 +67,6 @@ fn add_token(out: &mut Bytes, text: &[u8], place: Place) -> Result<(), NoMemory>
 {
     match byte_at(text, place) {
         Some(byte) => out.extend(token_note(byte)),
-        None => Ok(()),
-    }
-}
-
-/// The bounds of the numbers of a header statement, by its word.
-fn header_note(word: &[u8]) -> &'static [u8]
-    ensures { result.now ≡ header_note word.now }
-{
-    if same_bytes(word, b"SCALD") {
-        b"    the version is 1 or 2\n"
-    } else if same_bytes(word, b"CLOCK") {
-        b"    CLOCK u x k has u and k of at least 1, and a period of u times k ticks, from 2 to 4096\n"
-    } else if same_bytes(word, b"WIRE") {
-        b"    WIRE a:b has 0 <= a <= b <= 4095\n"
-    } else {
-        b"    a skew a:b has a and b of at most 4095\n"
-    }
-}
-
-/// The bounds of the numbers of the header statement at the place.
-fn add_header(out: &mut Bytes, text: &[u8], statement: &[Token]) -> Result<(), NoMemory>
-    ensures { OnOk result (out.new ≡ out.old ++ header_lines text.now statement.now) }
-{
-    match statement {
-        [word, ..] => {
-            out.extend(header_note(spelled(text, *word)))?;
-            add_header_bounds(out, text, statement)
-        }
-        [] => Ok(()),
-    }
-}
-
-/// How what is no kind here is drawn, by its usual name.
-fn drawn_as(word: &[u8]) -> Option<&'static [u8]>
-    ensures { option_copied result ≡ drawn_as word.now }
-{
-    if near(0, word, b"NAND") {
-        Some(b"AND with a - before its output")
-    } else if near(0, word, b"NOR") {
-        Some(b"OR with a - before its output")
-    } else if near(0, word, b"XNOR") {
-        Some(b"XOR with a - before its output")
-    } else if near(0, word, b"INV") || near(0, word, b"NOT") {
-        Some(b"BUF with a - before its input")
-    } else if near(0, word, b"DFF") || near(0, word, b"FF") {
-        Some(b"REG")
-    } else {
-        None
-    }
-}
-
-/// The kind or the macro that a word nearly is.
-fn near_use<'a>(text: &'a [u8], tokens: &[Token], word: &[u8]) -> Option<&'a [u8]>
-    ensures { option_copied result ≡ near_use text.now tokens.now word.now }
-{
-    match near_kind(word) {
-        Some(kind) => Some(kind.name()),
-        None => match near_macro(text, tokens, word) {
-            Some(head) => Some(spelled(text, head)),
-            None => None,
-        },
-    }
-}
-
-/// What is said of a word that is nearly that of a kind or a macro.
-fn add_near<'a>(out: &mut Bytes, word: &'a [u8], other: &'a [u8]) -> Result<(), NoMemory>
-    ensures { OnOk result (out.new ≡ out.old ++ near_line word.now (Some other.now)) }
-{
-    add_line(
-        out,
-        &[
-            Part::Text(b"    "),
-            Part::Quoted(word),
-            Part::Text(b" is none: is "),
-            Part::Shown(other),
-            Part::Text(b" meant?"),
-        ],
-    )
-}
-
-/// What is said of a word that is nearly none of them.
-fn add_none(out: &mut Bytes, word: &[u8]) -> Result<(), NoMemory>
-    ensures { OnOk result (out.new ≡ out.old ++ near_line word.now None) }
-{
-    add_line(
-        out,
-        &[
-            Part::Text(b"    "),
-            Part::Quoted(word),
-            Part::Text(
-                b" is none. The kinds are BUF, AND, OR, XOR, MUX2, MUX4, MUX8, CHG, REG, REG_RS, LATCH, LATCH_RS,
-    SETUP_HOLD_CHK, SETUP_RISE_HOLD_FALL_CHK and MIN_PULSE_CHK; a - before a connection inverts it",
-            ),
-        ],
-    )
-}
-
-/// What may be meant by a word that names no kind.
-fn add_word<'a>(
-    out: &mut Bytes,
-    text: &'a [u8],
-    tokens: &[Token],
-    word: &'a [u8],
-) -> Result<(), NoMemory>
-    ensures { OnOk result (out.new ≡ out.old ++ word_lines text.now tokens.now word.now) }
-{
-    match drawn_as(word) {
-        Some(way) => add_line(
-            out,
-            &[
-                Part::Text(b"    "),
-                Part::Quoted(word),
-                Part::Text(b" is drawn as "),
-                Part::Text(way),
-            ],
-        ),
-        None => match near_use(text, tokens, word) {
-            Some(other) => add_near(out, word, other),
-            None => add_none(out, word),
-        },
-    }
-}
-
-/// What may be meant by a use that names no kind.
-fn add_kind(
-    out: &mut Bytes,
-    text: &[u8],
-    tokens: &[Token],
-    statement: &[Token],
-) -> Result<(), NoMemory>
-    ensures { OnOk result (out.new ≡ out.old ++ kind_lines text.now tokens.now statement.now) }
-{
-    match kind_token(statement) {
-        Some(token) => add_word(out, text, tokens, spelled(text, token)),
         None => Ok(()),
     }
 }

@@ -1,10 +1,13 @@
 //! Which limits of a circuit a statement may be past.
 
 ghost use Rattle.std.specs.Prelude.{◌≡◌};
-ghost use Rattle.refusal_help.specs.Many.{cases_note, checkers_note, elements_note, nets_note, statements_note, use_limits, word_limits};
+ghost use Rattle.refusal_help.specs.Many.{cases_note, checkers_note, elements_note, nets_note, statements_note, use_limits, word_limits, many_lines};
 
 use element_kinds::Kind;
+use help_text::{is_use, spelled};
 use scald_base::same_bytes;
+use scald_lex::Token;
+use statement_help::kind_of_use;
 
 /// Nets and statements.
 #[tactic(auto, unfolding(crate::specs::Many::nets_note))]
@@ -51,7 +54,7 @@ fn statements_note() -> &'static [u8]
 }
 
 /// Which limits a statement with this word may be past, where it is no use.
-pub fn word_limits(word: &[u8]) -> &'static [u8]
+fn word_limits(word: &[u8]) -> &'static [u8]
     ensures { result.now ≡ word_limits word.now }
 {
     if same_bytes(word, b"CASE") {
@@ -64,7 +67,7 @@ pub fn word_limits(word: &[u8]) -> &'static [u8]
 }
 
 /// Which limits a use of a kind may be past, or one of a macro where there is no kind.
-pub fn use_limits(kind: Option<Kind>) -> &'static [u8]
+fn use_limits(kind: Option<Kind>) -> &'static [u8]
     ensures { result.now ≡ use_limits kind }
 {
     match kind {
@@ -76,5 +79,21 @@ pub fn use_limits(kind: Option<Kind>) -> &'static [u8]
                 checkers_note()
             }
         }
+    }
+}
+
+/// Which limits the statement may be past.
+pub fn many_note(text: &[u8], statement: &[Token]) -> &'static [u8]
+    ensures { result.now ≡ many_lines text.now statement.now }
+{
+    match statement {
+        [first, ..] => {
+            if is_use(statement) {
+                use_limits(kind_of_use(text, statement))
+            } else {
+                word_limits(spelled(text, *first))
+            }
+        }
+        [] => b"",
     }
 }

@@ -3,11 +3,7 @@
 ghost use Rattle.std.specs.Prelude.{◌≡◌, ◌++◌, OnOk};
 ghost use Rattle.refusal_help.specs.OnlyUse.{by_values, from_use, goes_on, is_use_of, macro_name, only_lines, only_use, use_line, use_lines, value_lines};
 
-use crate::cut::spelled;
-use crate::double::from_head;
-use crate::part::{Part, add_line};
-use crate::shown::add_shown;
-use crate::tokens::is_symbol;
+use help_text::{Part, add_line, add_shown, from_head, is_symbol, spelled};
 use scald_base::{Bytes, NoMemory, Place, Refusal, RefusalKind, same_bytes};
 use scald_lex::Token;
 

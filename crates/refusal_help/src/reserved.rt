@@ -1,52 +1,11 @@
 //! Words that are none of a drawing's own.
 
 ghost use Rattle.std.specs.Prelude.{◌≡◌, ◌++◌, OnOk};
-ghost use Rattle.std.specs.List.{find};
-ghost use Rattle.refusal_help.specs.Reserved.{declares, gives, is_later, is_same, later_line, reserved_at, reserved_line, reserved_word};
+ghost use Rattle.refusal_help.specs.Reserved.{declares, gives, is_later, later_line, reserved_at, reserved_line};
 
-use crate::cut::spelled;
-use crate::keyword::Keyword;
-use crate::part::{Part, add_line};
-use crate::tokens::{is_symbol, is_word, number_of};
+use help_text::{Keyword, Part, add_line, is_symbol, is_word, number_of, reserved_word, spelled};
 use scald_base::{Bytes, NoMemory, same_bytes};
 use scald_lex::Token;
-
-/// The words that are reserved.
-const RESERVED: [Keyword; 14] = [
-    Keyword::Scald,
-    Keyword::Clock,
-    Keyword::Wire,
-    Keyword::Pskew,
-    Keyword::Cskew,
-    Keyword::Macro,
-    Keyword::Drawing,
-    Keyword::Case,
-    Keyword::If,
-    Keyword::Then,
-    Keyword::Else,
-    Keyword::End,
-    Keyword::Zero,
-    Keyword::One,
-];
-
-/// The first of these that a word is.
-fn same_among(keywords: &[Keyword], word: &[u8]) -> Option<Keyword>
-    ensures { result ≡ find (is_same word.now) keywords.now }
-{
-    'keywords: for keyword in keywords {
-        if same_bytes(word, keyword.word()) {
-            return Some(*keyword);
-        }
-    }
-    None
-}
-
-/// The reserved word that a word is.
-pub fn reserved_word(word: &[u8]) -> Option<Keyword>
-    ensures { result ≡ reserved_word word.now }
-{
-    same_among(&RESERVED, word)
-}
 
 /// Whether a name of the drawing's own comes after a token.
 fn declares(text: &[u8], before: Option<Token>) -> bool

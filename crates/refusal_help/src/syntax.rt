@@ -1,17 +1,15 @@
 //! What helps where no drawing continues with a token.
 
 ghost use Rattle.std.specs.Prelude.{◌≡◌, ◌++◌, OnOk};
+ghost use Rattle.help_text.specs.Text.{part_text};
 ghost use Rattle.refusal_help.specs.Syntax.{follow_line, meant_before, meant_keyword, meant_line, named, syntax_lines};
-ghost use Rattle.refusal_help.specs.Text.{part_text};
 
-use crate::cut::spelled;
-use crate::keyword::{Keyword, near_keyword};
-use crate::part::{Part, add_line};
 use crate::reserved::{add_later, add_reserved};
-use crate::statement::{before_place, from_place};
-use crate::tokens::is_symbol;
 use crate::unended::add_unended;
 use element_kinds::is_kind_name;
+use help_text::{
+    Keyword, Part, add_line, before_place, from_place, is_symbol, near_keyword, spelled,
+};
 use scald_base::{Bytes, NoMemory, Place, same_bytes};
 use scald_lex::{Token, TokenKind};
 

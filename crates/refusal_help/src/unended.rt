@@ -3,10 +3,7 @@
 ghost use Rattle.std.specs.Prelude.{◌≡◌, ◌++◌, OnOk};
 ghost use Rattle.refusal_help.specs.Unended.{asks_end, begins_block, block_line, block_lines, is_ended, is_for, unended_line, unended_lines};
 
-use crate::cut::spelled;
-use crate::part::{Part, add_line};
-use crate::statement::is_at;
-use crate::tokens::is_symbol;
+use help_text::{Part, add_line, is_at, is_symbol, spelled};
 use scald_base::{Bytes, NoMemory, Place, same_bytes};
 use scald_lex::{Token, TokenKind};
 

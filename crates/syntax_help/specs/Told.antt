@@ -4,7 +4,7 @@ use Rattle.std.specs.List.{flat_map}
 use Rattle.scald_base.specs.declared.refusal.Place.{Place}
 use Rattle.scald_lex.specs.declared.token.Token.{Token}
 use Rattle.scald_lex.specs.Tokens.{AreTokens}
-use Rattle.refusal_help.specs.Statement.{first_of, from_place, spelled}
+use Rattle.help_text.specs.Statement.{first_of, from_place, spelled}
 use Rattle.syntax_help.specs.declared.sample.Sample.{Sample}
 use Rattle.syntax_help.specs.Expected.{AreExpected}
 use Rattle.syntax_help.specs.Missing.{IsFirst, asked}

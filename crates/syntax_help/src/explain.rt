@@ -3,12 +3,12 @@
 ghost use Rattle.std.specs.Prelude.{◌≡◌, ◌++◌, ◌<◌, ◌^◌, length, IfOk, OnOk};
 ghost use Rattle.std.specs.List.{flat_map};
 ghost use Rattle.syntax_help.specs.Told.{IsTold, IsToldAfter, expected_line, missing_line, question, sample_text};
-ghost use Rattle.refusal_help.specs.Statement.{first_of};
+ghost use Rattle.help_text.specs.Statement.{first_of};
 
 use crate::expected::expected;
 use crate::missing::missing;
 use crate::sample::Sample;
-use refusal_help::{from_place, front, spelled};
+use help_text::{from_place, front, spelled};
 use scald_base::{Bytes, NoMemory, Place, Stop};
 use scald_lex::{Token, tokens};
 use std::alloc::Global;

@@ -1,6 +1,6 @@
 use Rattle.std.proofs.Common.{◌∙◌, ap, sym}
 use Rattle.std.proofs.lemmas.Result.{IfOk-weaker}
-use Rattle.refusal_help.specs.Naming.{unquoted}
+use Rattle.help_text.specs.Statement.{unquoted}
 use Rattle.circuit_help.specs.Cases.{IsToldBy, IsToldOf}
 use Rattle.circuit_help.proofs.Told.{bare_told, no_entry_told, pointed_told}
 use Rattle.circuit_help.proofs.cases.told_entry.Goals as goal

@@ -1,6 +1,6 @@
 use Rattle.std.proofs.Common.{◌≡◌, ◌∙◌, ◌++◌, ℕ, List, ap, sym}
 use Rattle.std.specs.Prelude.{Some}
-use Rattle.refusal_help.specs.Statement.{from_place}
+use Rattle.help_text.specs.Statement.{from_place}
 use Rattle.circuit_help.specs.Reached.{first_of, reached_line}
 use Rattle.circuit_help.proofs.Judging.{not_reached, reached_told}
 use Rattle.circuit_help.proofs.reached.told.Goals as goal

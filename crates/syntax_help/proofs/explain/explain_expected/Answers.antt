@@ -1,7 +1,7 @@
 use Rattle.std.proofs.Common.{◌≡◌, ℕ, List, ◌∙◌, take, ap, subst, sym}
 use Rattle.std.specs.Prelude.{Some}
 use Rattle.std.proofs.lemmas.Result.{IfOk-weaker}
-use Rattle.refusal_help.specs.Statement.{first_of, from_place}
+use Rattle.help_text.specs.Statement.{first_of, from_place}
 use Rattle.syntax_help.specs.Told.{IsTold, IsToldAfter, told}
 use Rattle.syntax_help.proofs.Telling.{nothing_told}
 use Rattle.syntax_help.proofs.explain.explain_expected.Goals as goal

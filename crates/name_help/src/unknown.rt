@@ -1,0 +1,198 @@
+//! Which word of a statement is the name of no number there.
+
+ghost use Rattle.std.specs.Prelude.{◌≡◌, ◌++◌, OnOk, None};
+ghost use Rattle.name_help.specs.Unknown.{after_head, begins_before, declares_value, ends_values, first_unknown, gives_value, is_known, is_value, known_note, names_value, start_of, unknown_from, unknown_line, unknown_lines, values_of};
+
+use help_text::{
+    Part, add_line, after_kind, begins_assign, braces, first_tokens, from_after, from_head,
+    from_place, is_assigned, is_symbol, is_use, is_word, reserved_word, spelled,
+};
+use scald_base::{Bytes, NoMemory, Place, same_bytes};
+use scald_lex::Token;
+
+/// Whether a statement declares a constant or a variable.
+fn declares_value(text: &[u8], statement: &[Token]) -> bool
+    ensures { result ≡ declares_value text.now statement.now }
+{
+    match statement {
+        [first, ..] => {
+            let word = spelled(text, *first);
+            same_bytes(word, b"CONST") || same_bytes(word, b"FOR")
+        }
+        [] => false,
+    }
+}
+
+/// The tokens of a statement that values are among: those after the kind of a use, or after the `=` of what it
+/// declares.
+fn values_of<'a>(text: &[u8], statement: &'a [Token]) -> &'a [Token]
+    ensures { result.now ≡ values_of text.now statement.now }
+{
+    if is_use(statement) || declares_value(text, statement) {
+        after_kind(statement)
+    } else {
+        statement
+    }
+}
+
+/// Whether the values of a statement end with this word.
+#[tactic(auto, unfolding(crate::specs::Unknown::ends_values))]
+fn ends_values(word: &[u8]) -> bool
+    ensures { result ≡ ends_values word.now }
+{
+    same_bytes(word, b";") || same_bytes(word, b"THEN") || same_bytes(word, b"DO")
+}
+
+/// Whether tokens begin with a `=`.
+fn gives_value(tokens: &[Token]) -> bool
+    ensures { result ≡ gives_value tokens.now }
+{
+    match tokens {
+        [first, ..] => is_symbol(*first, b'='),
+        [] => false,
+    }
+}
+
+/// Whether a word between these tokens is a mark, or the name of a parameter that is given.
+fn names_value(last: Option<Token>, rest: &[Token]) -> bool
+    ensures { result ≡ names_value last rest.now }
+{
+    match last {
+        Some(last) => is_symbol(last, b'!') || begins_assign(last) && gives_value(rest),
+        None => false,
+    }
+}
+
+/// Whether a token between these is a word that stands for a number.
+#[tactic(auto, unfolding(crate::specs::Unknown::is_value))]
+fn is_value(text: &[u8], last: Option<Token>, token: Token, rest: &[Token]) -> bool
+    ensures { result ≡ is_value text.now last token rest.now }
+{
+    let word = spelled(text, token);
+    is_word(token)
+        && reserved_word(word).is_none()
+        && !same_bytes(word, b"TO")
+        && !names_value(last, rest)
+}
+
+/// Where the first of these tokens begins.
+fn start_of(tokens: &[Token]) -> u32
+    ensures { result ≡ start_of tokens.now }
+{
+    match tokens {
+        [first, ..] => first.start,
+        [] => 0,
+    }
+}
+
+/// Whether the first of these tokens begins before this byte of the text.
+fn begins_before(tokens: &[Token], start: u32) -> bool
+    ensures { result ≡ begins_before start tokens.now }
+{
+    match tokens {
+        [first, ..] => first.start < start,
+        [] => false,
+    }
+}
+
+/// What follows the word MACRO and the name.
+fn after_head(head: &[Token]) -> &[Token]
+    ensures { result.now ≡ after_head head.now }
+{
+    match head {
+        [_, _, rest @ ..] => rest,
+        _ => &[],
+    }
+}
+
+/// Whether a word may be known in a statement that begins with this byte, in the macro or drawing with this head.
+#[tactic(auto, unfolding(crate::specs::Unknown::is_known))]
+fn is_known(text: &[u8], tokens: &[Token], head: &[Token], start: u32, word: &[u8]) -> bool
+    ensures { result ≡ is_known text.now tokens.now head.now start word.now }
+{
+    begins_before(from_after(text, tokens, b"CONST", word), start)
+        || begins_before(from_after(text, head, b"FOR", word), start)
+        || is_assigned(text, braces(after_head(head)), word)
+}
+
+/// The first word of these values that is not known.
+fn unknown_among(
+    text: &[u8],
+    tokens: &[Token],
+    head: &[Token],
+    start: u32,
+    values: &[Token],
+) -> Option<Token>
+    ensures { result ≡ unknown_from text.now tokens.now head.now start None values.now }
+{
+    let mut last = None;
+    let mut rest = values;
+    'tokens: while let [token, others @ ..] = rest {
+        let word = spelled(text, *token);
+        if ends_values(word) {
+            return None;
+        }
+        if is_value(text, last, *token, others) && !is_known(text, tokens, head, start, word) {
+            return Some(*token);
+        }
+        last = Some(*token);
+        rest = others;
+    }
+    None
+}
+
+/// The first word of a statement that is not known.
+fn first_unknown(
+    text: &[u8],
+    tokens: &[Token],
+    head: &[Token],
+    statement: &[Token],
+) -> Option<Token>
+    ensures { result ≡ first_unknown text.now tokens.now head.now statement.now }
+{
+    let values = first_tokens(values_of(text, statement));
+    unknown_among(text, tokens, head, start_of(statement), values)
+}
+
+/// Which words are known.
+#[tactic(auto, unfolding(crate::specs::Unknown::known_note))]
+fn known_note() -> &'static [u8]
+    ensures { result.now ≡ known_note }
+{
+    b"    known are the constants before it, and the parameters of the MACRO and the variables of the FORs
+    around it
+"
+}
+
+/// A word that is not known.
+fn add_unknown_word(out: &mut Bytes, text: &[u8], word: Option<Token>) -> Result<(), NoMemory>
+    ensures { OnOk result (out.new ≡ out.old ++ unknown_line text.now word) }
+{
+    match word {
+        Some(token) => add_line(
+            out,
+            &[
+                Part::Text(b"    "),
+                Part::Quoted(spelled(text, token)),
+                Part::Text(b" is none of these"),
+            ],
+        ),
+        None => Ok(()),
+    }
+}
+
+/// Puts which words are known at the place at the end of the bytes, and which one of the statement there is
+/// not. The one error is that memory ran out.
+pub fn add_unknown(
+    out: &mut Bytes,
+    text: &[u8],
+    tokens: &[Token],
+    place: Place,
+) -> Result<(), NoMemory>
+    ensures { OnOk result (out.new ≡ out.old ++ unknown_lines text.now tokens.now place) }
+{
+    out.extend(known_note())?;
+    let statement = from_place(tokens, place);
+    let head = from_head(text, tokens, place);
+    add_unknown_word(out, text, first_unknown(text, tokens, head, statement))
+}

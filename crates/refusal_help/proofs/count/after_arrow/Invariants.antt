@@ -1,9 +1,0 @@
-use Rattle.std.proofs.Common.{◌≡◌, length}
-use Rattle.refusal_help.specs.Count.{after_arrow}
-use Rattle.refusal_help.proofs.count.after_arrow.Given as goal
-
-abbrev pub invariant-tokens : goal.invariant-tokens
-invariant-tokens l = after_arrow l.rest ≡ after_arrow l.tokens
-
-abbrev pub decreases-tokens : goal.decreases-tokens
-decreases-tokens l = length l.rest
