@@ -35,7 +35,7 @@ sentence() {
     TooDeep) echo 'more than 64 are nested here' ;;
     TooMany) echo 'this is one more than a drawing may have' ;;
     TwoDrivers) echo 'this output is a constant, or is driven before' ;;
-    ZeroLoop) echo 'a loop without delay leads here' ;;
+    ZeroLoop) echo 'a loop whose least delay is 0 leads here' ;;
     CaseNet) echo 'a case may not set this net so' ;;
     EdgesOverlap) echo 'two edges of this clock may come in one slot' ;;
     ZeroDivisor) echo 'a division by zero' ;;
@@ -174,49 +174,49 @@ printf '' | refused '3 Syntax 1:1'
 helps '    the end of the text cannot come first' \
     '    what may stand here: SCALD'
 text '3 Syntax 2:1' 'SCALD 1;' 'clock 8 x 50;'
-helps "    'clock' cannot come after ';'" \
+helps "    'clock' cannot stand here, after ';'" \
     '    is CLOCK meant?' \
     '    what may stand here: CLOCK'
 text '3 Syntax 2:9' 'SCALD 1;' 'CLOCK 8 x50;'
 text '3 Syntax 3:1' 'SCALD 1;' 'CLOCK 8 x 50;'
-helps "    the end of the text cannot come after ';'" \
+helps "    the end of the text cannot stand here, after ';'" \
     '    what may stand here: WIRE PSKEW CSKEW MACRO DRAWING'
 text '3 Syntax 1:9' 'SCALD 1;;'
-helps "    ';' cannot come after ';'" \
+helps "    ';' cannot stand here, after ';'" \
     '    what may stand here: CLOCK'
 early '3 Syntax 4:9' 'a:B()->();'
-helps "    ')' cannot come after '('" \
+helps "    ')' cannot stand here, after '('" \
     '    what may stand here: "name" ZERO ONE -'
 early '3 Syntax 4:4' 'IF : BUF [0:0] ("A") -> ("X");'
-helps "    ':' cannot come after 'IF'" \
-    '    IF is reserved: it is no label, kind, macro, parameter, constant or variable' \
+helps "    ':' cannot stand here, after 'IF'" \
+    '    IF is reserved: it is no label, kind, macro, parameter, constant, variable or drawing' \
     '    what may stand here: word number ( -'
 early '3 Syntax 4:4' 'if 1 THEN' 'END;'
-helps "    '1' cannot come after 'if'" \
+helps "    '1' cannot stand here, after 'if'" \
     '    is IF meant?' \
     '    what may stand here: :'
 early '3 Syntax 4:22' 'b1 : BUF [0:0] ("A") ("X");'
-helps "    '(' cannot come after ')'" \
+helps "    '(' cannot stand here, after ')'" \
     '    what may stand here: -> ;' \
     '    is -> missing here?'
 early '3 Syntax 5:1' 'b1 : BUF [0:0] ("A") -> ("X")' 'b2 : BUF [0:0] ("X") -> ("Y");'
-helps "    'b2' cannot come after ')'" \
+helps "    'b2' cannot stand here, after ')'" \
     '    what may stand here: ;' \
     '    is ; missing here?'
 early '3 Syntax 5:1' 'b1 : AND [0:0] ("A"' '"B") -> ("X");'
-helps "    '\"B\"' cannot come after '\"A\"'" \
+helps "    '\"B\"' cannot stand here, after '\"A\"'" \
     '    what may stand here: , ) < & !' \
     '    is , missing here?'
 early '3 Syntax 5:1' 'b1 : BUF [0:0] ("A"' '-> ("X");'
-helps "    '->' cannot come after '\"A\"'" \
+helps "    '->' cannot stand here, after '\"A\"'" \
     '    what may stand here: , ) < & !' \
     '    is ) missing here?'
 early '3 Syntax 4:16' 'b1 : BUF [0:10 ("A") -> ("X");'
-helps "    '(' cannot come after '10'" \
+helps "    '(' cannot stand here, after '10'" \
     '    what may stand here: , ] + - * /' \
     '    is ] missing here?'
 early '3 Syntax 5:1' 'IF 2 > 1' 'b1 : BUF [0:0] ("A") -> ("X");' 'END;'
-helps "    'b1' cannot come after '1'" \
+helps "    'b1' cannot stand here, after '1'" \
     '    what may stand here: THEN + - * /' \
     '    is THEN missing here?'
 early '3 Syntax 4:11' 'b1 : BUF [ONE:1] ("A") -> ("X");'
@@ -242,18 +242,82 @@ early '15 TooDeep 4:641' "$(many 65 'IF 1 THEN ')b1 : BUF [0:0] (\"A\") -> (\"X\
 helps '    at most 64 IFs and FORs may be inside one another, and this is one more'
 
 second '3 Syntax 7:1' 'MACRO M ("A") -> ("Z");' 'IF 1 THEN' 'b1 : BUF [0:0] ("A") -> ("Z");' 'END;' 'DRAWING ROW;' 'END;'
-helps "    'DRAWING' cannot come after ';'" \
+helps "    'DRAWING' cannot stand here, after ';'" \
     '    the MACRO at 3:1 has no END before this' \
+    '    the last END before this, at 6:1, is that of the IF at 4:1' \
+    '    a text has one DRAWING, after its MACROs' \
     '    what may stand here: word WIRE IF END'
 second '3 Syntax 6:1' 'MACRO M ();' 'IF 1 THEN' 'ELSE' 'DRAWING ROW;' 'END;'
-helps "    'DRAWING' cannot come after 'ELSE'" \
+helps "    'DRAWING' cannot stand here, after 'ELSE'" \
     '    the MACRO at 3:1 has no END before this' \
     '    the IF at 4:1 has no END before this' \
+    '    a text has one DRAWING, after its MACROs' \
     '    what may stand here: word WIRE IF END'
 second '3 Syntax 7:1' 'DRAWING ROW;' 'FOR I = 0 TO 1 DO' 'b1 : BUF [0:0] ("A"<I>) -> ("X"<I>);' 'END;'
-helps "    the end of the text cannot come after ';'" \
+helps "    the end of the text cannot stand here, after ';'" \
     '    the DRAWING at 3:1 has no END before this' \
+    '    the last END before this, at 6:1, is that of the FOR at 4:1' \
     '    what may stand here: word WIRE IF END'
+# an IF without END takes that of the macro, also where a second IF is in it
+second '3 Syntax 7:1' 'MACRO M ("A") -> ("Z");' 'IF 1 THEN' 'b1 : BUF [0:0] ("A") -> ("Z");' 'END;' 'MACRO N ();' 'END;' 'DRAWING ROW;' 'END;'
+helps "    'MACRO' cannot stand here, after ';'" \
+    '    the MACRO at 3:1 has no END before this' \
+    '    the last END before this, at 6:1, is that of the IF at 4:1' \
+    '    a MACRO stands before the DRAWING, and in no other MACRO' \
+    '    what may stand here: word WIRE IF END'
+second '3 Syntax 9:1' 'DRAWING ROW;' 'IF 1 THEN' 'b1 : BUF [0:0] ("A") -> ("X");' 'IF 0 THEN' 'END;' 'END;'
+helps "    the end of the text cannot stand here, after ';'" \
+    '    the DRAWING at 3:1 has no END before this' \
+    '    the last END before this, at 8:1, is that of the IF at 4:1' \
+    '    what may stand here: word WIRE IF END'
+second '3 Syntax 7:1' 'DRAWING ROW;' 'IF 1 THEN' 'ELSE' 'END;' 'CASE "SEL"=1;' 'END;'
+helps "    'CASE' cannot stand here, after ';'" \
+    '    the DRAWING at 3:1 has no END before this' \
+    '    the last END before this, at 6:1, is that of the IF at 4:1' \
+    '    a CASE stands after the END of the DRAWING' \
+    '    what may stand here: word WIRE IF END'
+second '3 Syntax 6:1' 'DRAWING ROW;' 'b1 : BUF [0:0] ("A") -> ("X");' 'END;' 'END;'
+helps "    'END' cannot stand here, after ';'" \
+    '    the last END before this, at 5:1, is that of the DRAWING at 3:1' \
+    '    what may stand here: CASE (end of text)'
+second '3 Syntax 6:1' 'DRAWING ROW;' 'b1 : BUF [0:0] ("A") -> ("X");' 'END;' 'b2 : BUF [0:0] ("X") -> ("Y");' 'END;'
+helps "    'b2' cannot stand here, after ';'" \
+    '    the last END before this, at 5:1, is that of the DRAWING at 3:1' \
+    '    what may stand here: CASE (end of text)'
+
+# --- a statement that belongs elsewhere
+# belongs LINE ..: after what stands here and after what, these lines are said
+belongs() {
+    word=$1
+    shift
+    helps "    '$word' cannot stand here, after ';'" "$@"
+}
+begin='    a text begins with SCALD, CLOCK, WIRE, PSKEW and CSKEW, in this order; the last three may be left out'
+text '3 Syntax 3:1' 'SCALD 2;' 'CLOCK 8 x 50;' 'CASE "SEL"=1;' 'DRAWING ROW;' 'END;'
+belongs CASE '    a CASE stands after the END of the DRAWING' \
+    '    what may stand here: WIRE PSKEW CSKEW MACRO DRAWING CONST'
+text '3 Syntax 4:1' 'SCALD 2;' 'CLOCK 8 x 50;' 'PSKEW 1:1;' 'WIRE 0:5;' 'DRAWING ROW;' 'END;'
+belongs WIRE "$begin" \
+    '    a WIRE with a name stands in the body of a MACRO or of the DRAWING' \
+    '    what may stand here: CSKEW MACRO DRAWING CONST'
+text '3 Syntax 2:1' 'SCALD 2;' 'PSKEW 1:1;' 'CLOCK 8 x 50;' 'DRAWING ROW;' 'END;'
+belongs PSKEW "$begin" '    what may stand here: CLOCK'
+text '3 Syntax 3:1' 'SCALD 2;' 'CLOCK 8 x 50;' 'CLOCK 8 x 50;' 'DRAWING ROW;' 'END;'
+belongs CLOCK "$begin" '    what may stand here: WIRE PSKEW CSKEW MACRO DRAWING CONST'
+second '3 Syntax 3:1' 'IF 1 THEN END;' 'DRAWING ROW;' 'END;'
+belongs IF '    an IF stands in the body of a MACRO or of the DRAWING' \
+    '    what may stand here: WIRE PSKEW CSKEW MACRO DRAWING CONST'
+second '3 Syntax 3:1' 'FOR I = 0 TO 1 DO END;' 'DRAWING ROW;' 'END;'
+belongs FOR '    a FOR stands in the body of a MACRO or of the DRAWING' \
+    '    what may stand here: WIRE PSKEW CSKEW MACRO DRAWING CONST'
+second '3 Syntax 5:1' 'DRAWING ROW;' 'IF 1 THEN ELSE' 'ELSE END;' 'END;'
+helps "    'ELSE' cannot stand here, after 'ELSE'" \
+    '    an ELSE stands in an IF, once, before its END' \
+    '    what may stand here: word WIRE IF END'
+second '3 Syntax 5:1' 'DRAWING ROW;' 'END;' 'MACRO M ();' 'END;'
+belongs MACRO '    the last END before this, at 4:1, is that of the DRAWING at 3:1' \
+    '    a MACRO stands before the DRAWING, and in no other MACRO' \
+    '    what may stand here: CASE (end of text)'
 
 # --- header
 text '3 Syntax 2:13' 'SCALD 2;' 'CLOCK 8 x 0;;'
@@ -363,19 +427,27 @@ helps "    '\"A\"' stands first at 3:10"
 
 # --- version 2
 early '3 Syntax 4:5' 'FOR I = 0 TO 1 DO' 'END;'
-helps "    'I' cannot come after 'FOR'" \
+helps "    'I' cannot stand here, after 'FOR'" \
     '    FOR and CONST are of version 2, in texts that begin with SCALD 2' \
     '    what may stand here: :'
 text '3 Syntax 3:1' 'SCALD 1;' 'CLOCK 8 x 50;' 'CONST N = 4;' 'DRAWING ROW;' 'END;'
-helps "    'CONST' cannot come after ';'" \
+helps "    'CONST' cannot stand here, after ';'" \
     '    FOR and CONST are of version 2, in texts that begin with SCALD 2' \
     '    what may stand here: WIRE PSKEW CSKEW MACRO DRAWING'
 text '3 Syntax 3:1' 'SCALD 3;' 'CLOCK 8 x 50;' 'CONST N = 4;' 'DRAWING ROW;' 'END;'
+const='    a CONST stands before the first MACRO and the DRAWING, after CLOCK, WIRE, PSKEW and CSKEW'
 second '3 Syntax 5:1' 'MACRO M ();' 'END;' 'CONST N = 4;' 'DRAWING ROW;' 'END;'
+helps "    'CONST' cannot stand here, after ';'" '    the last END before this, at 4:1, is that of the MACRO at 3:1' \
+    "$const" '    what may stand here: MACRO DRAWING'
 second '3 Syntax 4:7' 'DRAWING ROW;' 'CONST N = 4;' 'END;'
+helps "    'N' cannot stand here, after 'CONST'" "$const" '    what may stand here: :'
+early '3 Syntax 4:7' 'CONST N = 4;'
+helps "    'N' cannot stand here, after 'CONST'" \
+    '    FOR and CONST are of version 2, in texts that begin with SCALD 2' \
+    '    what may stand here: :'
 second '3 Syntax 3:7' 'CONST IF = 4;' 'DRAWING ROW;' 'END;'
-helps "    'IF' cannot come after 'CONST'" \
-    '    IF is reserved: it is no label, kind, macro, parameter, constant or variable' \
+helps "    'IF' cannot stand here, after 'CONST'" \
+    '    IF is reserved: it is no label, kind, macro, parameter, constant, variable or drawing' \
     '    what may stand here: word'
 second '3 Syntax 3:9' 'CONST N : 4;' 'DRAWING ROW;' 'END;'
 second '3 Syntax 3:13' 'CONST N = 4 = 4;' 'DRAWING ROW;' 'END;'
@@ -386,7 +458,7 @@ second '3 Syntax 4:7' 'DRAWING ROW;' 'FOR I : BUF [0:0] ("A") -> ("X");' 'END;'
 second '3 Syntax 4:11' 'DRAWING ROW;' 'FOR : FOR = 0 TO 1 DO' 'END;' 'END;'
 second '3 Syntax 4:11' 'DRAWING ROW;' 'FOR I = 0 = 1 TO 1 DO' 'END;' 'END;'
 second '3 Syntax 4:11' 'DRAWING ROW;' 'FOR I = 0 1 DO' 'END;' 'END;'
-helps "    '1' cannot come after '0'" \
+helps "    '1' cannot stand here, after '0'" \
     '    what may stand here: TO + - * /' \
     '    is TO missing here?'
 second '3 Syntax 4:11' 'DRAWING ROW;' 'FOR I = 0 DO' 'END;' 'END;'
@@ -440,8 +512,8 @@ drawing '14 Bounds 4:1' 'b1 : BUF ("A") -> ("X");'
 helps '    BUF takes a delay [a:b], 0 <= a <= b <= 4095, or two, [r:R, f:F], each at most 255' \
     '    here it has none'
 drawing '14 Bounds 4:1' 'c1 : MIN_PULSE_CHK [0:0] ("A");'
-helps '    MIN_PULSE_CHK takes no delay' \
-    '    MIN_PULSE_CHK takes HIGH and LOW, each once; neither is negative, and each is at most the period' \
+helps '    MIN_PULSE_CHK takes HIGH and LOW, each once; neither is negative, and each is at most the period' \
+    '    MIN_PULSE_CHK takes no delay' \
     '    here it has one'
 macro unexpanded '14 Bounds 6:1' 'MACRO M ();' 'END;' 'DRAWING ROW;' 'u : M [0:0] ();' 'END;'
 helps '    a macro takes no delay'
@@ -476,7 +548,7 @@ drawing '10 Overflow 4:1' 'b1 : BUF [0:9223372036854775807+1] ("A") -> ("X");'
 no_help
 drawing '21 ZeroDivisor 4:1' 'b1 : BUF [0:1/0] ("A") -> ("X");'
 no_help
-# unknown LINE ..: beside what is known, these lines are said
+# unknown LINE ..: beside what is known in a body, these lines are said
 unknown() {
     helps '    known are the constants before it, and the parameters of the MACRO and the variables of the FORs' \
         '    around it' \
@@ -494,7 +566,18 @@ macro unexpanded '22 UnknownName 4:1' 'MACRO M {N=1} ("A") -> ("Z");' 'b1 : BUF 
     'u : M ("A") -> ("X");' 'END;'
 unknown "    'K' is none of these" '    it is reached by u at 7:1'
 expanded '22 UnknownName 3:1' 'CONST N = M;' 'CONST M = 1;' 'DRAWING ROW;' 'END;'
-unknown "    'M' is none of these"
+helps '    known are the constants before it' "    'M' is none of these"
+# the head of a macro: of its defaults those that the use does not give, and then its ranges
+expanded '22 UnknownName 7:1' 'CONST W = 2;' 'MACRO M {N=W, D=N*5} ("A"<0:N-1>) -> ("Z");' 'END;' 'DRAWING ROW;' \
+    'u : M {N=3} ("A"<0:2>) -> ("X");' 'END;'
+helps "    the default of 'D' names 'N' at 4:17, and a default may name constants alone:" \
+    '    MACRO M {N=W, D=N*5} ("A"<0:N-1>) -> ("Z");' '                    ^'
+expanded '22 UnknownName 6:1' 'MACRO M {N=4, D=N*5} ("A"<0:K-N>) -> ("Z");' 'END;' 'DRAWING ROW;' \
+    'u : M {D=3} ("A"<0:2>) -> ("X");' 'END;'
+helps "    a formal's range names 'K' at 3:29, which is neither a constant nor a parameter of the macro:" \
+    '    MACRO M {N=4, D=N*5} ("A"<0:K-N>) -> ("Z");' '                                ^'
+expanded '22 UnknownName 6:1' 'MACRO M {N=P} ("A") -> ("Z");' 'END;' 'DRAWING ROW;' 'u : M {N=Q} ("A") -> ("X");' 'END;'
+unknown "    'Q' is none of these"
 expanded '22 UnknownName 5:1' 'CONST N = 1;' 'DRAWING ROW;' 'FOR I = N TO K DO' 'END;' 'END;'
 unknown "    'K' is none of these"
 # a variable of a FOR before it, which may be around it for all that is told
@@ -516,7 +599,7 @@ helps '    BUF takes a delay [a:b], 0 <= a <= b <= 4095, or two, [r:R, f:F], eac
 macro unexpanded '14 Bounds 4:1' 'MACRO M {N=1} ("A") -> ("Z");' 'b1 : BUF [N:3] ("A") -> ("Z");' 'END;' 'DRAWING ROW;' \
     'u1 : M {N=5} ("A") -> ("X");' 'END;'
 helps '    BUF takes a delay [a:b], 0 <= a <= b <= 4095, or two, [r:R, f:F], each at most 255' \
-    "    'M' is used at 7:1 alone:" '    u1 : M {N=5} ("A") -> ("X");' '    ^' \
+    "    'M' is used only at 7:1:" '    u1 : M {N=5} ("A") -> ("X");' '    ^' \
     '    it is reached by u1 at 7:1'
 macro unexpanded '14 Bounds 4:1' 'MACRO M {N=1} ("A") -> ("Z");' 'b1 : BUF [N:3] ("A") -> ("Z");' 'END;' 'DRAWING ROW;' \
     'u1 : M {N=1} ("A") -> ("X");' 'u2 : M {N=5} ("A") -> ("Y");' 'u3 : M {N=6} ("A") -> ("V");' 'END;'
@@ -530,14 +613,12 @@ drawing '14 Bounds 4:1' 'b1 : BUF [0:0, 1:256] ("A") -> ("X");'
 helps '    BUF takes a delay [a:b], 0 <= a <= b <= 4095, or two, [r:R, f:F], each at most 255' \
     '    256 is more than 255, by 1'
 drawing '14 Bounds 4:1' 'c1 : SETUP_HOLD_CHK {SETUP=391, HOLD=10} ("CK", "D");'
-helps '    SETUP_HOLD_CHK takes no delay' \
-    '    SETUP_HOLD_CHK takes SETUP and HOLD, each once; neither is negative, and together they are at most the period' \
+helps '    SETUP_HOLD_CHK takes SETUP and HOLD, each once; neither is negative, and together they are at most the period' \
     '    401 is more than 400, by 1'
 drawing '14 Bounds 4:1' 'c1 : SETUP_RISE_HOLD_FALL_CHK {SETUP=0-1, HOLD=10} ("CK", "D");'
 drawing '14 Bounds 4:1' 'c1 : MIN_PULSE_CHK {HIGH=401} ("K");'
 drawing '14 Bounds 4:1' 'c1 : MIN_PULSE_CHK {LOW=401} ("K");'
-helps '    MIN_PULSE_CHK takes no delay' \
-    '    MIN_PULSE_CHK takes HIGH and LOW, each once; neither is negative, and each is at most the period' \
+helps '    MIN_PULSE_CHK takes HIGH and LOW, each once; neither is negative, and each is at most the period' \
     '    401 is more than 400, by 1'
 drawing '14 Bounds 4:1' 'WIRE "A" 2:1;'
 helps '    WIRE "A" a:b has 0 <= a <= b <= 4095' \
@@ -547,16 +628,16 @@ helps '    WIRE "A" a:b has 0 <= a <= b <= 4095' \
     '    4096 is more than 4095, by 1'
 drawing '13 PinCount 4:1' 'b1 : BUF [0:0] ("A", "B") -> ("X");'
 helps '    BUF takes 1 input connection, without !H, and 1 output connection' \
-    '    here it has 2 input and 1 output connections, 0 and 0 of them with !H'
+    '    here it has 2 input and 1 output connections'
 drawing '13 PinCount 4:1' 'b1 : BUF [0:0] () -> ("X");'
 helps '    BUF takes 1 input connection, without !H, and 1 output connection' \
-    '    here it has 0 input and 1 output connections, 0 and 0 of them with !H'
+    '    here it has 0 input and 1 output connections'
 drawing '13 PinCount 4:1' 'b1 : BUF [0:0] ("A");'
 drawing '13 PinCount 4:1' 'm1 : MUX4 [0:0] ("S", "A", "B", "C", "D") -> ("X");'
 drawing '13 PinCount 4:1' "a1 : AND [0:0] (\"A\"$(many 16 ', "A"')) -> (\"X\");"
 drawing '13 PinCount 4:1' 'c1 : MIN_PULSE_CHK ("A") -> ("X");'
 helps '    MIN_PULSE_CHK takes 1 input connection, without !H, and no output connection' \
-    '    here it has 1 input and 1 output connections, 0 and 0 of them with !H'
+    '    here it has 1 input and 1 output connections'
 drawing '13 PinCount 4:1' 'b1 : BUF [0:0] ("A" !H) -> ("X");'
 drawing '13 PinCount 4:1' 'a1 : AND [0:0] ("A" !H, "B" !H) -> ("X");'
 helps '    AND takes 1 to 16 input connections, one of which may have !H, and 1 output connection' \
@@ -575,7 +656,7 @@ helps '    a range has at most 256 bits, and that of "A" has 257'
 drawing '11 BadRange 4:1' 'WIRE "A"<65536> 0:0;'
 macro unexpanded '11 BadRange 4:1' 'MACRO M ("A"<1:2>) -> ("Z");' 'b1 : BUF [0:0] ("A"<0>) -> ("Z");' 'END;' 'DRAWING ROW;' \
     'u : M ("A") -> ("X");' 'END;'
-helps '    the formal "A" has the bits 1 to 2' "    'M' is used at 7:1 alone:" '    u : M ("A") -> ("X");' '    ^' \
+helps '    the formal "A" has the bits 1 to 2' "    'M' is used only at 7:1:" '    u : M ("A") -> ("X");' '    ^' \
     '    it is reached by u at 7:1'
 drawing '8 AssertionClash 4:1' 'a1 : AND [0:0] ("A .S0-4", "A .S0-5") -> ("X");'
 helps '    give the assertion once, or spell it the same each time; a formal has that of the outer net' \
@@ -588,24 +669,35 @@ macro unexpanded '8 AssertionClash 4:1' 'MACRO M ("A") -> ("Z");' 'b1 : BUF [0:0
     'u : M ("A") -> ("X");' 'END;'
 drawing '12 Width 4:1' 'c1 : MIN_PULSE_CHK ("A"<0:255> & "B");'
 drawing '12 Width 4:1' 'b1 : BUF [0:0] ("A"<0:2>) -> ("X"<0:3>);'
-# wide LINE ..: beside what to do, these lines are said
+# wide RULE LINE ..: beside this rule and that of names without a range, these lines are said
 wide() {
-    helps "    connections are as wide as the output, or as a checker's widest one, or have one bit for all" \
-        '    a name without a range is its bit 0 alone, and a formal without one is all of its bits' \
-        "$@"
+    rule=$1
+    shift
+    helps "    $rule" '    a name without a range is its bit 0 alone, and a formal without one is all of its bits' "$@"
 }
-wide '    bits of the connections: 3 -> 4'
+by_output='connections are as wide as the output, or have one bit for all'
+by_widest='connections are as wide as the widest one, or have one bit for all'
+by_formal='each connection is as wide as its formal; an input connection may have one bit for all instead'
+wide "$by_output" '    bits of the connections: 3 -> 4'
 drawing '12 Width 4:1' 'c1 : SETUP_HOLD_CHK ("CK"<0:1>, "D"<0:2>);'
-wide '    bits of the connections: 2, 3'
+wide "$by_widest" '    bits of the connections: 2, 3'
 drawing '12 Width 4:1' 'a1 : AND [0:0] ("A"<7:4> & ZERO, "D", "E"<0:3-1>) -> (-"X"<0:3>);'
-wide '    bits of the connections: 5, 1, ? -> 4'
+wide "$by_output" '    bits of the connections: 5, 1, ? -> 4'
+drawing '12 Width 4:1' 'c1 : CHG [0:0] ("A"<0:255> & "B"<0:3>) -> ("Z");'
+wide 'the inputs of a CHG have any widths, and a connection has at most 256 bits' '    bits of the connections: 260 -> 1'
 macro unexpanded '12 Width 6:1' 'MACRO M ("A") -> ("Z"<0:1>);' 'END;' 'DRAWING ROW;' 'u : M ("A") -> ("X");' 'END;'
-wide '    bits of the connections: 1 -> 1' '    bits of the formals: 1 -> 2'
+wide "$by_formal" '    bits of the connections: 1 -> 1' '    bits of the formals: 1 -> 2' \
+    '    the formal "Z" has width 2, and its connection has width 1'
 macro unexpanded '12 Width 6:1' 'MACRO M ("A"<0:2>);' 'END;' 'DRAWING ROW;' 'u : M ("A"<0:1>);' 'END;'
-wide '    bits of the connections: 2' '    bits of the formals: 3'
+wide "$by_formal" '    bits of the connections: 2' '    bits of the formals: 3' \
+    '    the formal "A" has width 3, and its connection has width 2'
+macro unexpanded '12 Width 6:1' 'MACRO M {N=8} ("A"<0:N-1>, "B"<0:3>) -> ("Z");' 'END;' 'DRAWING ROW;' \
+    'u : M ("A"<0:7>, "B"<0>) -> ("X"<0:7>);' 'END;'
+wide "$by_formal" '    bits of the connections: 8, 1 -> 8' '    bits of the formals: ?, 4 -> 1' \
+    '    the formal "Z" has width 1, and its connection has width 8'
 macro unexpanded '12 Width 4:1' 'MACRO M ("A"<0:2>) -> ("Z");' 'b1 : BUF [0:0] ("A") -> ("Z");' 'END;' 'DRAWING ROW;' \
     'u : M ("A"<0:2>) -> ("X");' 'END;'
-wide '    bits of the connections: 3 -> 1' "    'M' is used at 7:1 alone:" '    u : M ("A"<0:2>) -> ("X");' '    ^' \
+wide "$by_output" '    bits of the connections: 3 -> 1' "    'M' is used only at 7:1:" '    u : M ("A"<0:2>) -> ("X");' '    ^' \
     '    it is reached by u at 7:1'
 
 # --- two refusals in one statement: the first of the order is answered
@@ -633,12 +725,14 @@ drawing '11 BadRange 4:1' 'a1 : AND [0:0] ("A"<0:1>, "B"<0:2>) -> ("X"<65536>);'
 drawing '21 ZeroDivisor 4:1' 'WIRE "A"<65536> 0:1/0;'
 drawing '11 BadRange 4:1' 'WIRE "A"<65536> 2:1;'
 macro unexpanded '13 PinCount 6:1' 'MACRO M ("A"<65536>) -> ("Z");' 'END;' 'DRAWING ROW;' 'u : M ("A", "B") -> ("X");' 'END;'
-helps '    the macro takes 1 input and 1 output connections, 0 and 0 of them with !H' \
-    '    here it has 2 input and 1 output connections, 0 and 0 of them with !H'
+helps '    without !H the macro takes 1 input and 1 output connections' \
+    '    here it has 2 input and 1 output connections'
 macro unexpanded '21 ZeroDivisor 6:1' 'MACRO M {N=1/0} ("A"<65536>) -> ("Z");' 'END;' 'DRAWING ROW;' 'u : M ("A"<65536>) -> ("X");' 'END;'
 macro unexpanded '22 UnknownName 7:1' 'MACRO M {N=P} ();' 'b : BUF [0:N] ("A") -> ("X");' 'END;' 'MACRO O {P=7} ();' 'u : M ();' 'END;' \
     'DRAWING ROW;' 'o : O ();' 'END;'
-unknown '    it is reached by o at 10:1'
+helps "    the default of 'N' names 'P' at 3:12, and a default may name constants alone:" \
+    '    MACRO M {N=P} ();' '               ^' \
+    '    it is reached by o at 10:1'
 
 # --- limits of the expansion
 {
@@ -667,26 +761,28 @@ helps "$limits_of_checkers" "$past_one"
 } | unexpanded '16 TooMany 260:1'
 
 # --- the circuit
+one_driver='    a net has one driver: give each its own net, or join them by a MUX2, an AND or an OR'
+slow_loop='    give an element of the loop, or the wire of a net of it, a least delay of 1'
 drawing '17 TwoDrivers 5:1' 'b1 : BUF [0:0] ("A") -> ("X");' 'b2 : BUF [0:0] ("B") -> ("X");'
-helps '    join what drives a net by a MUX2, an AND or an OR' \
+helps "$one_driver" \
     '    it is driven before:' \
     '        X<0> is driven at 4:1 by b1<0>'
 drawing '17 TwoDrivers 4:1' 'b1 : BUF [0:0] ("A") -> (ZERO);'
-helps '    join what drives a net by a MUX2, an AND or an OR' \
+helps "$one_driver" \
     '    nothing may drive ZERO or ONE'
 drawing '17 TwoDrivers 5:1' 'b1 : BUF [0:0] ("A"<0:3>) -> ("X"<0:3>);' 'b2 : BUF [0:0] ("B"<0:1>) -> ("Y" & -"X"<2>);'
-helps '    join what drives a net by a MUX2, an AND or an OR' \
+helps "$one_driver" \
     '    it is driven before:' \
     '        X<2> is driven at 4:1 by b1<2>'
 macro unexpanded '17 TwoDrivers 5:1' 'MACRO M ("A") -> ("Z");' 'b1 : BUF [0:0] ("A") -> ("Z");' 'b2 : BUF [0:0] ("A") -> ("Z");' 'END;' \
     'DRAWING ROW;' 'u1 : M ("A") -> ("X");' 'END;'
-helps '    join what drives a net by a MUX2, an AND or an OR' \
+helps "$one_driver" \
     '    it is driven before:' \
     '        X<0> is driven at 4:1 by u1/b1<0>' \
     '    it is reached by u1 at 8:1'
 drawing '17 TwoDrivers 6:1' 'b1 : BUF [0:0] ("Y") -> ("X");' 'a1 : AND [0:0] ("CK .P2-3", "X") -> ("Y");' 'b2 : BUF [0:0] ("B") -> ("X");'
 drawing '18 ZeroLoop 4:1' 'b1 : BUF [0:0] ("Y") -> ("X");' 'a1 : AND [0:0] ("CK .P2-3", "X") -> ("Y");'
-helps '    give an element of the loop, or the wire of a net of it, a least delay of 1' \
+helps "$slow_loop" \
     '    it is in a loop, each net of which comes from the next:' \
     '        X<0> is driven at 4:1 by b1<0>' \
     '        Y<0> is driven at 5:1 by a1<0>' \
@@ -711,8 +807,8 @@ cases() {
 # told WANT LINE WHY: a case of this line is refused so, and this line says why
 told() {
     cases "$1" "$2"
-    helps '    it may set a net that nothing drives and that asserts .S or nothing: to 0 or 1, once, and without' \
-        '    its assertion; a net inside a macro has to come out by a formal' \
+    helps '    a case sets a net that nothing drives and that asserts .S or nothing to 0 or 1, once. It names the net' \
+        '    without assertion and path, so inside a macro only one whose name begins with /' \
         "$3"
 }
 told '19 CaseNet 6:6' 'CASE "X"=0;' '        X<0> is driven at 4:1 by m1<0>'

@@ -1,6 +1,8 @@
+pub mod Naming
+pub mod Edge
 pub mod Clash
 pub mod Double
-pub mod Edge
 pub mod KindName
-pub mod Naming
 pub mod Unknown
+pub mod MacroHead
+pub mod UnknownName

@@ -1,14 +1,11 @@
 -- Which word of a statement is the name of no number there.
-use Rattle.std.specs.Prelude.{ℕ, Bool, true, false, not, ◌&&◌, ◌||◌, nat_lt, List, [], ◌∷◌, ◌++◌, take, codes, Option, Some, None, if◌then◌else◌}
+use Rattle.std.specs.Prelude.{ℕ, Bool, true, false, not, ◌&&◌, ◌||◌, nat_lt, List, [], ◌∷◌, take, codes, Option, Some, None, if◌then◌else◌}
 use Rattle.std.specs.Str.{bytes_eq}
-use Rattle.scald_base.specs.declared.refusal.Place.{Place}
 use Rattle.scald_lex.specs.declared.token.Token.{Token}
 use Rattle.help_text.specs.declared.keyword.Keyword.{Keyword}
 use Rattle.help_text.specs.Assign.{begins_assign, braces, is_assigned}
-use Rattle.help_text.specs.Head.{from_head}
 use Rattle.help_text.specs.Keyword.{reserved_word}
-use Rattle.help_text.specs.Statement.{from_after, from_place, spelled}
-use Rattle.help_text.specs.Text.{line, quoted}
+use Rattle.help_text.specs.Statement.{from_after, spelled}
 use Rattle.help_text.specs.Tokens.{is_use, after_kind, is_symbol, is_word}
 
 -- ---- the words that stand for numbers
@@ -81,19 +78,3 @@ unknown_from text tokens head start last (t ∷ ts) =
 abbrev pub first_unknown : List ℕ → List Token → List Token → List Token → Option Token
 first_unknown text tokens head statement =
     unknown_from text tokens head (start_of statement) None (take 256 (values_of text statement))
-
--- ---- what is said
-
-unfoldable pub known_note : List ℕ
-known_note =
-    codes "    known are the constants before it, and the parameters of the MACRO and the variables of the FORs\n" ++
-    codes "    around it\n"
-
-abbrev pub unknown_line : List ℕ → Option Token → List ℕ
-unknown_line text None = []
-unknown_line text (Some t) = line (codes "    " ∷ quoted (spelled text t) ∷ codes " is none of these" ∷ [])
-
-abbrev pub unknown_lines : List ℕ → List Token → Place → List ℕ
-unknown_lines text tokens place =
-    known_note
-    ++ unknown_line text (first_unknown text tokens (from_head text place tokens tokens) (from_place place tokens))

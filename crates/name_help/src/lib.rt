@@ -2,8 +2,8 @@
 //!
 //! Of a signal: why the text between its quotes is no name (`specs/Naming`, over `name_fault`), which edges of
 //! its clock may come in one slot (`specs/Edge`), and where it has another assertion (`specs/Clash`). Of a word:
-//! where it is taken (`specs/Double`), which kind or macro it may mean (`specs/KindName`), and whether it
-//! stands for a number (`specs/Unknown`). `refusal_help` calls each for its kind of refusal.
+//! where it is taken (`specs/Double`), which kind or macro it may mean (`specs/KindName`), and which one of an
+//! expression stands for no number (`specs/UnknownName`). `refusal_help` calls each for its kind of refusal.
 #![tactic(auto)]
 
 // signals
@@ -14,11 +14,13 @@ mod naming;
 // words
 mod double;
 mod kind;
+mod macro_head;
 mod unknown;
+mod unknown_name;
 
 pub use clash::add_assertion;
 pub use double::add_double;
 pub use edge::{add_edges, edges_at};
 pub use kind::add_kind;
 pub use naming::add_name_lines;
-pub use unknown::add_unknown;
+pub use unknown_name::add_unknown;

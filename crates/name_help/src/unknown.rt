@@ -1,13 +1,13 @@
 //! Which word of a statement is the name of no number there.
 
-ghost use Rattle.std.specs.Prelude.{◌≡◌, ◌++◌, OnOk, None};
-ghost use Rattle.name_help.specs.Unknown.{after_head, begins_before, declares_value, ends_values, first_unknown, gives_value, is_known, is_value, known_note, names_value, start_of, unknown_from, unknown_line, unknown_lines, values_of};
+ghost use Rattle.std.specs.Prelude.{◌≡◌, None};
+ghost use Rattle.name_help.specs.Unknown.{after_head, begins_before, declares_value, ends_values, first_unknown, gives_value, is_known, is_value, names_value, start_of, unknown_from, values_of};
 
 use help_text::{
-    Part, add_line, after_kind, begins_assign, braces, first_tokens, from_after, from_head,
-    from_place, is_assigned, is_symbol, is_use, is_word, reserved_word, spelled,
+    after_kind, begins_assign, braces, first_tokens, from_after, is_assigned, is_symbol, is_use,
+    is_word, reserved_word, spelled,
 };
-use scald_base::{Bytes, NoMemory, Place, same_bytes};
+use scald_base::same_bytes;
 use scald_lex::Token;
 
 /// Whether a statement declares a constant or a variable.
@@ -54,7 +54,7 @@ fn gives_value(tokens: &[Token]) -> bool
 }
 
 /// Whether a word between these tokens is a mark, or the name of a parameter that is given.
-fn names_value(last: Option<Token>, rest: &[Token]) -> bool
+pub fn names_value(last: Option<Token>, rest: &[Token]) -> bool
     ensures { result ≡ names_value last rest.now }
 {
     match last {
@@ -65,7 +65,7 @@ fn names_value(last: Option<Token>, rest: &[Token]) -> bool
 
 /// Whether a token between these is a word that stands for a number.
 #[tactic(auto, unfolding(crate::specs::Unknown::is_value))]
-fn is_value(text: &[u8], last: Option<Token>, token: Token, rest: &[Token]) -> bool
+pub fn is_value(text: &[u8], last: Option<Token>, token: Token, rest: &[Token]) -> bool
     ensures { result ≡ is_value text.now last token rest.now }
 {
     let word = spelled(text, token);
@@ -76,7 +76,7 @@ fn is_value(text: &[u8], last: Option<Token>, token: Token, rest: &[Token]) -> b
 }
 
 /// Where the first of these tokens begins.
-fn start_of(tokens: &[Token]) -> u32
+pub fn start_of(tokens: &[Token]) -> u32
     ensures { result ≡ start_of tokens.now }
 {
     match tokens {
@@ -96,7 +96,7 @@ fn begins_before(tokens: &[Token], start: u32) -> bool
 }
 
 /// What follows the word MACRO and the name.
-fn after_head(head: &[Token]) -> &[Token]
+pub fn after_head(head: &[Token]) -> &[Token]
     ensures { result.now ≡ after_head head.now }
 {
     match head {
@@ -116,7 +116,7 @@ fn is_known(text: &[u8], tokens: &[Token], head: &[Token], start: u32, word: &[u
 }
 
 /// The first word of these values that is not known.
-fn unknown_among(
+pub fn unknown_among(
     text: &[u8],
     tokens: &[Token],
     head: &[Token],
@@ -142,7 +142,7 @@ fn unknown_among(
 }
 
 /// The first word of a statement that is not known.
-fn first_unknown(
+pub fn first_unknown(
     text: &[u8],
     tokens: &[Token],
     head: &[Token],
@@ -152,47 +152,4 @@ fn first_unknown(
 {
     let values = first_tokens(values_of(text, statement));
     unknown_among(text, tokens, head, start_of(statement), values)
-}
-
-/// Which words are known.
-#[tactic(auto, unfolding(crate::specs::Unknown::known_note))]
-fn known_note() -> &'static [u8]
-    ensures { result.now ≡ known_note }
-{
-    b"    known are the constants before it, and the parameters of the MACRO and the variables of the FORs
-    around it
-"
-}
-
-/// A word that is not known.
-fn add_unknown_word(out: &mut Bytes, text: &[u8], word: Option<Token>) -> Result<(), NoMemory>
-    ensures { OnOk result (out.new ≡ out.old ++ unknown_line text.now word) }
-{
-    match word {
-        Some(token) => add_line(
-            out,
-            &[
-                Part::Text(b"    "),
-                Part::Quoted(spelled(text, token)),
-                Part::Text(b" is none of these"),
-            ],
-        ),
-        None => Ok(()),
-    }
-}
-
-/// Puts which words are known at the place at the end of the bytes, and which one of the statement there is
-/// not. The one error is that memory ran out.
-pub fn add_unknown(
-    out: &mut Bytes,
-    text: &[u8],
-    tokens: &[Token],
-    place: Place,
-) -> Result<(), NoMemory>
-    ensures { OnOk result (out.new ≡ out.old ++ unknown_lines text.now tokens.now place) }
-{
-    out.extend(known_note())?;
-    let statement = from_place(tokens, place);
-    let head = from_head(text, tokens, place);
-    add_unknown_word(out, text, first_unknown(text, tokens, head, statement))
 }

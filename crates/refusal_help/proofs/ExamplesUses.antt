@@ -6,7 +6,8 @@ use Rattle.scald_lex.specs.declared.token.Token.{Token}
 use Rattle.scald_lex.specs.declared.token.TokenKind.{TokenKind}
 use Rattle.scald_lex.specs.declared.token.TokenKind.TheVariants.{Word, Number, Symbol}
 use Rattle.refusal_help.specs.Header.{header_bounds, number_lines}
-use Rattle.refusal_help.specs.OnlyUse.{is_use_of, only_use}
+use Rattle.scald_base.specs.declared.refusal.RefusalKind.TheVariants.{Width, PinCount}
+use Rattle.refusal_help.specs.OnlyUse.{is_use_of, only_use, place_of, shown_label}
 
 -- a token of a text on one line
 abbrev at : TokenKind → ℕ → ℕ → Token
@@ -43,3 +44,17 @@ used_once = refl
 used_twice : only_use (codes "u : M ();v : M ();") (codes "M") (use_from 0 (use_from 9 [])) ≡ None
 unfolding is_use_of
 used_twice = refl
+
+-- ---- MACRO M(); and a use of it: a width may be at fault for its values, and a number of connections may not
+
+abbrev in_macro : List Token
+in_macro =
+    at Word 0 5 ∷ at Word 6 7 ∷ symbol 40 7 ∷ symbol 41 8 ∷ symbol 59 9 ∷ at Word 10 11 ∷ use_from 11 []
+
+shown_width : place_of (shown_label Width (codes "MACRO M();xu : M ();") in_macro (record { line = 1; col = 11 })) ≡
+    Some (record { line = 1; col = 12 })
+unfolding is_use_of
+shown_width = refl
+
+no_count : place_of (shown_label PinCount (codes "MACRO M();xu : M ();") in_macro (record { line = 1; col = 11 })) ≡ None
+no_count = refl

@@ -22,12 +22,12 @@ advice Bounds = []
 advice TooDeep = []
 advice TooMany = []
 advice TwoDrivers =
-    codes "    join what drives a net by a MUX2, an AND or an OR\n"
+    codes "    a net has one driver: give each its own net, or join them by a MUX2, an AND or an OR\n"
 advice ZeroLoop =
     codes "    give an element of the loop, or the wire of a net of it, a least delay of 1\n"
 advice CaseNet =
-    codes "    it may set a net that nothing drives and that asserts .S or nothing: to 0 or 1, once, and without\n" ++
-    codes "    its assertion; a net inside a macro has to come out by a formal\n"
+    codes "    a case sets a net that nothing drives and that asserts .S or nothing to 0 or 1, once. It names the net\n" ++
+    codes "    without assertion and path, so inside a macro only one whose name begins with /\n"
 advice EdgesOverlap =
     codes "    make the skew (a,b) of this clock smaller or its pulses longer, or let it be a .P clock, which moves\n" ++
     codes "    as a whole\n"

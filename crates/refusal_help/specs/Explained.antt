@@ -1,5 +1,6 @@
 -- All that a person is told of a refusal.
 use Rattle.std.specs.Prelude.{◌≡◌, ℕ, List, [], ◌∷◌, ◌++◌, codes, Option}
+use Rattle.scald_base.specs.declared.refusal.Place.{Place}
 use Rattle.scald_base.specs.declared.refusal.Refusal.{Refusal}
 use Rattle.scald_lex.specs.declared.token.Token.{Token}
 use Rattle.scald_lex.specs.Tokens.{AreTokens, IsRefused}
@@ -7,6 +8,7 @@ use Rattle.help_text.specs.Shown.{shown}
 use Rattle.help_text.specs.Text.{line, place_text}
 use Rattle.name_help.specs.Edge.{EdgesIf, edges_lines, is_overlap}
 use Rattle.refusal_help.specs.Hint.{hint}
+use Rattle.refusal_help.specs.OnlyUse.{place_of, shown_label}
 use Rattle.refusal_help.specs.Sentence.{sentence}
 
 -- The tokens of the text, or none where a byte or a token of it is refused.
@@ -28,3 +30,9 @@ pub record IsExplained (text : List ℕ) (r : Refusal) (bytes : List ℕ) : Type
   pub edges : Option (ℕ × ℕ)
   pub near : EdgesIf (is_overlap r.kind) text tokens r.place edges
   pub are : bytes ≡ explained text tokens edges r
+
+-- the place of the use whose line stands among these, where one does
+pub record IsShownUse (text : List ℕ) (r : Refusal) (shown : Option Place) : Type 0 where
+  pub tokens : List Token
+  pub used : UsesTokens text tokens
+  pub is : shown ≡ place_of (shown_label r.kind text tokens r.place)

@@ -13,8 +13,9 @@ use Rattle.name_help.specs.Clash.{assertion_lines}
 use Rattle.name_help.specs.Double.{double_lines}
 use Rattle.name_help.specs.KindName.{kind_lines}
 use Rattle.name_help.specs.Naming.{name_lines}
-use Rattle.name_help.specs.Unknown.{unknown_lines}
-use Rattle.statement_help.specs.UseHint.{bounds_lines, connections_lines, parameters_lines, range_lines, width_lines}
+use Rattle.name_help.specs.UnknownName.{unknown_lines}
+use Rattle.statement_help.specs.UseHint.{bounds_lines, connections_lines, parameters_lines, range_lines}
+use Rattle.statement_help.specs.Width.{width_lines}
 use Rattle.refusal_help.specs.Advice.{advice}
 use Rattle.refusal_help.specs.Deep.{deep_note}
 use Rattle.refusal_help.specs.Header.{header_lines}

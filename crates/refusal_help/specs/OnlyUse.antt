@@ -51,7 +51,7 @@ macro_name text (t ∷ u ∷ ts) = if bytes_eq (spelled text t) (codes "MACRO") 
 
 unfoldable pub use_line : List ℕ → Place → List ℕ
 use_line name place =
-    line (codes "    " ∷ quoted name ∷ codes " is used at " ∷ place_text place ∷ codes " alone:" ∷ [])
+    line (codes "    " ∷ quoted name ∷ codes " is used only at " ∷ place_text place ∷ codes ":" ∷ [])
 
 abbrev pub use_lines : List ℕ → List ℕ → Option Token → List ℕ
 use_lines text name None = []
@@ -92,3 +92,18 @@ by_values UnknownName = false
 
 abbrev pub value_lines : RefusalKind → List ℕ → List Token → Place → List ℕ
 value_lines kind text tokens place = if by_values kind then only_lines text tokens place else []
+
+-- ---- the use that is shown
+
+abbrev pub named_use : List ℕ → List Token → Option Token → Option Token
+named_use text tokens None = None
+named_use text tokens (Some t) = only_use text (spelled text t) tokens
+
+-- its label, where one is shown
+abbrev pub shown_label : RefusalKind → List ℕ → List Token → Place → Option Token
+shown_label kind text tokens place =
+    if by_values kind then named_use text tokens (macro_name text (from_head text place tokens tokens)) else None
+
+abbrev pub place_of : Option Token → Option Place
+place_of None = None
+place_of (Some t) = Some t.place

@@ -35,18 +35,21 @@ abbrev pub reserved_line : Option Keyword → List ℕ
 reserved_line None = []
 reserved_line (Some keyword) = line (
     codes "    " ∷ word_of keyword
-    ∷ codes " is reserved: it is no label, kind, macro, parameter, constant or variable" ∷ [])
+    ∷ codes " is reserved: it is no label, kind, macro, parameter, constant, variable or drawing" ∷ [])
 
 -- ---- words of version 2
 
-abbrev pub is_for : List ℕ → Option Token → Token → Bool
-is_for text None t = false
-is_for text (Some last) t = is_word t.kind && bytes_eq (spelled text last) (codes "FOR")
+-- the word before it begins a FOR or a CONST
+abbrev pub follows_later : List ℕ → Option Token → Token → Bool
+follows_later text None t = false
+follows_later text (Some last) t =
+    is_word t.kind
+    && (bytes_eq (spelled text last) (codes "FOR") || bytes_eq (spelled text last) (codes "CONST"))
 
 -- The second token of the text is the number of the version.
 abbrev pub is_later : List ℕ → List Token → Option Token → Token → Bool
 is_later text (u ∷ version ∷ ts) before t =
-    if number_of version.kind == 1 then (if is_for text before t then true else bytes_eq (spelled text t) (codes "CONST"))
+    if number_of version.kind == 1 then (if follows_later text before t then true else bytes_eq (spelled text t) (codes "CONST"))
     else false
 is_later text tokens before t = false
 

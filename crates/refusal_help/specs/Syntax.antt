@@ -12,6 +12,7 @@ use Rattle.help_text.specs.Keyword.{near_keyword, word_of}
 use Rattle.help_text.specs.Statement.{before_place, from_place, spelled}
 use Rattle.help_text.specs.Text.{line, quoted}
 use Rattle.help_text.specs.Tokens.{is_symbol}
+use Rattle.refusal_help.specs.Belongs.{belongs_lines}
 use Rattle.refusal_help.specs.Reserved.{is_later, later_line, reserved_at, reserved_line}
 use Rattle.refusal_help.specs.Unended.{unended_lines}
 
@@ -32,7 +33,7 @@ abbrev pub no_first : List ℕ → List ℕ
 no_first name = line (codes "    " ∷ name ∷ codes " cannot come first" ∷ [])
 
 abbrev pub no_follower : List ℕ → List ℕ → List ℕ
-no_follower name last = line (codes "    " ∷ name ∷ codes " cannot come after " ∷ last ∷ [])
+no_follower name last = line (codes "    " ∷ name ∷ codes " cannot stand here, after " ∷ last ∷ [])
 
 abbrev pub follow_line : List ℕ → Option Token → Token → List ℕ
 follow_line text None t = no_first (named text t)
@@ -79,7 +80,8 @@ lines_at text tokens before (t ∷ ts) =
     ++ (meant_line text t
     ++ (meant_before text before t
     ++ (reserved_line (reserved_at text before t ts)
-    ++ (later_line (is_later text tokens before t) ++ unended_lines text tokens t))))
+    ++ (later_line (is_later text tokens before t)
+    ++ (unended_lines text tokens before t ++ belongs_lines (is_later text tokens before t) text before t)))))
 
 abbrev pub syntax_lines : List ℕ → List Token → Place → List ℕ
 syntax_lines text tokens place =

@@ -10,13 +10,15 @@ pub fn advice(kind: RefusalKind) -> &'static [u8]
     ensures { result.now ≡ advice kind }
 {
     match kind {
-        RefusalKind::TwoDrivers => { b"    join what drives a net by a MUX2, an AND or an OR\n" }
+        RefusalKind::TwoDrivers => {
+            b"    a net has one driver: give each its own net, or join them by a MUX2, an AND or an OR\n"
+        }
         RefusalKind::ZeroLoop => {
             b"    give an element of the loop, or the wire of a net of it, a least delay of 1\n"
         }
         RefusalKind::CaseNet => {
-            b"    it may set a net that nothing drives and that asserts .S or nothing: to 0 or 1, once, and without
-    its assertion; a net inside a macro has to come out by a formal
+            b"    a case sets a net that nothing drives and that asserts .S or nothing to 0 or 1, once. It names the net
+    without assertion and path, so inside a macro only one whose name begins with /
 "
         }
         RefusalKind::EdgesOverlap => {

@@ -2,13 +2,14 @@
 
 ghost use Rattle.std.specs.Prelude.{◌≡◌, ◌++◌, ◌<◌, ◌-◌, ◌^◌, length, IfOk, OnOk};
 ghost use Rattle.name_help.specs.Edge.{EdgesIf, is_overlap};
-ghost use Rattle.refusal_help.specs.Explained.{IsExplained, UsesTokens, first_line};
+ghost use Rattle.refusal_help.specs.Explained.{IsExplained, IsShownUse, UsesTokens, first_line};
 
 use crate::hint::add_hint;
+use crate::only_use::shown_place;
 use crate::sentence::sentence;
 use help_text::{Part, add_line, add_shown};
 use name_help::{add_edges, edges_at};
-use scald_base::{Bytes, NoMemory, Refusal, RefusalKind, Stop};
+use scald_base::{Bytes, NoMemory, Place, Refusal, RefusalKind, Stop};
 use scald_lex::{Token, TokenList, tokens};
 use std::alloc::Global;
 
@@ -71,4 +72,14 @@ pub fn explain_refusal(alloc: Global, text: &[u8], refusal: Refusal) -> Result<B
     let edges = edges_of(text, list.as_slice(), refusal);
     add_edges(&mut out, text, list.as_slice(), refusal.place, edges)?;
     Ok(out)
+}
+
+/// The place of the use whose line stands among what [`explain_refusal`] tells, where one does. The one error is
+/// that memory ran out.
+pub fn shown_use(alloc: Global, text: &[u8], refusal: Refusal) -> Result<Option<Place>, NoMemory>
+    requires { length text.now < 2 ^ 32 - 1 }
+    ensures { IfOk result (IsShownUse text.now refusal) }
+{
+    let list = tokens_of(alloc, text)?;
+    Ok(shown_place(text, list.as_slice(), refusal))
 }

@@ -10,6 +10,7 @@
 
 // what is said of a refusal
 mod advice;
+mod belongs;
 mod deep;
 mod header;
 mod hint;
@@ -26,5 +27,5 @@ mod explain;
 mod kept;
 
 pub use call_word::explain_words;
-pub use explain::explain_refusal;
+pub use explain::{explain_refusal, shown_use};
 pub use kept::KeptSource;

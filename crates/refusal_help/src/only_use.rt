@@ -1,7 +1,7 @@
 //! The use of a macro, where it is used once in the whole text.
 
 ghost use Rattle.std.specs.Prelude.{◌≡◌, ◌++◌, OnOk};
-ghost use Rattle.refusal_help.specs.OnlyUse.{by_values, from_use, goes_on, is_use_of, macro_name, only_lines, only_use, use_line, use_lines, value_lines};
+ghost use Rattle.refusal_help.specs.OnlyUse.{by_values, from_use, goes_on, is_use_of, macro_name, named_use, only_lines, only_use, place_of, shown_label, use_line, use_lines, value_lines};
 
 use help_text::{Part, add_line, add_shown, from_head, is_symbol, spelled};
 use scald_base::{Bytes, NoMemory, Place, Refusal, RefusalKind, same_bytes};
@@ -74,9 +74,9 @@ fn add_use(out: &mut Bytes, name: &[u8], place: Place) -> Result<(), NoMemory>
         &[
             Part::Text(b"    "),
             Part::Quoted(name),
-            Part::Text(b" is used at "),
+            Part::Text(b" is used only at "),
             Part::Place(place),
-            Part::Text(b" alone:"),
+            Part::Text(b":"),
         ],
     )
 }
@@ -144,5 +144,37 @@ pub fn add_values(
         add_only_use(out, text, tokens, refusal.place)
     } else {
         Ok(())
+    }
+}
+
+/// The label of the only use of the macro of this name.
+fn named_use(text: &[u8], tokens: &[Token], name: Option<Token>) -> Option<Token>
+    ensures { result ≡ named_use text.now tokens.now name }
+{
+    match name {
+        Some(token) => only_use(text, tokens, spelled(text, token)),
+        None => None,
+    }
+}
+
+/// The label of the use that is shown of a refusal, where one is.
+fn shown_label(text: &[u8], tokens: &[Token], refusal: Refusal) -> Option<Token>
+    ensures { result ≡ shown_label refusal.kind text.now tokens.now refusal.place }
+{
+    if by_values(refusal.kind) {
+        let head = from_head(text, tokens, refusal.place);
+        named_use(text, tokens, macro_name(text, head))
+    } else {
+        None
+    }
+}
+
+/// The place of the use that is shown of a refusal, where one is.
+pub fn shown_place(text: &[u8], tokens: &[Token], refusal: Refusal) -> Option<Place>
+    ensures { result ≡ place_of (shown_label refusal.kind text.now tokens.now refusal.place) }
+{
+    match shown_label(text, tokens, refusal) {
+        Some(label) => Some(label.place),
+        None => None,
     }
 }

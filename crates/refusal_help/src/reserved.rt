@@ -1,7 +1,7 @@
 //! Words that are none of a drawing's own.
 
 ghost use Rattle.std.specs.Prelude.{◌≡◌, ◌++◌, OnOk};
-ghost use Rattle.refusal_help.specs.Reserved.{declares, gives, is_later, later_line, reserved_at, reserved_line};
+ghost use Rattle.refusal_help.specs.Reserved.{declares, gives, follows_later, is_later, later_line, reserved_at, reserved_line};
 
 use help_text::{Keyword, Part, add_line, is_symbol, is_word, number_of, reserved_word, spelled};
 use scald_base::{Bytes, NoMemory, same_bytes};
@@ -69,7 +69,7 @@ pub fn add_reserved(
                 Part::Text(b"    "),
                 Part::Text(keyword.word()),
                 Part::Text(
-                    b" is reserved: it is no label, kind, macro, parameter, constant or variable",
+                    b" is reserved: it is no label, kind, macro, parameter, constant, variable or drawing",
                 ),
             ],
         ),
@@ -77,8 +77,21 @@ pub fn add_reserved(
     }
 }
 
+/// Whether a word comes after a FOR or a CONST.
+fn follows_later(text: &[u8], before: Option<Token>, token: Token) -> bool
+    ensures { result ≡ follows_later text.now before token }
+{
+    match before {
+        Some(last) => {
+            let word = spelled(text, last);
+            is_word(token) && (same_bytes(word, b"FOR") || same_bytes(word, b"CONST"))
+        }
+        None => false,
+    }
+}
+
 /// Whether a word of version 2 stands in a text of these tokens, which is of version 1.
-fn is_later(text: &[u8], tokens: &[Token], before: Option<Token>, token: Token) -> bool
+pub fn is_later(text: &[u8], tokens: &[Token], before: Option<Token>, token: Token) -> bool
     ensures { result ≡ is_later text.now tokens.now before token }
 {
     let [_, version, ..] = tokens else {
@@ -87,23 +100,14 @@ fn is_later(text: &[u8], tokens: &[Token], before: Option<Token>, token: Token) 
     if number_of(*version) != 1 {
         return false;
     }
-    match before {
-        Some(last) if is_word(token) && same_bytes(spelled(text, last), b"FOR") => true,
-        _ => same_bytes(spelled(text, token), b"CONST"),
-    }
+    follows_later(text, before, token) || same_bytes(spelled(text, token), b"CONST")
 }
 
-/// That a word is of version 2.
-pub fn add_later(
-    out: &mut Bytes,
-    text: &[u8],
-    tokens: &[Token],
-    before: Option<Token>,
-    token: Token,
-) -> Result<(), NoMemory>
-    ensures { OnOk result (out.new ≡ out.old ++ later_line (is_later text.now tokens.now before token)) }
+/// That words are of version 2, where one is of a later version than the text.
+pub fn add_later(out: &mut Bytes, later: bool) -> Result<(), NoMemory>
+    ensures { OnOk result (out.new ≡ out.old ++ later_line later) }
 {
-    if is_later(text, tokens, before, token) {
+    if later {
         out.extend(b"    FOR and CONST are of version 2, in texts that begin with SCALD 2\n")
     } else {
         Ok(())

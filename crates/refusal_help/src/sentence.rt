@@ -35,7 +35,7 @@ pub fn sentence(kind: RefusalKind) -> &'static [u8]
         RefusalKind::TooDeep => b"more than 64 are nested here",
         RefusalKind::TooMany => b"this is one more than a drawing may have",
         RefusalKind::TwoDrivers => b"this output is a constant, or is driven before",
-        RefusalKind::ZeroLoop => b"a loop without delay leads here",
+        RefusalKind::ZeroLoop => b"a loop whose least delay is 0 leads here",
         RefusalKind::CaseNet => b"a case may not set this net so",
         RefusalKind::EdgesOverlap => b"two edges of this clock may come in one slot",
         RefusalKind::ZeroDivisor => b"a division by zero",

@@ -4,7 +4,8 @@ ghost use Rattle.std.specs.Prelude.{◌≡◌, ◌++◌, OnOk};
 ghost use Rattle.help_text.specs.Text.{part_text};
 ghost use Rattle.refusal_help.specs.Syntax.{follow_line, meant_before, meant_keyword, meant_line, named, syntax_lines};
 
-use crate::reserved::{add_later, add_reserved};
+use crate::belongs::belongs_note;
+use crate::reserved::{add_later, add_reserved, is_later};
 use crate::unended::add_unended;
 use element_kinds::is_kind_name;
 use help_text::{
@@ -46,7 +47,7 @@ fn add_follow(
             &[
                 Part::Text(b"    "),
                 named(text, token),
-                Part::Text(b" cannot come after "),
+                Part::Text(b" cannot stand here, after "),
                 named(text, last),
             ],
         ),
@@ -116,6 +117,8 @@ pub fn add_syntax(
     add_meant(out, text, *token)?;
     add_meant_before(out, text, before, *token)?;
     add_reserved(out, text, before, *token, others)?;
-    add_later(out, text, tokens, before, *token)?;
-    add_unended(out, text, tokens, *token)
+    let later = is_later(text, tokens, before, *token);
+    add_later(out, later)?;
+    add_unended(out, text, tokens, before, *token)?;
+    out.extend(belongs_note(later, text, before, *token))
 }

@@ -1,8 +1,9 @@
 //! What has no END yet where an END, or what comes only after one, may not stand.
 
-ghost use Rattle.std.specs.Prelude.{◌≡◌, ◌++◌, OnOk};
-ghost use Rattle.refusal_help.specs.Unended.{asks_end, begins_block, block_line, block_lines, is_ended, is_for, unended_line, unended_lines};
+ghost use Rattle.std.specs.Prelude.{◌≡◌, ◌++◌, None, OnOk};
+ghost use Rattle.refusal_help.specs.Unended.{asks_end, begins_block, block_line, block_lines, end_line, end_of, ended_at, ended_lines, is_for, last_ended, last_line, later, open_lines, unended_line, unended_lines};
 
+use crate::belongs::begins_statement;
 use help_text::{Part, add_line, is_at, is_symbol, spelled};
 use scald_base::{Bytes, NoMemory, Place, same_bytes};
 use scald_lex::{Token, TokenKind};
@@ -29,27 +30,27 @@ fn begins_block(text: &[u8], token: Token, others: &[Token]) -> bool
         || same_bytes(word, b"FOR") && is_for(others)
 }
 
-/// Whether an END comes among these tokens, up to a place, that ends what is before them.
-fn is_ended(text: &[u8], tokens: &[Token], place: Place) -> bool
-    ensures { result ≡ is_ended text.now place 0 tokens.now }
+/// The END among these tokens, up to a place, that ends what is before them.
+fn end_of(text: &[u8], tokens: &[Token], place: Place) -> Option<Token>
+    ensures { result ≡ end_of text.now place 0 tokens.now }
 {
     let mut depth: u64 = 0;
     let mut rest = tokens;
     'tokens: while let [token, others @ ..] = rest {
         if is_at(*token, place) {
-            return false;
+            return None;
         }
         if begins_block(text, *token, others) {
             depth = depth.saturating_add(1);
         } else if same_bytes(spelled(text, *token), b"END") {
             if depth == 0 {
-                return true;
+                return Some(*token);
             }
             depth -= 1;
         }
         rest = others;
     }
-    false
+    None
 }
 
 /// That what a token begins has no END yet.
@@ -79,10 +80,12 @@ fn add_block(
 ) -> Result<(), NoMemory>
     ensures { OnOk result (out.new ≡ out.old ++ block_line text.now place token others.now) }
 {
-    if begins_block(text, token, others) && !is_ended(text, others, place) {
-        add_unended_line(out, text, token)
-    } else {
-        Ok(())
+    if !begins_block(text, token, others) {
+        return Ok(());
+    }
+    match end_of(text, others, place) {
+        None => add_unended_line(out, text, token),
+        Some(_) => Ok(()),
     }
 }
 
@@ -101,6 +104,76 @@ fn add_blocks(out: &mut Bytes, text: &[u8], tokens: &[Token], place: Place) -> R
     Ok(())
 }
 
+/// What a token begins, and the END among the next ones that ends it.
+fn ended_at(text: &[u8], token: Token, others: &[Token], place: Place) -> Option<(Token, Token)>
+    ensures { result ≡ ended_at text.now place token others.now }
+{
+    if !begins_block(text, token, others) {
+        return None;
+    }
+    match end_of(text, others, place) {
+        Some(end) => Some((token, end)),
+        None => None,
+    }
+}
+
+/// The one of two that ends later.
+fn later(last: Option<(Token, Token)>, found: Option<(Token, Token)>) -> Option<(Token, Token)>
+    ensures { result ≡ later last found }
+{
+    match last {
+        None => found,
+        Some(last) => match found {
+            Some(found) if last.1.start < found.1.start => Some(found),
+            _ => Some(last),
+        },
+    }
+}
+
+/// What the last END before a place ends, and that END.
+fn last_ended(text: &[u8], tokens: &[Token], place: Place) -> Option<(Token, Token)>
+    ensures { result ≡ last_ended text.now place None tokens.now }
+{
+    let mut last = None;
+    let mut rest = tokens;
+    'tokens: while let [token, others @ ..] = rest {
+        if is_at(*token, place) {
+            return last;
+        }
+        last = later(last, ended_at(text, *token, others, place));
+        rest = others;
+    }
+    last
+}
+
+/// What an END ends.
+#[tactic(auto, unfolding(crate::specs::Unended::end_line))]
+fn add_end_line(out: &mut Bytes, text: &[u8], token: Token, end: Token) -> Result<(), NoMemory>
+    ensures { OnOk result (out.new ≡ out.old ++ end_line text.now token end) }
+{
+    add_line(
+        out,
+        &[
+            Part::Text(b"    the last END before this, at "),
+            Part::Place(end.place),
+            Part::Text(b", is that of the "),
+            Part::Text(spelled(text, token)),
+            Part::Text(b" at "),
+            Part::Place(token.place),
+        ],
+    )
+}
+
+/// What the last END ends, where there is one.
+fn add_last(out: &mut Bytes, text: &[u8], found: Option<(Token, Token)>) -> Result<(), NoMemory>
+    ensures { OnOk result (out.new ≡ out.old ++ last_line text.now found) }
+{
+    match found {
+        Some((token, end)) => add_end_line(out, text, token, end),
+        None => Ok(()),
+    }
+}
+
 /// Whether a token is an END, or stands only where all before it has one.
 #[tactic(auto, unfolding(crate::specs::Unended::asks_end))]
 fn asks_end(text: &[u8], token: Token) -> bool
@@ -114,18 +187,44 @@ fn asks_end(text: &[u8], token: Token) -> bool
         || same_bytes(word, b"CASE")
 }
 
-/// What has no END before a token at a place, where the token is an END or comes after one.
-pub fn add_unended(
-    out: &mut Bytes,
-    text: &[u8],
-    tokens: &[Token],
-    token: Token,
-) -> Result<(), NoMemory>
-    ensures { OnOk result (out.new ≡ out.old ++ unended_lines text.now tokens.now token) }
+/// What has no END before a token, where the token is an END or comes after one.
+fn add_open(out: &mut Bytes, text: &[u8], tokens: &[Token], token: Token) -> Result<(), NoMemory>
+    ensures { OnOk result (out.new ≡ out.old ++ open_lines text.now tokens.now token) }
 {
     if asks_end(text, token) {
         add_blocks(out, text, tokens, token.place)
     } else {
         Ok(())
     }
+}
+
+/// What the last END before a token ends, where the token is such a one, or begins a statement.
+fn add_ended(
+    out: &mut Bytes,
+    text: &[u8],
+    tokens: &[Token],
+    before: Option<Token>,
+    token: Token,
+) -> Result<(), NoMemory>
+    ensures { OnOk result (out.new ≡ out.old ++ ended_lines text.now tokens.now before token) }
+{
+    if asks_end(text, token) || begins_statement(text, before, token) {
+        add_last(out, text, last_ended(text, tokens, token.place))
+    } else {
+        Ok(())
+    }
+}
+
+/// What has no END before a token that comes after this one, and what the last END before it ends.
+pub fn add_unended(
+    out: &mut Bytes,
+    text: &[u8],
+    tokens: &[Token],
+    before: Option<Token>,
+    token: Token,
+) -> Result<(), NoMemory>
+    ensures { OnOk result (out.new ≡ out.old ++ unended_lines text.now tokens.now before token) }
+{
+    add_open(out, text, tokens, token)?;
+    add_ended(out, text, tokens, before, token)
 }

@@ -76,6 +76,12 @@ counted : count_line (codes "it has ") lists ≡
 unfolding digits counted_line
 counted = refl
 
+-- marks are counted where there are any
+unmarked : count_line (codes "it has ") (symbol 40 0 ∷ at Name 1 4 ∷ symbol 41 5 ∷ []) ≡
+    codes "    it has 1 input and 0 output connections\n"
+unfolding digits counted_line
+unmarked = refl
+
 -- ---- parameters: {HIHG=3, LOW=1}
 
 abbrev braces : List Token

@@ -1,5 +1,5 @@
 -- How many connections a use has, or formals a macro.
-use Rattle.std.specs.Prelude.{ℕ, ◌+◌, Bool, false, ◌&&◌, nat_le, List, [], ◌∷◌, codes, decimal, if◌then◌else◌}
+use Rattle.std.specs.Prelude.{ℕ, ◌+◌, Bool, false, ◌&&◌, ◌==◌, nat_le, List, [], ◌∷◌, codes, decimal, if◌then◌else◌}
 use Rattle.scald_lex.specs.declared.token.Token.{Token}
 use Rattle.help_text.specs.Text.{line}
 use Rattle.help_text.specs.Tokens.{ends_list, is_symbol, is_word, lists, after_arrow}
@@ -33,9 +33,12 @@ connections (t ∷ u ∷ ts) = if is_symbol 41 u.kind then 0 else one_more (comm
 
 -- ---- what is said
 
--- by the numbers of inputs and outputs, and of those of them that are marked
+-- by the numbers of inputs and outputs, and of those of them that are marked, where any is
 unfoldable pub counted_line : List ℕ → ℕ → ℕ → ℕ → ℕ → List ℕ
-counted_line said inputs outputs marked_inputs marked_outputs = line (
+counted_line said inputs outputs marked_inputs marked_outputs =
+    if marked_inputs == 0 && marked_outputs == 0 then line (
+    codes "    " ∷ said ∷ decimal inputs ∷ codes " input and " ∷ decimal outputs ∷ codes " output connections" ∷ [])
+    else line (
     codes "    " ∷ said ∷ decimal inputs ∷ codes " input and " ∷ decimal outputs ∷ codes " output connections, "
     ∷ decimal marked_inputs ∷ codes " and " ∷ decimal marked_outputs ∷ codes " of them with !H" ∷ [])
 
@@ -47,4 +50,4 @@ count_line said inputs =
 -- a macro takes as many as it has formals
 abbrev pub head_lines : List Token → List ℕ
 head_lines [] = []
-head_lines (t ∷ ts) = count_line (codes "the macro takes ") (lists ts)
+head_lines (t ∷ ts) = count_line (codes "without !H the macro takes ") (lists ts)

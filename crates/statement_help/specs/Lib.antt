@@ -6,3 +6,4 @@ pub mod Parameter
 pub mod Range
 pub mod Row
 pub mod UseHint
+pub mod Width

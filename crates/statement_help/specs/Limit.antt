@@ -9,6 +9,7 @@ use Rattle.element_kinds.specs.Kinds.{check_of, has_output, may_split}
 use Rattle.help_text.specs.Assign.{begins_assign, braces, ends_assign}
 use Rattle.help_text.specs.Statement.{spelled}
 use Rattle.help_text.specs.Tokens.{after_group, after_kind, is_number, is_symbol, number_of, period_of}
+use Rattle.statement_help.specs.Row.{delay_line}
 use Rattle.statement_help.specs.Bound.{over_line, pair_lines, written_pair}
 
 -- ---- delays
@@ -32,7 +33,8 @@ none_note kind = if has_output kind then codes "    here it has none\n" else []
 -- by the tokens after the bracket that opens
 abbrev pub bracket_lines : Kind → List Token → List ℕ
 bracket_lines kind tokens =
-    if has_output kind then pairs_lines kind tokens (fall_of tokens) else codes "    here it has one\n"
+    if has_output kind then pairs_lines kind tokens (fall_of tokens)
+    else delay_line kind ++ codes "    here it has one\n"
 
 -- by the tokens after the kind
 abbrev pub delay_lines : Kind → List Token → List ℕ

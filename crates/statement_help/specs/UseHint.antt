@@ -7,7 +7,6 @@ use Rattle.element_kinds.specs.Kinds.{has_output, kind_of}
 use Rattle.help_text.specs.Head.{from_head}
 use Rattle.help_text.specs.Statement.{from_place, kind_token, spelled}
 use Rattle.help_text.specs.Tokens.{is_use, after_group, after_kind, head_of, lists}
-use Rattle.statement_help.specs.Bits.{bits_line}
 use Rattle.statement_help.specs.Count.{count_line, head_lines}
 use Rattle.statement_help.specs.Limit.{use_lines, wire_lines}
 use Rattle.statement_help.specs.Parameter.{macro_lines, wrong_lines}
@@ -56,12 +55,12 @@ parameters_lines text tokens statement =
     ++ wrong_lines text (kind_of_use text statement) (after_name (head_of_use text tokens statement))
     (after_group 91 93 (after_kind statement))
 
-abbrev pub checker_line : Kind → List ℕ
-checker_line kind = if has_output kind then [] else parameters_line kind
+-- the delay that it takes, or else its limits
+abbrev pub taken_bounds : Kind → List ℕ
+taken_bounds kind = if has_output kind then delay_line kind else parameters_line kind
 
 abbrev pub kind_bounds : List ℕ → List Token → Kind → List Token → List ℕ
-kind_bounds text tokens kind statement =
-    delay_line kind ++ (checker_line kind ++ use_lines text tokens kind statement)
+kind_bounds text tokens kind statement = taken_bounds kind ++ use_lines text tokens kind statement
 
 unfoldable pub no_delay : List ℕ
 no_delay = codes "    a macro takes no delay\n"
@@ -81,26 +80,6 @@ abbrev pub bounds_lines : List ℕ → List Token → List Token → List ℕ
 bounds_lines text tokens statement =
     if is_use statement then bounds_by text tokens statement (kind_of_use text statement)
     else wire_help statement
-
--- how many bits its connections have, in the macro with this head, and the formals of its own macro
-unfoldable pub connections_bits : List ℕ → List Token → List Token → List ℕ
-connections_bits text head statement =
-    bits_line (codes "    bits of the connections: ") text head (lists (after_kind statement))
-
-abbrev pub formals_line : List ℕ → List Token → List ℕ
-formals_line text [] = []
-formals_line text (t ∷ ts) = bits_line (codes "    bits of the formals: ") text [] (lists ts)
-
-unfoldable pub width_note : List ℕ
-width_note =
-    codes "    connections are as wide as the output, or as a checker's widest one, or have one bit for all\n" ++
-    codes "    a name without a range is its bit 0 alone, and a formal without one is all of its bits\n"
-
-abbrev pub width_lines : List ℕ → List Token → Place → List ℕ
-width_lines text tokens place =
-    width_note
-    ++ (connections_bits text (from_head text place tokens tokens) (from_place place tokens)
-    ++ formals_line text (head_of_use text tokens (from_place place tokens)))
 
 -- which range of it is out of its bounds, among the first tokens of the statement
 abbrev pub range_lines : List ℕ → List Token → Place → List ℕ

@@ -71,7 +71,7 @@ fn begins_range(tokens: &[Token]) -> bool
 }
 
 /// How many bits the range has that tokens begin with, and one where they begin with none.
-fn range_bits(tokens: &[Token]) -> Option<u64>
+pub fn range_bits(tokens: &[Token]) -> Option<u64>
     ensures { result ≡ range_bits tokens.now }
 {
     match tokens {
@@ -148,7 +148,7 @@ fn add_word(out: &mut Bytes, bits: Option<u64>) -> Result<(), NoMemory>
 
 /// Whether a token stands between connections.
 #[tactic(auto, unfolding(crate::specs::Bits::separates))]
-fn separates(token: Token) -> bool
+pub fn separates(token: Token) -> bool
     ensures { result ≡ separates token.kind }
 {
     match token.kind {
@@ -171,7 +171,7 @@ fn separator(token: Token) -> &'static [u8]
 
 /// The bits of a connection with what begins with a token, where it has so many before.
 #[tactic(auto, unfolding(crate::specs::Bits::bits_with))]
-fn bits_with(
+pub fn bits_with(
     text: &[u8],
     head: &[Token],
     bits: Option<u64>,

@@ -65,7 +65,7 @@ fn connections(tokens: &[Token]) -> u64
     }
 }
 
-/// So many inputs and outputs, and so many of them with a mark, after these words.
+/// So many inputs and outputs, and so many of them with a mark, where any has one, after these words.
 #[tactic(auto, unfolding(crate::specs::Count::counted_line))]
 fn add_counted(
     out: &mut Bytes,
@@ -75,6 +75,19 @@ fn add_counted(
 ) -> Result<(), NoMemory>
     ensures { OnOk result (out.new ≡ out.old ++ counted_line said.now connections.0 connections.1 marks.0 marks.1) }
 {
+    if marks.0 == 0 && marks.1 == 0 {
+        return add_line(
+            out,
+            &[
+                Part::Text(b"    "),
+                Part::Text(said),
+                Part::Number(connections.0),
+                Part::Text(b" input and "),
+                Part::Number(connections.1),
+                Part::Text(b" output connections"),
+            ],
+        );
+    }
     add_line(
         out,
         &[
@@ -111,7 +124,7 @@ pub fn add_head(out: &mut Bytes, head: &[Token]) -> Result<(), NoMemory>
     ensures { OnOk result (out.new ≡ out.old ++ head_lines head.now) }
 {
     match head {
-        [_, rest @ ..] => add_count(out, b"the macro takes ", rest),
+        [_, rest @ ..] => add_count(out, b"without !H the macro takes ", rest),
         [] => Ok(()),
     }
 }

@@ -3,7 +3,7 @@
 //! What it takes is read from the row of its kind (`specs/Row`) or the head of its macro, and what it has from
 //! its tokens: how many connections (`specs/Count`), which parameters (`specs/Parameter`), which delay and limits
 //! (`specs/Limit`, `specs/Bound`), how many bits (`specs/Bits`) and which ranges (`specs/Range`). `specs/UseHint`
-//! puts these together, and `refusal_help` calls each for its kind of refusal.
+//! and `specs/Width` put these together, and `refusal_help` calls each for its kind of refusal.
 #![tactic(auto)]
 
 // what a kind takes
@@ -19,8 +19,10 @@ mod range;
 
 // both
 mod use_hint;
+mod width;
 
 pub use bound::{add_order, add_over};
 pub use use_hint::{
-    add_ranges, add_use_bounds, add_use_connections, add_use_parameters, add_widths, kind_of_use,
+    add_ranges, add_use_bounds, add_use_connections, add_use_parameters, kind_of_use,
 };
+pub use width::add_widths;

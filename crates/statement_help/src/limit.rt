@@ -4,6 +4,7 @@ ghost use Rattle.std.specs.Prelude.{◌≡◌, ◌≤◌, ◌++◌, OnOk};
 ghost use Rattle.statement_help.specs.Limit.{bracket_lines, check_lines, delay_lines, fall_of, given, limit_lines, none_note, pairs_lines, together_lines, use_lines, value_of, wire_lines};
 
 use crate::bound::{add_over, add_pair};
+use crate::row::add_delay;
 use element_kinds::{Check, Kind};
 use help_text::{
     after_group, after_kind, begins_assign, braces, ends_assign, is_number, is_symbol, number_of,
@@ -64,6 +65,7 @@ fn add_bracket(out: &mut Bytes, kind: Kind, tokens: &[Token]) -> Result<(), NoMe
     if kind.has_output() {
         add_pairs(out, kind, tokens, fall_of(tokens))
     } else {
+        add_delay(out, kind)?;
         out.extend(b"    here it has one\n")
     }
 }

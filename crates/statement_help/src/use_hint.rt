@@ -3,9 +3,8 @@
 //! Each function puts lines at the end of the bytes. Its one error is that memory ran out.
 
 ghost use Rattle.std.specs.Prelude.{◌≡◌, ◌++◌, OnOk};
-ghost use Rattle.statement_help.specs.UseHint.{after_name, bounds_by, bounds_lines, connections_bits, connections_lines, formals_line, head_of_use, kind_bounds, kind_of_use, no_delay, parameters_lines, range_lines, taken_connections, taken_parameters, width_lines, width_note, wire_help, wire_note};
+ghost use Rattle.statement_help.specs.UseHint.{after_name, bounds_by, bounds_lines, connections_lines, head_of_use, kind_bounds, kind_of_use, no_delay, parameters_lines, range_lines, taken_connections, taken_parameters, wire_help, wire_note};
 
-use crate::bits::add_bits_line;
 use crate::count::{add_count, add_head};
 use crate::limit::{add_use_limits, add_wire_limits};
 use crate::parameter::{add_macro_parameters, add_wrong_parameter};
@@ -14,7 +13,7 @@ use crate::row::{add_connections, add_delay, add_parameters};
 use element_kinds::{Kind, kind_named};
 use help_text::{
     after_group, after_kind, first_tokens, from_head, from_place, head_of, is_use, kind_token,
-    lists, spelled,
+    spelled,
 };
 use scald_base::{Bytes, NoMemory, Place};
 use scald_lex::Token;
@@ -30,7 +29,7 @@ pub fn kind_of_use(text: &[u8], statement: &[Token]) -> Option<Kind>
 }
 
 /// The head of the macro that a use is of, from its name on.
-fn head_of_use<'a>(text: &[u8], tokens: &'a [Token], statement: &[Token]) -> &'a [Token]
+pub fn head_of_use<'a>(text: &[u8], tokens: &'a [Token], statement: &[Token]) -> &'a [Token]
     ensures { result.now ≡ head_of_use text.now tokens.now statement.now }
 {
     match kind_token(statement) {
@@ -40,7 +39,7 @@ fn head_of_use<'a>(text: &[u8], tokens: &'a [Token], statement: &[Token]) -> &'a
 }
 
 /// The tokens after a macro's name.
-fn after_name(head: &[Token]) -> &[Token]
+pub fn after_name(head: &[Token]) -> &[Token]
     ensures { result.now ≡ after_name head.now }
 {
     match head {
@@ -109,7 +108,7 @@ pub fn add_use_parameters(
     )
 }
 
-/// Which delay and parameters a use of a kind takes, and which it has.
+/// Which delay or limits a use of a kind takes, and which it has.
 fn add_kind_bounds(
     out: &mut Bytes,
     text: &[u8],
@@ -119,8 +118,9 @@ fn add_kind_bounds(
 ) -> Result<(), NoMemory>
     ensures { OnOk result (out.new ≡ out.old ++ kind_bounds text.now tokens.now kind statement.now) }
 {
-    add_delay(out, kind)?;
-    if !kind.has_output() {
+    if kind.has_output() {
+        add_delay(out, kind)?;
+    } else {
         add_parameters(out, kind)?;
     }
     add_use_limits(out, text, tokens, kind, statement)
@@ -134,7 +134,7 @@ fn add_no_delay(out: &mut Bytes) -> Result<(), NoMemory>
     out.extend(b"    a macro takes no delay\n")
 }
 
-/// Which delay and parameters a kind takes, and which a use has; or that a macro takes no delay.
+/// Which delay or limits a kind takes, and which a use has; or that a macro takes no delay.
 fn add_bounds_by(
     out: &mut Bytes,
     text: &[u8],
@@ -166,7 +166,7 @@ fn add_wire(out: &mut Bytes, statement: &[Token]) -> Result<(), NoMemory>
     add_wire_limits(out, statement)
 }
 
-/// Which delay and parameters the use takes, or which bounds the WIRE.
+/// Which delay or limits the use takes, or which bounds the WIRE.
 pub fn add_use_bounds(
     out: &mut Bytes,
     text: &[u8],
@@ -180,61 +180,6 @@ pub fn add_use_bounds(
     } else {
         add_wire(out, statement)
     }
-}
-
-/// How many bits the connections of a use have, in the macro with this head.
-#[tactic(auto, unfolding(crate::specs::UseHint::connections_bits))]
-fn add_connections_bits(
-    out: &mut Bytes,
-    text: &[u8],
-    head: &[Token],
-    statement: &[Token],
-) -> Result<(), NoMemory>
-    ensures { OnOk result (out.new ≡ out.old ++ connections_bits text.now head.now statement.now) }
-{
-    add_bits_line(
-        out,
-        b"    bits of the connections: ",
-        text,
-        head,
-        lists(after_kind(statement)),
-    )
-}
-
-/// How many bits the formals of a macro have, where there is one with this head.
-fn add_formals(out: &mut Bytes, text: &[u8], head: &[Token]) -> Result<(), NoMemory>
-    ensures { OnOk result (out.new ≡ out.old ++ formals_line text.now head.now) }
-{
-    match head {
-        [_, rest @ ..] => add_bits_line(out, b"    bits of the formals: ", text, &[], lists(rest)),
-        [] => Ok(()),
-    }
-}
-
-/// How wide connections are.
-#[tactic(auto, unfolding(crate::specs::UseHint::width_note))]
-fn width_note() -> &'static [u8]
-    ensures { result.now ≡ width_note }
-{
-    b"    connections are as wide as the output, or as a checker's widest one, or have one bit for all
-    a name without a range is its bit 0 alone, and a formal without one is all of its bits
-"
-}
-
-/// How many bits the connections of the use at the place have, and the formals of its macro.
-pub fn add_widths(
-    out: &mut Bytes,
-    text: &[u8],
-    tokens: &[Token],
-    place: Place,
-) -> Result<(), NoMemory>
-    ensures { OnOk result (out.new ≡ out.old ++ width_lines text.now tokens.now place) }
-{
-    let statement = from_place(tokens, place);
-    let head = from_head(text, tokens, place);
-    out.extend(width_note())?;
-    add_connections_bits(out, text, head, statement)?;
-    add_formals(out, text, head_of_use(text, tokens, statement))
 }
 
 /// Which range of the statement at the place is out of its bounds.

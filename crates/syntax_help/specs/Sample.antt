@@ -99,7 +99,7 @@ called Star = codes "*"
 called Slash = codes "/"
 called Ampersand = codes "&"
 called Exclamation = codes "!"
-called Finish = codes "the-end"
+called Finish = codes "(end of text)"
 
 -- a word that stands wherever any word does
 abbrev pub is_word : Sample → Bool

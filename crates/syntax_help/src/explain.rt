@@ -3,14 +3,13 @@
 ghost use Rattle.std.specs.Prelude.{◌≡◌, ◌++◌, ◌<◌, ◌^◌, length, IfOk, OnOk};
 ghost use Rattle.std.specs.List.{flat_map};
 ghost use Rattle.syntax_help.specs.Told.{IsTold, IsToldAfter, expected_line, missing_line, question, sample_text};
-ghost use Rattle.help_text.specs.Statement.{first_of};
 
 use crate::expected::expected;
 use crate::missing::missing;
 use crate::sample::Sample;
-use help_text::{from_place, front, spelled};
+use help_text::{first_of, from_place, front, spelled};
 use scald_base::{Bytes, NoMemory, Place, Stop};
-use scald_lex::{Token, tokens};
+use scald_lex::tokens;
 use std::alloc::Global;
 
 /// The most bytes that are read again and again.
@@ -59,16 +58,6 @@ fn add_missing(out: &mut Bytes, missing: Option<Sample>) -> Result<(), NoMemory>
     match missing {
         Some(sample) => add_question(out, sample),
         None => Ok(()),
-    }
-}
-
-/// The first of these tokens.
-fn first_of(tokens: &[Token]) -> Option<Token>
-    ensures { result ≡ first_of tokens.now }
-{
-    match tokens {
-        [first, ..] => Some(*first),
-        [] => None,
     }
 }
 

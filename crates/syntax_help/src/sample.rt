@@ -201,7 +201,7 @@ impl Sample {
             Sample::Slash => b"/",
             Sample::Ampersand => b"&",
             Sample::Exclamation => b"!",
-            Sample::Finish => b"the-end",
+            Sample::Finish => b"(end of text)",
         }
     }
 

@@ -1,0 +1,76 @@
+//! What is told of a name in an expression that means nothing there.
+
+ghost use Rattle.std.specs.Prelude.{◌≡◌, ◌++◌, OnOk};
+ghost use Rattle.name_help.specs.UnknownName.{around_note, constants_note, known_note, unknown_line, unknown_lines};
+
+use crate::macro_head::add_macro_head;
+use crate::unknown::first_unknown;
+use help_text::{Part, add_line, from_head, from_place, is_use, spelled};
+use scald_base::{Bytes, NoMemory, Place, same_bytes};
+use scald_lex::Token;
+
+/// Which words are known in a constant.
+#[tactic(auto, unfolding(crate::specs::UnknownName::constants_note))]
+fn constants_note() -> &'static [u8]
+    ensures { result.now ≡ constants_note }
+{
+    b"    known are the constants before it\n"
+}
+
+/// Which words are known in a body.
+#[tactic(auto, unfolding(crate::specs::UnknownName::around_note))]
+fn around_note() -> &'static [u8]
+    ensures { result.now ≡ around_note }
+{
+    b"    known are the constants before it, and the parameters of the MACRO and the variables of the FORs
+    around it
+"
+}
+
+/// Which words are known in a statement.
+fn known_note(text: &[u8], statement: &[Token]) -> &'static [u8]
+    ensures { result.now ≡ known_note text.now statement.now }
+{
+    match statement {
+        [first, ..] if !is_use(statement) && same_bytes(spelled(text, *first), b"CONST") => {
+            constants_note()
+        }
+        _ => around_note(),
+    }
+}
+
+/// That a word is not known.
+fn add_unknown_word(out: &mut Bytes, text: &[u8], token: Token) -> Result<(), NoMemory>
+    ensures { OnOk result (out.new ≡ out.old ++ unknown_line text.now token) }
+{
+    add_line(
+        out,
+        &[
+            Part::Text(b"    "),
+            Part::Quoted(spelled(text, token)),
+            Part::Text(b" is none of these"),
+        ],
+    )
+}
+
+/// Puts which words are known at the place at the end of the bytes, and which one of the statement there is not;
+/// or else which one in the head of its macro is not, and the rule there. The one error is that memory ran out.
+pub fn add_unknown(
+    out: &mut Bytes,
+    text: &[u8],
+    tokens: &[Token],
+    place: Place,
+) -> Result<(), NoMemory>
+    ensures { OnOk result (out.new ≡ out.old ++ unknown_lines text.now tokens.now place) }
+{
+    let statement = from_place(tokens, place);
+    let head = from_head(text, tokens, place);
+    let note = known_note(text, statement);
+    match first_unknown(text, tokens, head, statement) {
+        Some(token) => {
+            out.extend(note)?;
+            add_unknown_word(out, text, token)
+        }
+        None => add_macro_head(out, text, note, tokens, statement),
+    }
+}
