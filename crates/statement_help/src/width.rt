@@ -194,8 +194,25 @@ fn misfit_in(
     first_misfit(text, head, formals, connections)
 }
 
-/// A formal and its connection, which do not fit, where there are such.
+/// A formal and its connection, which do not fit.
 #[tactic(auto, unfolding(crate::specs::Width::misfit_line))]
+fn add_misfit(out: &mut Bytes, name: &[u8], width: u64, bits: u64) -> Result<(), NoMemory>
+    ensures { OnOk result (out.new ≡ out.old ++ misfit_line name.now width bits) }
+{
+    add_line(
+        out,
+        &[
+            Part::Text(b"    the formal "),
+            Part::Shown(name),
+            Part::Text(b" has width "),
+            Part::Number(width),
+            Part::Text(b", and its connection has width "),
+            Part::Number(bits),
+        ],
+    )
+}
+
+/// The same where there are such.
 fn add_found(
     out: &mut Bytes,
     text: &[u8],
@@ -204,17 +221,7 @@ fn add_found(
     ensures { OnOk result (out.new ≡ out.old ++ found_line text.now found) }
 {
     match found {
-        Some((formal, widths)) => add_line(
-            out,
-            &[
-                Part::Text(b"    the formal "),
-                Part::Shown(spelled(text, formal)),
-                Part::Text(b" has width "),
-                Part::Number(widths.0),
-                Part::Text(b", and its connection has width "),
-                Part::Number(widths.1),
-            ],
-        ),
+        Some((formal, widths)) => add_misfit(out, spelled(text, formal), widths.0, widths.1),
         None => Ok(()),
     }
 }
