@@ -1,8 +1,8 @@
 -- How the parts of a circuit come together.
-use Rattle.std.proofs.Common.{◌≡◌, ℕ, zero, suc, ◌+◌, ◌<◌, Bool, true, false, cond, List, [], ◌∷◌, ◌++◌, length, map, get_or, take, drop, Option, refl, ap, sym, subst, ◌∙◌, arith, inl, inr}
+use Rattle.std.proofs.Common.{◌≡◌, ℕ, zero, suc, ◌+◌, ◌<◌, ◌≤◌, Bool, true, false, cond, List, [], ◌∷◌, ◌++◌, length, map, get_or, take, drop, Option, refl, ap, sym, subst, ◌∙◌, arith, inl, inr}
 use Rattle.std.specs.List.{All}
 use Rattle.std.specs.Str.{bytes_eq}
-use Rattle.std.proofs.lemmas.List.{length-map, map_push, take_more}
+use Rattle.std.proofs.lemmas.List.{length-map, length_push, map_push, take_all, take_more}
 use Rattle.std.proofs.Math.ListN.{get_or-map}
 use Rattle.std.proofs.lemmas.List.Elements.{All-nil, All-cons, All-head, All-tail}
 use Rattle.scald_base.specs.Time.{Header, Bounds}
@@ -43,11 +43,54 @@ nets_step names ws given ds nets n i d l lw ld h a =
 
 -- what is left of the entries from the place of the next net on, and the first of it
 pub entry_at : (es rest : List Entry) (i : ℕ) (e : Entry) → drop i es ≡ e ∷ rest →
-    (i < length es) × (rest ≡ drop (i + 1) es) × (name_at (net_entries es).names i ≡ name_of_key e.0) × (bounds_at (net_entries es).wires i ≡ e.1)
+    (i < length es) × (rest ≡ drop (suc i) es) × (name_at (net_entries es).names i ≡ name_of_key e.0) × (bounds_at (net_entries es).wires i ≡ e.1)
 entry_at [] rest zero e h = absurd (cc)
 entry_at [] rest (suc i) e h = absurd (cc)
 entry_at (x ∷ xs) rest zero e h = (omega arith, cc, cc, cc)
 entry_at (x ∷ xs) rest (suc i) e h = let p = entry_at xs rest i e h in let b = p.0 in (omega arith, p.1, p.2, p.3)
+
+-- the nets of the first entries, and the entries that are left
+pub record NetsTo (es : List Entry) (given : List Asserted) (ds : List (Option ℕ)) (nets : List Net) (left : List Entry) : Type 0 where
+  pub are : AreNets (take (length nets) (net_entries es).names) (take (length nets) (net_entries es).wires)
+      (take (length nets) (specs_of given (net_entries es).names)) (take (length nets) ds) nets
+  pub left_are : left ≡ drop (length nets) es
+
+pub net_next : (es rest left : List Entry) (given : List Asserted) (ds : List (Option ℕ)) (nets : List Net) (n : Net) (e : Entry) (d : Option ℕ) →
+    length ds ≡ length (net_entries es).names → NetsTo es given ds nets left → left ≡ e ∷ rest → net_name n ≡ name_of_key e.0 → n.wire ≡ e.1 →
+    n.spec ≡ spec_of given n.name → n.driver ≡ get_or ds (length nets) d → NetsTo es given ds (nets ++ n ∷ []) rest
+net_next es rest left given ds nets n e d long to here name wire spec driver =
+    let t = net_entries es in
+    let p = entry_at es rest (length nets) e (sym to.left_are ∙ here) in
+    let below = p.0 in
+    let names_long = length-map es (λ (x : Entry). name_of_key x.0) in
+    let wires_long = length-map es (λ (x : Entry). x.1) in
+    let is : IsNet t.names t.wires given (get_or ds (length nets) d) (length nets) n =
+    record { name_is = name ∙ sym p.2; wire_is = wire ∙ sym p.3; spec_is = spec; driver_is = driver } in
+    let one_more = length_push nets n in
+    let next : length (nets ++ n ∷ []) ≡ suc (length nets) = omega (arith, one_more) in
+    record {
+      are = rw one_more (nets_step t.names t.wires given ds nets n (length nets) d (omega arith) (omega arith) (omega arith) is to.are);
+      left_are = rw next p.1;
+    }
+
+none_left : (i : ℕ) (es : List Entry) → [] ≡ drop i es → length es ≤ i
+none_left i [] h = omega arith
+none_left zero (e ∷ es) h = absurd (cc)
+none_left (suc i) (e ∷ es) h = let below = none_left i es h in omega arith
+
+pub nets_end : (es : List Entry) (t : Nets) (given : List Asserted) (ds : List (Option ℕ)) (nets : List Net) →
+    net_entries es ≡ t → length ds ≡ length t.names → NetsTo es given ds nets [] → AreNets t.names t.wires (specs_of given t.names) ds nets
+nets_end es t given ds nets same long to =
+    let k = length nets in
+    let ns = (net_entries es).names in
+    let ws = (net_entries es).wires in
+    let all = none_left k es to.left_are in
+    let names_long = length-map es (λ (x : Entry). name_of_key x.0) in
+    let wires_long = length-map es (λ (x : Entry). x.1) in
+    let specs_long = length-map ns (λ (n : Name). spec_of given n.text) in
+    let ds_long = long ∙ sym (ap (λ (x : Nets). length x.names) same) in
+    subst (λ (x : Nets). AreNets x.names x.wires (specs_of given x.names) ds nets) same
+    (rw (take_all k ns (omega arith), take_all k ws (omega arith), take_all k (specs_of given ns) (omega arith), take_all k ds (omega arith)) at to.are)
 
 -- nets with the specs of the first names have each that of its own
 pub specs_by_names : (given : List Asserted) (names : List Name) (i : ℕ) (nets : List Net) →

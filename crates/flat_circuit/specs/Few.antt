@@ -1,6 +1,5 @@
 -- Short lists.
 use Rattle.std.specs.Prelude.{List, []}
-use Rattle.std.specs.Global.{Vec, Box}
 use Rattle.flat_circuit.specs.declared.few.Kept.{Kept}
 use Rattle.flat_circuit.specs.declared.few.Kept.TheVariants.{Nothing, One, Two, More}
 

@@ -1,6 +1,5 @@
 -- Texts that do not change.
 use Rattle.std.specs.Prelude.{ℕ, List, take}
-use Rattle.std.specs.Global.{Vec, Box}
 use Rattle.flat_circuit.specs.declared.text.Short as declared
 use Rattle.flat_circuit.specs.declared.text.Kept.{Kept}
 use Rattle.flat_circuit.specs.declared.text.Kept.TheVariants.{Short, Long}
