@@ -11,7 +11,7 @@ ghost use Rattle.std.specs.Prelude.{◌≡◌, IfOk, length};
 use crate::class_map::ClassMap;
 use crate::feeds::Feeds;
 use crate::key::{Key, key_of_net};
-use crate::numbers::{at, put};
+use crate::numbers::{at, narrow, put};
 use flat_circuit::{Case, CaseList, Circuit, Pin, Target};
 use scald_base::{List, NoMemory};
 use std::alloc::Global;
@@ -42,7 +42,7 @@ impl Keyed {
     }
 
     fn push(&mut self, key: Key, net: u32) -> Result<(), NoMemory> {
-        let begin = self.nets.len() as u32;
+        let begin = narrow(self.nets.len());
         let end = begin.saturating_add(1);
         self.nets.push(net)?;
         let runs = self.runs.len();
@@ -61,12 +61,12 @@ impl Keyed {
         let mut sorted = Vec::with_capacity(alloc, nets.len())?;
         for place in 0..runs.len() {
             let Run { key, begin, end } = runs[place];
-            let new_begin = sorted.len() as u32;
+            let new_begin = narrow(sorted.len());
             sorted.extend_from_slice(nets.get(begin as usize..end as usize).unwrap_or(&[]))?;
             runs[place] = Run {
                 key,
                 begin: new_begin,
-                end: sorted.len() as u32,
+                end: narrow(sorted.len()),
             };
         }
         Ok(Keyed { nets: sorted, runs })
@@ -212,7 +212,7 @@ impl Partition {
     }
 
     fn make_class(&mut self, nets: &[u32], changed: &mut Vec<u32>) -> Result<(), NoMemory> {
-        let class = self.new_class(nets.len() as u32)?;
+        let class = self.new_class(narrow(nets.len()))?;
         for net in nets {
             self.move_to(class, *net);
             changed.push(*net)?;
@@ -222,7 +222,7 @@ impl Partition {
 
     /// The number of a new class, which is to have so many nets.
     fn new_class(&mut self, nets: u32) -> Result<u32, NoMemory> {
-        let class = self.sizes.len() as u32;
+        let class = narrow(self.sizes.len());
         self.sizes.push(nets)?;
         self.at_hand.push(0)?;
         Ok(class)
