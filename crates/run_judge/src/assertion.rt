@@ -77,25 +77,13 @@ pub fn net_end(
     let Some(net) = c.net(number) else {
         return Ok(None);
     };
-    if net.driver.is_none() || matches!(net.spec.or(&AssertSpec::None), AssertSpec::None) {
+    let nothing = AssertSpec::None;
+    let spec = net.spec.or(&nothing);
+    if net.driver.is_none() || matches!(spec, AssertSpec::None) {
         return Ok(None);
     }
     match bits.get(number as usize) {
-        None => row_end(
-            alloc,
-            c.header(),
-            net.spec.or(&AssertSpec::None),
-            &[],
-            from,
-            ticks,
-        ),
-        Some(row) => row_end(
-            alloc,
-            c.header(),
-            net.spec.or(&AssertSpec::None),
-            row.as_slice(),
-            from,
-            ticks,
-        ),
+        None => row_end(alloc, c.header(), spec, &[], from, ticks),
+        Some(row) => row_end(alloc, c.header(), spec, row.as_slice(), from, ticks),
     }
 }

@@ -38,4 +38,4 @@ pub returns-clause-is : goal.returns-clause-is
 returns-clause-is g c =
     let begins = begins_asserted c.args.c.now c.net_of-this.result.now c.args.net c.net_of-this.ensures (sym c.is_some.ensures ∙ c.if-is_some.false) in
     IfOk-weaker c.number.result _ (IsNumber c.number.new.self (base_start c.args.c.now c.args.net))
-    (λ n at. at ∙ ap Some (c.in_ok-interface_wave.ensures.wave ∙ (λ k. interface_wave (c.header.ensures k) c.net_of-this.result.now.spec) ∙ sym begins)) c.number.ensures.means
+    (λ n at. at ∙ ap Some (c.in_ok-interface_wave.ensures.wave ∙ (λ k. interface_wave (c.header.ensures k) (c.or.ensures k)) ∙ sym begins)) c.number.ensures.means

@@ -18,7 +18,8 @@ at-wave-requires g c = net_below c.args.c.now c.args.waves.now c.args.number c.i
 
 pub assertion_fault-requires-clause-fits : goal.assertion_fault-requires-clause-fits
 assertion_fault-requires-clause-fits g c =
-    subst (λ (h : Header). Fits h c.in-Some-net.net.now.spec) (sym c.header.ensures) (fits_at c.args.c.now c.args.number c.in-Some-net.net.now c.known.ensures c.in-Some-net.ensures)
+    rw c.or.ensures (subst (λ (h : Header). Fits h c.in-Some-net.net.now.spec) (sym c.header.ensures)
+    (fits_at c.args.c.now c.args.number c.in-Some-net.net.now c.known.ensures c.in-Some-net.ensures))
 
 pub assertion_fault-requires-clause-period : goal.assertion_fault-requires-clause-period
 assertion_fault-requires-clause-period g c =
@@ -29,4 +30,4 @@ pub returns-in_ok-found-in-Some-net : goal.returns-in_ok-found-in-Some-net
 returns-in_ok-found-in-Some-net g c =
     let head = c.header.ensures in
     net_is c.args.c.now (waves_of c.args.waves.now) c.args.number c.in-Some-net.net.now true c.in_ok-found-in-Some-net.found c.in-Some-net.ensures (sym c.if-not-is_held.false ∙ c.is_held.ensures)
-    (c.in_ok-found-in-Some-net.ensures ∙ (λ i. assertion_fault (head i) c.in-Some-net.net.now.spec c.args.number (c.at-wave.ensures i)))
+    (c.in_ok-found-in-Some-net.ensures ∙ (λ i. assertion_fault (head i) (c.or.ensures i) c.args.number (c.at-wave.ensures i)))

@@ -16,4 +16,4 @@ returns c = λ choices.
     let rows = c.requires.traces.rows in
     let long : length c.row_of.result.now ≡ c.args.ticks = ap length c.row_of.ensures ∙ c.requires.traces.long n [] (omega arith) in
     keeps_or_strays circuit c.args.ticks choices c.args.bits.now c.args.place n c.header.result.now net c.row_of.result.now c.meets.result
-    c.requires.inside c.net_at-number.ensures c.header.ensures here (none_from net.driver lacks) c.row_of.ensures long c.meets.ensures
+    c.requires.inside c.net_at-number.ensures c.header.ensures here (none_from net.driver lacks) c.row_of.ensures long (rw c.or.ensures at c.meets.ensures)
