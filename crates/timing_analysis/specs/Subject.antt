@@ -1,9 +1,10 @@
--- What is evaluated: a circuit, its cases, and the classes in which its nets are evaluated.
+-- What is evaluated: a circuit, its cases, the classes in which its nets are evaluated, and its reach.
 use Rattle.std.specs.Prelude.{◌≡◌, ℕ, ◌≤◌, List, length, Option, Some, None, ⊤}
 use Rattle.std.specs.List.{All}
 use Rattle.flat_circuit.specs.declared.case.CaseValue.{CaseValue}
 use Rattle.flat_circuit.specs.Circuit.{Circuit}
 use Rattle.class_table.specs.Stable.{IsStable}
+use Rattle.fixpoint_engine.specs.Reach.{reach}
 use Rattle.case_analysis.specs.Case.{NetsExist}
 use Rattle.timing_analysis.specs.declared.subject.Subject.{Subject}
 
@@ -12,8 +13,11 @@ abbrev pub AreClasses : Circuit → List (List CaseValue) → Option (List ℕ) 
 AreClasses c cases (Some classes) = (length classes ≡ length c.nets) × IsStable c cases classes
 AreClasses c cases None = ⊤
 
--- Its cases are few, their nets exist, and its classes are stable.
+-- Its cases are few, their nets exist, its classes are stable, and its reach is that of the circuit, which is at
+-- most twice the longest delay and one more.
 pub record IsSubject (s : Subject) : Type 0 where
   pub few : length s.cases ≤ 256
   pub exist : All (NetsExist s.circuit) s.cases
   pub classes : AreClasses s.circuit s.cases s.classes
+  pub reach_is : s.reach ≡ reach s.circuit
+  pub reach_bounded : s.reach ≤ 8191

@@ -113,7 +113,7 @@ impl Subject {
         rested.shorten(alloc)?;
         let settled = self.settled_case(alloc, &mut rested.store, &rested.base, place, limit)?;
         let found = faults_from(alloc, &self.circuit, rested, &settled.numbers)?;
-        let tick = tick(reach(&self.circuit), rested.base.rounds, settled.rounds);
+        let tick = tick(self.reach, rested.base.rounds, settled.rounds);
         Ok(CaseAtRest {
             number: place + 1,
             settled,

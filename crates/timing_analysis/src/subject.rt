@@ -12,7 +12,7 @@ ghost use Rattle.case_analysis.specs.Base.{IsBase, PermitInputs, base_round};
 ghost use Rattle.case_analysis.specs.Case.{EndsInCone, HasCone, IsCase, IsCone, NetsExist, PermitCase, case_at, case_round};
 ghost use Rattle.timing_analysis.specs.Subject.{AreClasses, IsSubject};
 
-use case_analysis::{base, base_classes, case_at, case_classes, case_waves};
+use case_analysis::{base, base_classes, case_at, case_classes, case_waves, reach};
 use class_table::{ClassMap, classes, stable};
 use drawn_circuit::Drawn;
 use fixpoint_engine::{EngineEnd, Settled, Store};
@@ -22,14 +22,17 @@ use std::alloc::Global;
 use step_values::Value;
 use wave_core::CyclicWave;
 
-/// A circuit and the cases in which it is evaluated, with the version of the language that it is drawn
-/// in, and the classes of its nets where they are stable.
+/// A circuit and the cases in which it is evaluated, with what is found out of it once for all of them.
 #[derive(Drop)]
 pub struct Subject {
+    /// The version of the language that it is drawn in.
     pub version: u8,
     pub circuit: Circuit,
     pub cases: CaseList,
+    /// The classes of its nets, where they are stable.
     pub classes: Option<ClassMap>,
+    /// How many ticks later than a round the next one holds.
+    pub reach: u32,
 }
 
 /// The classes of the nets of a circuit, where nothing tells the nets of one class apart.
@@ -49,8 +52,8 @@ fn stable_classes(
 }
 
 impl Subject {
-    /// A circuit with its cases, and its classes where they are stable. `NoMemory` comes where memory runs
-    /// out.
+    /// A circuit with its cases, its classes where they are stable, and its reach. `NoMemory` comes where
+    /// memory runs out.
     pub fn new(alloc: Global, drawn: Drawn) -> Result<Subject, NoMemory>
         requires few { length drawn.cases ≤ 256 }
         requires exist { All (NetsExist drawn.circuit) drawn.cases }
@@ -65,11 +68,13 @@ impl Subject {
             cases,
         } = drawn;
         let classes = stable_classes(alloc, &circuit, &cases)?;
+        let reach = reach(&circuit);
         Ok(Subject {
             version,
             circuit,
             cases,
             classes,
+            reach,
         })
     }
 

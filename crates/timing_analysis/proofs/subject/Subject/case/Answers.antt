@@ -60,9 +60,9 @@ returns-clause-rest g c =
       are = c.in_ok-settled.ensures.known;
       rest = case_at_rest c.args.self.now.circuit c.args.limit c.shorten.new.self.base.rounds
           (record { number = c.args.place + 1; values = values }) c.in_ok-settled.settled.rounds _ c.in_ok-found.found
-          (c.args.place + 1) c.tick-tick.result c.reach.result refl c.in_ok-settled.ensures.within c.in_ok-settled.ensures.fit
+          (c.args.place + 1) c.tick-tick.result c.args.self.now.reach refl c.in_ok-settled.ensures.within c.in_ok-settled.ensures.fit
           (case_rests c.args.self.now.circuit c.args.limit c.shorten.new.self.base.rounds (c.args.place + 1) values _
           kept.rest.rest.waves c.in_ok-settled.settled.rounds _ c.in_ok-settled.ensures.cone c.in_ok-settled.ensures.rest)
-          c.tick-tick.ensures c.reach.ensures.is c.in_ok-found.ensures.are c.in_ok-found.ensures.few
+          c.tick-tick.ensures c.requires.is.reach_is c.in_ok-found.ensures.are c.in_ok-found.ensures.few
           (c.in_ok-found.ensures.keep values c.shorten.new.self.base.rounds c.in_ok-settled.settled.rounds c.in_ok-settled.ensures.sound);
     })
