@@ -189,7 +189,7 @@ helps "    ')' cannot stand here, after '('" \
     '    what may stand here: "name" ZERO ONE -'
 early '3 Syntax 4:4' 'IF : BUF [0:0] ("A") -> ("X");'
 helps "    ':' cannot stand here, after 'IF'" \
-    '    IF is reserved: it is no label, kind, macro, parameter, constant, variable or drawing' \
+    '    IF is reserved: it cannot be a label, kind, macro, parameter, constant, variable or drawing' \
     '    what may stand here: word number ( -'
 early '3 Syntax 4:4' 'if 1 THEN' 'END;'
 helps "    '1' cannot stand here, after 'if'" \
@@ -447,7 +447,7 @@ helps "    'N' cannot stand here, after 'CONST'" \
     '    what may stand here: :'
 second '3 Syntax 3:7' 'CONST IF = 4;' 'DRAWING ROW;' 'END;'
 helps "    'IF' cannot stand here, after 'CONST'" \
-    '    IF is reserved: it is no label, kind, macro, parameter, constant, variable or drawing' \
+    '    IF is reserved: it cannot be a label, kind, macro, parameter, constant, variable or drawing' \
     '    what may stand here: word'
 second '3 Syntax 3:9' 'CONST N : 4;' 'DRAWING ROW;' 'END;'
 second '3 Syntax 3:13' 'CONST N = 4 = 4;' 'DRAWING ROW;' 'END;'

@@ -63,8 +63,8 @@ is_free (Some keyword) = false
 abbrev pub is_own : List ℕ → Token → Bool
 is_own text t = is_word t.kind && is_free (reserved_word (spelled text t))
 
--- The first word of the statement that may not stand there. It is the token that may not, or else the CONST
--- before a word, which would be a label there.
+-- The first word of the statement that may not stand there. It is the token that may not, or else
+-- the CONST before a word, which would be a label there.
 abbrev pub misplaced : List ℕ → Option Token → Token → Option Keyword
 misplaced text None t = None
 misplaced text (Some last) t =

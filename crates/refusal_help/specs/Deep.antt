@@ -13,7 +13,8 @@ is_operand word Word = not (bytes_eq word (codes "IF") || bytes_eq word (codes "
 is_operand word (Symbol b) = b == 41
 is_operand word kind = false
 
--- the token before has a number, a parameter or a parenthesis: what follows stands between two operands
+-- the token before has a number, a parameter or a parenthesis: what follows stands between two
+-- operands
 abbrev pub follows_operand : List ℕ → Token → Bool
 follows_operand text t = is_operand (spelled text t) t.kind
 

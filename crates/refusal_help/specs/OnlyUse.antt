@@ -1,5 +1,5 @@
--- The use of a macro, where it is used once in the whole text: what the macro's values are there is told by
--- the text alone.
+-- The use of a macro, where it is used once in the whole text: what the macro's values are there is
+-- told by the text alone.
 use Rattle.std.specs.Prelude.{ℕ, Bool, true, false, ◌&&◌, ◌||◌, List, [], ◌∷◌, ◌++◌, codes, Option, Some, None, if◌then◌else◌}
 use Rattle.std.specs.Str.{bytes_eq}
 use Rattle.scald_base.specs.declared.refusal.Place.{Place}

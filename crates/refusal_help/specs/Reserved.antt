@@ -24,7 +24,8 @@ abbrev pub reserved_before : List ℕ → Option Token → Option Keyword
 reserved_before text None = None
 reserved_before text (Some last) = reserved_word (spelled text last)
 
--- the reserved word that stands where a name of the drawing's own would: the token, or the one before a colon
+-- the reserved word that stands where a name of the drawing's own would: the token, or the one
+-- before a colon
 abbrev pub reserved_at : List ℕ → Option Token → Token → List Token → Option Keyword
 reserved_at text before t others =
     if is_symbol 58 t.kind then reserved_before text before
@@ -35,7 +36,7 @@ abbrev pub reserved_line : Option Keyword → List ℕ
 reserved_line None = []
 reserved_line (Some keyword) = line (
     codes "    " ∷ word_of keyword
-    ∷ codes " is reserved: it is no label, kind, macro, parameter, constant, variable or drawing" ∷ [])
+    ∷ codes " is reserved: it cannot be a label, kind, macro, parameter, constant, variable or drawing" ∷ [])
 
 -- ---- words of version 2
 

@@ -29,7 +29,8 @@ begins_block text t ts =
 abbrev pub is_end_word : List ℕ → Token → Bool
 is_end_word text t = bytes_eq (spelled text t) (codes "END")
 
--- the END among these tokens, before the place, that ends what is before them, inside so many that are begun
+-- the END among these tokens, before the place, that ends what is before them, inside so many that
+-- are begun
 abbrev pub end_of : List ℕ → Place → ℕ → List Token → Option Token
 end_of text place depth [] = None
 end_of text place depth (t ∷ ts) =
@@ -80,14 +81,14 @@ last_ended text place last [] = last
 last_ended text place last (t ∷ ts) =
     if is_at place t then last else last_ended text place (later last (ended_at text place t ts)) ts
 
-unfoldable pub end_line : List ℕ → Token → Token → List ℕ
-end_line text t end = line (
-    codes "    the last END before this, at " ∷ place_text end.place ∷ codes ", is that of the " ∷ spelled text t
-    ∷ codes " at " ∷ place_text t.place ∷ [])
+unfoldable pub end_line : List ℕ → Place → Place → List ℕ
+end_line word begun end = line (
+    codes "    the last END before this, at " ∷ place_text end ∷ codes ", is that of the " ∷ word
+    ∷ codes " at " ∷ place_text begun ∷ [])
 
 abbrev pub last_line : List ℕ → Option (Token × Token) → List ℕ
 last_line text None = []
-last_line text (Some found) = end_line text found.0 found.1
+last_line text (Some found) = end_line (spelled text found.0) found.0.place found.1.place
 
 -- ---- what is said
 

@@ -80,7 +80,8 @@ fn is_own(text: &[u8], token: Token) -> bool
     is_word(token) && reserved_word(spelled(text, token)).is_none()
 }
 
-/// The first word of the statement that may not stand where a token may not: that token, or the CONST before it.
+/// The first word of the statement that may not stand where a token may not: that token, or the
+/// CONST before it.
 fn misplaced(text: &[u8], before: Option<Token>, token: Token) -> Option<Keyword>
     ensures { result ≡ misplaced text.now before token }
 {
@@ -96,8 +97,8 @@ fn misplaced(text: &[u8], before: Option<Token>, token: Token) -> Option<Keyword
     }
 }
 
-/// Where the statement belongs that may not stand where a token may not: no bytes where its word is of a later
-/// version.
+/// Where the statement belongs that may not stand where a token may not: no bytes where its word is
+/// of a later version.
 pub fn belongs_note(later: bool, text: &[u8], before: Option<Token>, token: Token) -> &'static [u8]
     ensures { result.now ≡ belongs_lines later text.now before token }
 {

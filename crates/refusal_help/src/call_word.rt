@@ -219,8 +219,8 @@ fn add_words(out: &mut Bytes, words: &Words, number: u32) -> Result<(), NoMemory
     }
 }
 
-/// What is wrong with the word of this number, from 0, where no form begins with the words up to it: it is
-/// another, or it is missing. The one error is that memory ran out.
+/// What is wrong with the word of this number, from 0, where no form begins with the words up to
+/// it: it is another, or it is missing. The one error is that memory ran out.
 pub fn explain_words(alloc: Global, words: &Words, number: u32) -> Result<Bytes, NoMemory>
     ensures { IfOk result (λ bytes. bytes ≡ words_line words.now number) }
 {

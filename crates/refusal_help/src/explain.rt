@@ -58,8 +58,8 @@ fn edges_of(text: &[u8], tokens: &[Token], refusal: Refusal) -> Option<(u64, u64
     }
 }
 
-/// What a person is told of a text that is refused so: the place and a sentence, the line of the text
-/// with a mark under the place, and what may help. The one error is that memory ran out.
+/// What a person is told of a text that is refused so: the place and a sentence, the line of the
+/// text with a mark under the place, and what may help. The one error is that memory ran out.
 pub fn explain_refusal(alloc: Global, text: &[u8], refusal: Refusal) -> Result<Bytes, NoMemory>
     requires { length text.now < 2 ^ 32 - 1 }
     ensures { IfOk result (IsExplained text.now refusal) }
@@ -74,8 +74,8 @@ pub fn explain_refusal(alloc: Global, text: &[u8], refusal: Refusal) -> Result<B
     Ok(out)
 }
 
-/// The place of the use whose line stands among what [`explain_refusal`] tells, where one does. The one error is
-/// that memory ran out.
+/// The place of the use whose line stands among what [`explain_refusal`] tells, where one does. The
+/// one error is that memory ran out.
 pub fn shown_use(alloc: Global, text: &[u8], refusal: Refusal) -> Result<Option<Place>, NoMemory>
     requires { length text.now < 2 ^ 32 - 1 }
     ensures { IfOk result (IsShownUse text.now refusal) }

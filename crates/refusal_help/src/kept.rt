@@ -8,8 +8,8 @@ ghost use Rattle.scald_base.specs.Device.{CountsFaults, Gives};
 use scald_base::{Bytes, Failed, Source};
 use std::alloc::Global;
 
-/// A source over another that keeps the bytes that it gave, as long as there is memory for them. It gives
-/// what the other gives, and fails where the other fails.
+/// A source over another that keeps the bytes that it gave, as long as there is memory for them. It
+/// gives what the other gives, and fails where the other fails.
 #[derive(Drop)]
 pub struct KeptSource<S: Source> {
     source: S,

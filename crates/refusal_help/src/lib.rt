@@ -1,11 +1,11 @@
 //! What helps a person whose text is refused, or whose words are of no form.
 //!
-//! The program says on standard error what [`explain_refusal`] gives: the place and a sentence, the line
-//! of the text with a mark under the place, and what can be told of what is meant (`specs/Explained`). What is
-//! told of names and of statements is that of `name_help` and `statement_help`; here stands what is told of
-//! bytes, tokens, the grammar, the header and limits. For that the program reads through a [`KeptSource`],
-//! which keeps the text. Of words that are of no form [`explain_words`] says which one is wrong
-//! (`specs/CallWord`).
+//! The program says on standard error what [`explain_refusal`] gives: the place and a sentence, the
+//! line of the text with a mark under the place, and what can be told of what is meant
+//! (`specs/Explained`). What is told of names and of statements is that of `name_help` and
+//! `statement_help`; here stands what is told of bytes, tokens, the grammar, the header and limits.
+//! For that the program reads through a [`KeptSource`], which keeps the text. Of words that are of
+//! no form [`explain_words`] says which one is wrong (`specs/CallWord`).
 #![tactic(auto)]
 
 // what is said of a refusal

@@ -30,8 +30,8 @@ fn gives(tokens: &[Token]) -> bool
     }
 }
 
-/// The reserved word that stands where a name of the drawing's own would: the token itself, or the one
-/// before a colon.
+/// The reserved word that stands where a name of the drawing's own would: the token itself, or the
+/// one before a colon.
 fn reserved_at(
     text: &[u8],
     before: Option<Token>,
@@ -69,7 +69,7 @@ pub fn add_reserved(
                 Part::Text(b"    "),
                 Part::Text(keyword.word()),
                 Part::Text(
-                    b" is reserved: it is no label, kind, macro, parameter, constant, variable or drawing",
+                    b" is reserved: it cannot be a label, kind, macro, parameter, constant, variable or drawing",
                 ),
             ],
         ),

@@ -146,20 +146,20 @@ fn last_ended(text: &[u8], tokens: &[Token], place: Place) -> Option<(Token, Tok
     last
 }
 
-/// What an END ends.
+/// What an END ends, by its word and both places.
 #[tactic(auto, unfolding(crate::specs::Unended::end_line))]
-fn add_end_line(out: &mut Bytes, text: &[u8], token: Token, end: Token) -> Result<(), NoMemory>
-    ensures { OnOk result (out.new ≡ out.old ++ end_line text.now token end) }
+fn add_end_line(out: &mut Bytes, word: &[u8], begun: Place, end: Place) -> Result<(), NoMemory>
+    ensures { OnOk result (out.new ≡ out.old ++ end_line word.now begun end) }
 {
     add_line(
         out,
         &[
             Part::Text(b"    the last END before this, at "),
-            Part::Place(end.place),
+            Part::Place(end),
             Part::Text(b", is that of the "),
-            Part::Text(spelled(text, token)),
+            Part::Text(word),
             Part::Text(b" at "),
-            Part::Place(token.place),
+            Part::Place(begun),
         ],
     )
 }
@@ -169,7 +169,7 @@ fn add_last(out: &mut Bytes, text: &[u8], found: Option<(Token, Token)>) -> Resu
     ensures { OnOk result (out.new ≡ out.old ++ last_line text.now found) }
 {
     match found {
-        Some((token, end)) => add_end_line(out, text, token, end),
+        Some((token, end)) => add_end_line(out, spelled(text, token), token.place, end.place),
         None => Ok(()),
     }
 }
