@@ -10,6 +10,7 @@ pub mod Held
 pub mod Words
 pub mod Whose
 pub mod Gathered
+pub mod Watched
 pub mod Kept
 pub mod AsBefore
 pub mod Again

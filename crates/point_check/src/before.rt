@@ -1,17 +1,14 @@
 //! What is known of waves that were checked before, and is still so.
 
-ghost use Rattle.std.specs.Prelude.{◌≡◌, ◌||◌, ◌↔◌, IsTrue, IfSome, is_some, length};
+ghost use Rattle.std.specs.Prelude.{◌≡◌, ◌<◌, ◌↔◌, IsTrue, IfSome, Some, length, slice_get};
 ghost use Rattle.std.specs.List.{All};
 ghost use Rattle.flat_circuit.specs.Instances.{PinExists};
-ghost use Rattle.net_waves.specs.Waves.{marked_pin as marked, FitWaves, waves_of};
+ghost use Rattle.net_waves.specs.Waves.{FitWaves, waves_of};
 ghost use Rattle.net_waves.specs.SameWaves.{IsSameAt};
-ghost use Rattle.element_kinds.specs.Kinds.{checks_points};
 ghost use Rattle.point_check.specs.Faults.{instance_fault as fault_of_instance, net_fault as fault_of_net};
 ghost use Rattle.point_check.specs.Known.{AreChecked};
 
-use crate::assertion::is_held;
 use crate::known::PointFaults;
-use crate::mark::marked_pin;
 use flat_circuit::{Circuit, Fault, Instance, Pin};
 use net_waves::{Waves, has_one_wave, has_one_wave_at};
 use step_values::Value;
@@ -45,49 +42,43 @@ fn have_one_wave_at<W: CyclicWave<Item = Value>>(
     true
 }
 
-/// Whether an instance has something to check: it is a checker of points, or a pin of it is marked.
-fn is_watched(instance: &Instance) -> bool
-    ensures { result ≡ (checks_points instance.now.kind || is_some (marked instance.now)) }
-{
-    instance.kind.checks_points() || marked_pin(instance).is_some()
-}
-
-/// The fault that the instance of a number had before, where it is watched and has the same waves at
-/// its pins: it has the same fault then.
+/// The fault that the instance of a number had before, where it has the same waves at its pins: it has
+/// the same fault then.
 pub fn instance_before<W: CyclicWave<Item = Value>>(
     c: &Circuit,
     before: &Before<W>,
     waves: &Waves<W>,
     number: u32,
+    instance: &Instance,
 ) -> Option<Option<Fault>>
+    requires at { Some instance.now ≡ slice_get c.now.instances number }
     requires before { AreChecked c.now before.now.waves.now before.now.known.now }
     requires fit { FitWaves c.now waves.now }
     ensures { IfSome result (λ found. found ≡ fault_of_instance c.now (waves_of waves.now) number) }
 {
     c.known();
-    let instance = c.instance(number)?;
     let pins = instance.pins.as_slice();
-    if !is_watched(instance) || !have_one_wave_at(c, before.waves, waves, pins) {
+    if !have_one_wave_at(c, before.waves, waves, pins) {
         return None;
     }
     let known = before.known.instances.as_slice();
     Some(known[number as usize])
 }
 
-/// The fault that the net of a number had before, where it is held to an assertion and has the same
-/// wave: it has the same fault then.
+/// The fault that the net of a number had before, where it has the same wave: it has the same fault
+/// then.
 pub fn net_before<W: CyclicWave<Item = Value>>(
     c: &Circuit,
     before: &Before<W>,
     waves: &Waves<W>,
     number: u32,
 ) -> Option<Option<Fault>>
+    requires exists { number < length c.now.nets }
     requires before { AreChecked c.now before.now.waves.now before.now.known.now }
     requires fit { FitWaves c.now waves.now }
     ensures { IfSome result (λ found. found ≡ fault_of_net c.now (waves_of waves.now) number) }
 {
-    let net = c.net(number)?;
-    if !is_held(net) || !has_one_wave(c, before.waves, waves, number) {
+    if !has_one_wave(c, before.waves, waves, number) {
         return None;
     }
     let known = before.known.nets.as_slice();

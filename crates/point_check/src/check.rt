@@ -1,10 +1,12 @@
 //! The faults of a whole circuit.
 
-ghost use Rattle.std.specs.Prelude.{◌≡◌, ◌++◌, IfOk, IfSome, OnOk, length, Some, filter_map};
+ghost use Rattle.std.specs.Prelude.{◌≡◌, ◌++◌, ◌||◌, IfOk, IfSome, OnOk, is_some, length, Some, filter_map};
 ghost use Rattle.std.specs.List.{range_with_len};
 ghost use Rattle.std.specs.Option.{option_to_list};
+ghost use Rattle.element_kinds.specs.Kinds.{checks_points};
 ghost use Rattle.flat_circuit.specs.Instances.{InstanceFits};
-ghost use Rattle.net_waves.specs.Waves.{FitWaves, waves_of};
+ghost use Rattle.flat_circuit.specs.Kind.{PinsFit};
+ghost use Rattle.net_waves.specs.Waves.{marked_pin as marked, FitWaves, waves_of};
 ghost use Rattle.flat_circuit.specs.Name.{net_at};
 ghost use Rattle.point_check.specs.Faults.{fault_by_kind, instance_fault as fault_of_instance, net_fault as fault_of_net, point_faults};
 ghost use Rattle.point_check.specs.Known.{AreChecked, AreKnown};
@@ -14,7 +16,7 @@ use crate::assertion::{assertion_fault, is_held};
 use crate::before::{Before, instance_before, net_before};
 use crate::checker::limited_fault;
 use crate::known::PointFaults;
-use crate::mark::mark_fault;
+use crate::mark::{mark_fault, marked_pin};
 use crate::recent::Recent;
 use flat_circuit::{Circuit, Fault, Faults, Instance};
 use net_waves::Waves;
@@ -22,6 +24,18 @@ use scald_base::{AssertSpec, NoMemory};
 use std::alloc::Global;
 use step_values::Value;
 use wave_core::CyclicWave;
+
+/// Whether an instance has something to check: it is a checker of points, or a pin of it is marked.
+/// Pins are read only where the kind may have a mark.
+fn is_watched(instance: &Instance) -> bool
+    requires { PinsFit instance.now.kind instance.now.pins }
+    ensures { result ≡ (checks_points instance.now.kind || is_some (marked instance.now)) }
+{
+    if instance.kind.checks_points() {
+        return true;
+    }
+    instance.kind.may_be_marked() && marked_pin(instance).is_some()
+}
 
 /// The fault of an instance, if it has one.
 fn fault_by_kind<W: CyclicWave<Item = Value>>(
@@ -46,8 +60,8 @@ fn fault_by_kind<W: CyclicWave<Item = Value>>(
     }
 }
 
-/// The fault of the instance of a number, if it has one. Where it is known from before it is not
-/// checked again.
+/// The fault of the instance of a number, if it has one. Most instances have nothing to check, and are
+/// asked no more than that. Where the fault is known from before, the instance is not checked again.
 #[inline(always)]
 pub fn instance_fault<W: CyclicWave<Item = Value>>(
     alloc: Global,
@@ -61,19 +75,20 @@ pub fn instance_fault<W: CyclicWave<Item = Value>>(
     requires fit { FitWaves c.now waves.now }
     ensures { IfOk result (λ found. found ≡ fault_of_instance c.now (waves_of waves.now) number) }
 {
+    c.known();
+    let Some(instance) = c.instance(number) else {
+        return Ok(None);
+    };
+    if !is_watched(instance) {
+        return Ok(None);
+    }
     if let Some(before) = before {
-        if let Some(found) = instance_before(c, before, waves, number) {
+        if let Some(found) = instance_before(c, before, waves, number, instance) {
             return Ok(found);
         }
     }
-    c.known();
-    match c.instance(number) {
-        None => Ok(None),
-        Some(instance) => {
-            let found = fault_by_kind(alloc, recent, c, waves, number, instance)?;
-            Ok(found)
-        }
-    }
+    let found = fault_by_kind(alloc, recent, c, waves, number, instance)?;
+    Ok(found)
 }
 
 /// The fault of the net of a number, if something drives it, its name asserts something and it has
@@ -90,29 +105,21 @@ pub fn net_fault<W: CyclicWave<Item = Value>>(
     requires fit { FitWaves c.now waves.now }
     ensures { IfOk result (λ found. found ≡ fault_of_net c.now (waves_of waves.now) number) }
 {
+    c.known();
+    let Some(net) = c.net(number) else {
+        return Ok(None);
+    };
+    if !is_held(net) {
+        return Ok(None);
+    }
     if let Some(before) = before {
         if let Some(found) = net_before(c, before, waves, number) {
             return Ok(found);
         }
     }
-    c.known();
-    match c.net(number) {
-        None => Ok(None),
-        Some(net) => {
-            if !is_held(net) {
-                return Ok(None);
-            }
-            let wave = waves.at(number);
-            let found = assertion_fault(
-                alloc,
-                c.header(),
-                net.spec.or(&AssertSpec::None),
-                number,
-                wave,
-            )?;
-            Ok(found)
-        }
-    }
+    let spec = net.spec.or(&AssertSpec::None);
+    let found = assertion_fault(alloc, c.header(), spec, number, waves.at(number))?;
+    Ok(found)
 }
 
 /// Appends a fault, if there is one.

@@ -11,7 +11,7 @@ bounds-known-number g c =
     let ws = waves_of c.args.before.now.waves.now in
     let long = known_long (instance_fault c.args.c.now ws) (length c.args.c.now.instances) c.args.before.now.known.now.instances
     c.as_slice-known.result.now c.requires.before.known.instances c.as_slice-known.ensures in
-    let below = slice_get_within c.args.c.now.instances c.args.number c.in_ok-instance.instance.now (sym c.in_ok-instance.ensures) in
+    let below = slice_get_within c.args.c.now.instances c.args.number c.args.instance.now (sym c.requires.at) in
     omega (arith, long, below)
 
 pub returns : goal.returns
@@ -20,6 +20,6 @@ returns g c =
     let vs = waves_of c.args.waves.now in
     known_at (instance_fault c.args.c.now ws) (length c.args.c.now.instances) c.args.before.now.known.now.instances c.as_slice-known.result.now c.args.number None
     c.requires.before.known.instances c.as_slice-known.ensures
-    (slice_get_within c.args.c.now.instances c.args.number c.in_ok-instance.instance.now (sym c.in_ok-instance.ensures))
-    ∙ same_instance c.args.c.now ws vs c.args.number c.in_ok-instance.instance.now c.as_slice-pins.result.now
-    c.in_ok-instance.ensures c.as_slice-pins.ensures (c.if-not-have_one_wave_at.ensures.0 refl)
+    (slice_get_within c.args.c.now.instances c.args.number c.args.instance.now (sym c.requires.at))
+    ∙ same_instance c.args.c.now ws vs c.args.number c.args.instance.now c.as_slice-pins.result.now
+    c.requires.at c.as_slice-pins.ensures (c.if-not-have_one_wave_at.ensures.0 refl)

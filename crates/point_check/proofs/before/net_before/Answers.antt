@@ -1,5 +1,4 @@
-use Rattle.std.proofs.Common.{length, ◌∙◌, refl, sym, arith, None}
-use Rattle.std.proofs.lemmas.Option.{slice_get_within}
+use Rattle.std.proofs.Common.{length, ◌∙◌, refl, arith, None}
 use Rattle.net_waves.specs.Waves.{waves_of}
 use Rattle.net_waves.proofs.ByNumber.{known_long, known_at}
 use Rattle.point_check.specs.Faults.{net_fault}
@@ -10,7 +9,7 @@ pub bounds-known-number : goal.bounds-known-number
 bounds-known-number g c =
     let ws = waves_of c.args.before.now.waves.now in
     let long = known_long (net_fault c.args.c.now ws) (length c.args.c.now.nets) c.args.before.now.known.now.nets c.as_slice-known.result.now c.requires.before.known.nets c.as_slice-known.ensures in
-    let below = slice_get_within c.args.c.now.nets c.args.number c.in_ok-net.net.now (sym c.in_ok-net.ensures) in
+    let below = c.requires.exists in
     omega (arith, long, below)
 
 pub returns : goal.returns
@@ -18,6 +17,5 @@ returns g c =
     let ws = waves_of c.args.before.now.waves.now in
     let vs = waves_of c.args.waves.now in
     known_at (net_fault c.args.c.now ws) (length c.args.c.now.nets) c.args.before.now.known.now.nets c.as_slice-known.result.now c.args.number None
-    c.requires.before.known.nets c.as_slice-known.ensures
-    (slice_get_within c.args.c.now.nets c.args.number c.in_ok-net.net.now (sym c.in_ok-net.ensures))
+    c.requires.before.known.nets c.as_slice-known.ensures c.requires.exists
     ∙ same_net c.args.c.now ws vs c.args.number (c.if-not-has_one_wave.ensures.0 refl)
