@@ -1,6 +1,6 @@
 //! What is known of waves that were checked before, and is still so.
 
-ghost use Rattle.std.specs.Prelude.{◌≡◌, IsTrue, IfSome, length, true};
+ghost use Rattle.std.specs.Prelude.{◌≡◌, IsTrue, IfSome, Some, length, slice_get, true};
 ghost use Rattle.flat_circuit.specs.Instances.{InstanceFits};
 ghost use Rattle.net_waves.specs.Waves.{FitWaves, waves_of};
 ghost use Rattle.element_kinds.specs.Kinds.{checks_pulses};
@@ -38,27 +38,25 @@ fn is_checked_as_before<W: CyclicWave<Item = Value>>(
     has_one_wave_at(c, before, waves, pins[0])
 }
 
-/// The faults that the instance of a number had before, where it is a checker of pulses whose pin is
-/// on the same wave: it has the same faults then.
+/// The faults that the checker of a number had before, where its pin is on the same wave: it has the
+/// same faults then.
 pub fn faults_before<'a, W: CyclicWave<Item = Value>>(
     c: &Circuit,
     before: &'a Before<'a, W>,
     waves: &Waves<W>,
     number: u32,
+    checker: &Instance,
 ) -> Option<&'a Faults>
+    requires checker { checks_pulses checker.now.kind ≡ true }
+    requires at { Some checker.now ≡ slice_get c.now.instances number }
     requires before { AreChecked c.now before.now.waves.now before.now.known.now }
     requires fit { FitWaves c.now waves.now }
     ensures { IfSome result (λ found. found.now ≡ instance_faults c.now (waves_of waves.now) number) }
 {
     c.known();
-    let instance = c.instance(number)?;
-    if instance.kind.checks_pulses() {
-        if !is_checked_as_before(c, before.waves, waves, instance) {
-            return None;
-        }
-        let known = before.known.as_slice();
-        Some(&known[number as usize])
-    } else {
-        None
+    if !is_checked_as_before(c, before.waves, waves, checker) {
+        return None;
     }
+    let known = before.known.as_slice();
+    Some(&known[number as usize])
 }

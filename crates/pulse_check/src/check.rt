@@ -17,8 +17,8 @@ use std::alloc::Global;
 use step_values::Value;
 use wave_core::CyclicWave;
 
-/// Appends the faults of the instance of a number. Where they are known from before it is not checked
-/// again.
+/// Appends the faults of the instance of a number. Most instances are no checkers of pulses, and are
+/// asked no more than that. Where the faults are known from before, the instance is not checked again.
 #[inline(always)]
 pub fn add_faults<W: CyclicWave<Item = Value>>(
     faults: &mut Faults,
@@ -32,22 +32,19 @@ pub fn add_faults<W: CyclicWave<Item = Value>>(
     requires fit { FitWaves c.now waves.now }
     ensures { OnOk result (faults.new ≡ faults.old ++ instance_faults c.now (waves_of waves.now) number) }
 {
+    c.known();
+    let Some(instance) = c.instance(number) else {
+        return Ok(());
+    };
+    if !instance.kind.checks_pulses() {
+        return Ok(());
+    }
     if let Some(before) = before {
-        if let Some(found) = faults_before(c, before, waves, number) {
+        if let Some(found) = faults_before(c, before, waves, number, instance) {
             return append_faults(faults, found);
         }
     }
-    c.known();
-    match c.instance(number) {
-        None => Ok(()),
-        Some(instance) => {
-            if instance.kind.checks_pulses() {
-                add_checker_faults(faults, alloc, c, waves, number, instance)
-            } else {
-                Ok(())
-            }
-        }
-    }
+    add_checker_faults(faults, alloc, c, waves, number, instance)
 }
 
 /// The faults of all checkers, in the order of the report.
