@@ -6,7 +6,7 @@ use Rattle.section_rules.proofs.rules.asserts_otherwise.Goals as goal
 
 pub returns-in-Some : goal.returns-in-Some
 returns-in-Some c =
-    ap not (tells_same c.args.net.now.spec c.in-Some.other.now.spec c.is_same_assertion.result (rw (c.or.ensures, c.or-2.ensures) at c.is_same_assertion.ensures))
+    ap not (tells_same c.args.net.now.spec c.in-Some.other.now.spec c.is_same_assertion.result (rw (c.or.ensures, c.or-in-Some.ensures) at c.is_same_assertion.ensures))
     ∙ c.in-Some.ensures.tells (λ (other : Net). not (same_assertion c.args.net.now.spec other.spec))
 
 pub returns-in-None : goal.returns-in-None
