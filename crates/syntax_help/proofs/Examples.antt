@@ -1,13 +1,15 @@
 -- The tokens that are tried are one of each kind that the grammar tells apart; texts with them, and
 -- what is said, worked out on paper.
-use Rattle.std.proofs.Common.{◌≡◌, ℕ, List, [], ◌∷◌, map, refl}
+use Rattle.std.proofs.Common.{◌≡◌, ℕ, ◌+◌, true, false, List, [], ◌∷◌, map, refl}
 use Rattle.std.specs.Prelude.{codes, Some, None}
+use Rattle.scald_lex.specs.declared.token.Token.{Token}
+use Rattle.scald_lex.specs.declared.token.TokenKind.TheVariants as kind
 use Rattle.drawing_grammar.specs.Lexeme.{symbol_terminal, word_terminal}
 use Rattle.drawing_grammar.specs.declared.terminal.Terminal.{Terminal}
 use Rattle.drawing_grammar.specs.declared.terminal.Terminal.TheVariants as grammar
 use Rattle.syntax_help.specs.declared.sample.Sample.TheVariants.{Word, Scald, Clock, Wire, Pskew, Cskew, Macro, Drawing, Case, If, Then, Else, End, Zero, One, Const, To, Do, Ticks, Hazard, Arrow, Semicolon, Colon, Comma, OpenParenthesis, CloseParenthesis, Less, Greater, OpenBracket, CloseBracket, OpenBrace, CloseBrace, Equals, Plus, Minus, Star, Slash, Ampersand, Exclamation}
 use Rattle.syntax_help.specs.Sample.{spelling}
-use Rattle.syntax_help.specs.Told.{expected_line, missing_line}
+use Rattle.syntax_help.specs.Told.{expected_line, is_late, missing_line}
 use Rattle.syntax_help.specs.Trial.{next_line, trial}
 
 -- the words
@@ -50,6 +52,16 @@ after_fourth = refl
 
 after_last : next_line (record { line = 4294967295; col = 22 }) ≡ record { line = 4294967295; col = 1 }
 after_last = refl
+
+-- 262,144 bytes before a token are read again and again, and more are not
+abbrev after_bytes : ℕ → Token
+after_bytes n = record { kind = kind.Word; place = record { line = 2; col = 1 }; start = n; end = n + 1 }
+
+last_read : is_late (after_bytes 262144) ≡ false
+last_read = refl
+
+first_late : is_late (after_bytes 262145) ≡ true
+first_late = refl
 
 -- what is said
 two : expected_line (Arrow ∷ Semicolon ∷ []) ≡ codes "    what may stand here: -> ;\n"

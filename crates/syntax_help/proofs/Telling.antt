@@ -1,12 +1,7 @@
 -- What is told of the tokens that are found.
-use Rattle.std.proofs.Common.{◌≡◌, ℕ, List, [], ◌++◌, ap, sym, subst, ◌∙◌}
+use Rattle.std.proofs.Common.{◌≡◌, ℕ, List, ◌++◌, ap, subst, ◌∙◌}
 use Rattle.std.specs.Prelude.{OnOk, Result}
 use Rattle.std.proofs.lemmas.List.{append_assoc}
-use Rattle.scald_base.specs.declared.refusal.Place.{Place}
-use Rattle.syntax_help.specs.Told.{IsTold, nothing}
-
-pub nothing_told : (text : List ℕ) (place : Place) (bytes : List ℕ) → bytes ≡ [] → IsTold text place bytes
-nothing_told text place bytes none = subst (IsTold text place) (sym none) nothing
 
 -- three texts, put one after another
 pub three_put : {A E : Type 0} (r : Result A E) (new two one old a b c word : List ℕ) → one ≡ old ++ a →

@@ -7,7 +7,8 @@ use Rattle.syntax_help.specs.Expected.{IsListed}
 use Rattle.syntax_help.specs.Sample.{spelling}
 use Rattle.syntax_help.specs.Trial.{CannotStand, next_line, trial}
 
--- It is listed after the front of a text, which ends at the place, and the token may stand after it.
+-- It is listed after the front of a text, which ends at the place, and the token may stand after
+-- it.
 pub record Mends (front : List ℕ) (place : Place) (token : List ℕ) (s : Sample) : Type 0 where
   pub stands : IsListed front place s
   pub goes_on : ¬ CannotStand (trial front (spelling s)) (next_line place) token

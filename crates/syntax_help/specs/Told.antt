@@ -1,9 +1,10 @@
 -- What is said of the tokens that may stand at a place.
-use Rattle.std.specs.Prelude.{◌≡◌, ℕ, List, [], ◌∷◌, ◌++◌, take, codes, Option, Some, None}
+use Rattle.std.specs.Prelude.{◌≡◌, ℕ, Bool, true, false, nat_lt, List, [], ◌∷◌, ◌++◌, take, codes, Option, Some, None}
 use Rattle.std.specs.List.{flat_map}
 use Rattle.scald_base.specs.declared.refusal.Place.{Place}
+use Rattle.scald_base.specs.declared.refusal.Refusal.{Refusal}
 use Rattle.scald_lex.specs.declared.token.Token.{Token}
-use Rattle.scald_lex.specs.Tokens.{AreTokens}
+use Rattle.scald_lex.specs.Tokens.{AreTokens, IsRefused}
 use Rattle.help_text.specs.Statement.{first_of, from_place, spelled}
 use Rattle.syntax_help.specs.declared.sample.Sample.{Sample}
 use Rattle.syntax_help.specs.Expected.{AreExpected}
@@ -34,9 +35,22 @@ pub record IsToldAfter (front : List ℕ) (place : Place) (token bytes : List �
   pub first : IsFirst front place token asked missing
   pub are : bytes ≡ expected_line found ++ missing_line missing
 
--- Nothing is said where the text has no tokens, or none at the place.
+-- so many bytes stand before it that they are not read again and again
+abbrev pub is_late : Token → Bool
+is_late t = nat_lt 262144 t.start
+
+abbrev pub IsToldUnless : Bool → List ℕ → Place → Token → List ℕ → Type 0
+IsToldUnless true text place t bytes = bytes ≡ []
+IsToldUnless false text place t bytes = IsToldAfter (take t.start text) place (spelled text t) bytes
+
+-- by the token at the place, where there is one
+abbrev pub IsToldOf : List ℕ → Place → Option Token → List ℕ → Type 0
+IsToldOf text place None bytes = bytes ≡ []
+IsToldOf text place (Some t) bytes = IsToldUnless (is_late t) text place t bytes
+
+-- Nothing is said of a text that has no tokens, nor where no token stands at the place, or a late
+-- one.
 pub data IsTold (text : List ℕ) (place : Place) : List ℕ → Type 0 where
-  nothing : IsTold text place []
-  told : (tokens : List Token) (t : Token) (bytes : List ℕ) → AreTokens text tokens →
-      first_of (from_place place tokens) ≡ Some t →
-      IsToldAfter (take t.start text) place (spelled text t) bytes → IsTold text place bytes
+  refused : (r : Refusal) → IsRefused text r → IsTold text place []
+  read : (tokens : List Token) (bytes : List ℕ) → AreTokens text tokens →
+      IsToldOf text place (first_of (from_place place tokens)) bytes → IsTold text place bytes

@@ -2,14 +2,14 @@
 
 ghost use Rattle.std.specs.Prelude.{◌≡◌, ◌++◌, ◌<◌, ◌^◌, length, IfOk, OnOk};
 ghost use Rattle.std.specs.List.{flat_map};
-ghost use Rattle.syntax_help.specs.Told.{IsTold, IsToldAfter, expected_line, missing_line, question, sample_text};
+ghost use Rattle.syntax_help.specs.Told.{IsTold, IsToldAfter, IsToldOf, IsToldUnless, expected_line, is_late, missing_line, question, sample_text};
 
 use crate::expected::expected;
 use crate::missing::missing;
 use crate::sample::Sample;
 use help_text::{first_of, from_place, front, spelled};
 use scald_base::{Bytes, NoMemory, Place, Stop};
-use scald_lex::tokens;
+use scald_lex::{Token, tokens};
 use std::alloc::Global;
 
 /// The most bytes that are read again and again.
@@ -61,8 +61,8 @@ fn add_missing(out: &mut Bytes, missing: Option<Sample>) -> Result<(), NoMemory>
     }
 }
 
-/// What is said of the tokens that may stand after the front of a text, which ends at this place, and
-/// of one that may be missing before this token.
+/// What is said of the tokens that may stand after the front of a text, which ends at this place,
+/// and of one that may be missing before this token.
 fn told(alloc: Global, front: &[u8], place: Place, token: &[u8]) -> Result<Bytes, NoMemory>
     requires short { length front.now < 2 ^ 20 }
     requires small { length token.now < 2 ^ 31 }
@@ -76,9 +76,50 @@ fn told(alloc: Global, front: &[u8], place: Place, token: &[u8]) -> Result<Bytes
     Ok(out)
 }
 
-/// Of a text that is refused for its grammar at a place: which tokens may stand there, and which one may
-/// be missing, where at most 262,144 bytes stand before it. These are read at most three times for each
-/// token. The one error is that memory ran out.
+/// Whether a token stands after more bytes than are read again and again.
+fn is_late(token: Token) -> bool
+    ensures { result ≡ is_late token }
+{
+    token.start > MOST_BYTES
+}
+
+/// What is said of the tokens that may stand where this one does, and nothing where it is late.
+fn told_unless_late(
+    alloc: Global,
+    text: &[u8],
+    place: Place,
+    token: Token,
+) -> Result<Bytes, NoMemory>
+    requires { length text.now < 2 ^ 31 }
+    ensures { IfOk result (IsToldUnless (is_late token) text.now place token) }
+{
+    if is_late(token) {
+        Ok(Bytes::new(alloc))
+    } else {
+        let before = front(text, token.start as usize);
+        told(alloc, before, place, spelled(text, token))
+    }
+}
+
+/// The same where a token stands at the place.
+fn told_of(
+    alloc: Global,
+    text: &[u8],
+    place: Place,
+    found: Option<Token>,
+) -> Result<Bytes, NoMemory>
+    requires { length text.now < 2 ^ 31 }
+    ensures { IfOk result (IsToldOf text.now place found) }
+{
+    match found {
+        Some(token) => told_unless_late(alloc, text, place, token),
+        None => Ok(Bytes::new(alloc)),
+    }
+}
+
+/// Of a text that is refused for its grammar at a place: which tokens may stand there, and which
+/// one may be missing, where at most 262,144 bytes stand before it. These are read at most three
+/// times for each token. The one error is that memory ran out.
 pub fn explain_expected(alloc: Global, text: &[u8], place: Place) -> Result<Bytes, NoMemory>
     requires { length text.now < 2 ^ 31 }
     ensures { IfOk result (IsTold text.now place) }
@@ -88,11 +129,6 @@ pub fn explain_expected(alloc: Global, text: &[u8], place: Place) -> Result<Byte
         Err(Stop::Refused(_)) => return Ok(Bytes::new(alloc)),
         Err(Stop::NoMemory) => return Err(NoMemory),
     };
-    match first_of(from_place(list.as_slice(), place)) {
-        Some(token) if token.start <= MOST_BYTES => {
-            let before = front(text, token.start as usize);
-            told(alloc, before, place, spelled(text, token))
-        }
-        _ => Ok(Bytes::new(alloc)),
-    }
+    let found = first_of(from_place(list.as_slice(), place));
+    told_of(alloc, text, place, found)
 }

@@ -2,7 +2,8 @@
 //!
 //! The program calls [`explain_expected`], which tries a token of each kind there. `specs/Trial`
 //! says what it is that a token may stand, by the drawings of the texts with it, `specs/Expected`
-//! which are listed, `specs/Missing` which one may be missing, and `specs/Told` what is said of them.
+//! which are listed, `specs/Missing` which one may be missing, and `specs/Told` what is said of
+//! them.
 #![tactic(auto)]
 
 mod expected;

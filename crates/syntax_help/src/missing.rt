@@ -27,8 +27,8 @@ const ASKED: [Sample; 10] = [
     Sample::Comma,
 ];
 
-/// Whether this token is one that may stand after the front of a text, which ends at a place, and the one
-/// that may not stand there may stand after it.
+/// Whether this token is one that may stand after the front of a text, which ends at a place, and
+/// the one that may not stand there may stand after it.
 fn mends(
     alloc: Global,
     front: &[u8],
@@ -73,9 +73,9 @@ fn first_among(
     Ok(None)
 }
 
-/// The first token that may be missing before one that may not stand after the front of a text, which
-/// ends at this place. It reads the front twice for each that it tries. The one error is that memory
-/// ran out.
+/// The first token that may be missing before one that may not stand after the front of a text,
+/// which ends at this place. It reads the front twice for each that it tries. The one error is that
+/// memory ran out.
 pub fn missing(
     alloc: Global,
     front: &[u8],

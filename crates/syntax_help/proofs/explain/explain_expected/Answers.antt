@@ -1,25 +1,23 @@
-use Rattle.std.proofs.Common.{◌≡◌, ℕ, List, ◌∙◌, take, ap, subst, sym}
-use Rattle.std.specs.Prelude.{Some}
+use Rattle.std.proofs.Common.{◌≡◌, ℕ, List, ◌∙◌, ap, subst, sym}
+use Rattle.std.specs.Prelude.{Option}
 use Rattle.std.proofs.lemmas.Result.{IfOk-weaker}
+use Rattle.scald_lex.specs.declared.token.Token.{Token}
 use Rattle.help_text.specs.Statement.{first_of, from_place}
-use Rattle.syntax_help.specs.Told.{IsTold, IsToldAfter, told}
-use Rattle.syntax_help.proofs.Telling.{nothing_told}
+use Rattle.syntax_help.specs.Told.{IsTold, IsToldOf, read, refused}
 use Rattle.syntax_help.proofs.explain.explain_expected.Goals as goal
 
 pub returns-in-Err-Refused : goal.returns-in-Err-Refused
-returns-in-Err-Refused c = nothing_told c.args.text.now c.args.place c.new.result c.new.ensures
-
-pub returns-in-Some : goal.returns-in-Some
-returns-in-Some c =
-    let text = c.args.text.now in let place = c.args.place in
-    let here : from_place place c.as_slice.result.now ≡ from_place place c.in-Ok.list = ap (from_place place) c.as_slice.ensures in
-    let first : first_of (from_place place c.in-Ok.list) ≡ Some c.in-Some.token =
-    ap first_of (sym here) ∙ ap first_of (sym c.from_place.ensures) ∙ sym c.first_of.ensures ∙ c.in-Some.is in
-    IfOk-weaker c.told.result (IsToldAfter c.front-before.result.now place c.spelled.result.now) (IsTold text place)
-    (λ bytes said. told c.in-Ok.list c.in-Some.token bytes c.in-Ok.ensures.found first
-    (subst (λ (token : List ℕ). IsToldAfter (take c.in-Some.token.start text) place token bytes) c.spelled.ensures
-    (subst (λ (front : List ℕ). IsToldAfter front place c.spelled.result.now bytes) c.front-before.ensures said)))
-    c.told.ensures
+returns-in-Err-Refused c =
+    subst (IsTold c.args.text.now c.args.place) (sym c.new.ensures)
+    (refused c.in-Err-Refused.field-0-0 (rw c.in-Err-Refused.field-0-is at c.in-Err-Refused.ensures.refused))
 
 pub returns : goal.returns
-returns c = nothing_told c.args.text.now c.args.place c.new-in_default.result c.new-in_default.ensures
+returns c =
+    let text = c.args.text.now in let place = c.args.place in
+    let tokens = c.in-Ok.list in
+    let here : c.first_of-found.result ≡ first_of (from_place place tokens) =
+    c.first_of-found.ensures ∙ ap first_of (c.from_place.ensures ∙ ap (from_place place) c.as_slice.ensures) in
+    IfOk-weaker c.told_of.result (IsToldOf text place c.first_of-found.result) (IsTold text place)
+    (λ bytes said. read tokens bytes c.in-Ok.ensures.found
+    (subst (λ (found : Option Token). IsToldOf text place found bytes) here said))
+    c.told_of.ensures
