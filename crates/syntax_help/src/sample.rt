@@ -155,7 +155,7 @@ impl Sample {
         }
     }
 
-    /// What it is called.
+    /// What it is called: as it is written, but for what stands for many tokens, and the end.
     pub fn called(self) -> &'static [u8]
         ensures { result.now ≡ called self }
     {
@@ -163,45 +163,8 @@ impl Sample {
             Sample::Word => b"word",
             Sample::Number => b"number",
             Sample::Name => b"\"name\"",
-            Sample::Scald => b"SCALD",
-            Sample::Clock => b"CLOCK",
-            Sample::Wire => b"WIRE",
-            Sample::Pskew => b"PSKEW",
-            Sample::Cskew => b"CSKEW",
-            Sample::Macro => b"MACRO",
-            Sample::Drawing => b"DRAWING",
-            Sample::Case => b"CASE",
-            Sample::If => b"IF",
-            Sample::Then => b"THEN",
-            Sample::Else => b"ELSE",
-            Sample::End => b"END",
-            Sample::Zero => b"ZERO",
-            Sample::One => b"ONE",
-            Sample::Const => b"CONST",
-            Sample::To => b"TO",
-            Sample::Do => b"DO",
-            Sample::Ticks => b"x",
-            Sample::Hazard => b"H",
-            Sample::Arrow => b"->",
-            Sample::Semicolon => b";",
-            Sample::Colon => b":",
-            Sample::Comma => b",",
-            Sample::OpenParenthesis => b"(",
-            Sample::CloseParenthesis => b")",
-            Sample::Less => b"<",
-            Sample::Greater => b">",
-            Sample::OpenBracket => b"[",
-            Sample::CloseBracket => b"]",
-            Sample::OpenBrace => b"{",
-            Sample::CloseBrace => b"}",
-            Sample::Equals => b"=",
-            Sample::Plus => b"+",
-            Sample::Minus => b"-",
-            Sample::Star => b"*",
-            Sample::Slash => b"/",
-            Sample::Ampersand => b"&",
-            Sample::Exclamation => b"!",
             Sample::Finish => b"(end of text)",
+            _ => self.spelling(),
         }
     }
 
