@@ -1,0 +1,148 @@
+-- What is found of a refusal where a drawing is expanded: what is told of the first statement at
+-- its place, in the order of expansion, that is refused so.
+use Rattle.std.specs.Prelude.{◌≡◌, ℕ, zero, suc, ◌-◌, ◌&&◌, ◌==◌, Bool, List, [], ◌∷◌, if◌then◌else◌, Option, Some, None, Ok, Err, ℤ}
+use Rattle.scald_base.specs.declared.refusal.Place.{Place}
+use Rattle.scald_base.specs.declared.refusal.Refusal.{Refusal}
+use Rattle.scald_expr.specs.declared.environment.Binding.{Binding}
+use Rattle.element_kinds.specs.declared.kind.Kind.{Kind}
+use Rattle.element_kinds.specs.Kinds.{kind_of}
+use Rattle.drawing_tree.specs.Tree.{Statement, Use, Wire, If, For, Statements, nil, cons, Otherwise, no_else, else_, UseStatement, WireStatement, Macro, Drawing}
+use Rattle.drawing_grammar.specs.CanonicalDraws.{TextDraws}
+use Rattle.drawing_grammar.specs.Refused.{IsRefusal}
+use Rattle.macro_expander.specs.declared.formal.Inside.{Inside}
+use Rattle.macro_expander.specs.Outcome.{Outcome, Gives, Fails, Judged, judging}
+use Rattle.macro_expander.specs.Terms.{valued}
+use Rattle.macro_expander.specs.Macros.{given_to, inside_of, macro_of}
+use Rattle.macro_expander.specs.Loops.{binding, loop_ends, values_between}
+use Rattle.macro_expander.specs.Setting.{Setting}
+use Rattle.macro_expander.specs.Flat.{const_values, deepest, is_zero, most_statements, nothing_yet, setting_of}
+use Rattle.value_help.specs.Lines.{Said}
+use Rattle.value_help.specs.Told.{use_told, wire_told}
+
+-- ---- one step after another
+
+-- The search ends, and these lines are said; or it goes on, and may reach so many statements more.
+pub data Search : Type 0 where
+  ends : List ℕ → Search
+  goes_on : ℕ → Search
+
+abbrev pub after : Search → (ℕ → Search) → Search
+after (ends said) next = ends said
+after (goes_on left) next = next left
+
+-- it ends at a statement that is refused
+abbrev pub unless_said : Said → ℕ → Search
+unless_said (Some said) left = ends said
+unless_said None left = goes_on left
+
+-- an expansion reaches no more than so many statements
+abbrev pub counted : (ℕ → Search) → ℕ → Search
+counted next left = if left == 0 then ends [] else next (left - 1)
+
+-- where names have these values
+abbrev pub Searching : Type 0
+Searching = List Binding → ℕ → Search
+
+-- ---- one statement
+
+abbrev pub is_at : Place → Place → Bool
+is_at place other = other.line == place.line && other.col == place.col
+
+abbrev pub at_use : Refusal → Setting → UseStatement → List Binding → Said
+at_use r setting u env = if is_at r.place u.place then use_told r.kind setting env u else None
+
+abbrev pub at_wire : Refusal → WireStatement → List Binding → Said
+at_wire r w env = if is_at r.place w.place then wire_told r.kind env w else None
+
+-- ---- bodies
+
+abbrev pub in_body : Option (Macro → Searching) → Macro → Judged Inside → ℕ → Search
+in_body None m inside left = goes_on left
+in_body (Some body) m (Ok inside) left = body m inside.env left
+in_body (Some body) m (Err kind) left = goes_on left
+
+abbrev pub inside_at : List Binding → Macro → List Binding → UseStatement → Judged Inside
+inside_at consts m env u = judging (given_to m env u) (inside_of consts m)
+
+abbrev pub in_macro : Setting → Option (Macro → Searching) → Option Macro → UseStatement → Searching
+in_macro setting body None u env left = goes_on left
+in_macro setting body (Some m) u env left = in_body body m (inside_at setting.consts m env u) left
+
+-- a primitive has no body
+abbrev pub in_use_of : Option Kind → Setting → Option (Macro → Searching) → UseStatement → Searching
+in_use_of (Some kind) setting body u env left = goes_on left
+in_use_of None setting body u env left =
+    in_macro setting body (macro_of u.kind setting.macros) u env left
+
+abbrev pub in_use : Setting → Option (Macro → Searching) → UseStatement → Searching
+in_use setting body u env left = in_use_of (kind_of u.kind) setting body u env left
+
+-- ---- statements
+
+-- each turn of a FOR counts by itself
+abbrev pub through : (ℤ → ℕ → Search) → List ℤ → ℕ → Search
+through turn [] = goes_on
+through turn (v ∷ vs) = λ left. after (counted (turn v) left) (through turn vs)
+
+abbrev pub in_turns : List ℕ → Searching → Judged (ℤ × ℤ) → Searching
+in_turns var body (Ok both) env left =
+    through (λ (v : ℤ). body (binding var v ∷ env)) (values_between both.0 both.1) left
+in_turns var body (Err kind) env left = goes_on left
+
+abbrev pub if_chosen : Judged ℤ → (ℕ → Search) → (ℕ → Search) → ℕ → Search
+if_chosen (Ok v) taken other left = if is_zero v then other left else taken left
+if_chosen (Err kind) taken other left = goes_on left
+
+abbrev mutual
+  -- what is told of it, and else what is found in it
+  pub in_statement : Refusal → Setting → Option (Macro → Searching) → Statement → Searching
+  in_statement r setting body (Use u) env =
+      counted (λ left. after (unless_said (at_use r setting u env) left) (in_use setting body u env))
+  in_statement r setting body (Wire w) env = counted (unless_said (at_wire r w env))
+  in_statement r setting body (If test taken other place) env =
+      counted (if_chosen (valued env test)
+      (in_statements r setting body taken env) (in_otherwise r setting body other env))
+  in_statement r setting body (For var first last ss place) env =
+      counted (in_turns var (in_statements r setting body ss) (loop_ends env first last) env)
+
+  pub in_statements : Refusal → Setting → Option (Macro → Searching) → Statements → Searching
+  in_statements r setting body nil env left = goes_on left
+  in_statements r setting body (cons first others) env left =
+      after (in_statement r setting body first env left) (in_statements r setting body others env)
+
+  pub in_otherwise : Refusal → Setting → Option (Macro → Searching) → Otherwise → Searching
+  in_otherwise r setting body no_else env left = goes_on left
+  in_otherwise r setting body (else_ ss) env left = in_statements r setting body ss env left
+
+-- in a macro's body, where uses may go so many levels deeper: where none, there is no body
+unfoldable pub searching_at : Refusal → Setting → ℕ → Option (Macro → Searching)
+searching_at r setting zero = None
+searching_at r setting (suc n) = Some (λ m. in_statements r setting (searching_at r setting n) m.body)
+
+-- ---- the whole
+
+abbrev pub lines_of : Search → List ℕ
+lines_of (ends said) = said
+lines_of (goes_on left) = []
+
+abbrev pub lines_in : Said → List ℕ
+lines_in (Some said) = said
+lines_in None = []
+
+-- where its constants have these values
+unfoldable pub found_with : Refusal → Drawing → List Binding → List ℕ
+found_with r d consts =
+    let setting = setting_of d consts in
+    lines_of (in_statements r setting (searching_at r setting deepest) d.body consts most_statements)
+
+abbrev pub found_by : Refusal → Drawing → Outcome (List Binding) → List ℕ
+found_by r d (Gives consts s) = found_with r d consts
+found_by r d (Fails kind place) = []
+
+unfoldable pub found : Refusal → Drawing → List ℕ
+found r d = found_by r d (const_values [] d.consts d.const_places (nothing_yet d.header))
+
+-- what is said of the refusal of a text: nothing where it draws no drawing
+pub data IsSaid (text : List ℕ) (r : Refusal) (said : List ℕ) : Type 0 where
+  undrawn : (other : Refusal) → IsRefusal text other → said ≡ [] → IsSaid text r said
+  drawn : (d : Drawing) → TextDraws text d → said ≡ found r d → IsSaid text r said

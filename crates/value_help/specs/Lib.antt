@@ -1,0 +1,5 @@
+pub mod Lines
+pub mod Named
+pub mod Told
+pub mod Found
+pub mod Walk

@@ -1,0 +1,127 @@
+//! Lines that tell values.
+
+ghost use Rattle.std.specs.Prelude.{◌≡◌, ◌++◌, IfOk, OnOk};
+ghost use Rattle.value_help.specs.Lines.{bit_of, bit_text, goes_text, line as spec_line, pair_text, quoted, range_of, range_text as spec_range_text, value_text, values_text as spec_values_text, way_text};
+
+use itoa::Buffer;
+use scald_base::{Bytes, NoMemory};
+use scald_expr::Binding;
+use std::alloc::Global;
+
+/// What is said of something that is refused, and `None` of what is not.
+pub type Said = Option<Bytes>;
+
+fn add_value(out: &mut Bytes, binding: &Binding) -> Result<(), NoMemory>
+    ensures { OnOk result (out.new ≡ out.old ++ value_text binding.now) }
+{
+    out.extend(binding.name.as_slice())?;
+    out.extend(b" is ")?;
+    out.extend(Buffer::new().format(binding.value).as_bytes())
+}
+
+/// Puts names with their values at the end.
+pub fn add_values(out: &mut Bytes, named: &[Binding]) -> Result<(), NoMemory>
+    ensures { OnOk result (out.new ≡ out.old ++ spec_values_text named.now) }
+{
+    let [first, more @ ..] = named else {
+        return Ok(());
+    };
+    add_value(out, first)?;
+    'more: for binding in more {
+        out.extend(b", ")?;
+        add_value(out, binding)?;
+    }
+    Ok(())
+}
+
+/// Puts two numbers with a colon between them at the end.
+pub fn add_pair(out: &mut Bytes, pair: (i64, i64)) -> Result<(), NoMemory>
+    ensures { OnOk result (out.new ≡ out.old ++ pair_text pair) }
+{
+    out.extend(Buffer::new().format(pair.0).as_bytes())?;
+    out.push(b':')?;
+    out.extend(Buffer::new().format(pair.1).as_bytes())
+}
+
+fn add_way(out: &mut Bytes, ends: (i64, i64)) -> Result<(), NoMemory>
+    ensures { OnOk result (out.new ≡ out.old ++ way_text ends) }
+{
+    out.extend(Buffer::new().format(ends.0).as_bytes())?;
+    out.extend(b" to ")?;
+    out.extend(Buffer::new().format(ends.1).as_bytes())
+}
+
+#[tactic(auto, unfolding(crate::specs::Lines::quoted))]
+fn add_quoted(out: &mut Bytes, base: &[u8]) -> Result<(), NoMemory>
+    ensures { OnOk result (out.new ≡ out.old ++ quoted base.now) }
+{
+    out.push(b'"')?;
+    out.extend(base)?;
+    out.push(b'"')
+}
+
+#[tactic(auto, unfolding(crate::specs::Lines::range_of))]
+fn add_range_of(out: &mut Bytes, base: &[u8]) -> Result<(), NoMemory>
+    ensures { OnOk result (out.new ≡ out.old ++ range_of base.now) }
+{
+    out.extend(b"the range of ")?;
+    add_quoted(out, base)
+}
+
+#[tactic(auto, unfolding(crate::specs::Lines::bit_of))]
+fn add_bit_of(out: &mut Bytes, base: &[u8]) -> Result<(), NoMemory>
+    ensures { OnOk result (out.new ≡ out.old ++ bit_of base.now) }
+{
+    out.extend(b"the bit of ")?;
+    add_quoted(out, base)
+}
+
+fn add_goes(out: &mut Bytes, base: &[u8], ends: (i64, i64)) -> Result<(), NoMemory>
+    ensures { OnOk result (out.new ≡ out.old ++ goes_text base.now ends) }
+{
+    add_range_of(out, base)?;
+    out.extend(b" goes from ")?;
+    add_way(out, ends)
+}
+
+fn add_bit(out: &mut Bytes, base: &[u8], number: i64) -> Result<(), NoMemory>
+    ensures { OnOk result (out.new ≡ out.old ++ bit_text base.now number) }
+{
+    add_bit_of(out, base)?;
+    out.extend(b" is ")?;
+    out.extend(Buffer::new().format(number).as_bytes())
+}
+
+/// Where a range goes, or at which bit it is.
+pub fn range_text(
+    alloc: Global,
+    base: &[u8],
+    goes: bool,
+    ends: (i64, i64),
+) -> Result<Bytes, NoMemory>
+    ensures { IfOk result (λ text. text ≡ spec_range_text base.now goes ends) }
+{
+    let mut text = Bytes::new(alloc);
+    if goes {
+        add_goes(&mut text, base, ends)?;
+    } else {
+        add_bit(&mut text, base, ends.0)?;
+    }
+    Ok(text)
+}
+
+/// The line that says this, and the values of the names in it; nothing where no name is in it.
+pub fn line(alloc: Global, said: &[u8], named: &[Binding]) -> Result<Bytes, NoMemory>
+    ensures { IfOk result (λ text. text ≡ spec_line said.now named.now) }
+{
+    let mut text = Bytes::new(alloc);
+    let [_, ..] = named else {
+        return Ok(text);
+    };
+    text.extend(b"    ")?;
+    text.extend(said)?;
+    text.extend(b", where ")?;
+    add_values(&mut text, named)?;
+    text.push(b'\n')?;
+    Ok(text)
+}
