@@ -113,6 +113,7 @@ fn only_case(
     limit: u32,
     rested: Rested<RunWave<Value>>,
 ) -> Result<SoFar, NoMemory>
+    requires is { IsSubject subject.now }
     requires few { limit ≤ 10000000 }
     requires rest { IsBaseIn subject.now.circuit limit
         rested.base.rounds rested.store rested.base.numbers rested.known }
@@ -121,7 +122,7 @@ fn only_case(
 {
     let circuit = &subject.circuit;
     let mut so_far = SoFar::begin(alloc, circuit)?;
-    let (store, case) = rested.only_case(alloc, circuit, limit)?;
+    let (store, case) = rested.only_case(alloc, subject, limit)?;
     let waves = Waves::new(store.waves(), case.settled.numbers.as_slice());
     so_far.add_case(alloc, circuit, case.number, &waves)?;
     Ok(so_far)

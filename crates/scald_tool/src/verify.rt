@@ -118,6 +118,7 @@ fn only_case<W: CyclicWave<Item = Value>>(
     limit: u32,
     rested: Rested<W>,
 ) -> Result<Reply<Outcome>, NoMemory>
+    requires is { IsSubject subject.now }
     requires few { limit ≤ 10000000 }
     requires rest { IsBaseIn subject.now.circuit limit
         rested.base.rounds rested.store rested.base.numbers rested.known }
@@ -128,7 +129,7 @@ fn only_case<W: CyclicWave<Item = Value>>(
     let circuit = &subject.circuit;
     let mut report = Report::begin(alloc, subject.version, circuit)?;
     let base = rested.base.rounds;
-    let (store, case) = rested.only_case(alloc, circuit, limit)?;
+    let (store, case) = rested.only_case(alloc, subject, limit)?;
     let waves = Waves::new(store.waves(), case.settled.numbers.as_slice());
     report.add_case(circuit, mode, base, &case, &waves)?;
     report.end()

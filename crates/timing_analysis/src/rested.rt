@@ -21,7 +21,7 @@ ghost use Rattle.timing_analysis.specs.Subject.{IsSubject};
 
 use crate::case_faults::{KnownFaults, faults, faults_again, known_faults};
 use crate::subject::Subject;
-use case_analysis::{reach, tick};
+use case_analysis::tick;
 use fixpoint_engine::{EngineEnd, Settled, Store};
 use flat_circuit::{Circuit, Faults};
 use net_waves::Waves;
@@ -124,17 +124,18 @@ impl Subject {
 }
 
 impl<W: CyclicWave<Item = Value>> Rested<W> {
-    /// The one case of a circuit for which none is listed: the base, from which it takes no more rounds.
+    /// The one case of what lists none: the base, from which it takes no more rounds.
     /// `NoMemory` comes where memory runs out. The limit is that of the base's rounds.
     pub fn only_case(
         self,
         alloc: Global,
-        circuit: &Circuit,
+        subject: &Subject,
         limit: u32,
     ) -> Result<(Store<W>, CaseAtRest), NoMemory>
+        requires is { IsSubject subject.now }
         requires few { limit ≤ 10000000 }
-        requires rest { IsBaseIn circuit.now limit self.base.rounds self.store self.base.numbers self.known }
-        ensures { IfOk result (λ k. IsCaseIn circuit.now limit self.base.rounds
+        requires rest { IsBaseIn subject.now.circuit limit self.base.rounds self.store self.base.numbers self.known }
+        ensures { IfOk result (λ k. IsCaseIn subject.now.circuit limit self.base.rounds
             (record { number = 0; values = [] })
             k.1.number k.1.settled.rounds k.1.tick k.0 k.1.settled.numbers k.1.faults) }
     {
@@ -149,8 +150,8 @@ impl<W: CyclicWave<Item = Value>> Rested<W> {
             evals: _,
         } = base;
         let waves = Waves::new(store.waves(), numbers.as_slice());
-        let found = faults(alloc, circuit, &waves)?;
-        let tick = tick(reach(circuit), rounds, 0);
+        let found = faults(alloc, &subject.circuit, &waves)?;
+        let tick = tick(subject.reach, rounds, 0);
         let case = CaseAtRest {
             number: 0,
             settled: Settled {

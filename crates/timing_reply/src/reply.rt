@@ -82,6 +82,7 @@ fn only_case<T: Teller>(
     limit: u32,
     rested: Rested<RunWave<Value>>,
 ) -> Result<Reply<Outcome>, NoMemory>
+    requires is { IsSubject subject.now }
     requires few { limit ≤ 10000000 }
     requires rest { IsBaseIn subject.now.circuit limit
         rested.base.rounds rested.store rested.base.numbers rested.known }
@@ -90,7 +91,7 @@ fn only_case<T: Teller>(
 {
     let circuit = &subject.circuit;
     let mut teller = T::begin(alloc, subject.version, circuit)?;
-    let (store, case) = rested.only_case(alloc, circuit, limit)?;
+    let (store, case) = rested.only_case(alloc, subject, limit)?;
     let waves = Waves::new(store.waves(), case.settled.numbers.as_slice());
     teller.add_case(alloc, circuit, 0, &case, &waves)?;
     teller.end(alloc, circuit)

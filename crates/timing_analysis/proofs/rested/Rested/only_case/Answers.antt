@@ -11,14 +11,14 @@ returns g c =
     let same : c.new-waves.result ≡ waves_at c.args.self.store c.args.self.base.numbers =
     c.new-waves.ensures ∙ ap (λ t. waves_at t c.as_slice.result.now) c.waves.ensures ∙ ap (waves_at c.args.self.store) c.as_slice.ensures in
     let base = c.requires.rest.rest in
-    let permits = base_permits c.args.circuit.now c.args.self.base.rounds _ base.permits in
+    let permits = base_permits c.args.subject.now.circuit c.args.self.base.rounds _ base.permits in
     record {
       are = c.requires.rest.are;
-      rest = case_at_rest c.args.circuit.now c.args.limit c.args.self.base.rounds (record { number = 0; values = [] }) 0
-          (waves_at c.args.self.store c.args.self.base.numbers) c.in_ok-found.found 0 c.tick-tick.result c.reach.result refl (omega arith) base.fit
-          (base_rests c.args.circuit.now c.args.limit c.args.self.base.rounds _ base.rest)
-          c.tick-tick.ensures c.reach.ensures.is
-          (c.in_ok-found.ensures.are ∙ ap (λ ws. faults_of c.args.circuit.now (waves_of ws)) same) c.in_ok-found.ensures.few
+      rest = case_at_rest c.args.subject.now.circuit c.args.limit c.args.self.base.rounds (record { number = 0; values = [] }) 0
+          (waves_at c.args.self.store c.args.self.base.numbers) c.in_ok-found.found 0 c.tick-tick.result c.args.subject.now.reach refl (omega arith) base.fit
+          (base_rests c.args.subject.now.circuit c.args.limit c.args.self.base.rounds _ base.rest)
+          c.tick-tick.ensures c.requires.is.reach_is
+          (c.in_ok-found.ensures.are ∙ ap (λ ws. faults_of c.args.subject.now.circuit (waves_of ws)) same) c.in_ok-found.ensures.few
           (c.in_ok-found.ensures.keep [] c.args.self.base.rounds 0
-          (subst (λ ws. PermitCase c.args.circuit.now [] (c.args.self.base.rounds + 0) (waves_of ws)) (sym same) permits));
+          (subst (λ ws. PermitCase c.args.subject.now.circuit [] (c.args.self.base.rounds + 0) (waves_of ws)) (sym same) permits));
     }
