@@ -1,0 +1,7 @@
+pub mod Part
+pub mod Found
+pub mod Beside
+pub mod Words
+pub mod Broken
+pub mod Section
+pub mod Separator
