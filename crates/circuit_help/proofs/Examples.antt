@@ -1,13 +1,17 @@
 -- Texts that are made, entries and ways, worked out on paper.
-use Rattle.std.proofs.Common.{◌≡◌, ℕ, ◌+◌, true, false, List, [], ◌∷◌, refl, pos}
+use Rattle.std.proofs.Common.{◌≡◌, ℕ, ◌+◌, true, false, List, [], ◌∷◌, ◌++◌, refl, pos}
 use Rattle.std.specs.Prelude.{codes, Some, None}
 use Rattle.scald_lex.specs.declared.token.Token.{Token}
 use Rattle.scald_lex.specs.declared.token.TokenKind.{TokenKind}
 use Rattle.scald_lex.specs.declared.token.TokenKind.TheVariants.{Word, Number, Name, Arrow, Symbol}
+use Rattle.scald_base.specs.declared.refusal.RefusalKind.TheVariants.{TwoDrivers, ZeroLoop}
+use Rattle.circuit_help.specs.CutSet.{is_zero_loop}
+use Rattle.circuit_help.specs.Slowed.{delays, slowed_text}
+use Rattle.circuit_help.specs.Statements.{depth_after, ends_body, ends_statement, statements_of}
 use Rattle.circuit_help.specs.Cases.{case_cut, entry_bit, entry_value, has_point}
 use Rattle.circuit_help.specs.Drivers.{as_checker, cuts}
 use Rattle.circuit_help.specs.Loops.{begins, from_net, last_net}
-use Rattle.circuit_help.specs.Reached.{begins_statement, cut_text}
+use Rattle.circuit_help.specs.Reached.{cut_text}
 use Rattle.circuit_help.specs.ZeroLoop.{cuts as delay_cuts, slowed}
 
 abbrev at : TokenKind → ℕ → ℕ → Token
@@ -26,20 +30,6 @@ with_delay = refl
 
 before_use : cut_text (codes "DRAWING D; u : M (); END;") 10 ≡ codes "DRAWING D;END;"
 before_use = refl
-
--- ---- a statement begins after a `;`
-
-abbrev on_column : TokenKind → ℕ → Token
-on_column kind col = record { kind = kind; place = record { line = 1; col = col }; start = 0; end = 1 }
-
-after_it : begins_statement (record { line = 1; col = 3 }) (on_column (Symbol 59) 1 ∷ on_column Word 3 ∷ []) ≡ true
-after_it = refl
-
-not_at_it : begins_statement (record { line = 1; col = 1 }) (on_column (Symbol 59) 1 ∷ on_column Word 3 ∷ []) ≡ false
-not_at_it = refl
-
-not_after_a_word : begins_statement (record { line = 1; col = 3 }) (on_column Word 1 ∷ on_column Word 3 ∷ []) ≡ false
-not_after_a_word = refl
 
 -- ---- where they are made: b : BUF [0:0] ("A") -> ("X");
 
@@ -92,3 +82,45 @@ end = refl
 
 no_round : begins 5 (from_net 5 (3 ∷ 7 ∷ 5 ∷ [])) ≡ false
 no_round = refl
+
+-- ---- statements of the drawing: a:M(); and an IF with one in it
+
+abbrev head : List Token
+head = at Word 0 7 ∷ at Word 8 9 ∷ symbol 59 9 ∷ []
+
+one_statement : statements_of (codes "DRAWING D;a:M();END;")
+    (head ++ (at Word 10 11 ∷ symbol 58 11 ∷ at Word 12 13 ∷ symbol 40 13 ∷ symbol 41 14 ∷ symbol 59 15
+    ∷ at Word 16 19 ∷ symbol 59 19 ∷ []))
+    ≡ record { first = at Word 10 11; end = 16 } ∷ []
+unfolding depth_after ends_body ends_statement
+one_statement = refl
+
+with_an_if : statements_of (codes "DRAWING D;IF N THEN a:M();END;END;")
+    (head ++ (at Word 10 12 ∷ at Word 13 14 ∷ at Word 15 19 ∷ at Word 20 21 ∷ symbol 58 21 ∷ at Word 22 23 ∷ symbol 40 23
+    ∷ symbol 41 24 ∷ symbol 59 25 ∷ at Word 26 29 ∷ symbol 59 29 ∷ at Word 30 33 ∷ symbol 59 33 ∷ []))
+    ≡ record { first = at Word 10 12; end = 30 } ∷ []
+unfolding depth_after ends_body ends_statement
+with_an_if = refl
+
+-- ---- delays
+
+its_delay : delays use_tokens ≡ record { at = record { line = 1; col = 1 }; from = 8; to = 13 } ∷ []
+its_delay = refl
+
+no_delay : delays (at Word 0 1 ∷ symbol 58 2 ∷ at Word 4 17 ∷ symbol 40 18 ∷ symbol 59 24 ∷ []) ≡ []
+no_delay = refl
+
+first_slowed : slowed_text (codes "b : BUF [0 : 0] (\"A\")")
+    (record { at = record { line = 1; col = 1 }; from = 8; to = 15 } ∷ []) ≡ codes "b : BUF [1:1]   (\"A\")"
+first_slowed = refl
+
+none_slowed : slowed_text (codes "b : BUF [0:0]") [] ≡ codes "b : BUF [0:0]"
+none_slowed = refl
+
+-- ---- refusals for a loop
+
+for_a_loop : is_zero_loop ZeroLoop ≡ true
+for_a_loop = refl
+
+for_something_else : is_zero_loop TwoDrivers ≡ false
+for_something_else = refl

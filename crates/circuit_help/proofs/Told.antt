@@ -1,20 +1,31 @@
 -- What is told once it is known to be so.
-use Rattle.std.proofs.Common.{◌≡◌, ℕ, Bool, true, false, List, [], ◌++◌, take, ap, sym, subst, ◌∙◌}
-use Rattle.std.specs.Prelude.{Option, Some}
+use Rattle.std.proofs.Common.{◌≡◌, ℕ, ◌+◌, Bool, true, false, List, [], ◌++◌, take, ap, sym, subst, ◌∙◌}
+use Rattle.std.specs.Prelude.{Option, Some, None, IfSome, slice_get}
 use Rattle.scald_base.specs.declared.refusal.Place.{Place}
+use Rattle.scald_base.specs.declared.refusal.Refusal.{Refusal}
+use Rattle.scald_base.specs.declared.refusal.Stop.{Stop}
+use Rattle.scald_base.specs.declared.refusal.Stop.TheVariants.{Refused, NoMemory}
 use Rattle.scald_lex.specs.declared.token.Token.{Token}
 use Rattle.scald_lex.specs.Tokens.{AreTokens}
 use Rattle.vector_names.specs.declared.bits.Target.{Target}
 use Rattle.flat_circuit.specs.declared.case.CaseValue.{CaseValue}
 use Rattle.flat_circuit.specs.Circuit.{Circuit}
 use Rattle.flat_circuit.specs.Name.{net_at}
-use Rattle.drawn_circuit.specs.Drawn.{DrawsCircuit}
+use Rattle.drawn_circuit.specs.Drawn.{DrawsCircuit, IsTextRefused}
 use Rattle.help_text.specs.Statement.{from_place}
 use Rattle.circuit_help.specs.declared.rule.Rule.TheVariants.{Listening, WithoutDelay}
+use Rattle.circuit_help.specs.declared.slowed.Delayed.{Delayed}
 use Rattle.circuit_help.specs.Cases as case
+use Rattle.circuit_help.specs.CutSet as cut
 use Rattle.circuit_help.specs.Drivers as driver
 use Rattle.circuit_help.specs.Loops as loop
+use Rattle.circuit_help.specs.Slowed.{delays, slowed_text}
+use Rattle.circuit_help.specs.Twins.{Tells}
 use Rattle.circuit_help.specs.ZeroLoop as zero
+
+-- what holds of what is found
+pub found_holds : (A : Type 0) (P : A → Type 0) (o : Option A) (x : A) → IfSome o P → o ≡ Some x → P x
+found_holds A P o x holds is = subst (λ (p : Option A). IfSome p P) is holds
 
 -- bytes that were put after none
 put : (old new text : List ℕ) → old ≡ [] → new ≡ old ++ text → new ≡ text
@@ -45,16 +56,23 @@ no_zero_told text place bytes none = subst (zero.IsToldBy text place) (sym none)
 pub zero_untold : (text : List ℕ) (place : Place) (bytes : List ℕ) → bytes ≡ [] → zero.IsTold text place bytes
 zero_untold text place bytes none = subst (zero.IsTold text place) (sym none) zero.untold
 
-pub driver_told : (text : List ℕ) (place : Place) (c : Circuit) (cases : List (List CaseValue))
-    (target : Target) (old new : List ℕ) → DrawsCircuit text c cases → driver.IsOutput c place target →
-    old ≡ [] → new ≡ old ++ driver.output_lines c target → driver.IsToldBy text place new
-driver_told text place c cases target old new drawn output none is =
-    subst (driver.IsToldBy text place) (sym (put old new (driver.output_lines c target) none is))
-    (driver.told c cases target drawn output)
+pub output_told : (c : Circuit) (place : Place) (target : Target) (old new : List ℕ) → driver.IsOutput c place target →
+    old ≡ [] → new ≡ old ++ driver.output_lines c target → driver.IsToldOf c place new
+output_told c place target old new output none is =
+    subst (driver.IsToldOf c place) (sym (put old new (driver.output_lines c target) none is))
+    (driver.driven target output)
 
-pub no_driver_told : (text : List ℕ) (place : Place) (bytes : List ℕ) → bytes ≡ [] →
-    driver.IsToldBy text place bytes
-no_driver_told text place bytes none = subst (driver.IsToldBy text place) (sym none) driver.nothing
+pub twins_told : (c : Circuit) (place : Place) (old new : List ℕ) → old ≡ [] → Tells c place old new →
+    driver.IsToldOf c place new
+twins_told c place old new none said = driver.twins new (subst (λ (l : List ℕ). Tells c place l new) none said)
+
+pub with_checker : (text : List ℕ) (tokens rest : List Token) (place : Place) (kind outputs : ℕ)
+    (found : Option (ℕ × ℕ)) (made : List ℕ) → rest ≡ from_place place tokens → found ≡ driver.cuts rest →
+    found ≡ Some (kind, outputs) → made ≡ driver.as_checker text kind outputs →
+    driver.IsWithChecker text tokens place made
+with_checker text tokens rest place kind outputs found made from is some make =
+    subst (driver.IsWithChecker text tokens place) (sym make)
+    (driver.made kind outputs (ap driver.cuts (sym from) ∙ sym is ∙ some))
 
 pub driver_untold : (text : List ℕ) (place : Place) (bytes : List ℕ) → bytes ≡ [] →
     driver.IsTold text place bytes
@@ -68,18 +86,30 @@ case_told text name bit value c cases found old new drawn is_found none is =
     (sym (put old new (case.found_lines c name bit value found) none is))
     (case.told c cases found drawn is_found)
 
-pub no_case_told : (text name : List ℕ) (bit value : ℕ) (bytes : List ℕ) → bytes ≡ [] →
-    case.IsToldBy text name bit value bytes
-no_case_told text name bit value bytes none =
-    subst (case.IsToldBy text name bit value) (sym none) case.nothing
+pub undrawn_told : (text name : List ℕ) (bit value : ℕ) (r : Refusal) (bytes : List ℕ) → IsTextRefused text r →
+    bytes ≡ [] → case.IsToldBy text name bit value bytes
+undrawn_told text name bit value r bytes refused none =
+    subst (case.IsToldBy text name bit value) (sym none) (case.undrawn r refused)
 
-pub case_untold : (text : List ℕ) (place : Place) (bytes : List ℕ) → bytes ≡ [] → case.IsTold text place bytes
-case_untold text place bytes none = subst (case.IsTold text place) (sym none) case.untold
+pub untokened_told : (text : List ℕ) (place : Place) (bytes : List ℕ) → ((tokens : List Token) → ¬ AreTokens text tokens) →
+    bytes ≡ [] → case.IsTold text place bytes
+untokened_told text place bytes never none = subst (case.IsTold text place) (sym none) (case.untokened never)
 
-pub no_entry_told : (text before : List ℕ) (entry : List Token) (bytes : List ℕ) → bytes ≡ [] →
-    case.IsToldOf text before entry bytes
-no_entry_told text before entry bytes none =
-    subst (case.IsToldOf text before entry) (sym none) case.no_entry
+pub no_case_told : (text : List ℕ) (place : Place) (tokens seen : List Token) (found : Option ℕ) (bytes : List ℕ) →
+    AreTokens text tokens → seen ≡ tokens → found ≡ case.case_cut text seen → found ≡ None → bytes ≡ [] →
+    case.IsTold text place bytes
+no_case_told text place tokens seen found bytes are see is missing none =
+    subst (case.IsTold text place) (sym none)
+    (case.no_case tokens are (ap (case.case_cut text) (sym see) ∙ sym is ∙ missing))
+
+pub no_entry_told : (text before : List ℕ) (entry : List Token) (bytes : List ℕ) → case.first_of entry ≡ None →
+    bytes ≡ [] → case.IsToldOf text before entry bytes
+no_entry_told text before entry bytes missing none =
+    subst (case.IsToldOf text before entry) (sym none) (case.no_entry missing)
+
+-- a stop is for a refusal, or for want of memory
+pub not_both : (stop : Stop) (r : Refusal) → stop ≡ Refused r → stop ≡ NoMemory → ⊥
+not_both stop r is other = absurd (let e : Refused r ≡ NoMemory = sym is ∙ other in cc)
 
 pub pointed_told : (text before : List ℕ) (entry : List Token) (t : Token) (name old new : List ℕ) (b : Bool) →
     case.first_of entry ≡ Some t → name ≡ case.name_of text t → b ≡ case.has_point name → b ≡ true → old ≡ [] →
@@ -114,16 +144,14 @@ case_explained text place tokens seen again rest cut found front bytes are see i
     (subst (λ (ts : List Token). case.IsToldOf text (take cut text) ts bytes) (from ∙ ap (from_place place) same)
     by_front)
 
-pub driver_explained : (text : List ℕ) (place : Place) (tokens seen rest : List Token) (kind outputs : ℕ)
-    (found : Option (ℕ × ℕ)) (made seen_made bytes : List ℕ) → AreTokens text tokens → seen ≡ tokens →
-    rest ≡ from_place place seen → found ≡ driver.cuts rest → found ≡ Some (kind, outputs) →
-    made ≡ driver.as_checker text kind outputs → seen_made ≡ made → driver.IsToldBy seen_made place bytes →
-    driver.IsTold text place bytes
-driver_explained text place tokens seen rest kind outputs found made seen_made bytes are see from is some make see_made said =
-    let at : driver.cuts (from_place place tokens) ≡ Some (kind, outputs) =
-    ap driver.cuts (sym (from ∙ ap (from_place place) see)) ∙ sym is ∙ some in
-    driver.by_circuit tokens kind outputs bytes are at
-    (subst (λ (l : List ℕ). driver.IsToldBy l place bytes) (see_made ∙ make) said)
+pub driver_explained : (text : List ℕ) (place : Place) (tokens seen : List Token) (made seen_made : List ℕ)
+    (c : Circuit) (cases : List (List CaseValue)) (bytes : List ℕ) → AreTokens text tokens → seen ≡ tokens →
+    driver.AreChecked text seen place made → seen_made ≡ made → DrawsCircuit seen_made c cases →
+    driver.IsToldOf c place bytes → driver.IsTold text place bytes
+driver_explained text place tokens seen made seen_made c cases bytes are see checked see_made drawn said =
+    driver.by_circuit tokens made c cases bytes are
+    (subst (λ (ts : List Token). driver.AreChecked text ts place made) see checked)
+    (subst (λ (l : List ℕ). DrawsCircuit l c cases) see_made drawn) said
 
 pub zero_explained : (text : List ℕ) (place : Place) (tokens seen rest : List Token) (from to : ℕ)
     (found : Option (ℕ × ℕ)) (made seen_made bytes : List ℕ) → AreTokens text tokens → seen ≡ tokens →
@@ -135,3 +163,29 @@ zero_explained text place tokens seen rest from to found made seen_made bytes ar
     ap zero.cuts (sym (there ∙ ap (from_place place) see)) ∙ sym is ∙ some in
     zero.by_circuit tokens from to bytes are at
     (subst (λ (l : List ℕ). zero.IsToldBy l place bytes) (see_made ∙ make) said)
+
+-- ---- a loop somewhere in a text
+
+pub cut_untold_at : (text : List ℕ) (ds : List Delayed) (n : ℕ) (bytes : List ℕ) → bytes ≡ [] → cut.IsToldAt text ds n bytes
+cut_untold_at text ds n bytes none = subst (cut.IsToldAt text ds n) (sym none) cut.nothing
+
+pub cut_untold : (text bytes : List ℕ) → bytes ≡ [] → cut.IsTold text bytes
+cut_untold text bytes none = subst (cut.IsTold text) (sym none) cut.untold
+
+pub cut_told : (text : List ℕ) (ds front more : List Delayed) (n : ℕ) (d : Delayed) (is_there : Bool) (made : List ℕ)
+    (c : Circuit) (cases : List (List CaseValue)) (net : ℕ) (nets old new : List ℕ) → slice_get ds n ≡ Some d →
+    front ≡ take n ds → (is_there ≡ true → cut.IsLooping (slowed_text text front)) → is_there ≡ true →
+    more ≡ take (n + 1) ds → made ≡ slowed_text text more → DrawsCircuit made c cases → zero.IsDrivenAt c d.at net →
+    old ≡ [] → new ≡ old ++ cut.round_lines c (WithoutDelay d.at) net nets → cut.IsToldAt text ds n new
+cut_told text ds front more n d is_there made c cases net nets old new at fore looping is_so further make drawn driven none is =
+    subst (cut.IsToldAt text ds n) (sym (put old new (cut.round_lines c (WithoutDelay d.at) net nets) none is))
+    (cut.told d c cases net nets at
+    (subst (λ (l : List Delayed). cut.IsLooping (slowed_text text l)) fore (looping is_so))
+    (subst (λ (l : List ℕ). DrawsCircuit l c cases) (make ∙ ap (slowed_text text) further) drawn) driven)
+
+pub cut_explained : (text : List ℕ) (tokens seen : List Token) (found seen_found : List Delayed) (n : ℕ)
+    (bytes : List ℕ) → AreTokens text tokens → seen ≡ tokens → found ≡ delays seen → seen_found ≡ found →
+    cut.IsToldAt text seen_found n bytes → cut.IsTold text bytes
+cut_explained text tokens seen found seen_found n bytes are see is see_found said =
+    cut.by_delays tokens n bytes are (subst (λ (l : List Delayed). cut.IsToldAt text l n bytes)
+    (see_found ∙ is ∙ ap delays see) said)

@@ -1,10 +1,11 @@
 -- Why a case may not set a net.
-use Rattle.std.specs.Prelude.{◌≡◌, ℕ, ◌<◌, Bool, true, false, ◌==◌, nat_lt, List, [], ◌∷◌, take, slice_get, codes, decimal, Option, Some, None, if◌then◌else◌}
+use Rattle.std.specs.Prelude.{◌≡◌, ℕ, ◌+◌, ◌<◌, Bool, true, false, not, ◌&&◌, ◌==◌, nat_lt, List, [], ◌∷◌, ◌++◌, take, slice_get, codes, decimal, is_some, Option, Some, None, if◌then◌else◌}
 use Rattle.std.specs.List.{list_any}
 use Rattle.std.specs.Str.{bytes_eq}
 use Rattle.scald_base.specs.declared.assertion.AssertSpec.{AssertSpec}
 use Rattle.scald_base.specs.declared.assertion.AssertSpec.TheVariants.{None as Unasserted, Precision, Clock, Stable}
 use Rattle.scald_base.specs.declared.refusal.Place.{Place}
+use Rattle.scald_base.specs.declared.refusal.Refusal.{Refusal}
 use Rattle.scald_lex.specs.declared.token.Token.{Token}
 use Rattle.scald_lex.specs.Tokens.{AreTokens}
 use Rattle.flat_circuit.specs.declared.case.CaseValue.{CaseValue}
@@ -14,7 +15,8 @@ use Rattle.flat_circuit.specs.Circuit.{Circuit, driver, net_names}
 use Rattle.flat_circuit.specs.Name.{IsNumber}
 use Rattle.listing.specs.Names.{net_text}
 use Rattle.listing.specs.Text.{line}
-use Rattle.drawn_circuit.specs.Drawn.{DrawsCircuit}
+use Rattle.drawn_circuit.specs.Drawn.{DrawsCircuit, IsTextRefused}
+use Rattle.help_text.specs.Near.{is_near}
 use Rattle.help_text.specs.Statement.{from_place, spelled, unquoted}
 use Rattle.help_text.specs.Tokens.{is_symbol, number_of}
 use Rattle.circuit_help.specs.Lines.{driven_by}
@@ -74,20 +76,39 @@ undriven_lines name net value =
     else value_lines value
 
 abbrev pub lines_by : Circuit → ℕ → ℕ → Option Instance → List ℕ
-lines_by c net value (Some j) = driven_by (net_text c net) (Some j)
+lines_by c net value (Some j) = codes "    a case sets what nothing drives:\n" ++ driven_by (net_text c net) (Some j)
 lines_by c net value None = undriven_lines (net_text c net) (slice_get c.nets net) value
 
 abbrev pub net_lines : Circuit → ℕ → ℕ → List ℕ
 net_lines c net value = lines_by c net value (driver c net)
 
+-- it is one that nothing drives and whose name this one nearly is
+abbrev pub may_mean : List ℕ → Option Net → Bool
+may_mean name None = false
+may_mean name (Some n) = not (is_some n.driver) && is_near name n.name
+
+-- the first such net, of those from a number on
+abbrev pub near_from : List ℕ → ℕ → List Net → Option ℕ
+near_from name at [] = None
+near_from name at (n ∷ ns) = if may_mean name (Some n) then Some at else near_from name (at + 1) ns
+
+abbrev pub near_net : List ℕ → List Net → Option ℕ
+near_net name nets = near_from name 0 nets
+
+unfoldable pub meant_line : Circuit → Option ℕ → List ℕ
+meant_line c None = []
+meant_line c (Some net) = line (codes "    is " ∷ net_text c net ∷ codes " meant?" ∷ [])
+
+unfoldable pub missing_line : List ℕ → ℕ → List ℕ
+missing_line name bit = line (codes "    there is no net " ∷ name ∷ (60 ∷ []) ∷ decimal bit ∷ (62 ∷ []) ∷ [])
+
 abbrev pub found_lines : Circuit → List ℕ → ℕ → ℕ → Option ℕ → List ℕ
 found_lines c name bit value (Some net) = net_lines c net value
-found_lines c name bit value None = line (
-    codes "    there is no net " ∷ name ∷ (60 ∷ []) ∷ decimal bit ∷ (62 ∷ []) ∷ [])
+found_lines c name bit value None = missing_line name bit ++ meant_line c (near_net name c.nets)
 
--- by the circuit of a text without cases
+-- by the circuit of a text without cases, or nothing where that is refused
 pub data IsToldBy (before name : List ℕ) (bit value : ℕ) : List ℕ → Type 0 where
-  nothing : IsToldBy before name bit value []
+  undrawn : (r : Refusal) → IsTextRefused before r → IsToldBy before name bit value []
   told : (c : Circuit) (cases : List (List CaseValue)) (found : Option ℕ) →
       DrawsCircuit before c cases → IsFound c name bit found → IsToldBy before name bit value (found_lines c name bit value found)
 
@@ -103,7 +124,7 @@ name_of text t = unquoted (spelled text t)
 
 -- of an entry that begins with its name
 pub data IsToldOf (text before : List ℕ) (entry : List Token) : List ℕ → Type 0 where
-  no_entry : IsToldOf text before entry []
+  no_entry : first_of entry ≡ None → IsToldOf text before entry []
   asserted : (t : Token) → first_of entry ≡ Some t → has_point (name_of text t) ≡ true →
       IsToldOf text before entry pointed
   bare : (t : Token) (bytes : List ℕ) → first_of entry ≡ Some t →
@@ -111,9 +132,10 @@ pub data IsToldOf (text before : List ℕ) (entry : List Token) : List ℕ → T
       IsToldBy before (name_of text t) (entry_bit entry) (entry_value entry) bytes →
       IsToldOf text before entry bytes
 
--- of the entry at the place, by the circuit of the text up to the first CASE
+-- of the entry at the place, by the circuit of the text up to the first CASE; nothing where there is no CASE
 pub data IsTold (text : List ℕ) (place : Place) : List ℕ → Type 0 where
-  untold : IsTold text place []
+  untokened : ((tokens : List Token) → ¬ AreTokens text tokens) → IsTold text place []
+  no_case : (tokens : List Token) → AreTokens text tokens → case_cut text tokens ≡ None → IsTold text place []
   by_circuit : (tokens : List Token) (cut : ℕ) (bytes : List ℕ) → AreTokens text tokens →
       case_cut text tokens ≡ Some cut →
       IsToldOf text (take cut text) (from_place place tokens) bytes → IsTold text place bytes

@@ -1,5 +1,6 @@
 -- Which net an output drives that is driven before. A checker in place of the use shows it, since
--- the use's outputs are then the checker's input.
+-- the use's outputs are then the checker's input. Where the use is of a macro's body or of a FOR, a
+-- checker stands in place of each of its instances, and two of them show the net.
 use Rattle.std.specs.Prelude.{◌≡◌, ℕ, true, List, [], ◌∷◌, ◌++◌, slice_get, codes, Option, Some, None}
 use Rattle.scald_base.specs.declared.refusal.Place.{Place}
 use Rattle.scald_lex.specs.declared.token.Token.{Token}
@@ -16,6 +17,7 @@ use Rattle.help_text.specs.Statement.{from_place}
 use Rattle.circuit_help.specs.Lines.{driven_line}
 use Rattle.circuit_help.specs.Made.{overwritten}
 use Rattle.circuit_help.specs.Rule.{is_at}
+use Rattle.circuit_help.specs.Twins.{Tells}
 
 -- ---- the text with a checker
 
@@ -61,14 +63,27 @@ abbrev pub output_lines : Circuit → Target → List ℕ
 output_lines c (OnNet net) = codes "    it is driven before:\n" ++ driven_line c net
 output_lines c (Constant one) = codes "    nothing may drive ZERO or ONE\n"
 
--- by the circuit of a text with a checker at the place
-pub data IsToldBy (made : List ℕ) (place : Place) : List ℕ → Type 0 where
-  nothing : IsToldBy made place []
-  told : (c : Circuit) (cases : List (List CaseValue)) (target : Target) →
-      DrawsCircuit made c cases → IsOutput c place target → IsToldBy made place (output_lines c target)
+-- by a circuit in which the statement at the place is a checker
+pub data IsToldOf (c : Circuit) (place : Place) : List ℕ → Type 0 where
+  driven : (target : Target) → IsOutput c place target → IsToldOf c place (output_lines c target)
+  twins : (bytes : List ℕ) → Tells c place [] bytes → IsToldOf c place bytes
 
+-- ---- texts with checkers
+
+-- a checker stands in place of the use at a place
+pub data IsWithChecker (text : List ℕ) (tokens : List Token) (place : Place) : List ℕ → Type 0 where
+  made : (kind outputs : ℕ) → cuts (from_place place tokens) ≡ Some (kind, outputs) →
+      IsWithChecker text tokens place (as_checker text kind outputs)
+
+-- in place of that one, and then of others
+pub data AreChecked (text : List ℕ) (tokens : List Token) (place : Place) : List ℕ → Type 0 where
+  one : (made : List ℕ) → IsWithChecker text tokens place made → AreChecked text tokens place made
+  more : (other : Place) (made next : List ℕ) → AreChecked text tokens place made →
+      IsWithChecker made tokens other next → AreChecked text tokens place next
+
+-- by the circuit of such a text
 pub data IsTold (text : List ℕ) (place : Place) : List ℕ → Type 0 where
   untold : IsTold text place []
-  by_circuit : (tokens : List Token) (kind outputs : ℕ) (bytes : List ℕ) → AreTokens text tokens →
-      cuts (from_place place tokens) ≡ Some (kind, outputs) →
-      IsToldBy (as_checker text kind outputs) place bytes → IsTold text place bytes
+  by_circuit : (tokens : List Token) (made : List ℕ) (c : Circuit) (cases : List (List CaseValue)) (bytes : List ℕ) →
+      AreTokens text tokens → AreChecked text tokens place made → DrawsCircuit made c cases →
+      IsToldOf c place bytes → IsTold text place bytes

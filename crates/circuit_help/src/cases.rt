@@ -1,12 +1,12 @@
 //! Why a case may not set a net.
 
-ghost use Rattle.std.specs.Prelude.{◌≡◌, ◌++◌, ◌<◌, ◌-◌, ◌^◌, length, IfOk, OnOk};
-ghost use Rattle.circuit_help.specs.Cases.{IsFound, IsTold, IsToldBy, IsToldOf, case_cut, entry_bit, entry_value, first_of, found_lines, has_point, is_clock, net_lines, value_lines};
+ghost use Rattle.std.specs.Prelude.{◌≡◌, ◌++◌, ◌<◌, ◌-◌, ◌^◌, length, slice_get, IfOk, OnOk};
+ghost use Rattle.circuit_help.specs.Cases.{IsFound, IsTold, IsToldBy, IsToldOf, case_cut, entry_bit, entry_value, first_of, found_lines, has_point, is_clock, may_mean, meant_line, missing_line, near_net, net_lines, value_lines};
 
 use crate::lines::add_driven;
 use drawn_circuit::read_circuit;
 use flat_circuit::{Circuit, Net};
-use help_text::{from_place, front, is_symbol, number_of, spelled, unquoted};
+use help_text::{from_place, front, is_near, is_symbol, number_of, spelled, unquoted};
 use listing::{Piece, add_line, net_piece};
 use scald_base::{AssertSpec, Bytes, NoMemory, Place, Stop, same_bytes};
 use scald_lex::{Token, tokens};
@@ -83,6 +83,7 @@ fn add_net(out: &mut Bytes, c: &Circuit, net: u32, value: u64) -> Result<(), NoM
     ensures { OnOk result (out.new ≡ out.old ++ net_lines c.now net value) }
 {
     if c.driver_of(net).is_some() {
+        out.extend(b"    a case sets what nothing drives:\n")?;
         return add_driven(out, c, net);
     }
     match c.net(net) {
@@ -109,6 +110,63 @@ fn net_of(c: &Circuit, name: &[u8], bit: u64) -> Option<u32>
     }
 }
 
+/// Whether the net of a number is one that nothing drives and whose name this one nearly is.
+fn may_mean(c: &Circuit, number: u32, name: &[u8]) -> bool
+    ensures { result ≡ may_mean name.now (slice_get c.now.nets number) }
+{
+    match c.net(number) {
+        Some(net) => net.driver.is_none() && is_near(name, net.name.as_slice()),
+        None => false,
+    }
+}
+
+/// The first net that nothing drives and whose name this one nearly is.
+fn near_net(c: &Circuit, name: &[u8]) -> Option<u32>
+    ensures { result ≡ near_net name.now c.now.nets }
+{
+    for number in 0..c.net_count() {
+        if may_mean(c, number, name) {
+            return Some(number);
+        }
+    }
+    None
+}
+
+/// Which net may be meant.
+#[tactic(auto, unfolding(crate::specs::Cases::meant_line))]
+fn add_meant(out: &mut Bytes, c: &Circuit, near: Option<u32>) -> Result<(), NoMemory>
+    ensures { OnOk result (out.new ≡ out.old ++ meant_line c.now near) }
+{
+    match near {
+        Some(net) => add_line(
+            out,
+            &[
+                Piece::Text(b"    is "),
+                net_piece(c, net),
+                Piece::Text(b" meant?"),
+            ],
+        ),
+        None => Ok(()),
+    }
+}
+
+/// That there is no net of this name and bit.
+#[tactic(auto, unfolding(crate::specs::Cases::missing_line))]
+fn add_missing(out: &mut Bytes, name: &[u8], bit: u64) -> Result<(), NoMemory>
+    ensures { OnOk result (out.new ≡ out.old ++ missing_line name.now bit) }
+{
+    add_line(
+        out,
+        &[
+            Piece::Text(b"    there is no net "),
+            Piece::Text(name),
+            Piece::Byte(b'<'),
+            Piece::Number(bit),
+            Piece::Byte(b'>'),
+        ],
+    )
+}
+
 /// Why a case may not set the net of this name and bit, where there is one, to a value.
 fn add_found(
     out: &mut Bytes,
@@ -122,16 +180,10 @@ fn add_found(
 {
     match found {
         Some(net) => add_net(out, c, net, value),
-        None => add_line(
-            out,
-            &[
-                Piece::Text(b"    there is no net "),
-                Piece::Text(name),
-                Piece::Byte(b'<'),
-                Piece::Number(bit),
-                Piece::Byte(b'>'),
-            ],
-        ),
+        None => {
+            add_missing(out, name, bit)?;
+            add_meant(out, c, near_net(c, name))
+        }
     }
 }
 
@@ -166,8 +218,9 @@ fn told_entry(alloc: Global, text: &[u8], before: &[u8], entry: &[Token]) -> Res
     requires { length before.now < 2 ^ 32 - 1 }
     ensures { IfOk result (IsToldOf text.now before.now entry.now) }
 {
-    let Some(token) = first_of(entry) else {
-        return Ok(Bytes::new(alloc));
+    let token = match first_of(entry) {
+        Some(token) => token,
+        None => return Ok(Bytes::new(alloc)),
     };
     let name = unquoted(spelled(text, token));
     if has_point(name) {
@@ -189,8 +242,9 @@ pub fn explain_case(alloc: Global, text: &[u8], place: Place) -> Result<Bytes, N
         Err(Stop::Refused(_)) => return Ok(Bytes::new(alloc)),
         Err(Stop::NoMemory) => return Err(NoMemory),
     };
-    let Some(cut) = case_cut(text, list.as_slice()) else {
-        return Ok(Bytes::new(alloc));
+    let cut = match case_cut(text, list.as_slice()) {
+        Some(cut) => cut,
+        None => return Ok(Bytes::new(alloc)),
     };
     told_entry(
         alloc,

@@ -1,21 +1,25 @@
 //! Which net an output drives that is driven before, and what drives it.
 
-ghost use Rattle.std.specs.Prelude.{◌≡◌, ◌++◌, ◌<◌, ◌-◌, ◌^◌, length, IfOk, IfSome, OnOk};
-ghost use Rattle.circuit_help.specs.Drivers.{IsOutput, IsTold, IsToldBy, cuts, driven_target, output_lines, pin_target};
+ghost use Rattle.std.specs.Prelude.{◌≡◌, ◌++◌, ◌<◌, ◌≤◌, ◌-◌, ◌^◌, length, IfOk, IfSome, OnOk};
+ghost use Rattle.circuit_help.specs.Drivers.{AreChecked, IsOutput, IsTold, IsToldOf, IsWithChecker, cuts, driven_target, output_lines, pin_target};
 
 use crate::lines::add_driven;
 use crate::made::{keeps_places, overwritten};
 use crate::rule::is_at;
+use crate::twins::{add_twins, twins_at};
 use drawn_circuit::read_circuit;
 use flat_circuit::{Circuit, Pin};
 use help_text::{after_arrow, from_place};
-use scald_base::{Bytes, NoMemory, Place, Stop};
+use scald_base::{Bytes, NoMemory, Place, RefusalKind, Stop};
 use scald_lex::{Token, tokens};
 use std::alloc::Global;
 use vector_names::Target;
 
 /// The most bytes of a text that is read again: more than a drawing may have.
 const MOST_BYTES: usize = 8_388_608;
+
+/// The most statements that are made checkers, one after another.
+const MOST_TURNS: u32 = 64;
 
 /// Where the kind of a use begins, and where its outputs do, in bytes of the text.
 fn cuts(statement: &[Token]) -> Option<(u32, u32)>
@@ -83,27 +87,49 @@ fn add_output(out: &mut Bytes, c: &Circuit, target: Target) -> Result<(), NoMemo
     }
 }
 
-/// What is told by the circuit of a text in which a checker stands in place of the use.
-fn told(alloc: Global, text: &[u8], place: Place) -> Result<Bytes, NoMemory>
-    requires { length text.now < 2 ^ 32 - 1 }
-    ensures { IfOk result (IsToldBy text.now place) }
+/// What is told by a circuit in which the statement at the place is a checker: what drives its pin, or
+/// else that two of its instances have one net.
+fn told(alloc: Global, c: &Circuit, place: Place) -> Result<Bytes, NoMemory>
+    ensures { IfOk result (IsToldOf c.now place) }
 {
-    let drawn = match read_circuit(alloc, text) {
-        Ok(drawn) => drawn,
-        Err(Stop::Refused(_)) => return Ok(Bytes::new(alloc)),
-        Err(Stop::NoMemory) => return Err(NoMemory),
-    };
-    let Some(target) = driven_at(&drawn.circuit, place) else {
-        return Ok(Bytes::new(alloc));
-    };
     let mut out = Bytes::new(alloc);
-    add_output(&mut out, &drawn.circuit, target)?;
-    Ok(out)
+    match driven_at(c, place) {
+        Some(target) => {
+            add_output(&mut out, c, target)?;
+            Ok(out)
+        }
+        None => {
+            let twins = twins_at(alloc, c, place)?;
+            add_twins(&mut out, c, place, twins)?;
+            Ok(out)
+        }
+    }
+}
+
+/// A text in which a checker stands in place of the use at a place, where no place moves by it.
+fn with_checker(
+    alloc: Global,
+    text: &[u8],
+    tokens: &[Token],
+    place: Place,
+) -> Result<Option<Bytes>, NoMemory>
+    ensures made { IfOk result (λ made. IfSome made (IsWithChecker text.now tokens.now place)) }
+    ensures short { IfOk result (λ made. IfSome made (λ bytes. length bytes ≤ 8388608)) }
+{
+    let Some((kind, outputs)) = cuts(from_place(tokens, place)) else {
+        return Ok(None);
+    };
+    let made = overwritten(alloc, text, b"MIN_PULSE_CHK", kind, outputs)?;
+    if keeps_places(text, made.as_slice(), b"MIN_PULSE_CHK", kind) && made.len() <= MOST_BYTES {
+        Ok(Some(made))
+    } else {
+        Ok(None)
+    }
 }
 
 /// Of a text in which the output of the use at a place is a constant or driven before: what it is,
-/// and what drives it, as far as the circuit without the use tells it. The one error is that memory
-/// ran out.
+/// and what drives it, as far as the circuit without the use tells it. Other uses whose outputs are
+/// driven before are left out too. The one error is that memory ran out.
 pub fn explain_drivers(alloc: Global, text: &[u8], place: Place) -> Result<Bytes, NoMemory>
     requires { length text.now < 2 ^ 32 - 1 }
     ensures { IfOk result (IsTold text.now place) }
@@ -113,13 +139,24 @@ pub fn explain_drivers(alloc: Global, text: &[u8], place: Place) -> Result<Bytes
         Err(Stop::Refused(_)) => return Ok(Bytes::new(alloc)),
         Err(Stop::NoMemory) => return Err(NoMemory),
     };
-    let Some((kind, outputs)) = cuts(from_place(list.as_slice(), place)) else {
+    let seen = list.as_slice();
+    let Some(mut made) = with_checker(alloc, text, seen, place)? else {
         return Ok(Bytes::new(alloc));
     };
-    let made = overwritten(alloc, text, b"MIN_PULSE_CHK", kind, outputs)?;
-    if keeps_places(text, made.as_slice(), b"MIN_PULSE_CHK", kind) && made.len() <= MOST_BYTES {
-        told(alloc, made.as_slice(), place)
-    } else {
-        Ok(Bytes::new(alloc))
+    'turns: for turn in 0..MOST_TURNS {
+        match read_circuit(alloc, made.as_slice()) {
+            Ok(drawn) => return told(alloc, &drawn.circuit, place),
+            Err(Stop::Refused(other)) => {
+                if !matches!(other.kind, RefusalKind::TwoDrivers) {
+                    return Ok(Bytes::new(alloc));
+                }
+                match with_checker(alloc, made.as_slice(), seen, other.place)? {
+                    Some(next) => made = next,
+                    None => return Ok(Bytes::new(alloc)),
+                }
+            }
+            Err(Stop::NoMemory) => return Err(NoMemory),
+        }
     }
+    Ok(Bytes::new(alloc))
 }

@@ -10,6 +10,7 @@
 #![tactic(auto)]
 
 mod cases;
+mod cut_set;
 mod drivers;
 mod lines;
 mod loops;
@@ -17,7 +18,9 @@ mod made;
 mod reached;
 mod rule;
 mod search;
+mod slowed;
 mod statements;
+mod twins;
 mod zero_loop;
 
 pub use cases::explain_case;

@@ -56,7 +56,7 @@ fn hears(c: &Circuit, rule: Rule, net: u32, other: u32) -> bool
 }
 
 /// Whether the driver of each of these nets hears the next one.
-fn is_walk(c: &Circuit, rule: Rule, nets: &[u32]) -> bool
+pub fn is_walk(c: &Circuit, rule: Rule, nets: &[u32]) -> bool
     ensures { result ≡ is_walk c.now rule nets.now }
 {
     let mut rest = nets;
@@ -73,7 +73,7 @@ fn is_walk(c: &Circuit, rule: Rule, nets: &[u32]) -> bool
 }
 
 /// The nets from the first one on that is this.
-fn from_net(nets: &[u32], net: u32) -> &[u32]
+pub fn from_net(nets: &[u32], net: u32) -> &[u32]
     ensures { result.now ≡ from_net net nets.now }
 {
     let mut rest = nets;
@@ -87,7 +87,7 @@ fn from_net(nets: &[u32], net: u32) -> &[u32]
 }
 
 /// Whether nets begin with one, and have another after it.
-fn begins(net: u32, nets: &[u32]) -> bool
+pub fn begins(net: u32, nets: &[u32]) -> bool
     ensures { result ≡ begins net nets.now }
 {
     match nets {
@@ -97,7 +97,7 @@ fn begins(net: u32, nets: &[u32]) -> bool
 }
 
 /// The last of these nets.
-fn last_net(nets: &[u32]) -> Option<u32>
+pub fn last_net(nets: &[u32]) -> Option<u32>
     ensures { result ≡ last_net nets.now }
 {
     nets.last().copied()

@@ -15,7 +15,7 @@ fn blank(byte: u8) -> u8
 }
 
 /// So many bytes as blanks.
-fn add_blanks(out: &mut Bytes, bytes: &[u8]) -> Result<(), NoMemory>
+pub fn add_blanks(out: &mut Bytes, bytes: &[u8]) -> Result<(), NoMemory>
     ensures { OnOk result (out.new ≡ out.old ++ map blank bytes.now) }
 {
     'bytes: for byte in bytes {

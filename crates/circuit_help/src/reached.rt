@@ -1,16 +1,16 @@
 //! By which statement of the drawing a place in a macro is reached.
 
-ghost use Rattle.std.specs.Prelude.{◌≡◌, ◌++◌, ◌<◌, ◌≤◌, ◌-◌, ◌^◌, length, IfOk, OnOk};
-ghost use Rattle.circuit_help.specs.Reached.{IsRefusedAt, IsTold, IsToldOf, Says, begins_statement, cut_text, first_of, reached_line};
+ghost use Rattle.std.specs.Prelude.{◌≡◌, ◌++◌, ◌<◌, ◌≤◌, ◌-◌, ◌^◌, length, slice_get, IfOk, OnOk};
+ghost use Rattle.circuit_help.specs.Reached.{IsRefusedAt, IsTold, IsToldOf, Says, cut_text, reached_line};
 
 use crate::rule::is_at;
 use crate::statements::{Statement, statements};
 use drawn_circuit::laws::{refused_text_draws_nothing, text_has_one_refusal};
 use drawn_circuit::read_circuit;
-use help_text::{from_place, front, is_symbol, spelled};
+use help_text::{front, spelled};
 use listing::{Piece, add_line};
 use scald_base::{Bytes, NoMemory, Place, Stop};
-use scald_lex::{Token, tokens};
+use scald_lex::tokens;
 use std::alloc::Global;
 
 /// The most bytes of a text that is read again and again.
@@ -108,51 +108,40 @@ fn add_statement(out: &mut Bytes, word: &[u8], place: Place) -> Result<(), NoMem
     )
 }
 
-/// Whether a token at a place comes right after a `;`.
-fn begins_statement(tokens: &[Token], place: Place) -> bool
-    ensures { result ≡ begins_statement place tokens.now }
+/// The statement of a number from 0.
+fn statement_at(found: &[Statement], number: usize) -> Option<Statement>
+    ensures { result ≡ slice_get found.now number }
 {
-    let mut rest = tokens;
-    'tokens: while let [first, others @ ..] = rest {
-        let [second, ..] = others else {
-            return false;
-        };
-        if is_symbol(*first, b';') && is_at(second.place, place) {
-            return true;
-        }
-        rest = others;
-    }
-    false
+    found.get(number).copied()
 }
 
-/// The first of these tokens.
-fn first_of(tokens: &[Token]) -> Option<Token>
-    ensures { result ≡ first_of tokens.now }
-{
-    match tokens {
-        [first, ..] => Some(*first),
-        [] => None,
+/// Whether a place is the one that is shown.
+fn is_shown(place: Place, shown: Option<Place>) -> bool {
+    match shown {
+        Some(other) => is_at(place, other),
+        None => false,
     }
 }
 
-/// What is told of a statement of the drawing: that with it the text is refused at the place, and
-/// without it it is not.
+/// What is told of a statement of the drawing, one of these, unless it is shown: that with it the text is
+/// refused at the place, and without it it is not.
 fn told(
     alloc: Global,
     text: &[u8],
-    tokens: &[Token],
-    statement: Statement,
+    found: &[Statement],
+    number: usize,
     place: Place,
+    shown: Option<Place>,
 ) -> Result<Bytes, NoMemory>
     requires { length text.now ≤ 262144 }
-    ensures { IfOk result (IsToldOf text.now tokens.now place) }
+    ensures { IfOk result (IsToldOf text.now found.now place) }
 {
-    let at = statement.first.place;
-    let Some(first) = first_of(from_place(tokens, at)) else {
+    let Some(statement) = statement_at(found, number) else {
         return Ok(Bytes::new(alloc));
     };
-    let begins = begins_statement(tokens, at);
-    if !begins {
+    let first = statement.first;
+    let shown = is_shown(first.place, shown);
+    if shown {
         return Ok(Bytes::new(alloc));
     }
     let with = is_refused_with(alloc, text, statement.end, place)?;
@@ -169,9 +158,14 @@ fn told(
 }
 
 /// Of a text that is refused at a place in a macro: the use in the drawing by which that is
-/// reached, where the text has at most 262,144 bytes. It reads the text a few times, by halves of
-/// its statements. The one error is that memory ran out.
-pub fn explain_reached(alloc: Global, text: &[u8], place: Place) -> Result<Bytes, NoMemory>
+/// reached, where the text has at most 262,144 bytes, and that use is not the one that is shown. It reads
+/// the text a few times, by halves of its statements. The one error is that memory ran out.
+pub fn explain_reached(
+    alloc: Global,
+    text: &[u8],
+    place: Place,
+    shown: Option<Place>,
+) -> Result<Bytes, NoMemory>
     requires { length text.now < 2 ^ 32 - 1 }
     ensures { IfOk result (IsTold text.now place) }
 {
@@ -188,8 +182,5 @@ pub fn explain_reached(alloc: Global, text: &[u8], place: Place) -> Result<Bytes
         return Ok(Bytes::new(alloc));
     }
     let number = searched(alloc, text, found.as_slice(), place)?;
-    match found.get(number) {
-        Some(statement) => told(alloc, text, list.as_slice(), *statement, place),
-        None => Ok(Bytes::new(alloc)),
-    }
+    told(alloc, text, found.as_slice(), number, place, shown)
 }

@@ -2,7 +2,9 @@
 
 ghost use Rattle.std.specs.Prelude.{◌≡◌, ◌<◌, ◌-◌, ◌^◌, length, IfOk, IfSome};
 ghost use Rattle.circuit_help.specs.ZeroLoop.{IsDrivenAt, IsTold, IsToldBy, cuts};
+ghost use Rattle.circuit_help.specs.ZeroLoops.{IsToldFor};
 
+use crate::cut_set::explain_cut;
 use crate::loops::add_way;
 use crate::made::{keeps_places, overwritten};
 use crate::rule::{Rule, is_at};
@@ -67,9 +69,8 @@ fn told(alloc: Global, text: &[u8], place: Place) -> Result<Bytes, NoMemory>
     Ok(out)
 }
 
-/// Of a text in which a loop without delay leads to the use at a place: the loop, where it goes
-/// through the first bit of the use. The one error is that memory ran out.
-pub fn explain_zero_loop(alloc: Global, text: &[u8], place: Place) -> Result<Bytes, NoMemory>
+/// What is told of a loop that goes through the first bit of the use at a place.
+fn explain_own(alloc: Global, text: &[u8], place: Place) -> Result<Bytes, NoMemory>
     requires { length text.now < 2 ^ 32 - 1 }
     ensures { IfOk result (IsTold text.now place) }
 {
@@ -86,5 +87,20 @@ pub fn explain_zero_loop(alloc: Global, text: &[u8], place: Place) -> Result<Byt
         told(alloc, made.as_slice(), place)
     } else {
         Ok(Bytes::new(alloc))
+    }
+}
+
+/// Of a text in which a loop without delay leads to the use at a place: the loop, where it goes
+/// through the first bit of the use, and else a loop without delay of the text. The one error is that
+/// memory ran out.
+pub fn explain_zero_loop(alloc: Global, text: &[u8], place: Place) -> Result<Bytes, NoMemory>
+    requires { length text.now < 2 ^ 32 - 1 }
+    ensures { IfOk result (IsToldFor text.now place) }
+{
+    let own = explain_own(alloc, text, place)?;
+    if own.is_empty() {
+        explain_cut(alloc, text)
+    } else {
+        Ok(own)
     }
 }

@@ -1,13 +1,18 @@
 use Rattle.std.proofs.lemmas.Result.{IfOk-weaker}
 use Rattle.circuit_help.specs.Cases.{IsTold, IsToldOf}
-use Rattle.circuit_help.proofs.Told.{case_explained, case_untold}
+use Rattle.circuit_help.proofs.Told.{case_explained, no_case_told, not_both, untokened_told}
 use Rattle.circuit_help.proofs.cases.explain_case.Goals as goal
 
 pub returns-in-Err-Refused : goal.returns-in-Err-Refused
-returns-in-Err-Refused c = case_untold c.args.text.now c.args.place c.new.result c.new.ensures
+returns-in-Err-Refused c =
+    untokened_told c.args.text.now c.args.place c.new.result
+    (λ list are. not_both c.in-Err-Refused.field-0 c.in-Err-Refused.field-0-0 c.in-Err-Refused.field-0-is
+    (c.in-Err-Refused.ensures.only_list list are)) c.new.ensures
 
-pub returns-in_default : goal.returns-in_default
-returns-in_default c = case_untold c.args.text.now c.args.place c.new-in_default.result c.new-in_default.ensures
+pub returns-in-None : goal.returns-in-None
+returns-in-None c =
+    no_case_told c.args.text.now c.args.place c.in-Ok.list c.as_slice.result.now c.case_cut.result c.new-in-None.result
+    c.in-Ok.ensures.found c.as_slice.ensures c.case_cut.ensures c.in-None.is c.new-in-None.ensures
 
 pub returns : goal.returns
 returns c =

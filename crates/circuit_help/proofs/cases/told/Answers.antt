@@ -1,9 +1,11 @@
-use Rattle.circuit_help.proofs.Told.{case_told, no_case_told}
+use Rattle.circuit_help.proofs.Told.{case_told, undrawn_told}
 use Rattle.circuit_help.proofs.cases.told.Goals as goal
 
 pub returns-in-Err-Refused : goal.returns-in-Err-Refused
 returns-in-Err-Refused c =
-    no_case_told c.args.text.now c.args.name.now c.args.bit c.args.value c.new.result c.new.ensures
+    let r = c.in-Err-Refused.field-0-0 in
+    undrawn_told c.args.text.now c.args.name.now c.args.bit c.args.value r c.new.result
+    (c.in-Err-Refused.ensures.refused r c.in-Err-Refused.field-0-is) c.new.ensures
 
 pub returns : goal.returns
 returns c =

@@ -5,9 +5,10 @@ use Rattle.circuit_help.specs.Cases.{IsToldBy, IsToldOf}
 use Rattle.circuit_help.proofs.Told.{bare_told, no_entry_told, pointed_told}
 use Rattle.circuit_help.proofs.cases.told_entry.Goals as goal
 
-pub returns-in_default : goal.returns-in_default
-returns-in_default c =
-    no_entry_told c.args.text.now c.args.before.now c.args.entry.now c.new.result c.new.ensures
+pub returns-in-None : goal.returns-in-None
+returns-in-None c =
+    no_entry_told c.args.text.now c.args.before.now c.args.entry.now c.new.result (sym c.first_of.ensures ∙ c.in-None.is)
+    c.new.ensures
 
 pub returns-then-has_point : goal.returns-then-has_point
 returns-then-has_point c =

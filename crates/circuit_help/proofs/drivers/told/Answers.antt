@@ -1,14 +1,12 @@
-use Rattle.circuit_help.proofs.Told.{driver_told, no_driver_told}
+use Rattle.circuit_help.proofs.Told.{output_told, twins_told}
 use Rattle.circuit_help.proofs.drivers.told.Goals as goal
 
-pub returns-in-Err-Refused : goal.returns-in-Err-Refused
-returns-in-Err-Refused c = no_driver_told c.args.text.now c.args.place c.new.result c.new.ensures
+pub returns-in_ok-add_output-in-Some : goal.returns-in_ok-add_output-in-Some
+returns-in_ok-add_output-in-Some c =
+    output_told c.args.c.now c.args.place c.in-Some.target c.new-out.result c.add_output.new.out c.in-Some.ensures
+    c.new-out.ensures c.in_ok-add_output-in-Some.ensures
 
-pub returns-in_default : goal.returns-in_default
-returns-in_default c = no_driver_told c.args.text.now c.args.place c.new-in_default.result c.new-in_default.ensures
-
-pub returns : goal.returns
-returns c =
-    let drawn = c.in-Ok.drawn in
-    driver_told c.args.text.now c.args.place drawn.circuit drawn.cases c.in-Some.target c.new-out.result
-    c.add_output.new.out c.in-Ok.ensures.drawn c.in-Some.ensures c.new-out.ensures c.in_ok-add_output.ensures
+pub returns-in_ok-add_twins-in-None : goal.returns-in_ok-add_twins-in-None
+returns-in_ok-add_twins-in-None c =
+    twins_told c.args.c.now c.args.place c.new-out.result c.add_twins.new.out c.new-out.ensures
+    c.in_ok-add_twins-in-None.ensures

@@ -15,11 +15,9 @@ returns-then-not-is_in_macro c =
     none_reached c.args.text.now c.args.place c.new-then-not-is_in_macro.result c.new-then-not-is_in_macro.ensures
 
 pub returns : goal.returns
-returns c = none_reached c.args.text.now c.args.place c.new-in-None.result c.new-in-None.ensures
-
-pub returns-in-Some : goal.returns-in-Some
-returns-in-Some c =
-    let text = c.args.text.now in let place = c.args.place in let seen = c.as_slice-in-Some.result.now in
+returns c =
+    let text = c.args.text.now in let place = c.args.place in let seen = c.as_slice-4.result.now in
     IfOk-weaker c.told.result (IsToldOf text seen place) (IsTold text place)
-    (λ bytes said. told_of text c.in-Ok.list seen place bytes c.in-Ok.ensures.found c.as_slice-in-Some.ensures said)
+    (λ bytes said. told_of text c.in-Ok.list c.as_slice.result.now c.in_ok-found.found seen place bytes c.in-Ok.ensures.found
+    c.as_slice.ensures c.in_ok-found.ensures c.as_slice-4.ensures said)
     c.told.ensures
