@@ -318,7 +318,8 @@ done
 } | "$program" sections >"$work/answer" 2>"$work/said"
 status=$?
 : >"$work/out"
-says "a section that is refused" 2 "scald: 4:1: there is no such kind and no such macro
+says "a section that is refused" 2 "scald: section 2, which begins at line 11 of the text: places count from there
+scald: 4:1: there is no such kind and no such macro
     b1 : BUFF [0:0] (\"A\") -> (\"X\");
     ^
     'BUFF' is none: is BUF meant?" "$status"

@@ -599,8 +599,7 @@ helps '    BUF takes a delay [a:b], 0 <= a <= b <= 4095, or two, [r:R, f:F], eac
 macro unexpanded '14 Bounds 4:1' 'MACRO M {N=1} ("A") -> ("Z");' 'b1 : BUF [N:3] ("A") -> ("Z");' 'END;' 'DRAWING ROW;' \
     'u1 : M {N=5} ("A") -> ("X");' 'END;'
 helps '    BUF takes a delay [a:b], 0 <= a <= b <= 4095, or two, [r:R, f:F], each at most 255' \
-    "    'M' is used only at 7:1:" '    u1 : M {N=5} ("A") -> ("X");' '    ^' \
-    '    it is reached by u1 at 7:1'
+    "    'M' is used only at 7:1:" '    u1 : M {N=5} ("A") -> ("X");' '    ^'
 macro unexpanded '14 Bounds 4:1' 'MACRO M {N=1} ("A") -> ("Z");' 'b1 : BUF [N:3] ("A") -> ("Z");' 'END;' 'DRAWING ROW;' \
     'u1 : M {N=1} ("A") -> ("X");' 'u2 : M {N=5} ("A") -> ("Y");' 'u3 : M {N=6} ("A") -> ("V");' 'END;'
 helps '    BUF takes a delay [a:b], 0 <= a <= b <= 4095, or two, [r:R, f:F], each at most 255' \
@@ -656,8 +655,7 @@ helps '    a range has at most 256 bits, and that of "A" has 257'
 drawing '11 BadRange 4:1' 'WIRE "A"<65536> 0:0;'
 macro unexpanded '11 BadRange 4:1' 'MACRO M ("A"<1:2>) -> ("Z");' 'b1 : BUF [0:0] ("A"<0>) -> ("Z");' 'END;' 'DRAWING ROW;' \
     'u : M ("A") -> ("X");' 'END;'
-helps '    the formal "A" has the bits 1 to 2' "    'M' is used only at 7:1:" '    u : M ("A") -> ("X");' '    ^' \
-    '    it is reached by u at 7:1'
+helps '    the formal "A" has the bits 1 to 2' "    'M' is used only at 7:1:" '    u : M ("A") -> ("X");' '    ^'
 drawing '8 AssertionClash 4:1' 'a1 : AND [0:0] ("A .S0-4", "A .S0-5") -> ("X");'
 helps '    give the assertion once, or spell it the same each time; a formal has that of the outer net' \
     '    here it is "A .S0-5", and "A .S0-4" at 4:17'
@@ -697,8 +695,7 @@ wide "$by_formal" '    bits of the connections: 8, 1 -> 8' '    bits of the form
     '    the formal "Z" has width 1, and its connection has width 8'
 macro unexpanded '12 Width 4:1' 'MACRO M ("A"<0:2>) -> ("Z");' 'b1 : BUF [0:0] ("A") -> ("Z");' 'END;' 'DRAWING ROW;' \
     'u : M ("A"<0:2>) -> ("X");' 'END;'
-wide "$by_output" '    bits of the connections: 3 -> 1' "    'M' is used only at 7:1:" '    u : M ("A"<0:2>) -> ("X");' '    ^' \
-    '    it is reached by u at 7:1'
+wide "$by_output" '    bits of the connections: 3 -> 1' "    'M' is used only at 7:1:" '    u : M ("A"<0:2>) -> ("X");' '    ^'
 
 # --- two refusals in one statement: the first of the order is answered
 drawing '6 UnknownKind 4:1' 'b1 : BUFF {N=1/0} ("A", "B") -> ("X");'
@@ -780,6 +777,27 @@ helps "$one_driver" \
     '    it is driven before:' \
     '        X<0> is driven at 4:1 by u1/b1<0>' \
     '    it is reached by u1 at 8:1'
+# driven_twice PLACE FIRST SECOND LINE ..: beside what to do, that both drive X<0>, and these lines
+driven_twice() {
+    place=$1
+    first=$2
+    second=$3
+    shift 3
+    helps "$one_driver" \
+        '    one statement drives it more than once:' \
+        "        X<0> is driven at $place by $first, and then by $second" \
+        '    what a FOR drives needs an index, and each use of a macro drives nets of its own' \
+        "$@"
+}
+macro unexpanded '17 TwoDrivers 4:1' 'MACRO M ("A") -> ("Z");' 'b1 : BUF [0:0] ("A") -> ("Z");' 'END;' 'DRAWING ROW;' \
+    'u1 : M ("A") -> ("X");' 'u2 : M ("B") -> ("X");' 'END;'
+driven_twice 4:1 'u1/b1<0>' 'u2/b1<0>' '    it is reached by u2 at 8:1'
+expanded '17 TwoDrivers 5:1' 'DRAWING ROW;' 'FOR I = 0 TO 1 DO' 'b1 : BUF [0:0] ("A") -> ("X");' 'END;' 'END;'
+driven_twice 5:1 'b1#0<0>' 'b1#1<0>'
+# (two statements of the macro drive two nets, each twice)
+macro unexpanded '17 TwoDrivers 4:1' 'MACRO M ("A") -> ("Y", "Z");' 'b1 : BUF [0:0] ("A") -> ("Y");' 'b2 : BUF [0:0] ("A") -> ("Z");' \
+    'END;' 'DRAWING ROW;' 'u1 : M ("A") -> ("X", "W");' 'u2 : M ("B") -> ("X", "W");' 'END;'
+driven_twice 4:1 'u1/b1<0>' 'u2/b1<0>' '    it is reached by u2 at 9:1'
 drawing '17 TwoDrivers 6:1' 'b1 : BUF [0:0] ("Y") -> ("X");' 'a1 : AND [0:0] ("CK .P2-3", "X") -> ("Y");' 'b2 : BUF [0:0] ("B") -> ("X");'
 drawing '18 ZeroLoop 4:1' 'b1 : BUF [0:0] ("Y") -> ("X");' 'a1 : AND [0:0] ("CK .P2-3", "X") -> ("Y");'
 helps "$slow_loop" \
@@ -793,6 +811,18 @@ drawing '18 ZeroLoop 4:1' 'b1 : BUF [3:3, 0:5] ("X") -> ("X");'
 drawing '18 ZeroLoop 4:1' 'b1 : BUF [0:1, 2:3] ("Y") -> ("X");' 'a1 : AND [2:3, 0:1] ("CK .P2-3", "X") -> ("Y");'
 drawing '17 TwoDrivers 5:1' 'b1 : BUF [1:2, 3:4] ("A") -> ("X");' 'b2 : BUF [1:2, 3:4] ("A") -> ("X");'
 drawing '18 ZeroLoop 4:1' 'b1 : BUF [0:9] ("X") -> ("Y");' 'x1 : XOR [0:0] ("CK .P2-3", "X") -> ("X");'
+# (the element that is refused comes after the loop, whatever its own delay)
+comes_from='    it comes from a loop whose least delay is 0, each net of which comes from the next:'
+helps "$slow_loop" \
+    "$comes_from" \
+    '        X<0> is driven at 5:1 by x1<0>' \
+    '        X<0> is driven at 5:1 by x1<0>'
+drawing '18 ZeroLoop 4:1' 'b1 : BUF [3:5] ("P") -> ("O");' 'n1 : OR [0:2] ("S", "Q") -> (-"P");' 'n2 : OR [0:3] ("R", "P") -> (-"Q");'
+helps "$slow_loop" \
+    "$comes_from" \
+    '        P<0> is driven at 5:1 by n1<0>' \
+    '        Q<0> is driven at 6:1 by n2<0>' \
+    '        P<0> is driven at 5:1 by n1<0>'
 
 # --- the cases, which begin on line 6
 # cases WANT LINE ..: these lines after a drawing of one multiplexer
@@ -804,16 +834,18 @@ cases() {
         printf '%s\n' "$@"
     } | unexpanded "$want"
 }
-# told WANT LINE WHY: a case of this line is refused so, and this line says why
+# told WANT LINE WHY ..: a case of this line is refused so, and these lines say why
 told() {
     cases "$1" "$2"
+    shift 2
     helps '    a case sets a net that nothing drives and that asserts .S or nothing to 0 or 1, once. It names the net' \
         '    without assertion and path, so inside a macro only one whose name begins with /' \
-        "$3"
+        "$@"
 }
-told '19 CaseNet 6:6' 'CASE "X"=0;' '        X<0> is driven at 4:1 by m1<0>'
+told '19 CaseNet 6:6' 'CASE "X"=0;' '    a case sets what nothing drives:' '        X<0> is driven at 4:1 by m1<0>'
 told '19 CaseNet 6:6' 'CASE "NONE"=0;' '    there is no net NONE<0>'
-told '19 CaseNet 6:6' 'CASE "SEL"<1>=0;' '    there is no net SEL<1>'
+told '19 CaseNet 6:6' 'CASE "SELL"=0;' '    there is no net SELL<0>' '    is SEL<0> meant?'
+told '19 CaseNet 6:6' 'CASE "SEL"<1>=0;' '    there is no net SEL<1>' '    is SEL<0> meant?'
 told '19 CaseNet 6:6' 'CASE "CK"=0;' '    CK<0> asserts a clock'
 told '19 CaseNet 6:6' 'CASE "PH"=0;' '    PH<0> asserts a clock'
 told '19 CaseNet 6:6' 'CASE "SEL .S"=0;' '    in a CASE a name stands without its assertion'
@@ -843,5 +875,118 @@ choices() {
 }
 choices '19 CaseNet 10:6' 'CASE "SEL"=2;'
 choices '19 CaseNet 10:15' 'CASE "SEL"=0, "SEL"=0;'
+
+# --- sections: what standard error says of their rules, of a section that is refused, and of lines between them
+# sections STATUS FIRST SECOND [BETWEEN]: two sections, whose drawings have these lines from line 4 on, end with this
+# status; the line between them is line 6 of the text
+sections() {
+    {
+        printf 'SCALD 2;\nCLOCK 8 x 50;\nDRAWING A;\n%s\nEND;\n' "$2"
+        printf '%s\n' "${4-=====}"
+        printf 'SCALD 2;\n%s\nDRAWING B;\n%s\n' "${clock-CLOCK 8 x 50;}" "$3"
+    } >"$work/text"
+    answers sections "$1" ''
+}
+# said LINE ..: standard error says these lines, and no other
+said() {
+    trying "said: $1"
+    printf '%s\n' "$@" | cmp -s - "$work/said" || {
+        failure "this is said in place of '$1':"
+        cat "$work/said"
+    }
+}
+# of SECTION LINE WHY: the first line on a section that begins on this line of the text
+of() {
+    echo "scald: section $1, which begins at line $2 of the text: $3"
+}
+first='b1 : BUF [1:2] ("D .S1-8") -> ("/Q .S2-8");'
+second='b2 : BUF [1:2] ("/Q .S2-8") -> ("X");'
+end='
+END;'
+sections 10 "$first" "b2 : AND [1:2] (\"/Q .S2-8\", \"S\") -> (\"X\");$end
+CASE \"S\"=0;"
+said "$(of 2 7 'it lists a case, and sections list none')" \
+    '    its first case stands at 6:1, line 12 of the text:' \
+    '    CASE "S"=0;' \
+    '    ^' \
+    '    verify this section with its cases by itself, and leave them out here'
+clock='CLOCK 8 x 40; PSKEW 1:2;'
+sections 10 "$first" "$second$end"
+said "$(of 2 7 'its clock or its skews are not those of section 1')" \
+    '    its clock stands at 2:1, line 8 of the text:' \
+    '    CLOCK 8 x 40; PSKEW 1:2;' \
+    '    ^' \
+    '    CLOCK is 8 x 40 here, and 8 x 50 in section 1' \
+    '    PSKEW is 1:2 here, and 0:0 in section 1' \
+    '    write CLOCK, PSKEW and CSKEW alike in all sections'
+unset clock
+sections 10 "$first" "b2 : BUF [1:2] (\"/Q\") -> (\"X\");$end"
+said "$(of 2 7 'the net /Q<0> does not assert here what it asserts in section 1')" \
+    '    here it stands at 4:17, line 10 of the text:' \
+    '    b2 : BUF [1:2] ("/Q") -> ("X");' \
+    '                    ^' \
+    '    in section 1 it stands at 4:32, line 4 of the text:' \
+    "    $first" \
+    '                                   ^' \
+    '    give it the same assertion in each section where it stands, or none in any'
+sections 10 "$first" "b2 : BUF [1:2] (\"E .S1-8\") -> (\"/Q .S2-8\");$end"
+said "$(of 2 7 'the net /Q<0> is driven here, and in section 1')" \
+    '    here it is driven at 4:1, line 10 of the text:' \
+    '    b2 : BUF [1:2] ("E .S1-8") -> ("/Q .S2-8");' \
+    '    ^' \
+    '    in section 1 it is driven at 4:1, line 4 of the text:' \
+    "    $first" \
+    '    ^' \
+    '    one section drives it, and the others take it as it asserts'
+sections 10 'b1 : BUF [1:2] ("D .S1-8") -> ("/Q");' "b2 : BUF [1:2] (\"/Q\") -> (\"X\");$end"
+said "$(of 1 1 'the net /Q<0> asserts nothing, and goes to section 2')" \
+    '    here it stands at 4:32, line 4 of the text:' \
+    '    b1 : BUF [1:2] ("D .S1-8") -> ("/Q");' \
+    '                                   ^' \
+    '    in section 2 it stands at 4:17, line 10 of the text:' \
+    '    b2 : BUF [1:2] ("/Q") -> ("X");' \
+    '                    ^' \
+    '    nothing else is known of it there: give it one assertion in each section where it stands'
+sections 10 'b1 : BUF [0:2] ("D .S1-8") -> ("/Q .S2-8");' "$second$end"
+said "$(of 1 1 'the net /Q<0> has a driver that may take no time, and goes to section 2')" \
+    '    here it is driven at 4:1, line 4 of the text:' \
+    '    b1 : BUF [0:2] ("D .S1-8") -> ("/Q .S2-8");' \
+    '    ^' \
+    '    in section 2 it stands at 4:17, line 10 of the text:' \
+    "    $second" \
+    '                    ^' \
+    '    give its driver a least delay of 1 or more'
+sections 2 "$first" "b2 : BUFF [1:2] (\"/Q .S2-8\") -> (\"X\");$end"
+said "$(of 2 7 'places count from there')" \
+    "scald: 4:1: $(sentence UnknownKind)" \
+    '    b2 : BUFF [1:2] ("/Q .S2-8") -> ("X");' \
+    '    ^' \
+    "    'BUFF' is none: is BUF meant?"
+# nearly LINE COLUMN WHAT: of two sections with this line between them, that it is nearly the right one, and why
+nearly() {
+    sections 9 "$first" "$second$end" "$1"
+    said 'scald: there should be 2 to 64 sections, with a line ===== between them' \
+        "    line 6 of the text is nearly one between two sections, which is ===== and nothing else: $3 stands in column $2" \
+        "    $(printf %s "$1" | tr '\t\r' '  ')" \
+        "    $(printf "%$(($2 - 1))s" '')^"
+}
+nearly '===== ' 6 'a space'
+nearly '=====	' 6 'a tab'
+nearly "$(printf '=====\r')" 6 'a carriage return'
+nearly '====' 5 'its end'
+nearly '======' 6 'one = more'
+nearly ' =====' 1 'a space'
+sections 9 "$first" "$second$end" '== =='
+said 'scald: there should be 2 to 64 sections, with a line ===== between them' \
+    '    line 6 of the text is nearly one between two sections, which is ===== and nothing else: a space stands in column 3' \
+    '    == ==' \
+    '      ^'
+sections 9 "$first" "$second$end" '=='
+said 'scald: there should be 2 to 64 sections, with a line ===== between them'
+sections 2 "$first" "$second$end
+====="
+sed -i '3,$d' "$work/said"
+said "$(of 3 13 'places count from there')" \
+    '    nothing stands in it: a line ===== stands between two sections, and not before or after all'
 
 ended

@@ -10,10 +10,11 @@ use crate::traced::say_trace;
 use circuit_help::{
     explain_case, explain_drivers, explain_reached, explain_unsettled, explain_zero_loop,
 };
-use refusal_help::{explain_refusal, explain_words};
-use scald_base::{Bytes, NoMemory, Refusal, RefusalKind};
+use refusal_help::{explain_refusal, explain_words, shown_use};
+use scald_base::{Bytes, NoMemory, Place, Refusal, RefusalKind};
 use scald_tool::{Outcome, Words};
 use section_compose::SectionsOutcome;
+use section_help::{explain_broken, explain_section, explain_separator};
 use section_rules::{Piece, sections_of};
 use std::alloc::Global;
 use std::io::Eprint;
@@ -130,21 +131,32 @@ pub fn say_lines(rt: &impl Eprint, lines: Result<Bytes, NoMemory>) {
     }
 }
 
+/// The place of a macro's only use, where it is shown with the refusal.
+fn shown_in(alloc: Global, text: &[u8], refusal: Refusal) -> Option<Place>
+    requires { length text.now < 2 ^ 31 }
+{
+    match shown_use(alloc, text, refusal) {
+        Ok(shown) => shown,
+        Err(_) => None,
+    }
+}
+
 /// Says what is found by reading a text that is refused once more, or a part of it.
 fn say_more(rt: &(impl Eprint + AllocGlobal), text: &[u8], refusal: Refusal)
     requires { length text.now < 2 ^ 31 }
 {
     let alloc = rt.alloc();
+    let shown = shown_in(alloc, text, refusal);
     match refusal.kind {
         RefusalKind::Syntax => say_lines(rt, explain_expected(alloc, text, refusal.place)),
         RefusalKind::CaseNet => say_lines(rt, explain_case(alloc, text, refusal.place)),
         RefusalKind::TwoDrivers => {
             say_lines(rt, explain_drivers(alloc, text, refusal.place));
-            say_lines(rt, explain_reached(alloc, text, refusal.place));
+            say_lines(rt, explain_reached(alloc, text, refusal.place, shown));
         }
         RefusalKind::ZeroLoop => {
             say_lines(rt, explain_zero_loop(alloc, text, refusal.place));
-            say_lines(rt, explain_reached(alloc, text, refusal.place));
+            say_lines(rt, explain_reached(alloc, text, refusal.place, shown));
         }
         // These are of the text, and a circuit that is too large is not made again.
         RefusalKind::BadByte
@@ -154,7 +166,7 @@ fn say_more(rt: &(impl Eprint + AllocGlobal), text: &[u8], refusal: Refusal)
         | RefusalKind::EdgesOverlap
         | RefusalKind::DoubleName
         | RefusalKind::TooMany => {}
-        _ => say_lines(rt, explain_reached(alloc, text, refusal.place)),
+        _ => say_lines(rt, explain_reached(alloc, text, refusal.place, shown)),
     }
 }
 
@@ -196,7 +208,25 @@ fn say_section(
     if let Some(text) = text {
         if text.len() <= MOST_BYTES {
             if let Some(piece) = section_piece(rt.alloc(), text, section) {
+                say_lines(rt, explain_section(rt.alloc(), text, section));
                 say_refusal(rt, Some(&text[piece.from..piece.to]), refusal);
+                say_lines(rt, explain_separator(rt.alloc(), text));
+            }
+        }
+    }
+}
+
+/// Says what is wrong with the sections of a text that was kept, where that is known.
+fn say_together(rt: &(impl Eprint + AllocGlobal), text: Option<&[u8]>, outcome: &SectionsOutcome) {
+    if let Some(text) = text {
+        if text.len() <= MOST_BYTES {
+            match outcome {
+                SectionsOutcome::BadCount(_) => say_lines(rt, explain_separator(rt.alloc(), text)),
+                SectionsOutcome::BadSection { .. } => say_lines(
+                    rt,
+                    explain_broken(rt.alloc(), text),
+                ),
+                _ => {}
             }
         }
     }
@@ -242,6 +272,7 @@ fn say_sections(
     if let Some(why) = why_of_sections(outcome) {
         say(rt, why);
     }
+    say_together(rt, text, outcome);
 }
 
 /// Says why there is no answer, where there is none: `text` is what was read, where that was kept.
