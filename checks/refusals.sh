@@ -550,8 +550,7 @@ drawing '21 ZeroDivisor 4:1' 'b1 : BUF [0:1/0] ("A") -> ("X");'
 no_help
 # unknown LINE ..: beside what is known in a body, these lines are said
 unknown() {
-    helps '    known are the constants before it, and the parameters of the MACRO and the variables of the FORs' \
-        '    around it' \
+    helps '    a name here is a constant declared before it, a parameter of the MACRO or a variable of a FOR around it' \
         "$@"
 }
 drawing '22 UnknownName 4:1' 'b1 : BUF [0:N] ("A") -> ("X");'
@@ -566,7 +565,7 @@ macro unexpanded '22 UnknownName 4:1' 'MACRO M {N=1} ("A") -> ("Z");' 'b1 : BUF 
     'u : M ("A") -> ("X");' 'END;'
 unknown "    'K' is none of these" '    it is reached by u at 7:1'
 expanded '22 UnknownName 3:1' 'CONST N = M;' 'CONST M = 1;' 'DRAWING ROW;' 'END;'
-helps '    known are the constants before it' "    'M' is none of these"
+helps '    a name here is a constant declared before it' "    'M' is none of these"
 # the head of a macro: of its defaults those that the use does not give, and then its ranges
 expanded '22 UnknownName 7:1' 'CONST W = 2;' 'MACRO M {N=W, D=N*5} ("A"<0:N-1>) -> ("Z");' 'END;' 'DRAWING ROW;' \
     'u : M {N=3} ("A"<0:2>) -> ("X");' 'END;'

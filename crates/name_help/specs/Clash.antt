@@ -57,7 +57,8 @@ abbrev pub pair_or : Token → Option Token → Option (Token × Token) → Opti
 pair_or t (Some other) rest = Some (t, other)
 pair_or t None rest = rest
 
--- the first signal of a statement that has another assertion before, in these tokens, and where it has
+-- the first signal of a statement that has another assertion before, in these tokens, and where it
+-- has
 abbrev pub first_pair : List ℕ → List Token → List Token → Option (Token × Token)
 first_pair text tokens [] = None
 first_pair text tokens (t ∷ ts) =

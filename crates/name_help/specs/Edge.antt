@@ -44,7 +44,8 @@ name_of text (t ∷ ts) = unquoted (spelled text t)
 abbrev pub name_at : List ℕ → List Token → Place → List ℕ
 name_at text tokens place = name_of text (from_place place tokens)
 
--- They are looked for in a name of at most 256 bytes, where the header counts 1 to 4,096 units of a tick or more.
+-- They are looked for in a name of at most 256 bytes, where the header counts 1 to 4,096 units of a
+-- tick or more.
 abbrev pub is_searched : List ℕ → List Token → Place → Bool
 is_searched text tokens place =
     not (units_of tokens == 0)

@@ -1,6 +1,6 @@
--- Which word in the head of a macro is the name of no number there. A use of the macro evaluates the defaults of
--- the parameters that it does not give, in which constants alone are known, and then the ranges of the formals, in
--- which the parameters are known too.
+-- Which word in the head of a macro is the name of no number there. A use of the macro evaluates
+-- the defaults of the parameters that it does not give, in which constants alone are known, and
+-- then the ranges of the formals, in which the parameters are known too.
 use Rattle.std.specs.Prelude.{ℕ, Bool, true, false, not, ◌&&◌, List, [], ◌∷◌, ◌++◌, take, codes, Option, Some, None, if◌then◌else◌}
 use Rattle.scald_base.specs.declared.refusal.Place.{Place}
 use Rattle.scald_lex.specs.declared.token.Token.{Token}
@@ -28,8 +28,8 @@ is_strange text tokens given parameter last t ts =
     is_value text last t ts
     && (not (is_constant text tokens (spelled text t)) && not (is_assigned text (spelled text parameter) false given))
 
--- The first word that is no constant in a default that the use does not give, with the parameter. The tokens are
--- those of braces; this parameter and this token stand before them.
+-- The first word that is no constant in a default that the use does not give, with the parameter.
+-- The tokens are those of braces; this parameter and this token stand before them.
 abbrev pub default_from : List ℕ → List Token → List Token → Token → Option Token → List Token → Option (Token × Token)
 default_from text tokens given parameter last [] = None
 default_from text tokens given parameter last (t ∷ ts) =
@@ -44,7 +44,8 @@ default_from text tokens given parameter last (t ∷ ts) =
 abbrev pub given_in : List Token → List Token
 given_in statement = braces (after_group 91 93 (after_kind statement))
 
--- Of a long head the first 256 tokens of the braces are looked at, so that the time stays in proportion to the text.
+-- Of a long head the first 256 tokens of the braces are looked at, so that the time stays in
+-- proportion to the text.
 abbrev pub strange_default : List ℕ → List Token → List Token → List Token → Option (Token × Token)
 strange_default text tokens statement [] = None
 strange_default text tokens statement (name ∷ ts) =

@@ -90,7 +90,8 @@ misread_line units misread read left = cut_line read left (told_note misread)
 abbrev pub formal_line : List ℕ
 formal_line = codes "    a formal of a macro has neither an assertion nor a / before it\n"
 
--- by why the bytes are no name, and how many of them are left there: a name that is one is no formal's
+-- by why the bytes are no name, and how many of them are left there: a name that is one is no
+-- formal's
 abbrev pub ended_line : ℕ → List ℕ → Option Misread → ℕ → List ℕ
 ended_line units name None left = formal_line
 ended_line units name (Some misread) left =

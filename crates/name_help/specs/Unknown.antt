@@ -58,8 +58,8 @@ after_head [] = []
 after_head (t ∷ []) = []
 after_head (t ∷ u ∷ ts) = ts
 
--- A constant that is declared before the statement, a variable of a FOR before it, which may be around it,
--- or a parameter of the macro with this head.
+-- A constant that is declared before the statement, a variable of a FOR before it, which may be
+-- around it, or a parameter of the macro with this head.
 unfoldable pub is_known : List ℕ → List Token → List Token → ℕ → List ℕ → Bool
 is_known text tokens head start word =
     begins_before start (from_after text (codes "CONST") word tokens)
@@ -74,7 +74,8 @@ unknown_from text tokens head start last (t ∷ ts) =
     else if is_value text last t ts && not (is_known text tokens head start (spelled text t)) then Some t
     else unknown_from text tokens head start (Some t) ts
 
--- Of a long statement the first 256 tokens are looked at, so that the time stays in proportion to the text.
+-- Of a long statement the first 256 tokens are looked at, so that the time stays in proportion to
+-- the text.
 abbrev pub first_unknown : List ℕ → List Token → List Token → List Token → Option Token
 first_unknown text tokens head statement =
     unknown_from text tokens head (start_of statement) None (take 256 (values_of text statement))

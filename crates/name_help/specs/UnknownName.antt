@@ -11,12 +11,11 @@ use Rattle.name_help.specs.MacroHead.{macro_lines}
 use Rattle.name_help.specs.Unknown.{first_unknown}
 
 unfoldable pub constants_note : List ℕ
-constants_note = codes "    known are the constants before it\n"
+constants_note = codes "    a name here is a constant declared before it\n"
 
 unfoldable pub around_note : List ℕ
 around_note =
-    codes "    known are the constants before it, and the parameters of the MACRO and the variables of the FORs\n" ++
-    codes "    around it\n"
+    codes "    a name here is a constant declared before it, a parameter of the MACRO or a variable of a FOR around it\n"
 
 -- which words are known in a statement, or in a constant's
 abbrev pub known_note : List ℕ → List Token → List ℕ

@@ -70,8 +70,8 @@ fn first_clash(text: &[u8], tokens: &[Token], name: &[u8]) -> Option<Token>
     None
 }
 
-/// The first of these tokens that is a name of the same signal with another assertion, where this one has one
-/// and stands after it.
+/// The first of these tokens that is a name of the same signal with another assertion, where this
+/// one has one and stands after it.
 #[tactic(auto, unfolding(crate::specs::Clash::earlier_clash))]
 fn earlier_clash(text: &[u8], tokens: &[Token], token: Token) -> Option<Token>
     ensures { result ≡ earlier_clash text.now tokens.now token }
@@ -86,8 +86,8 @@ fn earlier_clash(text: &[u8], tokens: &[Token], token: Token) -> Option<Token>
     }
 }
 
-/// The first signal of a statement that has another assertion before, in these tokens, and where it has. The
-/// statement ends with its first `;`.
+/// The first signal of a statement that has another assertion before, in these tokens, and where it
+/// has. The statement ends with its first `;`.
 fn first_pair(text: &[u8], tokens: &[Token], statement: &[Token]) -> Option<(Token, Token)>
     ensures { result ≡ first_pair text.now tokens.now statement.now }
 {
@@ -127,7 +127,8 @@ fn add_clash<'a>(
     )
 }
 
-/// Where the first signal of a statement that has another assertion before, in these tokens, has it.
+/// Where the first signal of a statement that has another assertion before, in these tokens, has
+/// it.
 fn add_clashes(
     out: &mut Bytes,
     text: &[u8],
@@ -152,8 +153,8 @@ fn assertion_note() -> &'static [u8]
     b"    give the assertion once, or spell it the same each time; a formal has that of the outer net\n"
 }
 
-/// Puts what to do about another assertion at the end of the bytes, and where a signal of the statement at the
-/// place has one. The one error is that memory ran out.
+/// Puts what to do about another assertion at the end of the bytes, and where a signal of the
+/// statement at the place has one. The one error is that memory ran out.
 pub fn add_assertion(
     out: &mut Bytes,
     text: &[u8],

@@ -41,7 +41,8 @@ fn is_before(text: &[u8], tokens: &[Token], word: &[u8], follower: &[u8]) -> boo
     }
 }
 
-/// The first token of this text before one of that text, or before any where the text is a name in quotes.
+/// The first token of this text before one of that text, or before any where the text is a name in
+/// quotes.
 fn first_before(text: &[u8], tokens: &[Token], word: &[u8], follower: &[u8]) -> Option<Token>
     ensures { result ≡ first_before text.now word.now follower.now tokens.now }
 {
@@ -55,8 +56,8 @@ fn first_before(text: &[u8], tokens: &[Token], word: &[u8], follower: &[u8]) -> 
     None
 }
 
-/// Where the name that stands at a place is taken: a macro's or a constant's anywhere, any other in its
-/// macro or in the drawing.
+/// Where the name that stands at a place is taken: a macro's or a constant's anywhere, any other in
+/// its macro or in the drawing.
 fn taken_at(text: &[u8], tokens: &[Token], place: Place) -> Option<Token>
     ensures { result ≡ taken_at text.now tokens.now place }
 {
@@ -78,7 +79,8 @@ fn taken_at(text: &[u8], tokens: &[Token], place: Place) -> Option<Token>
     )
 }
 
-/// Puts where the name at the place is taken at the end of the bytes. The one error is that memory ran out.
+/// Puts where the name at the place is taken at the end of the bytes. The one error is that memory
+/// ran out.
 pub fn add_double(
     out: &mut Bytes,
     text: &[u8],

@@ -71,8 +71,8 @@ fn is_searched(text: &[u8], tokens: &[Token], place: Place) -> bool
         && name_at(text, tokens, place).len() <= MOST_BYTES
 }
 
-/// Two edges of the clock at a place that may come in one slot, by the units at which they come, which go on
-/// over the end of the period.
+/// Two edges of the clock at a place that may come in one slot, by the units at which they come,
+/// which go on over the end of the period.
 pub fn edges_at(text: &[u8], tokens: &[Token], place: Place) -> Option<(u64, u64)>
     ensures { AreEdges text.now tokens.now place result }
 {
@@ -84,7 +84,8 @@ pub fn edges_at(text: &[u8], tokens: &[Token], place: Place) -> Option<(u64, u64
     near_edges(units_of(tokens), name, spread(skew) / ticks_of(tokens))
 }
 
-/// Edges at two units, so many ticks apart, in a clock of this skew, by which they meet at most so far apart.
+/// Edges at two units, so many ticks apart, in a clock of this skew, by which they meet at most so
+/// far apart.
 #[tactic(auto, unfolding(crate::specs::Edge::gap_line))]
 fn add_gap(
     out: &mut Bytes,
@@ -140,8 +141,8 @@ fn add_edges_line(
     }
 }
 
-/// Puts which edges of the clock at a place may come in one slot at the end of the bytes, where two were found.
-/// The one error is that memory ran out.
+/// Puts which edges of the clock at a place may come in one slot at the end of the bytes, where two
+/// were found. The one error is that memory ran out.
 pub fn add_edges(
     out: &mut Bytes,
     text: &[u8],

@@ -144,7 +144,8 @@ fn add_word<'a>(
     }
 }
 
-/// Puts what a use that names no kind may mean at the end of the bytes. The one error is that memory ran out.
+/// Puts what a use that names no kind may mean at the end of the bytes. The one error is that
+/// memory ran out.
 pub fn add_kind(
     out: &mut Bytes,
     text: &[u8],

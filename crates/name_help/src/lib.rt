@@ -1,9 +1,10 @@
 //! What is said of a name that a text is refused for.
 //!
-//! Of a signal: why the text between its quotes is no name (`specs/Naming`, over `name_fault`), which edges of
-//! its clock may come in one slot (`specs/Edge`), and where it has another assertion (`specs/Clash`). Of a word:
-//! where it is taken (`specs/Double`), which kind or macro it may mean (`specs/KindName`), and which one of an
-//! expression stands for no number (`specs/UnknownName`). `refusal_help` calls each for its kind of refusal.
+//! Of a signal: why the text between its quotes is no name (`specs/Naming`, over `name_fault`),
+//! which edges of its clock may come in one slot (`specs/Edge`), and where it has another assertion
+//! (`specs/Clash`). Of a word: where it is taken (`specs/Double`), which kind or macro it may mean
+//! (`specs/KindName`), and which one of an expression stands for no number (`specs/UnknownName`).
+//! `refusal_help` calls each for its kind of refusal.
 #![tactic(auto)]
 
 // signals

@@ -21,8 +21,8 @@ fn is_constant(text: &[u8], tokens: &[Token], word: &[u8]) -> bool
     }
 }
 
-/// Whether a token between these, in the default of this parameter, is a word that means nothing there. The
-/// default means nothing where a use gives the parameter.
+/// Whether a token between these, in the default of this parameter, is a word that means nothing
+/// there. The default means nothing where a use gives the parameter.
 #[tactic(auto, unfolding(crate::specs::MacroHead::is_strange))]
 fn is_strange(
     text: &[u8],
@@ -40,8 +40,8 @@ fn is_strange(
         && !is_assigned(text, given, spelled(text, parameter))
 }
 
-/// The first word that means nothing in a default of these braces that is not given, with the parameter. The
-/// name of the macro stands before them.
+/// The first word that means nothing in a default of these braces that is not given, with the
+/// parameter. The name of the macro stands before them.
 fn default_among(
     text: &[u8],
     tokens: &[Token],
@@ -76,8 +76,8 @@ fn given_in(statement: &[Token]) -> &[Token]
     braces(after_group(after_kind(statement), b'[', b']'))
 }
 
-/// The first word that means nothing in a default that a use takes, with the parameter: by the head of its
-/// macro, from the name on.
+/// The first word that means nothing in a default that a use takes, with the parameter: by the head
+/// of its macro, from the name on.
 fn strange_default(
     text: &[u8],
     tokens: &[Token],
@@ -98,7 +98,8 @@ fn strange_default(
     }
 }
 
-/// The first word that means nothing in the ranges of a macro's formals, by its head from the word MACRO on.
+/// The first word that means nothing in the ranges of a macro's formals, by its head from the word
+/// MACRO on.
 fn strange_range(text: &[u8], tokens: &[Token], head: &[Token]) -> Option<Token>
     ensures { result ≡ strange_range text.now tokens.now head.now }
 {
@@ -147,7 +148,8 @@ fn add_formal(out: &mut Bytes, text: &[u8], token: Token) -> Result<(), NoMemory
     )
 }
 
-/// The word that means nothing in a default, or else the one in a formal's range, or else this note.
+/// The word that means nothing in a default, or else the one in a formal's range, or else this
+/// note.
 fn add_strange(
     out: &mut Bytes,
     text: &[u8],

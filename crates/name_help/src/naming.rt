@@ -116,7 +116,8 @@ fn add_begins(out: &mut Bytes, units: u64, first: u64) -> Result<(), NoMemory>
     )
 }
 
-/// How an interval that goes on over the end of the period is written, where it has less than a period.
+/// How an interval that goes on over the end of the period is written, where it has less than a
+/// period.
 fn add_wrapped(out: &mut Bytes, first: u64, last: u64) -> Result<(), NoMemory>
     ensures { OnOk result (out.new ≡ out.old ++ wrapped_line first last) }
 {
@@ -222,7 +223,8 @@ fn add_name(out: &mut Bytes, units: u64, name: &[u8]) -> Result<(), NoMemory>
     }
 }
 
-/// Puts why the name that tokens begin with is none at the end of the bytes. The one error is that memory ran out.
+/// Puts why the name that tokens begin with is none at the end of the bytes. The one error is that
+/// memory ran out.
 pub fn add_name_lines(
     out: &mut Bytes,
     text: &[u8],

@@ -23,8 +23,8 @@ fn declares_value(text: &[u8], statement: &[Token]) -> bool
     }
 }
 
-/// The tokens of a statement that values are among: those after the kind of a use, or after the `=` of what it
-/// declares.
+/// The tokens of a statement that values are among: those after the kind of a use, or after the `=`
+/// of what it declares.
 fn values_of<'a>(text: &[u8], statement: &'a [Token]) -> &'a [Token]
     ensures { result.now ≡ values_of text.now statement.now }
 {
@@ -105,7 +105,8 @@ pub fn after_head(head: &[Token]) -> &[Token]
     }
 }
 
-/// Whether a word may be known in a statement that begins with this byte, in the macro or drawing with this head.
+/// Whether a word may be known in a statement that begins with this byte, in the macro or drawing
+/// with this head.
 #[tactic(auto, unfolding(crate::specs::Unknown::is_known))]
 fn is_known(text: &[u8], tokens: &[Token], head: &[Token], start: u32, word: &[u8]) -> bool
     ensures { result ≡ is_known text.now tokens.now head.now start word.now }

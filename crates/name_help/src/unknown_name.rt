@@ -14,7 +14,7 @@ use scald_lex::Token;
 fn constants_note() -> &'static [u8]
     ensures { result.now ≡ constants_note }
 {
-    b"    known are the constants before it\n"
+    b"    a name here is a constant declared before it\n"
 }
 
 /// Which words are known in a body.
@@ -22,9 +22,7 @@ fn constants_note() -> &'static [u8]
 fn around_note() -> &'static [u8]
     ensures { result.now ≡ around_note }
 {
-    b"    known are the constants before it, and the parameters of the MACRO and the variables of the FORs
-    around it
-"
+    b"    a name here is a constant declared before it, a parameter of the MACRO or a variable of a FOR around it\n"
 }
 
 /// Which words are known in a statement.
@@ -53,8 +51,9 @@ fn add_unknown_word(out: &mut Bytes, text: &[u8], token: Token) -> Result<(), No
     )
 }
 
-/// Puts which words are known at the place at the end of the bytes, and which one of the statement there is not;
-/// or else which one in the head of its macro is not, and the rule there. The one error is that memory ran out.
+/// Puts which words are known at the place at the end of the bytes, and which one of the statement
+/// there is not; or else which one in the head of its macro is not, and the rule there. The one
+/// error is that memory ran out.
 pub fn add_unknown(
     out: &mut Bytes,
     text: &[u8],
