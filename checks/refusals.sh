@@ -598,14 +598,17 @@ helps '    BUF takes a delay [a:b], 0 <= a <= b <= 4095, or two, [r:R, f:F], eac
 macro unexpanded '14 Bounds 4:1' 'MACRO M {N=1} ("A") -> ("Z");' 'b1 : BUF [N:3] ("A") -> ("Z");' 'END;' 'DRAWING ROW;' \
     'u1 : M {N=5} ("A") -> ("X");' 'END;'
 helps '    BUF takes a delay [a:b], 0 <= a <= b <= 4095, or two, [r:R, f:F], each at most 255' \
-    "    'M' is used only at 7:1:" '    u1 : M {N=5} ("A") -> ("X");' '    ^'
+    "    'M' is used only at 7:1:" '    u1 : M {N=5} ("A") -> ("X");' '    ^' \
+    '    the delay is 5:3, where N is 5'
 macro unexpanded '14 Bounds 4:1' 'MACRO M {N=1} ("A") -> ("Z");' 'b1 : BUF [N:3] ("A") -> ("Z");' 'END;' 'DRAWING ROW;' \
     'u1 : M {N=1} ("A") -> ("X");' 'u2 : M {N=5} ("A") -> ("Y");' 'u3 : M {N=6} ("A") -> ("V");' 'END;'
 helps '    BUF takes a delay [a:b], 0 <= a <= b <= 4095, or two, [r:R, f:F], each at most 255' \
+    '    the delay is 5:3, where N is 5' \
     '    it is reached by u2 at 8:1'
 macro unexpanded '14 Bounds 4:1' 'MACRO M {N=1} ("A") -> ("Z");' 'b1 : BUF [N:3] ("A") -> ("Z");' 'END;' 'DRAWING ROW;' \
     'u1 : M {N=1} ("A") -> ("X");' 'IF 1 THEN' 'u2 : M {N=5} ("A") -> ("Y");' 'ELSE' 'END;' 'WIRE "A" 0:1;' 'END;'
 helps '    BUF takes a delay [a:b], 0 <= a <= b <= 4095, or two, [r:R, f:F], each at most 255' \
+    '    the delay is 5:3, where N is 5' \
     '    it is reached by IF at 8:1'
 drawing '14 Bounds 4:1' 'b1 : BUF [0:0, 1:256] ("A") -> ("X");'
 helps '    BUF takes a delay [a:b], 0 <= a <= b <= 4095, or two, [r:R, f:F], each at most 255' \
@@ -645,6 +648,7 @@ macro unexpanded '15 TooDeep 4:1' 'MACRO M ("A") -> ("Z");' 'x : M ("A") -> ("Z"
 helps '    at most 64 uses of macros may be inside one another, and this is one more' \
     '    it is reached by u at 7:1'
 macro unexpanded '11 BadRange 6:1' 'MACRO M {N=1} ("A"<0:N>);' 'END;' 'DRAWING ROW;' 'u : M {N=256} ("A");' 'END;'
+helps '    the range of "A" goes from 0 to 256, where N is 256'
 drawing '11 BadRange 4:1' 'b1 : BUF [0:0] ("A"<65536>) -> ("X");'
 helps '    bit 65536 of "A" is past the last, 65535'
 drawing '11 BadRange 4:1' 'b1 : BUF [0:0] ("A"<0-1>) -> ("X");'
@@ -695,6 +699,44 @@ wide "$by_formal" '    bits of the connections: 8, 1 -> 8' '    bits of the form
 macro unexpanded '12 Width 4:1' 'MACRO M ("A"<0:2>) -> ("Z");' 'b1 : BUF [0:0] ("A") -> ("Z");' 'END;' 'DRAWING ROW;' \
     'u : M ("A"<0:2>) -> ("X");' 'END;'
 wide "$by_output" '    bits of the connections: 3 -> 1' "    'M' is used only at 7:1:" '    u : M ("A"<0:2>) -> ("X");' '    ^'
+
+# --- values where a statement is reached
+delays='    BUF takes a delay [a:b], 0 <= a <= b <= 4095, or two, [r:R, f:F], each at most 255'
+# two uses, of which the second alone is refused
+expanded '11 BadRange 4:1' 'MACRO M {W=4} ("A") -> ("Z");' 'b1 : BUF [0:0] ("A") -> ("B"<0:W-1>);' 'END;' 'DRAWING ROW;' \
+    'u1 : M ("X") -> ("Y");' 'u2 : M {W=0} ("X") -> ("V");' 'END;'
+helps '    the range of "B" goes from 0 to -1, where W is 0' '    it is reached by u2 at 8:1'
+# a parameter that is passed on
+expanded '11 BadRange 4:1' 'MACRO M {W=4} ("A") -> ("Z");' 'b1 : BUF [0:0] ("A") -> ("B"<W>);' 'END;' 'MACRO O {N=1} ("A") -> ("Z");' \
+    'u : M {W=N-2} ("A") -> ("Z");' 'END;' 'DRAWING ROW;' 'o1 : O {N=3} ("X") -> ("Y");' 'o2 : O ("X") -> ("V");' 'END;'
+helps "    'M' is used only at 7:1:" '    u : M {W=N-2} ("A") -> ("Z");' '    ^' \
+    '    the bit of "B" is -1, where W is -1' '    it is reached by o2 at 11:1'
+# the first turn of a FOR that is refused, and each name once
+expanded '11 BadRange 6:1' 'CONST W = 4;' 'DRAWING ROW;' 'FOR I = 0 TO 3 DO' 'b1 : BUF [0:0] ("A"<W-I*W+I>) -> ("X"<I>);' 'END;' 'END;'
+helps '    the bit of "A" is -2, where W is 4, I is 2'
+# the head of a macro
+expanded '11 BadRange 7:1' 'MACRO M {N=1} ("A"<0:N>);' 'END;' 'DRAWING ROW;' 'u1 : M ("X"<0:1>);' 'u2 : M {N=256} ("X");' 'END;'
+helps '    the range of "A" goes from 0 to 256, where N is 256'
+expanded '11 BadRange 5:1' 'CONST N = 65536;' 'DRAWING ROW;' 'WIRE "A"<N> 0:0;' 'END;'
+helps '    the bit of "A" is 65536, where N is 65536'
+# delays under an IF, and in one macro for two uses
+expanded '14 Bounds 6:1' 'CONST D = 30;' 'DRAWING ROW;' 'IF D THEN' 'b1 : BUF [D:20] ("A") -> ("X");' 'ELSE' \
+    'b2 : BUF [0:0] ("A") -> ("X");' 'END;' 'END;'
+helps "$delays" '    the delay is 30:20, where D is 30'
+expanded '14 Bounds 4:1' 'MACRO M {D=1, E=2} ("A") -> ("Z");' 'b1 : BUF [D:E, 2*D:E+253] ("A") -> ("Z");' 'END;' 'DRAWING ROW;' \
+    'u1 : M ("X") -> ("Y");' 'u2 : M {E=3} ("X") -> ("V");' 'END;'
+helps "$delays" '    the delays are 1:3 and 2:256, where D is 1, E is 3' '    it is reached by u2 at 8:1'
+# limits and the bounds of wires
+expanded '14 Bounds 5:1' 'CONST T = 391;' 'DRAWING ROW;' 'c1 : SETUP_HOLD_CHK {SETUP=T, HOLD=10} ("CK", "D");' 'END;'
+helps '    SETUP_HOLD_CHK takes SETUP and HOLD, each once; neither is negative, and together they are at most the period' \
+    '    SETUP is 391, HOLD is 10, where T is 391'
+expanded '14 Bounds 4:1' 'MACRO M {N=2} ("A");' 'WIRE "A" N:1;' 'END;' 'DRAWING ROW;' 'u : M {N=1} ("X");' 'v : M ("Y");' 'END;'
+helps '    WIRE "A" a:b has 0 <= a <= b <= 4095' '    the bounds are 2:1, where N is 2' '    it is reached by v at 8:1'
+# nothing is said of values where they are not what is wrong
+expanded '14 Bounds 5:1' 'CONST D = 2;' 'DRAWING ROW;' 'c1 : MIN_PULSE_CHK [D:1] ("A");' 'END;'
+helps '    MIN_PULSE_CHK takes HIGH and LOW, each once; neither is negative, and each is at most the period' \
+    '    MIN_PULSE_CHK takes no delay' \
+    '    here it has one'
 
 # --- two refusals in one statement: the first of the order is answered
 drawing '6 UnknownKind 4:1' 'b1 : BUFF {N=1/0} ("A", "B") -> ("X");'

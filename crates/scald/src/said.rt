@@ -20,6 +20,7 @@ use std::alloc::Global;
 use std::io::Eprint;
 use std::str;
 use syntax_help::explain_expected;
+use value_help::explain_values;
 
 /// The most bytes of a text that is explained: any text that is not too long.
 const MOST_BYTES: usize = 4_194_304;
@@ -156,6 +157,10 @@ fn say_more(rt: &(impl Eprint + AllocGlobal), text: &[u8], refusal: Refusal)
         }
         RefusalKind::ZeroLoop => {
             say_lines(rt, explain_zero_loop(alloc, text, refusal.place));
+            say_lines(rt, explain_reached(alloc, text, refusal.place, shown));
+        }
+        RefusalKind::BadRange | RefusalKind::Bounds => {
+            say_lines(rt, explain_values(alloc, text, refusal));
             say_lines(rt, explain_reached(alloc, text, refusal.place, shown));
         }
         // These are of the text, and a circuit that is too large is not made again.
