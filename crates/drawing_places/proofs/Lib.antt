@@ -1,0 +1,5 @@
+pub mod Paths
+pub mod Bodies
+pub mod Finding
+pub mod Leading
+pub mod Assertions
