@@ -1,0 +1,11 @@
+pub mod Passing
+pub mod Short
+pub mod Ticks
+pub mod Steps
+pub mod Inside
+pub mod Within
+pub mod Resting
+pub mod Arriving
+pub mod Way
+pub mod Existing
+pub mod Telling

@@ -1,0 +1,9 @@
+pub mod Asked
+pub mod Late
+pub mod Unknown
+pub mod Sides
+pub mod Around
+pub mod Shown
+pub mod Marks
+pub mod Account
+pub mod Laws

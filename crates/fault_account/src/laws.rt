@@ -1,0 +1,25 @@
+//! Laws of what is told of a fault. The functions do nothing: what each states is its contract.
+
+ghost use Rattle.fault_account.specs.Laws.{FaultsAreWithin, LimitsAreShort, StepsAreShared, TicksAreShared};
+
+/// A limit is short by the least amount: with so much less there is no fault, and with any more there is one.
+pub fn limits_are_short()
+    ensures { LimitsAreShort }
+{}
+
+/// What a wire and a delay are told to take is within the bounds of each.
+pub fn ticks_are_shared()
+    ensures { TicksAreShared }
+{}
+
+/// Each link of the chain of a fault comes about by the one that follows it, in ticks that a wire and the
+/// driver of its net take.
+pub fn steps_are_shared()
+    ensures { StepsAreShared }
+{}
+
+/// The numbers of each fault of a case at rest, and of the fault that is told for it, are those of slots of the
+/// period: [`account_with`](crate::account_with) may be called for it.
+pub fn faults_are_within()
+    ensures { FaultsAreWithin }
+{}
