@@ -1,0 +1,4 @@
+pub mod Backwards
+pub mod Turning
+pub mod Named
+pub mod Examples

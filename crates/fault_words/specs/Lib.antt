@@ -1,0 +1,4 @@
+pub mod Naming
+pub mod Words
+pub mod Places
+pub mod Elements
