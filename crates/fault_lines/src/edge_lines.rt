@@ -1,0 +1,365 @@
+//! The lines of a change at an edge of a checker's clock.
+
+ghost use Rattle.std.specs.Prelude.{◌≡◌, ◌+◌, ◌-◌, ◌<◌, ◌≤◌, ◌++◌, IfOk, OnOk};
+ghost use Rattle.drawing_tree.specs.Tree.{drawing_of};
+ghost use Rattle.scald_base.specs.Time.{period as period_of};
+ghost use Rattle.listing.specs.Piece.{piece_text};
+ghost use Rattle.margin_report.specs.Report.{parameter_text};
+ghost use Rattle.fault_account.specs.Sides.{IsSide};
+ghost use Rattle.fault_account.specs.Account.{IsAtEdge, least_of};
+ghost use Rattle.fault_lines.specs.Lines.{edge_lines, edge_said as edge_written, edge_text as edge_with, first_edge_line, input_of as input_by, is_one as are_one, kept_line, late_lines, moved_line, moved_text as moved_with, moves_text as moves_with, risen_text as risen_with, side_of_edge, sooner_of as sooner_by, stable_text as stable_with, still_line, still_lines, way_text};
+
+use crate::axis::{change_tick, edge_tick, first_tick};
+use crate::side_lines::add_side;
+use crate::when::when_text;
+use fault_account::{Asked, AtEdge, Side, is_hold, is_setup, takes, would_do};
+use fault_chain::{End, Link};
+use fault_words::{Told, does_piece, pin_name, text, tick_text, ticks_text, word};
+use flat_circuit::{Circuit, PointKind};
+use listing::{Piece, add_line, write_unnamed_fault};
+use margin_report::Parameter;
+use scald_base::{Bytes, NoMemory};
+use std::alloc::Global;
+use step_values::Value;
+
+/// For how many ticks the input is stable: one less than the least limit that is too much.
+fn kept_for(asked: Option<Asked>) -> u16
+    ensures { result ≡ least_of asked - 1 }
+{
+    match asked {
+        None => 0,
+        Some(asked) => asked.least.max(1) - 1,
+    }
+}
+
+/// On which side of the edge.
+fn side_piece(kind: PointKind) -> Piece<'static>
+    ensures { piece_text result ≡ side_of_edge kind }
+{
+    match kind {
+        PointKind::Setup | PointKind::High => Piece::Text(b"up to"),
+        PointKind::Hold => Piece::Text(b"after"),
+    }
+}
+
+/// What the clock may do at the edge.
+fn way_piece(falls: bool) -> Piece<'static>
+    ensures { piece_text result ≡ way_text falls }
+{
+    if falls {
+        Piece::Text(b" may fall")
+    } else {
+        Piece::Text(b" may rise")
+    }
+}
+
+/// For how long the input is stable.
+fn stable_text(alloc: Global, told: Told, edge: &AtEdge) -> Result<Bytes, NoMemory>
+    ensures { IfOk result (λ text.
+        text ≡ stable_with told.entry.naming told.entry.circuit.now edge.now) }
+{
+    let input = pin_name(alloc, told, edge.checker, 1)?;
+    let kept = ticks_text(alloc, u32::from(kept_for(edge.asked)))?;
+    text(
+        alloc,
+        &[
+            Piece::Text(input.as_slice()),
+            word(b" is stable for "),
+            Piece::Text(kept.as_slice()),
+        ],
+    )
+}
+
+/// Where the edge is.
+fn edge_said(alloc: Global, told: Told, edge: &AtEdge, tick: u32) -> Result<Bytes, NoMemory>
+    ensures { IfOk result (λ text.
+        text ≡ edge_written told.entry.naming told.entry.circuit.now edge.now tick) }
+{
+    told.circuit.header().known();
+    let at = tick_text(alloc, told.circuit.header().period(), tick)?;
+    let clock = pin_name(alloc, told, edge.checker, 0)?;
+    text(
+        alloc,
+        &[
+            side_piece(edge.kind),
+            word(b" "),
+            Piece::Text(at.as_slice()),
+            word(b", where "),
+            Piece::Text(clock.as_slice()),
+            way_piece(edge.falls),
+        ],
+    )
+}
+
+/// Where a lower limit would do: for how long the input is stable at the worst place.
+#[tactic(auto, unfolding(crate::specs::Lines::kept_line))]
+fn add_kept(
+    out: &mut Bytes,
+    alloc: Global,
+    told: Told,
+    edge: &AtEdge,
+    tick: u32,
+) -> Result<(), NoMemory>
+    ensures { OnOk result (out.new ≡ out.old
+        ++ kept_line told.entry.naming told.entry.circuit.now edge.now tick) }
+{
+    let stable = stable_text(alloc, told, edge)?;
+    let said = edge_said(alloc, told, edge, tick)?;
+    add_line(
+        out,
+        &[
+            word(b"  "),
+            Piece::Text(stable.as_slice()),
+            word(b" "),
+            Piece::Text(said.as_slice()),
+        ],
+    )
+}
+
+/// What the input does: by its value in one slot, or in more than one.
+fn moves_piece(value: Value, more: u16) -> Piece<'static>
+    ensures { piece_text result ≡ moves_with value more }
+{
+    if more == 0 {
+        does_piece(value)
+    } else {
+        Piece::Text(b"is not stable")
+    }
+}
+
+/// That, and when: at a tick, and in so many slots more side by side.
+fn moved_text(
+    alloc: Global,
+    period: u16,
+    value: Value,
+    first: u32,
+    more: u16,
+) -> Result<Bytes, NoMemory>
+    requires some { 0 < period }
+    requires first { first ≤ 2000000000 }
+    ensures { IfOk result (λ text. text ≡ moved_with period value first more) }
+{
+    if more == period - 1 {
+        return text(alloc, &[Piece::Text(b"is stable at no tick")]);
+    }
+    let when = when_text(alloc, period, first, more)?;
+    text(
+        alloc,
+        &[
+            moves_piece(value, more),
+            word(b" "),
+            Piece::Text(when.as_slice()),
+        ],
+    )
+}
+
+/// When the clock may rise.
+fn risen_text(alloc: Global, told: Told, edge: &AtEdge, tick: u32) -> Result<Bytes, NoMemory>
+    ensures { IfOk result (λ text.
+        text ≡ risen_with told.entry.naming told.entry.circuit.now edge.now tick) }
+{
+    told.circuit.header().known();
+    let clock = pin_name(alloc, told, edge.checker, 0)?;
+    let at = tick_text(alloc, told.circuit.header().period(), tick)?;
+    text(
+        alloc,
+        &[
+            Piece::Text(clock.as_slice()),
+            Piece::Text(b" may rise at "),
+            Piece::Text(at.as_slice()),
+        ],
+    )
+}
+
+/// That, after when the input may change.
+fn edge_text(alloc: Global, told: Told, edge: &AtEdge, tick: u32) -> Result<Bytes, NoMemory>
+    ensures { IfOk result (λ text.
+        text ≡ edge_with told.entry.naming told.entry.circuit.now edge.now tick) }
+{
+    let risen = risen_text(alloc, told, edge, tick)?;
+    if is_setup(edge.kind) || is_hold(edge.kind) {
+        return text(
+            alloc,
+            &[Piece::Text(b", and "), Piece::Text(risen.as_slice())],
+        );
+    }
+    text(
+        alloc,
+        &[
+            Piece::Text(b", "),
+            Piece::Text(risen.as_slice()),
+            Piece::Text(b" and may stay high until then"),
+        ],
+    )
+}
+
+/// Where no lower limit would do: when the input may change.
+#[tactic(auto, unfolding(crate::specs::Lines::moved_line))]
+fn add_moved(
+    out: &mut Bytes,
+    alloc: Global,
+    told: Told,
+    edge: &AtEdge,
+    first: u32,
+    tick: u32,
+) -> Result<(), NoMemory>
+    requires first { first ≤ 2000000000 }
+    requires stretch { edge.now.earlier + edge.now.more < period_of told.circuit.now.header }
+    ensures { OnOk result (out.new ≡ out.old
+        ++ moved_line told.entry.naming told.entry.circuit.now edge.now first tick) }
+{
+    told.circuit.header().known();
+    let period = told.circuit.header().period();
+    let input = pin_name(alloc, told, edge.checker, 1)?;
+    let more = edge.earlier + edge.more;
+    let moved = moved_text(alloc, period, edge.value, first, more)?;
+    let risen = edge_text(alloc, told, edge, tick)?;
+    add_line(
+        out,
+        &[
+            Piece::Text(b"  "),
+            Piece::Text(input.as_slice()),
+            Piece::Text(b" "),
+            Piece::Text(moved.as_slice()),
+            Piece::Text(risen.as_slice()),
+        ],
+    )
+}
+
+/// The name of a parameter in a drawing.
+fn parameter_piece(parameter: Parameter) -> Piece<'static>
+    ensures { piece_text result ≡ parameter_text parameter }
+{
+    match parameter {
+        Parameter::Setup => Piece::Text(b"SETUP"),
+        Parameter::Hold => Piece::Text(b"HOLD"),
+        Parameter::High => Piece::Text(b"HIGH"),
+        Parameter::Low => Piece::Text(b"LOW"),
+    }
+}
+
+/// Which fault there is even with 0.
+#[tactic(auto, unfolding(crate::specs::Lines::still_line))]
+fn add_still_line(out: &mut Bytes, alloc: Global, c: &Circuit, asked: Asked) -> Result<(), NoMemory>
+    ensures { OnOk result (out.new ≡ out.old ++ still_line c.now asked) }
+{
+    let mut fault = Bytes::new(alloc);
+    write_unnamed_fault(c, &asked.worst, &mut fault)?;
+    add_line(
+        out,
+        &[
+            word(b"  with "),
+            parameter_piece(asked.parameter),
+            word(b" 0 there is still "),
+            Piece::Text(fault.as_slice()),
+        ],
+    )
+}
+
+/// That, where there is one.
+fn add_still(
+    out: &mut Bytes,
+    alloc: Global,
+    c: &Circuit,
+    asked: Option<Asked>,
+) -> Result<(), NoMemory>
+    ensures { OnOk result (out.new ≡ out.old ++ still_lines c.now asked) }
+{
+    match asked {
+        None => Ok(()),
+        Some(asked) => {
+            if asked.never_fits() {
+                add_still_line(out, alloc, c, asked)
+            } else {
+                Ok(())
+            }
+        }
+    }
+}
+
+/// The change of an input that a side begins with, where it begins with one.
+fn input_of(side: &Side) -> Option<Link>
+    ensures { result ≡ input_by side.now }
+{
+    match side.chain.end {
+        End::Level | End::Repeat | End::Both => None,
+        End::Undriven => side.chain.links.as_slice().last().copied(),
+    }
+}
+
+/// Whether these are one change of one input.
+fn is_one(change: Option<Link>, clock: Option<Link>) -> bool
+    ensures { result ≡ are_one change clock }
+{
+    match change {
+        None => false,
+        Some(link) => match clock {
+            None => false,
+            Some(other) => link.net == other.net && link.slot == other.slot,
+        },
+    }
+}
+
+/// How many ticks before the edge of the clock began the change did, of a change after an edge that
+/// both began with one.
+fn sooner_of(c: &Circuit, edge: &AtEdge) -> u32
+    requires change { IsSide c.now edge.now.change }
+    requires clock { IsSide c.now edge.now.clock }
+    ensures { result ≡ sooner_by c.now edge.now }
+{
+    if is_hold(edge.kind) && is_one(input_of(&edge.change), input_of(&edge.clock)) {
+        takes(c, &edge.change).saturating_sub(takes(c, &edge.clock) + u32::from(edge.behind))
+    } else {
+        0
+    }
+}
+
+/// That a change is late, and not early.
+#[tactic(auto, unfolding(crate::specs::Lines::late_line))]
+fn add_late(out: &mut Bytes, alloc: Global, sooner: u32) -> Result<(), NoMemory>
+    ensures { OnOk result (out.new ≡ out.old ++ late_lines sooner) }
+{
+    if sooner == 0 {
+        return Ok(());
+    }
+    let ticks = ticks_text(alloc, sooner)?;
+    add_line(
+        out,
+        &[
+            Piece::Text(b"  it is late and not early: it began "),
+            Piece::Text(ticks.as_slice()),
+            Piece::Text(
+                b" before this edge of the clock did, so this is a setup miss of the period before",
+            ),
+        ],
+    )
+}
+
+/// The first line of a change at an edge.
+fn add_first(out: &mut Bytes, alloc: Global, told: Told, edge: &AtEdge) -> Result<(), NoMemory>
+    requires edge { IsAtEdge told.circuit.now edge.now }
+    ensures { OnOk result (out.new ≡ out.old
+        ++ first_edge_line told.entry.naming told.entry.circuit.now edge.now) }
+{
+    let tick = edge_tick(told.circuit, edge);
+    if would_do(edge.asked) {
+        return add_kept(out, alloc, told, edge, tick);
+    }
+    let first = first_tick(told.circuit, edge);
+    add_moved(out, alloc, told, edge, first, tick)
+}
+
+/// The lines of a change at an edge.
+pub fn add_edge(out: &mut Bytes, alloc: Global, told: Told, edge: &AtEdge) -> Result<(), NoMemory>
+    requires edge { IsAtEdge told.circuit.now edge.now }
+    ensures { OnOk result (out.new ≡ out.old ++ edge_lines told.entry.naming
+        (drawing_of told.entry.drawing.now) told.entry.circuit.now edge.now) }
+{
+    let change = change_tick(told.circuit, edge);
+    let clock = edge_tick(told.circuit, edge);
+    add_first(out, alloc, told, edge)?;
+    add_still(out, alloc, told.circuit, edge.asked)?;
+    add_late(out, alloc, sooner_of(told.circuit, edge))?;
+    add_side(out, alloc, told, b"the change", &edge.change, change)?;
+    add_side(out, alloc, told, b"the clock", &edge.clock, clock)
+}

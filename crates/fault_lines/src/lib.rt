@@ -1,0 +1,26 @@
+//! The lines of an explanation: what is told of a fault, for a person to read.
+//!
+//! The layer above calls [`add_account`] for all lines but the first of what `fault_account` tells
+//! of a fault. `specs/Axis` says at which ticks its changes are told, `specs/TwoDelays` which delay
+//! an element takes, `specs/Side` which lines a chain has, and `specs/Lines` which ones a fault
+//! has, over the words of `fault_words`. Nothing here knows waves.
+#![tactic(auto)]
+
+// ticks
+mod axis;
+mod two_delays;
+mod when;
+
+// of a chain
+mod endings;
+mod side_lines;
+
+// of a fault
+mod edge_lines;
+mod lines;
+mod pulse_lines;
+
+// beside the calls
+pub mod laws;
+
+pub use lines::add_account;
