@@ -1,0 +1,109 @@
+//! What is told of a circuit, case by case.
+
+ghost use Rattle.std.specs.Prelude.{◌≡◌, ◌≤◌, [], IfErr, IfOk};
+ghost use Rattle.drawing_tree.specs.Tree.{drawing_of};
+ghost use Rattle.flat_circuit.specs.Instances.{outputs};
+ghost use Rattle.fixpoint_engine.specs.Loops.{HasNoLoop};
+ghost use Rattle.fixpoint_engine.specs.Rounds.{RestsAt};
+ghost use Rattle.case_analysis.specs.Base.{base_round};
+ghost use Rattle.timing_analysis.specs.Case.{listed_cases, numbered};
+ghost use Rattle.timing_analysis.specs.Ended.{EndsCases, EndsEarly};
+ghost use Rattle.timing_analysis.specs.Rested.{IsBaseIn};
+ghost use Rattle.timing_analysis.specs.Subject.{IsSubject};
+ghost use Rattle.timing_reply.specs.Teller.{IsTold};
+ghost use Rattle.fault_report.specs.Answer.{explained};
+
+use crate::explanations::Explanations;
+use drawing_tree::Drawing;
+use fault_account::laws::faults_are_within;
+use fixpoint_engine::EngineEnd;
+use net_waves::Waves;
+use program_call::Reply;
+use run_wave::RunWave;
+use scald_base::{NoMemory, Outcome};
+use std::alloc::Global;
+use step_values::Value;
+use timing_analysis::{Rested, Subject};
+use timing_reply::Told;
+
+/// What is told of a circuit and its cases, or the end of the base or of the first case that never settles
+/// within so many rounds.
+pub fn told_of(
+    alloc: Global,
+    drawing: &Drawing,
+    subject: &Subject,
+    limit: u32,
+) -> Result<Told, EngineEnd>
+    requires is { IsSubject subject.now }
+    requires few { limit ≤ 10000000 }
+    ensures rests { IfOk result (λ told. RestsAt (base_round subject.now.circuit) limit told.base) }
+    ensures told { IfOk result (λ told. IsTold (explained (drawing_of drawing.now)) subject.now.circuit limit told.base
+        (listed_cases subject.now.cases) told.reply.outcome told.reply.bytes) }
+    ensures ended { IfErr result (EndsEarly subject.now.circuit subject.now.cases limit) }
+{
+    let rested = subject.base::<RunWave<Value>>(alloc, limit)?;
+    let base = rested.base.rounds;
+    let reply = if subject.cases.is_empty() {
+        only_case(alloc, drawing, subject, limit, rested)?
+    } else {
+        each_case(alloc, drawing, subject, limit, rested)?
+    };
+    Ok(Told { reply, base })
+}
+
+/// What is told of a circuit for which no case is listed.
+fn only_case(
+    alloc: Global,
+    drawing: &Drawing,
+    subject: &Subject,
+    limit: u32,
+    rested: Rested<RunWave<Value>>,
+) -> Result<Reply<Outcome>, NoMemory>
+    requires is { IsSubject subject.now }
+    requires few { limit ≤ 10000000 }
+    requires rest { IsBaseIn subject.now.circuit limit
+        rested.base.rounds rested.store rested.base.numbers rested.known }
+    ensures { IfOk result (λ reply. IsTold (explained (drawing_of drawing.now)) subject.now.circuit limit
+        rested.base.rounds (listed_cases []) reply.outcome reply.bytes) }
+{
+    let circuit = &subject.circuit;
+    circuit.known();
+    circuit.header().known();
+    faults_are_within();
+    let mut kept = Explanations::begin(alloc, drawing, circuit)?;
+    let (store, case) = rested.only_case(alloc, subject, limit)?;
+    let waves = Waves::new(store.waves(), case.settled.numbers.as_slice());
+    kept.add_case(alloc, drawing, circuit, &case, &waves)?;
+    kept.end(alloc)
+}
+
+/// What is told of a circuit with cases, or the end of the first that never settles.
+fn each_case(
+    alloc: Global,
+    drawing: &Drawing,
+    subject: &Subject,
+    limit: u32,
+    rested: Rested<RunWave<Value>>,
+) -> Result<Reply<Outcome>, EngineEnd>
+    requires is { IsSubject subject.now }
+    requires few { limit ≤ 10000000 }
+    requires rest { IsBaseIn subject.now.circuit
+        limit rested.base.rounds rested.store rested.base.numbers rested.known }
+    ensures told { IfOk result (λ reply. IsTold (explained (drawing_of drawing.now)) subject.now.circuit limit
+        rested.base.rounds (numbered 1 subject.now.cases) reply.outcome reply.bytes) }
+    ensures ended { IfErr result
+        (EndsCases subject.now.circuit limit rested.base.rounds (numbered 1 subject.now.cases)) }
+{
+    let circuit = &subject.circuit;
+    circuit.known();
+    circuit.header().known();
+    faults_are_within();
+    let mut rested = rested;
+    let mut kept = Explanations::begin(alloc, drawing, circuit)?;
+    for place in 0..subject.cases.len() as u32 {
+        let case = subject.case(alloc, &mut rested, place, limit)?;
+        let waves = Waves::new(rested.store.waves(), case.settled.numbers.as_slice());
+        kept.add_case(alloc, drawing, circuit, &case, &waves)?;
+    }
+    Ok(kept.end(alloc)?)
+}

@@ -1,0 +1,137 @@
+//! Faults of one cause.
+
+ghost use Rattle.std.specs.Prelude.{◌≡◌, ◌++◌, IfOk, OnOk, false, length, replicate};
+ghost use Rattle.std.specs.List.{All};
+ghost use Rattle.drawing_tree.specs.Tree.{drawing_of};
+ghost use Rattle.net_waves.specs.Waves.{FitWaves, waves_of};
+ghost use Rattle.fault_account.specs.Account.{IsAccount, account_of};
+ghost use Rattle.fault_account.specs.Asked.{asked_of as asked_by};
+ghost use Rattle.fault_account.specs.Laws.{AreWithin};
+ghost use Rattle.fault_report.specs.Group.{IsMeasured, cause, cause_line, fault_groups};
+
+use crate::heading::{element_name, kind_piece, limit_text, short_text};
+use drawing_tree::Drawing;
+use fault_account::{Account, Asked, account_with, asked_of, told_fault};
+use fault_lines::add_account;
+use fault_words::{Naming, Told, word};
+use fixpoint_engine::NetSet;
+use flat_circuit::{Circuit, Fault};
+use listing::{Piece, add_line};
+use net_waves::Waves;
+use scald_base::{Bytes, NoMemory};
+use std::alloc::Global;
+use step_values::Value;
+use text_groups::Groups;
+use wave_core::CyclicWave;
+
+/// What a fault breaks, and what is told of it.
+#[derive(Drop)]
+pub struct Explanation {
+    pub asked: Option<Asked>,
+    pub account: Account,
+}
+
+/// What a fault breaks, and what is told of it. The set of nets is empty before and after.
+#[tactic(auto, unfolding(fault_account::specs::Account::account_of))]
+pub fn explain<W: CyclicWave<Item = Value>>(
+    alloc: Global,
+    c: &Circuit,
+    waves: &Waves<W>,
+    met: &mut NetSet,
+    fault: Fault,
+) -> Result<Explanation, NoMemory>
+    requires met { met.old ≡ replicate (length c.now.nets) false }
+    requires fit { FitWaves c.now waves.now }
+    requires within { AreWithin c.now (waves_of waves.now) fault }
+    ensures asked { IfOk result (λ told. told.asked ≡ asked_by c.now (waves_of waves.now) fault) }
+    ensures account { IfOk result (λ told. told.account ≡ account_of c.now (waves_of waves.now) fault) }
+    ensures measured { IfOk result (λ told. IsMeasured told.asked) }
+    ensures fits { IfOk result (λ told. IsAccount c.now told.account) }
+    ensures met { IfOk result (λ _. met.new ≡ replicate (length c.now.nets) false) }
+{
+    c.header().known();
+    let asked = asked_of(alloc, c, waves, fault)?;
+    let account = account_with(alloc, c, waves, met, asked, told_fault(asked, fault))?;
+    Ok(Explanation { asked, account })
+}
+
+/// The first line of what faults of one cause have in common.
+#[tactic(auto, unfolding(crate::specs::Group::cause_line))]
+fn add_cause_line(
+    out: &mut Bytes,
+    alloc: Global,
+    c: &Circuit,
+    asked: Option<Asked>,
+    fault: Fault,
+) -> Result<(), NoMemory>
+    requires { IsMeasured asked }
+    ensures { OnOk result (out.new ≡ out.old ++ cause_line c.now asked fault) }
+{
+    let limit = limit_text(alloc, asked)?;
+    let element = element_name(alloc, c, Naming::Stem, fault)?;
+    let short = short_text(alloc, asked)?;
+    add_line(
+        out,
+        &[
+            kind_piece(fault),
+            Piece::Text(limit.as_slice()),
+            word(b" of "),
+            Piece::Text(element.as_slice()),
+            Piece::Text(short.as_slice()),
+        ],
+    )
+}
+
+/// What faults of one cause have in common: all that is told of them but for bits.
+#[tactic(auto, unfolding(crate::specs::Group::cause))]
+fn cause_text<W: CyclicWave<Item = Value>>(
+    alloc: Global,
+    drawing: &Drawing,
+    c: &Circuit,
+    waves: &Waves<W>,
+    met: &mut NetSet,
+    fault: Fault,
+) -> Result<Bytes, NoMemory>
+    requires met { met.old ≡ replicate (length c.now.nets) false }
+    requires fit { FitWaves c.now waves.now }
+    requires within { AreWithin c.now (waves_of waves.now) fault }
+    ensures is { IfOk result (λ text. text ≡ cause c.now (drawing_of drawing.now) (waves_of waves.now) fault) }
+    ensures met { IfOk result (λ _. met.new ≡ replicate (length c.now.nets) false) }
+{
+    let told = Told {
+        drawing,
+        circuit: c,
+        naming: Naming::Stem,
+    };
+    let found = explain(alloc, c, waves, met, fault)?;
+    let mut out = Bytes::new(alloc);
+    add_cause_line(&mut out, alloc, c, found.asked, fault)?;
+    add_account(&mut out, alloc, told, &found.account)?;
+    Ok(out)
+}
+
+/// The faults of a case by their causes: each group where its first fault is, and in it all of its cause, in
+/// their order. A cause is looked up among those that were met, so that many faults of one cause cost what
+/// each of them does, and keep one text.
+pub fn groups_of<W: CyclicWave<Item = Value>>(
+    alloc: Global,
+    drawing: &Drawing,
+    c: &Circuit,
+    waves: &Waves<W>,
+    met: &mut NetSet,
+    faults: &[Fault],
+) -> Result<Groups<Fault>, NoMemory>
+    requires met { met.old ≡ replicate (length c.now.nets) false }
+    requires fit { FitWaves c.now waves.now }
+    requires within { All (AreWithin c.now (waves_of waves.now)) faults.now }
+    ensures are { IfOk result (λ groups. groups
+        ≡ fault_groups c.now (drawing_of drawing.now) (waves_of waves.now) faults.now) }
+    ensures met { IfOk result (λ _. met.new ≡ replicate (length c.now.nets) false) }
+{
+    let mut groups = Groups::new(alloc);
+    for fault in faults {
+        let text = cause_text(alloc, drawing, c, waves, met, *fault)?;
+        groups.add(alloc, text.as_slice(), *fault)?;
+    }
+    Ok(groups)
+}
