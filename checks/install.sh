@@ -158,7 +158,7 @@ offers() {
 LC_ALL=C
 export LC_ALL
 if ! passed_over bash; then
-    offers '--help;--quiet;--unproved;--version;-h;bench;chains;format;install;judge;margins;notes;run;sections;upgrade;verify' scald ''
+    offers '--help;--quiet;--unproved;--version;-h;bench;chains;explain;format;install;judge;margins;notes;run;sections;upgrade;verify' scald ''
     offers 'verify' scald v
     offers '--unproved' scald --u
     offers 'format' scald --quiet f

@@ -172,6 +172,7 @@ forms='scald: these words are none of its forms, which are
     scald upgrade <DRAWING                             the drawing in version 2 of the language
     scald margins <DRAWING                             by how much more each checker may ask for
     scald chains <DRAWING                              where each fault comes from
+    scald explain <DRAWING                             why there are faults, by how much, and where that stands in the drawing
     scald sections <DRAWINGS                           verify of drawings with a line ===== between them, each by itself and joined
     scald run T SEED [case=K] <DRAWING                 a run of T ticks that a seed draws, 1 to 4096, as a trace
     scald judge F <TRACE-AND-DRAWING                   whether the trace is a run, and what breaks in it from tick F on
@@ -238,6 +239,10 @@ none "'chains' cannot come after 'chains'" chains chains
 none "'faults' cannot come after 'chains'" chains faults
 none "'' cannot come after 'chains'" chains ''
 none "'chain' is none of its words: is chains meant?" chain
+none "'explain' cannot come after 'explain'" explain explain
+none "'faults' cannot come after 'explain'" explain faults
+none "'' cannot come after 'explain'" explain ''
+none "'explian' is none of its words: is explain meant?" explian
 none "'sections' cannot come after 'sections'" sections sections
 none "'waves' cannot come after 'sections'" sections waves
 none "'' cannot come after 'sections'" sections ''

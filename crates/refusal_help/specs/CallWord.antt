@@ -5,7 +5,7 @@ use Rattle.std.specs.Str.{bytes_eq}
 use Rattle.help_text.specs.Near.{is_near}
 use Rattle.help_text.specs.Text.{line, quoted}
 use Rattle.refusal_help.specs.declared.call_word.CallWord.{CallWord}
-use Rattle.refusal_help.specs.declared.call_word.CallWord.TheVariants.{Verify, Notes, Format, Upgrade, Margins, Chains, Sections, Run, Judge, Bench, Waves, Faults, Rounds, Case}
+use Rattle.refusal_help.specs.declared.call_word.CallWord.TheVariants.{Verify, Notes, Format, Upgrade, Margins, Chains, Explain, Sections, Run, Judge, Bench, Waves, Faults, Rounds, Case}
 
 abbrev pub word_of : CallWord → List ℕ
 word_of Verify = codes "verify"
@@ -14,6 +14,7 @@ word_of Format = codes "format"
 word_of Upgrade = codes "upgrade"
 word_of Margins = codes "margins"
 word_of Chains = codes "chains"
+word_of Explain = codes "explain"
 word_of Sections = codes "sections"
 word_of Run = codes "run"
 word_of Judge = codes "judge"
@@ -25,7 +26,7 @@ word_of Case = codes "case=K"
 
 -- the words that a form begins with, and those that may follow
 abbrev pub commands : List CallWord
-commands = Verify ∷ Notes ∷ Format ∷ Upgrade ∷ Margins ∷ Chains ∷ Sections ∷ Run ∷ Judge ∷ Bench ∷ []
+commands = Verify ∷ Notes ∷ Format ∷ Upgrade ∷ Margins ∷ Chains ∷ Explain ∷ Sections ∷ Run ∷ Judge ∷ Bench ∷ []
 
 abbrev pub options : List CallWord
 options = Waves ∷ Faults ∷ Rounds ∷ Case ∷ []

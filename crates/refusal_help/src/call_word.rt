@@ -18,6 +18,7 @@ pub enum CallWord {
     Upgrade,
     Margins,
     Chains,
+    Explain,
     Sections,
     Run,
     Judge,
@@ -29,13 +30,14 @@ pub enum CallWord {
 }
 
 /// The words that a form begins with.
-const COMMANDS: [CallWord; 10] = [
+const COMMANDS: [CallWord; 11] = [
     CallWord::Verify,
     CallWord::Notes,
     CallWord::Format,
     CallWord::Upgrade,
     CallWord::Margins,
     CallWord::Chains,
+    CallWord::Explain,
     CallWord::Sections,
     CallWord::Run,
     CallWord::Judge,
@@ -62,6 +64,7 @@ impl CallWord {
             CallWord::Upgrade => b"upgrade",
             CallWord::Margins => b"margins",
             CallWord::Chains => b"chains",
+            CallWord::Explain => b"explain",
             CallWord::Sections => b"sections",
             CallWord::Run => b"run",
             CallWord::Judge => b"judge",

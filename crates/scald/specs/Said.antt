@@ -19,10 +19,11 @@ forms =
     (codes "    scald upgrade <DRAWING                             the drawing in version 2 of the language\n" ++
     (codes "    scald margins <DRAWING                             by how much more each checker may ask for\n" ++
     (codes "    scald chains <DRAWING                              where each fault comes from\n" ++
+    (codes "    scald explain <DRAWING                             why there are faults, by how much, and where that stands in the drawing\n" ++
     (codes "    scald sections <DRAWINGS                           verify of drawings with a line ===== between them, each by itself and joined\n" ++
     (codes "    scald run T SEED [case=K] <DRAWING                 a run of T ticks that a seed draws, 1 to 4096, as a trace\n" ++
     (codes "    scald judge F <TRACE-AND-DRAWING                   whether the trace is a run, and what breaks in it from tick F on\n" ++
-    codes "    scald bench N                                      what is found in a made drawing of N sections, 1 to 200")))))))))
+    codes "    scald bench N                                      what is found in a made drawing of N sections, 1 to 200"))))))))))
 
 abbrev pub no_memory : List ℕ
 no_memory = codes "scald: there is not enough memory"

@@ -5,6 +5,7 @@ ghost use Rattle.scald.specs.Named.{call_of, status_of};
 
 use drawing_notes::notes_main;
 use fault_chain::chain_main;
+use fault_report::explain_main;
 use margin_report::margin_main;
 use scald_base::{List, Outcome, Sink, Source, Words};
 use scald_tool::{status, tool_main};
@@ -23,6 +24,8 @@ enum Call {
     Margins,
     /// That of the chains.
     Chains,
+    /// That of the explanations.
+    Explanations,
     /// That of sections.
     Sections,
     /// That of the simulator, by all words.
@@ -63,6 +66,8 @@ fn call_of(words: &Words) -> Call
         Call::Margins
     } else if first.as_slice() == b"chains".as_slice() {
         Call::Chains
+    } else if first.as_slice() == b"explain".as_slice() {
+        Call::Explanations
     } else if first.as_slice() == b"sections".as_slice() {
         Call::Sections
     } else if first.as_slice() == b"run".as_slice() {
@@ -118,6 +123,19 @@ fn chains<S: Source, K: Sink>(
     chain_main(alloc, &List::new(alloc), source, sink)
 }
 
+/// The outcome of the explanations. No word may follow theirs.
+fn explanations<S: Source, K: Sink>(
+    alloc: Global,
+    words: &Words,
+    source: &mut S,
+    sink: &mut K,
+) -> Outcome {
+    if words.len() > 1 {
+        return Outcome::BadWords(1);
+    }
+    explain_main(alloc, &List::new(alloc), source, sink)
+}
+
 /// The outcome of sections. No word may follow theirs; words are counted after it.
 fn sections<S: Source, K: Sink>(
     alloc: Global,
@@ -153,6 +171,7 @@ pub fn answer_to<S: Source, K: Sink>(
         Call::Notes => Answer::Drawing(notes(alloc, words, source, sink)),
         Call::Margins => Answer::Drawing(margins(alloc, words, source, sink)),
         Call::Chains => Answer::Drawing(chains(alloc, words, source, sink)),
+        Call::Explanations => Answer::Drawing(explanations(alloc, words, source, sink)),
         Call::Sections => Answer::Sections(sections(alloc, words, source, sink)),
         Call::Simulator => Answer::Run(simulator(alloc, words, source, sink)),
     }

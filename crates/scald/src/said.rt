@@ -36,6 +36,7 @@ pub fn forms() -> &'static str
     scald upgrade <DRAWING                             the drawing in version 2 of the language
     scald margins <DRAWING                             by how much more each checker may ask for
     scald chains <DRAWING                              where each fault comes from
+    scald explain <DRAWING                             why there are faults, by how much, and where that stands in the drawing
     scald sections <DRAWINGS                           verify of drawings with a line ===== between them, each by itself and joined
     scald run T SEED [case=K] <DRAWING                 a run of T ticks that a seed draws, 1 to 4096, as a trace
     scald judge F <TRACE-AND-DRAWING                   whether the trace is a run, and what breaks in it from tick F on
