@@ -5,9 +5,9 @@ import random
 MOST_BYTES = 4194304
 
 
-def drawing(lines, clock="8 x 50", macros=(), after=(), header=()):
+def drawing(lines, clock="8 x 50", macros=(), after=(), header=(), version=1):
     """A drawing of these lines, with macros before it and cases after it."""
-    head = ["SCALD 1;", f"CLOCK {clock};", *header]
+    head = [f"SCALD {version};", f"CLOCK {clock};", *header]
     return "\n".join([*head, *macros, "DRAWING MEASURED;", *lines, "END;", *after]) + "\n"
 
 
@@ -246,6 +246,13 @@ def fault_chains(buses):
         lines.append(f'b{i} : BUF [1:2] ("S10") -> ("B{i}"<0:255>);')
         lines.append(f'c{i} : SETUP_HOLD_CHK {{SETUP=20, HOLD=5}} ("CK .P2-3", "B{i}"<0:255>);')
     return drawing(lines)
+
+
+def one_cause(uses):
+    """256 faults at each of so many uses that a FOR makes, all of one cause."""
+    lines = ['b : BUF [10:40] ("IN .S1-4"<0:255>) -> ("D"<0:255>);', f"FOR I = 1 TO {uses} DO"]
+    lines += ['c : SETUP_HOLD_CHK {SETUP=20, HOLD=5} ("CK .P2-3", "D"<0:255>);', "END;"]
+    return drawing(lines, version=2)
 
 
 def trace(count):

@@ -1,8 +1,8 @@
 #!/bin/sh
-# Compares the report, the margins and, where they stand beside it, the notes and the chains of each drawing of examples/
-# with those that stand beside it, and the status with the last line; and in examples/sections/ the reports, and that of all
-# sections together. A drawing of examples/ whose report has faults has chains, and one
-# without notes beside it has none.
+# Compares the report, the margins and, where they stand beside it, the notes, the chains and the explanations of each
+# drawing of examples/ with those that stand beside it, and the status with the last line; and in examples/sections/ the
+# reports, and that of all sections together. A drawing of examples/ whose report has faults has chains and explanations,
+# and one without notes beside it has none.
 # Usage: checks/examples.sh [PROGRAM]. Where none is named and none is built it says so and ends with 0.
 . "$(dirname -- "$0")/common.sh"
 begin "${1-}"
@@ -65,6 +65,16 @@ for drawing in "$top"/examples/*.scald "$top"/examples/sections/*.scald; do
     elif grep -q '^FAULTS' "$report"; then
         failure "$name: no chains beside it"
     fi
+    explained=${drawing%.scald}.explained
+    if [ -f "$explained" ]; then
+        "$program" explain <"$drawing" >"$work/explained"
+        status=$?
+        wanted=$(status_of "$explained")
+        [ "$status" = "$wanted" ] || failure "$name: explanations with status $status in place of $wanted"
+        cmp -s "$work/explained" "$explained" || failure "$name: other explanations"
+    elif grep -q '^FAULTS' "$report"; then
+        failure "$name: no explanations beside it"
+    fi
 
     # The canonical text draws the same, and is canonical.
     "$program" format <"$drawing" >"$work/text" || failure "$name: no canonical text"
@@ -85,7 +95,7 @@ status=$?
 [ "$status" = "$(status_of "$processor.report")" ] || failure "processor: another status: $status"
 cmp -s "$work/report" "$processor.report" || failure "processor: another report"
 
-for report in "$top"/examples/*.report "$top"/examples/*.notes "$top"/examples/*.margins "$top"/examples/*.chains \
+for report in "$top"/examples/*.report "$top"/examples/*.notes "$top"/examples/*.margins "$top"/examples/*.chains "$top"/examples/*.explained \
     "$top"/examples/sections/*.report "$top"/examples/sections/*.margins; do
     [ -f "${report%.*}.scald" ] || [ -f "${report%.*}.sections" ] ||
         failure "$(basename -- "$report"): no drawing beside it"

@@ -4,7 +4,7 @@ Usage: python3 -B -m model PROGRAM COUNT [FIRST [sections]], with checks/ as PYT
 are lists of sections. One line is printed for each text: its number and Clean, Faulty, Unsettled, `Refused KIND`, BadCount
 or `BadSection RULE`; or, where bytes or status differ, FAILED and the names of the files that its text and both answers
 are kept in, in the folder KEPT or else in the temporary one. It stops where many have failed. Of each drawing the report,
-the notes, the margins and the chains are compared.
+the notes, the margins, the chains and the explanations are compared.
 """
 import multiprocessing
 import os
@@ -17,7 +17,7 @@ from .mending import mend
 from .notes import notes
 from .random_drawings import make_drawing
 from .random_sections import make_sections
-from .report import Answer, Mode, chains, margins, verify
+from .report import Answer, Mode, chains, explanations, margins, verify
 from .sections import joined_text, verify_sections
 from .spoiling import spoil
 from .writing import write_drawing
@@ -68,8 +68,8 @@ def ask_drawing(number):
     mode = random.choice([Mode.WHOLE] * 4 + [Mode.WAVES, Mode.FAULTS])
     rounds = random.choice([None] * 6 + [1, 2, 3, 7, 20])
     asked = [(words_of(mode, rounds), verify(drawing, mode, rounds))]
-    told = [(["notes"], notes(drawing)), (["margins"], margins(drawing)), (["chains"], chains(drawing))]
-    return text, [*asked, *told]
+    told = {"notes": notes, "margins": margins, "chains": chains, "explain": explanations}
+    return text, [*asked, *(([word], answer(drawing)) for word, answer in told.items())]
 
 
 def ask_sections(number):

@@ -1,4 +1,4 @@
-"""The answers of `verify`, `margins` and `chains` (docs/LANGUAGE.md, "The report" and "Words and statuses")."""
+"""The answers of `verify`, `margins`, `chains` and `explain` (docs/LANGUAGE.md, "The report" and "Words and statuses")."""
 from enum import Enum
 from itertools import groupby
 from typing import NamedTuple
@@ -6,6 +6,7 @@ from typing import NamedTuple
 from .chains import chain_lines
 from .drawing import Refused
 from .expansion import expand
+from .explain import explanation_lines
 from .faults import faults
 from .margins import margin_lines
 from .names import check_before_expansion
@@ -114,3 +115,7 @@ def margins(drawing):
 
 def chains(drawing):
     return answer(drawing, None, lambda circuit, settled: chain_lines(circuit, drawing.version, settled))
+
+
+def explanations(drawing):
+    return answer(drawing, None, lambda circuit, settled: explanation_lines(circuit, drawing, settled))

@@ -1,7 +1,7 @@
 //! What is tested of the whole calls: words, devices that fail or fill up, and texts that are cut
-//! short, formatted, or verified by both kinds of waves; the notes, the margins and the chains of
-//! texts; sections; and runs that are made and judged. Each row has what comes in, and the outcome and
-//! the bytes that go out as they were worked out on paper.
+//! short, formatted, or verified by both kinds of waves; the notes, the margins, the chains and the
+//! explanations of texts; sections; and runs that are made and judged. Each row has what comes in, and
+//! the outcome and the bytes that go out as they were worked out on paper.
 //!
 //! The crate has tests alone, and nothing stands on it. `tables` has how a table of rows is read.
 #![tactic(auto)]
@@ -22,7 +22,11 @@ mod bad_sections;
 #[cfg(test)]
 mod calls;
 #[cfg(test)]
+mod cause_groups;
+#[cfg(test)]
 mod chains;
+#[cfg(test)]
+mod explanations;
 #[cfg(test)]
 mod fault_reports;
 #[cfg(test)]

@@ -4,6 +4,7 @@ use crate::rows::{expect, expect_text};
 use crate::tables::{row_of, write_text};
 use drawing_notes::notes_main;
 use fault_chain::chain_main;
+use fault_report::explain_main;
 use margin_report::margin_main;
 use scald_base::{Bytes, Calls, MemorySink, MemorySource, NoMemory};
 use scald_tool::{Words, tool_main};
@@ -20,6 +21,7 @@ pub enum Call {
     Notes,
     Margins,
     Chains,
+    Explanations,
     Sections,
     Traces,
 }
@@ -60,6 +62,7 @@ fn outcome_of(
         Call::Notes => debug_of(alloc, notes_main(alloc, &words, source, sink)),
         Call::Margins => debug_of(alloc, margin_main(alloc, &words, source, sink)),
         Call::Chains => debug_of(alloc, chain_main(alloc, &words, source, sink)),
+        Call::Explanations => debug_of(alloc, explain_main(alloc, &words, source, sink)),
         Call::Sections => debug_of(alloc, sections_main(alloc, &words, source, sink)),
         Call::Traces => debug_of(alloc, trace_main(alloc, &words, source, sink)),
     }

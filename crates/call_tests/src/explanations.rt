@@ -1,0 +1,371 @@
+//! Explanations: a text, and the outcome and the bytes that it has.
+
+use crate::texts::{Call, expect_rows};
+use scald_base::NoMemory;
+
+/// What comes of words, and of a refusal.
+const OTHERS: &str = r##"
+#### a word
+words: explain
+drawing:
+answer: BadWords(0), unread
+#### a kind that there is not
+words:
+drawing:
+b1 : BUFF [0:0] ("A") -> ("X");
+answer: Refused(Refusal { kind: UnknownKind, place: Place { line: 4, col: 1 } })
+REFUSED 6 UnknownKind 4:1
+"##;
+
+/// What is told of each kind of fault, and of each end of a chain.
+const ROWS: &str = r##"
+#### no fault
+words:
+drawing:
+c1 : SETUP_HOLD_CHK {SETUP=20, HOLD=10} ("CK .P2-3", "D .S1-4");
+answer: Clean
+SCALD 1 PERIOD 400
+CASE 0
+CLEAN
+#### a change up to the edge
+words:
+drawing:
+c1 : SETUP_HOLD_CHK {SETUP=20, HOLD=10} ("CK .P2-3", "D .S2-4");
+answer: Faulty(1)
+SCALD 1 PERIOD 400
+CASE 0
+
+SETUP 20 of c1<0> (line 4): short by 20
+  D<0> is stable for 0 ticks up to tick 100, where CK<0> may rise
+  the change:
+    tick 100: D<0> may change: "D .S2-4" (line 4)
+  the clock:
+    tick 100: CK<0> may rise: "CK .P2-3" (line 4)
+
+kind | checker | short by | from | cases
+SETUP | c1<0> | 20 | D<0> | 0
+FAULTS 1
+#### a change right after the edge
+words:
+drawing:
+c1 : SETUP_HOLD_CHK {HOLD=10} ("CK .P2-3", "D .S1-2");
+answer: Faulty(1)
+SCALD 1 PERIOD 400
+CASE 0
+
+HOLD 10 of c1<0> (line 4): short by 10
+  D<0> is stable for 0 ticks after tick 100, where CK<0> may rise
+  the change:
+    tick 101: D<0> may change: "D .S1-2" (line 4)
+  the clock:
+    tick 100: CK<0> may rise: "CK .P2-3" (line 4)
+
+kind | checker | short by | from | cases
+HOLD | c1<0> | 10 | D<0> | 0
+FAULTS 1
+#### a hold miss that is a setup miss of the period before
+words:
+drawing:
+r1 : REG [5:10] ("CK .P2-3", "D .S1-4") -> ("A");
+b1 : BUF [398:400] ("A") -> ("B");
+c1 : SETUP_HOLD_CHK {SETUP=2, HOLD=8} ("CK", "B");
+answer: Faulty(1)
+SCALD 1 PERIOD 400
+CASE 0
+
+HOLD 8 of c1<0> (line 6): short by 6
+  B<0> is stable for 2 ticks after tick 500 = 1*400 + 100, where CK<0> may rise
+  it is late and not early: it began 400 ticks before this edge of the clock did, so this is a setup miss of the period before
+  the change:
+    tick 100: CK<0> may rise: "CK .P2-3" (line 4)
+    tick 105: A<0> may change: r1<0> : REG [5:10] (line 4) takes 5
+    tick 503 = 1*400 + 103: B<0> may change: b1<0> : BUF [398:400] (line 5) takes 398
+  the clock:
+    tick 500 = 1*400 + 100: CK<0> may rise: "CK .P2-3" (line 4)
+
+kind | checker | short by | from | cases
+HOLD | c1<0> | 6 | CK<0> | 0
+FAULTS 1
+#### no setup time suffices
+words:
+drawing:
+c1 : SETUP_HOLD_CHK {SETUP=20, HOLD=10} ("CK .P2-3", "D .S5-6");
+answer: Faulty(1)
+SCALD 1 PERIOD 400
+CASE 0
+
+SETUP 20 of c1<0> (line 4): the whole of it does not suffice
+  D<0> is not stable from tick 300 to tick 650 = 1*400 + 250, and CK<0> may rise at tick 500 = 1*400 + 100
+  with SETUP 0 there is still HOLD EDGE 100 SLOT 101 VALUE C
+  the change:
+    tick 500 = 1*400 + 100: D<0> may change: "D .S5-6" (line 4)
+  the clock:
+    tick 500 = 1*400 + 100: CK<0> may rise: "CK .P2-3" (line 4)
+
+kind | checker | short by | from | cases
+SETUP | c1<0> | over 20 | D<0> | 0
+FAULTS 1
+#### a change before the edge, with an innocent one right after it
+words:
+drawing:
+b1 : BUF [10:54] ("IN .S1-4") -> ("A");
+r1 : REG [5:30] ("CK .P2-3", "IN") -> ("B");
+x1 : XOR [0:0] ("A", "B") -> ("D");
+c1 : SETUP_HOLD_CHK {SETUP=20, HOLD=10} ("CK", "D");
+answer: Faulty(1)
+SCALD 1 PERIOD 400
+CASE 0
+
+SETUP 20 of c1<0> (line 7): the whole of it does not suffice
+  D<0> is not stable from tick 210 to tick 530 = 1*400 + 130, and CK<0> may rise at tick 500 = 1*400 + 100
+  with SETUP 0 there is still HOLD EDGE 100 SLOT 101 VALUE C
+  the change:
+    tick 450 = 1*400 + 50: IN<0> may change: "IN .S1-4" (line 4)
+    tick 500 = 1*400 + 100: A<0> may change: b1<0> : BUF [10:54] (line 4) takes 50
+    tick 500 = 1*400 + 100: D<0> may change: x1<0> : XOR [0:0] (line 6) takes 0
+  the clock:
+    tick 500 = 1*400 + 100: CK<0> may rise: "CK .P2-3" (line 5)
+
+kind | checker | short by | from | cases
+SETUP | c1<0> | over 20 | IN<0> | 0
+FAULTS 1
+#### no hold time suffices, by the setup time of another edge
+words:
+drawing:
+b1 : BUF [1:1] ("IN .S1-2") -> ("D");
+c1 : SETUP_HOLD_CHK {SETUP=20, HOLD=10} ("CK .P2-3,6-7", "D");
+answer: Faulty(1)
+SCALD 1 PERIOD 400
+CASE 0
+
+HOLD 10 of c1<0> (line 5): the whole of it does not suffice
+  D<0> is not stable from tick 101 to tick 451 = 1*400 + 51, and CK<0> may rise at tick 100
+  with HOLD 0 there is still SETUP EDGE 300 SLOT 281 VALUE C
+  the change:
+    tick 100: IN<0> may change: "IN .S1-2" (line 4)
+    tick 101: D<0> may change: b1<0> : BUF [1:1] (line 4) takes 1
+  the clock:
+    tick 100: CK<0> may rise: "CK .P2-3,6-7" (line 5)
+
+kind | checker | short by | from | cases
+HOLD | c1<0> | over 10 | IN<0> | 0
+FAULTS 1
+#### while the clock is high
+words:
+drawing:
+c1 : SETUP_RISE_HOLD_FALL_CHK {SETUP=10, HOLD=5} ("CK .P2-3", "D .S1-3");
+answer: Faulty(1)
+SCALD 1 PERIOD 400
+CASE 0
+
+HIGH of c1<0> (line 4)
+  D<0> is not stable from tick 150 to tick 450 = 1*400 + 50, CK<0> may rise at tick 100 and may stay high until then
+  the change:
+    tick 150: D<0> may change: "D .S1-3" (line 4)
+  the clock:
+    tick 100: CK<0> may rise: "CK .P2-3" (line 4)
+
+kind | checker | short by | from | cases
+HIGH | c1<0> | - | D<0> | 0
+FAULTS 1
+#### after the clock's fall
+words:
+drawing:
+b1 : BUF [2:2] ("IN .S1-3") -> ("D");
+c1 : SETUP_RISE_HOLD_FALL_CHK {SETUP=10, HOLD=5} ("CK .P2-3", "D");
+answer: Faulty(1)
+SCALD 1 PERIOD 400
+CASE 0
+
+HOLD 5 of c1<0> (line 5): short by 4
+  D<0> is stable for 1 tick after tick 150, where CK<0> may fall
+  the change:
+    tick 150: IN<0> may change: "IN .S1-3" (line 4)
+    tick 152: D<0> may change: b1<0> : BUF [2:2] (line 4) takes 2
+  the clock:
+    tick 150: CK<0> may fall: "CK .P2-3" (line 5)
+
+kind | checker | short by | from | cases
+HOLD | c1<0> | 4 | IN<0> | 0
+FAULTS 1
+#### a hazard
+words:
+drawing:
+a1 : AND [0:0] ("CK .P2-3" !H, "E .S1-2") -> ("G");
+answer: Faulty(1)
+SCALD 1 PERIOD 400
+CASE 0
+
+HAZARD of a1<0> (line 4)
+  pin 1, E<0>, may change at tick 100, while CK<0>, which is marked !H, may rise
+  the change:
+    tick 100: E<0> may change: "E .S1-2" (line 4)
+  the mark:
+    tick 100: CK<0> may rise: "CK .P2-3" (line 4)
+
+kind | checker | short by | from | cases
+HAZARD | a1<0> | - | E<0> | 0
+FAULTS 1
+#### a high pulse that two delays shorten
+words:
+drawing:
+b1 : BUF [20:20, 5:5] ("CK .P2-3") -> ("X");
+w1 : MIN_PULSE_CHK {HIGH=40} ("X");
+answer: Faulty(1)
+SCALD 1 PERIOD 400
+CASE 0
+
+WIDTH HIGH 40 of w1<0> (line 5): short by 5
+  X<0> may be high for 35 ticks, from tick 120 to tick 155
+  b1<0> : BUF [20:20, 5:5] (line 4) makes it 15 ticks shorter
+  its begin:
+    tick 100: CK<0> may rise: "CK .P2-3" (line 4)
+    tick 120: X<0> may rise: b1<0> : BUF [20:20, 5:5] (line 4) takes 20 by its rise delay
+  its end:
+    tick 150: CK<0> may fall: "CK .P2-3" (line 4)
+    tick 155: X<0> may fall: b1<0> : BUF [20:20, 5:5] (line 4) takes 5 by its fall delay
+
+kind | checker | short by | from | cases
+WIDTH HIGH | w1<0> | 5 | CK<0> | 0
+FAULTS 1
+#### a low pulse over the end of the period
+words:
+drawing:
+w1 : MIN_PULSE_CHK {LOW=351} ("CK .P2-3");
+answer: Faulty(1)
+SCALD 1 PERIOD 400
+CASE 0
+
+WIDTH LOW 351 of w1<0> (line 4): short by 1
+  CK<0> may be low for 350 ticks, from tick 150 to tick 500 = 1*400 + 100
+  its begin:
+    tick 150: CK<0> may fall: "CK .P2-3" (line 4)
+  its end:
+    tick 500 = 1*400 + 100: CK<0> may rise: "CK .P2-3" (line 4)
+
+kind | checker | short by | from | cases
+WIDTH LOW | w1<0> | 1 | CK<0> | 0
+FAULTS 1
+#### an assertion that is not kept
+words:
+drawing:
+r1 : REG [5:15] ("CK .P2-3", "D .S1-4") -> ("Q .S2-1");
+answer: Faulty(1)
+SCALD 1 PERIOD 400
+CASE 0
+
+ASSERT of Q<0>, "Q .S2-1" (line 4)
+  from tick 101 to tick 449 = 1*400 + 49 it is stable by that, and it breaks that from tick 105 to tick 115
+  the change:
+    tick 100: CK<0> may rise: "CK .P2-3" (line 4)
+    tick 105: Q<0> may change: r1<0> : REG [5:15] (line 4) takes 5
+
+kind | checker | short by | from | cases
+ASSERT | Q<0> | - | CK<0> | 0
+FAULTS 1
+#### a level that is not asserted
+words:
+drawing:
+b1 : BUF [1:1] (ONE) -> ("Q .P2-3");
+answer: Faulty(1)
+SCALD 1 PERIOD 400
+CASE 0
+
+ASSERT of Q<0>, "Q .P2-3" (line 4)
+  from tick 151 to tick 499 = 1*400 + 99 it is 0 by that, and it breaks that from tick 151 to tick 499 = 1*400 + 99
+  the change:
+    tick 499 = 1*400 + 99: Q<0> is 1: b1<0> : BUF [1:1] (line 4) gives it
+
+kind | checker | short by | from | cases
+ASSERT | Q<0> | - | Q<0> | 0
+FAULTS 1
+#### set and reset at once
+words:
+drawing:
+r1 : REG_RS [1:1] (ZERO, "D", "S .S", ONE) -> ("Q");
+c1 : SETUP_HOLD_CHK {SETUP=1} ("CK .P2-3", "Q");
+answer: Faulty(1)
+SCALD 1 PERIOD 400
+CASE 0
+
+SETUP 1 of c1<0> (line 5): short by 1
+  Q<0> is stable for 0 ticks up to tick 100, where CK<0> may rise
+  the change:
+    tick 100: Q<0> may change: r1<0> : REG_RS [1:1] (line 4) may have both its set S<0> and its reset ONE
+  the clock:
+    tick 100: CK<0> may rise: "CK .P2-3" (line 5)
+
+kind | checker | short by | from | cases
+SETUP | c1<0> | 1 | Q<0> | 0
+FAULTS 1
+#### an unknown loop
+words:
+drawing:
+x1 : XOR [1:1] ("CK .P2-3", "X") -> ("X");
+c1 : SETUP_HOLD_CHK {SETUP=20, HOLD=5} ("CK", "X");
+answer: Faulty(1)
+SCALD 1 PERIOD 400
+CASE 0
+
+SETUP 20 of c1<0> (line 5): the whole of it does not suffice
+  X<0> is stable at no tick, and CK<0> may rise at tick 100
+  with SETUP 0 there is still HOLD EDGE 100 SLOT 101 VALUE U
+  the change, unknown by the loop of X<0>:
+    tick 80: X<0> is unknown: on the loop of X<0>
+    tick 81: X<0> is unknown: x1<0> : XOR [1:1] (line 4) takes 1
+  the clock:
+    tick 100: CK<0> may rise: "CK .P2-3" (line 4)
+
+kind | checker | short by | from | cases
+SETUP | c1<0> | over 20 | X<0> | 0
+FAULTS 1
+#### an assertion that holds all round
+words:
+drawing:
+b1 : BUF [1:1] ("D .S1-4") -> ("Q .S");
+answer: Faulty(1)
+SCALD 1 PERIOD 400
+CASE 0
+
+ASSERT of Q<0>, "Q .S" (line 4)
+  at every tick it is stable by that, and it breaks that from tick 201 to tick 451 = 1*400 + 51
+  the change:
+    tick 200: D<0> may change: "D .S1-4" (line 4)
+    tick 201: Q<0> may change: b1<0> : BUF [1:1] (line 4) takes 1
+
+kind | checker | short by | from | cases
+ASSERT | Q<0> | - | D<0> | 0
+FAULTS 1
+#### behind an unknown loop
+words:
+drawing:
+x1 : XOR [1:1] ("CK .P2-3", "X") -> ("X");
+b1 : BUF [2:2] ("X") -> ("Y");
+c1 : SETUP_HOLD_CHK {SETUP=20} ("CK", "Y");
+answer: Faulty(1)
+SCALD 1 PERIOD 400
+CASE 0
+
+SETUP 20 of c1<0> (line 6): short by 20
+  Y<0> is stable for 0 ticks up to tick 100, where CK<0> may rise
+  the change, unknown by the loop of X<0>:
+    tick 97: X<0> is unknown: on the loop of X<0>
+    tick 98: X<0> is unknown: x1<0> : XOR [1:1] (line 4) takes 1
+    tick 100: Y<0> is unknown: b1<0> : BUF [2:2] (line 5) takes 2
+  the clock:
+    tick 100: CK<0> may rise: "CK .P2-3" (line 4)
+
+kind | checker | short by | from | cases
+SETUP | c1<0> | 20 | X<0> | 0
+FAULTS 1
+"##;
+
+#[test]
+fn explanations(rt: HostRuntime) -> Result<(), NoMemory> {
+    expect_rows(&rt, Call::Explanations, ROWS)
+}
+
+#[test]
+fn no_explanations(rt: HostRuntime) -> Result<(), NoMemory> {
+    expect_rows(&rt, Call::Explanations, OTHERS)
+}
