@@ -7,6 +7,7 @@ pub mod Hint
 pub mod Many
 pub mod OnlyUse
 pub mod Reserved
+pub mod Version
 pub mod Belongs
 pub mod Sentence
 pub mod Syntax

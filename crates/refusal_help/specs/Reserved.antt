@@ -1,12 +1,12 @@
 -- Words that are none of a drawing's own.
-use Rattle.std.specs.Prelude.{ℕ, Bool, true, false, ◌&&◌, ◌||◌, ◌==◌, List, [], ◌∷◌, codes, Option, Some, None, if◌then◌else◌}
+use Rattle.std.specs.Prelude.{ℕ, Bool, false, ◌||◌, List, [], ◌∷◌, codes, Option, Some, None, if◌then◌else◌}
 use Rattle.std.specs.Str.{bytes_eq}
 use Rattle.scald_lex.specs.declared.token.Token.{Token}
 use Rattle.help_text.specs.declared.keyword.Keyword.{Keyword}
 use Rattle.help_text.specs.Keyword.{word_of, reserved_word}
 use Rattle.help_text.specs.Statement.{spelled}
 use Rattle.help_text.specs.Text.{line}
-use Rattle.help_text.specs.Tokens.{is_symbol, is_word, number_of}
+use Rattle.help_text.specs.Tokens.{is_symbol}
 
 -- a name of the drawing's own comes after the token
 abbrev pub declares : List ℕ → Option Token → Bool
@@ -37,22 +37,3 @@ reserved_line None = []
 reserved_line (Some keyword) = line (
     codes "    " ∷ word_of keyword
     ∷ codes " is reserved: it cannot be a label, kind, macro, parameter, constant, variable or drawing" ∷ [])
-
--- ---- words of version 2
-
--- the word before it begins a FOR or a CONST
-abbrev pub follows_later : List ℕ → Option Token → Token → Bool
-follows_later text None t = false
-follows_later text (Some last) t =
-    is_word t.kind
-    && (bytes_eq (spelled text last) (codes "FOR") || bytes_eq (spelled text last) (codes "CONST"))
-
--- The second token of the text is the number of the version.
-abbrev pub is_later : List ℕ → List Token → Option Token → Token → Bool
-is_later text (u ∷ version ∷ ts) before t =
-    if number_of version.kind == 1 then (if follows_later text before t then true else bytes_eq (spelled text t) (codes "CONST"))
-    else false
-is_later text tokens before t = false
-
-abbrev pub later_line : Bool → List ℕ
-later_line later = if later then codes "    FOR and CONST are of version 2, in texts that begin with SCALD 2\n" else []

@@ -13,8 +13,9 @@ use Rattle.help_text.specs.Statement.{before_place, from_place, spelled}
 use Rattle.help_text.specs.Text.{line, quoted}
 use Rattle.help_text.specs.Tokens.{is_symbol}
 use Rattle.refusal_help.specs.Belongs.{belongs_lines}
-use Rattle.refusal_help.specs.Reserved.{is_later, later_line, reserved_at, reserved_line}
+use Rattle.refusal_help.specs.Reserved.{reserved_at, reserved_line}
 use Rattle.refusal_help.specs.Unended.{unended_lines}
+use Rattle.refusal_help.specs.Version.{is_later, said_version, version_lines}
 
 -- ---- what stands here
 
@@ -73,16 +74,21 @@ abbrev pub meant_before : List ℕ → Option Token → Token → List ℕ
 meant_before text None t = []
 meant_before text (Some last) t = if is_symbol 58 t.kind then [] else meant_line text last
 
-abbrev pub lines_at : List ℕ → List Token → Option Token → List Token → List ℕ
-lines_at text tokens before [] = []
-lines_at text tokens before (t ∷ ts) =
+-- what the version that the text says and the statements before the token tell of it
+abbrev pub statement_lines : List ℕ → List Token → Option ℕ → Option Token → Token → List ℕ
+statement_lines text tokens said before t =
+    version_lines said (is_later text said before t)
+    ++ (unended_lines text tokens before t ++ belongs_lines (is_later text said before t) text before t)
+
+abbrev pub lines_at : List ℕ → List Token → Option ℕ → Option Token → List Token → List ℕ
+lines_at text tokens said before [] = []
+lines_at text tokens said before (t ∷ ts) =
     follow_line text before t
     ++ (meant_line text t
     ++ (meant_before text before t
     ++ (reserved_line (reserved_at text before t ts)
-    ++ (later_line (is_later text tokens before t)
-    ++ (unended_lines text tokens before t ++ belongs_lines (is_later text tokens before t) text before t)))))
+    ++ statement_lines text tokens said before t)))
 
 abbrev pub syntax_lines : List ℕ → List Token → Place → List ℕ
 syntax_lines text tokens place =
-    lines_at text tokens (before_place place tokens) (from_place place tokens)
+    lines_at text tokens (said_version text tokens) (before_place place tokens) (from_place place tokens)

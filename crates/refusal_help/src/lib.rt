@@ -20,6 +20,7 @@ mod reserved;
 mod sentence;
 mod syntax;
 mod unended;
+mod version;
 
 // the calls
 mod call_word;

@@ -1,9 +1,9 @@
 //! Words that are none of a drawing's own.
 
 ghost use Rattle.std.specs.Prelude.{◌≡◌, ◌++◌, OnOk};
-ghost use Rattle.refusal_help.specs.Reserved.{declares, gives, follows_later, is_later, later_line, reserved_at, reserved_line};
+ghost use Rattle.refusal_help.specs.Reserved.{declares, gives, reserved_at, reserved_line};
 
-use help_text::{Keyword, Part, add_line, is_symbol, is_word, number_of, reserved_word, spelled};
+use help_text::{Keyword, Part, add_line, is_symbol, reserved_word, spelled};
 use scald_base::{Bytes, NoMemory, same_bytes};
 use scald_lex::Token;
 
@@ -74,42 +74,5 @@ pub fn add_reserved(
             ],
         ),
         None => Ok(()),
-    }
-}
-
-/// Whether a word comes after a FOR or a CONST.
-fn follows_later(text: &[u8], before: Option<Token>, token: Token) -> bool
-    ensures { result ≡ follows_later text.now before token }
-{
-    match before {
-        Some(last) => {
-            let word = spelled(text, last);
-            is_word(token) && (same_bytes(word, b"FOR") || same_bytes(word, b"CONST"))
-        }
-        None => false,
-    }
-}
-
-/// Whether a word of version 2 stands in a text of these tokens, which is of version 1.
-pub fn is_later(text: &[u8], tokens: &[Token], before: Option<Token>, token: Token) -> bool
-    ensures { result ≡ is_later text.now tokens.now before token }
-{
-    let [_, version, ..] = tokens else {
-        return false;
-    };
-    if number_of(*version) != 1 {
-        return false;
-    }
-    follows_later(text, before, token) || same_bytes(spelled(text, token), b"CONST")
-}
-
-/// That words are of version 2, where one is of a later version than the text.
-pub fn add_later(out: &mut Bytes, later: bool) -> Result<(), NoMemory>
-    ensures { OnOk result (out.new ≡ out.old ++ later_line later) }
-{
-    if later {
-        out.extend(b"    FOR and CONST are of version 2, in texts that begin with SCALD 2\n")
-    } else {
-        Ok(())
     }
 }

@@ -2,11 +2,13 @@
 
 ghost use Rattle.std.specs.Prelude.{◌≡◌, ◌++◌, OnOk};
 ghost use Rattle.help_text.specs.Text.{part_text};
-ghost use Rattle.refusal_help.specs.Syntax.{follow_line, meant_before, meant_keyword, meant_line, named, syntax_lines};
+ghost use Rattle.refusal_help.specs.Syntax.{follow_line, meant_before, meant_keyword, meant_line, named, statement_lines, syntax_lines};
+ghost use Rattle.refusal_help.specs.Version.{said_version};
 
 use crate::belongs::belongs_note;
-use crate::reserved::{add_later, add_reserved, is_later};
+use crate::reserved::add_reserved;
 use crate::unended::add_unended;
+use crate::version::{add_versions, is_later, said_version};
 use element_kinds::is_kind_name;
 use help_text::{
     Keyword, Part, add_line, before_place, from_place, is_symbol, near_keyword, spelled,
@@ -100,6 +102,24 @@ fn add_meant_before(
     }
 }
 
+/// What the version that the text says and the statements before a token tell of it.
+fn add_statement(
+    out: &mut Bytes,
+    text: &[u8],
+    tokens: &[Token],
+    before: Option<Token>,
+    token: Token,
+) -> Result<(), NoMemory>
+    ensures { let said = said_version text.now tokens.now in
+        OnOk result (out.new ≡ out.old ++ statement_lines text.now tokens.now said before token) }
+{
+    let said = said_version(text, tokens);
+    let later = is_later(text, said, before, token);
+    add_versions(out, said, later)?;
+    add_unended(out, text, tokens, before, token)?;
+    out.extend(belongs_note(later, text, before, token))
+}
+
 /// What stands at the place, after what, and what may be meant.
 pub fn add_syntax(
     out: &mut Bytes,
@@ -117,8 +137,5 @@ pub fn add_syntax(
     add_meant(out, text, *token)?;
     add_meant_before(out, text, before, *token)?;
     add_reserved(out, text, before, *token, others)?;
-    let later = is_later(text, tokens, before, *token);
-    add_later(out, later)?;
-    add_unended(out, text, tokens, before, *token)?;
-    out.extend(belongs_note(later, text, before, *token))
+    add_statement(out, text, tokens, before, *token)
 }
