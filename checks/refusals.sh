@@ -435,6 +435,22 @@ helps "    'CONST' cannot stand here, after ';'" \
     '    FOR and CONST are of version 2, in texts that begin with SCALD 2' \
     '    what may stand here: WIRE PSKEW CSKEW MACRO DRAWING'
 text '3 Syntax 3:1' 'SCALD 3;' 'CLOCK 8 x 50;' 'CONST N = 4;' 'DRAWING ROW;' 'END;'
+helps "    'CONST' cannot stand here, after ';'" \
+    '    the versions are 1 and 2, and this text says 3' \
+    '    FOR and CONST are of version 2, in texts that begin with SCALD 2' \
+    '    what may stand here: WIRE PSKEW CSKEW MACRO DRAWING'
+text '3 Syntax 4:5' 'SCALD 0;' 'CLOCK 8 x 50;' 'DRAWING ROW;' 'FOR I = 0 TO 1 DO' 'END;' 'END;'
+helps "    'I' cannot stand here, after 'FOR'" \
+    '    the versions are 1 and 2, and this text says 0' \
+    '    FOR and CONST are of version 2, in texts that begin with SCALD 2' \
+    '    what may stand here: :'
+text '3 Syntax 1:9' 'SCALD 3;;'
+helps "    ';' cannot stand here, after ';'" \
+    '    the versions are 1 and 2, and this text says 3' \
+    '    what may stand here: CLOCK'
+text '3 Syntax 1:1' 'CLOCK 8 x 50;'
+helps "    'CLOCK' cannot come first" \
+    '    what may stand here: SCALD'
 const='    a CONST stands before the first MACRO and the DRAWING, after CLOCK, WIRE, PSKEW and CSKEW'
 second '3 Syntax 5:1' 'MACRO M ();' 'END;' 'CONST N = 4;' 'DRAWING ROW;' 'END;'
 helps "    'CONST' cannot stand here, after ';'" '    the last END before this, at 4:1, is that of the MACRO at 3:1' \
@@ -461,6 +477,14 @@ second '3 Syntax 4:11' 'DRAWING ROW;' 'FOR I = 0 1 DO' 'END;' 'END;'
 helps "    '1' cannot stand here, after '0'" \
     '    what may stand here: TO + - * /' \
     '    is TO missing here?'
+second '3 Syntax 4:11' 'DRAWING ROW;' 'FOR I = 0 UPTO 1 DO' 'END;' 'END;'
+helps "    'UPTO' cannot stand here, after '0'" \
+    '    what may stand here: TO + - * /' \
+    "    is TO missing here, or meant in place of 'UPTO'?"
+second '3 Syntax 4:10' 'DRAWING ROW;' 'IF 2 > 1 DO b1 : BUF [0:0] ("A") -> ("X");' 'END;' 'END;'
+helps "    'DO' cannot stand here, after '1'" \
+    '    what may stand here: THEN + - * /' \
+    "    is THEN missing here, or meant in place of 'DO'?"
 second '3 Syntax 4:11' 'DRAWING ROW;' 'FOR I = 0 DO' 'END;' 'END;'
 second '3 Syntax 4:16' 'DRAWING ROW;' 'FOR I = 0 TO 1 THEN' 'END;' 'END;'
 second '3 Syntax 4:19' 'DRAWING ROW;' 'FOR I = 0 TO 1 DO ELSE' 'END;' 'END;'

@@ -70,11 +70,11 @@ two = refl
 none : expected_line [] ≡ codes "    what may stand here:\n"
 none = refl
 
-semicolon : missing_line (Some Semicolon) ≡ codes "    is ; missing here?\n"
+semicolon : missing_line false (codes "b2") (Some Semicolon) ≡ codes "    is ; missing here?\n"
 semicolon = refl
 
-word : missing_line (Some Then) ≡ codes "    is THEN missing here?\n"
-word = refl
+in_place : missing_line true (codes "DO") (Some Then) ≡ codes "    is THEN missing here, or meant in place of 'DO'?\n"
+in_place = refl
 
-nothing : missing_line None ≡ []
+nothing : missing_line false (codes "b2") None ≡ []
 nothing = refl

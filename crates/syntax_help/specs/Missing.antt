@@ -1,9 +1,11 @@
 -- Which token may be missing before one that may not stand.
-use Rattle.std.specs.Prelude.{ℕ, ◌<◌, List, [], ◌∷◌, length, get_or, Option, Some, None}
+use Rattle.std.specs.Prelude.{◌≡◌, ℕ, ◌<◌, Bool, false, List, [], ◌∷◌, length, get_or, Option, Some, None}
 use Rattle.scald_base.specs.declared.refusal.Place.{Place}
+use Rattle.scald_lex.specs.declared.token.Token.{Token}
+use Rattle.help_text.specs.Statement.{spelled}
 use Rattle.syntax_help.specs.declared.sample.Sample.{Sample}
 use Rattle.syntax_help.specs.declared.sample.Sample.TheVariants.{Word, Then, To, Do, Arrow, Semicolon, Comma, CloseParenthesis, Greater, CloseBracket, CloseBrace}
-use Rattle.syntax_help.specs.Expected.{IsListed}
+use Rattle.syntax_help.specs.Expected.{IsListed, Says}
 use Rattle.syntax_help.specs.Sample.{spelling}
 use Rattle.syntax_help.specs.Trial.{CannotStand, next_line, trial}
 
@@ -28,3 +30,10 @@ abbrev pub asked : List Sample
 asked =
     Semicolon ∷ Then ∷ To ∷ Do ∷ CloseParenthesis ∷ CloseBracket ∷ CloseBrace ∷ Greater ∷
     Arrow ∷ Comma ∷ []
+
+-- Whether the one that may be missing before a token may stand in place of it: where a token comes
+-- next, that one may stand after it.
+abbrev pub StandsFor : List ℕ → List ℕ → Place → Option Token → Option Sample → Bool → Type 0
+StandsFor text front place next None b = b ≡ false
+StandsFor text front place None (Some s) b = b ≡ false
+StandsFor text front place (Some t) (Some s) b = Says (Mends front place (spelled text t) s) b

@@ -1,8 +1,9 @@
 //! Which token may be missing before one that may not stand.
 
 ghost use Rattle.std.specs.Prelude.{◌<◌, ◌+◌, ◌-◌, ◌^◌, length, IfOk};
+ghost use Rattle.help_text.specs.Statement.{spelled};
 ghost use Rattle.syntax_help.specs.Expected.{Says};
-ghost use Rattle.syntax_help.specs.Missing.{IsFirst, Mends, asked};
+ghost use Rattle.syntax_help.specs.Missing.{IsFirst, Mends, StandsFor, asked};
 ghost use Rattle.syntax_help.specs.Sample.{spelling};
 ghost use Rattle.syntax_help.specs.Trial.{IsTrial};
 ghost use Rattle.syntax_help.specs.declared.sample.Sample.TheVariants.{Word};
@@ -10,7 +11,9 @@ ghost use Rattle.syntax_help.specs.declared.sample.Sample.TheVariants.{Word};
 use crate::expected::is_listed;
 use crate::sample::Sample;
 use crate::trial::{may_stand, next_line, trial};
+use help_text::spelled;
 use scald_base::{NoMemory, Place};
+use scald_lex::Token;
 use std::alloc::Global;
 
 /// The tokens that are asked for, in their order.
@@ -88,4 +91,44 @@ pub fn missing(
 {
     let any_word = may_stand(alloc, front, place, Sample::Word.spelling())?;
     first_among(alloc, front, place, any_word, token, &ASKED)
+}
+
+/// Whether this token may stand in place of one that may not, where this one comes next.
+fn stands_before(
+    alloc: Global,
+    text: &[u8],
+    front: &[u8],
+    place: Place,
+    next: Token,
+    sample: Sample,
+) -> Result<bool, NoMemory>
+    requires short { length front.now < 2 ^ 20 }
+    requires small { length text.now < 2 ^ 31 }
+    ensures { IfOk result (Says (Mends front.now place (spelled text.now next) sample)) }
+{
+    let any_word = may_stand(alloc, front, place, Sample::Word.spelling())?;
+    mends(alloc, front, place, any_word, spelled(text, next), sample)
+}
+
+/// Whether the token that may be missing before one that may not stand after the front of a text
+/// may stand in place of it, by the token that comes next. The one error is that memory ran out.
+pub fn stands_for(
+    alloc: Global,
+    text: &[u8],
+    front: &[u8],
+    place: Place,
+    next: Option<Token>,
+    missing: Option<Sample>,
+) -> Result<bool, NoMemory>
+    requires short { length front.now < 2 ^ 20 }
+    requires small { length text.now < 2 ^ 31 }
+    ensures { IfOk result (StandsFor text.now front.now place next missing) }
+{
+    match missing {
+        Some(sample) => match next {
+            Some(token) => stands_before(alloc, text, front, place, token, sample),
+            None => Ok(false),
+        },
+        None => Ok(false),
+    }
 }

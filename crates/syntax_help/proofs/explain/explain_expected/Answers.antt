@@ -1,8 +1,7 @@
-use Rattle.std.proofs.Common.{◌≡◌, ℕ, List, ◌∙◌, ap, subst, sym}
-use Rattle.std.specs.Prelude.{Option}
+use Rattle.std.proofs.Common.{◌≡◌, List, ◌∙◌, ap, subst, sym}
 use Rattle.std.proofs.lemmas.Result.{IfOk-weaker}
 use Rattle.scald_lex.specs.declared.token.Token.{Token}
-use Rattle.help_text.specs.Statement.{first_of, from_place}
+use Rattle.help_text.specs.Statement.{from_place}
 use Rattle.syntax_help.specs.Told.{IsTold, IsToldOf, read, refused}
 use Rattle.syntax_help.proofs.explain.explain_expected.Goals as goal
 
@@ -15,9 +14,9 @@ pub returns : goal.returns
 returns c =
     let text = c.args.text.now in let place = c.args.place in
     let tokens = c.in-Ok.list in
-    let here : c.first_of-found.result ≡ first_of (from_place place tokens) =
-    c.first_of-found.ensures ∙ ap first_of (c.from_place.ensures ∙ ap (from_place place) c.as_slice.ensures) in
-    IfOk-weaker c.told_of.result (IsToldOf text place c.first_of-found.result) (IsTold text place)
+    let here : c.from_place.result.now ≡ from_place place tokens =
+    c.from_place.ensures ∙ ap (from_place place) c.as_slice.ensures in
+    IfOk-weaker c.told_of.result (IsToldOf text place c.from_place.result.now) (IsTold text place)
     (λ bytes said. read tokens bytes c.in-Ok.ensures.found
-    (subst (λ (found : Option Token). IsToldOf text place found bytes) here said))
+    (subst (λ (found : List Token). IsToldOf text place found bytes) here said))
     c.told_of.ensures
