@@ -870,6 +870,35 @@ helps "$slow_loop" \
     '        X<0> is driven at 4:1 by b1<0>' \
     '        Y<0> is driven at 5:1 by a1<0>' \
     '        X<0> is driven at 4:1 by b1<0>'
+# (a loop of eight nets is listed whole, and one of nine is not)
+drawing '18 ZeroLoop 4:1' 'b1 : BUF [0:0] ("H") -> ("A");' 'b2 : BUF [0:0] ("A") -> ("B");' 'b3 : BUF [0:0] ("B") -> ("C");' \
+    'b4 : BUF [0:0] ("C") -> ("D");' 'b5 : BUF [0:0] ("D") -> ("E");' 'b6 : BUF [0:0] ("E") -> ("F");' \
+    'b7 : BUF [0:0] ("F") -> ("G");' 'b8 : BUF [0:0] ("G") -> ("H");'
+helps "$slow_loop" \
+    '    it is in a loop, each net of which comes from the next:' \
+    '        A<0> is driven at 4:1 by b1<0>' \
+    '        H<0> is driven at 11:1 by b8<0>' \
+    '        G<0> is driven at 10:1 by b7<0>' \
+    '        F<0> is driven at 9:1 by b6<0>' \
+    '        E<0> is driven at 8:1 by b5<0>' \
+    '        D<0> is driven at 7:1 by b4<0>' \
+    '        C<0> is driven at 6:1 by b3<0>' \
+    '        B<0> is driven at 5:1 by b2<0>' \
+    '        A<0> is driven at 4:1 by b1<0>'
+drawing '18 ZeroLoop 4:1' 'b1 : BUF [0:0] ("I") -> ("A");' 'b2 : BUF [0:0] ("A") -> ("B");' 'b3 : BUF [0:0] ("B") -> ("C");' \
+    'b4 : BUF [0:0] ("C") -> ("D");' 'b5 : BUF [0:0] ("D") -> ("E");' 'b6 : BUF [0:0] ("E") -> ("F");' \
+    'b7 : BUF [0:0] ("F") -> ("G");' 'b8 : BUF [0:0] ("G") -> ("H");' 'b9 : BUF [0:0] ("H") -> ("I");'
+helps "$slow_loop" \
+    '    it is in a loop, each net of which comes from the next:' \
+    '        A<0> is driven at 4:1 by b1<0>' \
+    '        I<0> is driven at 12:1 by b9<0>' \
+    '        H<0> is driven at 11:1 by b8<0>' \
+    '        G<0> is driven at 10:1 by b7<0>' \
+    '        F<0> is driven at 9:1 by b6<0>' \
+    '        E<0> is driven at 8:1 by b5<0>' \
+    '        D<0> is driven at 7:1 by b4<0>' \
+    '        C<0> is driven at 6:1 by b3<0>' \
+    '        and so on'
 drawing '18 ZeroLoop 4:1' 'r1 : REG [0:0] ("CK .P2-3", "Q") -> ("Q");'
 drawing '18 ZeroLoop 4:1' 'b1 : BUF [0:5, 3:3] ("X") -> ("X");'
 drawing '18 ZeroLoop 4:1' 'b1 : BUF [3:3, 0:5] ("X") -> ("X");'

@@ -1,6 +1,8 @@
 -- Texts that are made, entries and ways, worked out on paper.
 use Rattle.std.proofs.Common.{◌≡◌, ℕ, ◌+◌, true, false, List, [], ◌∷◌, ◌++◌, refl, pos}
 use Rattle.std.specs.Prelude.{codes, Some, None}
+use Rattle.std.specs.List.{flat_map}
+use Rattle.flat_circuit.specs.Circuit.{Circuit}
 use Rattle.scald_lex.specs.declared.token.Token.{Token}
 use Rattle.scald_lex.specs.declared.token.TokenKind.{TokenKind}
 use Rattle.scald_lex.specs.declared.token.TokenKind.TheVariants.{Word, Number, Name, Arrow, Symbol}
@@ -10,6 +12,7 @@ use Rattle.circuit_help.specs.Slowed.{delays, slowed_text}
 use Rattle.circuit_help.specs.Statements.{depth_after, ends_body, ends_statement, statements_of}
 use Rattle.circuit_help.specs.Cases.{case_cut, entry_bit, entry_value, has_point}
 use Rattle.circuit_help.specs.Drivers.{as_checker, cuts}
+use Rattle.circuit_help.specs.Lines.{driven_line, nets_lines}
 use Rattle.circuit_help.specs.Loops.{begins, from_net, last_net}
 use Rattle.circuit_help.specs.Reached.{cut_text}
 use Rattle.circuit_help.specs.ZeroLoop.{cuts as delay_cuts, slowed}
@@ -82,6 +85,18 @@ end = refl
 
 no_round : begins 5 (from_net 5 (3 ∷ 7 ∷ 5 ∷ [])) ≡ false
 no_round = refl
+
+-- the net at which it begins again is listed after eight, and no net is passed over
+abbrev eight : List ℕ
+eight = 0 ∷ 1 ∷ 2 ∷ 3 ∷ 4 ∷ 5 ∷ 6 ∷ 7 ∷ []
+
+loop_of_eight : (c : Circuit) →
+    nets_lines c (eight ++ 0 ∷ []) ≡ flat_map (driven_line c) (eight ++ 0 ∷ [])
+loop_of_eight c = refl
+
+loop_of_nine : (c : Circuit) → nets_lines c (eight ++ 8 ∷ 0 ∷ [])
+    ≡ flat_map (driven_line c) eight ++ codes "        and so on\n"
+loop_of_nine c = refl
 
 -- ---- statements of the drawing: a:M(); and an IF with one in it
 

@@ -16,9 +16,10 @@ driven_by name (Some j) = line (
 abbrev pub driven_line : Circuit → ℕ → List ℕ
 driven_line c net = driven_by (net_text c net) (driver c net)
 
-abbrev pub more_line : ℕ → List ℕ
-more_line count = if nat_lt 8 count then codes "        and so on\n" else []
-
--- the first eight of these nets, and whether there are more
+-- All of these nets; or, where there are more than nine, the first eight. A loop ends with the net
+-- that it begins with, so one of eight nets is listed whole.
 abbrev pub nets_lines : Circuit → List ℕ → List ℕ
-nets_lines c nets = flat_map (driven_line c) (take 8 nets) ++ more_line (length nets)
+nets_lines c nets =
+    if nat_lt 9 (length nets)
+    then flat_map (driven_line c) (take 8 nets) ++ codes "        and so on\n"
+    else flat_map (driven_line c) nets

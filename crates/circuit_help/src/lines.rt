@@ -8,7 +8,7 @@ use flat_circuit::Circuit;
 use listing::{Piece, add_line, net_piece};
 use scald_base::{Bytes, NoMemory};
 
-/// The most nets that are named.
+/// The most nets of a loop that is listed whole.
 const MOST_NAMED: usize = 8;
 
 /// A net, and where the statement of its driver stands.
@@ -50,13 +50,14 @@ fn add_each(out: &mut Bytes, c: &Circuit, nets: &[u32]) -> Result<(), NoMemory>
     Ok(())
 }
 
-/// The first of these nets, and whether there are more.
+/// These nets, the last of which is that at which their loop begins again; or the first of them, where
+/// the loop has more.
 pub fn add_nets(out: &mut Bytes, c: &Circuit, nets: &[u32]) -> Result<(), NoMemory>
     ensures { OnOk result (out.new ≡ out.old ++ nets_lines c.now nets.now) }
 {
-    add_each(out, c, &nets[..nets.len().min(MOST_NAMED)])?;
-    if nets.len() > MOST_NAMED {
-        out.extend(b"        and so on\n")?;
+    if nets.len() <= MOST_NAMED + 1 {
+        return add_each(out, c, nets);
     }
-    Ok(())
+    add_each(out, c, &nets[..MOST_NAMED])?;
+    out.extend(b"        and so on\n")
 }
