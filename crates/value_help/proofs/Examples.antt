@@ -1,5 +1,5 @@
 -- Small drawings that are refused, and what is told of their values.
-use Rattle.std.proofs.Common.{◌≡◌, ℕ, ℤ, pos, false, List, [], ◌∷◌, Option, Some, None, refl}
+use Rattle.std.proofs.Common.{◌≡◌, ℕ, pos, false, List, [], ◌∷◌, Option, Some, None, refl}
 use Rattle.std.specs.Prelude.{codes}
 use Rattle.std.specs.Fmt.{digits}
 use Rattle.scald_base.specs.Time.{Header}
@@ -9,10 +9,10 @@ use Rattle.scald_base.specs.declared.refusal.RefusalKind.TheVariants.{BadRange, 
 use Rattle.scald_base.specs.declared.assertion.AssertSpec.TheVariants.{None as Unasserted}
 use Rattle.scald_expr.specs.Expression.{Expression, Number, Param, Binary}
 use Rattle.scald_expr.specs.declared.expr.Op.TheVariants.{Sub}
-use Rattle.drawing_tree.specs.Tree.{Range, Named, Connection, Use, UseStatement, Wire, Statement, If, For, Statements, nil, cons, no_else, Assignment, Formal, Macro, Drawing}
+use Rattle.drawing_tree.specs.Tree.{Range, Named, Connection, Use, Wire, Statement, For, Statements, nil, cons, Assignment, Macro, Drawing}
 use Rattle.macro_expander.specs.Macros.{given_to, inside_of}
 use Rattle.macro_expander.specs.Flat.{setting_of}
-use Rattle.value_help.specs.Lines.{bit_of, quoted, range_of}
+use Rattle.value_help.specs.Lines.{bit_of, formal_text, quoted, range_of}
 use Rattle.value_help.specs.Found.{ends, found, found_with, goes_on, in_statements, searching_at}
 
 -- ---- drawings
@@ -177,8 +177,8 @@ sliced params = drawn (given (codes "N") (number 5) ∷ []) (slice ∷ [])
 
 -- a formal, by the value that the use gives
 formal_of_no_bits : found (bad_range 6) (sliced (given (codes "W") (Binary Sub (Param (codes "N")) (number 5)) ∷ []))
-    ≡ codes "    the range of \"A\" goes from 0 to -1, where W is 0\n"
-unfolding found found_with searching_at range_of quoted given_to inside_of digits
+    ≡ codes "    the range of the formal \"A\" of SLICE goes from 0 to -1, where W is 0\n"
+unfolding found found_with searching_at range_of formal_text quoted given_to inside_of digits
 formal_of_no_bits = refl
 
 -- in its body, by the default and by a constant

@@ -1,8 +1,7 @@
 -- Statements one after another, and one that is counted.
-use Rattle.std.proofs.Common.{◌≡◌, ◌≢◌, ℕ, ◌+◌, ◌-◌, ◌<◌, ℤ, pos, true, false, List, [], length, drop, get_or, Some, None, Result, Ok, Err, refl, ap, sym, ◌∙◌, arith}
+use Rattle.std.proofs.Common.{◌≡◌, ℕ, ◌+◌, ◌-◌, ◌<◌, true, false, List, [], length, drop, get_or, Result, Ok, Err, refl, ap, sym, ◌∙◌}
 use Rattle.std.specs.Prelude.{◌==◌, IfOk, is_some}
 use Rattle.scald_base.specs.declared.refusal.Refusal.{Refusal}
-use Rattle.scald_base.specs.declared.refusal.RefusalKind.{RefusalKind}
 use Rattle.drawing_tree.specs.declared.statement.Stmt.{Stmt}
 use Rattle.drawing_tree.specs.declared.statement.ForStmt.{ForStmt}
 use Rattle.drawing_tree.specs.declared.statement.IfStmt.{IfStmt}
@@ -10,10 +9,9 @@ use Rattle.drawing_tree.specs.Tree.{Statement, Use, Wire, If, For, Statements, U
 use Rattle.drawing_tree.proofs.Views.{view_for, view_if}
 use Rattle.macro_expander.specs.declared.library.Library.{Library}
 use Rattle.macro_expander.specs.declared.scope.Scope.{Scope}
-use Rattle.macro_expander.specs.Library.{setting_in}
 use Rattle.spread_names.proofs.Walking.{split}
 use Rattle.value_help.specs.Lines.{Said}
-use Rattle.value_help.specs.Found.{Search, after, at_wire, counted, ends, goes_on, unless_said}
+use Rattle.value_help.specs.Found.{Search, after, at_wire, ends, unless_said}
 use Rattle.value_help.specs.Walk.{chosen_in, in_all, in_one, turns_in, use_in}
 use Rattle.value_help.proofs.Or.{after_said, after_unsaid, counted_on}
 

@@ -39,22 +39,27 @@ pair_text pair = signed_decimal pair.0 ++ codes ":" ++ signed_decimal pair.1
 abbrev pub way_text : ℤ × ℤ → List ℕ
 way_text ends = signed_decimal ends.0 ++ codes " to " ++ signed_decimal ends.1
 
+-- ---- what has a range: `"A"`, or in the head of a macro `the formal "A" of SLICE`
+
 unfoldable pub quoted : List ℕ → List ℕ
 quoted base = codes "\"" ++ base ++ codes "\""
 
+unfoldable pub formal_text : List ℕ → List ℕ → List ℕ
+formal_text name base = codes "the formal " ++ quoted base ++ codes " of " ++ name
+
 -- where a range goes
 unfoldable pub range_of : List ℕ → List ℕ
-range_of base = codes "the range of " ++ quoted base
+range_of whose = codes "the range of " ++ whose
 
 abbrev pub goes_text : List ℕ → ℤ × ℤ → List ℕ
-goes_text base ends = range_of base ++ codes " goes from " ++ way_text ends
+goes_text whose ends = range_of whose ++ codes " goes from " ++ way_text ends
 
 -- at which bit one number is
 unfoldable pub bit_of : List ℕ → List ℕ
-bit_of base = codes "the bit of " ++ quoted base
+bit_of whose = codes "the bit of " ++ whose
 
 abbrev pub bit_text : List ℕ → ℤ → List ℕ
-bit_text base number = bit_of base ++ codes " is " ++ signed_decimal number
+bit_text whose number = bit_of whose ++ codes " is " ++ signed_decimal number
 
 abbrev pub range_text : List ℕ → Bool → ℤ × ℤ → List ℕ
-range_text base goes ends = if goes then goes_text base ends else bit_text base ends.0
+range_text whose goes ends = if goes then goes_text whose ends else bit_text whose ends.0

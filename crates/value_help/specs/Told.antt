@@ -1,6 +1,6 @@
 -- What is told of a statement that is refused, by the values that its expressions have where it is
 -- reached, and None of one that is not.
-use Rattle.std.specs.Prelude.{ℕ, ℤ, List, [], ◌∷◌, ◌++◌, Option, Some, None, Ok, Err, is_some, if◌then◌else◌, codes}
+use Rattle.std.specs.Prelude.{ℕ, ℤ, List, [], ◌++◌, Option, Some, None, Ok, Err, is_some, if◌then◌else◌, codes}
 use Rattle.scald_base.specs.declared.refusal.RefusalKind.{RefusalKind}
 use Rattle.scald_base.specs.declared.refusal.RefusalKind.TheVariants.{BadRange, Bounds}
 use Rattle.scald_expr.specs.declared.environment.Binding.{Binding}
@@ -11,35 +11,35 @@ use Rattle.drawing_tree.specs.Tree.{Range, Item, Zero, One, Named, Term, Connect
 use Rattle.macro_expander.specs.Outcome.{Judged}
 use Rattle.macro_expander.specs.Setting.{Setting}
 use Rattle.macro_expander.specs.Terms.{valued, written_ends}
-use Rattle.macro_expander.specs.Primitives.{Delays, delay_between, delays_of, fall_of, limits_of, takes_delays, values_given, written_delay}
+use Rattle.macro_expander.specs.Primitives.{delay_between, delays_of, fall_of, limits_of, takes_delays, values_given, written_delay}
 use Rattle.macro_expander.specs.Macros.{given_to, macro_of, parameters_of}
 use Rattle.value_help.specs.Named.{named_in_both, named_in_delay, named_in_params, named_in_range}
-use Rattle.value_help.specs.Lines.{Said, first_told, line, or_else, pair_text, range_text, values_text}
+use Rattle.value_help.specs.Lines.{Said, first_told, formal_text, line, or_else, pair_text, quoted, range_text, values_text}
 
 -- ---- ranges
 
 -- a range that goes nowhere, or too far
 abbrev pub ends_told : List Binding → List ℕ → Range → ℤ × ℤ → Said
-ends_told env base r ends =
+ends_told env whose r ends =
     if is_some (bits_of ends.0 ends.1) then None
-    else Some (line (range_text base (is_some r.last) ends) (named_in_range env r))
+    else Some (line (range_text whose (is_some r.last) ends) (named_in_range env r))
 
 abbrev pub valued_told : List Binding → List ℕ → Option Range → Option (ℤ × ℤ) → Said
-valued_told env base (Some r) (Some ends) = ends_told env base r ends
-valued_told env base (Some r) None = None
-valued_told env base None ends = None
+valued_told env whose (Some r) (Some ends) = ends_told env whose r ends
+valued_told env whose (Some r) None = None
+valued_told env whose None ends = None
 
 abbrev pub judged_told : List Binding → List ℕ → Option Range → Judged (Option (ℤ × ℤ)) → Said
-judged_told env base range (Ok ends) = valued_told env base range ends
-judged_told env base range (Err kind) = None
+judged_told env whose range (Ok ends) = valued_told env whose range ends
+judged_told env whose range (Err kind) = None
 
 abbrev pub range_told : List Binding → List ℕ → Option Range → Said
-range_told env base range = judged_told env base range (written_ends env range)
+range_told env whose range = judged_told env whose range (written_ends env range)
 
 abbrev pub item_told : List Binding → Item → Said
 item_told env Zero = None
 item_told env One = None
-item_told env (Named name range) = range_told env name.base range
+item_told env (Named name range) = range_told env (quoted name.base) range
 
 abbrev pub term_told : List Binding → Term → Said
 term_told env t = item_told env t.item
@@ -47,8 +47,9 @@ term_told env t = item_told env t.item
 abbrev pub connection_told : List Binding → Connection → Said
 connection_told env c = first_told (term_told env) c.terms
 
-abbrev pub formal_told : List Binding → Formal → Said
-formal_told env f = range_told env f.base f.range
+-- a formal of the macro of a name
+abbrev pub formal_told : List Binding → List ℕ → Formal → Said
+formal_told env name f = range_told env (formal_text name f.base) f.range
 
 -- the connections of a use, from left to right
 abbrev pub connections_told : List Binding → UseStatement → Said
@@ -57,7 +58,8 @@ connections_told env u =
 
 -- the formals of a macro, where its parameters have these values
 abbrev pub formals_told : List Binding → Macro → Said
-formals_told env m = or_else (first_told (formal_told env) m.ins) (first_told (formal_told env) m.outs)
+formals_told env m =
+    or_else (first_told (formal_told env m.name) m.ins) (first_told (formal_told env m.name) m.outs)
 
 -- the names that have values in the head of a macro, where its parameters have some
 abbrev pub with_parameters : List Binding → Judged (List Binding) → Option (List Binding)
@@ -156,7 +158,7 @@ wire_bounds_told env w =
     wire_bounds_of (valued env w.min) (valued env w.max) (named_in_both env [] (w.min, w.max))
 
 abbrev pub wire_range_told : List Binding → WireStatement → Said
-wire_range_told env w = range_told env w.name.base w.range
+wire_range_told env w = range_told env (quoted w.name.base) w.range
 
 -- ---- by the kind of the refusal
 

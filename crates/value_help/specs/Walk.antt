@@ -6,7 +6,7 @@ use Rattle.scald_expr.specs.Expression.{expression_of}
 use Rattle.scald_expr.specs.declared.environment.Binding.{Binding}
 use Rattle.drawing_tree.specs.declared.statement.ForStmt.{ForStmt}
 use Rattle.drawing_tree.specs.declared.statement.IfStmt.{IfStmt}
-use Rattle.drawing_tree.specs.Tree.{Macro, Statement, Use, Wire, If, For, Statements, UseStatement, else_of, statements_of}
+use Rattle.drawing_tree.specs.Tree.{Macro, Statement, Statements, UseStatement, else_of, statements_of}
 use Rattle.macro_expander.specs.declared.library.Library.{Library}
 use Rattle.macro_expander.specs.declared.scope.Scope.{Scope}
 use Rattle.macro_expander.specs.declared.formal.Inside.{Inside}

@@ -1,7 +1,7 @@
 //! Lines that tell values.
 
 ghost use Rattle.std.specs.Prelude.{◌≡◌, ◌++◌, IfOk, OnOk};
-ghost use Rattle.value_help.specs.Lines.{bit_of, bit_text, goes_text, line as spec_line, pair_text, quoted, range_of, range_text as spec_range_text, value_text, values_text as spec_values_text, way_text};
+ghost use Rattle.value_help.specs.Lines.{bit_of, bit_text, formal_text as spec_formal_text, goes_text, line as spec_line, pair_text, quoted as spec_quoted, range_of, range_text as spec_range_text, value_text, values_text as spec_values_text, way_text};
 
 use itoa::Buffer;
 use scald_base::{Bytes, NoMemory};
@@ -53,59 +53,81 @@ fn add_way(out: &mut Bytes, ends: (i64, i64)) -> Result<(), NoMemory>
 
 #[tactic(auto, unfolding(crate::specs::Lines::quoted))]
 fn add_quoted(out: &mut Bytes, base: &[u8]) -> Result<(), NoMemory>
-    ensures { OnOk result (out.new ≡ out.old ++ quoted base.now) }
+    ensures { OnOk result (out.new ≡ out.old ++ spec_quoted base.now) }
 {
     out.push(b'"')?;
     out.extend(base)?;
     out.push(b'"')
 }
 
+/// A name in quotes.
+pub fn quoted(alloc: Global, base: &[u8]) -> Result<Bytes, NoMemory>
+    ensures { IfOk result (λ text. text ≡ spec_quoted base.now) }
+{
+    let mut text = Bytes::new(alloc);
+    add_quoted(&mut text, base)?;
+    Ok(text)
+}
+
+/// A formal, and the name of its macro.
+#[tactic(auto, unfolding(crate::specs::Lines::formal_text))]
+pub fn formal_text(alloc: Global, name: &[u8], base: &[u8]) -> Result<Bytes, NoMemory>
+    ensures { IfOk result (λ text. text ≡ spec_formal_text name.now base.now) }
+{
+    let mut text = Bytes::new(alloc);
+    text.extend(b"the formal ")?;
+    add_quoted(&mut text, base)?;
+    text.extend(b" of ")?;
+    text.extend(name)?;
+    Ok(text)
+}
+
 #[tactic(auto, unfolding(crate::specs::Lines::range_of))]
-fn add_range_of(out: &mut Bytes, base: &[u8]) -> Result<(), NoMemory>
-    ensures { OnOk result (out.new ≡ out.old ++ range_of base.now) }
+fn add_range_of(out: &mut Bytes, whose: &[u8]) -> Result<(), NoMemory>
+    ensures { OnOk result (out.new ≡ out.old ++ range_of whose.now) }
 {
     out.extend(b"the range of ")?;
-    add_quoted(out, base)
+    out.extend(whose)
 }
 
 #[tactic(auto, unfolding(crate::specs::Lines::bit_of))]
-fn add_bit_of(out: &mut Bytes, base: &[u8]) -> Result<(), NoMemory>
-    ensures { OnOk result (out.new ≡ out.old ++ bit_of base.now) }
+fn add_bit_of(out: &mut Bytes, whose: &[u8]) -> Result<(), NoMemory>
+    ensures { OnOk result (out.new ≡ out.old ++ bit_of whose.now) }
 {
     out.extend(b"the bit of ")?;
-    add_quoted(out, base)
+    out.extend(whose)
 }
 
-fn add_goes(out: &mut Bytes, base: &[u8], ends: (i64, i64)) -> Result<(), NoMemory>
-    ensures { OnOk result (out.new ≡ out.old ++ goes_text base.now ends) }
+fn add_goes(out: &mut Bytes, whose: &[u8], ends: (i64, i64)) -> Result<(), NoMemory>
+    ensures { OnOk result (out.new ≡ out.old ++ goes_text whose.now ends) }
 {
-    add_range_of(out, base)?;
+    add_range_of(out, whose)?;
     out.extend(b" goes from ")?;
     add_way(out, ends)
 }
 
-fn add_bit(out: &mut Bytes, base: &[u8], number: i64) -> Result<(), NoMemory>
-    ensures { OnOk result (out.new ≡ out.old ++ bit_text base.now number) }
+fn add_bit(out: &mut Bytes, whose: &[u8], number: i64) -> Result<(), NoMemory>
+    ensures { OnOk result (out.new ≡ out.old ++ bit_text whose.now number) }
 {
-    add_bit_of(out, base)?;
+    add_bit_of(out, whose)?;
     out.extend(b" is ")?;
     out.extend(Buffer::new().format(number).as_bytes())
 }
 
-/// Where a range goes, or at which bit it is.
+/// Where the range of something goes, or at which bit it is.
 pub fn range_text(
     alloc: Global,
-    base: &[u8],
+    whose: &[u8],
     goes: bool,
     ends: (i64, i64),
 ) -> Result<Bytes, NoMemory>
-    ensures { IfOk result (λ text. text ≡ spec_range_text base.now goes ends) }
+    ensures { IfOk result (λ text. text ≡ spec_range_text whose.now goes ends) }
 {
     let mut text = Bytes::new(alloc);
     if goes {
-        add_goes(&mut text, base, ends)?;
+        add_goes(&mut text, whose, ends)?;
     } else {
-        add_bit(&mut text, base, ends.0)?;
+        add_bit(&mut text, whose, ends.0)?;
     }
     Ok(text)
 }

@@ -5,9 +5,9 @@ ghost use Rattle.scald_expr.specs.declared.environment.Binding.{Binding};
 ghost use Rattle.vector_names.specs.Bits.{bits_of as spec_bits_of};
 ghost use Rattle.drawing_tree.specs.Tree.{connection_of, formal_of, item_of, range_of, term_of, written_range_of};
 ghost use Rattle.value_help.specs.Lines.{Said, first_told as spec_first_told};
-ghost use Rattle.value_help.specs.Told.{connection_told, ends_told as spec_ends_told, formal_told, item_told as spec_item_told, range_told as spec_range_told, term_told};
+ghost use Rattle.value_help.specs.Told.{connection_told, ends_told as spec_ends_told, formal_told as spec_formal_told, item_told as spec_item_told, range_told as spec_range_told, term_told};
 
-use crate::line::{Said, line, range_text};
+use crate::line::{Said, formal_text, line, quoted, range_text};
 use crate::named::named_in_range;
 use drawing_tree::{Conn, Formal, Item, RangeExpr, Term, WrittenRange};
 use macro_expander::range::written_ends;
@@ -29,32 +29,32 @@ fn is_range(alloc: Global, ends: (i64, i64)) -> Result<bool, NoMemory>
 fn ends_told(
     alloc: Global,
     env: &Env,
-    base: &[u8],
+    whose: &[u8],
     range: &RangeExpr,
     ends: (i64, i64),
 ) -> Result<Said, NoMemory>
-    ensures { IfOk result (λ said. said ≡ spec_ends_told env.now base.now (range_of range.now) ends) }
+    ensures { IfOk result (λ said. said ≡ spec_ends_told env.now whose.now (range_of range.now) ends) }
 {
     if is_range(alloc, ends)? {
         return Ok(None);
     }
-    let text = range_text(alloc, base, range.last.is_some(), ends)?;
+    let text = range_text(alloc, whose, range.last.is_some(), ends)?;
     let named = named_in_range(alloc, env, range)?;
     Ok(Some(line(alloc, text.as_slice(), named.as_slice())?))
 }
 
-/// What is told of a name with a range, where one is written.
+/// What is told of the range of something, where one is written.
 pub fn range_told(
     alloc: Global,
     env: &Env,
-    base: &[u8],
+    whose: &[u8],
     range: &WrittenRange,
 ) -> Result<Said, NoMemory>
-    ensures { IfOk result (λ said. said ≡ spec_range_told env.now base.now (written_range_of range.now)) }
+    ensures { IfOk result (λ said. said ≡ spec_range_told env.now whose.now (written_range_of range.now)) }
 {
     match written_ends(range, env) {
         Ok(Some(ends)) => match range {
-            Some(range) => ends_told(alloc, env, base, range, ends),
+            Some(range) => ends_told(alloc, env, whose, range, ends),
             None => Ok(None),
         },
         Ok(None) => Ok(None),
@@ -89,7 +89,10 @@ fn item_told(alloc: Global, env: &Env, item: &Item) -> Result<Said, NoMemory>
 {
     match item {
         Item::Zero | Item::One => Ok(None),
-        Item::Named(name, range) => range_told(alloc, env, name.base.as_slice(), range),
+        Item::Named(name, range) => {
+            let whose = quoted(alloc, name.base.as_slice())?;
+            range_told(alloc, env, whose.as_slice(), range)
+        }
     }
 }
 
@@ -116,14 +119,6 @@ impl Ranged for Conn {
     }
 }
 
-impl Ranged for Formal {
-    ghost told = { λ env f. formal_told env (formal_of f) };
-
-    fn told(&self, alloc: Global, env: &Env) -> Result<Said, NoMemory> {
-        range_told(alloc, env, self.base.as_slice(), &self.range)
-    }
-}
-
 /// What is told of connections.
 #[tactic(auto, using(crate::proofs::Or::first_told_map))]
 pub fn connections_told(alloc: Global, env: &Env, connections: &[Conn]) -> Result<Said, NoMemory>
@@ -133,11 +128,29 @@ pub fn connections_told(alloc: Global, env: &Env, connections: &[Conn]) -> Resul
     first_told(alloc, env, connections)
 }
 
-/// What is told of formals.
-#[tactic(auto, using(crate::proofs::Or::first_told_map))]
-pub fn formals_told(alloc: Global, env: &Env, formals: &[Formal]) -> Result<Said, NoMemory>
+fn formal_told(alloc: Global, env: &Env, name: &[u8], formal: &Formal) -> Result<Said, NoMemory>
     ensures { IfOk result (λ said.
-        said ≡ spec_first_told (formal_told env.now) (map formal_of formals.now)) }
+        said ≡ spec_formal_told env.now name.now (formal_of formal.now)) }
 {
-    first_told(alloc, env, formals)
+    let whose = formal_text(alloc, name, formal.base.as_slice())?;
+    range_told(alloc, env, whose.as_slice(), &formal.range)
+}
+
+/// What is told of formals of the macro of a name.
+pub fn formals_told(
+    alloc: Global,
+    env: &Env,
+    name: &[u8],
+    formals: &[Formal],
+) -> Result<Said, NoMemory>
+    ensures { IfOk result (λ said.
+        said ≡ spec_first_told (spec_formal_told env.now name.now) (map formal_of formals.now)) }
+{
+    'formals: for formal in formals {
+        let said = formal_told(alloc, env, name, formal)?;
+        if said.is_some() {
+            return Ok(said);
+        }
+    }
+    Ok(None)
 }

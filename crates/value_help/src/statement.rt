@@ -6,10 +6,10 @@ ghost use Rattle.macro_expander.specs.Library.{LeadToMacros, macros_in, setting_
 ghost use Rattle.macro_expander.specs.Macros.{macro_of as first_called};
 ghost use Rattle.macro_expander.specs.Primitives.{takes_delays as spec_takes_delays};
 ghost use Rattle.value_help.specs.Found.{at_use, at_wire, is_at as spec_is_at};
-ghost use Rattle.value_help.specs.Told.{connections_told as spec_connections_told, formals_told as spec_formals_told, head_env as spec_head_env, macro_told as spec_macro_told, plan_told as spec_plan_told, use_bounds_of, use_bounds_told as spec_use_bounds_told, use_macro_told as spec_use_macro_told, use_ranges_told as spec_use_ranges_told, use_told as spec_use_told, wire_told as spec_wire_told};
+ghost use Rattle.value_help.specs.Told.{connections_told as spec_connections_told, formals_told as spec_formals_told, head_env as spec_head_env, macro_told as spec_macro_told, plan_told as spec_plan_told, use_bounds_of, use_bounds_told as spec_use_bounds_told, use_macro_told as spec_use_macro_told, use_ranges_told as spec_use_ranges_told, use_told as spec_use_told, wire_range_told as spec_wire_range_told, wire_told as spec_wire_told};
 
 use crate::bounds::{delays_told, limits_told, wire_bounds_told};
-use crate::line::Said;
+use crate::line::{Said, quoted};
 use crate::range::{connections_told, formals_told, range_told};
 use drawing_tree::{MacroDef, UseStmt, WireStmt};
 use element_kinds::{Kind, kind_named};
@@ -43,11 +43,12 @@ fn all_connections_told(alloc: Global, env: &Env, used: &UseStmt) -> Result<Said
 fn all_formals_told(alloc: Global, env: &Env, definition: &MacroDef) -> Result<Said, NoMemory>
     ensures { IfOk result (λ said. said ≡ spec_formals_told env.now (macro_of definition.now)) }
 {
-    let said = formals_told(alloc, env, definition.ins.as_slice())?;
+    let name = definition.name.as_slice();
+    let said = formals_told(alloc, env, name, definition.ins.as_slice())?;
     if said.is_some() {
         return Ok(said);
     }
-    formals_told(alloc, env, definition.outs.as_slice())
+    formals_told(alloc, env, name, definition.outs.as_slice())
 }
 
 /// The names that have values in the head of a macro at a use, where its parameters have some.
@@ -203,11 +204,19 @@ fn use_told(
     }
 }
 
+/// What is told of the range of a WIRE statement.
+fn wire_range_told(alloc: Global, env: &Env, wire: &WireStmt) -> Result<Said, NoMemory>
+    ensures { IfOk result (λ said. said ≡ spec_wire_range_told env.now (wire_of wire.now)) }
+{
+    let whose = quoted(alloc, wire.name.base.as_slice())?;
+    range_told(alloc, env, whose.as_slice(), &wire.range)
+}
+
 fn wire_told(alloc: Global, kind: RefusalKind, env: &Env, wire: &WireStmt) -> Result<Said, NoMemory>
     ensures { IfOk result (λ said. said ≡ spec_wire_told kind env.now (wire_of wire.now)) }
 {
     match kind {
-        RefusalKind::BadRange => range_told(alloc, env, wire.name.base.as_slice(), &wire.range),
+        RefusalKind::BadRange => wire_range_told(alloc, env, wire),
         RefusalKind::Bounds => wire_bounds_told(alloc, env, wire),
         _ => Ok(None),
     }

@@ -1,5 +1,5 @@
-use Rattle.std.proofs.Common.{◌≡◌, ℕ, ℤ, pos, ◌+ℤ◌, ◌<ℤ◌, false, true, List, [], length, Some, to_z, of_z, w64, ap, sym, ◌∙◌, arith, rules}
-use Rattle.std.specs.Prelude.{◌==◌, is_some}
+use Rattle.std.proofs.Common.{◌≡◌, ℤ, pos, ◌+ℤ◌, ◌<ℤ◌, false, true, List, Some, to_z, of_z, w64, ap, sym, ◌∙◌, arith, rules}
+use Rattle.std.specs.Prelude.{is_some}
 use Rattle.std.specs.Str.{bytes_eq}
 use Rattle.std.proofs.lemmas.Int.{ints}
 use borrow.Author.Gap.{gap_up, read_sfits}
@@ -11,7 +11,7 @@ use Rattle.spread_names.proofs.Sizes.{found_below, level_smaller, one_smaller, s
 use Rattle.value_help.specs.Found.{ends}
 use Rattle.value_help.specs.Walk.{in_all, turns_in}
 use Rattle.value_help.proofs.Turning.{for_none, for_refused, for_turns, last_turn_past, turn_below_past, turn_passed, turn_told, turns_done}
-use Rattle.value_help.proofs.Using.{of_macro, of_primitive, refused_use, too_deep, use_is_told, with_body}
+use Rattle.value_help.proofs.Using.{of_macro, of_primitive, too_deep, use_is_told, with_body}
 use Rattle.value_help.proofs.Walking.{if_ok, one_passed, one_past, one_told}
 use Rattle.value_help.proofs.walk.+walk.Goals as goal
 
