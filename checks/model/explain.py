@@ -232,15 +232,22 @@ def unknown_loop(circuit, waves, link):
     return nets[nets.index(link.net) :][::-1] if link else []
 
 
-def told_delay(instance, wire, late):
-    """The delay that a step is told by, and which of two it is: the one that alone allows so many ticks."""
+def told_delay(instance, value, wire, late):
+    """The delay that a step to this value is told by, and which of two it is: the one by which the element's own output
+    goes that way, where it allows so many ticks; and where it may go both ways the one that alone allows them."""
     if instance.split is None:
         return instance.delay, ""
-    allowing = [
-        (delay, name)
-        for delay, name in zip(instance.split, ("rise", "fall"))
-        if wire.least + delay.least <= late <= wire.greatest + delay.greatest
-    ]
+    allowing = []
+    for delay, name, way in zip(instance.split, ("rise", "fall"), "FR" if instance.output.is_complemented else "RF"):
+        least, greatest = wire.least + delay.least, wire.greatest + delay.greatest
+        if value == way and late < least:
+            return instance.delay, f", less than its {name} delay"
+        if value == way and late > greatest:
+            return instance.delay, f", more than its {name} delay"
+        if value == way:
+            return delay, f" by its {name} delay"
+        if least <= late <= greatest:
+            allowing.append((delay, name))
     if len(allowing) == 1:
         return allowing[0][0], f" by its {allowing[0][1]} delay"
     return instance.delay, "" if allowing else " by neither of its delays"
@@ -314,7 +321,7 @@ class Told:
         element = self.circuit.drivers[side.links[number].net]
         wire = wire_of(self.circuit, side.links[number + 1].net)
         late = side.late[number + 1]
-        delay, which = told_delay(element, wire, late)
+        delay, which = told_delay(element, side.links[number].value, wire, late)
         on_wire, taken = parts_of(late, wire, delay)
         return f": {element_text(element, self.naming)} takes {taken}{which}" + wire_text(on_wire, wire)
 

@@ -206,28 +206,6 @@ HAZARD of a1<0> (line 4)
 kind | checker | short by | from | cases
 HAZARD | a1<0> | - | E<0> | 0
 FAULTS 1
-#### a high pulse that two delays shorten
-words:
-drawing:
-b1 : BUF [20:20, 5:5] ("CK .P2-3") -> ("X");
-w1 : MIN_PULSE_CHK {HIGH=40} ("X");
-answer: Faulty(1)
-SCALD 1 PERIOD 400
-CASE 0
-
-WIDTH HIGH 40 of w1<0> (line 5): short by 5
-  X<0> may be high for 35 ticks, from tick 120 to tick 155
-  b1<0> : BUF [20:20, 5:5] (line 4) makes it 15 ticks shorter
-  its begin:
-    tick 100: CK<0> may rise: "CK .P2-3" (line 4)
-    tick 120: X<0> may rise: b1<0> : BUF [20:20, 5:5] (line 4) takes 20 by its rise delay
-  its end:
-    tick 150: CK<0> may fall: "CK .P2-3" (line 4)
-    tick 155: X<0> may fall: b1<0> : BUF [20:20, 5:5] (line 4) takes 5 by its fall delay
-
-kind | checker | short by | from | cases
-WIDTH HIGH | w1<0> | 5 | CK<0> | 0
-FAULTS 1
 #### a low pulse over the end of the period
 words:
 drawing:

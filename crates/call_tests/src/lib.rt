@@ -26,6 +26,8 @@ mod cause_groups;
 #[cfg(test)]
 mod chains;
 #[cfg(test)]
+mod explained_delays;
+#[cfg(test)]
 mod explanations;
 #[cfg(test)]
 mod fault_reports;

@@ -7,7 +7,7 @@ use Rattle.scald_base.specs.Clock.{back}
 use Rattle.scald_base.specs.Time.{Bounds, Header}
 use Rattle.scald_base.specs.declared.assertion.AssertSpec.TheVariants.{None as Unasserted}
 use Rattle.vector_names.specs.declared.bits.Target.TheVariants.{Net as OnNet}
-use Rattle.step_values.specs.declared.value.Value.TheVariants.{S, C, R}
+use Rattle.step_values.specs.declared.value.Value.TheVariants.{S, C, R, F, U}
 use Rattle.element_kinds.specs.declared.kind.Kind.TheVariants.{Buf}
 use Rattle.flat_circuit.specs.declared.instance.Instance.{Instance}
 use Rattle.flat_circuit.specs.declared.split.Split.{Split}
@@ -21,7 +21,8 @@ use Rattle.fault_account.specs.declared.account.Side.{Side}
 use Rattle.fault_account.specs.declared.account.AtEdge.{AtEdge}
 use Rattle.fault_account.specs.declared.account.OfNet.{OfNet}
 use Rattle.fault_words.specs.Words.{tick_text}
-use Rattle.fault_lines.specs.TwoDelays.{delay_told, which_text}
+use Rattle.fault_lines.specs.declared.two_delays.Way.TheVariants.{Rise, Fall, Either}
+use Rattle.fault_lines.specs.TwoDelays.{delay_told, way_of, which_text}
 use Rattle.fault_lines.specs.Axis.{asserted_tick, broken_tick, change_tick, edge_tick, first_tick, net_tick, pulse_tick}
 use Rattle.fault_lines.specs.Lines.{breaks_text, input_of, is_one, moved_text, moves_text, sooner_of, when_text}
 
@@ -33,20 +34,38 @@ span least greatest = record { min = least; max = greatest }
 abbrev two : Option Split
 two = Some (record { rise = span 10 12; fall = span 20 25 })
 
-one_only : (delay_told (span 0 0) 11 two (span 10 25) ≡ span 10 12) × (which_text (span 0 0) 11 two ≡ codes " by its rise delay")
-    × (delay_told (span 0 0) 22 two (span 10 25) ≡ span 20 25) × (which_text (span 0 0) 22 two ≡ codes " by its fall delay")
+-- what is told of so many ticks, the first of them with no wire
+told : (delay_told Rise (span 0 0) 11 two (span 10 25) ≡ span 10 12) × (which_text Rise (span 0 0) 11 two ≡ codes " by its rise delay")
+    × (delay_told Fall (span 0 0) 22 two (span 10 25) ≡ span 20 25) × (which_text Fall (span 0 0) 22 two ≡ codes " by its fall delay")
+told = (refl, refl, refl, refl)
+
+-- the bounds themselves; a tick past them; and with a wire of 0 to 9, by which the fall delay could take 21 too
+ends : (which_text Rise (span 0 0) 10 two ≡ codes " by its rise delay") × (which_text Rise (span 0 0) 12 two ≡ codes " by its rise delay")
+    × (which_text Rise (span 0 0) 13 two ≡ codes ", more than its rise delay") × (delay_told Rise (span 0 0) 13 two (span 10 25) ≡ span 10 25)
+    × (which_text Fall (span 0 0) 19 two ≡ codes ", less than its fall delay") × (delay_told Fall (span 0 0) 19 two (span 10 25) ≡ span 10 25)
+    × (which_text Rise (span 0 9) 21 two ≡ codes " by its rise delay") × (which_text Rise (span 0 9) 22 two ≡ codes ", more than its rise delay")
+    × (which_text Fall (span 0 9) 21 two ≡ codes " by its fall delay") × (which_text Fall (span 1 9) 20 two ≡ codes ", less than its fall delay")
+ends = (refl, refl, refl, refl, refl, refl, refl, refl, refl, refl)
+
+-- before a complement the output falls where the net rises
+ways : (way_of false R ≡ Rise) × (way_of true R ≡ Fall) × (way_of false F ≡ Fall) × (way_of true F ≡ Rise)
+    × (way_of false C ≡ Either) × (way_of true C ≡ Either) × (way_of false U ≡ Either)
+ways = (refl, refl, refl, refl, refl, refl, refl)
+
+one_only : (delay_told Either (span 0 0) 11 two (span 10 25) ≡ span 10 12) × (which_text Either (span 0 0) 11 two ≡ codes " by its rise delay")
+    × (delay_told Either (span 0 0) 22 two (span 10 25) ≡ span 20 25) × (which_text Either (span 0 0) 22 two ≡ codes " by its fall delay")
 one_only = (refl, refl, refl, refl)
 
 -- 16 ticks are more than 12 and less than 20; with a wire of 0 to 5 they are 12 and 4 more
-between : (delay_told (span 0 0) 16 two (span 10 25) ≡ span 10 25) × (which_text (span 0 0) 16 two ≡ codes " by neither of its delays")
-    × (delay_told (span 0 5) 16 two (span 10 25) ≡ span 10 12) × (which_text (span 0 5) 16 two ≡ codes " by its rise delay")
+between : (delay_told Either (span 0 0) 16 two (span 10 25) ≡ span 10 25) × (which_text Either (span 0 0) 16 two ≡ codes " by neither of its delays")
+    × (delay_told Either (span 0 5) 16 two (span 10 25) ≡ span 10 12) × (which_text Either (span 0 5) 16 two ≡ codes " by its rise delay")
 between = (refl, refl, refl, refl)
 
 -- a wire of 0 to 9 and either delay
-by_both : (delay_told (span 0 9) 21 two (span 10 25) ≡ span 10 25) × (which_text (span 0 9) 21 two ≡ [])
+by_both : (delay_told Either (span 0 9) 21 two (span 10 25) ≡ span 10 25) × (which_text Either (span 0 9) 21 two ≡ [])
 by_both = (refl, refl)
 
-of_one_delay : (delay_told (span 0 0) 16 None (span 10 25) ≡ span 10 25) × (which_text (span 0 0) 16 None ≡ [])
+of_one_delay : (delay_told Rise (span 0 0) 16 None (span 10 25) ≡ span 10 25) × (which_text Rise (span 0 0) 16 None ≡ [])
 of_one_delay = (refl, refl)
 
 -- ---- a clock CK, and a net D that a buffer drives from it

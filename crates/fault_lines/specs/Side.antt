@@ -3,6 +3,7 @@ use Rattle.std.specs.Prelude.{ℕ, ◌-◌, ◌==◌, List, [], ◌∷◌, ◌++
 use Rattle.std.specs.List.{concat}
 use Rattle.scald_base.specs.Time.{Bounds, period}
 use Rattle.drawing_tree.specs.Tree.{Drawing}
+use Rattle.step_values.specs.declared.value.Value.{Value}
 use Rattle.step_values.specs.Steps.{is_unknown}
 use Rattle.flat_circuit.specs.declared.instance.Instance.{Instance}
 use Rattle.flat_circuit.specs.Circuit.{Circuit, wire_at, driver}
@@ -12,7 +13,7 @@ use Rattle.fault_chain.specs.declared.chain.Chain.{Chain}
 use Rattle.fault_account.specs.declared.account.Side.{Side}
 use Rattle.fault_account.specs.Late.{arrival, delay_in, late_at_pin, late_from, taken_of, takes}
 use Rattle.fault_lines.specs.Endings.{ending_text}
-use Rattle.fault_lines.specs.TwoDelays.{delay_told, split_in, which_text}
+use Rattle.fault_lines.specs.TwoDelays.{delay_told, split_in, way_in, which_text}
 use Rattle.fault_words.specs.declared.naming.Naming.{Naming}
 use Rattle.fault_words.specs.Naming.{net_named}
 use Rattle.fault_words.specs.Words.{does, tick_text, wire_text}
@@ -30,15 +31,16 @@ link_head naming c tick link = concat (
 unfoldable pub link_line : Naming → Circuit → ℕ → Link → List ℕ → List ℕ
 link_line naming c tick link why = line (link_head naming c tick link ∷ why ∷ [])
 
--- how many ticks the driver of a net takes, of so many from an earlier link on that come through a
--- wire too
-abbrev pub taken_by : Bounds → ℕ → Option Instance → ℕ
-taken_by wire late j = taken_of late wire (delay_told wire late (split_in j) (delay_in j))
+-- how many ticks the driver of a net that does this takes, of so many from an earlier link on that
+-- come through a wire too
+abbrev pub taken_by : Value → Bounds → ℕ → Option Instance → ℕ
+taken_by value wire late j =
+    taken_of late wire (delay_told (way_in j value) wire late (split_in j) (delay_in j))
 
 -- that, with which of two delays it is
-abbrev pub taken_text : Bounds → ℕ → Option Instance → List ℕ
-taken_text wire late j =
-    concat (decimal (taken_by wire late j) ∷ which_text wire late (split_in j) ∷ [])
+abbrev pub taken_text : Value → Bounds → ℕ → Option Instance → List ℕ
+taken_text value wire late j = concat (
+    decimal (taken_by value wire late j) ∷ which_text (way_in j value) wire late (split_in j) ∷ [])
 
 -- how a link comes about by an earlier one
 abbrev pub step_text : Naming → Circuit → Link → Link → List ℕ
@@ -47,8 +49,8 @@ step_text naming c link earlier =
     let late = late_from c earlier link in
     let j = driver c link.net in
     concat (
-    codes ": " ∷ driver_text naming c link.net ∷ codes " takes " ∷ taken_text wire late j
-    ∷ wire_text (late - taken_by wire late j) wire ∷ [])
+    codes ": " ∷ driver_text naming c link.net ∷ codes " takes " ∷ taken_text link.value wire late j
+    ∷ wire_text (late - taken_by link.value wire late j) wire ∷ [])
 
 -- ---- all of a side
 

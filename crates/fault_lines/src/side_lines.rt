@@ -11,7 +11,7 @@ ghost use Rattle.fault_lines.specs.Endings.{ending_text as ending_with};
 ghost use Rattle.fault_lines.specs.Side.{link_head as link_start, link_line, link_lines, pin_lines, side_lines, step_text as step_with, taken_by as taken_with, taken_text as taken_said, title_line, unknown_text as unknown_with};
 
 use crate::endings::ending_text;
-use crate::two_delays::{delay_told, split_of, which_delay};
+use crate::two_delays::{delay_told, split_of, way_to, which_delay};
 use fault_account::{Side, delay_to, late_at_pin, late_from, taken_of, takes as ticks_of};
 use fault_chain::{Chain, Link};
 use fault_words::{
@@ -25,13 +25,20 @@ use std::alloc::Global;
 
 // ---- one link
 
-/// How many of so many ticks the driver of a net takes, where the others are those of a wire.
-fn taken_by(c: &Circuit, wire: Delay, late: u16, net: u32) -> u16
+/// How many of so many ticks the driver of the net of a link takes, where the others are those of a
+/// wire.
+fn taken_by(c: &Circuit, wire: Delay, late: u16, link: Link) -> u16
     requires { wire.min ≤ late }
-    ensures is { result ≡ taken_with wire late (driver c.now net) }
+    ensures is { result ≡ taken_with link.value wire late (driver c.now link.net) }
     ensures part { result ≤ late }
 {
-    let delay = delay_told(wire, late, split_of(c, net), delay_to(c, net));
+    let delay = delay_told(
+        way_to(c, link),
+        wire,
+        late,
+        split_of(c, link.net),
+        delay_to(c, link.net),
+    );
     taken_of(late, wire, delay)
 }
 
@@ -41,17 +48,17 @@ fn taken_text(
     c: &Circuit,
     wire: Delay,
     late: u16,
-    net: u32,
+    link: Link,
 ) -> Result<Bytes, NoMemory>
     requires { wire.min ≤ late }
-    ensures { IfOk result (λ text. text ≡ taken_said wire late (driver c.now net)) }
+    ensures { IfOk result (λ text. text ≡ taken_said link.value wire late (driver c.now link.net)) }
 {
-    let taken = taken_by(c, wire, late, net);
+    let taken = taken_by(c, wire, late, link);
     text(
         alloc,
         &[
             Piece::Number(u64::from(taken)),
-            which_delay(wire, late, split_of(c, net)),
+            which_delay(way_to(c, link), wire, late, split_of(c, link.net)),
         ],
     )
 }
@@ -65,8 +72,8 @@ fn step_text(alloc: Global, told: Told, link: Link, earlier: Link) -> Result<Byt
     let wire = wire_behind(told.circuit, Target::Net(earlier.net));
     let late = late_from(told.circuit, earlier, link);
     let driver = driver_text(alloc, told, link.net)?;
-    let taken = taken_text(alloc, told.circuit, wire, late, link.net)?;
-    let part = taken_by(told.circuit, wire, late, link.net);
+    let taken = taken_text(alloc, told.circuit, wire, late, link)?;
+    let part = taken_by(told.circuit, wire, late, link);
     let behind = wire_text(alloc, late - part, wire)?;
     text(
         alloc,
