@@ -761,6 +761,34 @@ helps '    SETUP_HOLD_CHK takes SETUP and HOLD, each once; neither is negative, 
     '    SETUP is 391, HOLD is 10, where T is 391'
 expanded '14 Bounds 4:1' 'MACRO M {N=2} ("A");' 'WIRE "A" N:1;' 'END;' 'DRAWING ROW;' 'u : M {N=1} ("X");' 'v : M ("Y");' 'END;'
 helps '    WIRE "A" a:b has 0 <= a <= b <= 4095' '    the bounds are 2:1, where N is 2' '    it is reached by v at 8:1'
+# widths: of the formal and of its connection, each where names stand in it
+expanded '12 Width 7:1' 'CONST W = 7;' 'MACRO FILE {N=8} ("D"<0:N-1>);' 'END;' 'DRAWING ROW;' 'u : FILE ("C"<0:W-1>);' 'END;'
+wide "$by_formal" '    bits of the connections: ?' '    bits of the formals: ?' \
+    '    the formal "D" of FILE has width 8, where N is 8' \
+    '    the connection to the formal "D" of FILE has width 7, where W is 7'
+expanded '12 Width 6:1' 'MACRO M {N=2} ("A") -> ("Z"<0:N-1>);' 'END;' 'DRAWING ROW;' 'u : M ("A"<0>) -> ("X"<0>);' 'END;'
+wide "$by_formal" '    bits of the connections: 1 -> 1' '    bits of the formals: 1 -> ?' \
+    '    the formal "Z" of M has width 2, where N is 2'
+# the second of two uses, and the third turn of a FOR
+expanded '12 Width 6:1' 'MACRO FILE {N=8} ("D"<0:N-1>);' 'END;' 'MACRO O {W=4} ("A"<0:W-1>);' 'u : FILE ("A"<0:W-1>);' 'END;' \
+    'DRAWING ROW;' 'o1 : O {W=8} ("X");' 'o2 : O {W=5} ("X");' 'END;'
+wide "$by_formal" '    bits of the connections: ?' '    bits of the formals: ?' \
+    '    the formal "D" of FILE has width 8, where N is 8' \
+    '    the connection to the formal "D" of FILE has width 5, where W is 5' '    it is reached by o2 at 10:1'
+expanded '12 Width 7:1' 'MACRO FILE {N=8} ("D"<0:N-1>);' 'END;' 'DRAWING ROW;' 'FOR I = 1 TO 3 DO' 'u : FILE {N=2} ("C"<1:I>);' 'END;' 'END;'
+wide "$by_formal" '    bits of the connections: ?' '    bits of the formals: ?' \
+    '    the formal "D" of FILE has width 2, where N is 2' \
+    '    the connection to the formal "D" of FILE has width 3, where I is 3'
+# the output of a primitive, and an input
+expanded '12 Width 6:1' 'CONST W = 7;' 'CONST N = 8;' 'DRAWING ROW;' \
+    'a1 : AND [0:0] ("A"<W>, "B"<0:N-1>, "C"<0:W-1>) -> ("X"<0:N-1>);' 'END;'
+wide "$by_output" '    bits of the connections: ?, ?, ? -> ?' \
+    '    the output connection has width 8, where N is 8' '    an input connection has width 7, where W is 7'
+# a name without a range may be a formal
+expanded '12 Width 6:1' 'MACRO FILE {N=8} ("D"<0:N-1>);' 'END;' 'MACRO O {W=5} ("A"<0:W-1>);' 'u : FILE ("A");' 'END;' \
+    'DRAWING ROW;' 'o : O ("X");' 'END;'
+wide "$by_formal" '    bits of the connections: ?' '    bits of the formals: ?' \
+    "    'O' is used only at 9:1:" '    o : O ("X");' '    ^'
 # nothing is said of values where they are not what is wrong
 expanded '14 Bounds 5:1' 'CONST D = 2;' 'DRAWING ROW;' 'c1 : MIN_PULSE_CHK [D:1] ("A");' 'END;'
 helps '    MIN_PULSE_CHK takes HIGH and LOW, each once; neither is negative, and each is at most the period' \

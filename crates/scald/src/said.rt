@@ -160,7 +160,7 @@ fn say_more(rt: &(impl Eprint + AllocGlobal), text: &[u8], refusal: Refusal)
             say_lines(rt, explain_zero_loop(alloc, text, refusal.place));
             say_lines(rt, explain_reached(alloc, text, refusal.place, shown));
         }
-        RefusalKind::BadRange | RefusalKind::Bounds => {
+        RefusalKind::BadRange | RefusalKind::Bounds | RefusalKind::Width => {
             say_lines(rt, explain_values(alloc, text, refusal));
             say_lines(rt, explain_reached(alloc, text, refusal.place, shown));
         }

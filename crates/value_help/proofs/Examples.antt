@@ -1,5 +1,5 @@
 -- Small drawings that are refused, and what is told of their values.
-use Rattle.std.proofs.Common.{◌≡◌, ℕ, pos, false, List, [], ◌∷◌, Option, Some, None, refl}
+use Rattle.std.proofs.Common.{◌≡◌, ℕ, pos, false, true, List, [], ◌∷◌, ◌++◌, Option, Some, None, refl}
 use Rattle.std.specs.Prelude.{codes}
 use Rattle.std.specs.Fmt.{digits}
 use Rattle.scald_base.specs.Time.{Header}
@@ -12,8 +12,9 @@ use Rattle.scald_expr.specs.declared.expr.Op.TheVariants.{Sub}
 use Rattle.drawing_tree.specs.Tree.{Range, Named, Connection, Use, Wire, Statement, For, Statements, nil, cons, Assignment, Macro, Drawing}
 use Rattle.macro_expander.specs.Macros.{given_to, inside_of}
 use Rattle.macro_expander.specs.Flat.{setting_of}
-use Rattle.value_help.specs.Lines.{bit_of, formal_text, quoted, range_of}
-use Rattle.value_help.specs.Found.{ends, found, found_with, goes_on, in_statements, searching_at}
+use Rattle.value_help.specs.Lines.{bit_of, connection_to, formal_text, quoted, range_of}
+use Rattle.value_help.specs.Widths.{fits}
+use Rattle.value_help.specs.Found.{Search, ends, found, found_with, goes_on, in_statements, searching_at}
 
 -- ---- drawings
 
@@ -186,6 +187,87 @@ bit_in_a_body : found (bad_range 3) (sliced [])
     ≡ codes "    the bit of \"A\" is -1, where W is 4, N is 5\n"
 unfolding found found_with searching_at bit_of quoted given_to inside_of digits
 bit_in_a_body = refl
+
+-- ---- widths
+
+abbrev misfit : ℕ → Refusal
+misfit line = record { kind = Width; place = at line }
+
+abbrev five : List Assignment
+five = given (codes "N") (number 5) ∷ []
+
+abbrev joined_to : Option Range → Drawing
+joined_to range =
+    drawn five (slice ∷ []) (cons (use_of (codes "SLICE") 6 [] None None (signal range ∷ [])) nil)
+
+width_not_met : found (misfit 6) (joined_to (range (number 0) (less_one (codes "N"))))
+    ≡ codes "    the formal \"A\" of SLICE has width 4, where W is 4\n"
+    ++ codes "    the connection to the formal \"A\" of SLICE has width 5, where N is 5\n"
+unfolding found found_with searching_at connection_to formal_text quoted given_to inside_of digits
+width_not_met = refl
+
+-- the other is in the text
+width_of_numbers : found (misfit 6) (joined_to (range (number 1) (number 3)))
+    ≡ codes "    the formal \"A\" of SLICE has width 4, where W is 4\n"
+unfolding found found_with searching_at connection_to formal_text quoted given_to inside_of digits
+width_of_numbers = refl
+
+-- without a look into its body
+abbrev searched : Option Range → Search
+searched range =
+    let d = joined_to range in
+    let consts = record { name = codes "N"; value = pos 5 } ∷ [] in
+    in_statements (misfit 6) (setting_of d consts) None d.body consts 1
+
+width_met : searched (range (number 1) (less_one (codes "N"))) ≡ goes_on 0
+unfolding given_to inside_of
+width_met = refl
+
+one_bit_for_all : searched (bit (Param (codes "N"))) ≡ goes_on 0
+unfolding given_to inside_of
+one_bit_for_all = refl
+
+-- of a formal it may be any number of bits
+name_alone : searched None ≡ ends []
+unfolding given_to inside_of
+name_alone = refl
+
+no_range : searched (range (number 0) (number 65536)) ≡ ends []
+unfolding given_to inside_of
+no_range = refl
+
+-- the output of a primitive, and an input that is not as wide
+abbrev buffered : Option Range → Option Range → Drawing
+buffered input output = drawn five [] (cons (Use (record {
+  label = codes "u";
+  kind = codes "BUF";
+  delay = Some (number 0, number 0);
+  fall = None;
+  params = [];
+  ins = signal input ∷ [];
+  outs = signal output ∷ [];
+  place = at 4;
+})) nil)
+
+output_not_met : found (misfit 4) (buffered (range (number 1) (less_one (codes "N"))) (range (number 1) (Param (codes "N"))))
+    ≡ codes "    the output connection has width 5, where N is 5\n"
+    ++ codes "    an input connection has width 4, where N is 5\n"
+unfolding found found_with searching_at digits
+output_not_met = refl
+
+output_met : found (misfit 4) (buffered (bit (Param (codes "N"))) (range (number 1) (Param (codes "N")))) ≡ []
+unfolding found found_with searching_at digits
+output_met = refl
+
+input_alone : found (misfit 4) (buffered None (range (number 1) (Param (codes "N")))) ≡ []
+unfolding found found_with searching_at digits
+input_alone = refl
+
+one_bit_of_an_input : fits true 4 1 ≡ true
+one_bit_of_an_input = refl
+
+one_bit_of_an_output : fits false 4 1 ≡ false
+one_bit_of_an_output = refl
 
 -- ---- bounds
 

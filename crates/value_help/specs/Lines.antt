@@ -1,6 +1,6 @@
 -- A line that tells values.
 use Rattle.std.specs.Prelude.{ℕ, ℤ, Bool, List, [], ◌∷◌, ◌++◌, Option, Some, None, if◌then◌else◌, codes}
-use Rattle.std.specs.Fmt.{signed_decimal}
+use Rattle.std.specs.Fmt.{decimal, signed_decimal}
 use Rattle.std.specs.List.{join_by}
 use Rattle.scald_expr.specs.declared.environment.Binding.{Binding}
 
@@ -63,3 +63,11 @@ bit_text whose number = bit_of whose ++ codes " is " ++ signed_decimal number
 
 abbrev pub range_text : List ℕ → Bool → ℤ × ℤ → List ℕ
 range_text whose goes ends = if goes then goes_text whose ends else bit_text whose ends.0
+
+-- ---- widths
+
+unfoldable pub connection_to : List ℕ → List ℕ
+connection_to whose = codes "the connection to " ++ whose
+
+abbrev pub width_text : List ℕ → ℕ → List ℕ
+width_text whose n = whose ++ codes " has width " ++ decimal n

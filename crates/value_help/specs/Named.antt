@@ -5,7 +5,7 @@ use Rattle.scald_expr.specs.declared.environment.Binding.{Binding}
 use Rattle.scald_expr.specs.declared.evaluation.ExprFault.{ExprFault}
 use Rattle.scald_expr.specs.Expression.{Expression, Number, Param, Negate, Binary}
 use Rattle.scald_expr.specs.Value.{value_in}
-use Rattle.drawing_tree.specs.Tree.{Range, Assignment}
+use Rattle.drawing_tree.specs.Tree.{Range, Item, Zero, One, Named, Term, Assignment}
 use Rattle.macro_expander.specs.Primitives.{is_named}
 
 abbrev pub with_value : List Binding → List ℕ → Result ℤ ExprFault → List Binding
@@ -29,6 +29,19 @@ named_in_last env told (Some e) = named_in env told e
 
 abbrev pub named_in_range : List Binding → Range → List Binding
 named_in_range env r = named_in_last env (named_in env [] r.first) r.last
+
+abbrev pub named_in_written : List Binding → List Binding → Option Range → List Binding
+named_in_written env told None = told
+named_in_written env told (Some r) = named_in_last env (named_in env told r.first) r.last
+
+abbrev pub named_in_item : List Binding → List Binding → Item → List Binding
+named_in_item env told Zero = told
+named_in_item env told One = told
+named_in_item env told (Named name range) = named_in_written env told range
+
+abbrev pub named_in_terms : List Binding → List Binding → List Term → List Binding
+named_in_terms env told [] = told
+named_in_terms env told (t ∷ more) = named_in_terms env (named_in_item env told t.item) more
 
 abbrev pub named_in_both : List Binding → List Binding → Expression × Expression → List Binding
 named_in_both env told pair = named_in env (named_in env told pair.0) pair.1

@@ -2,7 +2,7 @@
 -- reached, and None of one that is not.
 use Rattle.std.specs.Prelude.{ℕ, ℤ, List, [], ◌++◌, Option, Some, None, Ok, Err, is_some, if◌then◌else◌, codes}
 use Rattle.scald_base.specs.declared.refusal.RefusalKind.{RefusalKind}
-use Rattle.scald_base.specs.declared.refusal.RefusalKind.TheVariants.{BadRange, Bounds}
+use Rattle.scald_base.specs.declared.refusal.RefusalKind.TheVariants.{BadRange, Bounds, Width}
 use Rattle.scald_expr.specs.declared.environment.Binding.{Binding}
 use Rattle.element_kinds.specs.declared.kind.Kind.{Kind}
 use Rattle.element_kinds.specs.Kinds.{kind_of}
@@ -15,6 +15,7 @@ use Rattle.macro_expander.specs.Primitives.{delay_between, delays_of, fall_of, l
 use Rattle.macro_expander.specs.Macros.{given_to, macro_of, parameters_of}
 use Rattle.value_help.specs.Named.{named_in_both, named_in_delay, named_in_params, named_in_range}
 use Rattle.value_help.specs.Lines.{Said, first_told, formal_text, line, or_else, pair_text, quoted, range_text, values_text}
+use Rattle.value_help.specs.Widths.{formals_met, primitive_told}
 
 -- ---- ranges
 
@@ -139,6 +140,23 @@ use_bounds_of (Some kind) ticks env u =
 abbrev pub use_bounds_told : Setting → List Binding → UseStatement → Said
 use_bounds_told setting env u = use_bounds_of (kind_of u.kind) setting.ticks env u
 
+-- ---- widths
+
+abbrev pub with_head : List Binding → Macro → UseStatement → Option (List Binding) → Said
+with_head env m u None = None
+with_head env m u (Some head) = formals_met env m u head
+
+abbrev pub macro_widths_told : Setting → List Binding → Option Macro → UseStatement → Said
+macro_widths_told setting env None u = None
+macro_widths_told setting env (Some m) u = with_head env m u (head_env setting.consts m env u)
+
+abbrev pub use_widths_of : Option Kind → Setting → List Binding → UseStatement → Said
+use_widths_of (Some kind) setting env u = primitive_told kind env u
+use_widths_of None setting env u = macro_widths_told setting env (macro_of u.kind setting.macros) u
+
+abbrev pub use_widths_told : Setting → List Binding → UseStatement → Said
+use_widths_told setting env u = use_widths_of (kind_of u.kind) setting env u
+
 -- ---- WIRE
 
 abbrev pub unless_wire : {A : Type 0} → ℤ × ℤ → Judged A → List Binding → Said
@@ -165,6 +183,7 @@ wire_range_told env w = range_told env (quoted w.name.base) w.range
 abbrev pub use_told : RefusalKind → Setting → List Binding → UseStatement → Said
 use_told BadRange setting env u = use_ranges_told setting env u
 use_told Bounds setting env u = use_bounds_told setting env u
+use_told Width setting env u = use_widths_told setting env u
 use_told _ setting env u = None
 
 abbrev pub wire_told : RefusalKind → List Binding → WireStatement → Said

@@ -13,5 +13,6 @@ mod named;
 mod range;
 mod statement;
 mod walk;
+mod width;
 
 pub use explain::explain_values;

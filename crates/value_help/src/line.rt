@@ -1,7 +1,7 @@
 //! Lines that tell values.
 
 ghost use Rattle.std.specs.Prelude.{◌≡◌, ◌++◌, IfOk, OnOk};
-ghost use Rattle.value_help.specs.Lines.{bit_of, bit_text, formal_text as spec_formal_text, goes_text, line as spec_line, pair_text, quoted as spec_quoted, range_of, range_text as spec_range_text, value_text, values_text as spec_values_text, way_text};
+ghost use Rattle.value_help.specs.Lines.{bit_of, bit_text, connection_to as spec_connection_to, formal_text as spec_formal_text, goes_text, line as spec_line, pair_text, quoted as spec_quoted, range_of, range_text as spec_range_text, value_text, values_text as spec_values_text, way_text, width_text as spec_width_text};
 
 use itoa::Buffer;
 use scald_base::{Bytes, NoMemory};
@@ -129,6 +129,27 @@ pub fn range_text(
     } else {
         add_bit(&mut text, whose, ends.0)?;
     }
+    Ok(text)
+}
+
+/// The connection to something.
+#[tactic(auto, unfolding(crate::specs::Lines::connection_to))]
+pub fn connection_to(alloc: Global, whose: &[u8]) -> Result<Bytes, NoMemory>
+    ensures { IfOk result (λ text. text ≡ spec_connection_to whose.now) }
+{
+    let mut text = Bytes::new(alloc);
+    text.extend(b"the connection to ")?;
+    text.extend(whose)?;
+    Ok(text)
+}
+
+/// How wide something is.
+pub fn width_text(alloc: Global, whose: &[u8], width: usize) -> Result<Bytes, NoMemory>
+    ensures { IfOk result (λ text. text ≡ spec_width_text whose.now width) }
+{
+    let mut text = Bytes::of(alloc, whose)?;
+    text.extend(b" has width ")?;
+    text.extend(Buffer::new().format(width).as_bytes())?;
     Ok(text)
 }
 

@@ -1,13 +1,13 @@
 //! The names that stand in expressions, with their values.
 
-ghost use Rattle.std.specs.Prelude.{◌≡◌, IfOk, OnOk, option_map};
+ghost use Rattle.std.specs.Prelude.{◌≡◌, [], IfOk, OnOk, map, option_map};
 ghost use Rattle.std.specs.List.{list_any};
 ghost use Rattle.scald_expr.specs.Expression.{expression_of};
-ghost use Rattle.drawing_tree.specs.Tree.{both_of, range_of};
+ghost use Rattle.drawing_tree.specs.Tree.{both_of, item_of, range_of, term_of, written_range_of};
 ghost use Rattle.macro_expander.specs.Primitives.{is_named};
-ghost use Rattle.value_help.specs.Named.{named_in, named_in_both, named_in_last, named_in_range, with_name};
+ghost use Rattle.value_help.specs.Named.{named_in, named_in_both, named_in_item, named_in_last, named_in_range, named_in_terms, named_in_written, with_name};
 
-use drawing_tree::RangeExpr;
+use drawing_tree::{Item, RangeExpr, Term, WrittenRange};
 use scald_base::{Bytes, NoMemory};
 use scald_expr::{Binding, Env, Expr, ExprFault, eval};
 use std::alloc::Global;
@@ -93,5 +93,52 @@ pub fn named_in_range(alloc: Global, env: &Env, range: &RangeExpr) -> Result<Env
     let mut named = Env::new(alloc);
     add_named(alloc, &mut named, env, &range.first)?;
     add_named_last(alloc, &mut named, env, &range.last)?;
+    Ok(named)
+}
+
+fn add_named_written(
+    alloc: Global,
+    told: &mut Env,
+    env: &Env,
+    range: &WrittenRange,
+) -> Result<(), NoMemory>
+    ensures { OnOk result (told.new ≡ named_in_written env.now told.old (written_range_of range.now)) }
+{
+    match range {
+        None => Ok(()),
+        Some(range) => {
+            add_named(alloc, told, env, &range.first)?;
+            add_named_last(alloc, told, env, &range.last)
+        }
+    }
+}
+
+/// The names of the range of a formal, where names have the values of its macro's head.
+pub fn named_in_head(alloc: Global, head: &Env, range: &WrittenRange) -> Result<Env, NoMemory>
+    ensures { IfOk result (λ named.
+        named ≡ named_in_written head.now [] (written_range_of range.now)) }
+{
+    let mut named = Env::new(alloc);
+    add_named_written(alloc, &mut named, head, range)?;
+    Ok(named)
+}
+
+fn add_named_item(alloc: Global, told: &mut Env, env: &Env, item: &Item) -> Result<(), NoMemory>
+    ensures { OnOk result (told.new ≡ named_in_item env.now told.old (item_of item.now)) }
+{
+    match item {
+        Item::Zero | Item::One => Ok(()),
+        Item::Named(_, range) => add_named_written(alloc, told, env, range),
+    }
+}
+
+/// The names of the ranges of a connection.
+pub fn named_in_connection(alloc: Global, env: &Env, terms: &[Term]) -> Result<Env, NoMemory>
+    ensures { IfOk result (λ named. named ≡ named_in_terms env.now [] (map term_of terms.now)) }
+{
+    let mut named = Env::new(alloc);
+    'terms: for term in terms {
+        add_named_item(alloc, &mut named, env, &term.item)?;
+    }
     Ok(named)
 }

@@ -6,11 +6,12 @@ ghost use Rattle.macro_expander.specs.Library.{LeadToMacros, macros_in, setting_
 ghost use Rattle.macro_expander.specs.Macros.{macro_of as first_called};
 ghost use Rattle.macro_expander.specs.Primitives.{takes_delays as spec_takes_delays};
 ghost use Rattle.value_help.specs.Found.{at_use, at_wire, is_at as spec_is_at};
-ghost use Rattle.value_help.specs.Told.{connections_told as spec_connections_told, formals_told as spec_formals_told, head_env as spec_head_env, macro_told as spec_macro_told, plan_told as spec_plan_told, use_bounds_of, use_bounds_told as spec_use_bounds_told, use_macro_told as spec_use_macro_told, use_ranges_told as spec_use_ranges_told, use_told as spec_use_told, wire_range_told as spec_wire_range_told, wire_told as spec_wire_told};
+ghost use Rattle.value_help.specs.Told.{connections_told as spec_connections_told, formals_told as spec_formals_told, head_env as spec_head_env, macro_told as spec_macro_told, plan_told as spec_plan_told, use_bounds_of, use_bounds_told as spec_use_bounds_told, use_macro_told as spec_use_macro_told, use_ranges_told as spec_use_ranges_told, use_told as spec_use_told, use_widths_told as spec_use_widths_told, macro_widths_told as spec_macro_widths_told, wire_range_told as spec_wire_range_told, wire_told as spec_wire_told};
 
 use crate::bounds::{delays_told, limits_told, wire_bounds_told};
 use crate::line::{Said, quoted};
 use crate::range::{connections_told, formals_told, range_told};
+use crate::width::{formals_met, primitive_told};
 use drawing_tree::{MacroDef, UseStmt, WireStmt};
 use element_kinds::{Kind, kind_named};
 use macro_expander::formal::{given_to, parameters};
@@ -185,6 +186,45 @@ fn use_bounds_told(
     }
 }
 
+// ---- widths
+
+/// What is told of the widths of the formals of the macro that is used.
+fn macro_widths_told(
+    alloc: Global,
+    library: &Library,
+    env: &Env,
+    used: &UseStmt,
+) -> Result<Said, NoMemory>
+    requires { LeadToMacros library.now }
+    ensures { IfOk result (λ said. said ≡ spec_macro_widths_told (setting_in library.now) env.now
+        (first_called (use_of used.now).kind (macros_in library.now)) (use_of used.now)) }
+{
+    let Some(definition) = library.find(used.kind.as_slice()) else {
+        return Ok(None);
+    };
+    match head_env(alloc, &library.consts, definition, env, used)? {
+        Some(head) => formals_met(alloc, env, &head, definition, used),
+        None => Ok(None),
+    }
+}
+
+/// What is told of the widths of a use.
+fn use_widths_told(
+    alloc: Global,
+    library: &Library,
+    env: &Env,
+    used: &UseStmt,
+) -> Result<Said, NoMemory>
+    requires { LeadToMacros library.now }
+    ensures { IfOk result (λ said.
+        said ≡ spec_use_widths_told (setting_in library.now) env.now (use_of used.now)) }
+{
+    match kind_named(used.kind.as_slice()) {
+        Some(kind) => primitive_told(alloc, env, kind, used),
+        None => macro_widths_told(alloc, library, env, used),
+    }
+}
+
 // ---- by the kind of the refusal
 
 fn use_told(
@@ -200,6 +240,7 @@ fn use_told(
     match kind {
         RefusalKind::BadRange => use_ranges_told(alloc, library, env, used),
         RefusalKind::Bounds => use_bounds_told(alloc, library, env, used),
+        RefusalKind::Width => use_widths_told(alloc, library, env, used),
         _ => Ok(None),
     }
 }
