@@ -1,15 +1,16 @@
 -- The tokens that are tried are one of each kind that the grammar tells apart; texts with them, and
 -- what is said, worked out on paper.
-use Rattle.std.proofs.Common.{◌≡◌, ℕ, ◌+◌, true, false, List, [], ◌∷◌, map, refl}
+use Rattle.std.proofs.Common.{◌≡◌, ℕ, ◌+◌, true, false, List, [], ◌∷◌, map, refl, pos}
 use Rattle.std.specs.Prelude.{codes, Some, None}
 use Rattle.scald_lex.specs.declared.token.Token.{Token}
+use Rattle.scald_lex.specs.declared.token.TokenKind.{TokenKind}
 use Rattle.scald_lex.specs.declared.token.TokenKind.TheVariants as kind
 use Rattle.drawing_grammar.specs.Lexeme.{symbol_terminal, word_terminal}
 use Rattle.drawing_grammar.specs.declared.terminal.Terminal.{Terminal}
 use Rattle.drawing_grammar.specs.declared.terminal.Terminal.TheVariants as grammar
 use Rattle.syntax_help.specs.declared.sample.Sample.TheVariants.{Word, Scald, Clock, Wire, Pskew, Cskew, Macro, Drawing, Case, If, Then, Else, End, Zero, One, Const, To, Do, Ticks, Hazard, Arrow, Semicolon, Colon, Comma, OpenParenthesis, CloseParenthesis, Less, Greater, OpenBracket, CloseBracket, OpenBrace, CloseBrace, Equals, Plus, Minus, Star, Slash, Ampersand, Exclamation}
 use Rattle.syntax_help.specs.Sample.{spelling}
-use Rattle.syntax_help.specs.Told.{expected_line, is_late, missing_line}
+use Rattle.syntax_help.specs.Told.{after_word, expected_line, is_late, missing_line}
 use Rattle.syntax_help.specs.Trial.{next_line, trial}
 
 -- the words
@@ -78,3 +79,17 @@ in_place = refl
 
 nothing : missing_line false (codes "b2") None ≡ []
 nothing = refl
+
+-- of a word of the drawing's own the token behind it is tried, and of no other
+abbrev token_of : TokenKind → ℕ → ℕ → Token
+token_of k start end = record { kind = k; place = record { line = 1; col = start + 1 }; start = start; end = end }
+
+own_word : after_word (codes "DO b") (token_of kind.Word 0 2) (token_of kind.Word 3 4 ∷ []) ≡
+    Some (token_of kind.Word 3 4)
+own_word = refl
+
+reserved_word : after_word (codes "IF b") (token_of kind.Word 0 2) (token_of kind.Word 3 4 ∷ []) ≡ None
+reserved_word = refl
+
+no_word : after_word (codes "12 b") (token_of (kind.Number (pos 12)) 0 2) (token_of kind.Word 3 4 ∷ []) ≡ None
+no_word = refl

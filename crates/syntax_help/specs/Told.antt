@@ -1,10 +1,12 @@
 -- What is said of the tokens that may stand at a place.
-use Rattle.std.specs.Prelude.{◌≡◌, ℕ, Bool, true, false, nat_lt, List, [], ◌∷◌, ◌++◌, take, codes, Option, Some, None, if◌then◌else◌}
+use Rattle.std.specs.Prelude.{◌≡◌, ℕ, Bool, true, false, ◌&&◌, nat_lt, List, [], ◌∷◌, ◌++◌, take, codes, Option, Some, None, if◌then◌else◌}
 use Rattle.std.specs.List.{flat_map}
 use Rattle.scald_base.specs.declared.refusal.Place.{Place}
 use Rattle.scald_base.specs.declared.refusal.Refusal.{Refusal}
 use Rattle.scald_lex.specs.declared.token.Token.{Token}
 use Rattle.scald_lex.specs.Tokens.{AreTokens, IsRefused}
+use Rattle.help_text.specs.declared.keyword.Keyword.{Keyword}
+use Rattle.help_text.specs.Keyword.{reserved_word}
 use Rattle.help_text.specs.Statement.{first_of, from_place, spelled}
 use Rattle.help_text.specs.Text.{line, quoted}
 use Rattle.help_text.specs.Tokens.{is_word}
@@ -57,14 +59,20 @@ abbrev pub IsToldUnless : Bool → List ℕ → Place → Token → Option Token
 IsToldUnless true text place t next bytes = bytes ≡ []
 IsToldUnless false text place t next bytes = IsToldAfter text (take t.start text) place (spelled text t) next bytes
 
--- the token after one that is a word: of no other may one be meant in place of it
-abbrev pub after_word : Token → List Token → Option Token
-after_word t ts = if is_word t.kind then first_of ts else None
+abbrev pub is_free : Option Keyword → Bool
+is_free None = true
+is_free (Some keyword) = false
+
+-- The token after one that is a word of the drawing's own: of no other may one be meant in place of
+-- it.
+abbrev pub after_word : List ℕ → Token → List Token → Option Token
+after_word text t ts =
+    if is_word t.kind && is_free (reserved_word (spelled text t)) then first_of ts else None
 
 -- by the tokens from the place on
 abbrev pub IsToldOf : List ℕ → Place → List Token → List ℕ → Type 0
 IsToldOf text place [] bytes = bytes ≡ []
-IsToldOf text place (t ∷ ts) bytes = IsToldUnless (is_late t) text place t (after_word t ts) bytes
+IsToldOf text place (t ∷ ts) bytes = IsToldUnless (is_late t) text place t (after_word text t ts) bytes
 
 -- Nothing is said of a text that has no tokens, nor where no token stands at the place, or a late
 -- one.

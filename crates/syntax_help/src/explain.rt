@@ -7,7 +7,7 @@ ghost use Rattle.syntax_help.specs.Told.{IsTold, IsToldAfter, IsToldOf, IsToldUn
 use crate::expected::expected;
 use crate::missing::{missing, stands_for};
 use crate::sample::Sample;
-use help_text::{Part, add_line, first_of, from_place, front, is_word, spelled};
+use help_text::{Part, add_line, first_of, from_place, front, is_word, reserved_word, spelled};
 use scald_base::{Bytes, NoMemory, Place, Stop};
 use scald_lex::{Token, tokens};
 use std::alloc::Global;
@@ -139,11 +139,11 @@ fn told_unless_late(
     }
 }
 
-/// The token after this one, where this one is a word.
-fn after_word(token: Token, others: &[Token]) -> Option<Token>
-    ensures { result ≡ after_word token others.now }
+/// The token after this one, where this one is a word of the drawing's own.
+fn after_word(text: &[u8], token: Token, others: &[Token]) -> Option<Token>
+    ensures { result ≡ after_word text.now token others.now }
 {
-    if is_word(token) {
+    if is_word(token) && reserved_word(spelled(text, token)).is_none() {
         first_of(others)
     } else {
         None
@@ -161,7 +161,7 @@ fn told_of(alloc: Global, text: &[u8], place: Place, tokens: &[Token]) -> Result
             text,
             place,
             *token,
-            after_word(*token, others),
+            after_word(text, *token, others),
         ),
         [] => Ok(Bytes::new(alloc)),
     }
