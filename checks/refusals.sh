@@ -481,7 +481,7 @@ second '3 Syntax 4:11' 'DRAWING ROW;' 'FOR I = 0 UPTO 1 DO' 'END;' 'END;'
 helps "    'UPTO' cannot stand here, after '0'" \
     '    what may stand here: TO + - * /' \
     "    is TO missing here, or meant in place of 'UPTO'?"
-second '3 Syntax 4:16' 'DRAWING ROW;' 'FOR I = 0 TO 1 IF 1 THEN' 'END;' 'END;' 'END;'
+second '3 Syntax 4:16' 'DRAWING ROW;' 'FOR I = 0 TO 1 IF I THEN' 'END;' 'END;' 'END;'
 helps "    'IF' cannot stand here, after '1'" \
     '    what may stand here: DO + - * /' \
     '    is DO missing here?'
