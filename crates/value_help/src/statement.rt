@@ -6,7 +6,7 @@ ghost use Rattle.macro_expander.specs.Library.{LeadToMacros, macros_in, setting_
 ghost use Rattle.macro_expander.specs.Macros.{macro_of as first_called};
 ghost use Rattle.macro_expander.specs.Primitives.{takes_delays as spec_takes_delays};
 ghost use Rattle.value_help.specs.Found.{at_use, at_wire, is_at as spec_is_at};
-ghost use Rattle.value_help.specs.Told.{connections_told as spec_connections_told, formals_told as spec_formals_told, head_env as spec_head_env, macro_told as spec_macro_told, plan_told as spec_plan_told, use_bounds_of, use_bounds_told as spec_use_bounds_told, use_macro_told as spec_use_macro_told, use_ranges_told as spec_use_ranges_told, use_told as spec_use_told, use_widths_told as spec_use_widths_told, macro_widths_told as spec_macro_widths_told, wire_range_told as spec_wire_range_told, wire_told as spec_wire_told};
+ghost use Rattle.value_help.specs.Told.{connections_told as spec_connections_told, formals_told as spec_formals_told, head_env as spec_head_env, macro_told as spec_macro_told, macro_widths_told as spec_macro_widths_told, plan_told as spec_plan_told, use_bounds_of, use_bounds_told as spec_use_bounds_told, use_macro_told as spec_use_macro_told, use_ranges_told as spec_use_ranges_told, use_told as spec_use_told, use_widths_told as spec_use_widths_told, wire_range_told as spec_wire_range_told, wire_told as spec_wire_told};
 
 use crate::bounds::{delays_told, limits_told, wire_bounds_told};
 use crate::line::{Said, quoted};

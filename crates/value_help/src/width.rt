@@ -1,12 +1,11 @@
 //! What is told of the widths of the connections of a use and of the formals of its macro.
 
-ghost use Rattle.std.specs.Prelude.{◌≡◌, [], IfOk, map};
+ghost use Rattle.std.specs.Prelude.{◌≡◌, IfOk, map};
 ghost use Rattle.drawing_tree.specs.Tree.{connection_of, formal_of, item_of, macro_of, use_of, written_range_of};
 ghost use Rattle.macro_expander.specs.Terms.{numbers_between};
 ghost use Rattle.spread_names.specs.Widths.{count_of};
 ghost use Rattle.value_help.specs.Lines.{first_told};
-ghost use Rattle.value_help.specs.Named.{named_in_terms, named_in_written};
-ghost use Rattle.value_help.specs.Widths.{are_known as spec_are_known, both_widths as spec_both_widths, by_output_told as spec_by_output_told, connection_line as spec_connection_line, connection_width as spec_connection_width, fits as spec_fits, formals_met as spec_formals_met, input_told as spec_input_told, inputs_told as spec_inputs_told, is_apart as spec_is_apart, outputs_told as spec_outputs_told, primitive_told as spec_primitive_told, is_item_known as spec_is_item_known, is_known as spec_is_known, is_ranged as spec_is_ranged, item_width as spec_item_width, misfits as spec_misfits, outs_told as spec_outs_told, pair_told as spec_pair_told, pairs_told as spec_pairs_told, range_width as spec_range_width, unless_known as spec_unless_known};
+ghost use Rattle.value_help.specs.Widths.{are_known as spec_are_known, both_widths as spec_both_widths, by_output_told as spec_by_output_told, connection_line as spec_connection_line, connection_width as spec_connection_width, fits as spec_fits, formals_met as spec_formals_met, input_told as spec_input_told, inputs_told as spec_inputs_told, is_apart as spec_is_apart, is_item_known as spec_is_item_known, is_known as spec_is_known, is_ranged as spec_is_ranged, item_width as spec_item_width, misfits as spec_misfits, outputs_told as spec_outputs_told, outs_told as spec_outs_told, pair_told as spec_pair_told, pairs_told as spec_pairs_told, primitive_told as spec_primitive_told, range_width as spec_range_width, unless_known as spec_unless_known};
 
 use crate::line::{Said, connection_to, formal_text, line, width_text};
 use crate::named::{named_in_connection, named_in_head};
