@@ -18,24 +18,30 @@ use Rattle.program_call.specs.declared.reply.Reply.{Reply}
 use Rattle.timing_reply.specs.Ended.{IsEnded}
 use Rattle.timing_reply.specs.Answer.{Telling, limit_for, Concluded, unsettled, case_unsettled}
 
-concluded_early : (tell : Telling) (c : Circuit) (values : List (List CaseValue)) (limit place : ℕ) →
+-- What is answered to an end, where it is right for each net that does not settle by the limit.
+module _ (P : Outcome → List ℕ → Type 0) (c : Circuit) (values : List (List CaseValue)) (limit : ℕ)
+    (each : (place : ℕ) → StopsEarly c values limit place → P (UnsettledOutcome place limit) (unsettled_line c place limit)) where
+  early_by : (end : EngineEnd) (o : Outcome) (bytes : List ℕ) → EndsEarly c values limit end → IsEnded c end o bytes → P o bytes
+  early_by end o bytes ends is =
+      let there : EndsEarly c values limit (Unsettled is.place is.round) = subst (EndsEarly c values limit) is.end_is ends in
+      subst (λ (z : Outcome). P z bytes) (sym (is.outcome ∙ ap (UnsettledOutcome is.place) there.1))
+      (subst (λ (z : List ℕ). P (UnsettledOutcome is.place limit) z) (sym (is.text ∙ ap (unsettled_line c is.place) there.1))
+      (each is.place there.0))
+
+  pub ended_early : (end : EngineEnd) (made : Result (Reply Outcome) OutOfMemory) → EndsEarly c values limit end →
+      IfOk made (λ reply. IsEnded c end reply.outcome reply.bytes) → IfOk made (λ reply. P reply.outcome reply.bytes)
+  ended_early end (Ok reply) ends is = early_by end reply.outcome reply.bytes ends is
+  ended_early end (Err e) ends is = tt
+
+pub concluded_early : (tell : Telling) (c : Circuit) (values : List (List CaseValue)) (limit place : ℕ) →
     StopsEarly c values limit place → Concluded tell c values limit (UnsettledOutcome place limit) (unsettled_line c place limit)
 concluded_early tell c values limit place (by_base is) = unsettled place is
 concluded_early tell c values limit place (by_case base rests stops) = case_unsettled base place rests stops
 
-ended_by : (tell : Telling) (c : Circuit) (values : List (List CaseValue)) (limit : ℕ) (end : EngineEnd) (o : Outcome) (bytes : List ℕ) →
-    EndsEarly c values limit end → IsEnded c end o bytes → Concluded tell c values limit o bytes
-ended_by tell c values limit end o bytes ends is =
-    let there : EndsEarly c values limit (Unsettled is.place is.round) = subst (EndsEarly c values limit) is.end_is ends in
-    subst (λ (z : Outcome). Concluded tell c values limit z bytes) (sym (is.outcome ∙ ap (UnsettledOutcome is.place) there.1))
-    (subst (λ (z : List ℕ). Concluded tell c values limit (UnsettledOutcome is.place limit) z) (sym (is.text ∙ ap (unsettled_line c is.place) there.1))
-    (concluded_early tell c values limit is.place there.0))
-
 -- what is answered to an end, whatever would have been told of a circuit at rest
 pub concluded_ended : (tell : Telling) (c : Circuit) (values : List (List CaseValue)) (limit : ℕ) (end : EngineEnd) (made : Result (Reply Outcome) OutOfMemory) → EndsEarly c values limit end →
     IfOk made (λ reply. IsEnded c end reply.outcome reply.bytes) → IfOk made (λ reply. Concluded tell c values limit reply.outcome reply.bytes)
-concluded_ended tell c values limit end (Ok reply) ends is = ended_by tell c values limit end reply.outcome reply.bytes ends is
-concluded_ended tell c values limit end (Err e) ends is = tt
+concluded_ended tell c values limit = ended_early (Concluded tell c values limit) c values limit (concluded_early tell c values limit)
 
 -- what holds of each net that does not rest
 pub of_ended : (P : Outcome → Type 0) → ((place round : ℕ) → P (UnsettledOutcome place round)) →

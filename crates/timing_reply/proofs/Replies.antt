@@ -13,14 +13,20 @@ use Rattle.program_call.specs.declared.reply.Reply.{Reply}
 use Rattle.timing_reply.specs.Answer as answer
 use Rattle.timing_reply.specs.Answer.{Telling, limit_for, Concluded, Evaluated, judged}
 
+-- what holds of this outcome with these bytes holds of a reply that has them
+pub reply_has : (P : Outcome → List ℕ → Type 0) (o : Outcome) (bytes : List ℕ) (made : Result (Reply Outcome) OutOfMemory) → P o bytes →
+    IfOk made (λ reply. reply.outcome ≡ o) → IfOk made (λ reply. reply.bytes ≡ bytes) → IfOk made (λ reply. P reply.outcome reply.bytes)
+reply_has P o bytes (Ok reply) holds outcome_is bytes_are =
+    subst (λ (z : Outcome). P z reply.bytes) (sym outcome_is) (subst (λ (z : List ℕ). P o z) (sym bytes_are) holds)
+reply_has P o bytes (Err e) holds outcome_is bytes_are = tt
+
 -- ---- a refusal
 
 pub refused : (tell : ℕ → Telling) (rounds : Option ℕ) (text : List ℕ) (r : Refusal) (made : Result (Reply Outcome) OutOfMemory) → IsTextRefused text r →
     IfOk made (λ reply. reply.outcome ≡ Refused r) → IfOk made (λ reply. reply.bytes ≡ refusal_line r) →
     IfOk made (λ reply. Evaluated tell rounds text reply.outcome reply.bytes)
-refused tell rounds text r (Ok reply) is outcome bytes =
-    subst (λ (z : Outcome). Evaluated tell rounds text z reply.bytes) (sym outcome) (subst (λ (z : List ℕ). Evaluated tell rounds text (Refused r) z) (sym bytes) (answer.refused r is))
-refused tell rounds text r (Err e) is outcome bytes = tt
+refused tell rounds text r made is outcome bytes =
+    reply_has (Evaluated tell rounds text) (Refused r) (refusal_line r) made (answer.refused r is) outcome bytes
 
 -- ---- a text that is evaluated
 

@@ -4,31 +4,22 @@ use Rattle.std.specs.Prelude.{◌==◌}
 use Rattle.scald_base.specs.declared.outcome.Outcome.{Outcome}
 use Rattle.scald_base.specs.declared.outcome.Outcome.TheVariants.{Clean, Faulty}
 use Rattle.scald_base.specs.Outcome.{end_of}
-use Rattle.flat_circuit.specs.declared.case.CaseValue.{CaseValue}
-use Rattle.flat_circuit.specs.Circuit.{Circuit}
-use Rattle.timing_analysis.specs.Case.{Case}
 use Rattle.program_call.specs.Program.{IsLawful}
 use Rattle.program_call.proofs.Answering.{end_of_ended}
 use Rattle.timing_reply.specs.declared.words.Request.{Request}
 use Rattle.timing_reply.specs.Program.{telling_program}
-use Rattle.timing_reply.specs.Answer as answer
-use Rattle.timing_reply.specs.Answer.{Telling, Concluded, Evaluated, rested, unsettled, case_unsettled, verdict_of}
+use Rattle.timing_reply.specs.Answer.{Telling, Evaluated, verdict_of}
 use Rattle.timing_reply.proofs.Judgement.{one_evaluated}
+use Rattle.timing_reply.proofs.Outcomes.{HoldsOfTold, evaluated_has}
 
 -- what is told of a circuit is no end of a call
 abbrev pub Speaks : Telling → Type 0
-Speaks tell = (c : Circuit) (base : ℕ) (cases : List Case) → end_of (tell c base cases).0 ≡ None
-
-concluded_speaks : (tell : Telling) (c : Circuit) (values : List (List CaseValue)) (limit : ℕ) (o : Outcome) (bytes : List ℕ) → Speaks tell →
-    Concluded tell c values limit o bytes → end_of o ≡ None
-concluded_speaks tell c values limit _ _ spoken (rested base cases rests at_rest) = spoken c base cases
-concluded_speaks tell c values limit _ _ spoken (unsettled place is) = refl
-concluded_speaks tell c values limit _ _ spoken (case_unsettled base place rests stops) = refl
+Speaks tell = HoldsOfTold (λ o. end_of o ≡ None) tell
 
 pub evaluated_speaks : (tell : ℕ → Telling) (rounds : Option ℕ) (text : List ℕ) (o : Outcome) (bytes : List ℕ) → ((version : ℕ) →
     Speaks (tell version)) → Evaluated tell rounds text o bytes → end_of o ≡ None
-evaluated_speaks tell rounds text _ _ spoken (answer.refused r is) = refl
-evaluated_speaks tell rounds text _ _ spoken (answer.judged c values o bytes drawn j) = concluded_speaks (tell drawn.drawing.version) c values _ o bytes (spoken drawn.drawing.version) j
+evaluated_speaks tell rounds text o bytes spoken =
+    evaluated_has (λ o. end_of o ≡ None) (λ place last. refl) (λ r. refl) tell rounds text o bytes spoken
 
 -- ---- outcomes of faults
 

@@ -1,4 +1,4 @@
--- A program that has no words and tells of the circuit of the text that it reads.
+-- A program that has no words and replies to the text that it reads.
 use Rattle.std.specs.Prelude.{ℕ, true, List, [], ◌∷◌, None, Result, Ok, Err}
 use Rattle.scald_base.specs.declared.outcome.Outcome.{Outcome}
 use Rattle.scald_base.specs.Outcome.{ended, end_of}
@@ -16,13 +16,21 @@ no_words (w ∷ ws) = Err 0
 abbrev pub most_bytes : ℕ
 most_bytes = 4194304
 
--- It replies what is told of the circuit, by the version of its drawing, at its own limit of rounds, or why there is nothing to tell.
-abbrev pub telling_program : (ℕ → Telling) → Meaning Request Outcome
-telling_program tell = record {
+-- which outcomes and bytes are the reply to a text
+abbrev pub Replying : Type 1
+Replying = List ℕ → Outcome → List ℕ → Type 0
+
+-- It reads a text and has this reply to it.
+abbrev pub wordless : Replying → Meaning Request Outcome
+wordless Replied = record {
   command_of = no_words;
   reads = λ request. true;
   most_bytes = λ read. most_bytes;
-  Replied = λ request text. Evaluated tell None text;
+  Replied = λ request. Replied;
   ended = ended;
   end_of = end_of;
 }
+
+-- It replies what is told of the circuit, by the version of its drawing, at its own limit of rounds, or why there is nothing to tell.
+abbrev pub telling_program : (ℕ → Telling) → Meaning Request Outcome
+telling_program tell = wordless (Evaluated tell None)
