@@ -14,12 +14,13 @@ use Rattle.drawn_circuit.specs.Drawn.{DrawsCircuit}
 use Rattle.drawn_circuit.proofs.OneText.{not_refused, one_refusal, text_draws_one_circuit}
 use Rattle.listing.specs.Answer.{unsettled_line}
 use Rattle.timing_analysis.specs.Case.{Case, AreAtRest, listed_cases}
-use Rattle.timing_analysis.specs.Ended.{StopsEarly, by_base, by_case}
+use Rattle.timing_analysis.specs.Ended.{StopsEarly}
 use Rattle.program_call.specs.Program.{IsLawful}
 use Rattle.program_call.proofs.Answering.{end_of_ended}
 use Rattle.timing_reply.specs.declared.words.Request.{Request}
 use Rattle.timing_reply.specs.Answer as answer
-use Rattle.timing_reply.specs.Answer.{Telling, Concluded, Evaluated}
+use Rattle.timing_reply.specs.Answer.{Telling, Evaluated}
+use Rattle.timing_reply.proofs.Ending.{concluded_early}
 use Rattle.timing_reply.proofs.Judgement.{one_evaluated}
 use Rattle.timing_reply.proofs.Speaking.{verdict_speaks}
 use Rattle.circuit_notes.specs.Paths.{Ways, AreWays}
@@ -43,12 +44,7 @@ module _ (text : List ℕ) (c : Circuit) (values : List (List CaseValue)) (draws
 
   as_stopped : (tell : ℕ → Telling) (place : ℕ) → StopsEarly c values (default_limit c) place →
       Evaluated tell None text (Unsettled place (default_limit c)) (unsettled_line c place (default_limit c))
-  as_stopped tell place stops = answer.judged c values _ _ draws (concluded stops)
-    where
-      concluded : StopsEarly c values (default_limit c) place →
-          Concluded (tell draws.drawing.version) c values (default_limit c) (Unsettled place (default_limit c)) (unsettled_line c place (default_limit c))
-      concluded (by_base is) = answer.unsettled place is
-      concluded (by_case base rests is) = answer.case_unsettled base place rests is
+  as_stopped tell place stops = answer.judged c values _ _ draws (concluded_early (tell draws.drawing.version) c values (default_limit c) place stops)
 
 -- the same of another drawing and of other ways that are the same
 moved : (text : List ℕ) (o : Outcome) (bytes : List ℕ) (ways same : Ways) (d e : Drawing) → ways ≡ same → d ≡ e →

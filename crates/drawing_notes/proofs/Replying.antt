@@ -1,37 +1,25 @@
 -- From what is made for a text to what is answered on it.
-use Rattle.std.proofs.Common.{◌≡◌, ℕ, List, sym, ap, subst, ◌∙◌, IfOk, Result, Ok, Err}
-use Rattle.scald_base.specs.declared.list.NoMemory.{NoMemory as OutOfMemory}
-use Rattle.scald_base.specs.declared.refusal.Refusal.{Refusal}
+use Rattle.std.proofs.Common.{◌≡◌, ℕ, List, sym, subst}
 use Rattle.scald_base.specs.declared.outcome.Outcome.{Outcome}
-use Rattle.scald_base.specs.declared.outcome.Outcome.TheVariants.{Refused, Unsettled as UnsettledOutcome}
+use Rattle.scald_base.specs.declared.outcome.Outcome.TheVariants.{Unsettled}
 use Rattle.program_call.specs.declared.reply.Reply.{Reply}
 use Rattle.flat_circuit.specs.declared.case.CaseValue.{CaseValue}
 use Rattle.flat_circuit.specs.Circuit.{Circuit}
-use Rattle.fixpoint_engine.specs.declared.rounds.EngineEnd.{EngineEnd}
-use Rattle.fixpoint_engine.specs.declared.rounds.EngineEnd.TheVariants.{Unsettled}
 use Rattle.fixpoint_engine.specs.Rounds.{RestsAt}
 use Rattle.fixpoint_engine.specs.Start.{default_limit}
 use Rattle.case_analysis.specs.Base.{base_round}
 use Rattle.drawing_tree.specs.Tree.{Drawing}
 use Rattle.drawing_grammar.specs.CanonicalDraws.{TextDraws}
-use Rattle.drawn_circuit.specs.Drawn.{DrawsAs, IsTextRefused}
-use Rattle.listing.specs.Answer.{refusal_line, unsettled_line}
+use Rattle.drawn_circuit.specs.Drawn.{DrawsAs}
+use Rattle.listing.specs.Answer.{unsettled_line}
 use Rattle.timing_analysis.specs.Case.{listed_cases}
-use Rattle.timing_analysis.specs.Ended.{EndsEarly, StopsEarly}
-use Rattle.timing_reply.specs.Ended.{IsEnded}
+use Rattle.timing_analysis.specs.Ended.{StopsEarly}
 use Rattle.timing_reply.specs.Teller.{IsTold}
 use Rattle.spread_names.specs.declared.spread.Spread.{Spread}
 use Rattle.spread_names.specs.Spreads.{spreads}
-use Rattle.drawing_notes.specs.Answer.{Noted, refused, noted, unsettled}
+use Rattle.drawing_notes.specs.Answer.{Noted, noted, unsettled}
 use Rattle.drawing_notes.specs.Noted.{IsNoted}
 use Rattle.drawing_notes.specs.Report.{notes_told}
-
--- a refusal
-pub refused_is : (text : List ℕ) (r : Refusal) (made : Result (Reply Outcome) OutOfMemory) → IsTextRefused text r →
-    IfOk made (λ reply. reply.outcome ≡ Refused r) → IfOk made (λ reply. reply.bytes ≡ refusal_line r) → IfOk made (λ reply. Noted text reply.outcome reply.bytes)
-refused_is text r (Ok reply) is outcome bytes =
-    subst (λ (o : Outcome). Noted text o reply.bytes) (sym outcome) (subst (λ (b : List ℕ). Noted text (Refused r) b) (sym bytes) (refused r is))
-refused_is text r (Err e) is outcome bytes = tt
 
 module _ (text : List ℕ) (version : ℕ) (c : Circuit) (values : List (List CaseValue)) (limit : ℕ) (drawn : DrawsAs text version c values) (own : limit ≡ default_limit c) where
   -- notes on a circuit at rest
@@ -53,12 +41,7 @@ module _ (text : List ℕ) (version : ℕ) (c : Circuit) (values : List (List Ca
           (subst (λ n. IsTold (notes_told is.ways read version) c n is.base (listed_cases values) reply.outcome reply.bytes) own is.told))
 
   -- a net that does not settle
-  pub ended_is : (end : EngineEnd) (made : Result (Reply Outcome) OutOfMemory) → EndsEarly c values limit end →
-      IfOk made (λ reply. IsEnded c end reply.outcome reply.bytes) → IfOk made (λ reply. Noted text reply.outcome reply.bytes)
-  ended_is end (Ok reply) ends is =
-      let there : EndsEarly c values limit (Unsettled is.place is.round) = subst (EndsEarly c values limit) is.end_is ends in
-      let last : is.round ≡ default_limit c = there.1 ∙ own in
-      subst (λ (o : Outcome). Noted text o reply.bytes) (sym (is.outcome ∙ ap (UnsettledOutcome is.place) last))
-      (subst (λ (b : List ℕ). Noted text (UnsettledOutcome is.place (default_limit c)) b) (sym (is.text ∙ ap (unsettled_line c is.place) last))
-      (unsettled c values drawn.draws is.place (subst (λ n. StopsEarly c values n is.place) own there.0)))
-  ended_is end (Err e) ends is = tt
+  pub stopped_is : (place : ℕ) → StopsEarly c values limit place → Noted text (Unsettled place limit) (unsettled_line c place limit)
+  stopped_is place stops =
+      subst (λ n. Noted text (Unsettled place n) (unsettled_line c place n)) (sym own)
+      (unsettled c values drawn.draws place (subst (λ n. StopsEarly c values n place) own stops))

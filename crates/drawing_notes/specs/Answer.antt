@@ -1,9 +1,8 @@
 -- What the program of notes means.
-use Rattle.std.specs.Prelude.{ℕ, true, List}
+use Rattle.std.specs.Prelude.{ℕ, List}
 use Rattle.scald_base.specs.declared.refusal.Refusal.{Refusal}
 use Rattle.scald_base.specs.declared.outcome.Outcome.{Outcome}
 use Rattle.scald_base.specs.declared.outcome.Outcome.TheVariants.{Refused, Unsettled}
-use Rattle.scald_base.specs.Outcome.{ended, end_of}
 use Rattle.flat_circuit.specs.declared.case.CaseValue.{CaseValue}
 use Rattle.flat_circuit.specs.Circuit.{Circuit}
 use Rattle.fixpoint_engine.specs.Rounds.{RestsAt}
@@ -15,7 +14,7 @@ use Rattle.timing_analysis.specs.Case.{Case, AreAtRest, listed_cases}
 use Rattle.timing_analysis.specs.Ended.{StopsEarly}
 use Rattle.program_call.specs.Program.{Meaning}
 use Rattle.timing_reply.specs.declared.words.Request.{Request}
-use Rattle.timing_reply.specs.Program.{no_words, most_bytes}
+use Rattle.timing_reply.specs.Program.{wordless}
 use Rattle.circuit_notes.specs.Paths.{Ways, AreWays}
 use Rattle.spread_names.specs.Spreads.{spreads}
 use Rattle.drawing_notes.specs.Report.{notes_told}
@@ -36,11 +35,4 @@ pub data Noted (text : List ℕ) : Outcome → List ℕ → Type 0 where
 
 -- It has no words.
 abbrev pub notes_program : Meaning Request Outcome
-notes_program = record {
-  command_of = no_words;
-  reads = λ request. true;
-  most_bytes = λ read. most_bytes;
-  Replied = λ request. Noted;
-  ended = ended;
-  end_of = end_of;
-}
+notes_program = wordless Noted

@@ -5,48 +5,26 @@ ghost use Rattle.std.specs.Io.KnownBytes.{IsAtEnd};
 ghost use Rattle.scald_base.specs.Device.{Rose, ReadsFront, ReadsPast};
 ghost use Rattle.program_call.specs.Program.{AreTold, IsAnswered, IsCutShort, asks, has_read, is_silent, speaks};
 ghost use Rattle.timing_reply.specs.Program.{most_bytes, no_words};
+ghost use Rattle.timing_reply.specs.Promise.{SettlesLoopless, may_count};
 ghost use Rattle.drawing_notes.specs.Answer.{notes_program};
-ghost use Rattle.drawing_notes.specs.Promise.{SettlesLoopless, WritesNotes, may_answer};
+ghost use Rattle.drawing_notes.specs.Promise.{WritesNotes};
 
 use crate::reply::notes_reply;
-use program_call::{Program, Reply, main_call};
-use scald_base::{CallEnd, NoMemory, Outcome, Sink, Source, Words};
+use program_call::{Reply, main_call};
+use scald_base::{NoMemory, Outcome, Sink, Source, Words};
 use std::alloc::Global;
-use timing_reply::{Request, read_no_words};
-
-/// The most bytes of a text.
-const MOST_BYTES: u32 = 4_194_304;
+use timing_reply::{Replier, Wordless};
 
 /// The program of notes.
 pub struct NotesProgram;
 
-impl Program for NotesProgram {
-    ghost use Rattle.drawing_notes.specs.Answer.{notes_program};
+impl Replier for NotesProgram {
+    ghost use Rattle.drawing_notes.specs.Answer.{Noted};
 
-    type Command = Request;
+    ghost replied = { Noted };
 
-    type Outcome = Outcome;
-
-    ghost meaning = { notes_program };
-
-    fn read_words(words: &Words) -> Result<Request, u32> {
-        read_no_words(words)
-    }
-
-    fn reads(_request: Request) -> bool {
-        true
-    }
-
-    fn most_bytes(_request: Request) -> u32 {
-        MOST_BYTES
-    }
-
-    fn reply(alloc: Global, _request: Request, text: &[u8]) -> Result<Reply<Outcome>, NoMemory> {
+    fn reply(alloc: Global, text: &[u8]) -> Result<Reply<Outcome>, NoMemory> {
         notes_reply(alloc, text)
-    }
-
-    fn ended(end: CallEnd) -> Outcome {
-        Outcome::ended(end)
     }
 
     fn laws() {}
@@ -103,7 +81,7 @@ pub fn notes_main<S: Source, K: Sink>(
     // Which outcomes speak of a text, whichever it is, and why the others come. A sink that tells what it took
     // has a front of the answer's bytes after a failed write, and a source that tells its bytes had one past the
     // limit where the text is too long.
-    ensures given { speaks notes_program result ≡ true → may_answer result ≡ true }
+    ensures given { speaks notes_program result ≡ true → may_count result ≡ true }
     ensures read_first { has_read notes_program result ≡ true → asks notes_program words.now ≡ true }
     ensures read_fault { result ≡ Outcome.ReadFault → Rose (S.faults source.old) (S.faults source.new) }
     ensures write_fault { result ≡ Outcome.WriteFault → Rose (K.faults sink.old) (K.faults sink.new) }
@@ -120,5 +98,5 @@ pub fn notes_main<S: Source, K: Sink>(
     ensures loopless { (text : List ℕ) → AreTold notes_program words.now (S.left source.old) text →
         SettlesLoopless text result }
 {
-    main_call::<NotesProgram, S, K>(alloc, words, source, sink)
+    main_call::<Wordless<NotesProgram>, S, K>(alloc, words, source, sink)
 }

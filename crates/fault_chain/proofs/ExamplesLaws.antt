@@ -1,9 +1,8 @@
--- Chains that are whole, and others that are not; and which outcomes speak of a text.
-use Rattle.std.proofs.Common.{◌≡◌, true, false, List, [], ◌∷◌, ◌++◌, map, refl, ap, ◌∙◌, arith, codes, None}
+-- Chains that are whole, and others that are not.
+use Rattle.std.proofs.Common.{◌≡◌, true, false, List, [], ◌∷◌, ◌++◌, refl, ap, ◌∙◌, arith, codes, None}
 use Rattle.std.proofs.lemmas.List.Elements.{All-nil}
 use Rattle.scald_base.specs.Time.{Bounds}
 use Rattle.scald_base.specs.declared.assertion.AssertSpec.TheVariants.{None as Unasserted}
-use Rattle.scald_base.specs.declared.outcome.Outcome.TheVariants.{Clean, Faulty, Done, Unsettled, BadWords, TooLong, ReadFault, WriteFault, NoMemory}
 use Rattle.step_values.specs.Steps.{is_quiet}
 use Rattle.step_values.specs.declared.value.Value.TheVariants.{One, F}
 use Rattle.flat_circuit.specs.declared.fault.Fault.TheVariants.{Width, Assertion}
@@ -11,7 +10,6 @@ use Rattle.flat_circuit.specs.Circuit.{Circuit}
 use Rattle.fault_chain.specs.declared.chain.Link.{Link}
 use Rattle.fault_chain.specs.declared.chain.End.TheVariants.{Level, Undriven}
 use Rattle.fault_chain.specs.Laws.{IsWhole, MayChange}
-use Rattle.fault_chain.specs.Promise.{may_answer}
 
 abbrev nobounds : Bounds
 nobounds = record { min = 0; max = 0 }
@@ -77,12 +75,3 @@ no_empty whole = none whole.before whole.last whole.links
     none : (before : List Link) (last : Link) → [] ≡ before ++ last ∷ [] → ⊥
     none [] last is = absurd (cc)
     none (one ∷ before) last is = absurd (cc)
-
--- ---- outcomes
-
-spoken : map may_answer (Clean ∷ Faulty 1 ∷ Unsettled 3 16 ∷ []) ≡ true ∷ true ∷ true ∷ []
-spoken = refl
-
-never_spoken : map may_answer (Faulty 0 ∷ Done ∷ BadWords 0 ∷ TooLong ∷ ReadFault ∷ WriteFault ∷ NoMemory ∷ [])
-    ≡ false ∷ false ∷ false ∷ false ∷ false ∷ false ∷ false ∷ []
-never_spoken = refl

@@ -5,49 +5,29 @@ ghost use Rattle.std.specs.Io.KnownBytes.{IsAtEnd};
 ghost use Rattle.scald_base.specs.Device.{Rose, ReadsFront, ReadsPast};
 ghost use Rattle.program_call.specs.Program.{AreTold, IsAnswered, IsCutShort, asks, has_read, is_silent, speaks};
 ghost use Rattle.timing_reply.specs.Program.{most_bytes, no_words};
+ghost use Rattle.timing_reply.specs.Promise.{SettlesLoopless, may_count};
 ghost use Rattle.fault_chain.specs.Answer.{chains};
 ghost use Rattle.fault_chain.specs.Laws.{ChainsAreWhole, DrawnChainsAreWhole};
-ghost use Rattle.fault_chain.specs.Promise.{SettlesLoopless, WritesChains, may_answer};
+ghost use Rattle.fault_chain.specs.Promise.{WritesChains};
 
 use crate::teller::Chains;
-use program_call::{Program, Reply, main_call};
-use scald_base::{CallEnd, NoMemory, Outcome, Sink, Source, Words};
+use program_call::{Reply, main_call};
+use scald_base::{NoMemory, Outcome, Sink, Source, Words};
 use std::alloc::Global;
-use timing_reply::{Request, read_no_words, reply_to};
-
-/// The most bytes of a text.
-const MOST_BYTES: u32 = 4_194_304;
+use timing_reply::{Replier, Wordless, reply_to};
 
 /// The program of chains.
 pub struct ChainProgram;
 
-impl Program for ChainProgram {
-    ghost use Rattle.fault_chain.specs.Answer.{chains};
+impl Replier for ChainProgram {
+    ghost use Rattle.std.specs.Prelude.{None};
+    ghost use Rattle.timing_reply.specs.Answer.{Evaluated};
+    ghost use Rattle.fault_chain.specs.Answer.{chains_told};
 
-    type Command = Request;
+    ghost replied = { Evaluated chains_told None };
 
-    type Outcome = Outcome;
-
-    ghost meaning = { chains };
-
-    fn read_words(words: &Words) -> Result<Request, u32> {
-        read_no_words(words)
-    }
-
-    fn reads(_request: Request) -> bool {
-        true
-    }
-
-    fn most_bytes(_request: Request) -> u32 {
-        MOST_BYTES
-    }
-
-    fn reply(alloc: Global, _request: Request, text: &[u8]) -> Result<Reply<Outcome>, NoMemory> {
+    fn reply(alloc: Global, text: &[u8]) -> Result<Reply<Outcome>, NoMemory> {
         reply_to::<Chains>(alloc, text)
-    }
-
-    fn ended(end: CallEnd) -> Outcome {
-        Outcome::ended(end)
     }
 
     fn laws() {}
@@ -105,7 +85,7 @@ pub fn chain_main<S: Source, K: Sink>(
     // Which outcomes speak of a text, whichever it is, and why the others come. A sink that tells what it took
     // has a front of the answer's bytes after a failed write, and a source that tells its bytes had one past the
     // limit where the text is too long.
-    ensures given { speaks chains result ≡ true → may_answer result ≡ true }
+    ensures given { speaks chains result ≡ true → may_count result ≡ true }
     ensures read_first { has_read chains result ≡ true → asks chains words.now ≡ true }
     ensures read_fault { result ≡ Outcome.ReadFault → Rose (S.faults source.old) (S.faults source.new) }
     ensures write_fault { result ≡ Outcome.WriteFault → Rose (K.faults sink.old) (K.faults sink.new) }
@@ -127,5 +107,5 @@ pub fn chain_main<S: Source, K: Sink>(
     ensures chains_whole { ChainsAreWhole }
     ensures drawn_whole { DrawnChainsAreWhole }
 {
-    main_call::<ChainProgram, S, K>(alloc, words, source, sink)
+    main_call::<Wordless<ChainProgram>, S, K>(alloc, words, source, sink)
 }

@@ -1,95 +1,21 @@
 -- What the answer to a text says of the outcome of the call, and of what was written.
-use Rattle.std.proofs.Common.{inl, inr, ◌⊎◌, ◌≡◌, ℕ, ◌≤◌, Bool, true, List, [], ◌∷◌, length, refl, sym, ap, subst, arith, IfSome, Ok, Option, Some, None}
-use Rattle.std.specs.Prelude.{◌≢◌}
-use Rattle.std.specs.Io.KnownBytes.{Appends}
+use Rattle.std.proofs.Common.{◌≡◌, ℕ, true, List, refl, Option, None}
 use Rattle.scald_base.specs.declared.outcome.Outcome.{Outcome}
-use Rattle.scald_base.specs.declared.outcome.Outcome.TheVariants.{Done, Unsettled, NoMemory}
-use Rattle.flat_circuit.specs.declared.case.CaseValue.{CaseValue}
-use Rattle.flat_circuit.specs.Instances.{outputs}
-use Rattle.flat_circuit.specs.Circuit.{Circuit, IsCircuit}
-use Rattle.net_waves.specs.Waves.{Waves}
-use Rattle.fixpoint_engine.specs.Loops.{HasNoLoop}
-use Rattle.fixpoint_engine.specs.Rounds.{IsUnsettled, round}
-use Rattle.fixpoint_engine.proofs.Rest.{rests_by_outputs}
-use Rattle.case_analysis.specs.Case.{case_active}
-use Rattle.program_call.specs.Program.{AreTold, by_source, IsAnswered, IsReplied, asks, speaks, Answer, no_form, too_long, replied}
-use Rattle.timing_reply.specs.declared.words.Request.{Request}
-use Rattle.timing_reply.specs.declared.words.Request.TheVariants.{Reply}
 use Rattle.timing_reply.specs.Answer as answer
-use Rattle.timing_reply.specs.Answer.{Concluded, Evaluated, rested, unsettled, case_unsettled}
-use Rattle.timing_reply.specs.Program.{most_bytes, no_words}
-use Rattle.margin_report.specs.Answer.{margins, margins_told}
-use Rattle.margin_report.specs.Promise.{SettlesLoopless, WritesMargins, may_answer}
-use Rattle.margin_report.specs.Report.{margin_lines, rows}
+use Rattle.timing_reply.specs.Answer.{Evaluated, rested}
+use Rattle.timing_reply.specs.Promise.{SettlesLoopless, Writes}
+use Rattle.timing_reply.proofs.Outcomes.{evaluated_has, evaluated_settles}
+use Rattle.margin_report.specs.Answer.{margins_told}
+use Rattle.margin_report.specs.Promise.{WritesMargins, may_answer}
 
--- ---- which outcomes there are
+pub is_given : (text : List ℕ) (o : Outcome) (bytes : List ℕ) → Evaluated margins_told None text o bytes → may_answer o ≡ true
+is_given text o bytes =
+    evaluated_has (λ o. may_answer o ≡ true) (λ place last. refl) (λ r. refl) margins_told None text o bytes (λ version c base cases. refl)
 
-concluded_given : (version : ℕ) (c : Circuit) (values : List (List CaseValue)) (limit : ℕ) (o : Outcome) (bytes : List ℕ) →
-    Concluded (margins_told version) c values limit o bytes → may_answer o ≡ true
-concluded_given version c values limit _ _ (rested base cases rests at_rest) = refl
-concluded_given version c values limit _ _ (unsettled place is) = refl
-concluded_given version c values limit _ _ (case_unsettled base place rests stops) = refl
+pub is_written : (text : List ℕ) (o : Outcome) (taken taken' : Option (List ℕ)) →
+    ((told : Outcome) (bytes : List ℕ) → Evaluated margins_told None text told bytes → Writes told bytes o taken taken') → WritesMargins text o taken taken'
+is_written text o taken taken' writes c values base cases drawn rests at_rest =
+    writes _ _ (answer.judged c values _ _ drawn (rested base cases rests at_rest))
 
-evaluated_given : (text : List ℕ) (o : Outcome) (bytes : List ℕ) → Evaluated margins_told None text o bytes → may_answer o ≡ true
-evaluated_given text _ _ (answer.refused r is) = refl
-evaluated_given text _ _ (answer.judged c values o bytes drawn j) = concluded_given drawn.drawing.version c values _ o bytes j
-
-pub given_by : {promised : Request → List ℕ → Outcome → Type 0} (words : List (List ℕ)) (left left' taken taken' : Option (List ℕ)) (o : Outcome) →
-    IsReplied margins promised words left left' o taken taken' → may_answer o ≡ true
-given_by words left left' taken taken' o r = evaluated_given r.reply.text o r.bytes r.reply.is
-
--- ---- what is written
-
--- words that ask for something are none
-none_asked : (words : List (List ℕ)) → asks margins words ≡ true → no_words words ≡ Ok Reply
-none_asked [] asked = refl
-none_asked (w ∷ ws) asked = absurd (cc)
-
-margins_written : (words : List (List ℕ)) (text : List ℕ) (o : Outcome) (taken taken' : Option (List ℕ)) → asks margins words ≡ true →
-    length text ≤ most_bytes → (o ≡ NoMemory) ⊎ IsAnswered margins words text o taken taken' → WritesMargins text o taken taken'
-margins_written words text o taken taken' asked short (inl none) c values base cases drawn rests at_rest = inl none
-margins_written words text o taken taken' asked short (inr answered) c values base cases drawn rests at_rest =
-    let lines : List ℕ = margin_lines drawn.drawing.version c (rows c cases) in
-    let evaluated : Evaluated margins_told None text Done lines = answer.judged c values Done lines drawn (rested base cases rests at_rest) in
-    let same = answered.only Done lines (replied Reply Done lines (none_asked words asked) (λ reads. short) evaluated) in
-    inr (sym same.0, subst (Appends taken taken') (sym same.1) answered.written)
-
--- where the source tells its bytes, and no device fails
-pub finished : (words : List (List ℕ)) (left taken taken' : Option (List ℕ)) (o : Outcome) (Read Written : Type 0) →
-    ((text : List ℕ) → AreTold margins words left text → (asks margins words ≡ true → Read) → Written →
-    (o ≡ NoMemory) ⊎ IsAnswered margins words text o taken taken') →
-    IfSome left (λ text. asks margins words ≡ true → length text ≤ most_bytes → Read → Written → WritesMargins text o taken taken')
-finished words None taken taken' o Read Written whole = tt
-finished words (Some text) taken taken' o Read Written whole =
-    λ asked short read written. margins_written words text o taken taken' asked short (whole text (by_source refl) (λ asks. read) written)
-
--- ---- without loops
-
-ever_still : (c : Circuit) (active : ℕ → Bool) (start : Waves) (limit place : ℕ) → IsCircuit c → HasNoLoop c → outputs c.instances ≤ limit →
-    IsUnsettled c.order (round c active start) limit place → ⊥
-ever_still c active start limit place known none within is = is.never (outputs c.instances) within (rests_by_outputs c active start known none)
-
-concluded_settles : (version : ℕ) (c : Circuit) (values : List (List CaseValue)) (limit : ℕ) (o : Outcome) (bytes : List ℕ) → IsCircuit c → HasNoLoop c →
-    outputs c.instances ≤ limit → Concluded (margins_told version) c values limit o bytes → (place last : ℕ) → o ≢ Unsettled place last
-concluded_settles version c values limit _ _ known none within (rested base cases rests at_rest) place last still = absurd (cc)
-concluded_settles version c values limit _ _ known none within (unsettled net is) place last still =
-    ever_still c _ _ limit net known none within is
-concluded_settles version c values limit _ _ known none within (case_unsettled base net rests stops) place last still =
-    let never = stops.never in
-    ever_still c (case_active c never.cone) _ limit net known none within never.is
-
-evaluated_settles : (text : List ℕ) (o : Outcome) (bytes : List ℕ) → Evaluated margins_told None text o bytes → SettlesLoopless text o
-evaluated_settles text _ _ (answer.refused r is) free place last still = absurd (cc)
-evaluated_settles text _ _ (answer.judged c values o bytes drawn j) free place last still =
-    concluded_settles drawn.drawing.version c values _ o bytes drawn.draws.is_circuit (free c values drawn) (omega arith) j place last still
-
-answer_settles : (words : List (List ℕ)) (text : List ℕ) (o : Outcome) (bytes : List ℕ) → Answer margins words text o bytes → SettlesLoopless text o
-answer_settles words text _ _ (no_form i form) free place last still = absurd (cc)
-answer_settles words text _ _ (too_long command form reads long) free place last still = absurd (cc)
-answer_settles words text _ _ (replied command o bytes form short is) free place last still = evaluated_settles text o bytes is free place last still
-
-pub settles : (words : List (List ℕ)) (text : List ℕ) (o : Outcome) (taken taken' : Option (List ℕ)) →
-    (speaks margins o ≡ true → IsAnswered margins words text o taken taken') → SettlesLoopless text o
-settles words text o taken taken' truthful free place last still =
-    let answered = truthful (ap (speaks margins) still) in
-    answer_settles words text o answered.bytes answered.is free place last still
+pub is_settled : (text : List ℕ) (o : Outcome) (bytes : List ℕ) → Evaluated margins_told None text o bytes → SettlesLoopless text o
+is_settled text o bytes = evaluated_settles margins_told text o bytes (λ version c base cases place last still. absurd (cc))

@@ -1,6 +1,5 @@
 -- What the call of margins promises beside its answer.
-use Rattle.std.specs.Prelude.{◌≡◌, ◌≢◌, ◌⊎◌, ℕ, Bool, true, false, List, Option}
-use Rattle.std.specs.Io.KnownBytes.{Appends}
+use Rattle.std.specs.Prelude.{ℕ, Bool, true, false, List, Option}
 use Rattle.scald_base.specs.declared.outcome.Outcome.{Outcome}
 use Rattle.scald_base.specs.declared.outcome.Outcome.TheVariants.{Clean, Faulty, Done, Refused, Unsettled, BadWords, TooLong, ReadFault, WriteFault, NoMemory}
 use Rattle.flat_circuit.specs.declared.case.CaseValue.{CaseValue}
@@ -8,8 +7,9 @@ use Rattle.flat_circuit.specs.Circuit.{Circuit}
 use Rattle.fixpoint_engine.specs.Rounds.{RestsAt}
 use Rattle.fixpoint_engine.specs.Start.{default_limit}
 use Rattle.case_analysis.specs.Base.{base_round}
-use Rattle.drawn_circuit.specs.Drawn.{DrawsCircuit, IsLoopless}
+use Rattle.drawn_circuit.specs.Drawn.{DrawsCircuit}
 use Rattle.timing_analysis.specs.Case.{Case, AreAtRest, listed_cases}
+use Rattle.timing_reply.specs.Promise.{Writes}
 use Rattle.margin_report.specs.Report.{margin_lines, rows}
 
 -- The outcomes that speak of a text: its margins are written, it is refused, or its waves do not settle.
@@ -31,8 +31,4 @@ abbrev pub WritesMargins : List ℕ → Outcome → Option (List ℕ) → Option
 WritesMargins text o taken taken' =
     (c : Circuit) (values : List (List CaseValue)) (base : ℕ) (cases : List Case) (drawn : DrawsCircuit text c values) →
     RestsAt (base_round c) (default_limit c) base → AreAtRest c (default_limit c) base (listed_cases values) cases →
-    (o ≡ NoMemory) ⊎ ((o ≡ Done) × Appends taken taken' (margin_lines drawn.drawing.version c (rows c cases)))
-
--- Waves of a circuit without a loop settle.
-abbrev pub SettlesLoopless : List ℕ → Outcome → Type 0
-SettlesLoopless text o = IsLoopless text → (place round : ℕ) → o ≢ Unsettled place round
+    Writes Done (margin_lines drawn.drawing.version c (rows c cases)) o taken taken'

@@ -5,50 +5,30 @@ ghost use Rattle.std.specs.Io.KnownBytes.{IsAtEnd};
 ghost use Rattle.scald_base.specs.Device.{Rose, ReadsFront, ReadsPast};
 ghost use Rattle.program_call.specs.Program.{AreTold, IsAnswered, IsCutShort, asks, has_read, is_silent, speaks};
 ghost use Rattle.timing_reply.specs.Program.{most_bytes, no_words};
+ghost use Rattle.timing_reply.specs.Promise.{SettlesLoopless};
 ghost use Rattle.margin_report.specs.Answer.{margins};
 ghost use Rattle.margin_report.specs.Laws.{FittingIsMonotone, MarginsAreTrue};
-ghost use Rattle.margin_report.specs.Promise.{SettlesLoopless, WritesMargins, may_answer};
+ghost use Rattle.margin_report.specs.Promise.{WritesMargins, may_answer};
 ghost use Rattle.margin_report.specs.Tried.{TriedAsWritten};
 
 use crate::teller::Margins;
-use program_call::{Program, Reply, main_call};
-use scald_base::{CallEnd, NoMemory, Outcome, Sink, Source, Words};
+use program_call::{Reply, main_call};
+use scald_base::{NoMemory, Outcome, Sink, Source, Words};
 use std::alloc::Global;
-use timing_reply::{Request, read_no_words, reply_to};
-
-/// The most bytes of a text.
-const MOST_BYTES: u32 = 4_194_304;
+use timing_reply::{Replier, Wordless, reply_to};
 
 /// The program of margins.
 pub struct MarginProgram;
 
-impl Program for MarginProgram {
-    ghost use Rattle.margin_report.specs.Answer.{margins};
+impl Replier for MarginProgram {
+    ghost use Rattle.std.specs.Prelude.{None};
+    ghost use Rattle.timing_reply.specs.Answer.{Evaluated};
+    ghost use Rattle.margin_report.specs.Answer.{margins_told};
 
-    type Command = Request;
+    ghost replied = { Evaluated margins_told None };
 
-    type Outcome = Outcome;
-
-    ghost meaning = { margins };
-
-    fn read_words(words: &Words) -> Result<Request, u32> {
-        read_no_words(words)
-    }
-
-    fn reads(_request: Request) -> bool {
-        true
-    }
-
-    fn most_bytes(_request: Request) -> u32 {
-        MOST_BYTES
-    }
-
-    fn reply(alloc: Global, _request: Request, text: &[u8]) -> Result<Reply<Outcome>, NoMemory> {
+    fn reply(alloc: Global, text: &[u8]) -> Result<Reply<Outcome>, NoMemory> {
         reply_to::<Margins>(alloc, text)
-    }
-
-    fn ended(end: CallEnd) -> Outcome {
-        Outcome::ended(end)
     }
 
     fn laws() {}
@@ -128,5 +108,5 @@ pub fn margin_main<S: Source, K: Sink>(
     ensures monotone { FittingIsMonotone }
     ensures margins_true { MarginsAreTrue }
 {
-    main_call::<MarginProgram, S, K>(alloc, words, source, sink)
+    main_call::<Wordless<MarginProgram>, S, K>(alloc, words, source, sink)
 }

@@ -4,7 +4,8 @@ use Rattle.drawing_grammar.proofs.TextLaws.{one_drawing}
 use Rattle.drawing_grammar.specs.Refused.{IsRefusal}
 use Rattle.drawn_circuit.specs.Drawn.{undrawn}
 use Rattle.spread_names.specs.Spreads.{spreads}
-use Rattle.drawing_notes.proofs.Replying.{refused_is}
+use Rattle.timing_reply.proofs.Replies.{reply_has}
+use Rattle.drawing_notes.specs.Answer.{Noted, refused}
 use Rattle.drawing_notes.proofs.reply.notes_reply.Goals as goal
 
 pub circuit_reply-requires-clause-spread : goal.circuit_reply-requires-clause-spread
@@ -14,6 +15,6 @@ circuit_reply-requires-clause-spread c = λ d draws.
 
 pub returns-in-Err-Refused : goal.returns-in-Err-Refused
 returns-in-Err-Refused c =
-    refused_is c.args.text.now _ _
-    (undrawn (subst (IsRefusal c.args.text.now) (sym c.in-Err-Refused.refusal-is) (c.in-Err-Refused.ensures.refused c.in-Err-Refused.refusal c.in-Err-Refused.field-0-is)))
+    reply_has (Noted c.args.text.now) _ _ _
+    (refused _ (undrawn (subst (IsRefusal c.args.text.now) (sym c.in-Err-Refused.refusal-is) (c.in-Err-Refused.ensures.refused c.in-Err-Refused.refusal c.in-Err-Refused.field-0-is))))
     c.refused.ensures.outcome c.refused.ensures.bytes

@@ -1,5 +1,5 @@
 use Rattle.drawing_notes.proofs.Lawful.{notes_are_lawful}
-use Rattle.drawing_notes.proofs.program.NotesProgramProgram.laws.Goals as goal
+use Rattle.drawing_notes.proofs.program.NotesProgramReplier.laws.Goals as goal
 
 pub returns : goal.returns
 returns c = notes_are_lawful
