@@ -1,5 +1,5 @@
 -- From what is made for a text to what is answered on it, and that it has one answer.
-use Rattle.std.proofs.Common.{◌≡◌, ℕ, false, List, [], refl, sym, subst, IfOk, Result, Ok, Err, None}
+use Rattle.std.proofs.Common.{◌≡◌, ℕ, false, List, [], refl, subst, IfOk, Result, Ok, Err, None}
 use Rattle.scald_base.specs.declared.refusal.Refusal.{Refusal}
 use Rattle.scald_base.specs.declared.list.NoMemory.{NoMemory as OutOfMemory}
 use Rattle.scald_base.specs.declared.outcome.Outcome.{Outcome}
@@ -21,12 +21,13 @@ use Rattle.timing_reply.specs.declared.words.Request.{Request}
 use Rattle.timing_reply.specs.Answer as timing
 use Rattle.timing_reply.specs.Answer.{Concluded, Telling}
 use Rattle.timing_reply.proofs.Judgement.{one_evaluated}
+use Rattle.timing_reply.proofs.Replies.{reply_has}
 use Rattle.timing_reply.proofs.Speaking.{evaluated_speaks, verdict_speaks}
 use Rattle.fault_report.specs.Answer as answer
 use Rattle.fault_report.specs.Answer.{IsExplained, explained, explainer, judged}
 
 -- what one drawing tells, whatever its version
-abbrev by_drawing : Drawing → ℕ → Telling
+abbrev pub by_drawing : Drawing → ℕ → Telling
 by_drawing d version = explained d
 
 -- ---- one answer
@@ -66,10 +67,8 @@ explainer_is_lawful = record {
 pub refused : (text : List ℕ) (r : Refusal) (made : Result (Reply Outcome) OutOfMemory) → IsTextRefused text r →
     IfOk made (λ reply. reply.outcome ≡ Refused r) → IfOk made (λ reply. reply.bytes ≡ refusal_line r) →
     IfOk made (λ reply. IsExplained text reply.outcome reply.bytes)
-refused text r (Ok reply) is outcome bytes =
-    subst (λ (z : Outcome). IsExplained text z reply.bytes) (sym outcome)
-    (subst (λ (z : List ℕ). IsExplained text (Refused r) z) (sym bytes) (answer.refused r is))
-refused text r (Err e) is outcome bytes = tt
+refused text r made is outcome bytes =
+    reply_has (IsExplained text) (Refused r) (refusal_line r) made (answer.refused r is) outcome bytes
 
 -- by the drawing that the text draws
 pub accepted : (text : List ℕ) (d : Drawing) (c : Circuit) (values : List (List CaseValue)) (limit : ℕ) (o : Outcome) (bytes : List ℕ) →

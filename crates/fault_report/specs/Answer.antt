@@ -1,9 +1,8 @@
 -- What is answered on a text whose faults are explained.
-use Rattle.std.specs.Prelude.{ℕ, true, List}
+use Rattle.std.specs.Prelude.{ℕ, List}
 use Rattle.scald_base.specs.declared.refusal.Refusal.{Refusal}
 use Rattle.scald_base.specs.declared.outcome.Outcome.{Outcome}
 use Rattle.scald_base.specs.declared.outcome.Outcome.TheVariants.{Refused}
-use Rattle.scald_base.specs.Outcome.{ended, end_of}
 use Rattle.flat_circuit.specs.declared.case.CaseValue.{CaseValue}
 use Rattle.flat_circuit.specs.Circuit.{Circuit}
 use Rattle.drawing_tree.specs.Tree.{Drawing}
@@ -14,7 +13,7 @@ use Rattle.program_call.specs.Program.{Meaning}
 use Rattle.timing_analysis.specs.Case.{fault_count}
 use Rattle.timing_reply.specs.declared.words.Request.{Request}
 use Rattle.timing_reply.specs.Answer.{Concluded, Telling, verdict_of}
-use Rattle.timing_reply.specs.Program.{most_bytes, no_words}
+use Rattle.timing_reply.specs.Program.{wordless}
 use Rattle.fault_report.specs.Report.{explanations}
 
 -- the faults by their causes, as the drawing has them, and how many there are
@@ -30,11 +29,4 @@ pub data IsExplained (text : List ℕ) : Outcome → List ℕ → Type 0 where
 
 -- it has no words
 abbrev pub explainer : Meaning Request Outcome
-explainer = record {
-  command_of = no_words;
-  reads = λ request. true;
-  most_bytes = λ read. most_bytes;
-  Replied = λ request text. IsExplained text;
-  ended = ended;
-  end_of = end_of;
-}
+explainer = wordless IsExplained

@@ -5,50 +5,28 @@ ghost use Rattle.std.specs.Io.KnownBytes.{IsAtEnd};
 ghost use Rattle.scald_base.specs.Device.{Rose, ReadsFront, ReadsPast};
 ghost use Rattle.program_call.specs.Program.{AreTold, IsAnswered, IsCutShort, asks, has_read, is_silent, speaks};
 ghost use Rattle.timing_reply.specs.Program.{most_bytes, no_words};
+ghost use Rattle.timing_reply.specs.Promise.{SettlesLoopless, may_count};
 ghost use Rattle.fault_report.specs.Answer.{explainer};
 ghost use Rattle.fault_account.specs.Laws.{LimitsAreShort, StepsAreShared};
 ghost use Rattle.fault_report.specs.Laws.{FaultsAreGrouped};
-ghost use Rattle.fault_report.specs.Promise.{SettlesLoopless, WritesExplanations, may_answer};
+ghost use Rattle.fault_report.specs.Promise.{WritesExplanations};
 
 use crate::replies::reply_to;
-use program_call::{Program, Reply, main_call};
-use scald_base::{CallEnd, NoMemory, Outcome, Sink, Source, Words};
+use program_call::{Reply, main_call};
+use scald_base::{NoMemory, Outcome, Sink, Source, Words};
 use std::alloc::Global;
-use timing_reply::{Request, read_no_words};
-
-/// The most bytes of a text.
-const MOST_BYTES: u32 = 4_194_304;
+use timing_reply::{Replier, Wordless};
 
 /// The program of explanations.
 pub struct ExplainProgram;
 
-impl Program for ExplainProgram {
-    ghost use Rattle.fault_report.specs.Answer.{explainer};
+impl Replier for ExplainProgram {
+    ghost use Rattle.fault_report.specs.Answer.{IsExplained};
 
-    type Command = Request;
+    ghost replied = { IsExplained };
 
-    type Outcome = Outcome;
-
-    ghost meaning = { explainer };
-
-    fn read_words(words: &Words) -> Result<Request, u32> {
-        read_no_words(words)
-    }
-
-    fn reads(_request: Request) -> bool {
-        true
-    }
-
-    fn most_bytes(_request: Request) -> u32 {
-        MOST_BYTES
-    }
-
-    fn reply(alloc: Global, _request: Request, text: &[u8]) -> Result<Reply<Outcome>, NoMemory> {
+    fn reply(alloc: Global, text: &[u8]) -> Result<Reply<Outcome>, NoMemory> {
         reply_to(alloc, text)
-    }
-
-    fn ended(end: CallEnd) -> Outcome {
-        Outcome::ended(end)
     }
 
     fn laws() {}
@@ -106,7 +84,7 @@ pub fn explain_main<S: Source, K: Sink>(
     // Which outcomes speak of a text, whichever it is, and why the others come. A sink that tells what it took
     // has a front of the answer's bytes after a failed write, and a source that tells its bytes had one past the
     // limit where the text is too long.
-    ensures given { speaks explainer result ≡ true → may_answer result ≡ true }
+    ensures given { speaks explainer result ≡ true → may_count result ≡ true }
     ensures read_first { has_read explainer result ≡ true → asks explainer words.now ≡ true }
     ensures read_fault { result ≡ Outcome.ReadFault → Rose (S.faults source.old) (S.faults source.new) }
     ensures write_fault { result ≡ Outcome.WriteFault → Rose (K.faults sink.old) (K.faults sink.new) }
@@ -129,5 +107,5 @@ pub fn explain_main<S: Source, K: Sink>(
     ensures short { LimitsAreShort }
     ensures shared { StepsAreShared }
 {
-    main_call::<ExplainProgram, S, K>(alloc, words, source, sink)
+    main_call::<Wordless<ExplainProgram>, S, K>(alloc, words, source, sink)
 }
