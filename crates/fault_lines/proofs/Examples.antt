@@ -1,8 +1,8 @@
 -- When the changes of a paragraph are, and how long they take, worked out on paper in a period of
 -- 400 ticks.
-use Rattle.std.specs.Prelude.{◌≡◌, ℕ, true, false, List, [], ◌∷◌, codes, Option, Some, None}
+use Rattle.std.specs.Prelude.{◌≡◌, ℕ, ◌≤◌, true, false, List, [], ◌∷◌, codes, Option, Some, None}
 use Rattle.std.specs.Fmt.{digits}
-use Rattle.std.proofs.Common.{refl}
+use Rattle.std.proofs.Common.{refl, arith}
 use Rattle.scald_base.specs.Clock.{back}
 use Rattle.scald_base.specs.Time.{Bounds, Header}
 use Rattle.scald_base.specs.declared.assertion.AssertSpec.TheVariants.{None as Unasserted}
@@ -16,15 +16,20 @@ use Rattle.flat_circuit.specs.declared.fault.PointKind.{PointKind}
 use Rattle.flat_circuit.specs.declared.fault.PointKind.TheVariants.{Setup, Hold}
 use Rattle.flat_circuit.specs.Circuit.{Circuit}
 use Rattle.fault_chain.specs.declared.chain.Link.{Link}
-use Rattle.fault_chain.specs.declared.chain.End.TheVariants.{Repeat, Undriven}
+use Rattle.fault_chain.specs.declared.chain.End.{End}
+use Rattle.fault_chain.specs.declared.chain.End.TheVariants.{Level, Repeat, Undriven, Both}
 use Rattle.fault_account.specs.declared.account.Side.{Side}
 use Rattle.fault_account.specs.declared.account.AtEdge.{AtEdge}
+use Rattle.fault_account.specs.declared.account.AtMark.{AtMark}
 use Rattle.fault_account.specs.declared.account.OfNet.{OfNet}
 use Rattle.fault_words.specs.Words.{tick_text}
 use Rattle.fault_lines.specs.declared.two_delays.Way.TheVariants.{Rise, Fall, Either}
 use Rattle.fault_lines.specs.TwoDelays.{delay_told, way_of, which_text}
-use Rattle.fault_lines.specs.Axis.{asserted_tick, broken_tick, change_tick, edge_tick, first_tick, net_tick, pulse_tick}
-use Rattle.fault_lines.specs.Lines.{breaks_text, input_of, is_one, moved_text, moves_text, sooner_of, when_text}
+use Rattle.fault_lines.specs.Axis.{asserted_tick, broken_tick, change_tick, edge_tick, first_tick, mark_tick, net_tick, pulse_tick}
+use Rattle.fault_lines.specs.Endings.{links_after}
+use Rattle.fault_lines.specs.Laws.{IsToldAt}
+use Rattle.fault_lines.specs.Lines.{breaks_text, input_of, is_one, late_line, late_lines, moved_text, moves_text, shorter_line, shorter_lines, sooner_of, when_text}
+use Rattle.fault_words.specs.declared.naming.Naming.TheVariants.{Whole}
 
 abbrev span : ℕ → ℕ → Bounds
 span least greatest = record { min = least; max = greatest }
@@ -216,3 +221,103 @@ stretches_of_change : (moved_text 400 C 90 0 ≡ codes "may change at tick 90") 
     × (moved_text 400 C 90 399 ≡ codes "is stable at no tick")
 unfolding digits tick_text
 stretches_of_change = (refl, refl, refl)
+
+-- in two slots side by side
+in_two_slots : (moves_text C 1 ≡ codes "is not stable") × (breaks_text R 1 ≡ codes "breaks that")
+in_two_slots = (refl, refl)
+
+-- ---- further examples
+
+abbrev ended : End → Side
+ended how = record { chain = record { links = rise ∷ []; end = how }; slot = 100; wire = span 0 0; unknown = [] }
+
+-- what an element gives, and what storage may be forced to, is no change of an input
+no_input : (input_of (ended Level) ≡ None) × (input_of (ended Both) ≡ None) × (input_of (ended Undriven) ≡ Some rise)
+no_input = (refl, refl, refl)
+
+late_or_not : (late_lines 0 ≡ []) × (late_lines 400 ≡ late_line 400)
+late_or_not = (refl, refl)
+
+-- The input changes from slot 398 to slot 8; the change in slot 3 is told, 10 ticks before the edge in slot 13. The
+-- first of them is not before tick 0, so the change is in the period after.
+abbrev over : AtEdge
+over =
+    record {
+      checker = 0;
+      asked = None;
+      kind = Setup;
+      value = C;
+      earlier = 2;
+      more = 8;
+      later = 3;
+      ahead = 10;
+      behind = 0;
+      reach = 5;
+      falls = false;
+      change = side (record { net = 0; slot = 3; value = C } ∷ []) 3;
+      clock = side (record { net = 0; slot = 13; value = R } ∷ []) 13;
+    }
+
+over_the_begin : (change_tick (circuit (span 0 0)) over ≡ 403) × (first_tick (circuit (span 0 0)) over ≡ 398) × (edge_tick (circuit (span 0 0)) over ≡ 413)
+unfolding change_tick back
+over_the_begin = (refl, refl, refl)
+
+-- a mark that takes 403 ticks to the slot of a change, or 3
+abbrev marked : AtMark
+marked =
+    record {
+      element = 0;
+      pin = 0;
+      marked = 1;
+      shown = C;
+      change = side (record { net = 0; slot = 103; value = C } ∷ []) 103;
+      mark = change 103;
+    }
+
+at_mark : (mark_tick (circuit (span 400 410)) marked ≡ 503) × (mark_tick (circuit (span 2 10)) marked ≡ 103)
+unfolding mark_tick back
+at_mark = (refl, refl)
+
+-- The last of 61 slots that break what is asserted from the first of them on is slot 50.
+late_in_it : (net_tick (circuit (span 0 0)) (asserted 100 50 60 50) ≡ 450) × (broken_tick (circuit (span 0 0)) (asserted 100 50 60 50) ≡ 390)
+    × (asserted_tick (circuit (span 0 0)) (asserted 100 50 60 50) ≡ 390)
+unfolding net_tick back
+late_in_it = (refl, refl, refl)
+
+-- Its end in slot 10 takes 408 ticks, so its begin in slot 5 is at tick 403 or later.
+abbrev ending : Side
+ending = side (record { net = 1; slot = 10; value = C } ∷ record { net = 0; slot = 2; value = R } ∷ []) 10
+
+of_short_pulse : pulse_tick (circuit (span 400 410)) (record { checker = 0; asked = None; high = true; width = 5; begin = side (record { net = 1; slot = 5; value = R } ∷ []) 5; end = ending }) ≡ 405
+unfolding pulse_tick back
+of_short_pulse = refl
+
+-- ---- a loop, and a pulse that becomes shorter
+
+abbrev on : ℕ → ℕ → Link
+on i slot = record { net = i; slot = slot; value = C }
+
+of_loop : (links_after 0 (on 1 9 ∷ on 0 8 ∷ on 1 7 ∷ on 0 6 ∷ []) ≡ on 1 7 ∷ on 0 6 ∷ []) × (links_after 2 (on 1 9 ∷ on 0 8 ∷ []) ≡ [])
+of_loop = (refl, refl)
+
+-- its begin takes 8 ticks through the buffer and its end 3; and of two nets, and of one link, nothing
+shorter : (shorter_lines Whole (circuit (span 2 10)) (on 1 8 ∷ on 0 0 ∷ []) (on 1 13 ∷ on 0 10 ∷ []) ≡ shorter_line Whole (circuit (span 2 10)) 1 5)
+    × (shorter_lines Whole (circuit (span 2 10)) (on 1 13 ∷ on 0 10 ∷ []) (on 1 8 ∷ on 0 0 ∷ []) ≡ [])
+    × (shorter_lines Whole (circuit (span 2 10)) (on 1 8 ∷ on 0 0 ∷ []) (on 1 13 ∷ on 1 10 ∷ []) ≡ [])
+    × (shorter_lines Whole (circuit (span 2 10)) (on 1 8 ∷ []) (on 1 13 ∷ on 0 10 ∷ []) ≡ [])
+unfolding back
+shorter = (refl, refl, refl, refl)
+
+-- ---- at a tick of its slot
+
+told_at : IsToldAt (circuit (span 2 10)) (change 103) 503
+unfolding back
+told_at = record { begins = omega arith; there = refl }
+
+-- at a tick of another slot, and before all that it takes has passed
+not_in_its_slot : IsToldAt (circuit (span 2 10)) (change 103) 504 → ⊥
+not_in_its_slot is = let clash : 104 ≡ 103 = is.there in absurd (omega (arith, clash))
+
+too_early : IsToldAt (circuit (span 400 410)) (change 103) 103 → ⊥
+unfolding back
+too_early is = let clash : 403 ≤ 103 = is.begins in absurd (omega (arith, clash))
