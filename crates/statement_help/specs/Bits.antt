@@ -49,7 +49,8 @@ range_bits (t ∷ ts) = if is_symbol 60 t.kind then inside_bits ts else Some 1
 
 -- ---- a term
 
--- the tokens after the formal of this name in the head of a macro, and none where it has no such formal
+-- the tokens after the formal of this name in the head of a macro, and none where it has no such
+-- formal
 abbrev pub formal_from : List ℕ → List ℕ → List Token → List Token
 formal_from text word [] = []
 formal_from text word (t ∷ ts) =
@@ -107,7 +108,8 @@ bits_text text head bits (t ∷ ts) =
     bits_word bits ++ (separator t.kind ++ bits_text text head (Some 0) ts)
     else bits_text text head (bits_with text head bits t ts) ts
 
--- Of a long list the first 256 tokens are looked at, so that the time stays in proportion to the text.
+-- Of a long list the first 256 tokens are looked at, so that the time stays in proportion to the
+-- text.
 unfoldable pub bits_line : List ℕ → List ℕ → List Token → List Token → List ℕ
 bits_line said text head connections =
     said ++ (bits_text text head (Some 0) (take 256 connections) ++ 10 ∷ [])

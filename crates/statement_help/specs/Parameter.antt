@@ -50,7 +50,8 @@ wrong_line text (Some t) twice = strange_line text t
 wrong_line text None (Some t) = twice_line text t
 wrong_line text None None = []
 
--- Of a long list the first 256 tokens are looked at, so that the time stays in proportion to the text.
+-- Of a long list the first 256 tokens are looked at, so that the time stays in proportion to the
+-- text.
 abbrev pub wrong_lines : List ℕ → Option Kind → List Token → List Token → List ℕ
 wrong_lines text kind head tokens = wrong_line text
     (first_strange text kind (braces head) false (take 256 (braces tokens)))

@@ -64,8 +64,8 @@ misfit_with is_output bits [] = None
 misfit_with is_output bits (t ∷ ts) =
     if bits == 0 then None else misfit_by is_output bits t (range_bits ts)
 
--- The formal's name, its width and that of a connection of so many bits, where they do not fit. What has no bits
--- is no connection.
+-- The formal's name, its width and that of a connection of so many bits, where they do not fit.
+-- What has no bits is no connection.
 abbrev pub misfit : Bool → Option ℕ → List Token → Option (Token × (ℕ × ℕ))
 misfit is_output None formals = None
 misfit is_output (Some bits) formals = misfit_with is_output bits (from_name formals)
@@ -79,8 +79,8 @@ abbrev pub misfit_or : Option (Token × (ℕ × ℕ)) → Option (Token × (ℕ 
 misfit_or (Some found) rest = Some found
 misfit_or None rest = rest
 
--- The first that does not fit, among the connections that begin with these tokens, the first of which has so many
--- bits before them.
+-- The first that does not fit, among the connections that begin with these tokens, the first of
+-- which has so many bits before them.
 abbrev pub misfit_from : List ℕ → List Token → List Token → Bool → Option ℕ → List Token →
     Option (Token × (ℕ × ℕ))
 misfit_from text head formals is_output bits [] = misfit is_output bits formals
@@ -99,7 +99,8 @@ abbrev pub found_line : List ℕ → Option (Token × (ℕ × ℕ)) → List ℕ
 found_line text None = []
 found_line text (Some found) = misfit_line (spelled text found.0) found.1.0 found.1.1
 
--- Of long lists the first 256 tokens are looked at, so that the time stays in proportion to the text.
+-- Of long lists the first 256 tokens are looked at, so that the time stays in proportion to the
+-- text.
 unfoldable pub misfit_in : List ℕ → List Token → List Token → List Token → Option (Token × (ℕ × ℕ))
 misfit_in text head statement used =
     misfit_from text head (take 256 (lists used)) false (Some 0) (take 256 (lists (after_kind statement)))

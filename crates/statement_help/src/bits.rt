@@ -80,7 +80,8 @@ pub fn range_bits(tokens: &[Token]) -> Option<u64>
     }
 }
 
-/// The tokens after the formal of this name in the head of a macro, and none where it has no such formal.
+/// The tokens after the formal of this name in the head of a macro, and none where it has no such
+/// formal.
 pub fn formal_from<'a>(text: &[u8], head: &'a [Token], word: &[u8]) -> &'a [Token]
     ensures { result.now ≡ formal_from text.now word.now head.now }
 {

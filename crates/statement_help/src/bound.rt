@@ -1,7 +1,7 @@
 //! Numbers that are out of their bounds, and by how much.
 //!
-//! Each function puts a line at the end of the bytes where a number is out of its bounds, and nothing else.
-//! Its one error is that memory ran out.
+//! Each function puts a line at the end of the bytes where a number is out of its bounds, and
+//! nothing else. Its one error is that memory ran out.
 
 ghost use Rattle.std.specs.Prelude.{◌≡◌, ◌++◌, OnOk};
 ghost use Rattle.statement_help.specs.Bound.{order_line, over_line, ends_pair, pair_lines, written_pair};

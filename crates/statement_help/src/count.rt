@@ -65,7 +65,8 @@ fn connections(tokens: &[Token]) -> u64
     }
 }
 
-/// So many inputs and outputs, and so many of them with a mark, where any has one, after these words.
+/// So many inputs and outputs, and so many of them with a mark, where any has one, after these
+/// words.
 #[tactic(auto, unfolding(crate::specs::Count::counted_line))]
 fn add_counted(
     out: &mut Bytes,

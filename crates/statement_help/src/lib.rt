@@ -1,9 +1,11 @@
-//! What is said of a statement that is refused for its numbers, its connections, its parameters or its bits.
+//! What is said of a statement that is refused for its numbers, its connections, its parameters or
+//! its bits.
 //!
-//! What it takes is read from the row of its kind (`specs/Row`) or the head of its macro, and what it has from
-//! its tokens: how many connections (`specs/Count`), which parameters (`specs/Parameter`), which delay and limits
-//! (`specs/Limit`, `specs/Bound`), how many bits (`specs/Bits`) and which ranges (`specs/Range`). `specs/UseHint`
-//! and `specs/Width` put these together, and `refusal_help` calls each for its kind of refusal.
+//! What it takes is read from the row of its kind (`specs/Row`) or the head of its macro, and what
+//! it has from its tokens: how many connections (`specs/Count`), which parameters
+//! (`specs/Parameter`), which delay and limits (`specs/Limit`, `specs/Bound`), how many bits
+//! (`specs/Bits`) and which ranges (`specs/Range`). `specs/UseHint` and `specs/Width` put these
+//! together, and `refusal_help` calls each for its kind of refusal.
 #![tactic(auto)]
 
 // what a kind takes

@@ -96,7 +96,8 @@ fn value_of(tokens: &[Token]) -> Option<u64>
     }
 }
 
-/// The value of a parameter in these braces, where it is written as a number, and 0 where it is not given.
+/// The value of a parameter in these braces, where it is written as a number, and 0 where it is not
+/// given.
 fn given(text: &[u8], braces: &[Token], word: &[u8]) -> Option<u64>
     ensures { result ≡ given text.now word.now braces.now }
 {

@@ -119,8 +119,8 @@ fn add_wrong(
     }
 }
 
-/// Which of the first parameters of a use of this kind, or of the macro with this head, is wrong. The tokens
-/// are those after the kind and the delay.
+/// Which of the first parameters of a use of this kind, or of the macro with this head, is wrong.
+/// The tokens are those after the kind and the delay.
 pub fn add_wrong_parameter(
     out: &mut Bytes,
     text: &[u8],
@@ -177,7 +177,8 @@ fn add_begin(out: &mut Bytes, name: &[u8]) -> Result<(), NoMemory>
     )
 }
 
-/// Which parameters a macro has, whose head begins with its name: the first of them, where there are many.
+/// Which parameters a macro has, whose head begins with its name: the first of them, where there
+/// are many.
 pub fn add_macro_parameters(out: &mut Bytes, text: &[u8], head: &[Token]) -> Result<(), NoMemory>
     ensures { OnOk result (out.new ≡ out.old ++ macro_lines text.now head.now) }
 {

@@ -49,7 +49,8 @@ fn strays(formal: &[Token], ends: (u64, u64)) -> Option<RangeFault>
     }
 }
 
-/// What is wrong with a range of these numbers of a name, by what comes after the name of its formal.
+/// What is wrong with a range of these numbers of a name, by what comes after the name of its
+/// formal.
 fn fault_of(formal: &[Token], ends: (u64, u64)) -> Option<RangeFault>
     ensures { result ≡ fault_of formal.now ends }
 {
@@ -88,8 +89,8 @@ fn fault_at(text: &[u8], head: &[Token], token: Token, rest: &[Token]) -> Option
     }
 }
 
-/// The first name of a statement whose range is wrong, in the macro with this head, and what is wrong with
-/// it. The statement ends with its first `;`.
+/// The first name of a statement whose range is wrong, in the macro with this head, and what is
+/// wrong with it. The statement ends with its first `;`.
 fn first_fault(text: &[u8], head: &[Token], statement: &[Token]) -> Option<(Token, RangeFault)>
     ensures { result ≡ first_fault text.now head.now statement.now }
 {

@@ -7,6 +7,7 @@ use element_kinds::{Check, Kind};
 use help_text::{Part, add_line};
 use scald_base::{Bytes, NoMemory};
 
+/// What is counted, where a kind takes at most so many inputs.
 fn input_note(most: u16) -> &'static [u8]
     ensures { result.now ≡ input_note most }
 {
@@ -17,6 +18,7 @@ fn input_note(most: u16) -> &'static [u8]
     }
 }
 
+/// Whether an input connection may have a mark.
 fn mark_note(kind: Kind) -> &'static [u8]
     ensures { result.now ≡ mark_note kind }
 {
@@ -27,6 +29,7 @@ fn mark_note(kind: Kind) -> &'static [u8]
     }
 }
 
+/// How many output connections a kind takes.
 fn output_note(kind: Kind) -> &'static [u8]
     ensures { result.now ≡ output_note kind }
 {
@@ -57,6 +60,7 @@ pub fn add_connections(out: &mut Bytes, kind: Kind) -> Result<(), NoMemory>
     )
 }
 
+/// Which delay a kind takes, after its name.
 fn delay_note(kind: Kind) -> &'static [u8]
     ensures { result.now ≡ delay_note kind }
 {
@@ -84,6 +88,7 @@ pub fn add_delay(out: &mut Bytes, kind: Kind) -> Result<(), NoMemory>
     )
 }
 
+/// Which parameters a kind takes, after its name.
 fn parameter_note(kind: Kind) -> &'static [u8]
     ensures { result.now ≡ parameter_note kind }
 {

@@ -147,7 +147,8 @@ fn next_formals(bits: Option<u64>, formals: &[Token]) -> &[Token]
     }
 }
 
-/// The first formal whose connection does not fit, with both widths: of a use in the macro with this head.
+/// The first formal whose connection does not fit, with both widths: of a use in the macro with
+/// this head.
 fn first_misfit(
     text: &[u8],
     head: &[Token],
@@ -226,7 +227,8 @@ fn add_found(
     }
 }
 
-/// Which connection of a use of the macro with the last head does not fit, in the macro with the first one.
+/// Which connection of a use of the macro with the last head does not fit, in the macro with the
+/// first one.
 fn add_fit(
     out: &mut Bytes,
     text: &[u8],
@@ -242,8 +244,8 @@ fn add_fit(
     }
 }
 
-/// How wide the connections of a use have to be, how wide they are, and which does not fit: of the macro with the
-/// last head, in the macro with the first one.
+/// How wide the connections of a use have to be, how wide they are, and which does not fit: of the
+/// macro with the last head, in the macro with the first one.
 fn add_widths_of(
     out: &mut Bytes,
     text: &[u8],
@@ -260,8 +262,9 @@ fn add_widths_of(
     add_fit(out, text, head, statement, used)
 }
 
-/// Puts how wide the connections of the use at the place have to be at the end of the bytes, how many bits they and
-/// the formals of its macro have, and which does not fit. The one error is that memory ran out.
+/// Puts how wide the connections of the use at the place have to be at the end of the bytes, how
+/// many bits they and the formals of its macro have, and which does not fit. The one error is that
+/// memory ran out.
 pub fn add_widths(
     out: &mut Bytes,
     text: &[u8],
