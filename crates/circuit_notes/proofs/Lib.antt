@@ -1,4 +1,5 @@
 pub mod Adding
+pub mod Anys
 pub mod Arriving
 pub mod Closing
 pub mod Deciding

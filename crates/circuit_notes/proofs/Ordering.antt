@@ -1,10 +1,8 @@
 -- The nets of no loop, in an order in which each follows those that lead to it.
-use Rattle.std.proofs.Common.{◌≡◌, ℕ, zero, suc, ◌+◌, ◌<◌, ◌≤◌, inl, inr, Bool, true, false, cond, List, [], ◌∷◌, length, map, get_or, refl, ap, sym, subst, ◌∙◌, arith, slice_get, Option, Some, None}
+use Rattle.std.proofs.Common.{◌≡◌, ℕ, zero, suc, ◌<◌, ◌≤◌, inl, inr, Bool, true, false, cond, List, [], ◌∷◌, length, map, get_or, refl, ap, sym, subst, ◌∙◌, arith, slice_get, Option, Some, None}
 use Rattle.std.specs.List.{All, filter_map, list_any, range_with_len}
 use Rattle.std.proofs.lemmas.Bool.{and_parts, and_from, eqb-true, eq-eqb, or_cases, or_left, or_right}
-use Rattle.std.proofs.lemmas.List.{length-map}
 use Rattle.std.proofs.lemmas.List.Elements.{All-from_get_or}
-use Rattle.std.proofs.lemmas.List.FromFn.{length-map-range_with_len}
 use Rattle.vector_names.specs.declared.bits.Target.{Target}
 use Rattle.vector_names.specs.declared.bits.Target.TheVariants.{Net as OnNet, Constant}
 use Rattle.flat_circuit.specs.declared.instance.Pin.{Pin}
@@ -15,9 +13,10 @@ use Rattle.flat_circuit.specs.Loop.{Reaches, By_one, And_then}
 use Rattle.flat_circuit.proofs.Driven.{get_none}
 use Rattle.flat_circuit.proofs.Numbered.{fits_of}
 use Rattle.node_order.specs.declared.node.Node.{Node}
-use Rattle.node_order.specs.Node.{Feeds, AreLoopless, AreInRange, feeders_of}
+use Rattle.node_order.specs.Node.{Feeds, AreLoopless, AreInRange, feeders_of, node_feeders}
 use Rattle.node_order.specs.Sorted.{IsSorted}
-use Rattle.circuit_notes.specs.Arrivals.{feeders_by, feeders_in, node_feeders, open_net, unlooped}
+use Rattle.node_order.proofs.Nodes.{feeders_are, feeds_as, nodes_long as made_long, reaches_map}
+use Rattle.circuit_notes.specs.Arrivals.{feeders_by, feeders_in, open_net, unlooped}
 use Rattle.circuit_notes.specs.Paths.{leads, Leads, passes_on, TellsLoops}
 use Rattle.circuit_notes.specs.Pins.{passes, target_net}
 
@@ -164,19 +163,7 @@ led_exists c known from net led = by (driver_at c.nets net) refl
     by None at = let no : false ≡ true = sym (ap (λ d. passes_on from (instance_in c d)) at) ∙ led in absurd cc
     by (Some k) at = by_instance k (slice_get c.instances k) refl (ap (instance_in c) at)
 
-reaches_map : {R S : ℕ → ℕ → Type 0} → ((i j : ℕ) → R i j → S i j) → {i j : ℕ} → Reaches R i j → Reaches S i j
-reaches_map f (By_one {i} {j} r) = By_one (f i j r)
-reaches_map f (And_then {i} {m} {j} r q) = And_then (f i m r) (reaches_map f q)
-
 -- ---- the nodes of the search
-
-pins_are : (nodes : List Node) (f : ℕ → List ℕ) (a n : ℕ) → map node_feeders nodes ≡ map f (range_with_len a n) → ((j : ℕ) → a + n ≤ j → f j ≡ []) →
-    (j i : ℕ) → a + j ≡ i → feeders_of nodes j ≡ f i
-pins_are [] f a zero e h j i q = sym (h i (omega arith))
-pins_are [] f a (suc n) e h j i q = absurd (cc)
-pins_are (x ∷ xs) f a zero e h j i q = absurd (cc)
-pins_are (x ∷ xs) f a (suc n) e h zero i q = let z : x.feeders.items ≡ f a = cc in let y : a ≡ i = omega arith in subst (λ v. x.feeders.items ≡ f v) y z
-pins_are (x ∷ xs) f a (suc n) e h (suc j) i q = pins_are xs f (a + 1) n (cc) (λ j l. h j (omega arith)) j i (omega arith)
 
 module _ (c : Circuit) (looped : ℕ → Bool) (nodes : List Node)
     (are : map node_feeders nodes ≡ map (feeders_in c looped) (range_with_len 0 (length c.nets))) where
@@ -191,7 +178,7 @@ module _ (c : Circuit) (looped : ℕ → Bool) (nodes : List Node)
       by false = ap (feeders_by looped) no_driver
 
   pub nodes_long : length nodes ≡ length c.nets
-  nodes_long = sym (length-map nodes node_feeders) ∙ ap length are ∙ length-map-range_with_len (feeders_in c looped) 0 (length c.nets)
+  nodes_long = made_long nodes (feeders_in c looped) (length c.nets) are
 
   -- an order that was read from where it lies, of nodes that were read so too
   pub order_is : (read : List Node) (order items : List ℕ) → read ≡ nodes → items ≡ order →
@@ -202,15 +189,13 @@ module _ (c : Circuit) (looped : ℕ → Bool) (nodes : List Node)
       (subst (IsSorted (feeders_of read) (length read)) (sym items_are) sorted))
 
   pub node_is : (k : ℕ) → feeders_of nodes k ≡ feeders_in c looped k
-  node_is k = pins_are nodes (feeders_in c looped) 0 (length c.nets) are (λ j past. none_past j (omega (arith, past))) k k (omega arith)
+  node_is = feeders_are nodes (feeders_in c looped) (length c.nets) are none_past
 
   pub node_feeds : (from net : ℕ) → Feeds (feeders_of nodes) from net → FeedsFree c looped from net
-  node_feeds from net f = feeds_free c looped from net (record { at = f.at; below = rw (node_is net) at f.below; is = rw (node_is net) at f.is })
+  node_feeds from net f = feeds_free c looped from net (feeds_as (feeders_of nodes) (feeders_in c looped) node_is from net f)
 
   pub feeds_node : (from net : ℕ) → FeedsFree c looped from net → Feeds (feeders_of nodes) from net
-  feeds_node from net f =
-      let g = free_feeds c looped from net f in
-      record { at = g.at; below = rw (node_is net) g.below; is = rw (node_is net) g.is }
+  feeds_node from net f = feeds_as (feeders_in c looped) (feeders_of nodes) (λ k. sym (node_is k)) from net (free_feeds c looped from net f)
 
   -- what leads to a net exists, since the pins of its driver do
   pub nodes_in : IsCircuit c → AreInRange nodes

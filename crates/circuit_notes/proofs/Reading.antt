@@ -1,19 +1,20 @@
 -- The nets that pins are on, marked pin by pin and instance by instance.
-use Rattle.std.proofs.Common.{◌≡◌, ℕ, zero, suc, ◌+◌, ◌<◌, ◌==◌, ◌||◌, Bool, true, false, cond, List, [], ◌∷◌, length, take, get_or, refl, sym, ap, ◌∙◌, arith}
+use Rattle.std.proofs.Common.{◌≡◌, ℕ, ◌+◌, ◌<◌, ◌==◌, ◌||◌, Bool, true, false, cond, List, [], ◌∷◌, length, take, get_or, refl, sym, ap, ◌∙◌}
 use Rattle.std.specs.List.{list_any}
 use Rattle.std.proofs.Math.ListN.{set}
-use Rattle.std.proofs.Math.Bool.{or-false}
+use Rattle.std.proofs.Math.Bool.{or-false, or_assoc}
 use Rattle.std.proofs.lemmas.List.{length-set}
 use Rattle.std.proofs.lemmas.List.Folds.{list_any_more}
 use Rattle.vector_names.specs.declared.bits.Target.{Target}
 use Rattle.vector_names.specs.declared.bits.Target.TheVariants.{Net as OnNet, Constant}
 use Rattle.flat_circuit.specs.declared.instance.Pin.{Pin}
 use Rattle.flat_circuit.specs.declared.instance.Instance.{Instance}
-use Rattle.flat_circuit.specs.Instances.{is_on, pins_at}
+use Rattle.flat_circuit.specs.Instances.{is_on, pins_at, pins_of}
 use Rattle.flat_circuit.specs.Circuit.{Circuit}
 use Rattle.fixpoint_engine.specs.Settled.{marked_in}
 use Rattle.fixpoint_engine.proofs.Waiting.{marked_set}
 use Rattle.circuit_notes.specs.Unread.{MarksPins, has_pin_on, is_read, is_unread, unread_at, unread_line}
+use Rattle.circuit_notes.proofs.Anys.{any_more}
 
 abbrev on_net : ℕ → Pin → Bool
 on_net i p = is_on i p.target
@@ -40,10 +41,6 @@ marks_constant marks p b on = record {
   marks = λ i. sym (or-false (marked_in marks i)) ∙ ap (λ (t : Target). marked_in marks i || (is_on i t || false)) (sym on);
 }
 
-or_assoc : (a b c : Bool) → ((a || b) || c) ≡ (a || (b || c))
-or_assoc true b c = refl
-or_assoc false b c = refl
-
 -- one pin more
 pub marks_more : (pins : List Pin) (k : ℕ) (p : Pin) (old between new : List Bool) → k < length pins → get_or pins k p ≡ p →
     MarksPins (take k pins) old between → MarksPins (p ∷ []) between new → MarksPins (take (k + 1) pins) old new
@@ -59,13 +56,6 @@ marks_more pins k p old between new below at before one = record {
 
 -- ---- instance by instance
 
-read_suc : (js : List Instance) (k i : ℕ) → is_read (take (suc k) js) i ≡ (is_read (take k js) i || list_any (on_net i) (pins_at js k))
-read_suc [] zero i = refl
-read_suc [] (suc k) i = refl
-read_suc (j ∷ js) zero i = or-false (has_pin_on i j)
-read_suc (j ∷ js) (suc k) i =
-    ap (λ b. has_pin_on i j || b) (read_suc js k i) ∙ sym (or_assoc (has_pin_on i j) (is_read (take k js) i) (list_any (on_net i) (pins_at js k)))
-
 -- Of so many instances the nets are marked that their pins are on.
 pub record ReadTo (js : List Instance) (nets k : ℕ) (marks : List Bool) : Type 0 where
   pub each_net : length marks ≡ nets
@@ -74,8 +64,8 @@ pub record ReadTo (js : List Instance) (nets k : ℕ) (marks : List Bool) : Type
 pub read_more : (js : List Instance) (nets k : ℕ) (old new : List Bool) → ReadTo js nets k old → MarksPins (pins_at js k) old new → ReadTo js nets (k + 1) new
 read_more js nets k old new before one = record {
   each_net = one.each_net ∙ before.each_net;
-  are = λ i. one.marks i ∙ ap (λ b. b || list_any (on_net i) (pins_at js k)) (before.are i) ∙ sym (read_suc js k i)
-      ∙ ap (λ n. is_read (take n js) i) (let e : suc k ≡ k + 1 = omega arith in e);
+  are = λ i. one.marks i ∙ ap (λ b. b || list_any (on_net i) (pins_at js k)) (before.are i)
+      ∙ sym (any_more (has_pin_on i) (λ j. list_any (on_net i) (pins_of j)) refl (λ j. refl) js k);
 }
 
 -- ---- nets that nothing reads

@@ -1,5 +1,5 @@
 -- What the checkers of setup and hold see, gathered one instance after the other.
-use Rattle.std.proofs.Common.{◌≡◌, ℕ, zero, suc, ◌+◌, ◌==◌, ◌&&◌, ◌||◌, Bool, true, false, cond, List, [], ◌∷◌, ◌++◌, take, refl, sym, ap, ◌∙◌, arith, slice_get, Option, Some, None}
+use Rattle.std.proofs.Common.{◌≡◌, ℕ, ◌+◌, ◌==◌, ◌&&◌, ◌||◌, Bool, true, false, cond, List, [], ◌∷◌, ◌++◌, take, refl, sym, ap, ◌∙◌, slice_get, Option, Some, None}
 use mathlib.Core.Bool.{beq}
 use Rattle.std.specs.Cmp.{booleans_Decides}
 use Rattle.std.specs.List.{list_any}
@@ -14,10 +14,7 @@ use Rattle.flat_circuit.specs.Circuit.{Circuit}
 use Rattle.circuit_notes.specs.declared.unchecked.Sampling.{Sampling}
 use Rattle.circuit_notes.specs.Pins.{is_latch}
 use Rattle.circuit_notes.specs.Unchecked.{AreSeen, is_among, is_checked, is_it, is_same, sampling_of, seen_by, sees, turned}
-
-or_assoc : (a b c : Bool) → ((a || b) || c) ≡ (a || (b || c))
-or_assoc true b c = refl
-or_assoc false b c = refl
+use Rattle.circuit_notes.proofs.Anys.{any_more, kept_same}
 
 sees_by : (s : Sampling) (j : Instance) (b : Bool) → checks_points j.kind ≡ b → sees s j ≡ is_it s (cond b (sampling_of j) None)
 sees_by s j true is = ap (λ b. b && is_it s (sampling_of j)) is
@@ -25,14 +22,6 @@ sees_by s j false is = ap (λ b. b && is_it s (sampling_of j)) is
 
 sees_seen : (s : Sampling) (j : Instance) → sees s j ≡ is_it s (seen_by (Some j))
 sees_seen s j = sees_by s j (checks_points j.kind) refl
-
--- of one instance more
-pub seen_suc : (s : Sampling) (js : List Instance) (k : ℕ) → list_any (sees s) (take (suc k) js) ≡ (list_any (sees s) (take k js) || is_it s (seen_by (slice_get js k)))
-seen_suc s [] zero = refl
-seen_suc s [] (suc k) = refl
-seen_suc s (j ∷ js) zero = or-false (sees s j) ∙ sees_seen s j
-seen_suc s (j ∷ js) (suc k) =
-    ap (λ b. sees s j || b) (seen_suc s js k) ∙ sym (or_assoc (sees s j) (list_any (sees s) (take k js)) (is_it s (seen_by (slice_get js k))))
 
 -- A sampling is put to those that are seen, where there is one.
 abbrev pub Puts : Option Sampling → List Sampling → List Sampling → Type 0
@@ -49,11 +38,6 @@ same_is s t is =
     let inverted = (booleans_Decides s.inverted t.inverted).0 others.0 in
     let input = eqb-true s.input t.input others.1 in
     λ k. record { clock = clock k; inverted = inverted k; input = input k }
-
-kept_same : (a b : Bool) → (b ≡ true → a ≡ true) → a ≡ (a || b)
-kept_same true b then_ = refl
-kept_same false true then_ = then_ refl
-kept_same false false then_ = refl
 
 pub puts_key : (eq : Sampling → Sampling → Bool) → ((a b : Sampling) → eq a b ≡ is_same a b) → (old new : List Sampling) (k : Sampling) →
     new ≡ insert_key eq old k → Puts (Some k) old new
@@ -73,8 +57,7 @@ puts_key eq same old new k put s = by (list_any (eq k) old) refl
 
 pub seen_more : (js : List Instance) (k : ℕ) (old new : List Sampling) → AreSeen (take k js) old → Puts (seen_by (slice_get js k)) old new → AreSeen (take (k + 1) js) new
 seen_more js k old new before puts s =
-    puts s ∙ ap (λ b. b || is_it s (seen_by (slice_get js k))) (before s) ∙ sym (seen_suc s js k)
-    ∙ ap (λ n. list_any (sees s) (take n js)) (let e : suc k ≡ k + 1 = omega arith in e)
+    puts s ∙ ap (λ b. b || is_it s (seen_by (slice_get js k))) (before s) ∙ sym (any_more (sees s) (λ j. is_it s (seen_by j)) refl (sees_seen s) js k)
 
 -- ---- all of them
 

@@ -5,7 +5,6 @@ use Rattle.std.specs.Option.{option_map}
 use Rattle.flat_circuit.specs.declared.instance.Pin.{Pin}
 use Rattle.flat_circuit.specs.declared.instance.Instance.{Instance}
 use Rattle.flat_circuit.specs.Circuit.{Circuit, driver, driver_at}
-use Rattle.node_order.specs.declared.node.Node.{Node}
 use Rattle.circuit_notes.specs.declared.launched.Arrival.{Arrival}
 use Rattle.circuit_notes.specs.Pins.{is_storage, passes, target_net}
 use Rattle.circuit_notes.specs.Late.{behind_wire}
@@ -71,6 +70,3 @@ feeders_by looped (Some j) = if passes j.kind then filter_map (open_net looped) 
 
 abbrev pub feeders_in : Circuit → (ℕ → Bool) → ℕ → List ℕ
 feeders_in c looped net = if looped net then [] else feeders_by looped (driver c net)
-
-abbrev pub node_feeders : Node → List ℕ
-node_feeders n = n.feeders.items

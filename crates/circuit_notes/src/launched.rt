@@ -3,7 +3,8 @@
 ghost use Rattle.std.specs.Prelude.{◌≡◌, ◌<◌, ◌≤◌, ◌++◌, ◌*◌, ◌+◌, ◌^◌, ℕ, IfOk, IfSome, None, length, map, replicate};
 ghost use Rattle.std.specs.List.{filter_map, range_with_len};
 ghost use Rattle.flat_circuit.specs.Circuit.{wire_at};
-ghost use Rattle.circuit_notes.specs.Arrivals.{AreSmall, IsBehind, arrival_at, at_pin, feeders_in, latest_at, later, made_at, node_feeders, open_net};
+ghost use Rattle.node_order.specs.Node.{node_feeders};
+ghost use Rattle.circuit_notes.specs.Arrivals.{AreSmall, IsBehind, arrival_at, at_pin, feeders_in, latest_at, later, made_at, open_net};
 ghost use Rattle.circuit_notes.specs.Late.{behind_wire};
 ghost use Rattle.circuit_notes.specs.Parts.{together};
 ghost use Rattle.circuit_notes.specs.Paths.{TellsArrivals, TellsLoops, is_looped};

@@ -1,6 +1,5 @@
 -- Statements one after another, and one of each kind.
-use Rattle.std.proofs.Common.{◌≡◌, ◌≢◌, ℕ, ◌+◌, ◌<◌, ℤ, pos, List, [], ◌++◌, length, drop, get_or, Result, Ok, Err, refl, ap, sym, ◌∙◌, arith}
-use Rattle.std.specs.Prelude.{OnOk}
+use Rattle.std.proofs.Common.{◌≡◌, ◌≢◌, ℕ, ◌+◌, ◌<◌, ℤ, pos, List, [], ◌++◌, length, drop, get_or, Ok, Err, refl, ap, sym, ◌∙◌, arith}
 use Rattle.std.proofs.lemmas.List.{append_assoc}
 use Rattle.scald_base.specs.declared.refusal.RefusalKind.{RefusalKind}
 use Rattle.drawing_tree.specs.declared.statement.Stmt.{Stmt}
@@ -16,10 +15,6 @@ use Rattle.macro_expander.proofs.Gathered.{next_of}
 use Rattle.spread_names.specs.declared.spread.Spread.{Spread}
 use Rattle.spread_names.specs.Spreads.{if_chosen, in_otherwise, spreading_at}
 use Rattle.spread_names.specs.Walk.{in_all, in_one, seen}
-
-pub on_ok : {A E P Q : Type 0} (r : Result A E) → (P → Q) → OnOk r P → OnOk r Q
-on_ok (Ok a) next h = next h
-on_ok (Err e) next h = tt
 
 -- ---- one after another
 

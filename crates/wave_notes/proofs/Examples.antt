@@ -1,7 +1,7 @@
 -- Notes on waves and on names that are spread, worked out on paper: each kind where it comes and where it just does not.
-use Rattle.std.specs.Prelude.{◌≡◌, ℕ, ◌==◌, Bool, true, false, ◌&&◌, ◌||◌, List, [], ◌∷◌, codes, map, if◌then◌else◌, None}
+use Rattle.std.specs.Prelude.{◌≡◌, ℕ, zero, suc, ◌==◌, Bool, true, false, ◌&&◌, ◌||◌, List, [], ◌∷◌, codes, length, map, if◌then◌else◌, None}
 use Rattle.std.specs.Fmt.{digits}
-use Rattle.std.proofs.Common.{refl}
+use Rattle.std.proofs.Common.{arith, refl, sym, ap, subst, ◌∙◌}
 use Rattle.scald_base.specs.Clock.{back}
 use Rattle.scald_base.specs.Time.{Header}
 use Rattle.scald_base.specs.declared.assertion.AssertSpec.TheVariants.{None as Unasserted}
@@ -18,11 +18,15 @@ use Rattle.flat_circuit.specs.declared.instance.Pin.{Pin}
 use Rattle.flat_circuit.specs.declared.instance.Instance.{Instance}
 use Rattle.flat_circuit.specs.declared.net.Net.{Net}
 use Rattle.flat_circuit.specs.Circuit.{Circuit}
+use Rattle.fixpoint_engine.specs.Settled.{marked_in}
 use Rattle.timing_analysis.specs.Case.{Case}
+use Rattle.circuit_notes.specs.Told.{Told, Adds}
 use Rattle.spread_names.specs.declared.spread.Spread.{Spread}
-use Rattle.wave_notes.specs.Common.{common, common_line, greatest_skew}
+use Rattle.wave_notes.specs.declared.cases.SoFar.{SoFar}
+use Rattle.wave_notes.specs.Common.{common, common_line, greatest_skew, skew_at}
+use Rattle.wave_notes.specs.SoFar.{HoldsOf}
 use Rattle.wave_notes.specs.Spread.{spread, spread_line}
-use Rattle.wave_notes.specs.Unclocked.{is_active, unclocked, unclocked_line}
+use Rattle.wave_notes.specs.Unclocked.{AreActs, is_active, unclocked, unclocked_line}
 use Rattle.wave_notes.specs.Unknown.{unknown, unknown_line}
 
 -- ---- circuits over a period of four ticks
@@ -153,3 +157,70 @@ skew_of_a_clock = refl
 
 not_launched : common checked (λ clock i. false) (greatest_skew skewed_cases) ≡ []
 not_launched = refl
+
+-- ---- what the cases so far tell
+
+-- A clocks the first, and B, which is steady, the second
+abbrev registers : Circuit
+registers = of (instance (codes "r1") Reg (on 0 ∷ on 1 ∷ []) ∷ instance (codes "r2") Reg (on 1 ∷ on 0 ∷ []) ∷ [])
+
+-- A is low with a skew of two ticks, and then unknown for a slot with a skew of one
+abbrev two_cases : List Case
+two_cases = case 1 (wave (Zero ∷ Zero ∷ Zero ∷ Zero ∷ []) 2) ∷ case 2 (wave (Zero ∷ Zero ∷ U ∷ One ∷ []) 1) ∷ []
+
+acts_in_the_second : AreActs registers two_cases (true ∷ false ∷ [])
+unfolding moved normal earlier back
+acts_in_the_second zero inside = refl
+acts_in_the_second (suc zero) inside = refl
+acts_in_the_second (suc (suc k)) inside = absurd (omega (arith, inside))
+
+acts_in_none : AreActs registers (case 1 (wave (Zero ∷ Zero ∷ Zero ∷ Zero ∷ []) 2) ∷ []) (false ∷ false ∷ [])
+unfolding moved normal earlier back
+acts_in_none zero inside = refl
+acts_in_none (suc zero) inside = refl
+acts_in_none (suc (suc k)) inside = absurd (omega (arith, inside))
+
+-- one instance for the other
+acts_of_the_other : AreActs registers two_cases (false ∷ true ∷ []) → ⊥
+unfolding moved normal earlier back
+acts_of_the_other are = let no : false ≡ true = are 0 (omega arith) in absurd (cc)
+
+abbrev nothing : Told
+nothing = record { bytes = []; count = 0 }
+
+abbrev one_note : Told
+one_note = record { bytes = codes "NOTE UNKNOWN CASE 2 NETS 1 A<0>\n"; count = 1 }
+
+one_is_added : Adds nothing one_note (unknown registers two_cases)
+unfolding digits unknown_line
+one_is_added = record { bytes = refl; count = refl }
+
+skew_of_each : (i : ℕ) → skew_at (2 ∷ 0 ∷ 0 ∷ []) i ≡ greatest_skew two_cases i
+skew_of_each zero = refl
+skew_of_each (suc zero) = refl
+skew_of_each (suc (suc zero)) = refl
+skew_of_each (suc (suc (suc i))) = refl
+
+all_is_told : (s : SoFar) → s.acts.items ≡ true ∷ false ∷ [] → s.skews.items ≡ 2 ∷ 0 ∷ 0 ∷ [] → s.unknown ≡ one_note → HoldsOf s registers two_cases
+all_is_told s marks_are skews_are notes_are = record {
+  each_instance = ap length marks_are;
+  each_net = ap length skews_are;
+  acts = subst (AreActs registers two_cases) (sym marks_are) acts_in_the_second;
+  skews = λ i. ap (λ (xs : List ℕ). skew_at xs i) skews_are ∙ skew_of_each i;
+  unknown_notes = subst (λ (t : Told). Adds nothing t (unknown registers two_cases)) (sym notes_are) one_is_added;
+}
+
+module _ (s : SoFar) (holds : HoldsOf s registers two_cases) where
+  never_the_last_skew : s.skews.items ≡ 1 ∷ 0 ∷ 0 ∷ [] → ⊥
+  never_the_last_skew skews_are = let no : 1 ≡ 2 = sym (ap (λ (xs : List ℕ). skew_at xs 0) skews_are) ∙ holds.skews 0 in absurd (omega (arith, no))
+
+  never_a_net_less : s.skews.items ≡ 2 ∷ 0 ∷ [] → ⊥
+  never_a_net_less skews_are = let no : 2 ≡ 3 = sym (ap length skews_are) ∙ holds.each_net in absurd (omega (arith, no))
+
+  never_without_its_note : s.unknown ≡ nothing → ⊥
+  never_without_its_note none = let no : 0 ≡ 1 = sym (ap (λ (t : Told). t.count) none) ∙ holds.unknown_notes.count in absurd (omega (arith, no))
+
+  never_a_steady_clock : s.acts.items ≡ true ∷ true ∷ [] → ⊥
+  unfolding moved normal earlier back
+  never_a_steady_clock marks_are =
+      let no : true ≡ false = sym (ap (λ (ms : List Bool). marked_in ms 1) marks_are) ∙ holds.acts 1 (omega arith) in absurd (cc)

@@ -1,5 +1,5 @@
 -- The names of which there are other bits, one net after the other.
-use Rattle.std.proofs.Common.{◌≡◌, ℕ, zero, suc, ◌+◌, ◌<◌, ◌==◌, ◌&&◌, ◌||◌, not, Bool, true, false, List, [], ◌∷◌, ◌++◌, length, take, get_or, refl, sym, ap, subst, ◌∙◌, arith, append-nil, slice_get, Option, Some}
+use Rattle.std.proofs.Common.{◌≡◌, ℕ, ◌+◌, ◌<◌, ◌==◌, ◌&&◌, ◌||◌, not, Bool, true, false, List, [], ◌∷◌, ◌++◌, length, take, get_or, refl, sym, ap, subst, ◌∙◌, append-nil, slice_get, Option, Some}
 use Rattle.std.specs.Global.{Vec}
 use Rattle.std.specs.List.{flat_map, list_any}
 use Rattle.std.specs.Prelude.{if◌then◌else◌}
@@ -13,34 +13,17 @@ use Rattle.indexmap.specs.IndexSet.{insert_key}
 use Rattle.flat_circuit.specs.declared.net.Net.{Net}
 use Rattle.circuit_notes.specs.Told.{Told, Adds}
 use Rattle.circuit_notes.proofs.Adding.{adds_both}
+use Rattle.circuit_notes.proofs.Anys.{any_more, kept_same}
 use Rattle.wave_notes.specs.Spread.{AreNames, is_among, is_other_bit, is_other_of}
 
-or_assoc : (a b c : Bool) → ((a || b) || c) ≡ (a || (b || c))
-or_assoc true b c = refl
-or_assoc false b c = refl
-
 -- of one net more
-others_suc : (name : List ℕ) (nets : List Net) (k : ℕ) →
-    list_any (is_other_bit name) (take (suc k) nets) ≡ (list_any (is_other_bit name) (take k nets) || is_other_of (slice_get nets k) name)
-others_suc name [] zero = refl
-others_suc name [] (suc k) = refl
-others_suc name (n ∷ nets) zero = or-false (is_other_bit name n)
-others_suc name (n ∷ nets) (suc k) =
-    ap (λ b. is_other_bit name n || b) (others_suc name nets k)
-    ∙ sym (or_assoc (is_other_bit name n) (list_any (is_other_bit name) (take k nets)) (is_other_of (slice_get nets k) name))
-
 pub names_more : (nets : List Net) (k : ℕ) (old new : List (Vec ℕ)) → AreNames (take k nets) old →
     ((name : List ℕ) → is_among new name ≡ (is_among old name || is_other_of (slice_get nets k) name)) → AreNames (take (k + 1) nets) new
 names_more nets k old new before put name =
-    put name ∙ ap (λ b. b || is_other_of (slice_get nets k) name) (before name) ∙ sym (others_suc name nets k)
-    ∙ ap (λ n. list_any (is_other_bit name) (take n nets)) (let e : suc k ≡ k + 1 = omega arith in e)
+    put name ∙ ap (λ b. b || is_other_of (slice_get nets k) name) (before name)
+    ∙ sym (any_more (is_other_bit name) (λ o. is_other_of o name) refl (λ n. refl) nets k)
 
 -- ---- a name is put
-
-kept_same : (a b : Bool) → (b ≡ true → a ≡ true) → a ≡ (a || b)
-kept_same true b then_ = refl
-kept_same false true then_ = then_ refl
-kept_same false false then_ = refl
 
 pub puts_name : {eq : Vec ℕ → Vec ℕ → Bool} (old new : List (Vec ℕ)) (k : Vec ℕ) → new ≡ insert_key eq old k →
     ((a b : Vec ℕ) → eq a b ≡ bytes_eq a.items b.items) → (name : List ℕ) → is_among new name ≡ (is_among old name || bytes_eq name k.items)

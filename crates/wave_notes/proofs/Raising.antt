@@ -7,7 +7,8 @@ use Rattle.step_values.specs.declared.value.Value.{Value}
 use Rattle.skew_algebra.specs.Wave.{Wave, skewed}
 use Rattle.net_waves.specs.Waves.{Waves, waves_of}
 use Rattle.timing_analysis.specs.Case.{Case}
-use Rattle.wave_notes.specs.Common.{AreRaised, greatest, greatest_skew, skew_at}
+use Rattle.macro_expander.specs.Primitives.{greatest}
+use Rattle.wave_notes.specs.Common.{AreRaised, greatest_skew, skew_at}
 use Rattle.wave_notes.proofs.Stepped.{SteppedTo}
 
 greatest_push : (ns : List ℕ) (n : ℕ) → greatest (ns ++ n ∷ []) ≡ max (greatest ns) n

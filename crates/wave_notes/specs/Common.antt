@@ -2,6 +2,7 @@
 use Rattle.std.specs.Prelude.{◌≡◌, ℕ, nat_lt, Bool, ◌&&◌, List, [], ◌∷◌, length, map, codes, decimal, max, slice_get, slice_index_or, if◌then◌else◌, Option, Some, None}
 use Rattle.std.specs.List.{flat_map, range_with_len}
 use Rattle.element_kinds.specs.Kinds.{checks_points}
+use Rattle.macro_expander.specs.Primitives.{greatest}
 use Rattle.flat_circuit.specs.declared.instance.Instance.{Instance}
 use Rattle.flat_circuit.specs.Circuit.{Circuit}
 use Rattle.step_values.specs.declared.value.Value.{Value}
@@ -13,11 +14,6 @@ use Rattle.listing.specs.Names.{instance_text, net_text}
 use Rattle.circuit_notes.specs.Pins.{clock_of, input_of, pin_net}
 
 -- ---- skews
-
--- of several, the greatest
-abbrev pub greatest : List ℕ → ℕ
-greatest [] = 0
-greatest (n ∷ ns) = max n (greatest ns)
 
 -- the greatest skew that a net's wave has in a case
 abbrev pub greatest_skew : List Case → ℕ → ℕ

@@ -1,7 +1,8 @@
 use Rattle.std.proofs.Common.{[], ◌∷◌, ◌++◌, map, ap, sym, ◌∙◌, arith}
 use Rattle.std.proofs.lemmas.List.{map-append}
 use Rattle.std.proofs.lemmas.List.FromFn.{map-range_with_len_more}
-use Rattle.circuit_notes.specs.Arrivals.{feeders_in, node_feeders}
+use Rattle.node_order.specs.Node.{node_feeders}
+use Rattle.circuit_notes.specs.Arrivals.{feeders_in}
 use Rattle.circuit_notes.specs.Parts.{together}
 use Rattle.circuit_notes.specs.Paths.{is_looped}
 use Rattle.circuit_notes.proofs.launched.nodes.Goals as goal

@@ -1,6 +1,7 @@
 use Rattle.std.proofs.Common.{◌≡◌, map}
 use Rattle.std.specs.List.{range_with_len}
-use Rattle.circuit_notes.specs.Arrivals.{feeders_in, node_feeders}
+use Rattle.node_order.specs.Node.{node_feeders}
+use Rattle.circuit_notes.specs.Arrivals.{feeders_in}
 use Rattle.circuit_notes.specs.Parts.{together}
 use Rattle.circuit_notes.specs.Paths.{is_looped}
 use Rattle.circuit_notes.proofs.launched.nodes.Given as goal

@@ -3,6 +3,7 @@ use Rattle.std.proofs.lemmas.Int.{ints}
 use borrow.Author.Gap.{gap_up, read_sfits}
 use Rattle.std.specs.Result.{result_ok}
 use Rattle.std.specs.Str.{bytes_eq}
+use Rattle.std.proofs.lemmas.Result.{on_ok_weaker}
 use Rattle.drawing_tree.specs.declared.statement.Stmt.{Stmt}
 use Rattle.drawing_tree.specs.Tree.{Macro, for_of, macro_of, statements_of, use_of}
 use Rattle.macro_expander.specs.Library.{macros_in}
@@ -12,7 +13,6 @@ use Rattle.spread_names.specs.Walk.{in_one, seen}
 use Rattle.spread_names.proofs.Sizes.{found_below, level_smaller, one_smaller, size_of_all}
 use Rattle.spread_names.proofs.Turning.{for_turns, turns_done, turns_more}
 use Rattle.spread_names.proofs.Using.{no_body, of_macro, ranges, used_macro}
-use Rattle.spread_names.proofs.Walking.{on_ok}
 use Rattle.spread_names.proofs.walk.+walk.Goals as goal
 
 pub in_statements-in_statement-requires : goal.in_statements-in_statement-requires
@@ -64,7 +64,7 @@ in_for-returns t c =
     let v : ℤ = to_z w64 c.turns.value-bits in
     let last : ℤ = to_z w64 (of_z w64 c.in-Ok.ends.1) in
     let at_last : v ≡ last = omega (arith, ints, c.turns-test.false, went.within) in
-    on_ok c.in_statements-2.result (λ more. turns_done c.args.library.now c.args.levels c.args.repeated.now c.args.scope.now v last c.turns.inner went.inner
+    on_ok_weaker c.in_statements-2.result (λ more. turns_done c.args.library.now c.args.levels c.args.repeated.now c.args.scope.now v last c.turns.inner went.inner
     c.turns.found c.in_statements-2.new.found (c.args.found.now ++ in_one c.args.library.now c.args.levels (for_of c.args.repeated.now) c.args.scope.now)
     went.told (rw c.as_slice-body.ensures.value at more) at_last) c.in_statements-2.ensures
 
@@ -112,7 +112,7 @@ in_use-returns t c =
     let is : Some c.in-Some-2.inside ≡ result_ok (inside_at l.consts m (seen c.args.scope.now) u) = sym c.in-Some-2.is ∙ c.in_ok-inside.ensures in
     let over = rw (c.as_slice-3.ensures, c.as_slice-4.ensures) at c.in_ok-in_formals.ensures in
     let inner = rw c.as_slice-5.ensures at c.in_ok-inner.ensures in
-    on_ok c.in_statements.result (λ more.
+    on_ok_weaker c.in_statements.result (λ more.
     used_macro l c.args.levels u c.args.scope.now m c.in-Some-2.inside is
     (of_macro l c.args.levels u c.args.scope.now (Some m)
     (rw c.as_slice.ensures at c.in_default.ensures) (rw c.as_slice-2.ensures at c.in-Some-find.ensures))

@@ -1,7 +1,7 @@
 use Rattle.std.proofs.Common.{sym, subst, ◌∙◌}
+use Rattle.std.proofs.lemmas.Result.{on_ok_weaker}
 use Rattle.circuit_notes.specs.Told.{Adds}
 use Rattle.circuit_notes.proofs.Adding.{adds_none}
-use Rattle.spread_names.proofs.Walking.{on_ok}
 use Rattle.wave_notes.specs.Common.{skew_at}
 use Rattle.wave_notes.proofs.Noting.{no_doubt, no_note, note_of}
 use Rattle.wave_notes.proofs.common.add_common_at.Goals as goal
@@ -13,7 +13,7 @@ returns-then-not-is_common c = λ launched is.
 
 pub returns-in-Some : goal.returns-in-Some
 returns-in-Some c =
-    on_ok c.add_note.result (λ adds launched is. subst (Adds c.args.notes.now c.add_note.new.notes)
+    on_ok_weaker c.add_note.result (λ adds launched is. subst (Adds c.args.notes.now c.add_note.new.notes)
     (sym (note_of c.args.c.now launched (skew_at c.args.skews.now) c.args.number c.in-Some.doubt
     (sym c.in-Some.is ∙ c.doubt_about.ensures) (sym c.if-not-is_common.false ∙ is))) adds) c.add_note.ensures
 

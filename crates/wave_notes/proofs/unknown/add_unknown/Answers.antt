@@ -1,16 +1,16 @@
 use Rattle.std.proofs.Common.{sym, subst}
 use Rattle.std.specs.List.{filter}
+use Rattle.std.proofs.lemmas.Result.{on_ok_weaker}
 use Rattle.net_waves.specs.Waves.{waves_of}
 use Rattle.circuit_notes.specs.Told.{Adds}
 use Rattle.circuit_notes.proofs.Adding.{adds_none}
-use Rattle.spread_names.proofs.Walking.{on_ok}
 use Rattle.wave_notes.specs.Unknown.{has_unknown}
 use Rattle.wave_notes.proofs.Counting.{none_counted, some_counted}
 use Rattle.wave_notes.proofs.unknown.add_unknown.Goals as goal
 
 pub returns-in-Some : goal.returns-in-Some
 returns-in-Some g c =
-    on_ok c.add_note.result (λ adds. subst (Adds c.args.notes.now c.add_note.new.notes)
+    on_ok_weaker c.add_note.result (λ adds. subst (Adds c.args.notes.now c.add_note.new.notes)
     (sym (some_counted c.args.c.now c.args.number (filter (has_unknown (waves_of c.args.waves.now)) c.args.c.now.order) c.count-counted.result
     c.in-Some.first c.in-Some.is c.count-counted.ensures)) adds) c.add_note.ensures
 

@@ -1,7 +1,7 @@
 use Rattle.std.proofs.Common.{drop, length, arith}
 use Rattle.std.specs.Vec.{with_items}
+use Rattle.std.proofs.lemmas.Result.{on_ok_weaker}
 use Rattle.circuit_notes.proofs.Written.{written_back}
-use Rattle.spread_names.proofs.Walking.{on_ok}
 use Rattle.wave_notes.specs.declared.cases.SoFar.{SoFar}
 use Rattle.wave_notes.proofs.Gathering.{case_more}
 use Rattle.wave_notes.proofs.cases.SoFar.add_case.Goals as goal
@@ -19,7 +19,7 @@ returns c =
     let long = c.in_ok-add_acts.ensures.long in
     let raised = rw c.deref_mut-2.ensures.value at c.add_skews.ensures in
     let as_long = raised.long in
-    on_ok c.add_unknown.result (λ adds cases one numbered waves holds.
+    on_ok_weaker c.add_unknown.result (λ adds cases one numbered waves holds.
     case_more c.args.c.now c.args.waves.now c.args.number cases one numbered waves old new marks skews
     (written_back marks (drop (length marks) old.acts.items) old.acts.len (omega (arith, long, c.requires.each_instance, old.acts.ok.0)))
     (written_back skews (drop (length skews) old.skews.items) old.skews.len (omega (arith, as_long, c.requires.each_net, old.skews.ok.0)))
