@@ -1,5 +1,5 @@
 -- Notes on waves and on names that are spread, worked out on paper: each kind where it comes and where it just does not.
-use Rattle.std.specs.Prelude.{◌≡◌, ℕ, zero, suc, ◌==◌, Bool, true, false, ◌&&◌, ◌||◌, List, [], ◌∷◌, codes, length, map, if◌then◌else◌, None}
+use Rattle.std.specs.Prelude.{◌≡◌, ℕ, zero, suc, ◌==◌, Bool, true, false, ◌&&◌, ◌||◌, List, [], ◌∷◌, codes, length, map, None}
 use Rattle.std.specs.Fmt.{digits}
 use Rattle.std.proofs.Common.{arith, refl, sym, ap, subst, ◌∙◌}
 use Rattle.scald_base.specs.Clock.{back}
@@ -70,11 +70,15 @@ of js = record {
 abbrev wave : List Value → ℕ → Wave Value
 wave cells skew = record { cells = cells; skew = skew }
 
+abbrev waves_from : Wave Value → ℕ → Wave Value
+waves_from first zero = first
+waves_from first (suc i) = wave (S ∷ S ∷ S ∷ S ∷ []) 0
+
 abbrev case : ℕ → Wave Value → Case
 case number first = record {
   listed = record { number = number; values = [] };
   rounds = 0;
-  waves = λ i. if i == 0 then first else wave (S ∷ S ∷ S ∷ S ∷ []) 0;
+  waves = waves_from first;
 }
 
 -- ---- UNCLOCKED
