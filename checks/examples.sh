@@ -90,13 +90,14 @@ for section in control store datapath; do
     [ "$section" = control ] || echo =====
     cat "$top/examples/sections/$section.scald"
 done | cmp -s - "$processor.sections" || failure "processor: other sections than the drawings beside it"
-"$program" sections <"$processor.sections" >"$work/report"
+"$program" sections <"$processor.sections" >"$work/report" 2>"$work/said"
 status=$?
 [ "$status" = "$(status_of "$processor.report")" ] || failure "processor: another status: $status"
 cmp -s "$work/report" "$processor.report" || failure "processor: another report"
+cmp -s "$work/said" "$processor.crossings" || failure "processor: other nets that cross"
 
 for report in "$top"/examples/*.report "$top"/examples/*.notes "$top"/examples/*.margins "$top"/examples/*.chains "$top"/examples/*.explained \
-    "$top"/examples/sections/*.report "$top"/examples/sections/*.margins; do
+    "$top"/examples/sections/*.report "$top"/examples/sections/*.margins "$top"/examples/sections/*.crossings; do
     [ -f "${report%.*}.scald" ] || [ -f "${report%.*}.sections" ] ||
         failure "$(basename -- "$report"): no drawing beside it"
 done

@@ -1,4 +1,5 @@
-//! What the program says on standard error where it ends without an answer to the drawing.
+//! What the program says on standard error: why it ends without an answer to the drawing, and with an answer to
+//! sections which nets cross between them.
 
 ghost use Rattle.std.specs.Prelude.{◌≡◌, ◌-◌, ◌^◌, ◌<◌, IfSome, length};
 ghost use Rattle.std.specs.Option.{option_copied};
@@ -14,7 +15,7 @@ use refusal_help::{explain_refusal, explain_words, shown_use};
 use scald_base::{Bytes, NoMemory, Place, Refusal, RefusalKind};
 use scald_tool::{Outcome, Words};
 use section_compose::SectionsOutcome;
-use section_help::{explain_broken, explain_section, explain_separator};
+use section_help::{explain_broken, explain_section, explain_separator, list_crossings};
 use section_rules::{Piece, sections_of};
 use std::alloc::Global;
 use std::io::Eprint;
@@ -222,7 +223,8 @@ fn say_section(
     }
 }
 
-/// Says what is wrong with the sections of a text that was kept, where that is known.
+/// Says what is wrong with the sections of a text that was kept, where that is known, or else which nets
+/// cross between them.
 fn say_together(rt: &(impl Eprint + AllocGlobal), text: Option<&[u8]>, outcome: &SectionsOutcome) {
     if let Some(text) = text {
         if text.len() <= MOST_BYTES {
@@ -231,6 +233,10 @@ fn say_together(rt: &(impl Eprint + AllocGlobal), text: Option<&[u8]>, outcome: 
                 SectionsOutcome::BadSection { .. } => say_lines(
                     rt,
                     explain_broken(rt.alloc(), text),
+                ),
+                SectionsOutcome::Clean | SectionsOutcome::Faulty(_) => say_lines(
+                    rt,
+                    list_crossings(rt.alloc(), text),
                 ),
                 _ => {}
             }

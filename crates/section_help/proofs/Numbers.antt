@@ -9,12 +9,12 @@ use Rattle.section_help.specs.Beside.{number_in, same_at}
 not_none : (o : Option Net) (n : Net) → o ≡ None → o ≡ Some n → ⊥
 not_none o n none some = absurd (cc)
 
-none_within : (xs : List Net) (k : ℕ) → slice_get xs k ≡ None → k < length xs → ⊥
+pub none_within : (xs : List Net) (k : ℕ) → slice_get xs k ≡ None → k < length xs → ⊥
 none_within [] k none within = absurd (omega arith)
 none_within (x ∷ xs) k none within =
     not_none (slice_get (x ∷ xs) k) (get_or (x ∷ xs) k x) none (slice_get-get_or (x ∷ xs) k x within)
 
-not_so : false ≡ true → ⊥
+pub not_so : false ≡ true → ⊥
 not_so e = absurd (cc)
 
 module _ (net : Net) (nets : List Net) (i : ℕ) where

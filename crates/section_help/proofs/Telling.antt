@@ -77,7 +77,7 @@ module _ (text : List ℕ) (list seen : List Piece) where
       subst (IsTold text) (sym none) (undrawn (subst IsUndrawn (ap (map (piece_of text)) see ∙ are) refused))
 
   module _ (read sections : List Section) where
-    drawn_sections : map (piece_of text) list ≡ sections_of text → seen ≡ list →
+    pub drawn_sections : map (piece_of text) list ≡ sections_of text → seen ≡ list →
         AllZip DrawsSection (map (piece_of text) seen) read → sections ≡ read →
         AllZip DrawsSection (sections_of text) sections
     drawn_sections are see drawn same =

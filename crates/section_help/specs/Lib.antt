@@ -5,3 +5,8 @@ pub mod Words
 pub mod Broken
 pub mod Section
 pub mod Separator
+pub mod Taken
+pub mod Listed
+pub mod Meant
+pub mod RunLine
+pub mod Crossing

@@ -1,24 +1,23 @@
 //! What is said of the first rule of sections that is broken.
 
-ghost use Rattle.std.specs.Prelude.{◌≡◌, ◌++◌, ◌<◌, ◌≤◌, ◌-◌, ◌^◌, length, map, slice_get, IfErr, IfOk, OnOk};
-ghost use Rattle.std.specs.List.{AllZip};
+ghost use Rattle.std.specs.Prelude.{◌≡◌, ◌++◌, ◌<◌, ◌≤◌, ◌-◌, ◌^◌, length, map, slice_get, IfOk, OnOk};
 ghost use Rattle.std.specs.Option.{option_copied};
-ghost use Rattle.section_rules.specs.Drawn.{DrawsSection};
 ghost use Rattle.section_rules.specs.Pieces.{piece_of};
 ghost use Rattle.section_rules.specs.Rule.{is_of_net};
-ghost use Rattle.section_help.specs.Broken.{IsAt, IsTold, IsToldOf, IsToldOfHeader, IsToldOfNet, IsUndrawn, index_of, net_of};
+ghost use Rattle.section_help.specs.Broken.{IsAt, IsTold, IsToldOf, IsToldOfHeader, IsToldOfNet, index_of, net_of};
 ghost use Rattle.section_help.specs.Words.{end_lines, other_lines, own_lines, top_lines};
 
 use crate::beside::{beside, driver_place};
 use crate::found::{find_name, find_word};
-use crate::part::{add_begin, add_site, piece_text, text_at};
+use crate::part::{add_begin, add_site, text_at};
+use crate::read::{Unread, read_sections};
 use crate::words::{
     Site, add_differences, add_lead, add_sentence, advice, header_sentence, header_word, lead,
     other_site, own_site,
 };
 use flat_circuit::Net;
-use scald_base::{Bytes, List, NoMemory, Place, Stop};
-use section_rules::{Broken, Piece, Rule, Section, first_broken, read_section, sections_of};
+use scald_base::{Bytes, NoMemory, Place};
+use section_rules::{Broken, Piece, Rule, Section, first_broken, sections_of};
 use std::alloc::Global;
 
 /// The most sections of a text.
@@ -240,43 +239,6 @@ fn told(
 }
 
 // ---- the sections
-
-/// Why there are no sections to tell of.
-#[derive(Clone, Copy)]
-enum Unread {
-    /// One is refused by itself.
-    Refused,
-    NoMemory,
-}
-
-impl From<NoMemory> for Unread {
-    ghost use Rattle.section_help.specs.declared.broken.Unread.{Unread};
-
-    ghost from_gives = { λ _ e. e ≡ Unread.NoMemory };
-
-    fn from(_e: NoMemory) -> Unread {
-        Unread::NoMemory
-    }
-}
-
-/// The sections that lie at these places of a text.
-fn read_sections(alloc: Global, text: &[u8], pieces: &[Piece]) -> Result<List<Section>, Unread>
-    requires { length text.now < 2 ^ 32 - 1 }
-    ensures drawn { IfOk result (AllZip DrawsSection (map (piece_of text.now) pieces.now)) }
-    ensures each { IfOk result (λ sections. length sections ≡ length pieces.now) }
-    ensures refused { IfErr result (λ why.
-        why ≡ Unread.Refused → IsUndrawn (map (piece_of text.now) pieces.now)) }
-{
-    let mut sections = List::new(alloc);
-    for s in 0..pieces.len() {
-        match read_section(alloc, piece_text(text, pieces[s])) {
-            Ok(section) => sections.push(section)?,
-            Err(Stop::Refused(_)) => return Err(Unread::Refused),
-            Err(Stop::NoMemory) => return Err(Unread::NoMemory),
-        }
-    }
-    Ok(sections)
-}
 
 /// Of a text of sections that break a rule: which section and what in it, each place with its line and a
 /// mark, and what to do. Nothing is told where a section is refused by itself, where no rule is broken,

@@ -3,7 +3,7 @@ use Rattle.std.proofs.lemmas.List.{get_or_default}
 use Rattle.section_rules.specs.declared.cut.Piece.{Piece}
 use Rattle.section_rules.specs.Drawn.{DrawsSection, IsSectionRefused}
 use Rattle.section_help.proofs.Reading.{drawn_all, drawn_each, drawn_more, undrawn_at}
-use Rattle.section_help.proofs.broken.read_sections.Goals as goal
+use Rattle.section_help.proofs.read.read_sections.Goals as goal
 
 abbrev nowhere : Piece
 nowhere = record { from = 0; to = 0 }

@@ -1,0 +1,111 @@
+#!/bin/sh
+# What standard error says beside an answer: of sections that are joined which global nets cross, and which no section
+# drives. Usage: checks/asides.sh [PROGRAM]. Where none is named and none is built it says so and ends with 0.
+. "$(dirname -- "$0")/common.sh"
+begin "${1-}"
+
+# said NAME LINE ..: standard error says these lines, and no other
+said() {
+    name=$1
+    shift
+    trying "$name"
+    [ $# -eq 0 ] || printf '%s\n' "$@" >"$work/want"
+    [ $# -gt 0 ] || : >"$work/want"
+    cmp -s "$work/want" "$work/said" || {
+        failure "$name: this is said:"
+        cat "$work/said"
+    }
+}
+
+# --- sections
+# sections STATUS FIRST ..: sections with these lines each, in one period, end with this status
+sections() {
+    wanted=$1
+    shift
+    between=
+    : >"$work/text"
+    for lines in "$@"; do
+        printf '%s' "$between" >>"$work/text"
+        between='=====
+'
+        printf 'SCALD %s;\nCLOCK 8 x 50;\nDRAWING D;\n%s\nEND;\n' "${version-2}" "$lines" >>"$work/text"
+    done
+    "$program" sections <"$work/text" >"$work/out" 2>"$work/said"
+    status=$?
+    [ "$status" -eq "$wanted" ] || failure "status $status in place of $wanted: $1"
+}
+cross='scald: global nets that cross, from the section that drives each to those that take it:'
+none='scald: no net crosses: sections share only nets whose names begin with /'
+undriven='scald: global nets that no section drives, so that all that is known of each is what it asserts:'
+# drive NAME BITS, take NAME BITS: a buffer that drives these bits, or takes them
+drive() {
+    echo "d : BUF [1:2] (\"D .S1-8\"$2) -> (\"$1 .S2-8\"$2);"
+}
+take() {
+    echo "t : BUF [1:2] (\"$1 .S2-8\"$2) -> (\"X\"$2);"
+}
+op=$(drive /OP '<0:3>')
+
+sections 0 "$op" "$(take /OP '<0:3>')"
+said 'a vector' "$cross" '    /OP<0:3> from section 1 to 2'
+sections 0 "$(take /OP '<3:0>')" "$op"
+said 'from the second section' "$cross" '    /OP<0:3> from section 2 to 1'
+version=1
+sections 0 "$op" "$(take /OP '<0:3>')"
+said 'version 1' "$cross" '    /OP<0:3> from section 1 to 2'
+unset version
+sections 0 "$op" "$(take /OPP '<0:3>')"
+said 'a letter too many' "$none" "$undriven" '    /OPP<0:3> in section 2: is /OP meant?'
+sections 0 "$(drive /OPP '<0:3>')" "$(take /OP '<0:3>')"
+said 'a letter too many where it is driven' "$none" "$undriven" '    /OP<0:3> in section 2: is /OPP meant?'
+sections 0 "$(drive /STORE '<0>')" "$(take /STROE '<0>')"
+said 'letters exchanged' "$none" "$undriven" '    /STROE<0> in section 2: is /STORE meant?'
+sections 0 "$(drive /STORE '<0>')" "$(take /STAXE '<0>')"
+said 'two other letters' "$none" "$undriven" '    /STAXE<0> in section 2'
+sections 0 "$(drive /A '<0>')" "$(take /B '<0>')"
+said 'names of one letter' "$none" "$undriven" '    /B<0> in section 2'
+sections 0 "$(drive STORE '<0>')" "$(take /STORF '<0>')"
+said 'a name that is not global' "$none" "$undriven" '    /STORF<0> in section 2'
+sections 0 "$op" "$(take /OP '<0:4>')"
+said 'a bit too many' "$cross" '    /OP<0:3> from section 1 to 2' \
+    "$undriven" '    /OP<4> in section 2: other bits of it are driven'
+sections 0 "$op" "$(take OP '<0:3>')"
+said 'no slash' "$none"
+sections 0 "$op" "$(take /OP '<0:3>')" "$(take /OP '<0:1>')"
+said 'three sections' "$cross" '    /OP<0:1> from section 1 to 2, 3' '    /OP<2:3> from section 1 to 2'
+sections 0 "$op" "$(take /OP '<0>')
+u : BUF [1:2] (\"/OP\"<2>) -> (\"Y\");"
+said 'every second bit' "$cross" '    /OP<0> from section 1 to 2' '    /OP<2> from section 1 to 2'
+sections 0 "$op
+e : BUF [1:2] (\"D\"<0>) -> (\"/GO .S2-8\");
+f : BUF [1:2] (\"/ACK .S3-8\") -> (\"Z\");" "$(take /OP '<0:3>')
+u : BUF [1:2] (\"/GO .S2-8\") -> (\"/ACK .S3-8\");"
+said 'both ways' "$cross" '    /GO<0> from section 1 to 2' '    /OP<0:3> from section 1 to 2' \
+    '    /ACK<0> from section 2 to 1'
+sections 0 "$op" "$(take /OP '<2:5>')"
+said 'bits past its end' "$cross" '    /OP<2:3> from section 1 to 2' \
+    "$undriven" '    /OP<4:5> in section 2: other bits of it are driven'
+input='i : BUF [1:2] ("/IN .P2-3") -> ("X");'
+sections 0 "$input" "$op" "$input"
+said 'an input of two sections' "$none" "$undriven" '    /IN<0> in section 1, 3'
+sections 0 'i : BUF [1:2] ("A") -> ("B");' "$op"
+said 'a net that no other section takes' "$none"
+sections 1 'd : BUF [60:70] ("D .S1-8") -> ("/OP .S2-8");' "$(take /OP '<0>')"
+said 'a fault' "$cross" '    /OP<0> from section 1 to 2'
+# inputs COUNT: so many global nets that nothing drives, each on a line of its own
+inputs() {
+    awk -v count="$1" 'BEGIN { for (i = 0; i < count; i++) printf "l%d : BUF [1:2] (\"/I%02d\") -> (\"X%d\");\n", i, i, i }'
+}
+# listed COUNT: the lines of the list on the first so many of them
+listed() {
+    awk -v count="$1" 'BEGIN { for (i = 0; i < count; i++) printf "    /I%02d<0> in section 1\n", i }'
+}
+for count in 32 33 100; do
+    sections 0 "$(inputs "$count")" "$op"
+    more=
+    [ "$count" -eq 32 ] || more="
+    and $((count - 32)) more"
+    said "$count inputs" "$none" "$undriven" "$(listed 32)$more"
+done
+
+ended
