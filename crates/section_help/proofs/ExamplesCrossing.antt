@@ -1,7 +1,7 @@
 -- Global nets of three sections, worked out on paper: the first drives two bits of /OP, the second takes
 -- three and the third the first of them, and each has an input /IN of its own spelling.
 use Rattle.std.proofs.Common.{◌≡◌, ℕ, true, false, List, [], ◌∷◌, refl}
-use Rattle.std.specs.Prelude.{Option, Some, None, codes, take}
+use Rattle.std.specs.Prelude.{Option, Some, None, codes}
 use Prim.Native.String.{String}
 use Rattle.std.specs.Fmt.{digits}
 use Rattle.scald_base.specs.declared.assertion.AssertSpec.TheVariants.{None as Unasserted}

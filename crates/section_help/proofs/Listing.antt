@@ -1,5 +1,5 @@
 -- What is listed of sections that are joined, once it is known to be so.
-use Rattle.std.proofs.Common.{◌≡◌, ℕ, suc, ◌+◌, ◌<◌, ◌≤◌, Bool, true, false, cond, List, [], ◌∷◌, ◌++◌, length, get_or, drop, map, ap, sym, subst, ◌∙◌, add-one, append_assoc, arith, refl}
+use Rattle.std.proofs.Common.{◌≡◌, ℕ, suc, ◌+◌, ◌<◌, ◌≤◌, Bool, true, false, cond, List, [], ◌∷◌, ◌++◌, length, drop, map, ap, sym, subst, ◌∙◌, add-one, append_assoc, arith, refl}
 use Rattle.std.specs.Prelude.{Option, Some, None, slice_get}
 use Rattle.std.specs.List.{AllZip, filter, find}
 use Rattle.std.proofs.lemmas.List.{append-nil, drop_all, length-map}

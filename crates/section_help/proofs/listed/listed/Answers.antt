@@ -1,4 +1,4 @@
-use Rattle.std.proofs.Common.{◌≡◌, ◌<◌, ◌≤◌, ℕ, length, arith}
+use Rattle.std.proofs.Common.{◌<◌, ◌≤◌, ℕ, length, arith}
 use Rattle.std.specs.Prelude.{slice_get}
 use Rattle.flat_circuit.proofs.Numbered.{order_long}
 use Rattle.section_help.specs.Listed.{is_listed_at, listed}
