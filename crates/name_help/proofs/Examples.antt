@@ -7,9 +7,11 @@ use Rattle.scald_lex.specs.declared.token.TokenKind.{TokenKind}
 use Rattle.scald_lex.specs.declared.token.TokenKind.TheVariants.{Word, Number, Name, Symbol}
 use Rattle.name_fault.specs.Naming.{of_end, step}
 use Rattle.help_text.specs.Assign.{begins_assign, ends_assign}
+use Rattle.help_text.specs.Near.{exchanged}
 use Rattle.name_help.specs.Clash.{clash_line, clash_lines, clashes, earlier_clash}
 use Rattle.name_help.specs.Edge.{edges_lines, gap_line}
 use Rattle.name_help.specs.Naming.{name_line, past_line, stop_line}
+use Rattle.name_help.specs.NearName.{leads, meant_lines, near_known}
 use Rattle.name_help.specs.Unknown.{ends_values, first_unknown, is_known, is_value}
 
 -- a token of a text on one line
@@ -25,6 +27,11 @@ point : name_line 8 (codes "A.B") ≡
     codes "    after 'A' there cannot be '.': a name has letters, digits, _, # and $, single spaces, and at its end a space and .S, .P or .C\n"
 unfolding step of_end stop_line
 point = refl
+
+path : name_line 8 (codes "g/H") ≡
+    codes "    after 'g' there cannot be '/': a name has letters, digits, _, # and $, single spaces, and at its end a space and .S, .P or .C\n    a / stands only before a whole name: a net in a macro has no name outside it, not in a CASE either\n"
+unfolding step of_end stop_line
+path = refl
 
 wraps : name_line 8 (codes "CK .P6-9") ≡
     codes "    an interval ends with 9, past the end of the period, 8\n    one that wraps over the end of the period is written 6-1\n"
@@ -80,3 +87,43 @@ known_later : first_unknown (codes "CONST M=N;CONST N=1;") (constant 0 (constant
     (at Word 0 5 ∷ at Word 6 7 ∷ symbol 61 7 ∷ at Word 8 9 ∷ symbol 59 9 ∷ []) ≡ Some (at Word 8 9)
 unfolding begins_assign ends_assign ends_values is_known is_value
 known_later = refl
+
+-- ---- the name that a word of IF nearly is
+
+abbrev statement : ℕ → ℕ → List Token
+statement from letters = at Word from (from + 2) ∷ at Word (from + 3) (from + 3 + letters) ∷ []
+
+near_constant : near_known (codes "CONST TMAX=1;IF TMAXX")
+    (at Word 0 5 ∷ at Word 6 10 ∷ symbol 61 10 ∷ at (Number (pos 1)) 11 12 ∷ symbol 59 12 ∷ statement 13 5)
+    (statement 13 5) (statement 13 5) (codes "TMAXX") ≡ Some (at Word 6 10)
+unfolding leads
+near_constant = refl
+
+-- no constant that is declared after it
+constant_after : near_known (codes "IF TMAXX;CONST TMAX")
+    (at Word 0 2 ∷ at Word 3 8 ∷ symbol 59 8 ∷ at Word 9 14 ∷ at Word 15 19 ∷ [])
+    (at Word 0 2 ∷ at Word 3 8 ∷ symbol 59 8 ∷ at Word 9 14 ∷ at Word 15 19 ∷ [])
+    (at Word 0 2 ∷ at Word 3 8 ∷ symbol 59 8 ∷ at Word 9 14 ∷ at Word 15 19 ∷ []) (codes "TMAXX") ≡ None
+unfolding begins_assign ends_assign leads
+constant_after = refl
+
+abbrev with_size : List Token
+with_size =
+    at Word 0 5 ∷ at Word 6 7 ∷ symbol 123 8 ∷ at Word 9 13 ∷ symbol 61 13 ∷ at (Number (pos 1)) 14 15 ∷ symbol 125 15
+    ∷ statement 17 3
+
+near_parameter : near_known (codes "MACRO M {SIZE=1} IF SIZ") with_size with_size (statement 17 3) (codes "SIZ") ≡
+    Some (at Word 9 13)
+unfolding begins_assign ends_assign leads
+near_parameter = refl
+
+abbrev with_turn : List Token
+with_turn = at Word 0 3 ∷ at Word 4 8 ∷ symbol 61 8 ∷ at (Number (pos 0)) 9 10 ∷ statement 11 4
+
+near_variable : near_known (codes "FOR TURN=0 IF TRUN") with_turn with_turn (statement 11 4) (codes "TRUN") ≡
+    Some (at Word 4 8)
+unfolding begins_assign ends_assign exchanged leads
+near_variable = refl
+
+meant : meant_lines (codes "TURN") (Some (at Word 0 4)) ≡ codes "    is TURN meant?\n"
+meant = refl

@@ -7,6 +7,7 @@ use Rattle.scald_lex.specs.declared.token.TokenKind.{TokenKind}
 use Rattle.scald_lex.specs.declared.token.TokenKind.TheVariants.{Word, Number, Name, Symbol}
 use Rattle.help_text.specs.Assign.{begins_assign, ends_assign}
 use Rattle.name_help.specs.MacroHead.{default_line, formal_line, is_strange, macro_lines, strange_default, strange_range}
+use Rattle.name_help.specs.NearName.{leads}
 use Rattle.name_help.specs.Unknown.{ends_values, is_known, is_value}
 use Rattle.name_help.specs.UnknownName.{constants_note, known_note}
 
@@ -74,13 +75,13 @@ in_constant = refl
 told_default : macro_lines (text (codes "N")) [] (head_on 0) (statement 31) ≡
     codes "    the default of 'D' names 'N' at 1:16, and a default may name constants alone:\n" ++
     (codes "    MACRO M {N=4,D=N*5} (\"A\"<0:K>);u : M {N=2} ();\n    " ++ (replicate 15 32 ++ codes "^\n"))
-unfolding begins_assign default_line digits ends_assign ends_values is_known is_strange is_value
+unfolding begins_assign default_line digits ends_assign ends_values is_known is_strange is_value leads
 told_default = refl
 
 told_range : macro_lines (text (codes "D")) [] (head_on 0) (statement 31) ≡
     codes "    a formal's range names 'K' at 1:28, which is neither a constant nor a parameter of the macro:\n" ++
     (codes "    MACRO M {N=4,D=N*5} (\"A\"<0:K>);u : M {D=2} ();\n    " ++ (replicate 27 32 ++ codes "^\n"))
-unfolding begins_assign digits ends_assign ends_values formal_line is_known is_strange is_value
+unfolding begins_assign digits ends_assign ends_values formal_line is_known is_strange is_value leads
 told_range = refl
 
 -- no macro is used

@@ -1,13 +1,13 @@
 -- Which kind or macro a word may mean that names none.
-use Rattle.std.specs.Prelude.{ℕ, Bool, List, [], ◌∷◌, codes, Option, Some, None, if◌then◌else◌, false, ◌&&◌, ◌||◌, ◌++◌, map}
+use Rattle.std.specs.Prelude.{ℕ, Bool, List, [], ◌∷◌, codes, Option, Some, None, if◌then◌else◌, ◌||◌, ◌++◌, map}
 use Rattle.std.specs.List.{find}
 use Rattle.element_kinds.specs.declared.kind.Kind.{Kind}
 use Rattle.element_kinds.specs.Kinds.{kinds, name_of}
-use Rattle.std.specs.Str.{bytes_eq}
 use Rattle.scald_lex.specs.declared.token.Token.{Token}
 use Rattle.help_text.specs.Near.{is_near, near}
 use Rattle.help_text.specs.Statement.{kind_token, spelled}
 use Rattle.help_text.specs.Text.{line, printable, quoted}
+use Rattle.name_help.specs.NearName.{near_after}
 
 abbrev pub is_nearly : List ℕ → Kind → Bool
 is_nearly word kind = is_near word (name_of kind)
@@ -16,18 +16,9 @@ is_nearly word kind = is_near word (name_of kind)
 abbrev pub near_kind : List ℕ → Option Kind
 near_kind word = find (is_nearly word) kinds
 
-unfoldable pub is_macro : List ℕ → Token → Bool
-is_macro text t = bytes_eq (spelled text t) (codes "MACRO")
-
--- the first macro whose name a word nearly is, where the first token is a name or is none
-abbrev pub near_from : List ℕ → List ℕ → Bool → List Token → Option Token
-near_from text word named [] = None
-near_from text word named (t ∷ ts) =
-    if named && is_near word (spelled text t) then Some t
-    else near_from text word (is_macro text t) ts
-
+-- the first macro whose name a word nearly is
 abbrev pub near_macro : List ℕ → List ℕ → List Token → Option Token
-near_macro text word tokens = near_from text word false tokens
+near_macro text word tokens = near_after text (codes "MACRO") word tokens
 
 -- how what is no kind here is drawn, by its usual name
 abbrev pub drawn_as : List ℕ → Option (List ℕ)

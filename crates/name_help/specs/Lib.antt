@@ -2,7 +2,8 @@ pub mod Naming
 pub mod Edge
 pub mod Clash
 pub mod Double
-pub mod KindName
 pub mod Unknown
+pub mod NearName
+pub mod KindName
 pub mod MacroHead
 pub mod UnknownName

@@ -10,6 +10,7 @@ use Rattle.help_text.specs.Shown.{shown}
 use Rattle.help_text.specs.Statement.{from_after, kind_token, spelled}
 use Rattle.help_text.specs.Text.{line, place_text, quoted}
 use Rattle.help_text.specs.Tokens.{after_group, after_kind, head_of, is_use, lists}
+use Rattle.name_help.specs.NearName.{meant_lines, near_after, near_known}
 use Rattle.name_help.specs.Unknown.{after_head, is_value, names_value, start_of, unknown_from}
 
 -- ---- defaults
@@ -68,20 +69,31 @@ formal_line text t = line (
     codes "    a formal's range names " ∷ quoted (spelled text t) ∷ codes " at " ∷ place_text t.place
     ∷ codes ", which is neither a constant nor a parameter of the macro:" ∷ [])
 
--- and nothing else where no word of it is strange
-abbrev pub range_lines : List ℕ → List ℕ → Option Token → List ℕ
-range_lines text note None = note
-range_lines text note (Some t) = formal_line text t ++ shown text t.place
+-- a word in the range of a formal, and the constant or parameter that it nearly is; and nothing
+-- but the note where no word there is strange
+abbrev pub range_lines : List ℕ → List ℕ → List Token → List Token → Option Token → List ℕ
+range_lines text note tokens head None = note
+range_lines text note tokens head (Some t) =
+    formal_line text t
+    ++ (shown text t.place
+    ++ meant_lines text (near_known text tokens head head (spelled text t)))
 
-abbrev pub strange_lines : List ℕ → List ℕ → Option Token → Option (Token × Token) → List ℕ
-strange_lines text note strange None = range_lines text note strange
-strange_lines text note strange (Some found) =
-    default_line (spelled text found.0) (spelled text found.1) found.1.place ++ shown text found.1.place
+-- a word in the default of a parameter, and the constant of the text that it nearly is
+abbrev pub default_lines : List ℕ → List Token → Token → Token → List ℕ
+default_lines text tokens parameter t =
+    default_line (spelled text parameter) (spelled text t) t.place
+    ++ (shown text t.place
+    ++ meant_lines text (near_after text (codes "CONST") (spelled text t) tokens))
+
+abbrev pub strange_lines : List ℕ → List ℕ → List Token → List Token → Option (Token × Token) → List ℕ
+strange_lines text note tokens head None =
+    range_lines text note tokens head (strange_range text tokens head)
+strange_lines text note tokens head (Some found) = default_lines text tokens found.0 found.1
 
 abbrev pub lines_of : List ℕ → List ℕ → List Token → List Token → List Token → List ℕ
 lines_of text note tokens statement [] = note
-lines_of text note tokens statement (name ∷ ts) = strange_lines text note
-    (strange_range text tokens (from_head text name.place tokens tokens))
+lines_of text note tokens statement (name ∷ ts) = strange_lines text note tokens
+    (from_head text name.place tokens tokens)
     (strange_default text tokens statement (name ∷ ts))
 
 abbrev pub named_lines : List ℕ → List ℕ → List Token → List Token → Option Token → List ℕ

@@ -1,5 +1,5 @@
 -- Why a text is no signal's name, in words.
-use Rattle.std.specs.Prelude.{ℕ, ◌-◌, nat_le, List, [], ◌∷◌, ◌++◌, length, take, drop, codes, decimal, Option, Some, None, if◌then◌else◌}
+use Rattle.std.specs.Prelude.{ℕ, ◌-◌, ◌==◌, nat_le, List, [], ◌∷◌, ◌++◌, length, take, drop, codes, decimal, Option, Some, None, if◌then◌else◌}
 use Rattle.scald_lex.specs.declared.token.Token.{Token}
 use Rattle.name_fault.specs.Naming.{name_end}
 use Rattle.name_fault.specs.declared.read.Mode.{Mode}
@@ -80,12 +80,25 @@ empty_line first = line (codes "    an interval ends where it begins, with " ∷
 abbrev pub skew_line : ℕ → List ℕ
 skew_line number = line (codes "    a skew is at most 4095 ticks, and this is " ∷ decimal number ∷ [])
 
+abbrev pub inner_note : List ℕ
+inner_note =
+    codes "    a / stands only before a whole name: a net in a macro has no name outside it, not in a CASE either\n"
+
+abbrev pub inner_lines : List ℕ → List ℕ
+inner_lines [] = []
+inner_lines (b ∷ bs) = if b == 47 then inner_note else []
+
+-- what is said where a name goes on after a base with a /, as a path does
+abbrev pub path_lines : Misread → List ℕ → List ℕ
+path_lines (Follow Base) left = inner_lines left
+path_lines misread left = []
+
 abbrev pub misread_line : ℕ → Misread → List ℕ → List ℕ → List ℕ
 misread_line units (BeginsPast first) read left = begins_line units first
 misread_line units (EndsPast first last) read left = ends_lines units first last
 misread_line units (Empty first) read left = empty_line first
 misread_line units (Skew number) read left = skew_line number
-misread_line units misread read left = cut_line read left (told_note misread)
+misread_line units misread read left = cut_line read left (told_note misread) ++ path_lines misread left
 
 abbrev pub formal_line : List ℕ
 formal_line = codes "    a formal of a macro has neither an assertion nor a / before it\n"

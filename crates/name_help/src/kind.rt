@@ -3,11 +3,12 @@
 ghost use Rattle.std.specs.Prelude.{◌≡◌, ◌++◌, OnOk, None, Some};
 ghost use Rattle.std.specs.List.{find};
 ghost use Rattle.std.specs.Option.{option_copied};
-ghost use Rattle.name_help.specs.KindName.{is_nearly, near_kind, is_macro, near_macro, drawn_as, kind_lines, near_line, near_use, word_lines};
+ghost use Rattle.name_help.specs.KindName.{is_nearly, near_kind, drawn_as, kind_lines, near_line, near_use, word_lines};
 
+use crate::near_name::near_after;
 use element_kinds::{KINDS, Kind};
 use help_text::{Part, add_line, is_near, kind_token, near, spelled};
-use scald_base::{Bytes, NoMemory, same_bytes};
+use scald_base::{Bytes, NoMemory};
 use scald_lex::Token;
 
 /// The first of these kinds that a word nearly is.
@@ -27,30 +28,6 @@ fn near_kind(word: &[u8]) -> Option<Kind>
     ensures { result ≡ near_kind word.now }
 {
     near_among(&KINDS, word)
-}
-
-/// Whether the name of a macro comes after a token.
-#[tactic(auto, unfolding(crate::specs::KindName::is_macro))]
-fn is_macro(text: &[u8], token: Token) -> bool
-    ensures { result ≡ is_macro text.now token }
-{
-    same_bytes(spelled(text, token), b"MACRO")
-}
-
-/// The first macro whose name a word nearly is.
-fn near_macro(text: &[u8], tokens: &[Token], word: &[u8]) -> Option<Token>
-    ensures { result ≡ near_macro text.now word.now tokens.now }
-{
-    let mut is_named = false;
-    let mut rest = tokens;
-    'tokens: while let [token, others @ ..] = rest {
-        if is_named && is_near(word, spelled(text, *token)) {
-            return Some(*token);
-        }
-        is_named = is_macro(text, *token);
-        rest = others;
-    }
-    None
 }
 
 /// How what is no kind here is drawn, by its usual name.
@@ -78,7 +55,7 @@ fn near_use<'a>(text: &'a [u8], tokens: &[Token], word: &[u8]) -> Option<&'a [u8
 {
     match near_kind(word) {
         Some(kind) => Some(kind.name()),
-        None => match near_macro(text, tokens, word) {
+        None => match near_after(text, tokens, b"MACRO", word) {
             Some(head) => Some(spelled(text, head)),
             None => None,
         },

@@ -3,8 +3,9 @@
 //! Of a signal: why the text between its quotes is no name (`specs/Naming`, over `name_fault`),
 //! which edges of its clock may come in one slot (`specs/Edge`), and where it has another assertion
 //! (`specs/Clash`). Of a word: where it is taken (`specs/Double`), which kind or macro it may mean
-//! (`specs/KindName`), and which one of an expression stands for no number (`specs/UnknownName`).
-//! `refusal_help` calls each for its kind of refusal.
+//! (`specs/KindName`), and which one of an expression stands for no number (`specs/UnknownName`),
+//! with the name that it nearly is (`specs/NearName`). `refusal_help` calls each for its kind of
+//! refusal.
 #![tactic(auto)]
 
 // signals
@@ -16,6 +17,7 @@ mod naming;
 mod double;
 mod kind;
 mod macro_head;
+mod near_name;
 mod unknown;
 mod unknown_name;
 

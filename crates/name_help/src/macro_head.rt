@@ -1,8 +1,9 @@
 //! Which word in the head of a macro is the name of no number there, where the macro is used.
 
 ghost use Rattle.std.specs.Prelude.{◌≡◌, ◌++◌, None, OnOk};
-ghost use Rattle.name_help.specs.MacroHead.{default_from, default_line, formal_line, given_in, is_constant, is_strange, lines_of, macro_lines, strange_default, strange_range, strange_lines};
+ghost use Rattle.name_help.specs.MacroHead.{default_from, default_line, default_lines, formal_line, given_in, is_constant, is_strange, lines_of, macro_lines, range_lines, strange_default, strange_range, strange_lines};
 
+use crate::near_name::{add_meant, near_after, near_known};
 use crate::unknown::{after_head, is_value, names_value, start_of, unknown_among};
 use help_text::{
     Part, add_line, add_shown, after_group, after_kind, braces, ends_assign, first_tokens,
@@ -148,30 +149,63 @@ fn add_formal(out: &mut Bytes, text: &[u8], token: Token) -> Result<(), NoMemory
     )
 }
 
-/// The word that means nothing in a default, or else the one in a formal's range, or else this
-/// note.
+/// A word that means nothing in the default of a parameter, with its line of the text and the
+/// constant that it nearly is.
+fn add_default_lines(
+    out: &mut Bytes,
+    text: &[u8],
+    tokens: &[Token],
+    parameter: Token,
+    token: Token,
+) -> Result<(), NoMemory>
+    ensures { OnOk result (out.new ≡ out.old ++ default_lines text.now tokens.now parameter token) }
+{
+    let word = spelled(text, token);
+    add_default(out, spelled(text, parameter), word, token.place)?;
+    add_shown(out, text, token.place)?;
+    add_meant(out, text, near_after(text, tokens, b"CONST", word))
+}
+
+/// The word that means nothing in the range of a formal, with its line of the text and the name
+/// that it nearly is; or this note, where there is none.
+fn add_range(
+    out: &mut Bytes,
+    text: &[u8],
+    note: &[u8],
+    tokens: &[Token],
+    head: &[Token],
+) -> Result<(), NoMemory>
+    ensures { let strange = strange_range text.now tokens.now head.now in
+        OnOk result (out.new ≡ out.old ++ range_lines text.now note.now tokens.now head.now strange) }
+{
+    match strange_range(text, tokens, head) {
+        Some(token) => {
+            add_formal(out, text, token)?;
+            add_shown(out, text, token.place)?;
+            add_meant(
+                out,
+                text,
+                near_known(text, tokens, head, head, spelled(text, token)),
+            )
+        }
+        None => out.extend(note),
+    }
+}
+
+/// The word that means nothing in a default, or else what is said of the ranges of the formals.
 fn add_strange(
     out: &mut Bytes,
     text: &[u8],
     note: &[u8],
-    in_range: Option<Token>,
+    tokens: &[Token],
+    head: &[Token],
     in_default: Option<(Token, Token)>,
 ) -> Result<(), NoMemory>
-    ensures { OnOk result (out.new ≡ out.old ++ strange_lines text.now note.now in_range in_default) }
+    ensures { OnOk result (out.new ≡ out.old ++ strange_lines text.now note.now tokens.now head.now in_default) }
 {
     match in_default {
-        Some((parameter, token)) => {
-            let word = spelled(text, token);
-            add_default(out, spelled(text, parameter), word, token.place)?;
-            add_shown(out, text, token.place)
-        }
-        None => match in_range {
-            Some(token) => {
-                add_formal(out, text, token)?;
-                add_shown(out, text, token.place)
-            }
-            None => out.extend(note),
-        },
+        Some((parameter, token)) => add_default_lines(out, text, tokens, parameter, token),
+        None => add_range(out, text, note, tokens, head),
     }
 }
 
@@ -188,9 +222,9 @@ fn add_head_lines(
 {
     match head {
         [name, ..] => {
-            let in_range = strange_range(text, tokens, from_head(text, tokens, name.place));
+            let whole = from_head(text, tokens, name.place);
             let in_default = strange_default(text, tokens, statement, head);
-            add_strange(out, text, note, in_range, in_default)
+            add_strange(out, text, note, tokens, whole, in_default)
         }
         [] => out.extend(note),
     }

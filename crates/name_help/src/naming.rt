@@ -1,7 +1,7 @@
 //! Why a text is no signal's name, in words.
 
 ghost use Rattle.std.specs.Prelude.{◌≡◌, ◌++◌, OnOk};
-ghost use Rattle.name_help.specs.Naming.{begins_line, cut_line, empty_line, ends_lines, follow_note, formal_line, misread_line, name_line, name_lines, past_line, short_line, skew_line, stop_line, told_note, wrapped_line};
+ghost use Rattle.name_help.specs.Naming.{begins_line, cut_line, empty_line, ends_lines, follow_note, formal_line, misread_line, name_line, name_lines, past_line, path_lines, short_line, skew_line, stop_line, told_note, wrapped_line};
 
 use help_text::{Part, add_line, after, front, spelled, units_of, unquoted};
 use name_fault::{Misread, Mode, name_end};
@@ -185,6 +185,21 @@ fn add_skew(out: &mut Bytes, number: u64) -> Result<(), NoMemory>
     )
 }
 
+/// What is said where a name goes on after a base with a /, as a path does.
+fn path_note(misread: Misread, left: &[u8]) -> &'static [u8]
+    ensures { result.now ≡ path_lines misread left.now }
+{
+    match misread {
+        Misread::Follow(Mode::Base) => match left {
+            [b'/', ..] => {
+                b"    a / stands only before a whole name: a net in a macro has no name outside it, not in a CASE either\n"
+            }
+            _ => b"",
+        },
+        _ => b"",
+    }
+}
+
 /// Why the bytes that were read are not followed by those that are left.
 fn add_misread(
     out: &mut Bytes,
@@ -200,7 +215,10 @@ fn add_misread(
         Misread::EndsPast(first, last) => add_ends(out, units, first, last),
         Misread::Empty(first) => add_empty(out, first),
         Misread::Skew(number) => add_skew(out, number),
-        _ => add_cut(out, read, left, told_note(misread)),
+        _ => {
+            add_cut(out, read, left, told_note(misread))?;
+            out.extend(path_note(misread, left))
+        }
     }
 }
 

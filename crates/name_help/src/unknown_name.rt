@@ -1,9 +1,10 @@
 //! What is told of a name in an expression that means nothing there.
 
 ghost use Rattle.std.specs.Prelude.{◌≡◌, ◌++◌, OnOk};
-ghost use Rattle.name_help.specs.UnknownName.{around_note, constants_note, known_note, unknown_line, unknown_lines};
+ghost use Rattle.name_help.specs.UnknownName.{around_note, constants_note, known_note, unknown_line, unknown_lines, word_lines};
 
 use crate::macro_head::add_macro_head;
+use crate::near_name::{add_meant, near_known};
 use crate::unknown::first_unknown;
 use help_text::{Part, add_line, from_head, from_place, is_use, spelled};
 use scald_base::{Bytes, NoMemory, Place, same_bytes};
@@ -51,9 +52,28 @@ fn add_unknown_word(out: &mut Bytes, text: &[u8], token: Token) -> Result<(), No
     )
 }
 
+/// That a word in a statement is not known, and which known name may be meant.
+fn add_word(
+    out: &mut Bytes,
+    text: &[u8],
+    tokens: &[Token],
+    head: &[Token],
+    statement: &[Token],
+    token: Token,
+) -> Result<(), NoMemory>
+    ensures { OnOk result (out.new ≡ out.old ++ word_lines text.now tokens.now head.now statement.now token) }
+{
+    add_unknown_word(out, text, token)?;
+    add_meant(
+        out,
+        text,
+        near_known(text, tokens, head, statement, spelled(text, token)),
+    )
+}
+
 /// Puts which words are known at the place at the end of the bytes, and which one of the statement
-/// there is not; or else which one in the head of its macro is not, and the rule there. The one
-/// error is that memory ran out.
+/// there is not, with the known name that it nearly is; or else which one in the head of its macro is
+/// not, and the rule there. The one error is that memory ran out.
 pub fn add_unknown(
     out: &mut Bytes,
     text: &[u8],
@@ -68,7 +88,7 @@ pub fn add_unknown(
     match first_unknown(text, tokens, head, statement) {
         Some(token) => {
             out.extend(note)?;
-            add_unknown_word(out, text, token)
+            add_word(out, text, tokens, head, statement, token)
         }
         None => add_macro_head(out, text, note, tokens, statement),
     }
