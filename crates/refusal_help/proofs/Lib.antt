@@ -1,3 +1,2 @@
-pub mod Said
 pub mod Examples
 pub mod ExamplesUses

@@ -21,7 +21,7 @@ use Rattle.refusal_help.specs.Deep.{deep_note}
 use Rattle.refusal_help.specs.Header.{header_lines}
 use Rattle.refusal_help.specs.Many.{many_lines}
 use Rattle.refusal_help.specs.OnlyUse.{value_lines}
-use Rattle.refusal_help.specs.Syntax.{syntax_lines}
+use Rattle.grammar_help.specs.Syntax.{syntax_lines}
 
 -- ---- bytes and tokens
 

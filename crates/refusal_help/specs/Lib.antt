@@ -6,9 +6,4 @@ pub mod Explained
 pub mod Hint
 pub mod Many
 pub mod OnlyUse
-pub mod Reserved
-pub mod Version
-pub mod Belongs
 pub mod Sentence
-pub mod Syntax
-pub mod Unended

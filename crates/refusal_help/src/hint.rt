@@ -8,7 +8,7 @@ use crate::deep::deep_note;
 use crate::header::add_header;
 use crate::many::many_note;
 use crate::only_use::add_values;
-use crate::syntax::add_syntax;
+use grammar_help::add_syntax;
 use help_text::{Part, add_line, after, before_place, from_place, source_line};
 use name_help::{add_assertion, add_double, add_kind, add_name_lines, add_unknown};
 use scald_base::{Bytes, NoMemory, Place, Refusal, RefusalKind};

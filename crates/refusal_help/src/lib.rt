@@ -2,25 +2,20 @@
 //!
 //! The program says on standard error what [`explain_refusal`] gives: the place and a sentence, the
 //! line of the text with a mark under the place, and what can be told of what is meant
-//! (`specs/Explained`). What is told of names and of statements is that of `name_help` and
-//! `statement_help`; here stands what is told of bytes, tokens, the grammar, the header and limits.
-//! For that the program reads through a [`KeptSource`], which keeps the text. Of words that are of
-//! no form [`explain_words`] says which one is wrong (`specs/CallWord`).
+//! (`specs/Explained`). What is told of names, of statements and of the grammar is that of
+//! `name_help`, `statement_help` and `grammar_help`; here stands what is told of bytes, tokens, the
+//! header and limits. For that the program reads through a [`KeptSource`], which keeps the text. Of
+//! words that are of no form [`explain_words`] says which one is wrong (`specs/CallWord`).
 #![tactic(auto)]
 
 // what is said of a refusal
 mod advice;
-mod belongs;
 mod deep;
 mod header;
 mod hint;
 mod many;
 mod only_use;
-mod reserved;
 mod sentence;
-mod syntax;
-mod unended;
-mod version;
 
 // the calls
 mod call_word;

@@ -1,6 +1,6 @@
 use Rattle.std.proofs.Common.{◌≡◌, Some, ap, sym, ◌∙◌}
 use Rattle.refusal_help.specs.Hint.{byte_line, number_line}
-use Rattle.refusal_help.proofs.Said.{instead}
+use Rattle.grammar_help.proofs.Said.{instead}
 use Rattle.refusal_help.proofs.hint.add_byte.Goals as goal
 
 pub returns-in-Some : goal.returns-in-Some

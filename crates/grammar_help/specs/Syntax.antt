@@ -12,10 +12,12 @@ use Rattle.help_text.specs.Keyword.{near_keyword, word_of}
 use Rattle.help_text.specs.Statement.{before_place, from_place, spelled}
 use Rattle.help_text.specs.Text.{line, quoted}
 use Rattle.help_text.specs.Tokens.{is_symbol}
-use Rattle.refusal_help.specs.Belongs.{belongs_lines}
-use Rattle.refusal_help.specs.Reserved.{reserved_at, reserved_line}
-use Rattle.refusal_help.specs.Unended.{unended_lines}
-use Rattle.refusal_help.specs.Version.{is_later, said_version, version_lines}
+use Rattle.grammar_help.specs.Belongs.{belongs_lines}
+use Rattle.grammar_help.specs.Foreign.{foreign_note}
+use Rattle.grammar_help.specs.Reserved.{reserved_at, reserved_line}
+use Rattle.grammar_help.specs.Shifted.{shifted_lines}
+use Rattle.grammar_help.specs.Unended.{asks_ended, ended_line, open_lines}
+use Rattle.grammar_help.specs.Version.{is_later, said_version, version_lines}
 
 -- ---- what stands here
 
@@ -74,20 +76,33 @@ abbrev pub meant_before : List ℕ → Option Token → Token → List ℕ
 meant_before text None t = []
 meant_before text (Some last) t = if is_symbol 58 t.kind then [] else meant_line text last
 
+-- how what other languages write so is written here, or else which word may be meant
+abbrev pub word_lines : List ℕ → List ℕ → Option Token → Token → List ℕ
+word_lines [] text before t = meant_line text t ++ meant_before text before t
+word_lines (b ∷ bs) text before t = b ∷ bs
+
+-- what ENDs before the token end
+abbrev pub ends_lines : List ℕ → List Token → Option Token → Token → List ℕ
+ends_lines text tokens before t =
+    if asks_ended text before t
+    then ended_line text tokens t.place ++ shifted_lines text tokens t.place
+    else []
+
 -- what the version that the text says and the statements before the token tell of it
 abbrev pub statement_lines : List ℕ → List Token → Option ℕ → Option Token → Token → List ℕ
 statement_lines text tokens said before t =
     version_lines said (is_later text said before t)
-    ++ (unended_lines text tokens before t ++ belongs_lines (is_later text said before t) text before t)
+    ++ (open_lines text tokens t
+    ++ (ends_lines text tokens before t
+    ++ belongs_lines (is_later text said before t) text before t))
 
 abbrev pub lines_at : List ℕ → List Token → Option ℕ → Option Token → List Token → List ℕ
 lines_at text tokens said before [] = []
 lines_at text tokens said before (t ∷ ts) =
     follow_line text before t
-    ++ (meant_line text t
-    ++ (meant_before text before t
+    ++ (word_lines (foreign_note text tokens before t ts) text before t
     ++ (reserved_line (reserved_at text before t ts)
-    ++ statement_lines text tokens said before t)))
+    ++ statement_lines text tokens said before t))
 
 abbrev pub syntax_lines : List ℕ → List Token → Place → List ℕ
 syntax_lines text tokens place =

@@ -1,7 +1,7 @@
-//! What has no END yet where an END, or what comes only after one, may not stand.
+//! What has no END yet where what comes only after one may not stand, and what an END ends.
 
 ghost use Rattle.std.specs.Prelude.{◌≡◌, ◌++◌, None, OnOk};
-ghost use Rattle.refusal_help.specs.Unended.{asks_end, begins_block, block_line, block_lines, end_line, end_of, ended_at, ended_lines, is_for, last_ended, last_line, later, open_lines, unended_line, unended_lines};
+ghost use Rattle.grammar_help.specs.Unended.{asks_end, asks_ended, begins_block, block_line, block_lines, end_line, end_of, ended_at, ended_line, is_for, last_ended, last_line, later, open_lines, unended_line};
 
 use crate::belongs::begins_statement;
 use help_text::{Part, add_line, is_at, is_symbol, spelled};
@@ -105,7 +105,7 @@ fn add_blocks(out: &mut Bytes, text: &[u8], tokens: &[Token], place: Place) -> R
 }
 
 /// What a token begins, and the END among the next ones that ends it.
-fn ended_at(text: &[u8], token: Token, others: &[Token], place: Place) -> Option<(Token, Token)>
+pub fn ended_at(text: &[u8], token: Token, others: &[Token], place: Place) -> Option<(Token, Token)>
     ensures { result ≡ ended_at text.now place token others.now }
 {
     if !begins_block(text, token, others) {
@@ -174,21 +174,25 @@ fn add_last(out: &mut Bytes, text: &[u8], found: Option<(Token, Token)>) -> Resu
     }
 }
 
-/// Whether a token is an END, or stands only where all before it has one.
+/// Whether a token stands only where all before it has its END.
 #[tactic(auto, unfolding(crate::specs::Unended::asks_end))]
 fn asks_end(text: &[u8], token: Token) -> bool
     ensures { result ≡ asks_end text.now token }
 {
     let word = spelled(text, token);
     matches!(token.kind, TokenKind::End)
-        || same_bytes(word, b"END")
         || same_bytes(word, b"MACRO")
         || same_bytes(word, b"DRAWING")
         || same_bytes(word, b"CASE")
 }
 
-/// What has no END before a token, where the token is an END or comes after one.
-fn add_open(out: &mut Bytes, text: &[u8], tokens: &[Token], token: Token) -> Result<(), NoMemory>
+/// What has no END before a token, where the token comes only after all ENDs.
+pub fn add_open(
+    out: &mut Bytes,
+    text: &[u8],
+    tokens: &[Token],
+    token: Token,
+) -> Result<(), NoMemory>
     ensures { OnOk result (out.new ≡ out.old ++ open_lines text.now tokens.now token) }
 {
     if asks_end(text, token) {
@@ -198,33 +202,22 @@ fn add_open(out: &mut Bytes, text: &[u8], tokens: &[Token], token: Token) -> Res
     }
 }
 
-/// What the last END before a token ends, where the token is such a one, or begins a statement.
-fn add_ended(
-    out: &mut Bytes,
-    text: &[u8],
-    tokens: &[Token],
-    before: Option<Token>,
-    token: Token,
-) -> Result<(), NoMemory>
-    ensures { OnOk result (out.new ≡ out.old ++ ended_lines text.now tokens.now before token) }
+/// Whether it is told of a token what the ENDs before it end: it is such a one, or begins a
+/// statement after this token.
+pub fn asks_ended(text: &[u8], before: Option<Token>, token: Token) -> bool
+    ensures { result ≡ asks_ended text.now before token }
 {
-    if asks_end(text, token) || begins_statement(text, before, token) {
-        add_last(out, text, last_ended(text, tokens, token.place))
-    } else {
-        Ok(())
-    }
+    asks_end(text, token) || begins_statement(text, before, token)
 }
 
-/// What has no END before a token that comes after this one, and what the last END before it ends.
-pub fn add_unended(
+/// What the last END before a place ends.
+pub fn add_ended(
     out: &mut Bytes,
     text: &[u8],
     tokens: &[Token],
-    before: Option<Token>,
-    token: Token,
+    place: Place,
 ) -> Result<(), NoMemory>
-    ensures { OnOk result (out.new ≡ out.old ++ unended_lines text.now tokens.now before token) }
+    ensures { OnOk result (out.new ≡ out.old ++ ended_line text.now tokens.now place) }
 {
-    add_open(out, text, tokens, token)?;
-    add_ended(out, text, tokens, before, token)
+    add_last(out, text, last_ended(text, tokens, place))
 }

@@ -1,6 +1,6 @@
 use Rattle.std.proofs.Common.{◌≡◌, ◌++◌, length}
-use Rattle.refusal_help.specs.Unended.{block_lines}
-use Rattle.refusal_help.proofs.unended.add_blocks.Given as goal
+use Rattle.grammar_help.specs.Unended.{block_lines}
+use Rattle.grammar_help.proofs.unended.add_blocks.Given as goal
 
 abbrev pub invariant-tokens : goal.invariant-tokens
 invariant-tokens l =

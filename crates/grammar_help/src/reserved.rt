@@ -1,7 +1,7 @@
 //! Words that are none of a drawing's own.
 
 ghost use Rattle.std.specs.Prelude.{◌≡◌, ◌++◌, OnOk};
-ghost use Rattle.refusal_help.specs.Reserved.{declares, gives, reserved_at, reserved_line};
+ghost use Rattle.grammar_help.specs.Reserved.{declares, gives, reserved_at, reserved_line};
 
 use help_text::{Keyword, Part, add_line, is_symbol, reserved_word, spelled};
 use scald_base::{Bytes, NoMemory, same_bytes};

@@ -2,12 +2,14 @@
 
 ghost use Rattle.std.specs.Prelude.{◌≡◌, ◌++◌, OnOk};
 ghost use Rattle.help_text.specs.Text.{part_text};
-ghost use Rattle.refusal_help.specs.Syntax.{follow_line, meant_before, meant_keyword, meant_line, named, statement_lines, syntax_lines};
-ghost use Rattle.refusal_help.specs.Version.{said_version};
+ghost use Rattle.grammar_help.specs.Syntax.{ends_lines, follow_line, meant_before, meant_keyword, meant_line, named, statement_lines, syntax_lines, word_lines};
+ghost use Rattle.grammar_help.specs.Version.{said_version};
 
 use crate::belongs::belongs_note;
+use crate::foreign::foreign_note;
 use crate::reserved::add_reserved;
-use crate::unended::add_unended;
+use crate::shifted::add_shifted;
+use crate::unended::{add_ended, add_open, asks_ended};
 use crate::version::{add_versions, is_later, said_version};
 use element_kinds::is_kind_name;
 use help_text::{
@@ -102,6 +104,43 @@ fn add_meant_before(
     }
 }
 
+/// This note, or else which word of the language may be meant by a token or by the one before it.
+fn add_words(
+    out: &mut Bytes,
+    note: &[u8],
+    text: &[u8],
+    before: Option<Token>,
+    token: Token,
+) -> Result<(), NoMemory>
+    ensures { OnOk result (out.new ≡ out.old ++ word_lines note.now text.now before token) }
+{
+    match note {
+        [] => {
+            add_meant(out, text, token)?;
+            add_meant_before(out, text, before, token)
+        }
+        [_, ..] => out.extend(note),
+    }
+}
+
+/// What ENDs before a token end that comes after this one.
+fn add_ends(
+    out: &mut Bytes,
+    text: &[u8],
+    tokens: &[Token],
+    before: Option<Token>,
+    token: Token,
+) -> Result<(), NoMemory>
+    ensures { OnOk result (out.new ≡ out.old ++ ends_lines text.now tokens.now before token) }
+{
+    if asks_ended(text, before, token) {
+        add_ended(out, text, tokens, token.place)?;
+        add_shifted(out, text, tokens, token.place)
+    } else {
+        Ok(())
+    }
+}
+
 /// What the version that the text says and the statements before a token tell of it.
 fn add_statement(
     out: &mut Bytes,
@@ -116,7 +155,8 @@ fn add_statement(
     let said = said_version(text, tokens);
     let later = is_later(text, said, before, token);
     add_versions(out, said, later)?;
-    add_unended(out, text, tokens, before, token)?;
+    add_open(out, text, tokens, token)?;
+    add_ends(out, text, tokens, before, token)?;
     out.extend(belongs_note(later, text, before, token))
 }
 
@@ -134,8 +174,13 @@ pub fn add_syntax(
     };
     let before = before_place(tokens, place);
     add_follow(out, text, before, *token)?;
-    add_meant(out, text, *token)?;
-    add_meant_before(out, text, before, *token)?;
+    add_words(
+        out,
+        foreign_note(text, tokens, before, *token, others),
+        text,
+        before,
+        *token,
+    )?;
     add_reserved(out, text, before, *token, others)?;
     add_statement(out, text, tokens, before, *token)
 }

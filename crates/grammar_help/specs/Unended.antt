@@ -1,4 +1,4 @@
--- What has no END yet where an END, or what comes only after one, may not stand.
+-- What has no END yet where what comes only after one may not stand, and what an END ends.
 use Rattle.std.specs.Prelude.{ℕ, Bool, true, false, ◌&&◌, ◌||◌, ◌==◌, nat_lt, ◌+◌, ◌-◌, ◌^◌, min, List, [], ◌∷◌, ◌++◌, codes, Option, Some, None, if◌then◌else◌}
 use Rattle.std.specs.Str.{bytes_eq}
 use Rattle.scald_base.specs.declared.refusal.Place.{Place}
@@ -8,7 +8,7 @@ use Rattle.scald_lex.specs.declared.token.Token.{Token}
 use Rattle.help_text.specs.Statement.{is_at, spelled}
 use Rattle.help_text.specs.Text.{line, place_text}
 use Rattle.help_text.specs.Tokens.{is_symbol}
-use Rattle.refusal_help.specs.Belongs.{begins_statement}
+use Rattle.grammar_help.specs.Belongs.{begins_statement}
 
 -- ---- what an END ends
 
@@ -100,23 +100,23 @@ ends_text Arrow = false
 ends_text (Symbol b) = false
 ends_text End = true
 
--- the token is an END, or stands only where all before it has one
+-- The token stands only where all before it has its END. An END that may not stand is no such token:
+-- it may stand wherever a statement may, if anything has no END.
 unfoldable pub asks_end : List ℕ → Token → Bool
 asks_end text t =
     ends_text t.kind
-    || (bytes_eq (spelled text t) (codes "END")
     || (bytes_eq (spelled text t) (codes "MACRO")
     || (bytes_eq (spelled text t) (codes "DRAWING")
-    || bytes_eq (spelled text t) (codes "CASE"))))
+    || bytes_eq (spelled text t) (codes "CASE")))
 
 abbrev pub open_lines : List ℕ → List Token → Token → List ℕ
 open_lines text tokens t = if asks_end text t then block_lines text t.place tokens else []
 
--- The same is told of a word that begins a statement, since the END before it may be one too many.
-abbrev pub ended_lines : List ℕ → List Token → Option Token → Token → List ℕ
-ended_lines text tokens before t =
-    if asks_end text t || begins_statement text before t then last_line text (last_ended text t.place None tokens)
-    else []
+-- What ENDs end is told of such a token too, and of a word that begins a statement, since the END
+-- before it may be one too many.
+abbrev pub asks_ended : List ℕ → Option Token → Token → Bool
+asks_ended text before t = asks_end text t || begins_statement text before t
 
-abbrev pub unended_lines : List ℕ → List Token → Option Token → Token → List ℕ
-unended_lines text tokens before t = open_lines text tokens t ++ ended_lines text tokens before t
+-- the last END before the place
+abbrev pub ended_line : List ℕ → List Token → Place → List ℕ
+ended_line text tokens place = last_line text (last_ended text place None tokens)

@@ -1,7 +1,7 @@
 //! The version that a text says it is of, and words that its version may not have.
 
 ghost use Rattle.std.specs.Prelude.{◌≡◌, ◌++◌, OnOk};
-ghost use Rattle.refusal_help.specs.Version.{follows_later, is_later, is_version, lacks_later, later_line, said_version, version_line, version_lines};
+ghost use Rattle.grammar_help.specs.Version.{follows_later, is_later, is_version, lacks_later, later_line, said_version, version_line, version_lines};
 
 use help_text::{Part, add_line, is_number, is_word, number_of, spelled};
 use scald_base::{Bytes, NoMemory, same_bytes};

@@ -1,10 +1,10 @@
 use Rattle.std.proofs.Common.{◌≡◌, ℕ, List, ap, sym, ◌∙◌}
 use Rattle.std.specs.Prelude.{Option}
 use Rattle.scald_lex.specs.declared.token.Token.{Token}
-use Rattle.refusal_help.specs.Syntax.{follow_line, named, no_first, no_follower}
+use Rattle.grammar_help.specs.Syntax.{follow_line, named, no_first, no_follower}
 use Rattle.help_text.specs.Text.{part_text}
-use Rattle.refusal_help.proofs.Said.{instead}
-use Rattle.refusal_help.proofs.syntax.add_follow.Goals as goal
+use Rattle.grammar_help.proofs.Said.{instead}
+use Rattle.grammar_help.proofs.syntax.add_follow.Goals as goal
 
 pub returns-in-None : goal.returns-in-None
 returns-in-None c =

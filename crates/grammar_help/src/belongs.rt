@@ -1,7 +1,7 @@
 //! Where a statement belongs that stands where it may not, by its first word.
 
 ghost use Rattle.std.specs.Prelude.{◌≡◌};
-ghost use Rattle.refusal_help.specs.Belongs.{begins_statement, belongs, belongs_lines, ends_before, is_own, misplaced, statement_word};
+ghost use Rattle.grammar_help.specs.Belongs.{begins_statement, belongs, belongs_lines, ends_before, is_own, misplaced, statement_word};
 
 use help_text::{Keyword, is_symbol, is_word, reserved_word, spelled};
 use scald_base::same_bytes;

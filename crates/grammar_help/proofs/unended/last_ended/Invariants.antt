@@ -1,6 +1,6 @@
 use Rattle.std.proofs.Common.{◌≡◌, None, length}
-use Rattle.refusal_help.specs.Unended.{last_ended}
-use Rattle.refusal_help.proofs.unended.last_ended.Given as goal
+use Rattle.grammar_help.specs.Unended.{last_ended}
+use Rattle.grammar_help.proofs.unended.last_ended.Given as goal
 
 abbrev pub invariant-tokens : goal.invariant-tokens
 invariant-tokens l = last_ended l.text l.place l.last l.rest ≡ last_ended l.text l.place None l.tokens

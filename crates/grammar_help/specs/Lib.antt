@@ -1,0 +1,7 @@
+pub mod Reserved
+pub mod Version
+pub mod Belongs
+pub mod Foreign
+pub mod Unended
+pub mod Shifted
+pub mod Syntax

@@ -1,0 +1,172 @@
+//! How what other languages write so is written here.
+
+ghost use Rattle.std.specs.Prelude.{◌≡◌, false};
+ghost use Rattle.grammar_help.specs.Foreign.{comment_note, else_note, end_note, foreign_note, goes_on, in_condition, inverts, invert_note, is_joined_else, is_joined_end, is_name, join_note, joins, opens_comment, word_note};
+
+use help_text::{first_of, is_at, is_symbol, near, spelled};
+use scald_base::{Place, same_bytes};
+use scald_lex::{Token, TokenKind};
+
+/// Whether these tokens are a `/` and right after it a `/` or a `*`.
+fn opens_comment(first: Option<Token>, second: Option<Token>) -> bool
+    ensures { result ≡ opens_comment first second }
+{
+    let Some(first) = first else {
+        return false;
+    };
+    let Some(second) = second else {
+        return false;
+    };
+    is_symbol(first, b'/')
+        && (is_symbol(second, b'/') || is_symbol(second, b'*'))
+        && first.end == second.start
+}
+
+/// Whether a token is a name in quotes.
+fn is_name(token: Token) -> bool
+    ensures { result ≡ is_name token.kind }
+{
+    matches!(token.kind, TokenKind::Name)
+}
+
+/// Whether these tokens are a `!` and a name.
+fn inverts(first: Option<Token>, second: Option<Token>) -> bool
+    ensures { result ≡ inverts first second }
+{
+    let Some(first) = first else {
+        return false;
+    };
+    let Some(second) = second else {
+        return false;
+    };
+    is_symbol(first, b'!') && is_name(second)
+}
+
+/// Whether a condition goes on after a token, or begins with it, where it stands inside one or not.
+fn goes_on(text: &[u8], is_inside: bool, token: Token) -> bool
+    ensures { result ≡ goes_on text.now is_inside token }
+{
+    let word = spelled(text, token);
+    same_bytes(word, b"IF") || is_inside && !(same_bytes(word, b"THEN") || is_symbol(token, b';'))
+}
+
+/// Whether a place is in the condition of an IF.
+fn in_condition(text: &[u8], tokens: &[Token], place: Place) -> bool
+    ensures { result ≡ in_condition text.now place false tokens.now }
+{
+    let mut is_inside = false;
+    let mut rest = tokens;
+    'tokens: while let [token, others @ ..] = rest {
+        if is_at(*token, place) {
+            return is_inside;
+        }
+        is_inside = goes_on(text, is_inside, *token);
+        rest = others;
+    }
+    is_inside
+}
+
+/// Whether a token joins conditions in other languages.
+#[tactic(auto, unfolding(crate::specs::Foreign::joins))]
+fn joins(text: &[u8], token: Token) -> bool
+    ensures { result ≡ joins text.now token }
+{
+    let word = spelled(text, token);
+    is_symbol(token, b'&') || near(0, word, b"AND") || near(0, word, b"OR")
+}
+
+/// Whether a word is an END with another word.
+#[tactic(auto, unfolding(crate::specs::Foreign::is_joined_end))]
+fn is_joined_end(word: &[u8]) -> bool
+    ensures { result ≡ is_joined_end word.now }
+{
+    near(0, word, b"ENDIF") || near(0, word, b"ENDFOR") || near(0, word, b"ENDMACRO")
+}
+
+/// Whether a word is an ELSE with an IF.
+#[tactic(auto, unfolding(crate::specs::Foreign::is_joined_else))]
+fn is_joined_else(word: &[u8]) -> bool
+    ensures { result ≡ is_joined_else word.now }
+{
+    near(0, word, b"ELSIF") || near(0, word, b"ELSEIF") || near(0, word, b"ELIF")
+}
+
+/// How a comment is written.
+#[tactic(auto, unfolding(crate::specs::Foreign::comment_note))]
+fn comment_note() -> &'static [u8]
+    ensures { result.now ≡ comment_note }
+{
+    b"    a comment begins with --\n"
+}
+
+/// How a name is inverted.
+#[tactic(auto, unfolding(crate::specs::Foreign::invert_note))]
+fn invert_note() -> &'static [u8]
+    ensures { result.now ≡ invert_note }
+{
+    b"    a - before a name inverts it; a ! stands only after a connection, in the mark !H\n"
+}
+
+/// How conditions are joined.
+#[tactic(auto, unfolding(crate::specs::Foreign::join_note))]
+fn join_note() -> &'static [u8]
+    ensures { result.now ≡ join_note }
+{
+    b"    conditions are joined by * and +: (A = 1) * (B = 2) holds where both do, (A = 1) + (B = 2) where one does\n"
+}
+
+/// How a block ends.
+#[tactic(auto, unfolding(crate::specs::Foreign::end_note))]
+fn end_note() -> &'static [u8]
+    ensures { result.now ≡ end_note }
+{
+    b"    what an IF, FOR, MACRO or DRAWING begins ends with END;\n"
+}
+
+/// How an IF in an ELSE is written.
+#[tactic(auto, unfolding(crate::specs::Foreign::else_note))]
+fn else_note() -> &'static [u8]
+    ensures { result.now ≡ else_note }
+{
+    b"    an IF in an ELSE is written ELSE IF, and each of the two has an END; of its own\n"
+}
+
+/// What is said of the word before a token.
+fn word_note(text: &[u8], before: Option<Token>) -> &'static [u8]
+    ensures { result.now ≡ word_note text.now before }
+{
+    let Some(last) = before else {
+        return b"";
+    };
+    let word = spelled(text, last);
+    if is_joined_end(word) {
+        end_note()
+    } else if is_joined_else(word) {
+        else_note()
+    } else {
+        b""
+    }
+}
+
+/// How what stands at a token is written here, where other languages write it so: by the token
+/// before it and those after it.
+pub fn foreign_note(
+    text: &[u8],
+    tokens: &[Token],
+    before: Option<Token>,
+    token: Token,
+    others: &[Token],
+) -> &'static [u8]
+    ensures { result.now ≡ foreign_note text.now tokens.now before token others.now }
+{
+    let next = first_of(others);
+    if opens_comment(before, Some(token)) || opens_comment(Some(token), next) {
+        comment_note()
+    } else if inverts(before, Some(token)) || inverts(Some(token), next) {
+        invert_note()
+    } else if joins(text, token) && in_condition(text, tokens, token.place) {
+        join_note()
+    } else {
+        word_note(text, before)
+    }
+}

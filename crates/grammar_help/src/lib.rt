@@ -1,0 +1,18 @@
+//! What helps where no drawing continues with a token.
+//!
+//! [`add_syntax`] says what stands there and after what (`specs/Syntax`), which word of the language
+//! may be meant, whether a word is reserved (`specs/Reserved`) or of another version
+//! (`specs/Version`), how what other languages write so is written here (`specs/Foreign`), where
+//! the statement belongs (`specs/Belongs`), and what has no END yet and what an END ends
+//! (`specs/Unended`, `specs/Shifted`). `refusal_help` calls it for a Syntax.
+#![tactic(auto)]
+
+mod belongs;
+mod foreign;
+mod reserved;
+mod shifted;
+mod syntax;
+mod unended;
+mod version;
+
+pub use syntax::add_syntax;
