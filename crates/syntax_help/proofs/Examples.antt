@@ -1,6 +1,6 @@
 -- The tokens that are tried are one of each kind that the grammar tells apart; texts with them, and
 -- what is said, worked out on paper.
-use Rattle.std.proofs.Common.{◌≡◌, ℕ, ◌+◌, true, false, List, [], ◌∷◌, map, refl, pos}
+use Rattle.std.proofs.Common.{◌≡◌, ℕ, ◌+◌, true, false, List, [], ◌∷◌, map, refl}
 use Rattle.std.specs.Prelude.{codes, Some, None}
 use Rattle.scald_lex.specs.declared.token.Token.{Token}
 use Rattle.scald_lex.specs.declared.token.TokenKind.{TokenKind}
@@ -10,7 +10,8 @@ use Rattle.drawing_grammar.specs.declared.terminal.Terminal.{Terminal}
 use Rattle.drawing_grammar.specs.declared.terminal.Terminal.TheVariants as grammar
 use Rattle.syntax_help.specs.declared.sample.Sample.TheVariants.{Word, Scald, Clock, Wire, Pskew, Cskew, Macro, Drawing, Case, If, Then, Else, End, Zero, One, Const, To, Do, Ticks, Hazard, Arrow, Semicolon, Colon, Comma, OpenParenthesis, CloseParenthesis, Less, Greater, OpenBracket, CloseBracket, OpenBrace, CloseBrace, Equals, Plus, Minus, Star, Slash, Ampersand, Exclamation}
 use Rattle.syntax_help.specs.Sample.{spelling}
-use Rattle.syntax_help.specs.Told.{after_word, expected_line, is_late, missing_line}
+use Rattle.syntax_help.specs.Missing.{end_of, is_late, mended}
+use Rattle.syntax_help.specs.Told.{expected_line, meant_end, meant_line, missing_end, missing_line, spare_lines}
 use Rattle.syntax_help.specs.Trial.{next_line, trial}
 
 -- the words
@@ -71,25 +72,66 @@ two = refl
 none : expected_line [] ≡ codes "    what may stand here:\n"
 none = refl
 
-semicolon : missing_line false (codes "b2") (Some Semicolon) ≡ codes "    is ; missing here?\n"
+-- what is asked
+semicolon : missing_line (Semicolon ∷ []) (Semicolon ∷ []) ≡ codes "    is ; missing here?\n"
+unfolding missing_end
 semicolon = refl
 
-in_place : missing_line true (codes "DO") (Some Then) ≡ codes "    is THEN missing here, or meant in place of 'DO'?\n"
-in_place = refl
+either : missing_line (Comma ∷ CloseParenthesis ∷ Ampersand ∷ []) (Comma ∷ Ampersand ∷ []) ≡
+    codes "    is , or & missing here?\n"
+unfolding missing_end
+either = refl
 
-nothing : missing_line false (codes "b2") None ≡ []
+nothing : missing_line (Semicolon ∷ []) [] ≡ []
 nothing = refl
 
--- of a word of the drawing's own the token behind it is tried, and of no other
+-- a parenthesis of an expression, where a + may stand, and of a list
+in_expression : missing_line (CloseParenthesis ∷ Plus ∷ []) (CloseParenthesis ∷ []) ≡
+    codes "    is ) missing here or earlier?\n"
+unfolding missing_end
+in_expression = refl
+
+in_list : missing_line (Comma ∷ CloseParenthesis ∷ []) (CloseParenthesis ∷ []) ≡ codes "    is ) missing here?\n"
+unfolding missing_end
+in_list = refl
+
+in_place : meant_line (codes "DO") (Then ∷ []) ≡ codes "    is THEN meant in place of 'DO'?\n"
+unfolding meant_end
+in_place = refl
+
+one_more : spare_lines true (kind.Symbol 59) (codes ";") [] [] ≡ codes "    is ';' one too many here?\n"
+one_more = refl
+
+closed : spare_lines true (kind.Symbol 41) (codes ")") [] [] ≡
+    codes "    is ')' one too many here, or is ( missing before it?\n"
+closed = refl
+
+-- not where it is needed, or something else is asked for
+needed : spare_lines false (kind.Symbol 59) (codes ";") [] [] ≡ []
+needed = refl
+
+a_word : spare_lines true kind.Word (codes "b2") [] [] ≡ []
+a_word = refl
+
+missing_one : spare_lines true kind.Name (codes "\"B\"") (Comma ∷ []) [] ≡ []
+missing_one = refl
+
+-- ---- the text that is read: the statement A B; with a comma before B
+
 abbrev token_of : TokenKind → ℕ → ℕ → Token
 token_of k start end = record { kind = k; place = record { line = 1; col = start + 1 }; start = start; end = end }
 
-own_word : after_word (codes "DO b") (token_of kind.Word 0 2) (token_of kind.Word 3 4 ∷ []) ≡
-    Some (token_of kind.Word 3 4)
-own_word = refl
+with_comma : mended (codes "SCALD 1;A B;") (codes "SCALD 1;A ") (codes ",") 10 (token_of (kind.Symbol 59) 11 12) ≡
+    codes "SCALD 1;A \n, B;"
+with_comma = refl
 
-reserved_word : after_word (codes "IF b") (token_of kind.Word 0 2) (token_of kind.Word 3 4 ∷ []) ≡ None
-reserved_word = refl
+-- it ends with the first `;`, unless that is late
+first_end : end_of (token_of kind.Word 10 11 ∷ token_of (kind.Symbol 59) 11 12 ∷ token_of (kind.Symbol 59) 13 14 ∷ []) ≡
+    Some (token_of (kind.Symbol 59) 11 12)
+first_end = refl
 
-no_word : after_word (codes "12 b") (token_of (kind.Number (pos 12)) 0 2) (token_of kind.Word 3 4 ∷ []) ≡ None
-no_word = refl
+no_end : end_of (token_of kind.Word 10 11 ∷ []) ≡ None
+no_end = refl
+
+late_end : end_of (after_bytes 262145 ∷ record { kind = kind.Symbol 59; place = record { line = 2; col = 2 }; start = 262145; end = 262146 } ∷ []) ≡ None
+late_end = refl

@@ -1,6 +1,6 @@
 pub mod Judged
 pub mod Listed
+pub mod Chosen
 pub mod Trying
 pub mod Mending
-pub mod Telling
 pub mod Examples

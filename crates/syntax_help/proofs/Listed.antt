@@ -1,10 +1,10 @@
 -- What is listed.
-use Rattle.std.proofs.Common.{◌≡◌, ℕ, Bool, true, false, List, [], ◌∷◌, ◌++◌, take, refl, sym, subst}
+use Rattle.std.proofs.Common.{◌≡◌, ℕ, Bool, true, false, List, refl}
 use Rattle.std.specs.Prelude.{◌&&◌}
 use Rattle.scald_base.specs.declared.refusal.Place.{Place}
 use Rattle.syntax_help.specs.declared.sample.Sample.{Sample}
 use Rattle.syntax_help.specs.declared.sample.Sample.TheVariants.{Word}
-use Rattle.syntax_help.specs.Expected.{AreExpected, IsListed, Says, left_out, listed, none}
+use Rattle.syntax_help.specs.Expected.{IsListed, Says}
 use Rattle.syntax_help.specs.Sample.{is_word, spelling}
 use Rattle.syntax_help.specs.Trial.{CannotStand, IsTrial}
 
@@ -35,24 +35,3 @@ pub listed_says : (front : List ℕ) (place : Place) (s : Sample) (any b : Bool)
 listed_says front place s any true may e stands =
     record { stands = stands; alone = λ word. alone_of front place s any (is_word s) may e word }
 listed_says front place s any false may e cannot = λ l. l.stands cannot
-
--- ---- one after another
-
-pub begun : (front : List ℕ) (place : Place) (ss found : List Sample) → found ≡ [] →
-    AreExpected front place (take 0 ss) found
-begun front place ss found none_yet =
-    subst (λ (f : List Sample). AreExpected front place [] f) (sym none_yet) none
-
-pub one_listed : (front : List ℕ) (place : Place) (tried found new : List Sample) (s : Sample) (b : Bool) →
-    b ≡ true → Says (IsListed front place s) b → AreExpected front place tried found →
-    new ≡ found ++ s ∷ [] → AreExpected front place (tried ++ s ∷ []) new
-one_listed front place tried found new s true e is are put =
-    subst (λ (f : List Sample). AreExpected front place (tried ++ s ∷ []) f) (sym put) (listed tried found s are is)
-one_listed front place tried found new s false e is are put = absurd (let f : false ≡ true = e in cc)
-
-pub one_left_out : (front : List ℕ) (place : Place) (tried found new : List Sample) (s : Sample) (b : Bool) →
-    b ≡ false → Says (IsListed front place s) b → AreExpected front place tried found → new ≡ found →
-    AreExpected front place (tried ++ s ∷ []) new
-one_left_out front place tried found new s false e is are same =
-    subst (λ (f : List Sample). AreExpected front place (tried ++ s ∷ []) f) (sym same) (left_out tried found s are is)
-one_left_out front place tried found new s true e is are same = absurd (let f : true ≡ false = e in cc)

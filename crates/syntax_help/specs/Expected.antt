@@ -17,10 +17,10 @@ abbrev pub Says : Type 0 → Bool → Type 0
 Says P true = P
 Says P false = ¬ P
 
--- Of these, in their order, those are listed.
-pub data AreExpected (front : List ℕ) (place : Place) : List Sample → List Sample → Type 0 where
-  none : AreExpected front place [] []
-  listed : (tried found : List Sample) (s : Sample) → AreExpected front place tried found →
-      IsListed front place s → AreExpected front place (tried ++ s ∷ []) (found ++ s ∷ [])
-  left_out : (tried found : List Sample) (s : Sample) → AreExpected front place tried found →
-      ¬ IsListed front place s → AreExpected front place (tried ++ s ∷ []) found
+-- Of these, in their order, those are chosen of which it holds.
+pub data AreChosen (P : Sample → Type 0) : List Sample → List Sample → Type 0 where
+  none : AreChosen P [] []
+  chosen : (tried found : List Sample) (s : Sample) → AreChosen P tried found → P s →
+      AreChosen P (tried ++ s ∷ []) (found ++ s ∷ [])
+  left_out : (tried found : List Sample) (s : Sample) → AreChosen P tried found → ¬ P s →
+      AreChosen P (tried ++ s ∷ []) found

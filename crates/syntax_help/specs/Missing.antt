@@ -1,39 +1,58 @@
--- Which token may be missing before one that may not stand.
-use Rattle.std.specs.Prelude.{◌≡◌, ℕ, ◌<◌, Bool, false, List, [], ◌∷◌, length, get_or, Option, Some, None}
-use Rattle.scald_base.specs.declared.refusal.Place.{Place}
+-- With which token a statement goes on that may not go on as it does.
+use Rattle.std.specs.Prelude.{◌≡◌, ℕ, Bool, true, false, nat_lt, List, [], ◌∷◌, ◌++◌, slice_range, codes, Option, Some, None, if◌then◌else◌}
 use Rattle.scald_lex.specs.declared.token.Token.{Token}
-use Rattle.help_text.specs.Statement.{spelled}
+use Rattle.help_text.specs.Tokens.{is_symbol}
 use Rattle.syntax_help.specs.declared.sample.Sample.{Sample}
-use Rattle.syntax_help.specs.declared.sample.Sample.TheVariants.{Word, Then, To, Do, Arrow, Semicolon, Comma, CloseParenthesis, Greater, CloseBracket, CloseBrace}
-use Rattle.syntax_help.specs.Expected.{IsListed, Says}
+use Rattle.syntax_help.specs.declared.sample.Sample.TheVariants.{Then, To, Do, Arrow, Semicolon, Colon, Comma, OpenParenthesis, CloseParenthesis, Less, Greater, OpenBracket, CloseBracket, OpenBrace, CloseBrace, Equals, Ampersand}
 use Rattle.syntax_help.specs.Sample.{spelling}
 use Rattle.syntax_help.specs.Trial.{CannotStand, next_line, trial}
 
--- It is listed after the front of a text, which ends at the place, and the token may stand after
--- it.
-pub record Mends (front : List ℕ) (place : Place) (token : List ℕ) (s : Sample) : Type 0 where
-  pub stands : IsListed front place s
-  pub goes_on : ¬ CannotStand (trial front (spelling s)) (next_line place) token
+-- so many bytes stand before it that they are not read again and again
+abbrev pub is_late : Token → Bool
+is_late t = nat_lt 262144 t.start
 
--- none of the first n of these does
-abbrev pub NoneMends : List ℕ → Place → List ℕ → List Sample → ℕ → Type 0
-NoneMends front place token ss n = (i : ℕ) → i < n → ¬ Mends front place token (get_or ss i Word)
+abbrev pub unless_late : Token → Option Token
+unless_late t = if is_late t then None else Some t
 
--- the first of these that does, where one does
-pub data IsFirst (front : List ℕ) (place : Place) (token : List ℕ) (ss : List Sample) : Option Sample → Type 0 where
-  first : (n : ℕ) → n < length ss → NoneMends front place token ss n → Mends front place token (get_or ss n Word) →
-      IsFirst front place token ss (Some (get_or ss n Word))
-  none : NoneMends front place token ss (length ss) → IsFirst front place token ss None
+-- the `;` with which the statement ends that goes on with these tokens, unless it is late
+abbrev pub end_of : List Token → Option Token
+end_of [] = None
+end_of (t ∷ ts) = if is_symbol 59 t.kind then unless_late t else end_of ts
 
--- Those that are asked for, in their order: what ends something comes before what goes on with it.
-abbrev pub asked : List Sample
-asked =
-    Semicolon ∷ Then ∷ To ∷ Do ∷ CloseParenthesis ∷ CloseBracket ∷ CloseBrace ∷ Greater ∷
-    Arrow ∷ Comma ∷ []
+-- The front of a text, then a token on a line of its own, and after it on the same line what the
+-- text has from a byte to the end of the statement: each line of that is one line further down.
+abbrev pub mended : List ℕ → List ℕ → List ℕ → ℕ → Token → List ℕ
+mended text front token from end = trial front token ++ codes " " ++ slice_range text from end.end
 
--- Whether the one that may be missing before a token may stand in place of it: where a token comes
--- next, that one may stand after it.
-abbrev pub StandsFor : List ℕ → List ℕ → Place → Option Token → Option Sample → Bool → Type 0
-StandsFor text front place next None b = b ≡ false
-StandsFor text front place None (Some s) b = b ≡ false
-StandsFor text front place (Some t) (Some s) b = Says (Mends front place (spelled text t) s) b
+-- The statement goes on so: up to its `;` nothing is wrong. For a second `;` right behind it, on the
+-- next line, is what no drawing continues with.
+abbrev pub GoesOn : List ℕ → List ℕ → List ℕ → ℕ → Option Token → Type 0
+GoesOn text front token from None = ⊥
+GoesOn text front token from (Some end) =
+    CannotStand (mended text front token from end) (next_line end.place) (codes ";")
+
+-- what ends something, or goes on with it
+abbrev pub is_asked : Sample → Bool
+is_asked Then = true
+is_asked To = true
+is_asked Do = true
+is_asked Arrow = true
+is_asked Semicolon = true
+is_asked Colon = true
+is_asked Comma = true
+is_asked OpenParenthesis = true
+is_asked CloseParenthesis = true
+is_asked Less = true
+is_asked Greater = true
+is_asked OpenBracket = true
+is_asked CloseBracket = true
+is_asked OpenBrace = true
+is_asked CloseBrace = true
+is_asked Equals = true
+is_asked Ampersand = true
+is_asked sample = false
+
+-- With this one the statement goes on from a byte of the text.
+pub record Mends (text front : List ℕ) (from : ℕ) (end : Option Token) (s : Sample) : Type 0 where
+  pub asked : is_asked s ≡ true
+  pub goes_on : GoesOn text front (spelling s) from end

@@ -1,18 +1,19 @@
 -- What is said of the tokens that may stand at a place.
-use Rattle.std.specs.Prelude.{◌≡◌, ℕ, Bool, true, false, ◌&&◌, nat_lt, List, [], ◌∷◌, ◌++◌, take, codes, Option, Some, None, if◌then◌else◌}
-use Rattle.std.specs.List.{flat_map}
+use Rattle.std.specs.Prelude.{◌≡◌, ℕ, Bool, true, false, List, [], ◌∷◌, ◌++◌, take, codes, if◌then◌else◌}
+use Rattle.std.specs.List.{concat, flat_map, list_any}
 use Rattle.scald_base.specs.declared.refusal.Place.{Place}
 use Rattle.scald_base.specs.declared.refusal.Refusal.{Refusal}
 use Rattle.scald_lex.specs.declared.token.Token.{Token}
+use Rattle.scald_lex.specs.declared.token.TokenKind.{TokenKind}
+use Rattle.scald_lex.specs.declared.token.TokenKind.TheVariants.{Arrow, Symbol}
 use Rattle.scald_lex.specs.Tokens.{AreTokens, IsRefused}
-use Rattle.help_text.specs.declared.keyword.Keyword.{Keyword}
-use Rattle.help_text.specs.Keyword.{reserved_word}
-use Rattle.help_text.specs.Statement.{first_of, from_place, spelled}
-use Rattle.help_text.specs.Text.{line, quoted}
-use Rattle.help_text.specs.Tokens.{is_word}
+use Rattle.help_text.specs.Statement.{from_place, spelled}
+use Rattle.help_text.specs.Text.{quoted}
+use Rattle.help_text.specs.Tokens.{is_symbol}
 use Rattle.syntax_help.specs.declared.sample.Sample.{Sample}
-use Rattle.syntax_help.specs.Expected.{AreExpected}
-use Rattle.syntax_help.specs.Missing.{IsFirst, StandsFor, asked}
+use Rattle.syntax_help.specs.declared.sample.Sample.TheVariants.{CloseParenthesis, Plus}
+use Rattle.syntax_help.specs.Expected.{AreChosen, IsListed, Says}
+use Rattle.syntax_help.specs.Missing.{GoesOn, Mends, end_of, is_late}
 use Rattle.syntax_help.specs.Sample.{called, samples}
 
 abbrev pub sample_text : Sample → List ℕ
@@ -22,57 +23,92 @@ abbrev pub expected_line : List Sample → List ℕ
 expected_line found =
     codes "    what may stand here:" ++ (flat_map sample_text found ++ 10 ∷ [])
 
--- the question of one that may be missing
-abbrev pub question : Sample → List ℕ
-question sample = codes "    is " ++ (called sample ++ codes " missing here?\n")
+-- ---- questions
 
--- of one that may be missing before a token, or stand in place of it
-abbrev pub either_question : List ℕ → Sample → List ℕ
-either_question token sample = line (
-    codes "    is " ∷ called sample ∷ codes " missing here, or meant in place of " ∷ quoted token
-    ∷ codes "?" ∷ [])
+abbrev pub or_text : Sample → List ℕ
+or_text sample = codes " or " ++ called sample
 
-abbrev pub question_by : Bool → List ℕ → Sample → List ℕ
-question_by in_place token sample = if in_place then either_question token sample else question sample
+abbrev pub either_text : List Sample → List ℕ
+either_text [] = []
+either_text (s ∷ ss) = called s ++ flat_map or_text ss
 
-abbrev pub missing_line : Bool → List ℕ → Option Sample → List ℕ
-missing_line in_place token None = []
-missing_line in_place token (Some sample) = question_by in_place token sample
+abbrev pub is_plus : Sample → Bool
+is_plus Plus = true
+is_plus sample = false
 
--- The tokens that may stand after the front of a text, which ends at the place, and one that may be
--- missing before the token that stands there, or meant in place of it.
-pub record IsToldAfter (text front : List ℕ) (place : Place) (token : List ℕ) (next : Option Token) (bytes : List ℕ) : Type 0 where
+-- A parenthesis of an expression may as well be missing further to the left: there an operator may
+-- stand too.
+abbrev pub earlier_text : List Sample → List Sample → List ℕ
+earlier_text found (CloseParenthesis ∷ []) = if list_any is_plus found then codes " or earlier" else []
+earlier_text found missing = []
+
+unfoldable pub missing_end : List Sample → List Sample → List ℕ
+missing_end found missing =
+    concat (codes " missing here" ∷ earlier_text found missing ∷ codes "?\n" ∷ [])
+
+abbrev pub missing_text : List Sample → List Sample → List ℕ
+missing_text found missing = codes "    is " ++ (either_text missing ++ missing_end found missing)
+
+-- those that may be missing, where any may
+abbrev pub missing_line : List Sample → List Sample → List ℕ
+missing_line found [] = []
+missing_line found (s ∷ ss) = missing_text found (s ∷ ss)
+
+unfoldable pub meant_end : List ℕ → List ℕ
+meant_end token = concat (codes " meant in place of " ∷ quoted token ∷ codes "?\n" ∷ [])
+
+abbrev pub meant_text : List ℕ → List Sample → List ℕ
+meant_text token meant = codes "    is " ++ (either_text meant ++ meant_end token)
+
+-- those that may be meant in place of the token
+abbrev pub meant_line : List ℕ → List Sample → List ℕ
+meant_line token [] = []
+meant_line token (s ∷ ss) = meant_text token (s ∷ ss)
+
+abbrev pub spare_text : TokenKind → List ℕ
+spare_text kind =
+    if is_symbol 41 kind then codes " one too many here, or is ( missing before it?\n"
+    else codes " one too many here?\n"
+
+-- a symbol: without a word, a number or a name a statement may go on as one that is not meant
+abbrev pub is_sign : TokenKind → Bool
+is_sign Arrow = true
+is_sign (Symbol b) = true
+is_sign kind = false
+
+abbrev pub spare_line : TokenKind → List ℕ → List ℕ
+spare_line kind token =
+    if is_sign kind then codes "    is " ++ quoted token ++ spare_text kind else []
+
+-- whether the token is one too many, where none is missing, or meant in place of it
+abbrev pub spare_lines : Bool → TokenKind → List ℕ → List Sample → List Sample → List ℕ
+spare_lines true kind token [] [] = spare_line kind token
+spare_lines spare kind token missing meant = []
+
+-- The tokens that may stand after the front of a text, which ends at the place, and with which of
+-- them before the token that stands there, or in place of it, the statement goes on; or whether it
+-- goes on without the token. The token comes first of these.
+pub record IsToldAfter (text front : List ℕ) (place : Place) (t : Token) (ts : List Token) (bytes : List ℕ) : Type 0 where
   pub found : List Sample
-  pub expected : AreExpected front place samples found
-  pub missing : Option Sample
-  pub first : IsFirst front place token asked missing
-  pub in_place : Bool
-  pub stands : StandsFor text front place next missing in_place
-  pub are : bytes ≡ expected_line found ++ missing_line in_place token missing
+  pub expected : AreChosen (IsListed front place) samples found
+  pub missing : List Sample
+  pub mend : AreChosen (Mends text front t.start (end_of (t ∷ ts))) found missing
+  pub meant : List Sample
+  pub stand : AreChosen (Mends text front t.end (end_of ts)) found meant
+  pub spare : Bool
+  pub leaves : Says (GoesOn text front [] t.end (end_of ts)) spare
+  pub are : bytes ≡ expected_line found ++ missing_line found missing
+      ++ meant_line (spelled text t) meant ++ spare_lines spare t.kind (spelled text t) missing meant
 
--- so many bytes stand before it that they are not read again and again
-abbrev pub is_late : Token → Bool
-is_late t = nat_lt 262144 t.start
-
--- of a token and the one that comes next
-abbrev pub IsToldUnless : Bool → List ℕ → Place → Token → Option Token → List ℕ → Type 0
-IsToldUnless true text place t next bytes = bytes ≡ []
-IsToldUnless false text place t next bytes = IsToldAfter text (take t.start text) place (spelled text t) next bytes
-
-abbrev pub is_free : Option Keyword → Bool
-is_free None = true
-is_free (Some keyword) = false
-
--- The token after one that is a word of the drawing's own: of no other may one be meant in place of
--- it.
-abbrev pub after_word : List ℕ → Token → List Token → Option Token
-after_word text t ts =
-    if is_word t.kind && is_free (reserved_word (spelled text t)) then first_of ts else None
+-- of a token and those after it
+abbrev pub IsToldUnless : Bool → List ℕ → Place → Token → List Token → List ℕ → Type 0
+IsToldUnless true text place t ts bytes = bytes ≡ []
+IsToldUnless false text place t ts bytes = IsToldAfter text (take t.start text) place t ts bytes
 
 -- by the tokens from the place on
 abbrev pub IsToldOf : List ℕ → Place → List Token → List ℕ → Type 0
 IsToldOf text place [] bytes = bytes ≡ []
-IsToldOf text place (t ∷ ts) bytes = IsToldUnless (is_late t) text place t (after_word text t ts) bytes
+IsToldOf text place (t ∷ ts) bytes = IsToldUnless (is_late t) text place t ts bytes
 
 -- Nothing is said of a text that has no tokens, nor where no token stands at the place, or a late
 -- one.

@@ -1,7 +1,7 @@
 //! Which tokens may stand at a place.
 
 ghost use Rattle.std.specs.Prelude.{◌<◌, ◌^◌, length, IfOk};
-ghost use Rattle.syntax_help.specs.Expected.{AreExpected, IsListed, Says};
+ghost use Rattle.syntax_help.specs.Expected.{AreChosen, IsListed, Says};
 ghost use Rattle.syntax_help.specs.Sample.{samples, spelling};
 ghost use Rattle.syntax_help.specs.Trial.{IsTrial};
 ghost use Rattle.syntax_help.specs.declared.sample.Sample.TheVariants.{Word};
@@ -40,7 +40,7 @@ fn listed_among(
 ) -> Result<List<Sample>, NoMemory>
     requires short { length front.now < 2 ^ 31 }
     requires any { IsTrial front.now place (spelling Word) any_word }
-    ensures { IfOk result (AreExpected front.now place samples.now) }
+    ensures { IfOk result (AreChosen (IsListed front.now place) samples.now) }
 {
     let mut found = List::new(alloc);
     'samples: for sample in samples {
@@ -55,7 +55,7 @@ fn listed_among(
 /// front once for each of them. The one error is that memory ran out.
 pub fn expected(alloc: Global, front: &[u8], place: Place) -> Result<List<Sample>, NoMemory>
     requires { length front.now < 2 ^ 31 }
-    ensures { IfOk result (AreExpected front.now place samples) }
+    ensures { IfOk result (AreChosen (IsListed front.now place) samples) }
 {
     let any_word = may_stand(alloc, front, place, Sample::Word.spelling())?;
     listed_among(alloc, front, place, any_word, &SAMPLES)

@@ -1,19 +1,18 @@
 //! What is said of the tokens that may stand.
 
 ghost use Rattle.std.specs.Prelude.{◌≡◌, ◌++◌, ◌<◌, ◌^◌, length, IfOk, OnOk};
-ghost use Rattle.std.specs.List.{flat_map};
-ghost use Rattle.syntax_help.specs.Told.{IsTold, IsToldAfter, IsToldOf, IsToldUnless, after_word, either_question, expected_line, is_late, missing_line, question, sample_text};
+ghost use Rattle.std.specs.List.{flat_map, list_any};
+ghost use Rattle.help_text.specs.Statement.{spelled};
+ghost use Rattle.syntax_help.specs.Missing.{is_late};
+ghost use Rattle.syntax_help.specs.Told.{IsTold, IsToldAfter, IsToldOf, IsToldUnless, earlier_text, either_text, expected_line, is_plus, meant_end, meant_line, meant_text, missing_end, missing_line, missing_text, or_text, is_sign, sample_text, spare_line, spare_lines, spare_text};
 
 use crate::expected::expected;
-use crate::missing::{missing, stands_for};
+use crate::missing::{end_from, end_of, goes_on, is_late, mending};
 use crate::sample::Sample;
-use help_text::{Part, add_line, first_of, from_place, front, is_word, reserved_word, spelled};
+use help_text::{Part, add_parts, from_place, front, is_symbol, spelled};
 use scald_base::{Bytes, NoMemory, Place, Stop};
-use scald_lex::{Token, tokens};
+use scald_lex::{Token, TokenKind, tokens};
 use std::alloc::Global;
-
-/// The most bytes that are read again and again.
-const MOST_BYTES: u32 = 262_144;
 
 /// One token that may stand.
 fn add_sample(out: &mut Bytes, sample: Sample) -> Result<(), NoMemory>
@@ -42,111 +41,245 @@ fn add_expected(out: &mut Bytes, found: &[Sample]) -> Result<(), NoMemory>
     out.push(b'\n')
 }
 
-/// Whether a token is missing.
-fn add_question(out: &mut Bytes, sample: Sample) -> Result<(), NoMemory>
-    ensures { OnOk result (out.new ≡ out.old ++ question sample) }
+/// Another token than the first that is asked for.
+fn add_or(out: &mut Bytes, sample: Sample) -> Result<(), NoMemory>
+    ensures { OnOk result (out.new ≡ out.old ++ or_text sample) }
 {
-    out.extend(b"    is ")?;
-    out.extend(sample.called())?;
-    out.extend(b" missing here?\n")
+    out.extend(b" or ")?;
+    out.extend(sample.called())
 }
 
-/// Whether a token is missing before this one, or meant in place of it.
-fn add_either(out: &mut Bytes, token: &[u8], sample: Sample) -> Result<(), NoMemory>
-    ensures { OnOk result (out.new ≡ out.old ++ either_question token.now sample) }
+/// Tokens but the first that are asked for.
+fn add_others(out: &mut Bytes, samples: &[Sample]) -> Result<(), NoMemory>
+    ensures { OnOk result (out.new ≡ out.old ++ flat_map or_text samples.now) }
 {
-    add_line(
+    'samples: for sample in samples {
+        add_or(out, *sample)?;
+    }
+    Ok(())
+}
+
+/// Tokens that are asked for, with `or` between them.
+fn add_either(out: &mut Bytes, samples: &[Sample]) -> Result<(), NoMemory>
+    ensures { OnOk result (out.new ≡ out.old ++ either_text samples.now) }
+{
+    match samples {
+        [first, others @ ..] => {
+            out.extend(first.called())?;
+            add_others(out, others)
+        }
+        [] => Ok(()),
+    }
+}
+
+/// Whether a token is a `+`.
+fn is_plus(sample: Sample) -> bool
+    ensures { result ≡ is_plus sample }
+{
+    matches!(sample, Sample::Plus)
+}
+
+/// Whether a `+` is among these tokens.
+fn has_plus(found: &[Sample]) -> bool
+    ensures { result ≡ list_any is_plus found.now }
+{
+    'found: for sample in found {
+        if is_plus(*sample) {
+            return true;
+        }
+    }
+    false
+}
+
+/// Whether one that is missing may be missing further to the left.
+fn earlier_text(found: &[Sample], missing: &[Sample]) -> &'static [u8]
+    ensures { result.now ≡ earlier_text found.now missing.now }
+{
+    match missing {
+        [Sample::CloseParenthesis] if has_plus(found) => b" or earlier",
+        _ => b"",
+    }
+}
+
+/// The end of the question of tokens that may be missing.
+#[tactic(auto, unfolding(crate::specs::Told::missing_end))]
+fn add_missing_end(out: &mut Bytes, found: &[Sample], missing: &[Sample]) -> Result<(), NoMemory>
+    ensures { OnOk result (out.new ≡ out.old ++ missing_end found.now missing.now) }
+{
+    add_parts(
         out,
         &[
-            Part::Text(b"    is "),
-            Part::Text(sample.called()),
-            Part::Text(b" missing here, or meant in place of "),
-            Part::Quoted(token),
-            Part::Text(b"?"),
+            Part::Text(b" missing here"),
+            Part::Text(earlier_text(found, missing)),
+            Part::Text(b"?\n"),
         ],
     )
 }
 
-/// The question of a token that may be missing before this one, and perhaps stand in its place.
-fn add_missing(
-    out: &mut Bytes,
-    in_place: bool,
-    token: &[u8],
-    missing: Option<Sample>,
-) -> Result<(), NoMemory>
-    ensures { OnOk result (out.new ≡ out.old ++ missing_line in_place token.now missing) }
+/// The question of tokens that may be missing.
+fn add_missing_text(out: &mut Bytes, found: &[Sample], missing: &[Sample]) -> Result<(), NoMemory>
+    ensures { OnOk result (out.new ≡ out.old ++ missing_text found.now missing.now) }
+{
+    out.extend(b"    is ")?;
+    add_either(out, missing)?;
+    add_missing_end(out, found, missing)
+}
+
+/// The same, where any may.
+fn add_missing(out: &mut Bytes, found: &[Sample], missing: &[Sample]) -> Result<(), NoMemory>
+    ensures { OnOk result (out.new ≡ out.old ++ missing_line found.now missing.now) }
 {
     match missing {
-        Some(sample) => {
-            if in_place {
-                add_either(out, token, sample)
-            } else {
-                add_question(out, sample)
-            }
-        }
-        None => Ok(()),
+        [] => Ok(()),
+        [_, ..] => add_missing_text(out, found, missing),
+    }
+}
+
+/// The end of the question of tokens that may be meant in place of this one.
+#[tactic(auto, unfolding(crate::specs::Told::meant_end))]
+fn add_meant_end(out: &mut Bytes, token: &[u8]) -> Result<(), NoMemory>
+    ensures { OnOk result (out.new ≡ out.old ++ meant_end token.now) }
+{
+    add_parts(
+        out,
+        &[
+            Part::Text(b" meant in place of "),
+            Part::Quoted(token),
+            Part::Text(b"?\n"),
+        ],
+    )
+}
+
+/// The question of tokens that may be meant in place of this one.
+fn add_meant_text(out: &mut Bytes, token: &[u8], meant: &[Sample]) -> Result<(), NoMemory>
+    ensures { OnOk result (out.new ≡ out.old ++ meant_text token.now meant.now) }
+{
+    out.extend(b"    is ")?;
+    add_either(out, meant)?;
+    add_meant_end(out, token)
+}
+
+/// The same, where any may.
+fn add_meant(out: &mut Bytes, token: &[u8], meant: &[Sample]) -> Result<(), NoMemory>
+    ensures { OnOk result (out.new ≡ out.old ++ meant_line token.now meant.now) }
+{
+    match meant {
+        [] => Ok(()),
+        [_, ..] => add_meant_text(out, token, meant),
+    }
+}
+
+/// What is asked of a token that may be one too many.
+fn spare_text(token: Token) -> &'static [u8]
+    ensures { result.now ≡ spare_text token.kind }
+{
+    if is_symbol(token, b')') {
+        b" one too many here, or is ( missing before it?\n"
+    } else {
+        b" one too many here?\n"
+    }
+}
+
+/// Whether a token is a symbol.
+fn is_sign(token: Token) -> bool
+    ensures { result ≡ is_sign token.kind }
+{
+    matches!(token.kind, TokenKind::Arrow | TokenKind::Symbol(_))
+}
+
+/// The question whether a token is one too many.
+fn add_spare_line(out: &mut Bytes, text: &[u8], token: Token) -> Result<(), NoMemory>
+    ensures { OnOk result (out.new ≡ out.old ++ spare_line token.kind (spelled text.now token)) }
+{
+    if !is_sign(token) {
+        return Ok(());
+    }
+    add_parts(
+        out,
+        &[
+            Part::Text(b"    is "),
+            Part::Quoted(spelled(text, token)),
+            Part::Text(spare_text(token)),
+        ],
+    )
+}
+
+/// The same where the statement goes on without the token, where none is missing, or meant in place of it.
+fn add_spare(
+    out: &mut Bytes,
+    text: &[u8],
+    token: Token,
+    spare: bool,
+    missing: &[Sample],
+    meant: &[Sample],
+) -> Result<(), NoMemory>
+    ensures { OnOk result (out.new ≡ out.old ++ spare_lines spare token.kind (spelled text.now token) missing.now meant.now) }
+{
+    if spare && missing.is_empty() && meant.is_empty() {
+        add_spare_line(out, text, token)
+    } else {
+        Ok(())
     }
 }
 
 /// What is said of the tokens that may stand after the front of a text, which ends at this place,
-/// and of one that may be missing before this token, or meant in place of it, before the next.
+/// and of those with which the statement goes on, before the token that comes first of these or in
+/// place of it, or of the statement without it.
 fn told(
     alloc: Global,
     text: &[u8],
     front: &[u8],
     place: Place,
-    token: &[u8],
-    next: Option<Token>,
+    token: Token,
+    others: &[Token],
 ) -> Result<Bytes, NoMemory>
     requires short { length front.now < 2 ^ 20 }
-    requires small { length token.now < 2 ^ 31 }
     requires text { length text.now < 2 ^ 31 }
-    ensures { IfOk result (IsToldAfter text.now front.now place token.now next) }
+    ensures { IfOk result (IsToldAfter text.now front.now place token others.now) }
 {
     let found = expected(alloc, front, place)?;
-    let missing = missing(alloc, front, place, token)?;
-    let in_place = stands_for(alloc, text, front, place, next, missing)?;
+    let end = end_from(token, others);
+    let missing = mending(alloc, text, front, token.start, end, found.as_slice())?;
+    let next_end = end_of(others);
+    let meant = mending(alloc, text, front, token.end, next_end, found.as_slice())?;
+    let spare = goes_on(alloc, text, front, b"", token.end, next_end)?;
     let mut out = Bytes::new(alloc);
     add_expected(&mut out, found.as_slice())?;
-    add_missing(&mut out, in_place, token, missing)?;
+    add_missing(&mut out, found.as_slice(), missing.as_slice())?;
+    add_meant(&mut out, spelled(text, token), meant.as_slice())?;
+    add_spare(
+        &mut out,
+        text,
+        token,
+        spare,
+        missing.as_slice(),
+        meant.as_slice(),
+    )?;
     Ok(out)
 }
 
-/// Whether a token stands after more bytes than are read again and again.
-fn is_late(token: Token) -> bool
-    ensures { result ≡ is_late token }
-{
-    token.start > MOST_BYTES
-}
-
-/// What is said of the tokens that may stand where this one does, before the next, and nothing where
-/// it is late.
+/// What is said of the tokens that may stand where this one does, and nothing where it is late.
 fn told_unless_late(
     alloc: Global,
     text: &[u8],
     place: Place,
     token: Token,
-    next: Option<Token>,
+    others: &[Token],
 ) -> Result<Bytes, NoMemory>
     requires { length text.now < 2 ^ 31 }
-    ensures { IfOk result (IsToldUnless (is_late token) text.now place token next) }
+    ensures { IfOk result (IsToldUnless (is_late token) text.now place token others.now) }
 {
     if is_late(token) {
         Ok(Bytes::new(alloc))
     } else {
-        let before = front(text, token.start as usize);
-        told(alloc, text, before, place, spelled(text, token), next)
-    }
-}
-
-/// The token after this one, where this one is a word of the drawing's own.
-fn after_word(text: &[u8], token: Token, others: &[Token]) -> Option<Token>
-    ensures { result ≡ after_word text.now token others.now }
-{
-    if is_word(token) && reserved_word(spelled(text, token)).is_none() {
-        first_of(others)
-    } else {
-        None
+        told(
+            alloc,
+            text,
+            front(text, token.start as usize),
+            place,
+            token,
+            others,
+        )
     }
 }
 
@@ -156,21 +289,16 @@ fn told_of(alloc: Global, text: &[u8], place: Place, tokens: &[Token]) -> Result
     ensures { IfOk result (IsToldOf text.now place tokens.now) }
 {
     match tokens {
-        [token, others @ ..] => told_unless_late(
-            alloc,
-            text,
-            place,
-            *token,
-            after_word(text, *token, others),
-        ),
+        [token, others @ ..] => told_unless_late(alloc, text, place, *token, others),
         [] => Ok(Bytes::new(alloc)),
     }
 }
 
-/// Of a text that is refused for its grammar at a place: which tokens may stand there, and which
-/// one may be missing, or meant in place of the one that stands there, where at most 262,144 bytes
-/// stand before it. These are read at most three times for each token, and then at most three times
-/// more. The one error is that memory ran out.
+/// Of a text that is refused for its grammar at a place: which tokens may stand there, and with
+/// which of them the statement goes on, where at most 262,144 bytes stand before the place. These
+/// are read once for each of 42 tokens and once more for one of them, and then at most twice for
+/// each of 17, with the rest of the statement, and once without any. The one error is that memory
+/// ran out.
 pub fn explain_expected(alloc: Global, text: &[u8], place: Place) -> Result<Bytes, NoMemory>
     requires { length text.now < 2 ^ 31 }
     ensures { IfOk result (IsTold text.now place) }

@@ -1,6 +1,7 @@
 //! Tokens that may be tried at a place of a text.
 
 ghost use Rattle.std.specs.Prelude.{◌≡◌, ◌≤◌, length};
+ghost use Rattle.syntax_help.specs.Missing.{is_asked};
 ghost use Rattle.syntax_help.specs.Sample.{called, is_word, spelling};
 
 /// A token of each kind that the grammar tells apart, with the words that mean something only at
@@ -166,6 +167,32 @@ impl Sample {
             Sample::Finish => b"(end of text)",
             _ => self.spelling(),
         }
+    }
+
+    /// Whether it is asked for where it may be missing.
+    pub fn is_asked(self) -> bool
+        ensures { result ≡ is_asked self }
+    {
+        matches!(
+            self,
+            Sample::Then
+                | Sample::To
+                | Sample::Do
+                | Sample::Arrow
+                | Sample::Semicolon
+                | Sample::Colon
+                | Sample::Comma
+                | Sample::OpenParenthesis
+                | Sample::CloseParenthesis
+                | Sample::Less
+                | Sample::Greater
+                | Sample::OpenBracket
+                | Sample::CloseBracket
+                | Sample::OpenBrace
+                | Sample::CloseBrace
+                | Sample::Equals
+                | Sample::Ampersand
+        )
     }
 
     /// Whether it is a word that stands wherever any word does.
