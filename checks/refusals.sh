@@ -206,7 +206,7 @@ helps "    'b2' cannot stand here, after ')'" \
 early '3 Syntax 5:1' 'b1 : AND [0:0] ("A"' '"B") -> ("X");'
 helps "    '\"B\"' cannot stand here, after '\"A\"'" \
     '    what may stand here: , ) < & !' \
-    '    is , missing here?'
+    '    is , or & missing here?'
 early '3 Syntax 5:1' 'b1 : BUF [0:0] ("A"' '-> ("X");'
 helps "    '->' cannot stand here, after '\"A\"'" \
     '    what may stand here: , ) < & !' \
@@ -219,6 +219,27 @@ early '3 Syntax 5:1' 'IF 2 > 1' 'b1 : BUF [0:0] ("A") -> ("X");' 'END;'
 helps "    'b1' cannot stand here, after '1'" \
     '    what may stand here: THEN + - * /' \
     '    is THEN missing here?'
+early '3 Syntax 4:4' 'b1 BUF [0:0] ("A") -> ("X");'
+helps "    'BUF' cannot stand here, after 'b1'" \
+    '    what may stand here: :' \
+    '    is : missing here?'
+early '3 Syntax 4:31' 'b1 : BUF [0:0] ("A") -> ("X");;'
+helps "    ';' cannot stand here, after ';'" \
+    '    what may stand here: word WIRE IF END' \
+    "    is ';' one too many here?"
+# (with a > the statement would not go on: a parenthesis is missing further to the left)
+early '3 Syntax 4:33' 'b1 : BUF [0:0] ("A") -> ("Y"<1-1)*2:3>);'
+helps "    ')' cannot stand here, after '1'" \
+    '    what may stand here: : > + - * /' \
+    "    is ')' one too many here, or is ( missing before it?"
+early '3 Syntax 4:36' 'b1 : BUF [0:0] ("A") -> ("Y"<(1-1*2:3>);'
+helps "    ':' cannot stand here, after '2'" \
+    '    what may stand here: ) < > = + - * / !' \
+    '    is ) missing here or earlier?'
+# (two mistakes: with neither token the statement goes on)
+early '3 Syntax 5:1' 'b1 : BUF [0:0] ("A") -> ("X")' 'b2 BUF [0:0] ("X") -> ("Y");'
+helps "    'b2' cannot stand here, after ')'" \
+    '    what may stand here: ;'
 early '3 Syntax 4:11' 'b1 : BUF [ONE:1] ("A") -> ("X");'
 early '15 TooDeep 4:75' "b1 : BUF [$(many 65 '(')0$(many 65 ')'):0] (\"A\") -> (\"X\");"
 helps '    at most 64 parentheses and minus signs of an expression may be open at once, and this is one more'
@@ -284,6 +305,67 @@ second '3 Syntax 6:1' 'DRAWING ROW;' 'b1 : BUF [0:0] ("A") -> ("X");' 'END;' 'b2
 helps "    'b2' cannot stand here, after ';'" \
     '    the last END before this, at 5:1, is that of the DRAWING at 3:1' \
     '    what may stand here: CASE (end of text)'
+
+# an END in another column than what it ends: that of the IF is forgotten, and then that of the FOR
+second '3 Syntax 9:1' 'DRAWING ROW;' '  FOR I = 0 TO 1 DO' '    IF I THEN' '      b1 : BUF [0:0] ("A"<I>) -> ("X"<I>);' '  END;' 'END;'
+helps "    the end of the text cannot stand here, after ';'" \
+    '    the DRAWING at 3:1 has no END before this' \
+    '    the last END before this, at 8:1, is that of the FOR at 4:3' \
+    '    the END at 7:3 ends the IF at 5:5, which begins in another column' \
+    '    what may stand here: word WIRE IF END'
+second '3 Syntax 9:1' 'DRAWING ROW;' '  FOR I = 0 TO 1 DO' '    IF I THEN' '      b1 : BUF [0:0] ("A"<I>) -> ("X"<I>);' '    END;' 'END;'
+helps "    the end of the text cannot stand here, after ';'" \
+    '    the DRAWING at 3:1 has no END before this' \
+    '    the last END before this, at 8:1, is that of the FOR at 4:3' \
+    '    the END at 8:1 ends the FOR at 4:3, which begins in another column' \
+    '    what may stand here: word WIRE IF END'
+# one too many, which ends the drawing
+second '3 Syntax 7:1' 'DRAWING ROW;' '  IF 1 THEN' '  END;' '  END;' 'END;'
+helps "    'END' cannot stand here, after ';'" \
+    '    the last END before this, at 6:3, is that of the DRAWING at 3:1' \
+    '    the END at 6:3 ends the DRAWING at 3:1, which begins in another column' \
+    '    what may stand here: CASE (end of text)'
+# an END after a statement without its ; may well be that of the macro
+second '3 Syntax 5:1' 'MACRO M ("A") -> ("Z");' 'b1 : BUF [0:0] ("A") -> ("Z")' 'END;' 'DRAWING ROW;' 'END;'
+helps "    'END' cannot stand here, after ')'" \
+    '    what may stand here: ;' \
+    '    is ; missing here?'
+
+# --- words and symbols of other languages, and words that are nearly right
+second '3 Syntax 4:5' 'DRAWING ROW;' 'FRO I = 0 TO 1 DO' 'END;' 'END;'
+helps "    'I' cannot stand here, after 'FRO'" \
+    '    is FOR meant?' \
+    '    what may stand here: :'
+second '3 Syntax 5:6' 'DRAWING ROW;' 'IF 1 THEN' 'ELES b2 : BUF [0:0] ("A") -> ("X");' 'END;' 'END;'
+helps "    'b2' cannot stand here, after 'ELES'" \
+    '    is ELSE meant?' \
+    '    what may stand here: :'
+second '3 Syntax 5:7' 'DRAWING ROW;' 'IF 1 THEN' 'ELSIF 0 THEN' 'END;' 'END;'
+helps "    '0' cannot stand here, after 'ELSIF'" \
+    '    an IF in an ELSE is written ELSE IF, and each of the two has an END; of its own' \
+    '    what may stand here: :'
+second '3 Syntax 5:6' 'DRAWING ROW;' 'IF 1 THEN' 'EndIf;' 'END;'
+helps "    ';' cannot stand here, after 'EndIf'" \
+    '    what an IF, FOR, MACRO or DRAWING begins ends with END;' \
+    '    what may stand here: :'
+joined='    conditions are joined by * and +: (A = 1) * (B = 2) holds where both do, (A = 1) + (B = 2) where one does'
+second '3 Syntax 4:10' 'DRAWING ROW;' 'IF 1 = 1 & 2 = 2 THEN' 'END;' 'END;'
+helps "    '&' cannot stand here, after '1'" \
+    "$joined" \
+    '    what may stand here: THEN + - * /'
+second '3 Syntax 4:10' 'DRAWING ROW;' 'IF 1 = 1 or 2 = 2 THEN' 'END;' 'END;'
+helps "    'or' cannot stand here, after '1'" \
+    "$joined" \
+    '    what may stand here: THEN + - * /'
+early '3 Syntax 4:32' 'b1 : BUF [0:0] ("A") -> ("X"); // late'
+helps "    '/' cannot stand here, after ';'" \
+    '    a comment begins with --' \
+    '    what may stand here: word WIRE IF END'
+early '3 Syntax 4:22' 'a1 : AND [0:0] ("A", !"EN") -> ("X");'
+helps "    '!' cannot stand here, after ','" \
+    '    a - before a name inverts it; a ! stands only after a connection, in the mark !H' \
+    '    what may stand here: "name" ZERO ONE -' \
+    "    is '!' one too many here?"
 
 # --- a statement that belongs elsewhere
 # belongs LINE ..: after what stands here and after what, these lines are said
@@ -392,6 +474,14 @@ named 'CK .P2-3(1,1)X' "    after 'CK .P2-3(1,1)' there cannot be 'X': after a s
 named 'CK .P2-3LL' "    after 'CK .P2-3L' there cannot be 'L': nothing comes after the L"
 named 'CK .X2-3' "    after 'CK .' there cannot be 'X': an assertion begins with .S, .P or .C"
 named "$(many 65 A)" "    after '$(many 64 A)' there cannot be 'A': the part before an assertion has at most 64 bytes"
+inner='    a / stands only before a whole name: a net in a macro has no name outside it, not in a CASE either'
+named 'g/HELD' "    after 'g' there cannot be '/': $has" "$inner"
+named '//A' "    after '/' there cannot be '/': after the / comes a letter, a digit, _, # or \$"
+{
+    drawing_of 'b1 : BUF [0:0] ("A") -> ("X");'
+    echo 'CASE "g/HELD"=0;'
+} | refused '7 BadName 6:6'
+helps "    after 'g' there cannot be '/': $has" "$inner"
 # overlap LINE: beside what to do, this line is said
 overlap() {
     helps '    make the skew (a,b) of this clock smaller or its pulses longer, or let it be a .P clock, which moves' \
@@ -480,7 +570,7 @@ helps "    '1' cannot stand here, after '0'" \
 second '3 Syntax 4:11' 'DRAWING ROW;' 'FOR I = 0 UPTO 1 DO' 'END;' 'END;'
 helps "    'UPTO' cannot stand here, after '0'" \
     '    what may stand here: TO + - * /' \
-    "    is TO missing here, or meant in place of 'UPTO'?"
+    "    is TO meant in place of 'UPTO'?"
 second '3 Syntax 4:16' 'DRAWING ROW;' 'FOR I = 0 TO 1 IF I THEN' 'END;' 'END;' 'END;'
 helps "    'IF' cannot stand here, after '1'" \
     '    what may stand here: DO + - * /' \
@@ -488,7 +578,7 @@ helps "    'IF' cannot stand here, after '1'" \
 second '3 Syntax 4:10' 'DRAWING ROW;' 'IF 2 > 1 DO b1 : BUF [0:0] ("A") -> ("X");' 'END;' 'END;'
 helps "    'DO' cannot stand here, after '1'" \
     '    what may stand here: THEN + - * /' \
-    "    is THEN missing here, or meant in place of 'DO'?"
+    "    is THEN meant in place of 'DO'?"
 second '3 Syntax 4:11' 'DRAWING ROW;' 'FOR I = 0 DO' 'END;' 'END;'
 second '3 Syntax 4:16' 'DRAWING ROW;' 'FOR I = 0 TO 1 THEN' 'END;' 'END;'
 second '3 Syntax 4:19' 'DRAWING ROW;' 'FOR I = 0 TO 1 DO ELSE' 'END;' 'END;'
@@ -536,6 +626,8 @@ helps "    'ADDER' is none. The kinds are BUF, AND, OR, XOR, MUX2, MUX4, MUX8, C
     '    SETUP_HOLD_CHK, SETUP_RISE_HOLD_FALL_CHK and MIN_PULSE_CHK; a - before a connection inverts it'
 macro unexpanded '6 UnknownKind 6:1' 'MACRO ADDER ();' 'END;' 'DRAWING ROW;' 'u : ADER ();' 'END;'
 helps "    'ADER' is none: is ADDER meant?"
+drawing '6 UnknownKind 4:1' 'a1 : ADN [0:0] ("A", "B") -> ("X");'
+helps "    'ADN' is none: is AND meant?"
 drawing '14 Bounds 4:1' 'b1 : BUF ("A") -> ("X");'
 helps '    BUF takes a delay [a:b], 0 <= a <= b <= 4095, or two, [r:R, f:F], each at most 255' \
     '    here it has none'
@@ -605,6 +697,26 @@ helps "    a formal's range names 'K' at 3:29, which is neither a constant nor a
     '    MACRO M {N=4, D=N*5} ("A"<0:K-N>) -> ("Z");' '                                ^'
 expanded '22 UnknownName 6:1' 'MACRO M {N=P} ("A") -> ("Z");' 'END;' 'DRAWING ROW;' 'u : M {N=Q} ("A") -> ("X");' 'END;'
 unknown "    'Q' is none of these"
+# the name that is nearly written: a constant before the statement, a parameter, a variable before it
+macro unexpanded '22 UnknownName 4:1' 'MACRO M {TMAX=1} ("A") -> ("Z");' 'b1 : BUF [0:TMAXX] ("A") -> ("Z");' 'END;' 'DRAWING ROW;' \
+    'u : M ("A") -> ("X");' 'END;'
+unknown "    'TMAXX' is none of these" '    is TMAX meant?' '    it is reached by u at 7:1'
+expanded '22 UnknownName 5:1' 'CONST WIDTH = 2;' 'DRAWING ROW;' 'b1 : BUF [0:WITDH] ("A") -> ("X");' 'END;'
+unknown "    'WITDH' is none of these" '    is WIDTH meant?'
+expanded '22 UnknownName 5:1' 'DRAWING ROW;' 'FOR TURN = 0 TO 1 DO' 'b1 : BUF [0:TRUN] ("A") -> ("X"<TURN>);' 'END;' 'END;'
+unknown "    'TRUN' is none of these" '    is TURN meant?'
+expanded '22 UnknownName 3:1' 'CONST N = TMAXX;' 'CONST TMAX = 1;' 'DRAWING ROW;' 'END;'
+helps '    a name here is a constant declared before it' "    'TMAXX' is none of these"
+expanded '22 UnknownName 7:1' 'CONST TMIN = 2;' 'MACRO M {LO=1, HI=TMIN_} ("A") -> ("Z");' 'END;' 'DRAWING ROW;' \
+    'u : M ("A") -> ("X");' 'END;'
+helps "    the default of 'HI' names 'TMIN_' at 4:19, and a default may name constants alone:" \
+    '    MACRO M {LO=1, HI=TMIN_} ("A") -> ("Z");' '                      ^' \
+    '    is TMIN meant?'
+expanded '22 UnknownName 6:1' 'MACRO M {SIZE=4} ("A"<0:SIZ-1>) -> ("Z");' 'END;' 'DRAWING ROW;' \
+    'u : M ("A"<0:3>) -> ("X");' 'END;'
+helps "    a formal's range names 'SIZ' at 3:25, which is neither a constant nor a parameter of the macro:" \
+    '    MACRO M {SIZE=4} ("A"<0:SIZ-1>) -> ("Z");' '                            ^' \
+    '    is SIZE meant?'
 expanded '22 UnknownName 5:1' 'CONST N = 1;' 'DRAWING ROW;' 'FOR I = N TO K DO' 'END;' 'END;'
 unknown "    'K' is none of these"
 # a variable of a FOR before it, which may be around it for all that is told
