@@ -1,5 +1,5 @@
-//! What the program says on standard error: why it ends without an answer to the drawing, and with an answer to
-//! sections which nets cross between them.
+//! What the program says on standard error: why it ends without an answer to the drawing; and beside an answer which
+//! nets cross between sections, or which names in macros are nearly a formal.
 
 ghost use Rattle.std.specs.Prelude.{◌≡◌, ◌-◌, ◌^◌, ◌<◌, IfSome, length};
 ghost use Rattle.std.specs.Option.{option_copied};
@@ -11,6 +11,7 @@ use crate::traced::say_trace;
 use circuit_help::{
     explain_case, explain_drivers, explain_reached, explain_unsettled, explain_zero_loop,
 };
+use formal_help::explain_slips;
 use refusal_help::{explain_refusal, explain_words, shown_use};
 use scald_base::{Bytes, NoMemory, Place, Refusal, RefusalKind};
 use scald_tool::{Outcome, Words};
@@ -244,7 +245,17 @@ fn say_together(rt: &(impl Eprint + AllocGlobal), text: Option<&[u8]>, outcome: 
     }
 }
 
-/// Says why there is no answer to the drawing, where there is none.
+/// Says which names in macros are nearly a formal, where the text was kept.
+fn say_slips(rt: &(impl Eprint + AllocGlobal), text: Option<&[u8]>) {
+    if let Some(text) = text {
+        if text.len() <= MOST_BYTES {
+            say_lines(rt, explain_slips(rt.alloc(), text));
+        }
+    }
+}
+
+/// Says why there is no answer to the drawing, where there is none, and beside a verdict which names in macros
+/// are nearly a formal.
 fn say_outcome(
     rt: &(impl Eprint + AllocGlobal),
     words: &Words,
@@ -254,6 +265,7 @@ fn say_outcome(
     match outcome {
         Outcome::BadWords(number) => say_lines(rt, explain_words(rt.alloc(), words, *number)),
         Outcome::Refused(refusal) => say_refusal(rt, text, *refusal),
+        Outcome::Clean | Outcome::Faulty(_) => say_slips(rt, text),
         _ => {}
     }
     if let Some(why) = why(outcome) {

@@ -1,0 +1,4 @@
+pub mod Uses
+pub mod Names
+pub mod Slips
+pub mod Explain
