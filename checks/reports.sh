@@ -1,6 +1,6 @@
 #!/bin/sh
 # What the built program reports on small drawings of each kind, worked out by hand: gates, storage, loops, clocks,
-# checkers, macros and cases, with the status of each; and the margins and the chains of some.
+# checkers, macros and cases, with the status of each; and the margins, the chains and the explanations of some.
 # Usage: checks/reports.sh [PROGRAM]. Where none is named and none is built it says so and ends with 0.
 . "$(dirname -- "$0")/common.sh"
 begin "${1-}"
@@ -388,5 +388,9 @@ whole 'a change while the clock is high counts for setup and for hold' margins 0
 whole 'pulses, each by its own worst case' margins 0 \
     'DRAWING ROW;' 'm1 : MUX2 [0:0] ("G", "CK .P2-3", "CK2 .P2-4") -> ("X");' 'w1 : MIN_PULSE_CHK {HIGH=20, LOW=20} ("X");' 'END;' 'CASE "G"=0;' 'CASE "G"=1;' \
     -- 'SCALD 1 PERIOD 400' 'MARGIN w1<0> HIGH 30 NEXT CASE 1 WIDTH HIGH FROM 100 WIDTH 50' 'MARGIN w1<0> LOW 280 NEXT CASE 2 WIDTH LOW FROM 200 WIDTH 300' 'MARGINS 2'
+
+row 'what is unknown, explained by its loop from the net that is named first, and by its ticks once round' explain 1 \
+    'b1 : BUF [1:2] ("B") -> ("A");' 'b2 : BUF [1:3] ("A") -> ("B");' 'WIRE "B" 0:4;' 'w1 : MIN_PULSE_CHK {HIGH=2} ("A");' \
+    -- '  its begin, unknown by the loop of B<0>, A<0>:' '    once round the loop it takes up to 9 ticks, and a period has 400' 'FAULTS 1'
 
 ended

@@ -222,14 +222,25 @@ def next_unknown(circuit, waves, link):
     return None
 
 
+def told_loop(circuit, nets):
+    """The nets of a loop, in the direction of the signals, from the one that is first in the expansion."""
+    first = nets.index(min(nets, key=circuit.nets.index))
+    return nets[first:] + nets[:first]
+
+
 def unknown_loop(circuit, waves, link):
     """The nets of the loop that makes a link unknown, in the direction of the signals. Nothing undriven is unknown, and
     what an element makes is unknown only where a pin of it is."""
     nets = []
-    while link is not None and link.net not in nets:
+    while link.net not in nets:
         nets.append(link.net)
         link = next_unknown(circuit, waves, link)
-    return nets[nets.index(link.net) :][::-1] if link else []
+    return told_loop(circuit, nets[nets.index(link.net) :][::-1])
+
+
+def once_round(circuit, nets):
+    """How long it takes once round a loop, at most."""
+    return sum(circuit.drivers[net].delay.greatest + wire_of(circuit, net).greatest for net in nets)
 
 
 def told_delay(instance, value, wire, late):
@@ -310,8 +321,8 @@ class Told:
             return ": " + as_written(self.circuit, self.drawing, link.net)
         if side.end == "REPEAT":
             first = next(number for number, other in enumerate(side.links) if other.net == link.net)
-            loop = side.links[first + 1 :][::-1]
-            return ": on the loop of " + ", ".join(self.naming(other.net) for other in loop)
+            loop = told_loop(self.circuit, [other.net for other in side.links[first + 1 :]][::-1])
+            return ": on the loop of " + ", ".join(map(self.naming, loop))
         storage = self.circuit.drivers[link.net]
         set_pin, reset_pin = map(self.naming.pin, storage.pins[-2:])
         return f": {element_text(storage, self.naming)} may have both its set {set_pin} and its reset {reset_pin}"
@@ -325,17 +336,21 @@ class Told:
         on_wire, taken = parts_of(late, wire, delay)
         return f": {element_text(element, self.naming)} takes {taken}{which}" + wire_text(on_wire, wire)
 
-    def unknown(self, side):
-        """Of what is unknown, the loop from which that comes."""
+    def title(self, title, side):
+        """The first line of a side; and of what is unknown, the loop from which that comes."""
         if side.links[0].value != "U":
-            return ""
+            return [f"  {title}:"]
         nets = unknown_loop(self.circuit, self.waves, side.links[0])
-        return ", unknown by the loop of " + ", ".join(map(self.naming, nets))
+        round_ticks = ticks_text(once_round(self.circuit, nets))
+        return [
+            f"  {title}, unknown by the loop of {', '.join(map(self.naming, nets))}:",
+            f"    once round the loop it takes up to {round_ticks}, and a period has {self.period}",
+        ]
 
     def side(self, title, side, end):
         """The lines of a side that arrives at this tick, from where it begins."""
         self.first = self.first or side.links[-1].net
-        lines = [f"  {title}{self.unknown(side)}:"]
+        lines = self.title(title, side)
         tick = end - side.takes
         for number in reversed(range(len(side.links))):
             link = side.links[number]

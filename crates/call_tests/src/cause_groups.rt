@@ -256,6 +256,49 @@ SETUP 20 of c#0<0>, c#1<1> (line 6): short by 10
 kind | checker | short by | from | cases
 SETUP | c#0<0>, c#1<1> | 10 | IN<0> | 0
 FAULTS 2
+#### a loop of two latches that is met at two of its nets, with a wire and two delays
+words:
+drawing:
+first : LATCH [5:10] (ONE, "B") -> ("A");
+second : LATCH [5:15] (ONE, "X") -> ("B");
+back : BUF [2:3, 4:7] ("A") -> ("X");
+WIRE "A" 0:3;
+g1 : AND [1:1] ("P .P2-3", "A" & "B") -> ("Z"<0:1>);
+b1 : BUF [1:1] ("P") -> ("PD");
+c1 : SETUP_HOLD_CHK {SETUP=1} ("PD", "Z"<0:1>);
+c2 : SETUP_HOLD_CHK {SETUP=1} ("PD", "A");
+answer: Faulty(3)
+SCALD 1 PERIOD 400
+CASE 0
+
+SETUP 1 of c1<0:1> (line 10): short by 1
+  what follows is of c1<0>, the first of 2
+  Z<0> is stable for 0 ticks up to tick 101, where PD<0> may rise
+  the change, unknown by the loop of B<0>, A<0>, X<0>:
+    once round the loop it takes up to 35 ticks, and a period has 400
+    tick 100: P<0> may rise: "P .P2-3" (line 8)
+    tick 101: Z<0> is unknown: g1<0> : AND [1:1] (line 8) takes 1
+  the clock:
+    tick 100: P<0> may rise: "P .P2-3" (line 8)
+    tick 101: PD<0> may rise: b1<0> : BUF [1:1] (line 9) takes 1
+
+SETUP 1 of c2<0> (line 11): short by 1
+  A<0> is stable for 0 ticks up to tick 101, where PD<0> may rise
+  the change, unknown by the loop of B<0>, A<0>, X<0>:
+    once round the loop it takes up to 35 ticks, and a period has 400
+    tick 89: A<0> is unknown: on the loop of B<0>, A<0>, X<0>
+    tick 91: X<0> is unknown: back<0> : BUF [2:3, 4:7] (line 6) takes 2 by its rise delay, its wire 0 of 0:3
+    tick 96: B<0> is unknown: second<0> : LATCH [5:15] (line 5) takes 5
+    tick 101: A<0> is unknown: first<0> : LATCH [5:10] (line 4) takes 5
+    tick 101: at the pin, its wire 0 of 0:3
+  the clock:
+    tick 100: P<0> may rise: "P .P2-3" (line 8)
+    tick 101: PD<0> may rise: b1<0> : BUF [1:1] (line 9) takes 1
+
+kind | checker | short by | from | cases
+SETUP | c1<0:1> | 1 | P<0> | 0
+SETUP | c2<0> | 1 | A<0> | 0
+FAULTS 3
 "##;
 
 #[test]

@@ -289,6 +289,7 @@ SETUP 20 of c1<0> (line 5): the whole of it does not suffice
   X<0> is stable at no tick, and CK<0> may rise at tick 100
   with SETUP 0 there is still HOLD EDGE 100 SLOT 101 VALUE U
   the change, unknown by the loop of X<0>:
+    once round the loop it takes up to 1 tick, and a period has 400
     tick 80: X<0> is unknown: on the loop of X<0>
     tick 81: X<0> is unknown: x1<0> : XOR [1:1] (line 4) takes 1
   the clock:
@@ -327,6 +328,7 @@ CASE 0
 SETUP 20 of c1<0> (line 6): short by 20
   Y<0> is stable for 0 ticks up to tick 100, where CK<0> may rise
   the change, unknown by the loop of X<0>:
+    once round the loop it takes up to 1 tick, and a period has 400
     tick 97: X<0> is unknown: on the loop of X<0>
     tick 98: X<0> is unknown: x1<0> : XOR [1:1] (line 4) takes 1
     tick 100: Y<0> is unknown: b1<0> : BUF [2:2] (line 5) takes 2

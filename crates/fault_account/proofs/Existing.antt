@@ -88,12 +88,10 @@ module _ (c : Circuit) (ws : Waves) (known : IsCircuit c) where
       by true = there
       by false = from_first (length c.nets) [] link there
 
-  pub chain_exists : (f : Fault) (chain : Chain) (link : Link) → chain ≡ chain_of c ws f → slice_get chain.links 0 ≡ Some link → Exists link
+  pub chain_exists : (f : Fault) (chain : Chain) → chain ≡ chain_of c ws f → IfSome (slice_get chain.links 0) Exists
   unfolding chain_of
-  chain_exists f chain link is first =
-      let there : IfSome (slice_get chain.links 0) Exists =
-      subst (λ (z : Chain). IfSome (slice_get z.links 0) Exists) (sym is) (at_first (first_link c ws f) (first_exists f)) in
-      subst (λ (o : Option Link). IfSome o Exists) first there
+  chain_exists f chain is =
+      subst (λ (z : Chain). IfSome (slice_get z.links 0) Exists) (sym is) (at_first (first_link c ws f) (first_exists f))
 
 -- ---- the pins of an instance
 

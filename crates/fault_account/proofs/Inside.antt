@@ -24,6 +24,8 @@ use Rattle.fault_chain.specs.Chain.{at_net, at_pin, chain_after, chain_at, chain
 use Rattle.fault_chain.proofs.Moving.{each_if, few_links}
 use Rattle.fault_account.specs.declared.account.Side.{Side}
 use Rattle.fault_account.specs.Sides.{IsSide}
+use Rattle.fault_account.specs.Unknown.{unknown_of}
+use Rattle.fault_account.proofs.Looped.{unknown_few}
 
 or_if : {A : Type 0} (P : A → Type 0) (here later : Option A) → IfSome here P → IfSome later P → IfSome (option_or here later) P
 or_if P None later holds rest = rest
@@ -136,8 +138,10 @@ module _ (c : Circuit) (ws : Waves) (some : 0 < period c.header) where
   within_of f = inside_at (first_link c ws f) (inside_start f)
 
   -- a side with the chain of a fault
-  pub chain_is_side : (f : Fault) (side : Side) → side.chain ≡ chain_of c ws f → IsSide c side
-  chain_is_side f side is = record {
+  pub chain_is_side : (f : Fault) (side : Side) → side.chain ≡ chain_of c ws f → side.unknown ≡ unknown_of c ws side.chain.links →
+      IsSide c side
+  chain_is_side f side is unknown = record {
     few = subst (λ (chain : Chain). length chain.links ≤ length c.nets + 1) (sym is) (few_of f);
+    short = subst (λ (nets : List ℕ). length nets ≤ length c.nets + 1) (sym unknown) (unknown_few c ws side.chain.links);
     within = subst (λ (chain : Chain). AreInside chain.links) (sym is) (within_of f);
   }

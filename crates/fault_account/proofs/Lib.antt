@@ -2,6 +2,8 @@ pub mod Passing
 pub mod Short
 pub mod Ticks
 pub mod Steps
+pub mod Looped
+pub mod Turned
 pub mod Inside
 pub mod Within
 pub mod Resting
@@ -9,3 +11,5 @@ pub mod Arriving
 pub mod Way
 pub mod Existing
 pub mod Telling
+pub mod ExamplesLaws
+pub mod ExamplesLoops

@@ -16,7 +16,7 @@ use Rattle.fixpoint_engine.proofs.Waiting.{marked_set, unmarked}
 use Rattle.fault_chain.specs.declared.chain.Link.{Link}
 use Rattle.fault_chain.specs.Chain.{link_back}
 use Rattle.step_values.specs.Steps.{is_unknown}
-use Rattle.fault_account.specs.Unknown.{HasPassed, loop_from, loop_in, unknown_back, unknown_before, unknown_loop, up_to}
+use Rattle.fault_account.specs.Unknown.{HasPassed, loop_from, loop_in, unknown_back, unknown_before, met_loop, up_to}
 
 -- one slot of a net
 module _ (c : Circuit) (ws : Waves) (i p : ℕ) where
@@ -31,7 +31,7 @@ module _ (c : Circuit) (ws : Waves) (i p : ℕ) where
 
 -- these nets are passed and marked, and the way goes back from this link
 pub record IsWay (c : Circuit) (ws : Waves) (first : Link) (passed : List ℕ) (link : Link) (met : List Bool) (left : ℕ) : Type 0 where
-  pub rest : unknown_loop c ws first ≡ loop_from c ws left (reverse passed) link
+  pub rest : met_loop c ws first ≡ loop_from c ws left (reverse passed) link
   pub marks : (i : ℕ) → marked_in met i ≡ list_any (λ (n : ℕ). n == i) (reverse passed)
   pub nets : (i : ℕ) → list_any (λ (n : ℕ). n == i) (reverse passed) ≡ list_any (λ (n : ℕ). n == i) passed
   pub long : length met ≡ length c.nets
@@ -113,26 +113,26 @@ module _ (c : Circuit) (ws : Waves) (first : Link) (passed : List ℕ) (link : L
       unwrap_or (option_map (loop_from c ws left (link.net ∷ reverse passed)) (unknown_before c ws (driver c link.net) link.slot)) []
 
   pub ends_met : (left : ℕ) → IsWay c ws first passed link met (suc left) → marked_in met link.net ≡ true →
-      loop_in passed (Some link.net) ≡ unknown_loop c ws first
+      loop_in passed (Some link.net) ≡ met_loop c ws first
   ends_met left is marked =
       sym (is.rest ∙ ap (λ (b : Bool). cond b (up_to link.net (reverse passed)) (further left)) (sym (is.marks link.net) ∙ marked))
 
-  new : (left : ℕ) (is : IsWay c ws first passed link met (suc left)) → marked_in met link.net ≡ false → unknown_loop c ws first ≡ further left
+  new : (left : ℕ) (is : IsWay c ws first passed link met (suc left)) → marked_in met link.net ≡ false → met_loop c ws first ≡ further left
   new left is marked =
       is.rest ∙ ap (λ (b : Bool). cond b (up_to link.net (reverse passed)) (further left)) (sym (is.marks link.net) ∙ marked)
 
   pub ends_known : (left : ℕ) (longer : List ℕ) → IsWay c ws first passed link met (suc left) → marked_in met link.net ≡ false →
-      unknown_before c ws (driver c link.net) link.slot ≡ None → loop_in longer None ≡ unknown_loop c ws first
+      unknown_before c ws (driver c link.net) link.slot ≡ None → loop_in longer None ≡ met_loop c ws first
   ends_known left longer is marked none =
       sym (new left is marked
       ∙ ap (λ (o : Option Link). unwrap_or (option_map (loop_from c ws left (link.net ∷ reverse passed)) o) []) none)
 
   pub ends_undriven : (left : ℕ) (longer : List ℕ) → IsWay c ws first passed link met (suc left) → marked_in met link.net ≡ false →
-      driver c link.net ≡ None → loop_in longer None ≡ unknown_loop c ws first
+      driver c link.net ≡ None → loop_in longer None ≡ met_loop c ws first
   ends_undriven left longer is marked none =
       ends_known left longer is marked (ap (λ (o : Option Instance). unknown_before c ws o link.slot) none)
 
-  pub ends_last : IsWay c ws first passed link met 0 → loop_in passed None ≡ unknown_loop c ws first
+  pub ends_last : IsWay c ws first passed link met 0 → loop_in passed None ≡ met_loop c ws first
   ends_last is = sym is.rest
 
   pub way_more : (left : ℕ) (next : Link) (longer : List ℕ) (more : List Bool) → IsWay c ws first passed link met (suc left) →

@@ -1,5 +1,6 @@
 pub mod Asked
 pub mod Late
+pub mod Loops
 pub mod Unknown
 pub mod Sides
 pub mod Around

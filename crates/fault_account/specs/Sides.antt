@@ -32,7 +32,8 @@ pin_side c ws k place slot =
 abbrev pub net_side : Circuit → Waves → ℕ → ℕ → Side
 net_side c ws i slot = side_of c ws (chain_of c ws (Assertion i slot 0)) slot no_delay
 
--- A side has at most one link more than there are nets, each in a slot of the period.
+-- A side has at most one link more than there are nets, each in a slot of the period, and its loop no more nets.
 pub record IsSide (c : Circuit) (side : Side) : Type 0 where
   pub few : length side.chain.links ≤ length c.nets + 1
+  pub short : length side.unknown ≤ length c.nets + 1
   pub within : All (λ (link : Link). link.slot < period c.header) side.chain.links

@@ -16,6 +16,7 @@ use Rattle.net_waves.specs.Waves.{Waves}
 use Rattle.fixpoint_engine.specs.Settled.{marked_in}
 use Rattle.fault_chain.specs.declared.chain.Link.{Link}
 use Rattle.fault_chain.specs.Chain.{link_back, then_late}
+use Rattle.fault_account.specs.Loops.{from_least}
 
 -- what a net does in the slot o before slot p, where it is unknown there
 abbrev pub unknown_back : Circuit → Waves → ℕ → ℕ → ℕ → Option Link
@@ -53,9 +54,13 @@ loop_from c ws (suc left) passed link =
     else unwrap_or (option_map (loop_from c ws left (link.net ∷ passed))
     (unknown_before c ws (driver c link.net) link.slot)) []
 
--- the nets of the loop that makes a link unknown
+-- the nets of the loop that makes a link unknown, from where it is met
+abbrev pub met_loop : Circuit → Waves → Link → List ℕ
+met_loop c ws link = loop_from c ws (length c.nets + 1) [] link
+
+-- and as it is told
 abbrev pub unknown_loop : Circuit → Waves → Link → List ℕ
-unknown_loop c ws link = loop_from c ws (length c.nets + 1) [] link
+unknown_loop c ws link = from_least (met_loop c ws link)
 
 -- Of a chain of these links, which ends in the first one: where that is unknown.
 abbrev pub unknown_of : Circuit → Waves → List Link → List ℕ

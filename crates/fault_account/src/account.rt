@@ -28,7 +28,8 @@ pub struct Side {
     pub slot: u16,
     /// The bounds of the wire to the pin. To a net itself there is none.
     pub wire: Delay,
-    /// The nets of the loop by which the last of the changes is unknown, where it is.
+    /// The nets of the loop by which the last of the changes is unknown, where it is, in the direction of the
+    /// signals from the one of the least number on.
     pub unknown: Nets,
 }
 

@@ -1,5 +1,6 @@
 //! Laws of what is told of a fault. The functions do nothing: what each states is its contract.
 
+ghost use Rattle.fault_account.specs.Loops.{LoopsAreToldAlike};
 ghost use Rattle.fault_account.specs.Laws.{FaultsAreWithin, LimitsAreShort, StepsAreShared, TicksAreShared};
 
 /// A limit is short by the least amount: with so much less there is no fault, and with any more there is one.
@@ -22,4 +23,9 @@ pub fn steps_are_shared()
 /// period: [`account_with`](crate::account_with) may be called for it.
 pub fn faults_are_within()
     ensures { FaultsAreWithin }
+{}
+
+/// Wherever a loop is met, it is told from its net of the least number on.
+pub fn loops_are_told_alike()
+    ensures { LoopsAreToldAlike }
 {}

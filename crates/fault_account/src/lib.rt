@@ -3,7 +3,7 @@
 //! The layer above asks [`asked_of`] what a fault breaks, [`told_fault`] which fault is told, and [`account_with`]
 //! what comes together in that one; the functions of ticks say when. `specs/Asked` says by how much a limit is
 //! short, `specs/Account` what is told, `specs/Late` at which ticks, `specs/Unknown` by which loop a value is
-//! unknown, and `specs/Laws` what holds of them.
+//! unknown, `specs/Loops` how a loop is told, and `specs/Laws` what holds of them.
 #![tactic(auto)]
 
 // slots and ticks
@@ -17,6 +17,7 @@ mod accounts;
 mod asked;
 mod asserted;
 mod edges;
+mod loops;
 mod shown;
 mod sides;
 mod unknown;
@@ -29,3 +30,4 @@ pub use accounts::account_with;
 pub use asked::{asked_of, told_fault};
 pub use edges::{is_hold, is_setup, would_do};
 pub use late::{arrival, arrives, delay_to, late_at_pin, late_from, taken_of, takes};
+pub use loops::{from_least, round_ticks};

@@ -7,8 +7,8 @@ ghost use Rattle.fault_chain.specs.Chain.{chain_of as chain_of_fault};
 ghost use Rattle.net_waves.specs.Waves.{FitWaves, waves_of};
 ghost use Rattle.fault_account.specs.Sides.{IsSide, net_side as side_of_net, pin_side as side_of_pin, side_of as side_with};
 
-use crate::account::{Nets, Side};
-use crate::unknown::unknown_loop;
+use crate::account::Side;
+use crate::unknown::unknown_of;
 use fault_chain::chain_of;
 use fixpoint_engine::NetSet;
 use flat_circuit::{Circuit, Fault};
@@ -38,10 +38,7 @@ fn side_of<W: CyclicWave<Item = Value>>(
     c.known();
     c.header().known();
     let chain = chain_of(alloc, c, waves, met, fault)?;
-    let unknown = match chain.links.as_slice().first() {
-        Some(link) if link.value.is_unknown() => unknown_loop(alloc, c, waves, met, *link)?,
-        _ => Nets::new(alloc),
-    };
+    let unknown = unknown_of(alloc, c, waves, met, chain.links.as_slice())?;
     Ok(Side {
         chain,
         slot,

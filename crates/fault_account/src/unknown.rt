@@ -1,14 +1,15 @@
 //! The loop from which an unknown value comes.
 
-ghost use Rattle.std.specs.Prelude.{◌≡◌, ◌<◌, ◌≤◌, [], IfOk, IfSome, Some, ◌+◌, ◌-◌, false, length, replicate, reverse};
+ghost use Rattle.std.specs.Prelude.{◌≡◌, ◌<◌, ◌≤◌, [], IfOk, IfSome, Some, ◌+◌, ◌-◌, false, length, replicate, reverse, slice_get};
 ghost use Rattle.std.specs.List.{All};
 ghost use Rattle.flat_circuit.specs.Instances.{InstanceFits, TargetExists};
 ghost use Rattle.gate_eval.specs.Hold.{first_some};
 ghost use Rattle.fault_chain.specs.Chain.{link_back};
 ghost use Rattle.net_waves.specs.Waves.{FitWaves, waves_of};
-ghost use Rattle.fault_account.specs.Unknown.{unknown_back as back_where_unknown, unknown_before as before_where_unknown, unknown_loop as loop_of, HasPassed, loop_in, up_to, unknown_through as through_where_unknown};
+ghost use Rattle.fault_account.specs.Unknown.{unknown_back as back_where_unknown, unknown_before as before_where_unknown, met_loop, unknown_loop as loop_of, unknown_of as unknown_in, HasPassed, loop_in, up_to, unknown_through as through_where_unknown};
 
 use crate::account::Nets;
+use crate::loops::from_least;
 use crate::slots::slot_back;
 use fault_chain::Link;
 use fixpoint_engine::NetSet;
@@ -134,7 +135,7 @@ fn passed_nets<W: CyclicWave<Item = Value>>(
     requires met { met.old ≡ replicate (length c.now.nets) false }
     requires net { first.net < length c.now.nets }
     requires fit { FitWaves c.now waves.now }
-    ensures is { IfOk result (λ way. loop_in way.0 way.1 ≡ loop_of c.now (waves_of waves.now) first) }
+    ensures is { IfOk result (λ way. loop_in way.0 way.1 ≡ met_loop c.now (waves_of waves.now) first) }
     ensures exist { IfOk result (λ way. All (λ i. i < length c.now.nets) way.0) }
     ensures met { IfOk result (λ way. HasPassed (length c.now.nets) way.0 met.new) }
 {
@@ -186,9 +187,9 @@ fn back_to(alloc: Global, passed: &[u32], again: u32) -> Result<Nets, NoMemory>
     Ok(nets)
 }
 
-/// The nets of the loop that makes a link unknown, in the direction of its signals. `met` is empty before and
-/// after.
-pub fn unknown_loop<W: CyclicWave<Item = Value>>(
+/// The nets of the loop that makes a link unknown, in the direction of the signals from the one of the least
+/// number on. `met` is empty before and after.
+fn unknown_loop<W: CyclicWave<Item = Value>>(
     alloc: Global,
     c: &Circuit,
     waves: &Waves<W>,
@@ -205,6 +206,29 @@ pub fn unknown_loop<W: CyclicWave<Item = Value>>(
     forget(met, passed.as_slice());
     match again {
         None => Ok(Nets::new(alloc)),
-        Some(net) => back_to(alloc, passed.as_slice(), net),
+        Some(net) => {
+            let nets = back_to(alloc, passed.as_slice(), net)?;
+            from_least(alloc, nets.as_slice())
+        }
+    }
+}
+
+/// The same of the first of these links, where that is unknown; no net where it is not.
+pub fn unknown_of<W: CyclicWave<Item = Value>>(
+    alloc: Global,
+    c: &Circuit,
+    waves: &Waves<W>,
+    met: &mut NetSet,
+    links: &[Link],
+) -> Result<Nets, NoMemory>
+    requires met { met.old ≡ replicate (length c.now.nets) false }
+    requires net { IfSome (slice_get links.now 0) (λ link. link.net < length c.now.nets) }
+    requires fit { FitWaves c.now waves.now }
+    ensures is { IfOk result (λ nets. nets ≡ unknown_in c.now (waves_of waves.now) links.now) }
+    ensures met { IfOk result (λ _. met.new ≡ replicate (length c.now.nets) false) }
+{
+    match links.first() {
+        Some(link) if link.value.is_unknown() => unknown_loop(alloc, c, waves, met, *link),
+        _ => Ok(Nets::new(alloc)),
     }
 }

@@ -7,6 +7,7 @@ use Rattle.flat_circuit.specs.Circuit.{Circuit, driver_at, instance_in}
 use Rattle.fault_chain.specs.declared.chain.Link.{Link}
 use Rattle.fault_chain.specs.declared.chain.End.{End}
 use Rattle.fault_chain.specs.declared.chain.End.TheVariants.{Level, Repeat, Undriven, Both}
+use Rattle.fault_account.specs.Loops.{from_least}
 use Rattle.fault_words.specs.declared.naming.Naming.{Naming}
 use Rattle.fault_words.specs.Places.{written_text}
 use Rattle.fault_words.specs.Elements.{driver_text, nets_text, pin_named}
@@ -17,10 +18,9 @@ links_after i [] = []
 links_after i (link ∷ links) = if link.net == i then links else links_after i links
 
 -- the nets of a loop, in the direction of its signals: of the links after the first one on the net
--- of the last
-abbrev pub loop_text : Naming → Circuit → List Link → ℕ → List ℕ
-loop_text naming c links i =
-    nets_text naming c (map (λ (l : Link). l.net) (reverse (links_after i links)))
+-- of the last, told from the net of the least number on
+abbrev pub loop_nets : List Link → ℕ → List ℕ
+loop_nets links i = from_least (map (λ (l : Link). l.net) (reverse (links_after i links)))
 
 abbrev pub last_place : Option Instance → ℕ
 last_place None = 0
@@ -42,6 +42,6 @@ abbrev pub ending_text : Naming → Drawing → Circuit → List Link → End �
 ending_text naming d c links Level link =
     concat (codes ": " ∷ driver_text naming c link.net ∷ codes " gives it" ∷ [])
 ending_text naming d c links Repeat link =
-    codes ": on the loop of " ++ loop_text naming c links link.net
+    codes ": on the loop of " ++ nets_text naming c (loop_nets links link.net)
 ending_text naming d c links Undriven link = codes ": " ++ written_text naming d c link.net
 ending_text naming d c links Both link = codes ": " ++ both_text naming c link.net

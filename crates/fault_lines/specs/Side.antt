@@ -12,11 +12,12 @@ use Rattle.fault_chain.specs.declared.chain.Link.{Link}
 use Rattle.fault_chain.specs.declared.chain.Chain.{Chain}
 use Rattle.fault_account.specs.declared.account.Side.{Side}
 use Rattle.fault_account.specs.Late.{arrival, delay_in, late_at_pin, late_from, taken_of, takes}
+use Rattle.fault_account.specs.Loops.{round_ticks}
 use Rattle.fault_lines.specs.Endings.{ending_text}
 use Rattle.fault_lines.specs.TwoDelays.{delay_told, split_in, way_in, which_text}
 use Rattle.fault_words.specs.declared.naming.Naming.{Naming}
 use Rattle.fault_words.specs.Naming.{net_named}
-use Rattle.fault_words.specs.Words.{does, tick_text, wire_text}
+use Rattle.fault_words.specs.Words.{does, tick_text, ticks_text, wire_text}
 use Rattle.fault_words.specs.Elements.{driver_text, nets_text}
 
 -- ---- one line
@@ -85,9 +86,20 @@ unfoldable pub title_line : Naming → Circuit → List ℕ → Side → List �
 title_line naming c title side =
     line (codes "  " ∷ title ∷ unknown_text naming c side.chain.links side.unknown ∷ codes ":" ∷ [])
 
+-- how long it takes once round that loop, at most
+unfoldable pub round_line : Circuit → List ℕ → List ℕ
+round_line c loop = line (
+    codes "    once round the loop it takes up to " ∷ ticks_text (round_ticks c loop)
+    ∷ codes ", and a period has " ∷ decimal (period c.header) ∷ [])
+
+abbrev pub round_lines : Circuit → List Link → List ℕ → List ℕ
+round_lines c [] loop = []
+round_lines c (link ∷ links) loop = if is_unknown link.value then round_line c loop else []
+
 abbrev pub side_at : Naming → Drawing → Circuit → List ℕ → ℕ → Side → List ℕ
 side_at naming d c title tick side =
     title_line naming c title side
+    ++ round_lines c side.chain.links side.unknown
     ++ link_lines naming d c side.chain (tick - takes c side) side.chain.links
     ++ pin_lines c tick side
 

@@ -3,9 +3,9 @@
 ghost use Rattle.std.specs.Prelude.{◌≡◌, ◌≤◌, IfOk, drop, length, map, reverse};
 ghost use Rattle.drawing_tree.specs.Tree.{drawing_of};
 ghost use Rattle.flat_circuit.specs.Circuit.{driver_at, instance_in};
-ghost use Rattle.fault_lines.specs.Endings.{both_of as both_in, both_text as both_with, ending_text as ending_with, last_place, links_after};
+ghost use Rattle.fault_lines.specs.Endings.{both_of as both_in, both_text as both_with, ending_text as ending_with, last_place, links_after, loop_nets as nets_of_loop};
 
-use fault_account::Nets;
+use fault_account::{Nets, from_least};
 use fault_chain::{End, Link};
 use fault_words::{Told, driver_text, nets_text, pin_of, text, written_text};
 use flat_circuit::Circuit;
@@ -42,12 +42,13 @@ fn nets_back(alloc: Global, links: &[Link]) -> Result<Nets, NoMemory>
 }
 
 /// The nets of the loop that a chain goes round, in the direction of its signals: of the links
-/// after the first one on the net of the last.
+/// after the first one on the net of the last, from the net of the least number on.
 fn loop_nets(alloc: Global, links: &[Link], net: u32) -> Result<Nets, NoMemory>
-    ensures { IfOk result (λ nets. nets ≡ map (λ link. link.net) (reverse (links_after net links.now))) }
+    ensures { IfOk result (λ nets. nets ≡ nets_of_loop links.now net) }
 {
     let (_, rest) = links.split_at(after_first(links, net));
-    nets_back(alloc, rest)
+    let nets = nets_back(alloc, rest)?;
+    from_least(alloc, nets.as_slice())
 }
 
 /// The driver of a net, by its number, and the place of its last pin.

@@ -8,14 +8,17 @@ ghost use Rattle.flat_circuit.specs.Circuit.{driver};
 ghost use Rattle.fault_account.specs.Late.{takes};
 ghost use Rattle.fault_account.specs.Sides.{IsSide};
 ghost use Rattle.fault_lines.specs.Endings.{ending_text as ending_with};
-ghost use Rattle.fault_lines.specs.Side.{link_head as link_start, link_line, link_lines, pin_lines, side_lines, step_text as step_with, taken_by as taken_with, taken_text as taken_said, title_line, unknown_text as unknown_with};
+ghost use Rattle.fault_lines.specs.Side.{link_head as link_start, link_line, link_lines, pin_lines, round_line, round_lines, side_lines, step_text as step_with, taken_by as taken_with, taken_text as taken_said, title_line, unknown_text as unknown_with};
 
 use crate::endings::ending_text;
 use crate::two_delays::{delay_told, split_of, way_to, which_delay};
-use fault_account::{Side, delay_to, late_at_pin, late_from, taken_of, takes as ticks_of};
+use fault_account::{
+    Side, delay_to, late_at_pin, late_from, round_ticks, taken_of, takes as ticks_of,
+};
 use fault_chain::{Chain, Link};
 use fault_words::{
-    Told, does_piece, driver_text, net_name, nets_text, text, tick_text, wire_text, word,
+    Told, does_piece, driver_text, net_name, nets_text, text, tick_text, ticks_text, wire_text,
+    word,
 };
 use flat_circuit::{Circuit, Target};
 use listing::{Piece, add_line};
@@ -277,6 +280,47 @@ fn add_title(
     )
 }
 
+/// How long it takes once round a loop, at most.
+#[tactic(auto, unfolding(crate::specs::Side::round_line))]
+fn add_round_line(
+    out: &mut Bytes,
+    alloc: Global,
+    c: &Circuit,
+    unknown: &[u32],
+) -> Result<(), NoMemory>
+    requires short { length unknown.now ≤ 65537 }
+    ensures { OnOk result (out.new ≡ out.old ++ round_line c.now unknown.now) }
+{
+    c.header().known();
+    let ticks = ticks_text(alloc, round_ticks(c, unknown))?;
+    add_line(
+        out,
+        &[
+            Piece::Text(b"    once round the loop it takes up to "),
+            Piece::Text(ticks.as_slice()),
+            Piece::Text(b", and a period has "),
+            Piece::Number(u64::from(c.header().period())),
+        ],
+    )
+}
+
+/// The same of the loop by which the first of these links is unknown, where it is.
+fn add_round(
+    out: &mut Bytes,
+    alloc: Global,
+    c: &Circuit,
+    links: &[Link],
+    unknown: &[u32],
+) -> Result<(), NoMemory>
+    requires short { length unknown.now ≤ 65537 }
+    ensures { OnOk result (out.new ≡ out.old ++ round_lines c.now links.now unknown.now) }
+{
+    match links {
+        [link, ..] if link.value.is_unknown() => add_round_line(out, alloc, c, unknown),
+        _ => Ok(()),
+    }
+}
+
 /// The lines of a side that arrives at this tick; none where nothing changes.
 pub fn add_side(
     out: &mut Bytes,
@@ -297,7 +341,9 @@ pub fn add_side(
         return Ok(());
     }
     let begin = tick - ticks_of(told.circuit, side);
+    let links = side.chain.links.as_slice();
     add_title(out, alloc, told, title, side)?;
+    add_round(out, alloc, told.circuit, links, side.unknown.as_slice())?;
     add_links(out, alloc, told, &side.chain, begin)?;
     add_pin_line(out, alloc, told.circuit, side, tick)
 }
