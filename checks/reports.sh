@@ -389,6 +389,29 @@ whole 'pulses, each by its own worst case' margins 0 \
     'DRAWING ROW;' 'm1 : MUX2 [0:0] ("G", "CK .P2-3", "CK2 .P2-4") -> ("X");' 'w1 : MIN_PULSE_CHK {HIGH=20, LOW=20} ("X");' 'END;' 'CASE "G"=0;' 'CASE "G"=1;' \
     -- 'SCALD 1 PERIOD 400' 'MARGIN w1<0> HIGH 30 NEXT CASE 1 WIDTH HIGH FROM 100 WIDTH 50' 'MARGIN w1<0> LOW 280 NEXT CASE 2 WIDTH LOW FROM 200 WIDTH 300' 'MARGINS 2'
 
+# --- explanations
+early='  it is early and not late: it began with this edge of the clock, so this is a hold miss of that edge, and the data has to be slower or the clock earlier'
+whole 'a race at a checker of a high clock' explain 1 \
+    'r1 : REG [2:6] ("CK .P2-3", "D .S1-4") -> ("Q");' 'b1 : BUF [2:3] ("CK") -> ("CK2");' \
+    'c1 : SETUP_RISE_HOLD_FALL_CHK {SETUP=20, HOLD=4} ("CK2", "Q");' \
+    -- 'SCALD 1 PERIOD 400' 'CASE 0' '' 'SETUP 20 of c1<0> (line 6): the whole of it does not suffice' \
+    '  Q<0> is not stable from tick 102 to tick 106, and CK2<0> may rise at tick 102' \
+    '  with SETUP 0 there is still HIGH EDGE 102 SLOT 103 VALUE C' "$early" '  the change:' \
+    '    tick 100: CK<0> may rise: "CK .P2-3" (line 4)' '    tick 102: Q<0> may change: r1<0> : REG [2:6] (line 4) takes 2' \
+    '  the clock:' '    tick 100: CK<0> may rise: "CK .P2-3" (line 4)' \
+    '    tick 102: CK2<0> may rise: b1<0> : BUF [2:3] (line 5) takes 2' \
+    '' 'kind | checker | short by | from | cases' 'SETUP | c1<0> | over 20 | CK<0> | 0' 'FAULTS 1'
+row 'a row of registers whose clock is passed on through late wires' explain 1 \
+    'WIRE 0:1;' 'DRAWING ROW;' 'r1 : REG [2:6] ("CK .P2-3", "D .S1-4") -> ("Q1");' 'b1 : BUF [2:3] ("CK") -> ("CK2");' \
+    'r2 : REG [2:6] ("CK2", "Q1") -> ("Q2");' 'b2 : BUF [2:3] ("CK2") -> ("CK3");' \
+    'c2 : SETUP_HOLD_CHK {SETUP=20, HOLD=4} ("CK3", "Q2");' 'END;' \
+    -- 'SETUP 20 of c2<0> (line 9): the whole of it does not suffice' \
+    '  Q2<0> is not stable from tick 104 to tick 112, and CK3<0> may rise at tick 104' \
+    '  with SETUP 0 there is still HOLD EDGE 104 SLOT 105 VALUE C' "$early" '  the change:' \
+    '    tick 100: CK<0> may rise: "CK .P2-3" (line 5)' \
+    '    tick 102: CK2<0> may rise: b1<0> : BUF [2:3] (line 6) takes 2, its wire 0 of 0:1' \
+    '    tick 104: Q2<0> may change: r2<0> : REG [2:6] (line 7) takes 2, its wire 0 of 0:1' \
+    '    tick 104: at the pin, its wire 0 of 0:1' 'SETUP | c2<0> | over 20 | CK<0> | 0'
 row 'what is unknown, explained by its loop from the net that is named first, and by its ticks once round' explain 1 \
     'b1 : BUF [1:2] ("B") -> ("A");' 'b2 : BUF [1:3] ("A") -> ("B");' 'WIRE "B" 0:4;' 'w1 : MIN_PULSE_CHK {HIGH=2} ("A");' \
     -- '  its begin, unknown by the loop of B<0>, A<0>:' '    once round the loop it takes up to 9 ticks, and a period has 400' 'FAULTS 1'

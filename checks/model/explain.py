@@ -16,6 +16,17 @@ DOES = {
     "0": "is 0", "1": "is 1", "S": "is stable", "R": "may rise", "F": "may fall", "C": "may change", "U": "is unknown",
 }
 
+EARLY = (
+    "  it is early and not late: it began with this edge of the clock, so this is a hold miss of that edge, and the data"
+    " has to be slower or the clock earlier"
+)
+MAYBE_EARLY = (
+    "  it began with this edge of the clock: where the next edge is to take it, it is early and not late, and this is a"
+    " hold miss"
+)
+LATE_SETUP = "it has to be faster, or a later edge has to take it"
+LATE_HOLD = "this is a setup miss of the period before"
+
 
 # --- names and places
 
@@ -207,6 +218,18 @@ def side_of(circuit, waves, pin, slot, net=None):
         bounds = both(wire_of(circuit, earlier.net), circuit.drivers[later.net].delay)
         late.append(lateness(bounds, later.slot, earlier.slot, circuit.period))
     return Side(links, end, late, pin)
+
+
+def begun_by_one(side, tick, other, other_tick):
+    """The ticks at which two sides began that arrive at these, where one change of one input is what both begin with.
+    What is unknown comes from a loop and begins with none."""
+    if other is None or "U" in (side.links[0].value, other.links[0].value):
+        return None
+    if (side.end, other.end) != ("UNDRIVEN", "UNDRIVEN"):
+        return None
+    if (side.links[-1].net, side.links[-1].slot) != (other.links[-1].net, other.links[-1].slot):
+        return None
+    return tick - side.takes, other_tick - other.takes
 
 
 def next_unknown(circuit, waves, link):
@@ -408,15 +431,37 @@ class Told:
         clock_takes = edge_side.takes if edge_side else 0
         arrival = self.arrives(change, slot, max(earlier + later, behind, behind + max(clock_takes - ahead, 0)))
         edge_tick = arrival + ahead - behind
+        began = begun_by_one(change, arrival, edge_side, edge_tick)
+        is_early = is_setup and began is not None and began[0] == began[1]
+        is_too_fast = is_early and edge_tick < began[1] + asked.limit
         lines = [self.point_line(worst, asked, data, clock, arrival - later - earlier, earlier + more, edge_tick, is_fall)]
+        last, last_tick = None, arrival + more - later
+        if is_setup and asked.least == 0 and earlier + more < period - 1 and not is_too_fast:
+            last = self.last_of(change, arrival, data, (worst.slot + more) % period, last_tick)
+        if last:
+            which = f"the last of these changes, at {self.tick(last_tick)}," if earlier + more else "this change"
+            over = ticks_text(last_tick - (edge_tick - asked.limit))
+            lines.append(f"  {which} is {over} too late for SETUP {asked.limit}")
         if asked.least == 0 and asked.parameter:
             lines.append(f"  with {asked.parameter} 0 there is still {asked.worst.without_element}")
-        if worst.kind == "HOLD":
-            lines += self.late_line(change, edge_side, behind)
+        if is_early:
+            lines.append(EARLY if is_too_fast else MAYBE_EARLY)
+        elif began is not None and began[0] < began[1] and not (is_setup and asked.least):
+            sooner = ticks_text(began[1] - began[0])
+            mends = LATE_SETUP if is_setup else LATE_HOLD
+            lines.append(f"  it is late and not early: it began {sooner} before this edge of the clock did, so {mends}")
         lines += self.side("the change", change, arrival)
+        if last and more > later:
+            lines += self.side("the last change", last, last_tick)
         if edge_side:
             lines += self.side("the clock", edge_side, edge_tick)
         return lines
+
+    def last_of(self, change, arrival, pin, slot, tick):
+        """The side of the last change, at a tick: where it comes of the same change of an input, at the same tick."""
+        last = side_of(self.circuit, self.waves, pin, slot)
+        began = begun_by_one(change, arrival, last, tick)
+        return last if began is not None and began[0] == began[1] else None
 
     def point_line(self, worst, asked, data, clock, first, more, edge_tick, is_fall):
         data_text, clock_text = self.naming.pin(data), self.naming.pin(clock)
@@ -433,20 +478,6 @@ class Told:
         if worst.kind == "HIGH":
             return f"  {data_text} {moves}, {risen} and may stay high until then"
         return f"  {data_text} {moves}, and {risen}"
-
-    def late_line(self, change, edge_side, behind):
-        """Of a change after an edge that began before the edge did, both with one change of one input."""
-        if edge_side is None or (change.end, edge_side.end) != ("UNDRIVEN", "UNDRIVEN"):
-            return []
-        if (change.links[-1].net, change.links[-1].slot) != (edge_side.links[-1].net, edge_side.links[-1].slot):
-            return []
-        earlier = change.takes - edge_side.takes - behind
-        if earlier <= 0:
-            return []
-        return [
-            f"  it is late and not early: it began {ticks_text(earlier)} before this edge of the clock did, so this is a"
-            " setup miss of the period before"
-        ]
 
     def hazard(self, fault):
         element = fault.element

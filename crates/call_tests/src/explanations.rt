@@ -86,6 +86,180 @@ HOLD 8 of c1<0> (line 6): short by 6
 kind | checker | short by | from | cases
 HOLD | c1<0> | 6 | CK<0> | 0
 FAULTS 1
+#### a race: the edge that launches a change clocks its checker later
+words:
+drawing:
+r1 : REG [2:6] ("CK .P2-3", "D .S1-4") -> ("Q");
+b1 : BUF [2:3] ("CK") -> ("CK2");
+c1 : SETUP_HOLD_CHK {SETUP=20, HOLD=4} ("CK2", "Q");
+answer: Faulty(1)
+SCALD 1 PERIOD 400
+CASE 0
+
+SETUP 20 of c1<0> (line 6): the whole of it does not suffice
+  Q<0> is not stable from tick 102 to tick 106, and CK2<0> may rise at tick 102
+  with SETUP 0 there is still HOLD EDGE 102 SLOT 103 VALUE C
+  it is early and not late: it began with this edge of the clock, so this is a hold miss of that edge, and the data has to be slower or the clock earlier
+  the change:
+    tick 100: CK<0> may rise: "CK .P2-3" (line 4)
+    tick 102: Q<0> may change: r1<0> : REG [2:6] (line 4) takes 2
+  the clock:
+    tick 100: CK<0> may rise: "CK .P2-3" (line 4)
+    tick 102: CK2<0> may rise: b1<0> : BUF [2:3] (line 5) takes 2
+
+kind | checker | short by | from | cases
+SETUP | c1<0> | over 20 | CK<0> | 0
+FAULTS 1
+#### the same clock without a race: a change that began the period before
+words:
+drawing:
+r1 : REG [2:6] ("CK .P2-3", "D .S1-4") -> ("Q");
+b1 : BUF [2:3] ("CK") -> ("CK2");
+b2 : BUF [380:390] ("Q") -> ("E");
+c1 : SETUP_HOLD_CHK {SETUP=20, HOLD=4} ("CK2", "E");
+answer: Faulty(1)
+SCALD 1 PERIOD 400
+CASE 0
+
+SETUP 20 of c1<0> (line 7): short by 14
+  E<0> is stable for 6 ticks up to tick 502 = 1*400 + 102, where CK2<0> may rise
+  the change:
+    tick 100: CK<0> may rise: "CK .P2-3" (line 4)
+    tick 106: Q<0> may change: r1<0> : REG [2:6] (line 4) takes 6
+    tick 496 = 1*400 + 96: E<0> may change: b2<0> : BUF [380:390] (line 6) takes 390
+  the clock:
+    tick 500 = 1*400 + 100: CK<0> may rise: "CK .P2-3" (line 4)
+    tick 502 = 1*400 + 102: CK2<0> may rise: b1<0> : BUF [2:3] (line 5) takes 2
+
+kind | checker | short by | from | cases
+SETUP | c1<0> | 14 | CK<0> | 0
+FAULTS 1
+#### a clock so late that the edge that launches a change could take it
+words:
+drawing:
+r1 : REG [2:6] ("CK .P2-3", "D .S1-4") -> ("Q");
+b1 : BUF [30:31] ("CK") -> ("CK2");
+c1 : SETUP_HOLD_CHK {SETUP=26, HOLD=4} ("CK2", "Q");
+answer: Faulty(1)
+SCALD 1 PERIOD 400
+CASE 0
+
+SETUP 26 of c1<0> (line 6): short by 2
+  Q<0> is stable for 24 ticks up to tick 130, where CK2<0> may rise
+  it began with this edge of the clock: where the next edge is to take it, it is early and not late, and this is a hold miss
+  the change:
+    tick 100: CK<0> may rise: "CK .P2-3" (line 4)
+    tick 106: Q<0> may change: r1<0> : REG [2:6] (line 4) takes 6
+  the clock:
+    tick 100: CK<0> may rise: "CK .P2-3" (line 4)
+    tick 130: CK2<0> may rise: b1<0> : BUF [30:31] (line 5) takes 30
+
+kind | checker | short by | from | cases
+SETUP | c1<0> | 2 | CK<0> | 0
+FAULTS 1
+#### a path of one period to one and a half
+words:
+drawing:
+r1 : REG [5:10] ("CK .P0-4", "D .S1-4") -> ("A");
+b1 : BUF [120:200] ("A") -> ("B");
+b2 : BUF [140:195] ("B") -> ("C");
+b3 : BUF [130:180] ("C") -> ("E");
+c1 : SETUP_HOLD_CHK {SETUP=20, HOLD=5} ("CK", "E");
+answer: Faulty(1)
+SCALD 1 PERIOD 400
+CASE 0
+
+SETUP 20 of c1<0> (line 8): the whole of it does not suffice
+  E<0> is not stable from tick 395 to tick 585 = 1*400 + 185, and CK<0> may rise at tick 400 = 1*400 + 0
+  the last of these changes, at tick 585 = 1*400 + 185, is 205 ticks too late for SETUP 20
+  with SETUP 0 there is still HOLD EDGE 0 SLOT 1 VALUE C
+  it is late and not early: it began 400 ticks before this edge of the clock did, so it has to be faster, or a later edge has to take it
+  the change:
+    tick 0: CK<0> may rise: "CK .P0-4" (line 4)
+    tick 10: A<0> may change: r1<0> : REG [5:10] (line 4) takes 10
+    tick 130: B<0> may change: b1<0> : BUF [120:200] (line 5) takes 120
+    tick 270: C<0> may change: b2<0> : BUF [140:195] (line 6) takes 140
+    tick 400 = 1*400 + 0: E<0> may change: b3<0> : BUF [130:180] (line 7) takes 130
+  the last change:
+    tick 0: CK<0> may rise: "CK .P0-4" (line 4)
+    tick 10: A<0> may change: r1<0> : REG [5:10] (line 4) takes 10
+    tick 210: B<0> may change: b1<0> : BUF [120:200] (line 5) takes 200
+    tick 405 = 1*400 + 5: C<0> may change: b2<0> : BUF [140:195] (line 6) takes 195
+    tick 585 = 1*400 + 185: E<0> may change: b3<0> : BUF [130:180] (line 7) takes 180
+  the clock:
+    tick 400 = 1*400 + 0: CK<0> may rise: "CK .P0-4" (line 4)
+
+kind | checker | short by | from | cases
+SETUP | c1<0> | over 20 | CK<0> | 0
+FAULTS 1
+#### one change, which is the last of itself
+words:
+drawing:
+b1 : BUF [390:390] ("CK .P2-3") -> ("X");
+c1 : SETUP_HOLD_CHK {SETUP=20, HOLD=50} ("CK", "X");
+answer: Faulty(1)
+SCALD 1 PERIOD 400
+CASE 0
+
+SETUP 20 of c1<0> (line 5): the whole of it does not suffice
+  X<0> may rise at tick 490 = 1*400 + 90, and CK<0> may rise at tick 500 = 1*400 + 100
+  this change is 10 ticks too late for SETUP 20
+  with SETUP 0 there is still HOLD EDGE 100 SLOT 140 VALUE F
+  it is late and not early: it began 400 ticks before this edge of the clock did, so it has to be faster, or a later edge has to take it
+  the change:
+    tick 100: CK<0> may rise: "CK .P2-3" (line 4)
+    tick 490 = 1*400 + 90: X<0> may rise: b1<0> : BUF [390:390] (line 4) takes 390
+  the clock:
+    tick 500 = 1*400 + 100: CK<0> may rise: "CK .P2-3" (line 4)
+
+kind | checker | short by | from | cases
+SETUP | c1<0> | over 20 | CK<0> | 0
+FAULTS 1
+#### changes all round the period have no last one
+words:
+drawing:
+r1 : REG [5:10] ("CK .P2-3", "D .S1-4") -> ("A");
+b1 : BUF [0:400] ("A") -> ("B");
+c1 : SETUP_HOLD_CHK {SETUP=20, HOLD=5} ("CK", "B");
+answer: Faulty(1)
+SCALD 1 PERIOD 400
+CASE 0
+
+SETUP 20 of c1<0> (line 6): the whole of it does not suffice
+  B<0> is stable at no tick, and CK<0> may rise at tick 500 = 1*400 + 100
+  with SETUP 0 there is still HOLD EDGE 100 SLOT 101 VALUE C
+  it is late and not early: it began 400 ticks before this edge of the clock did, so it has to be faster, or a later edge has to take it
+  the change:
+    tick 100: CK<0> may rise: "CK .P2-3" (line 4)
+    tick 110: A<0> may change: r1<0> : REG [5:10] (line 4) takes 10
+    tick 481 = 1*400 + 81: B<0> may change: b1<0> : BUF [0:400] (line 5) takes 371
+  the clock:
+    tick 500 = 1*400 + 100: CK<0> may rise: "CK .P2-3" (line 4)
+
+kind | checker | short by | from | cases
+SETUP | c1<0> | over 20 | CK<0> | 0
+FAULTS 1
+#### while the clock is high, begun the period before
+words:
+drawing:
+b1 : BUF [410:410] ("CK .P2-3") -> ("X");
+c1 : SETUP_RISE_HOLD_FALL_CHK {SETUP=5, HOLD=5} ("CK", "X");
+answer: Faulty(1)
+SCALD 1 PERIOD 400
+CASE 0
+
+HIGH of c1<0> (line 5)
+  X<0> may rise at tick 510 = 1*400 + 110, CK<0> may rise at tick 500 = 1*400 + 100 and may stay high until then
+  it is late and not early: it began 400 ticks before this edge of the clock did, so this is a setup miss of the period before
+  the change:
+    tick 100: CK<0> may rise: "CK .P2-3" (line 4)
+    tick 510 = 1*400 + 110: X<0> may rise: b1<0> : BUF [410:410] (line 4) takes 410
+  the clock:
+    tick 500 = 1*400 + 100: CK<0> may rise: "CK .P2-3" (line 4)
+
+kind | checker | short by | from | cases
+HIGH | c1<0> | - | CK<0> | 0
+FAULTS 1
 #### no setup time suffices
 words:
 drawing:

@@ -29,3 +29,9 @@ module _ (c : Circuit) (begin : ℕ) where
       ∙ ap (λ (ls : List Link). link ∷ ls) rest in
       ap (arrival c begin) both
       ∙ ap (λ (ls : List Link). arrival c begin ls + late_from c earlier link) (sym rest)
+
+-- from a later begin on everything is so much later
+pub arrival_later : (c : Circuit) (links : List Link) (begin : ℕ) → arrival c begin links ≡ begin + arrival c 0 links
+arrival_later c [] begin = omega arith
+arrival_later c (link ∷ []) begin = omega arith
+arrival_later c (link ∷ earlier ∷ links) begin = let before = arrival_later c (earlier ∷ links) begin in omega (arith, before)

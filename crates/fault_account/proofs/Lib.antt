@@ -1,4 +1,5 @@
 pub mod Passing
+pub mod SideBySide
 pub mod Short
 pub mod Ticks
 pub mod Steps
@@ -8,6 +9,7 @@ pub mod Inside
 pub mod Within
 pub mod Resting
 pub mod Arriving
+pub mod AddingUp
 pub mod Way
 pub mod Existing
 pub mod Telling

@@ -5,7 +5,7 @@ use Rattle.std.specs.Option.{option_map, option_or}
 use Rattle.std.specs.List.{All, list_any}
 use Rattle.std.proofs.lemmas.List.Elements.{All-head, All-tail}
 use Rattle.scald_base.specs.Clock.{back}
-use Rattle.scald_base.specs.Time.{Bounds, IsDelay, IsHeader, period}
+use Rattle.scald_base.specs.Time.{Bounds, IsDelay, period}
 use Rattle.scald_base.proofs.Back.{back_lt}
 use Rattle.vector_names.specs.declared.bits.Target.{Target}
 use Rattle.vector_names.specs.declared.bits.Target.TheVariants.{Net as OnNet, Constant}
@@ -13,7 +13,6 @@ use Rattle.step_values.specs.Steps.{is_quiet}
 use Rattle.flat_circuit.specs.declared.instance.Instance.{Instance}
 use Rattle.flat_circuit.specs.declared.instance.Pin.{Pin}
 use Rattle.flat_circuit.specs.declared.net.Net.{Net}
-use Rattle.flat_circuit.specs.declared.fault.Fault.{Fault}
 use Rattle.flat_circuit.specs.Circuit.{Circuit, driver, wire_at}
 use Rattle.fault_chain.proofs.Drivers.{driver_passes}
 use Rattle.storage_eval.specs.Storage.{listening}
@@ -21,24 +20,24 @@ use Rattle.net_waves.specs.Waves.{Waves}
 use Rattle.fault_chain.specs.declared.chain.Link.{Link}
 use Rattle.fault_chain.specs.declared.chain.Chain.{Chain}
 use Rattle.fault_chain.specs.declared.chain.End.TheVariants.{Level, Repeat}
-use Rattle.fault_chain.specs.Chain.{chain_after, chain_at, chain_from, chain_of, ending, first_link, link_back, linked, mover_back, next_link, then_late, through, through_first}
+use Rattle.fault_chain.specs.Chain.{chain_after, chain_at, chain_from, ending, first_back, link_back, linked, mover_back, next_link, then_late, through, through_first}
 use Rattle.fault_chain.specs.Laws.{HasDelays}
 use Rattle.fault_chain.proofs.Moving.{each_if}
 use Rattle.fault_account.specs.Late.{delay_in}
-use Rattle.fault_account.specs.Laws.{AreSteps, AreTicks, StepsAreShared}
+use Rattle.fault_account.specs.Laws.{AreSteps, AreTicks}
 use Rattle.fault_account.proofs.Ticks.{ticks_are_shared}
 
 or_if : {A : Type 0} (P : A → Type 0) (here later : Option A) → IfSome here P → IfSome later P → IfSome (option_or here later) P
 or_if P None later holds rest = rest
 or_if P (Some x) later holds rest = holds
 
-wire_is_delay : (nets : List Net) (i : ℕ) → All (λ (n : Net). IsDelay n.wire) nets → IsDelay (wire_at nets i)
+pub wire_is_delay : (nets : List Net) (i : ℕ) → All (λ (n : Net). IsDelay n.wire) nets → IsDelay (wire_at nets i)
 wire_is_delay [] i each = record { ordered = omega arith; bounded = omega arith }
 wire_is_delay (n ∷ nets) zero each = All-head (λ (n : Net). IsDelay n.wire) n nets each
 wire_is_delay (n ∷ nets) (suc i) each = wire_is_delay nets i (All-tail (λ (n : Net). IsDelay n.wire) n nets each)
 
 -- a chain from a link on begins with it
-record BeginsWith (link : Link) (links : List Link) : Type 0 where
+pub record BeginsWith (link : Link) (links : List Link) : Type 0 where
   pub others : List Link
   pub is : links ≡ link ∷ others
 
@@ -50,27 +49,32 @@ module _ (c : Circuit) (ws : Waves) (some : 0 < period c.header) (delays : HasDe
   abbrev Leads : Bounds → ℕ → Link → Type 0
   Leads d slot earlier = AreTicks p (wire_at c.nets earlier.net) d earlier.slot slot
 
+  -- what holds in each slot from which a wire and this delay lead holds of the link that is found
+  pub found_back : (P : Link → Type 0) (i slot : ℕ) (d : Bounds) → IsDelay d →
+      ((o : ℕ) → (wire_at c.nets i).min + d.min ≤ o → o ≤ (wire_at c.nets i).max + d.max → P (link_back c ws i slot o)) →
+      IfSome (first_back c ws i slot (then_late (wire_at c.nets i) d)) P
+  found_back P i slot d delay each =
+      let wired : IsDelay (wire_at c.nets i) = wire_is_delay c.nets i delays.wires in
+      let late : Bounds = then_late (wire_at c.nets i) d in
+      each_if P (mover_back c ws i slot) (late.max - late.min + 1) late.min
+      (λ o least most. by o (is_quiet (link_back c ws i slot o).value) (each o least (omega (arith, least, most, wired.ordered, delay.ordered))))
+    where
+      by : (o : ℕ) (quiet : Bool) → P (link_back c ws i slot o) → IfSome (cond quiet None (Some (link_back c ws i slot o))) P
+      by o true holds = tt
+      by o false holds = holds
+
   through_leads : (slot : ℕ) (d : Bounds) → IsDelay d → (target : Target) → IfSome (through c ws slot d target) (Leads d slot)
   through_leads slot d delay (Constant one) = tt
   through_leads slot d delay (OnNet i) =
-      let wire : Bounds = wire_at c.nets i in
-      let wired : IsDelay wire = wire_is_delay c.nets i delays.wires in
-      let late : Bounds = then_late wire d in
-      each_if (Leads d slot) (mover_back c ws i slot) (late.max - late.min + 1) late.min (λ o least most.
-      by o (is_quiet (link_back c ws i slot o).value)
-      (ticks_are_shared p wire d (back p slot o) slot o some (back_lt p slot o some) wired delay least
-      (omega (arith, least, most, wired.ordered, delay.ordered)) refl))
-    where
-      by : (o : ℕ) (quiet : Bool) → Leads d slot (link_back c ws i slot o) → IfSome (cond quiet None (Some (link_back c ws i slot o))) (Leads d slot)
-      by o true leads = tt
-      by o false leads = leads
+      found_back (Leads d slot) i slot d delay (λ o least most.
+      ticks_are_shared p (wire_at c.nets i) d (back p slot o) slot o some (back_lt p slot o some) (wire_is_delay c.nets i delays.wires) delay least most refl)
 
   first_leads : (slot : ℕ) (d : Bounds) → IsDelay d → (pins : List Pin) → IfSome (through_first c ws slot d pins) (Leads d slot)
   first_leads slot d delay [] = tt
   first_leads slot d delay (pin ∷ pins) =
       or_if (Leads d slot) (through c ws slot d pin.target) (through_first c ws slot d pins) (through_leads slot d delay pin.target) (first_leads slot d delay pins)
 
-  begins : (left : ℕ) (seen : List ℕ) (link : Link) → BeginsWith link (chain_from c ws left seen link).links
+  pub begins : (left : ℕ) (seen : List ℕ) (link : Link) → BeginsWith link (chain_from c ws left seen link).links
   begins zero seen link = record { others = []; is = refl }
   begins (suc left) seen link = by (list_any (λ i. i == link.net) seen)
     where
@@ -112,16 +116,10 @@ module _ (c : Circuit) (ws : Waves) (some : 0 < period c.header) (delays : HasDe
           let delay : IsDelay j.delay = driver_passes (λ (one : Instance). IsDelay one.delay) c link.net j delays.delays at in
           on j at (next_link c ws j link.slot) (first_leads link.slot j.delay delay (listening j.kind j.pins)) rest
 
-  at_steps : (first : Option Link) → AreSteps c (chain_at c ws first).links
+  pub at_steps : (first : Option Link) → AreSteps c (chain_at c ws first).links
   at_steps None = tt
   at_steps (Some link) = by (is_quiet link.value)
     where
       by : (quiet : Bool) → AreSteps c (cond quiet (ending link Level) (chain_from c ws (length c.nets) [] link)).links
       by true = tt
       by false = from_steps (length c.nets) [] link
-
-pub steps_are_shared : StepsAreShared
-unfolding chain_of
-steps_are_shared c ws f header delays =
-    let least = header.shortest in
-    at_steps c ws (omega (arith, least)) delays (first_link c ws f)

@@ -62,11 +62,12 @@ module _ (c : Circuit) (ws : Waves) (k : ℕ) (asked : Option Asked) (kind : Poi
   abbrev q : ℕ
   q = period c.header
 
-  pub edge_told : (value : Value) (earlier more later ahead behind reach at : ℕ) (falls : Bool) (change clock : Side) →
+  pub edge_told : (value : Value) (earlier more later ahead behind reach at : ℕ) (falls : Bool) (change last clock : Side) →
       value ≡ shown_at c ws k 1 slot → earlier ≡ earlier_of q (shown_at c ws k 1) asked slot → more ≡ more_of q (shown_at c ws k 1) asked slot →
       later ≡ later_of q kind edge slot more → ahead ≡ ahead_of q kind edge slot later →
       falls ≡ falls_of kind asked (slice_get c.instances k) → behind ≡ behind_of q kind falls asked edge slot →
       reach ≡ reach_of behind earlier later → change ≡ pin_side c ws k 1 ((slot + later) % q) →
+      last ≡ pin_side c ws k 1 ((slot + more) % q) →
       at ≡ edge_slot q falls behind edge slot → clock ≡ pin_side c ws k 0 at →
       record {
         checker = k;
@@ -81,15 +82,17 @@ module _ (c : Circuit) (ws : Waves) (k : ℕ) (asked : Option Asked) (kind : Poi
         reach = reach;
         falls = falls;
         change = change;
+        last = last;
         clock = clock;
       } ≡ edge_account c ws k asked kind edge slot
-  edge_told value earlier more later ahead behind reach at falls change clock e_value e_earlier e_more e_later e_ahead e_falls e_behind e_reach e_change e_at e_clock =
+  edge_told value earlier more later ahead behind reach at falls change last clock e_value e_earlier e_more e_later e_ahead e_falls e_behind e_reach e_change e_last e_at e_clock =
       let account : AtEdge = edge_account c ws k asked kind edge slot in
       let later_is : later ≡ account.later = e_later ∙ ap (later_of q kind edge slot) e_more in
       let ahead_is : ahead ≡ account.ahead = e_ahead ∙ ap (ahead_of q kind edge slot) later_is in
       let behind_is : behind ≡ account.behind = e_behind ∙ ap (λ (f : Bool). behind_of q kind f asked edge slot) e_falls in
       let reach_is : reach ≡ account.reach = e_reach ∙ (λ t. reach_of (behind_is t) (e_earlier t) (later_is t)) in
       let change_is : change ≡ account.change = e_change ∙ ap (λ (l : ℕ). pin_side c ws k 1 ((slot + l) % q)) later_is in
+      let last_is : last ≡ account.last = e_last ∙ ap (λ (m : ℕ). pin_side c ws k 1 ((slot + m) % q)) e_more in
       let clock_is : clock ≡ account.clock = e_clock ∙ ap (pin_side c ws k 0) (e_at ∙ (λ t. edge_slot q (e_falls t) (behind_is t) edge slot)) in
       λ t. record {
         checker = k;
@@ -104,5 +107,6 @@ module _ (c : Circuit) (ws : Waves) (k : ℕ) (asked : Option Asked) (kind : Poi
         reach = reach_is t;
         falls = e_falls t;
         change = change_is t;
+        last = last_is t;
         clock = clock_is t;
       }

@@ -125,6 +125,7 @@ edge_account c ws k asked kind edge slot =
       reach = reach_of behind earlier later;
       falls = falls;
       change = pin_side c ws k 1 ((slot + later) % p);
+      last = pin_side c ws k 1 ((slot + more) % p);
       clock = pin_side c ws k 0 (edge_slot p falls behind edge slot);
     }
 
@@ -219,6 +220,7 @@ IsWithin c (Assertion i slot value) = (i < length c.nets) × (slot < period c.he
 -- Its sides are sides, and the edge and the first of its changes are within reach of the one that is told.
 pub record IsAtEdge (c : Circuit) (edge : AtEdge) : Type 0 where
   pub change : IsSide c edge.change
+  pub last : IsSide c edge.last
   pub clock : IsSide c edge.clock
   pub reach : edge.reach ≤ period c.header
   pub behind : edge.behind ≤ edge.reach

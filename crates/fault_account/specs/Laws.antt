@@ -1,18 +1,24 @@
 -- Laws of what is told of a fault.
-use Rattle.std.specs.Prelude.{◌≡◌, ◌≢◌, ℕ, ◌+◌, ◌-◌, ◌<◌, ◌≤◌, ⊤, List, [], ◌∷◌, Some, None}
+use Rattle.std.specs.Prelude.{◌≡◌, ◌≢◌, ℕ, ◌+◌, ◌-◌, ◌%◌, ◌<◌, ◌≤◌, ⊤, true, false, List, [], ◌∷◌, Option, Some, None}
 use Rattle.std.specs.List.{All}
 use Rattle.scald_base.specs.Clock.{back}
 use Rattle.scald_base.specs.Time.{Bounds, IsDelay, IsHeader, period}
 use Rattle.flat_circuit.specs.declared.instance.Instance.{Instance}
+use Rattle.step_values.specs.Steps.{is_quiet}
 use Rattle.flat_circuit.specs.declared.fault.Fault.{Fault}
+use Rattle.flat_circuit.specs.declared.fault.PointKind.{PointKind}
+use Rattle.point_check.specs.Window.{Folds}
 use Rattle.flat_circuit.specs.Circuit.{Circuit, IsCircuit, driver, wire_at}
 use Rattle.net_waves.specs.Waves.{Waves}
 use Rattle.timing_analysis.specs.Case.{Case, IsAtRest, faults}
 use Rattle.margin_report.specs.Margin.{fault_with}
 use Rattle.fault_account.specs.declared.account.Asked.{Asked}
 use Rattle.fault_account.specs.Asked.{asked_by, asked_of, told_fault}
-use Rattle.fault_account.specs.Account.{IsWithin}
-use Rattle.fault_account.specs.Late.{delay_in, late_in, taken_of}
+use Rattle.fault_account.specs.Account.{IsWithin, edge_account, would_do}
+use Rattle.fault_account.specs.Shown.{shown_at}
+use Rattle.fault_account.specs.declared.account.Side.{Side}
+use Rattle.fault_account.specs.Late.{arrival, delay_in, late_at_pin, late_in, taken_of, takes}
+use Rattle.fault_account.specs.Sides.{net_side, pin_side}
 use Rattle.fault_chain.specs.declared.chain.Link.{Link}
 use Rattle.fault_chain.specs.Chain.{chain_of, then_late}
 use Rattle.fault_chain.specs.Laws.{HasDelays}
@@ -61,10 +67,52 @@ AreSteps c [] = ⊤
 AreSteps c (link ∷ []) = ⊤
 AreSteps c (link ∷ earlier ∷ others) = IsStep c link earlier × AreSteps c (earlier ∷ others)
 
--- So each link of the chain of a fault comes about by the one that follows it.
+-- From the slot of the last change to that of the pin: in ticks that the wire takes.
+pub record IsWired (p : ℕ) (side : Side) (link : Link) (late : ℕ) : Type 0 where
+  pub leads : back p side.slot late ≡ link.slot
+  pub least : side.wire.min ≤ late
+  pub greatest : late ≤ side.wire.max
+
+abbrev pub IsAtPin : ℕ → Side → List Link → Type 0
+IsAtPin p side [] = ⊤
+IsAtPin p side (link ∷ others) = IsWired p side link (late_at_pin p side (link ∷ others))
+
+-- The steps of a side and the wire to its pin add up to the tick at which it arrives, from where it begins.
+pub record AddsUp (c : Circuit) (side : Side) : Type 0 where
+  pub steps : AreSteps c side.chain.links
+  pub wired : IsAtPin (period c.header) side side.chain.links
+  pub sum : (tick : ℕ) → takes c side ≤ tick →
+      arrival c (tick - takes c side) side.chain.links + late_at_pin (period c.header) side side.chain.links ≡ tick
+
+-- So each link of the chain of a fault comes about by the one that follows it, and what ends at a pin or on a net
+-- adds up.
+pub record AreShared (c : Circuit) (ws : Waves) : Type 0 where
+  pub chains : (f : Fault) → AreSteps c (chain_of c ws f).links
+  pub pins : (k place slot : ℕ) → AddsUp c (pin_side c ws k place slot)
+  pub nets : (i slot : ℕ) → AddsUp c (net_side c ws i slot)
+
 abbrev pub StepsAreShared : Type 0
 StepsAreShared =
-    (c : Circuit) (ws : Waves) (f : Fault) → IsHeader c.header → HasDelays c → AreSteps c (chain_of c ws f).links
+    (c : Circuit) (ws : Waves) → IsHeader c.header → HasDelays c → AreShared c ws
+
+-- ---- changes side by side
+
+-- In each slot from so many before one on to so many after it the input may change, and where not all of the period
+-- is so, in neither of the two slots beside these.
+pub record AreSideBySide (p : ℕ) (input : Folds) (slot earlier more : ℕ) : Type 0 where
+  pub after : (s : ℕ) → s ≤ more → is_quiet (input ((slot + s) % p)) ≡ false
+  pub before : (s : ℕ) → s ≤ earlier → is_quiet (input (back p slot s)) ≡ false
+  pub ends : earlier + more + 1 < p → is_quiet (input ((slot + (more + 1)) % p)) ≡ true
+  pub begins : earlier + more + 1 < p → is_quiet (input (back p slot (earlier + 1))) ≡ true
+
+-- So it is, where no lower limit would do, of the changes that are told to be from one tick to another, about a slot in
+-- which the input may change.
+abbrev pub ChangesAreSideBySide : Type 0
+ChangesAreSideBySide =
+    (c : Circuit) (ws : Waves) (k : ℕ) (asked : Option Asked) (kind : PointKind) (edge slot : ℕ) → slot < period c.header →
+    would_do asked ≡ false → is_quiet (shown_at c ws k 1 slot) ≡ false →
+    AreSideBySide (period c.header) (shown_at c ws k 1) slot (edge_account c ws k asked kind edge slot).earlier
+    (edge_account c ws k asked kind edge slot).more
 
 -- ---- numbers
 

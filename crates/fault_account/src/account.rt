@@ -56,6 +56,8 @@ pub struct AtEdge {
     /// The edge is a fall.
     pub falls: bool,
     pub change: Side,
+    /// The last of the changes side by side.
+    pub last: Side,
     pub clock: Side,
 }
 

@@ -191,6 +191,7 @@ pub fn edge_of<W: CyclicWave<Item = Value>>(
     let behind = behind_of(period, kind, falls, asked, edge, slot);
     let reach = behind.max(earlier + later);
     let change = pin_side(alloc, c, waves, met, checker, 1, (slot + later) % period)?;
+    let last = pin_side(alloc, c, waves, met, checker, 1, (slot + more) % period)?;
     let at = edge_slot(period, falls, behind, edge, slot);
     let clock = pin_side(alloc, c, waves, met, checker, 0, at)?;
     Ok(AtEdge {
@@ -206,6 +207,7 @@ pub fn edge_of<W: CyclicWave<Item = Value>>(
         reach,
         falls,
         change,
+        last,
         clock,
     })
 }

@@ -1,7 +1,7 @@
 //! Laws of what is told of a fault. The functions do nothing: what each states is its contract.
 
+ghost use Rattle.fault_account.specs.Laws.{ChangesAreSideBySide, FaultsAreWithin, LimitsAreShort, StepsAreShared, TicksAreShared};
 ghost use Rattle.fault_account.specs.Loops.{LoopsAreToldAlike};
-ghost use Rattle.fault_account.specs.Laws.{FaultsAreWithin, LimitsAreShort, StepsAreShared, TicksAreShared};
 
 /// A limit is short by the least amount: with so much less there is no fault, and with any more there is one.
 pub fn limits_are_short()
@@ -14,9 +14,16 @@ pub fn ticks_are_shared()
 {}
 
 /// Each link of the chain of a fault comes about by the one that follows it, in ticks that a wire and the
-/// driver of its net take.
+/// driver of its net take; and of what ends at a pin these and the ticks of its wire add up to the tick at
+/// the pin.
 pub fn steps_are_shared()
     ensures { StepsAreShared }
+{}
+
+/// Where no lower limit would do, the changes that are told to be side by side are so in the waves, and no
+/// more of them.
+pub fn changes_are_side_by_side()
+    ensures { ChangesAreSideBySide }
 {}
 
 /// The numbers of each fault of a case at rest, and of the fault that is told for it, are those of slots of the

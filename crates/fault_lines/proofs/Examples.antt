@@ -18,6 +18,9 @@ use Rattle.flat_circuit.specs.Circuit.{Circuit}
 use Rattle.fault_chain.specs.declared.chain.Link.{Link}
 use Rattle.fault_chain.specs.declared.chain.End.{End}
 use Rattle.fault_chain.specs.declared.chain.End.TheVariants.{Level, Repeat, Undriven, Both}
+use Rattle.flat_circuit.specs.declared.fault.Fault.TheVariants.{Point}
+use Rattle.margin_report.specs.declared.margin.Parameter.TheVariants as parameter
+use Rattle.fault_account.specs.declared.account.Asked.{Asked}
 use Rattle.fault_account.specs.declared.account.Side.{Side}
 use Rattle.fault_account.specs.declared.account.AtEdge.{AtEdge}
 use Rattle.fault_account.specs.declared.account.AtMark.{AtMark}
@@ -25,10 +28,12 @@ use Rattle.fault_account.specs.declared.account.OfNet.{OfNet}
 use Rattle.fault_words.specs.Words.{tick_text}
 use Rattle.fault_lines.specs.declared.two_delays.Way.TheVariants.{Rise, Fall, Either}
 use Rattle.fault_lines.specs.TwoDelays.{delay_told, way_of, which_text}
-use Rattle.fault_lines.specs.Axis.{asserted_tick, broken_tick, change_tick, edge_tick, first_tick, mark_tick, net_tick, pulse_tick}
+use Rattle.fault_lines.specs.Axis.{asserted_tick, broken_tick, change_tick, edge_tick, first_tick, last_tick, mark_tick, net_tick, pulse_tick}
 use Rattle.fault_lines.specs.Endings.{links_after}
 use Rattle.fault_lines.specs.Laws.{IsToldAt}
-use Rattle.fault_lines.specs.Lines.{breaks_text, input_of, is_one, late_line, late_lines, moved_text, moves_text, shorter_line, shorter_lines, sooner_of, when_text}
+use Rattle.fault_lines.specs.Launched.{input_of, is_early, is_one, is_said, is_within, late_line, late_lines, sooner_of}
+use Rattle.fault_lines.specs.LastChange.{has_last, is_shown, over_of, which_change}
+use Rattle.fault_lines.specs.Lines.{breaks_text, moved_text, moves_text, shorter_line, shorter_lines, when_text}
 use Rattle.fault_words.specs.declared.naming.Naming.TheVariants.{Whole}
 
 abbrev span : ℕ → ℕ → Bounds
@@ -133,6 +138,7 @@ edge kind moved ahead behind clock =
       reach = 3;
       falls = false;
       change = moved;
+      last = moved;
       clock = clock;
     }
 
@@ -157,10 +163,100 @@ before_edge = (refl, refl, refl)
 
 -- ---- late, and not early
 
+-- after the edge, and 10 ticks before it
 launched_before : (sooner_of (circuit (span 400 410)) (edge Hold (change 103) 0 3 clock) ≡ 400) × (sooner_of (circuit (span 2 10)) (edge Hold (change 103) 0 3 clock) ≡ 0)
-    × (sooner_of (circuit (span 400 410)) (edge Setup (change 103) 0 3 clock) ≡ 0)
-unfolding back
-launched_before = (refl, refl, refl)
+    × (sooner_of (circuit (span 2 10)) (edge Setup (change 90) 10 0 clock) ≡ 400) × (sooner_of (circuit (span 2 10)) (edge Setup (change 90) 10 0 moved) ≡ 0)
+unfolding change_tick back
+launched_before = (refl, refl, refl, refl)
+
+-- what breaks a setup time of 20, of which so many are too many
+abbrev setup : ℕ → Option Asked
+setup least = Some (record { parameter = parameter.Setup; limit = 20; least = least; worst = Point Setup 0 100 100 67 })
+
+abbrev asks : Option Asked → AtEdge → AtEdge
+asks asked told =
+    record {
+      checker = 0;
+      asked = asked;
+      kind = told.kind;
+      value = C;
+      earlier = told.earlier;
+      more = told.more;
+      later = told.later;
+      ahead = told.ahead;
+      behind = told.behind;
+      reach = told.reach;
+      falls = false;
+      change = told.change;
+      last = told.last;
+      clock = told.clock;
+    }
+
+said_where : (is_said (asks (setup 0) (edge Setup (change 90) 10 0 clock)) ≡ true) × (is_said (asks (setup 11) (edge Setup (change 90) 10 0 clock)) ≡ false)
+    × (is_said (asks (setup 11) (edge Hold (change 103) 0 3 clock)) ≡ true)
+said_where = (refl, refl, refl)
+
+late_or_not : (late_lines true Hold 0 ≡ []) × (late_lines true Hold 400 ≡ late_line Hold 400) × (late_lines false Setup 400 ≡ [])
+late_or_not = (refl, refl, refl)
+
+-- ---- early, and not late
+
+-- The edge in slot 113 and the change 10 ticks before it both come through the buffer from the edge at tick 100. A
+-- change that begins a period before is not early, and neither is one after the edge.
+one_edge : (is_early (circuit (span 2 10)) (edge Setup (change 103) 10 0 (change 113)) ≡ true) × (is_early (circuit (span 2 10)) (edge Setup (change 90) 10 0 clock) ≡ false)
+    × (is_early (circuit (span 2 10)) (edge Hold (change 103) 0 3 clock) ≡ false)
+unfolding change_tick back
+one_edge = (refl, refl, refl)
+
+-- with a setup time of 20 whatever begins at tick 100 is too near to an edge up to tick 119
+too_near : (is_within (circuit (span 2 10)) (asks (setup 0) (edge Setup (change 103) 16 0 (change 119))) ≡ true)
+    × (is_within (circuit (span 2 10)) (asks (setup 0) (edge Setup (change 103) 17 0 (change 120))) ≡ false)
+unfolding change_tick back
+too_near = (refl, refl)
+
+-- ---- the last change
+
+-- It changes in 16 slots, the sixth of which is that of the edge in slot 100. A path of 390 to 410 ticks leads to it.
+abbrev stretch : ℕ → Side → AtEdge
+stretch more last =
+    record {
+      checker = 0;
+      asked = setup 0;
+      kind = Setup;
+      value = C;
+      earlier = 0;
+      more = more;
+      later = 5;
+      ahead = 0;
+      behind = 0;
+      reach = 5;
+      falls = false;
+      change = change 100;
+      last = last;
+      clock = clock;
+    }
+
+by_so_many : (last_tick (circuit (span 390 410)) (stretch 15 (change 110)) ≡ 510) × (has_last (circuit (span 390 410)) (stretch 15 (change 110)) ≡ true)
+    × (over_of (circuit (span 390 410)) (stretch 15 (change 110)) ≡ 30) × (is_shown (circuit (span 390 410)) (stretch 15 (change 110)) ≡ true)
+    × (is_shown (circuit (span 390 410)) (stretch 5 (change 100)) ≡ false)
+unfolding change_tick back
+by_so_many = (refl, refl, refl, refl, refl)
+
+-- what the edge at tick 500 launches; another change of the input; changes all round; and where a lower setup time would do
+abbrev at_once : Side
+at_once = side (rise ∷ []) 110
+
+no_last : (has_last (circuit (span 390 410)) (stretch 15 at_once) ≡ false)
+    × (has_last (circuit (span 390 410)) (stretch 15 (side (record { net = 0; slot = 110; value = C } ∷ []) 110)) ≡ false)
+    × (has_last (circuit (span 390 410)) (stretch 399 (change 110)) ≡ false) × (has_last (circuit (span 390 410)) (asks (setup 1) (stretch 15 (change 110))) ≡ false)
+unfolding change_tick back
+no_last = (refl, refl, refl, refl)
+
+which_one_is : (which_change 400 0 90 ≡ codes "this change") × (which_change 400 5 90 ≡ codes "the last of these changes, at tick 90,")
+unfolding digits tick_text
+which_one_is = (refl, refl)
+
+-- ---- one change of one input
 
 -- another net, another slot, and no input
 abbrev looped : Side
@@ -231,12 +327,10 @@ in_two_slots = (refl, refl)
 abbrev ended : End → Side
 ended how = record { chain = record { links = rise ∷ []; end = how }; slot = 100; wire = span 0 0; unknown = [] }
 
--- what an element gives, and what storage may be forced to, is no change of an input
+-- what an element gives, what storage may be forced to, and what is unknown is no change of an input
 no_input : (input_of (ended Level) ≡ None) × (input_of (ended Both) ≡ None) × (input_of (ended Undriven) ≡ Some rise)
-no_input = (refl, refl, refl)
-
-late_or_not : (late_lines 0 ≡ []) × (late_lines 400 ≡ late_line 400)
-late_or_not = (refl, refl)
+    × (input_of (side (record { net = 1; slot = 103; value = U } ∷ rise ∷ []) 103) ≡ None)
+no_input = (refl, refl, refl, refl)
 
 -- The input changes from slot 398 to slot 8; the change in slot 3 is told, 10 ticks before the edge in slot 13. The
 -- first of them is not before tick 0, so the change is in the period after.
@@ -255,6 +349,7 @@ over =
       reach = 5;
       falls = false;
       change = side (record { net = 0; slot = 3; value = C } ∷ []) 3;
+      last = side (record { net = 0; slot = 8; value = C } ∷ []) 8;
       clock = side (record { net = 0; slot = 13; value = R } ∷ []) 13;
     }
 

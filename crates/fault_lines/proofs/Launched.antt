@@ -2,12 +2,11 @@
 -- input.
 use Rattle.std.proofs.Common.{◌≡◌, ℕ, suc, ◌+◌, ◌-◌, ◌%◌, ◌<◌, ◌≤◌, ◌⊎◌, inl, inr, Bool, true, false, cond, ◌&&◌, List, [], ◌∷◌, length, refl, sym, ap, ◌∙◌, arith, Option, Some, None}
 use Rattle.std.specs.Prelude.{◌==◌, slice_get}
-use Rattle.std.proofs.lemmas.Bool.{cases_lt, eqb-true}
+use Rattle.std.proofs.lemmas.Bool.{and_parts, cases_lt, eqb-true, ltb-true}
 use Rattle.std.proofs.Math.Nat.{mod-add-mod, mod-lt}
 use Rattle.scald_base.specs.Clock.{back}
 use Rattle.scald_base.specs.Time.{Bounds, IsHeader, period}
 use Rattle.scald_base.proofs.Back.{back_later, back_zero, mod_small}
-use Rattle.flat_circuit.specs.declared.fault.PointKind.TheVariants.{Setup, High, Hold}
 use Rattle.flat_circuit.specs.Circuit.{Circuit, driver, wire_at}
 use Rattle.net_waves.specs.Waves.{Waves}
 use Rattle.fault_chain.specs.declared.chain.Link.{Link}
@@ -17,12 +16,14 @@ use Rattle.fault_chain.specs.declared.chain.End.TheVariants.{Level, Repeat, Undr
 use Rattle.fault_account.specs.declared.account.Asked.{Asked}
 use Rattle.fault_account.specs.declared.account.AtEdge.{AtEdge}
 use Rattle.fault_account.specs.declared.account.Side.{Side}
-use Rattle.fault_account.specs.Account.{edge_account}
+use Rattle.step_values.specs.Steps.{is_unknown}
+use Rattle.fault_account.specs.Account.{edge_account, is_setup}
+use Rattle.fault_account.proofs.Arriving.{arrival_later}
 use Rattle.fault_account.specs.Late.{arrival, delay_in, late_at_pin, late_in, takes}
 use Rattle.fault_lines.specs.Axis.{change_tick, edge_tick}
-use Rattle.fault_lines.specs.Lines.{begun_by, input_of, is_one, sooner_of}
-use Rattle.fault_lines.specs.Laws.{AreOnOneAxis, LateByPeriods}
-use Rattle.fault_lines.proofs.OneAxis.{edges_are_on_one_axis, in_reach, tick_back, tick_on}
+use Rattle.fault_lines.specs.Launched.{began_alike, begun_by, change_begin, clock_begin, input_of, is_early, is_of_one_edge, is_one, is_within, known_by, limit_of, sooner_of}
+use Rattle.fault_lines.specs.Laws.{AreOnOneAxis, EarlyByOneEdge, IsToldAt, LateByPeriods}
+use Rattle.fault_lines.proofs.OneAxis.{edges_are_on_one_axis, tick_back, tick_on}
 
 module _ (p : ℕ) (pos : 0 < p) where
   -- ticks that are whole periods apart
@@ -48,11 +49,6 @@ module _ (c : Circuit) (pos : 0 < period c.header) where
   abbrev q : ℕ
   q = period c.header
 
-  shifted : (links : List Link) (begin : ℕ) → arrival c begin links ≡ begin + arrival c 0 links
-  shifted [] begin = omega arith
-  shifted (link ∷ []) begin = omega arith
-  shifted (link ∷ earlier ∷ links) begin = let before = shifted (earlier ∷ links) begin in omega (arith, before)
-
   abbrev front : List Link → ℕ
   front [] = 0
   front (link ∷ links) = link.slot
@@ -72,7 +68,7 @@ module _ (c : Circuit) (pos : 0 < period c.header) where
   ends side (link ∷ links) last is =
       let all : List Link = link ∷ links in
       let late : ℕ = late_at_pin q side all in
-      let whole = shifted all last.slot in
+      let whole = arrival_later c all last.slot in
       let sum : last.slot + (arrival c 0 all + late) ≡ arrival c last.slot all + late = omega (arith, whole) in
       ap (λ (z : ℕ). z % q) sum ∙ leads q pos side.wire (arrival c last.slot all) link.slot side.slot (comes all last is)
 
@@ -82,57 +78,69 @@ module _ (c : Circuit) (pos : 0 < period c.header) where
   from_input Undriven links last is = is
   from_input Both links last is = absurd (cc)
 
+  where_known : (unknown : Bool) (found : Option Link) (last : Link) → cond unknown None found ≡ Some last → found ≡ Some last
+  where_known true found last is = absurd (cc)
+  where_known false found last is = is
+
+  last_of : (end : End) (links : List Link) (last : Link) → known_by end links ≡ Some last → slice_get links (length links - 1) ≡ Some last
+  last_of end [] last is = absurd (cc)
+  last_of end (link ∷ links) last is =
+      from_input end (link ∷ links) last (where_known (is_unknown link.value) (begun_by end (link ∷ links)) last is)
+
   comes_from : (side : Side) (last : Link) → input_of side ≡ Some last → (last.slot + takes c side) % q ≡ side.slot % q
-  comes_from side last is = ends side side.chain.links last (from_input side.chain.end side.chain.links last is)
+  comes_from side last is = ends side side.chain.links last (last_of side.chain.end side.chain.links last is)
+
+  -- a side that is told at a tick began at one of the slot of its input
+  began : (side : Side) (tick : ℕ) (last : Link) → IsToldAt c side tick → input_of side ≡ Some last → (tick - takes c side) % q ≡ last.slot % q
+  began side tick last at is =
+      let n : ℕ = takes c side in
+      let whole : n + 0 ≡ n = omega arith in
+      let there : tick % q ≡ (last.slot + n) % q =
+      sym (mod_small (tick % q) q (mod-lt tick pos)) ∙ ap (λ (z : ℕ). z % q) at.there ∙ sym (comes_from side last is) in
+      tick_back q pos tick (last.slot + n) n at.begins there ∙ (λ k. back q (last.slot + n) (sym whole k)) ∙ back_later q last.slot n 0 pos
+      ∙ back_zero q last.slot
 
 both_hold : (p x : ℕ) → 0 < p → (nets slots : Bool) → (slots ≡ true → x % p ≡ 0) → cond (nets && slots) x 0 % p ≡ 0
 both_hold p x pos true true is = is refl
 both_hold p x pos true false is = mod_small 0 p pos
 both_hold p x pos false slots is = mod_small 0 p pos
 
-module _ (c : Circuit) (ws : Waves) (k : ℕ) (asked : Option Asked) (edge slot : ℕ) (header : IsHeader c.header) (below : edge < period c.header) (within : slot < period c.header) where
-  abbrev p : ℕ
-  p = period c.header
-
-  some : 0 < p
-  some = let two = header.shortest in omega (arith, two)
-
-  abbrev told : AtEdge
-  told = edge_account c ws k asked Hold edge slot
-
+module _ (c : Circuit) (edge : AtEdge) (some : 0 < period c.header) (axis : AreOnOneAxis c edge) where
   abbrev sooner : ℕ
-  sooner = takes c told.change - (takes c told.clock + told.behind)
+  sooner = clock_begin c edge - change_begin c edge
 
-  whole : (change clock : Link) → input_of told.change ≡ Some change → input_of told.clock ≡ Some clock → change.slot ≡ clock.slot → sooner % p ≡ 0
+  whole : (change clock : Link) → input_of edge.change ≡ Some change → input_of edge.clock ≡ Some clock → change.slot ≡ clock.slot → sooner % period c.header ≡ 0
   whole change clock is is_clock same =
-      let axis : AreOnOneAxis c told = edges_are_on_one_axis c ws k asked Hold edge slot header below within in
-      let reach = in_reach c told in
-      let s : ℕ = clock.slot in
-      let t : ℕ = change_tick c told in
-      let apart_by : edge_tick c told + told.behind ≡ t = omega (arith, reach) in
-      let of_change : (s + takes c told.change) % p ≡ t % p =
-      ap (λ (z : ℕ). (z + takes c told.change) % p) (sym same) ∙ comes_from c some told.change change is ∙ ap (λ (z : ℕ). z % p) (sym axis.change.there)
-      ∙ mod_small (t % p) p (mod-lt t some) in
-      let of_clock : (s + takes c told.clock) % p ≡ edge_tick c told % p =
-      comes_from c some told.clock clock is_clock ∙ ap (λ (z : ℕ). z % p) (sym axis.clock.there) ∙ mod_small (edge_tick c told % p) p (mod-lt (edge_tick c told) some) in
-      let of_both : (s + takes c told.clock + told.behind) % p ≡ t % p =
-      sym (mod-add-mod (s + takes c told.clock) p told.behind) ∙ ap (λ (z : ℕ). (z + told.behind) % p) of_clock ∙ mod-add-mod (edge_tick c told) p told.behind
-      ∙ ap (λ (z : ℕ). z % p) apart_by in
-      ap (λ (z : ℕ). z % p)
-      (let less : sooner ≡ s + takes c told.change - (s + takes c told.clock + told.behind) = omega arith in less)
-      ∙ apart p some (s + takes c told.change) (s + takes c told.clock + told.behind) (of_change ∙ sym of_both)
+      let first : change_begin c edge % period c.header ≡ change.slot % period c.header = began c some edge.change (change_tick c edge) change axis.change is in
+      let second : clock_begin c edge % period c.header ≡ clock.slot % period c.header = began c some edge.clock (edge_tick c edge) clock axis.clock is_clock in
+      apart (period c.header) some (clock_begin c edge) (change_begin c edge) (second ∙ ap (λ (z : ℕ). z % period c.header) (sym same) ∙ sym first)
 
-  by_inputs : (change clock : Option Link) → input_of told.change ≡ change → input_of told.clock ≡ clock → cond (is_one change clock) sooner 0 % p ≡ 0
-  by_inputs None clock is is_clock = mod_small 0 p some
-  by_inputs (Some change) None is is_clock = mod_small 0 p some
+  by_inputs : (change clock : Option Link) → input_of edge.change ≡ change → input_of edge.clock ≡ clock →
+      cond (is_one change clock) sooner 0 % period c.header ≡ 0
+  by_inputs None clock is is_clock = mod_small 0 (period c.header) some
+  by_inputs (Some change) None is is_clock = mod_small 0 (period c.header) some
   by_inputs (Some change) (Some clock) is is_clock =
-      both_hold p sooner some (change.net == clock.net) (change.slot == clock.slot)
+      both_hold (period c.header) sooner some (change.net == clock.net) (change.slot == clock.slot)
       (λ slots. whole change clock is is_clock (eqb-true change.slot clock.slot slots))
 
-  pub of_hold : sooner_of c told % p ≡ 0
-  of_hold = by_inputs (input_of told.change) (input_of told.clock) refl refl
+  pub by_periods : sooner_of c edge % period c.header ≡ 0
+  by_periods = by_inputs (input_of edge.change) (input_of edge.clock) refl refl
 
 pub late_by_periods : LateByPeriods
-late_by_periods c ws k asked Setup edge slot header below within = mod_small 0 (period c.header) (let two = header.shortest in omega (arith, two))
-late_by_periods c ws k asked High edge slot header below within = mod_small 0 (period c.header) (let two = header.shortest in omega (arith, two))
-late_by_periods c ws k asked Hold edge slot header below within = of_hold c ws k asked edge slot header below within
+late_by_periods c ws k asked kind edge slot header below within =
+    let two = header.shortest in
+    by_periods c (edge_account c ws k asked kind edge slot) (omega (arith, two)) (edges_are_on_one_axis c ws k asked kind edge slot header below within)
+
+-- ---- early
+
+pub early_by_one_edge : EarlyByOneEdge
+early_by_one_edge c edge is =
+    let one = (and_parts (is_setup edge.kind) (is_of_one_edge c edge) is).1 in
+    let parts = and_parts (began_alike edge) (change_begin c edge == clock_begin c edge) one in
+    record {
+      alike = parts.0;
+      begins = eqb-true (change_begin c edge) (clock_begin c edge) parts.1;
+      fast = λ within n.
+          let early = ltb-true (edge_tick c edge) (clock_begin c edge + limit_of edge.asked) within in
+          omega (arith, early);
+    }

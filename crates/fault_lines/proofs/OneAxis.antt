@@ -22,7 +22,7 @@ module _ (p : ℕ) (pos : 0 < p) where
   forth_back t o = sym (back_zero p (back p t o + o)) ∙ back_sooner p t o o 0 ∙ back_later p t o 0 pos ∙ back_zero p t
 
   -- the first tick in a slot
-  there : (slot least : ℕ) → (least + back p slot least) % p ≡ slot % p
+  pub there : (slot least : ℕ) → (least + back p slot least) % p ≡ slot % p
   there slot least = ap (λ (z : ℕ). z % p) (let order : least + back p slot least ≡ back p slot least + least = omega arith in order) ∙ forth_back slot least
 
   -- a tick of a slot, less so many

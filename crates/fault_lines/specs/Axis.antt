@@ -24,6 +24,10 @@ edge_tick c edge = change_tick c edge + edge.ahead - edge.behind
 abbrev pub first_tick : Circuit → AtEdge → ℕ
 first_tick c edge = change_tick c edge - (edge.earlier + edge.later)
 
+-- the last of them
+abbrev pub last_tick : Circuit → AtEdge → ℕ
+last_tick c edge = first_tick c edge + (edge.earlier + edge.more)
+
 -- ---- at a mark
 
 -- the change and the mark

@@ -1,5 +1,5 @@
 -- Laws of the lines of an explanation.
-use Rattle.std.specs.Prelude.{◌≡◌, ℕ, ◌%◌, ◌<◌, ◌≤◌, Option}
+use Rattle.std.specs.Prelude.{◌≡◌, ℕ, ◌+◌, ◌%◌, Bool, true, ◌<◌, ◌≤◌, Option}
 use Rattle.scald_base.specs.Time.{IsHeader, period}
 use Rattle.flat_circuit.specs.declared.fault.PointKind.{PointKind}
 use Rattle.flat_circuit.specs.Circuit.{Circuit}
@@ -7,10 +7,13 @@ use Rattle.net_waves.specs.Waves.{Waves}
 use Rattle.fault_account.specs.declared.account.Asked.{Asked}
 use Rattle.fault_account.specs.declared.account.AtEdge.{AtEdge}
 use Rattle.fault_account.specs.declared.account.Side.{Side}
-use Rattle.fault_account.specs.Account.{edge_account}
+use Rattle.fault_account.specs.declared.account.AtMark.{AtMark}
+use Rattle.fault_account.specs.declared.account.OfPulse.{OfPulse}
+use Rattle.fault_account.specs.Account.{edge_account, mark_account, net_account, pulse_account}
 use Rattle.fault_account.specs.Late.{takes}
-use Rattle.fault_lines.specs.Axis.{change_tick, edge_tick}
-use Rattle.fault_lines.specs.Lines.{sooner_of}
+use Rattle.fault_lines.specs.Axis.{change_tick, edge_tick, last_tick, mark_tick, net_tick, pulse_tick}
+use Rattle.fault_lines.specs.Launched.{began_alike, change_begin, clock_begin, input_of, is_early, is_one, is_within, limit_of, sooner_of}
+use Rattle.fault_lines.specs.LastChange.{has_last, over_of}
 
 -- A side is told to arrive at a tick of its slot, and begins at tick 0 or later.
 pub record IsToldAt (c : Circuit) (side : Side) (tick : ℕ) : Type 0 where
@@ -28,9 +31,65 @@ EdgesAreOnOneAxis =
     IsHeader c.header → edge < period c.header → slot < period c.header →
     AreOnOneAxis c (edge_account c ws k asked kind edge slot)
 
+-- A change beside a marked pin and the mark are told at one tick.
+pub record AreAtOneTick (c : Circuit) (told : AtMark) : Type 0 where
+  pub change : IsToldAt c told.change (mark_tick c told)
+  pub mark : IsToldAt c told.mark (mark_tick c told)
+
+abbrev pub MarksAreAtOneTick : Type 0
+MarksAreAtOneTick =
+    (c : Circuit) (ws : Waves) (k slot pin : ℕ) → IsHeader c.header → slot < period c.header →
+    AreAtOneTick c (mark_account c ws k slot pin)
+
+-- A change that breaks an assertion is told at a tick of its slot.
+abbrev pub NetsAreOnTheAxis : Type 0
+NetsAreOnTheAxis =
+    (c : Circuit) (ws : Waves) (i slot : ℕ) → IsHeader c.header →
+    IsToldAt c (net_account c ws i slot).change (net_tick c (net_account c ws i slot))
+
+-- The begin and the end of a pulse are told on one axis, as many ticks apart as it is wide.
+pub record AreApart (c : Circuit) (pulse : OfPulse) : Type 0 where
+  pub begin : IsToldAt c pulse.begin (pulse_tick c pulse)
+  pub end : IsToldAt c pulse.end (pulse_tick c pulse + pulse.width)
+
+abbrev pub PulsesAreOnOneAxis : Type 0
+PulsesAreOnOneAxis =
+    (c : Circuit) (ws : Waves) (k : ℕ) (asked : Option Asked) (high : Bool) (from width : ℕ) →
+    IsHeader c.header → from < period c.header → AreApart c (pulse_account c ws k asked high from width)
+
+-- ---- when a change at an edge began
+
 -- What is told to be late began whole periods before its edge of the clock did.
 abbrev pub LateByPeriods : Type 0
 LateByPeriods =
     (c : Circuit) (ws : Waves) (k : ℕ) (asked : Option Asked) (kind : PointKind) (edge slot : ℕ) →
     IsHeader c.header → edge < period c.header → slot < period c.header →
     sooner_of c (edge_account c ws k asked kind edge slot) % period c.header ≡ 0
+
+-- What is told to be early began with its edge of the clock, at the same tick. And where it is so for sure, whatever
+-- begins then, however few ticks n it takes, comes within the setup time before that edge, or later.
+pub record IsEarly (c : Circuit) (edge : AtEdge) : Type 0 where
+  pub alike : began_alike edge ≡ true
+  pub begins : change_begin c edge ≡ clock_begin c edge
+  pub fast : is_within c edge ≡ true → (n : ℕ) →
+      edge_tick c edge < clock_begin c edge + n + limit_of edge.asked
+
+abbrev pub EarlyByOneEdge : Type 0
+EarlyByOneEdge = (c : Circuit) (edge : AtEdge) → is_early c edge ≡ true → IsEarly c edge
+
+-- ---- the last change
+
+-- It began with the change that is told, at the same tick, and comes so many ticks after the one from which on the
+-- input has to be stable up to the edge, which is the setup time before it.
+pub record IsTooLate (c : Circuit) (edge : AtEdge) : Type 0 where
+  pub alike : is_one (input_of edge.change) (input_of edge.last) ≡ true
+  pub begins : last_tick c edge ≡ change_begin c edge + takes c edge.last
+  pub at : IsToldAt c edge.last (last_tick c edge)
+  pub some : 0 < over_of c edge
+  pub over : last_tick c edge + limit_of edge.asked ≡ edge_tick c edge + over_of c edge
+
+abbrev pub LastIsTooLate : Type 0
+LastIsTooLate =
+    (c : Circuit) (ws : Waves) (k : ℕ) (asked : Option Asked) (kind : PointKind) (edge slot : ℕ) →
+    IsHeader c.header → has_last c (edge_account c ws k asked kind edge slot) ≡ true →
+    IsTooLate c (edge_account c ws k asked kind edge slot)

@@ -1,5 +1,5 @@
 -- The lines of what is told of a fault, but for its first one.
-use Rattle.std.specs.Prelude.{◌≡◌, ℕ, ◌<◌, ◌≤◌, drop, slice_get, ◌+◌, ◌-◌, ◌==◌, Bool, false, ◌&&◌, ◌||◌, List, [], ◌∷◌, ◌++◌, length, codes, decimal, Option, Some, None, if◌then◌else◌}
+use Rattle.std.specs.Prelude.{◌≡◌, ℕ, ◌<◌, ◌≤◌, drop, slice_get, ◌+◌, ◌-◌, ◌==◌, Bool, ◌&&◌, ◌||◌, List, [], ◌∷◌, ◌++◌, length, codes, decimal, Option, Some, None, if◌then◌else◌}
 use Rattle.std.specs.List.{concat}
 use Rattle.scald_base.specs.Time.{period}
 use Rattle.flat_circuit.specs.declared.fault.PointKind.{PointKind}
@@ -11,10 +11,7 @@ use Rattle.listing.specs.Text.{line}
 use Rattle.listing.specs.Fault.{unnamed_fault}
 use Rattle.margin_report.specs.Report.{parameter_text}
 use Rattle.fault_chain.specs.declared.chain.Link.{Link}
-use Rattle.fault_chain.specs.declared.chain.End.{End}
-use Rattle.fault_chain.specs.declared.chain.End.TheVariants.{Level, Repeat, Undriven, Both}
 use Rattle.fault_account.specs.declared.account.Asked.{Asked}
-use Rattle.fault_account.specs.declared.account.Side.{Side}
 use Rattle.fault_account.specs.declared.account.AtEdge.{AtEdge}
 use Rattle.fault_account.specs.declared.account.AtMark.{AtMark}
 use Rattle.fault_account.specs.declared.account.OfNet.{OfNet}
@@ -24,11 +21,13 @@ use Rattle.fault_account.specs.declared.account.Account.TheVariants as account
 use Rattle.fault_words.specs.declared.naming.Naming.{Naming}
 use Rattle.fault_account.specs.Account.{is_hold, is_setup, least_of, would_do}
 use Rattle.fault_account.specs.Asked.{never_fits}
-use Rattle.fault_account.specs.Late.{late_from, takes}
+use Rattle.fault_account.specs.Late.{late_from}
 use Rattle.fault_words.specs.Words.{does, tick_text, ticks_text}
 use Rattle.fault_words.specs.Elements.{driver_text, pin_named}
-use Rattle.fault_lines.specs.Axis.{asserted_tick, broken_tick, change_tick, edge_tick, first_tick, mark_tick, net_tick, pulse_tick}
+use Rattle.fault_lines.specs.Axis.{asserted_tick, broken_tick, change_tick, edge_tick, first_tick, last_tick, mark_tick, net_tick, pulse_tick}
 use Rattle.fault_lines.specs.Side.{side_lines}
+use Rattle.fault_lines.specs.Launched.{launched_lines}
+use Rattle.fault_lines.specs.LastChange.{is_shown, over_lines}
 
 -- ---- at an edge
 
@@ -100,51 +99,31 @@ abbrev pub still_lines : Circuit → Option Asked → List ℕ
 still_lines c None = []
 still_lines c (Some asked) = if never_fits asked then still_line c asked else []
 
--- the change of an input that a chain begins with, where it begins with one
-abbrev pub begun_by : End → List Link → Option Link
-begun_by Level links = None
-begun_by Repeat links = None
-begun_by Undriven links = slice_get links (length links - 1)
-begun_by Both links = None
-
-abbrev pub input_of : Side → Option Link
-input_of side = begun_by side.chain.end side.chain.links
-
--- they are one change of one input
-abbrev pub is_one : Option Link → Option Link → Bool
-is_one None other = false
-is_one (Some link) None = false
-is_one (Some link) (Some other) = (link.net == other.net) && (link.slot == other.slot)
-
--- how many ticks before the edge of the clock began the change did, of a change after an edge that
--- both began with one
-abbrev pub sooner_of : Circuit → AtEdge → ℕ
-sooner_of c edge =
-    if is_hold edge.kind && is_one (input_of edge.change) (input_of edge.clock)
-    then takes c edge.change - (takes c edge.clock + edge.behind)
-    else 0
-
--- It is late, and not early.
-unfoldable pub late_line : ℕ → List ℕ
-late_line sooner = line (
-    codes "  it is late and not early: it began " ∷ ticks_text sooner
-    ∷ codes " before this edge of the clock did, so this is a setup miss of the period before" ∷ [])
-
-abbrev pub late_lines : ℕ → List ℕ
-late_lines sooner = if sooner == 0 then [] else late_line sooner
-
 -- the first line: one of these two
 abbrev pub first_edge_line : Naming → Circuit → AtEdge → List ℕ
 first_edge_line naming c edge =
     if would_do edge.asked then kept_line naming c edge (edge_tick c edge)
     else moved_line naming c edge (first_tick c edge) (edge_tick c edge)
 
+-- what is told before the sides
+abbrev pub said_lines : Naming → Circuit → AtEdge → List ℕ
+said_lines naming c edge =
+    first_edge_line naming c edge
+    ++ over_lines c edge
+    ++ still_lines c edge.asked
+    ++ launched_lines c edge
+
+abbrev pub last_lines : Naming → Drawing → Circuit → AtEdge → List ℕ
+last_lines naming d c edge =
+    if is_shown c edge
+    then side_lines naming d c (codes "the last change") (last_tick c edge) edge.last
+    else []
+
 abbrev pub edge_lines : Naming → Drawing → Circuit → AtEdge → List ℕ
 edge_lines naming d c edge =
-    first_edge_line naming c edge
-    ++ still_lines c edge.asked
-    ++ late_lines (sooner_of c edge)
+    said_lines naming c edge
     ++ side_lines naming d c (codes "the change") (change_tick c edge) edge.change
+    ++ last_lines naming d c edge
     ++ side_lines naming d c (codes "the clock") (edge_tick c edge) edge.clock
 
 -- ---- at a mark

@@ -5,7 +5,7 @@ ghost use Rattle.scald_base.specs.Time.{period};
 ghost use Rattle.fault_account.specs.Sides.{IsSide};
 ghost use Rattle.fault_account.specs.Account.{IsAtEdge};
 ghost use Rattle.fault_account.specs.Late.{takes as ticks_of};
-ghost use Rattle.fault_lines.specs.Axis.{asserted_ahead as ahead_of, asserted_tick as tick_asserted, before_change as before_told, broken_tick as tick_broken, change_tick as tick_of_change, edge_tick as tick_of_edge, first_tick as tick_of_first, mark_tick as tick_of_mark, net_tick as tick_of_net, pulse_tick as tick_of_pulse};
+ghost use Rattle.fault_lines.specs.Axis.{asserted_ahead as ahead_of, asserted_tick as tick_asserted, before_change as before_told, broken_tick as tick_broken, change_tick as tick_of_change, edge_tick as tick_of_edge, first_tick as tick_of_first, last_tick as tick_of_last, mark_tick as tick_of_mark, net_tick as tick_of_net, pulse_tick as tick_of_pulse};
 
 use fault_account::{AtEdge, AtMark, OfNet, OfPulse, arrives, takes};
 use flat_circuit::Circuit;
@@ -44,6 +44,16 @@ pub fn first_tick(c: &Circuit, edge: &AtEdge) -> u32
     ensures small { result ≤ 1000100000 }
 {
     change_tick(c, edge) - (u32::from(edge.earlier) + u32::from(edge.later))
+}
+
+/// The last of them.
+pub fn last_tick(c: &Circuit, edge: &AtEdge) -> u32
+    requires edge { IsAtEdge c.now edge.now }
+    ensures is { result ≡ tick_of_last c.now edge.now }
+    ensures small { result ≤ 1000200000 }
+{
+    c.header().known();
+    first_tick(c, edge) + u32::from(edge.earlier + edge.more)
 }
 
 // ---- at a mark

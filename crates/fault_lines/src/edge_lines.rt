@@ -5,15 +5,15 @@ ghost use Rattle.drawing_tree.specs.Tree.{drawing_of};
 ghost use Rattle.scald_base.specs.Time.{period as period_of};
 ghost use Rattle.listing.specs.Piece.{piece_text};
 ghost use Rattle.margin_report.specs.Report.{parameter_text};
-ghost use Rattle.fault_account.specs.Sides.{IsSide};
 ghost use Rattle.fault_account.specs.Account.{IsAtEdge, least_of};
-ghost use Rattle.fault_lines.specs.Lines.{edge_lines, edge_said as edge_written, edge_text as edge_with, first_edge_line, input_of as input_by, is_one as are_one, kept_line, late_lines, moved_line, moved_text as moved_with, moves_text as moves_with, risen_text as risen_with, side_of_edge, sooner_of as sooner_by, stable_text as stable_with, still_line, still_lines, way_text};
+ghost use Rattle.fault_lines.specs.Lines.{edge_lines, edge_said as edge_written, edge_text as edge_with, first_edge_line, kept_line, last_lines, moved_line, moved_text as moved_with, moves_text as moves_with, risen_text as risen_with, said_lines, side_of_edge, stable_text as stable_with, still_line, still_lines, way_text};
 
-use crate::axis::{change_tick, edge_tick, first_tick};
+use crate::axis::{change_tick, edge_tick, first_tick, last_tick};
+use crate::last_change::{add_over, is_shown};
+use crate::launch::add_launched;
 use crate::side_lines::add_side;
 use crate::when::when_text;
-use fault_account::{Asked, AtEdge, Side, is_hold, is_setup, takes, would_do};
-use fault_chain::{End, Link};
+use fault_account::{Asked, AtEdge, is_hold, is_setup, would_do};
 use fault_words::{Told, does_piece, pin_name, text, tick_text, ticks_text, word};
 use flat_circuit::{Circuit, PointKind};
 use listing::{Piece, add_line, write_unnamed_fault};
@@ -277,64 +277,6 @@ fn add_still(
     }
 }
 
-/// The change of an input that a side begins with, where it begins with one.
-fn input_of(side: &Side) -> Option<Link>
-    ensures { result ≡ input_by side.now }
-{
-    match side.chain.end {
-        End::Level | End::Repeat | End::Both => None,
-        End::Undriven => side.chain.links.as_slice().last().copied(),
-    }
-}
-
-/// Whether these are one change of one input.
-fn is_one(change: Option<Link>, clock: Option<Link>) -> bool
-    ensures { result ≡ are_one change clock }
-{
-    match change {
-        None => false,
-        Some(link) => match clock {
-            None => false,
-            Some(other) => link.net == other.net && link.slot == other.slot,
-        },
-    }
-}
-
-/// How many ticks before the edge of the clock began the change did, of a change after an edge that
-/// both began with one.
-fn sooner_of(c: &Circuit, edge: &AtEdge) -> u32
-    requires change { IsSide c.now edge.now.change }
-    requires clock { IsSide c.now edge.now.clock }
-    ensures { result ≡ sooner_by c.now edge.now }
-{
-    if is_hold(edge.kind) && is_one(input_of(&edge.change), input_of(&edge.clock)) {
-        takes(c, &edge.change).saturating_sub(takes(c, &edge.clock) + u32::from(edge.behind))
-    } else {
-        0
-    }
-}
-
-/// That a change is late, and not early.
-#[tactic(auto, unfolding(crate::specs::Lines::late_line))]
-fn add_late(out: &mut Bytes, alloc: Global, sooner: u32) -> Result<(), NoMemory>
-    ensures { OnOk result (out.new ≡ out.old ++ late_lines sooner) }
-{
-    if sooner == 0 {
-        return Ok(());
-    }
-    let ticks = ticks_text(alloc, sooner)?;
-    add_line(
-        out,
-        &[
-            Piece::Text(b"  it is late and not early: it began "),
-            Piece::Text(ticks.as_slice()),
-            Piece::Text(
-                b" before this edge of the clock did, so this is a setup miss of the period before",
-            ),
-        ],
-    )
-}
-
 /// The first line of a change at an edge.
 fn add_first(out: &mut Bytes, alloc: Global, told: Told, edge: &AtEdge) -> Result<(), NoMemory>
     requires edge { IsAtEdge told.circuit.now edge.now }
@@ -349,6 +291,31 @@ fn add_first(out: &mut Bytes, alloc: Global, told: Told, edge: &AtEdge) -> Resul
     add_moved(out, alloc, told, edge, first, tick)
 }
 
+/// What is told before the sides.
+fn add_said(out: &mut Bytes, alloc: Global, told: Told, edge: &AtEdge) -> Result<(), NoMemory>
+    requires edge { IsAtEdge told.circuit.now edge.now }
+    ensures { OnOk result (out.new ≡ out.old
+        ++ said_lines told.entry.naming told.entry.circuit.now edge.now) }
+{
+    add_first(out, alloc, told, edge)?;
+    add_over(out, alloc, told.circuit, edge)?;
+    add_still(out, alloc, told.circuit, edge.asked)?;
+    add_launched(out, alloc, told.circuit, edge)
+}
+
+/// The lines of the last change, where it has its own.
+fn add_last(out: &mut Bytes, alloc: Global, told: Told, edge: &AtEdge) -> Result<(), NoMemory>
+    requires edge { IsAtEdge told.circuit.now edge.now }
+    ensures { OnOk result (out.new ≡ out.old ++ last_lines told.entry.naming
+        (drawing_of told.entry.drawing.now) told.entry.circuit.now edge.now) }
+{
+    if !is_shown(told.circuit, edge) {
+        return Ok(());
+    }
+    let tick = last_tick(told.circuit, edge);
+    add_side(out, alloc, told, b"the last change", &edge.last, tick)
+}
+
 /// The lines of a change at an edge.
 pub fn add_edge(out: &mut Bytes, alloc: Global, told: Told, edge: &AtEdge) -> Result<(), NoMemory>
     requires edge { IsAtEdge told.circuit.now edge.now }
@@ -357,9 +324,8 @@ pub fn add_edge(out: &mut Bytes, alloc: Global, told: Told, edge: &AtEdge) -> Re
 {
     let change = change_tick(told.circuit, edge);
     let clock = edge_tick(told.circuit, edge);
-    add_first(out, alloc, told, edge)?;
-    add_still(out, alloc, told.circuit, edge.asked)?;
-    add_late(out, alloc, sooner_of(told.circuit, edge))?;
+    add_said(out, alloc, told, edge)?;
     add_side(out, alloc, told, b"the change", &edge.change, change)?;
+    add_last(out, alloc, told, edge)?;
     add_side(out, alloc, told, b"the clock", &edge.clock, clock)
 }

@@ -1,9 +1,10 @@
 //! The lines of an explanation: what is told of a fault, for a person to read.
 //!
 //! The layer above calls [`add_account`] for all lines but the first of what `fault_account` tells
-//! of a fault. `specs/Axis` says at which ticks its changes are told, `specs/TwoDelays` which delay
-//! an element takes, `specs/Side` which lines a chain has, and `specs/Lines` which ones a fault
-//! has, over the words of `fault_words`. Nothing here knows waves.
+//! of a fault. `specs/Axis` says at which ticks its changes are told, `specs/Launched` whether a
+//! change is late or early, `specs/LastChange` by how much the last one is too late,
+//! `specs/TwoDelays` which delay an element takes, `specs/Side` which lines a chain has, and
+//! `specs/Lines` which ones a fault has, over the words of `fault_words`. Nothing here knows waves.
 #![tactic(auto)]
 
 // ticks
@@ -17,6 +18,8 @@ mod side_lines;
 
 // of a fault
 mod edge_lines;
+mod last_change;
+mod launch;
 mod lines;
 mod pulse_lines;
 

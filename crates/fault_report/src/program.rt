@@ -7,7 +7,8 @@ ghost use Rattle.program_call.specs.Program.{AreTold, IsAnswered, IsCutShort, as
 ghost use Rattle.timing_reply.specs.Program.{most_bytes, no_words};
 ghost use Rattle.timing_reply.specs.Promise.{SettlesLoopless, may_count};
 ghost use Rattle.fault_report.specs.Answer.{explainer};
-ghost use Rattle.fault_account.specs.Laws.{LimitsAreShort, StepsAreShared};
+ghost use Rattle.fault_account.specs.Laws.{ChangesAreSideBySide, LimitsAreShort, StepsAreShared};
+ghost use Rattle.fault_lines.specs.Laws.{EarlyByOneEdge, EdgesAreOnOneAxis, LastIsTooLate, LateByPeriods, MarksAreAtOneTick, NetsAreOnTheAxis, PulsesAreOnOneAxis};
 ghost use Rattle.fault_report.specs.Laws.{FaultsAreGrouped};
 ghost use Rattle.fault_report.specs.Promise.{WritesExplanations};
 
@@ -102,10 +103,23 @@ pub fn explain_main<S: Source, K: Sink>(
         SettlesLoopless text result }
 
     // Each fault is in one group; what is short is so by the least amount; and each step of a chain takes ticks that
-    // a wire and the driver of its net take.
+    // a wire and the driver of its net take, which with those of the wire to a pin add up to the tick there.
     ensures grouped { FaultsAreGrouped }
     ensures short { LimitsAreShort }
     ensures shared { StepsAreShared }
+
+    // The sides of a paragraph are told on one axis of ticks, each at a tick of its slot. On it a change that is
+    // told to be late began whole periods before its edge did, one that is told to be early began with it, and the
+    // last of more than one is too late by as many ticks as are told. Those that are told to be side by side are so
+    // in the waves, and no more of them.
+    ensures edges { EdgesAreOnOneAxis }
+    ensures marks { MarksAreAtOneTick }
+    ensures nets { NetsAreOnTheAxis }
+    ensures pulses { PulsesAreOnOneAxis }
+    ensures late { LateByPeriods }
+    ensures early { EarlyByOneEdge }
+    ensures last { LastIsTooLate }
+    ensures beside { ChangesAreSideBySide }
 {
     main_call::<Wordless<ExplainProgram>, S, K>(alloc, words, source, sink)
 }

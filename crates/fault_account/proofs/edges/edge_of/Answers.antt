@@ -19,7 +19,7 @@ returns-clause-is g c =
     let input = c.in_ok-input.ensures.is in
     let stretch = c.in_ok-more in
     edge_told circuit ws k c.args.asked kind edge slot c.shown_in-value.result stretch.earlier stretch.more c.later_of-later.result
-    c.ahead_of-ahead.result c.behind_of-behind.result c.max-reach.result c.edge_slot-at.result c.falls_of-falls.result c.in_ok-change.change c.in_ok-clock.clock
+    c.ahead_of-ahead.result c.behind_of-behind.result c.max-reach.result c.edge_slot-at.result c.falls_of-falls.result c.in_ok-change.change c.in_ok-last.last c.in_ok-clock.clock
     (c.shown_in-value.ensures ∙ ap (λ w. folded w slot) input)
     (stretch.ensures.earlier ∙ (λ t. earlier_of (p_is t) (folded (input t)) c.args.asked slot))
     (stretch.ensures.more ∙ (λ t. more_of (p_is t) (folded (input t)) c.args.asked slot))
@@ -29,5 +29,6 @@ returns-clause-is g c =
     (c.behind_of-behind.ensures.is ∙ ap (λ (n : ℕ). behind_of n kind c.falls_of-falls.result c.args.asked edge slot) p_is)
     c.max-reach.ensures
     (c.in_ok-change.ensures.is ∙ ap (λ (n : ℕ). pin_side circuit ws k 1 ((slot + c.later_of-later.result) % n)) p_is)
+    (c.in_ok-last.ensures.is ∙ ap (λ (n : ℕ). pin_side circuit ws k 1 ((slot + stretch.more) % n)) p_is)
     (c.edge_slot-at.ensures ∙ ap (λ (n : ℕ). edge_slot n c.falls_of-falls.result c.behind_of-behind.result edge slot) p_is)
     c.in_ok-clock.ensures.is

@@ -1,4 +1,4 @@
-use Rattle.fault_account.proofs.Steps.{steps_are_shared}
+use Rattle.fault_account.proofs.AddingUp.{steps_are_shared}
 use Rattle.fault_account.proofs.laws.steps_are_shared.Goals as goal
 
 pub returns : goal.returns

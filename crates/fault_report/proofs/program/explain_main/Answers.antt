@@ -1,7 +1,12 @@
 use Rattle.timing_reply.specs.Promise.{may_count}
 use Rattle.timing_reply.proofs.Promised.{finished, given_by, settles}
+use Rattle.fault_account.proofs.SideBySide.{changes_are_side_by_side}
 use Rattle.fault_account.proofs.Short.{limits_are_short}
-use Rattle.fault_account.proofs.Steps.{steps_are_shared}
+use Rattle.fault_account.proofs.AddingUp.{steps_are_shared}
+use Rattle.fault_lines.proofs.LastChange.{last_is_too_late}
+use Rattle.fault_lines.proofs.Launched.{early_by_one_edge, late_by_periods}
+use Rattle.fault_lines.proofs.OneAxis.{edges_are_on_one_axis}
+use Rattle.fault_lines.proofs.TheOthers.{marks_are_at_one_tick, nets_are_on_the_axis, pulses_are_on_one_axis}
 use Rattle.fault_report.specs.Answer.{IsExplained}
 use Rattle.fault_report.specs.Promise.{WritesExplanations}
 use Rattle.fault_report.proofs.Grouped.{faults_are_grouped}
@@ -29,3 +34,27 @@ returns-clause-short g c = limits_are_short
 
 pub returns-clause-shared : goal.returns-clause-shared
 returns-clause-shared g c = steps_are_shared
+
+pub returns-clause-edges : goal.returns-clause-edges
+returns-clause-edges g c = edges_are_on_one_axis
+
+pub returns-clause-marks : goal.returns-clause-marks
+returns-clause-marks g c = marks_are_at_one_tick
+
+pub returns-clause-nets : goal.returns-clause-nets
+returns-clause-nets g c = nets_are_on_the_axis
+
+pub returns-clause-pulses : goal.returns-clause-pulses
+returns-clause-pulses g c = pulses_are_on_one_axis
+
+pub returns-clause-late : goal.returns-clause-late
+returns-clause-late g c = late_by_periods
+
+pub returns-clause-early : goal.returns-clause-early
+returns-clause-early g c = early_by_one_edge
+
+pub returns-clause-last : goal.returns-clause-last
+returns-clause-last g c = last_is_too_late
+
+pub returns-clause-beside : goal.returns-clause-beside
+returns-clause-beside g c = changes_are_side_by_side
