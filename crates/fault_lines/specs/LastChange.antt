@@ -49,11 +49,13 @@ which_change p more last =
     if more == 0 then codes "this change"
     else concat (codes "the last of these changes, at " ∷ tick_text p last ∷ codes "," ∷ [])
 
+abbrev pub limit_said : ℕ → List ℕ
+limit_said limit = concat (codes " too late for SETUP " ∷ decimal limit ∷ [])
+
 unfoldable pub over_line : Circuit → AtEdge → List ℕ
 over_line c edge = line (
     codes "  " ∷ which_change (period c.header) (edge.earlier + edge.more) (last_tick c edge)
-    ∷ codes " is " ∷ ticks_text (over_of c edge) ∷ codes " too late for SETUP "
-    ∷ decimal (limit_of edge.asked) ∷ [])
+    ∷ codes " is " ∷ ticks_text (over_of c edge) ∷ limit_said (limit_of edge.asked) ∷ [])
 
 abbrev pub over_lines : Circuit → AtEdge → List ℕ
 over_lines c edge = if has_last c edge then over_line c edge else []

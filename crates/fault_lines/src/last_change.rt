@@ -4,12 +4,12 @@ ghost use Rattle.std.specs.Prelude.{◌≡◌, ◌+◌, ◌<◌, ◌≤◌, ◌+
 ghost use Rattle.fault_account.specs.Account.{IsAtEdge};
 ghost use Rattle.fault_account.specs.Late.{takes as ticks_of};
 ghost use Rattle.fault_lines.specs.Axis.{last_tick as tick_of_last};
-ghost use Rattle.fault_lines.specs.LastChange.{has_last as told_of_last, is_alike as last_is_alike, is_over as last_is_over, is_shown as last_is_shown, is_too_fast as told_too_fast, is_unmet as never_met, over_line, over_lines, over_of as over_by, which_change as change_with};
+ghost use Rattle.fault_lines.specs.LastChange.{has_last as told_of_last, is_alike as last_is_alike, is_over as last_is_over, is_shown as last_is_shown, is_too_fast as told_too_fast, is_unmet as never_met, limit_said, over_line, over_lines, over_of as over_by, which_change as change_with};
 
 use crate::axis::{edge_tick, last_tick};
 use crate::launch::{change_begin, input_of, is_early, is_one, is_within, limit_of};
 use fault_account::{AtEdge, is_setup, takes, would_do};
-use fault_words::{text, tick_text, ticks_text, word};
+use fault_words::{text, tick_text, ticks_text};
 use flat_circuit::Circuit;
 use listing::{Piece, add_line};
 use scald_base::{Bytes, NoMemory};
@@ -95,7 +95,20 @@ fn over_of(c: &Circuit, edge: &AtEdge) -> u32
     end.saturating_sub(edge_tick(c, edge))
 }
 
-#[tactic(auto, unfolding(crate::specs::Launched::over_line))]
+/// For which setup time.
+fn limit_text(alloc: Global, limit: u16) -> Result<Bytes, NoMemory>
+    ensures { IfOk result (λ text. text ≡ limit_said limit) }
+{
+    text(
+        alloc,
+        &[
+            Piece::Text(b" too late for SETUP "),
+            Piece::Number(u64::from(limit)),
+        ],
+    )
+}
+
+#[tactic(auto, unfolding(crate::specs::LastChange::over_line))]
 fn add_over_line(out: &mut Bytes, alloc: Global, c: &Circuit, edge: &AtEdge) -> Result<(), NoMemory>
     requires edge { IsAtEdge c.now edge.now }
     ensures { OnOk result (out.new ≡ out.old ++ over_line c.now edge.now) }
@@ -104,15 +117,15 @@ fn add_over_line(out: &mut Bytes, alloc: Global, c: &Circuit, edge: &AtEdge) -> 
     let period = c.header().period();
     let which = which_change(alloc, period, edge.earlier + edge.more, last_tick(c, edge))?;
     let over = ticks_text(alloc, over_of(c, edge))?;
+    let limit = limit_text(alloc, limit_of(edge.asked))?;
     add_line(
         out,
         &[
-            word(b"  "),
+            Piece::Text(b"  "),
             Piece::Text(which.as_slice()),
-            word(b" is "),
+            Piece::Text(b" is "),
             Piece::Text(over.as_slice()),
-            word(b" too late for SETUP "),
-            Piece::Number(u64::from(limit_of(edge.asked))),
+            Piece::Text(limit.as_slice()),
         ],
     )
 }
