@@ -861,7 +861,7 @@ expanded '11 BadRange 7:1' 'MACRO M {N=1} ("A"<N>);' 'END;' 'DRAWING ROW;' 'u1 :
 helps '    the bit of the formal "A" of M is 65536, where N is 65536'
 # in a macro that uses itself N is 1 at the use that is refused, and 0 in the head of what it uses
 expanded '11 BadRange 4:1' 'MACRO M {N=1} ("A"<0:N-1>);' 'u : M {N=N/2} ("A"<0:N/2-1>);' 'END;' 'DRAWING ROW;' 'u1 : M {N=2} ("X"<0:1>);' 'END;'
-helps '    the range of the formal "A" of M goes from 0 to -1, where N is 0' '    it is reached by u1 at 7:1'
+helps '    the range of the formal "A" of M goes from 0 to -1, where N is 0' '    at this use N is 1' '    it is reached by u1 at 7:1'
 expanded '11 BadRange 5:1' 'CONST N = 65536;' 'DRAWING ROW;' 'WIRE "A"<N> 0:0;' 'END;'
 helps '    the bit of "A" is 65536, where N is 65536'
 # delays under an IF, and in one macro for two uses
@@ -877,34 +877,84 @@ helps '    SETUP_HOLD_CHK takes SETUP and HOLD, each once; neither is negative, 
     '    SETUP is 391, HOLD is 10, where T is 391'
 expanded '14 Bounds 4:1' 'MACRO M {N=2} ("A");' 'WIRE "A" N:1;' 'END;' 'DRAWING ROW;' 'u : M {N=1} ("X");' 'v : M ("Y");' 'END;'
 helps '    WIRE "A" a:b has 0 <= a <= b <= 4095' '    the bounds are 2:1, where N is 2' '    it is reached by v at 8:1'
-# widths: of the formal and of its connection, each where names stand in it
-expanded '12 Width 7:1' 'CONST W = 7;' 'MACRO FILE {N=8} ("D"<0:N-1>);' 'END;' 'DRAWING ROW;' 'u : FILE ("C"<0:W-1>);' 'END;'
-wide "$by_formal" '    bits of the connections: ?' '    bits of the formals: ?' \
-    '    the formal "D" of FILE has width 8, where N is 8' \
-    '    the connection to the formal "D" of FILE has width 7, where W is 7'
-expanded '12 Width 6:1' 'MACRO M {N=2} ("A") -> ("Z"<0:N-1>);' 'END;' 'DRAWING ROW;' 'u : M ("A"<0>) -> ("X"<0>);' 'END;'
+# bits that are none of a formal's: a range, one bit, digits alone, a constant
+expanded '11 BadRange 4:1' 'MACRO PART {SIZE=4} ("CK", "D"<0:SIZE-1>) -> ("Q"<0:SIZE-1>);' 'r : REG [8:15] ("CK", "D"<0:SIZE>) -> ("Q");' 'END;' \
+    'DRAWING ROW;' 'p : PART ("C", "A"<0:3>) -> ("B"<0:3>);' 'END;'
+helps "    'PART' is used only at 7:1:" '    p : PART ("C", "A"<0:3>) -> ("B"<0:3>);' '    ^' \
+    '    "D" goes from 0 to 4, and the formal has 0 to 3, where SIZE is 4'
+expanded '11 BadRange 4:1' 'MACRO PART {SIZE=4} ("CK", "D"<0:SIZE-1>) -> ("Q"<0:SIZE-1>);' 'r : REG [8:15] ("CK", "D") -> ("Q"<SIZE>);' 'END;' \
+    'DRAWING ROW;' 'p1 : PART ("C", "A"<0:3>) -> ("B"<0:3>);' 'p2 : PART ("C", "A"<0:3>) -> ("E"<0:3>);' 'END;'
+helps '    "Q" has bit 4 here, and the formal has 0 to 3, where SIZE is 4' '    it is reached by p1 at 7:1'
+macro unexpanded '11 BadRange 4:1' 'MACRO M {N=4} ("A") -> ("Z"<N-1:0>);' 'b : BUF [0:0] ("A") -> ("Z"<4>);' 'END;' 'DRAWING ROW;' \
+    'u1 : M ("X") -> ("Y"<0:3>);' 'u2 : M ("X") -> ("V"<0:3>);' 'END;'
+helps '    "Z" has bit 4 here, and the formal has 3 to 0, where N is 4' '    it is reached by u1 at 7:1'
+expanded '11 BadRange 5:1' 'CONST WIDTH = 8;' 'MACRO M ("R"<0:7>);' 'WIRE "R"<0:WIDTH> 0:0;' 'END;' 'DRAWING ROW;' 'u : M ("X");' 'v : M ("Y");' 'END;'
+helps '    "R" goes from 0 to 8, and the formal has 0 to 7, where WIDTH is 8' '    it is reached by u at 8:1'
+macro unexpanded '11 BadRange 4:1' 'MACRO M {N=1} ("A") -> ("Z");' 'b : BUF [0:0] ("A"<N>) -> ("Z");' 'END;' 'DRAWING ROW;' \
+    'u : M {N=0} ("X") -> ("Y");' 'v : M ("X") -> ("V");' 'END;'
+helps '    "A" has bit 1 here, and the formal has bit 0 alone, where N is 1' '    it is reached by v at 8:1'
+# in a turn of a FOR under an IF, and by a parameter that is passed on
+expanded '11 BadRange 5:1' 'MACRO M {N=4} ("A"<0:N-1>) -> ("Z"<0:7>);' 'FOR I = 0 TO 7 DO IF I > 2 THEN' 'b : BUF [0:0] ("A"<I>) -> ("Z"<I>);' 'END; END;' \
+    'END;' 'DRAWING ROW;' 'u1 : M {N=8} ("X"<0:7>) -> ("Y"<0:7>);' 'u2 : M ("X"<0:3>) -> ("V"<0:7>);' 'END;'
+helps '    "A" has bit 4 here, and the formal has 0 to 3, where I is 4, N is 4' '    it is reached by u2 at 10:1'
+expanded '11 BadRange 4:1' 'MACRO M {N=4} ("A"<0:N-1>);' 'c : MIN_PULSE_CHK ("A"<N-1:N>);' 'END;' 'MACRO O {W=1} ("B"<0:W>);' \
+    'u : M {N=W+1} ("B");' 'END;' 'DRAWING ROW;' 'o : O ("X"<0:1>);' 'END;'
+helps "    'M' is used only at 7:1:" '    u : M {N=W+1} ("B");' '    ^' \
+    '    "A" goes from 1 to 2, and the formal has 0 to 1, where N is 2' '    it is reached by o at 10:1'
+# widths: of a formal and of its connection, where names stand in either
+expanded '12 Width 7:1' 'CONST W = 7;' 'MACRO FILE {WIDTH=8} ("CK", "D"<0:WIDTH-1>) -> ("Q"<0:WIDTH-1>);' 'END;' 'DRAWING ROW;' \
+    'u : FILE ("CK", "C"<0:W-1>) -> ("E"<0:W-1>);' 'END;'
+wide "$by_formal" '    bits of the connections: 1, ? -> ?' '    bits of the formals: 1, ? -> ?' \
+    '    "C"<0:6> has 7 bits, where W is 7, and "D" of FILE has 8, where WIDTH is 8'
+macro unexpanded '12 Width 6:1' 'MACRO M {N=2} ("A") -> ("Z"<0:N-1>);' 'END;' 'DRAWING ROW;' 'u : M ("A"<0>) -> ("X"<0>);' 'END;'
 wide "$by_formal" '    bits of the connections: 1 -> 1' '    bits of the formals: 1 -> ?' \
-    '    the formal "Z" of M has width 2, where N is 2'
+    '    "X"<0> has 1 bit, and "Z" of M has 2, where N is 2'
+expanded '12 Width 7:1' 'CONST W = 8;' 'MACRO PART {SIZE=1} ("CK", "D"<0:SIZE-1>);' 'END;' 'DRAWING ROW;' 'u : PART ("C", "A"<0:W-1>);' 'END;'
+wide "$by_formal" '    bits of the connections: 1, ?' '    bits of the formals: 1, ?' \
+    '    "A"<0:7> has 8 bits, where W is 8, and "D" of PART has 1, where SIZE is 1'
+expanded '12 Width 7:1' 'CONST W = 4;' 'MACRO M {N=4} ("D"<0:N-1>);' 'END;' 'DRAWING ROW;' 'u : M (-"A"<0:W-1> & ZERO);' 'END;'
+wide "$by_formal" '    bits of the connections: ?' '    bits of the formals: ?' \
+    '    "A"<0:3> & ZERO has 5 bits, where W is 4, and "D" of M has 4, where N is 4'
 # the second of two uses, and the third turn of a FOR
 expanded '12 Width 6:1' 'MACRO FILE {N=8} ("D"<0:N-1>);' 'END;' 'MACRO O {W=4} ("A"<0:W-1>);' 'u : FILE ("A"<0:W-1>);' 'END;' \
     'DRAWING ROW;' 'o1 : O {W=8} ("X");' 'o2 : O {W=5} ("X");' 'END;'
 wide "$by_formal" '    bits of the connections: ?' '    bits of the formals: ?' \
-    '    the formal "D" of FILE has width 8, where N is 8' \
-    '    the connection to the formal "D" of FILE has width 5, where W is 5' '    it is reached by o2 at 10:1'
+    '    "A"<0:4> has 5 bits, where W is 5, and "D" of FILE has 8, where N is 8' '    it is reached by o2 at 10:1'
 expanded '12 Width 7:1' 'MACRO FILE {N=8} ("D"<0:N-1>);' 'END;' 'DRAWING ROW;' 'FOR I = 1 TO 3 DO' 'u : FILE {N=2} ("C"<1:I>);' 'END;' 'END;'
 wide "$by_formal" '    bits of the connections: ?' '    bits of the formals: ?' \
-    '    the formal "D" of FILE has width 2, where N is 2' \
-    '    the connection to the formal "D" of FILE has width 3, where I is 3'
-# the output of a primitive, and an input
-expanded '12 Width 6:1' 'CONST W = 7;' 'CONST N = 8;' 'DRAWING ROW;' \
-    'a1 : AND [0:0] ("A"<W>, "B"<0:N-1>, "C"<0:W-1>) -> ("X"<0:N-1>);' 'END;'
-wide "$by_output" '    bits of the connections: ?, ?, ? -> ?' \
-    '    the output connection has width 8, where N is 8' '    an input connection has width 7, where W is 7'
-# a name without a range may be a formal
+    '    "C"<1:3> has 3 bits, where I is 3, and "D" of FILE has 2, where N is 2'
+# a formal without a range is all of its bits, and another name without one is one bit
 expanded '12 Width 6:1' 'MACRO FILE {N=8} ("D"<0:N-1>);' 'END;' 'MACRO O {W=5} ("A"<0:W-1>);' 'u : FILE ("A");' 'END;' \
     'DRAWING ROW;' 'o : O ("X");' 'END;'
 wide "$by_formal" '    bits of the connections: ?' '    bits of the formals: ?' \
-    "    'O' is used only at 9:1:" '    o : O ("X");' '    ^'
+    "    'O' is used only at 9:1:" '    o : O ("X");' '    ^' \
+    '    "A" has 5 bits, where W is 5, and "D" of FILE has 8, where N is 8'
+macro unexpanded '12 Width 6:1' 'MACRO FILE {N=8} ("D") -> ("Q"<0:N-1>);' 'END;' 'MACRO O ("D") -> ("Q");' 'u : FILE ("D") -> ("Q");' 'END;' \
+    'DRAWING ROW;' 'o1 : O ("X") -> ("Y");' 'o2 : O ("X") -> ("V");' 'END;'
+wide "$by_formal" '    bits of the connections: 1 -> 1' '    bits of the formals: 1 -> ?' \
+    '    "Q" has 1 bit, and "Q" of FILE has 8, where N is 8' '    it is reached by o1 at 9:1'
+expanded '12 Width 7:1' 'MACRO IN {N=2} ("D"<0:N-1>);' 'END;' 'MACRO OUT {W=2} ("E"<0:W-1>);' 'IF W > 2 THEN' 'u : IN {N=W-1} ("E");' 'END;' 'END;' \
+    'DRAWING ROW;' 'o1 : OUT ("X"<0:1>);' 'o2 : OUT {W=3} ("X"<0:2>);' 'END;'
+wide "$by_formal" '    bits of the connections: ?' '    bits of the formals: ?' \
+    '    "E" has 3 bits, where W is 3, and "D" of IN has 2, where N is 2' '    it is reached by o2 at 12:1'
+# an input of a primitive and its output, at first with widths that fit
+expanded '12 Width 6:1' 'CONST W = 7;' 'CONST N = 8;' 'DRAWING ROW;' \
+    'a1 : AND [0:0] ("A"<W>, "B"<0:N-1>, "C"<0:W-1>) -> ("X"<0:N-1>);' 'END;'
+wide "$by_output" '    bits of the connections: ?, ?, ? -> ?' \
+    '    "C"<0:6> has 7 bits, where W is 7, and the output "X"<0:7> has 8, where N is 8'
+macro unexpanded '12 Width 4:1' 'MACRO M {N=2} ("A"<0:N-1>) -> ("Z"<0:1>);' 'b : BUF [0:0] ("A") -> ("Z");' 'END;' 'DRAWING ROW;' \
+    'u1 : M ("X"<0:1>) -> ("Y"<0:1>);' 'u2 : M {N=3} ("X"<0:2>) -> ("V"<0:1>);' 'END;'
+wide "$by_output" '    bits of the connections: ? -> 2' \
+    '    "A" has 3 bits, where N is 3, and the output "Z" has 2' '    it is reached by u2 at 8:1'
+expanded '12 Width 5:1' 'DRAWING ROW;' 'FOR I = 1 TO 3 DO' 'a : AND [0:0] ("A"<0:I>, "B"<0:1>) -> ("X"<0:I>);' 'END;' 'END;'
+wide "$by_output" '    bits of the connections: ?, 2 -> ?' \
+    '    "B"<0:1> has 2 bits, and the output "X"<0:2> has 3, where I is 2'
+# the inputs of a checker, and a connection that is too wide
+expanded '12 Width 5:1' 'CONST W = 3;' 'DRAWING ROW;' 'c : SETUP_HOLD_CHK ("CK"<0:1>, "D"<0:W-1>);' 'END;'
+wide "$by_widest" '    bits of the connections: 2, ?' '    "CK"<0:1> has 2 bits, and "D"<0:2> has 3, where W is 3'
+expanded '12 Width 5:1' 'CONST W = 256;' 'DRAWING ROW;' 'c : CHG [0:0] ("A"<0:W-1> & "B"<0:3>) -> ("Z");' 'END;'
+wide 'the inputs of a CHG have any widths, and a connection has at most 256 bits' '    bits of the connections: ? -> 1' \
+    '    "A"<0:255> & "B"<0:3> has 260 bits, and a connection has at most 256, where W is 256'
 # nothing is said of values where they are not what is wrong
 expanded '14 Bounds 5:1' 'CONST D = 2;' 'DRAWING ROW;' 'c1 : MIN_PULSE_CHK [D:1] ("A");' 'END;'
 helps '    MIN_PULSE_CHK takes HIGH and LOW, each once; neither is negative, and each is at most the period' \

@@ -12,8 +12,8 @@ use Rattle.scald_expr.specs.declared.expr.Op.TheVariants.{Sub}
 use Rattle.drawing_tree.specs.Tree.{Range, Named, Connection, Use, Wire, Statement, For, Statements, nil, cons, Assignment, Macro, Drawing}
 use Rattle.macro_expander.specs.Macros.{given_to, inside_of}
 use Rattle.macro_expander.specs.Flat.{setting_of}
-use Rattle.value_help.specs.Lines.{bit_of, connection_to, formal_text, quoted, range_of}
-use Rattle.value_help.specs.Widths.{fits}
+use Rattle.value_lines.specs.Lines.{bit_of, formal_text, quoted, range_of}
+use Rattle.value_lines.specs.Sites.{top_site}
 use Rattle.value_help.specs.Found.{Search, ends, found, found_with, goes_on, in_statements, searching_at}
 
 -- ---- drawings
@@ -136,12 +136,12 @@ abbrev two_buffers : Statements
 two_buffers = cons (buffer 4 None) (cons (buffer 5 None) nil)
 
 both_reached :
-    in_statements (bad_range 4) (setting_of (drawn [] [] two_buffers) []) None two_buffers [] 2
+    in_statements (bad_range 4) (setting_of (drawn [] [] two_buffers) []) None two_buffers (top_site []) 2
     ≡ goes_on 0
 both_reached = refl
 
 one_too_many :
-    in_statements (bad_range 4) (setting_of (drawn [] [] two_buffers) []) None two_buffers [] 1
+    in_statements (bad_range 4) (setting_of (drawn [] [] two_buffers) []) None two_buffers (top_site []) 1
     ≡ ends []
 one_too_many = refl
 
@@ -150,18 +150,18 @@ abbrev repeated : Statements
 repeated = cons (For (codes "i") (number 0) (number 3) (cons (buffer 5 None) nil) (at 4)) nil
 
 turns_reached :
-    in_statements (bad_range 4) (setting_of (drawn [] [] repeated) []) None repeated [] 9
+    in_statements (bad_range 4) (setting_of (drawn [] [] repeated) []) None repeated (top_site []) 9
     ≡ goes_on 0
 turns_reached = refl
 
 turn_too_many :
-    in_statements (bad_range 4) (setting_of (drawn [] [] repeated) []) None repeated [] 8
+    in_statements (bad_range 4) (setting_of (drawn [] [] repeated) []) None repeated (top_site []) 8
     ≡ ends []
 turn_too_many = refl
 
 -- ---- macros
 
--- one input of as many bits as W says, and in its body the bit after the last
+-- one input of as many bits as W says, and in its body its bit W - N
 abbrev slice : Macro
 slice = record {
   name = codes "SLICE";
@@ -172,73 +172,61 @@ slice = record {
   place = at 2;
 }
 
-abbrev sliced : List Assignment → Drawing
-sliced params = drawn (given (codes "N") (number 5) ∷ []) (slice ∷ [])
-    (cons (use_of (codes "SLICE") 6 params None None (signal None ∷ [])) nil)
+abbrev sliced : ℕ → List Assignment → Option Range → Drawing
+sliced n params input = drawn (given (codes "N") (number n) ∷ []) (slice ∷ [])
+    (cons (use_of (codes "SLICE") 6 params None None (signal input ∷ [])) nil)
 
 -- a formal, by the value that the use gives
-formal_of_no_bits : found (bad_range 6) (sliced (given (codes "W") (Binary Sub (Param (codes "N")) (number 5)) ∷ []))
+formal_of_no_bits : found (bad_range 6) (sliced 5 (given (codes "W") (Binary Sub (Param (codes "N")) (number 5)) ∷ []) None)
     ≡ codes "    the range of the formal \"A\" of SLICE goes from 0 to -1, where W is 0\n"
+    ++ codes "    at this use N is 5\n"
 unfolding found found_with searching_at range_of formal_text quoted given_to inside_of digits
 formal_of_no_bits = refl
 
 -- in its body, by the default and by a constant
-bit_in_a_body : found (bad_range 3) (sliced [])
+bit_in_a_body : found (bad_range 3) (sliced 5 [] None)
     ≡ codes "    the bit of \"A\" is -1, where W is 4, N is 5\n"
 unfolding found found_with searching_at bit_of quoted given_to inside_of digits
 bit_in_a_body = refl
+
+-- a bit that is none of the formal's, though it may be a bit, and one that is
+bit_of_no_formal : found (bad_range 3) (sliced 0 [] None)
+    ≡ codes "    \"A\" has bit 4 here, and the formal has 0 to 3, where W is 4, N is 0\n"
+unfolding found found_with searching_at quoted given_to inside_of digits
+bit_of_no_formal = refl
+
+last_bit_of_a_formal : found (bad_range 3) (sliced 1 [] None) ≡ []
+unfolding found found_with searching_at quoted given_to inside_of digits
+last_bit_of_a_formal = refl
 
 -- ---- widths
 
 abbrev misfit : ℕ → Refusal
 misfit line = record { kind = Width; place = at line }
 
-abbrev five : List Assignment
-five = given (codes "N") (number 5) ∷ []
-
-abbrev joined_to : Option Range → Drawing
-joined_to range =
-    drawn five (slice ∷ []) (cons (use_of (codes "SLICE") 6 [] None None (signal range ∷ [])) nil)
-
-width_not_met : found (misfit 6) (joined_to (range (number 0) (less_one (codes "N"))))
-    ≡ codes "    the formal \"A\" of SLICE has width 4, where W is 4\n"
-    ++ codes "    the connection to the formal \"A\" of SLICE has width 5, where N is 5\n"
-unfolding found found_with searching_at connection_to formal_text quoted given_to inside_of digits
+width_not_met : found (misfit 6) (sliced 5 [] (range (number 0) (less_one (codes "N"))))
+    ≡ codes "    \"A\"<0:4> has 5 bits, where N is 5, and \"A\" of SLICE has 4, where W is 4\n"
+unfolding found found_with searching_at quoted given_to inside_of digits
 width_not_met = refl
-
--- the other is in the text
-width_of_numbers : found (misfit 6) (joined_to (range (number 1) (number 3)))
-    ≡ codes "    the formal \"A\" of SLICE has width 4, where W is 4\n"
-unfolding found found_with searching_at connection_to formal_text quoted given_to inside_of digits
-width_of_numbers = refl
 
 -- without a look into its body
 abbrev searched : Option Range → Search
 searched range =
-    let d = joined_to range in
+    let d = sliced 5 [] range in
     let consts = record { name = codes "N"; value = pos 5 } ∷ [] in
-    in_statements (misfit 6) (setting_of d consts) None d.body consts 1
+    in_statements (misfit 6) (setting_of d consts) None d.body (top_site consts) 1
 
 width_met : searched (range (number 1) (less_one (codes "N"))) ≡ goes_on 0
 unfolding given_to inside_of
 width_met = refl
 
-one_bit_for_all : searched (bit (Param (codes "N"))) ≡ goes_on 0
+one_bit_for_all : searched None ≡ goes_on 0
 unfolding given_to inside_of
 one_bit_for_all = refl
 
--- of a formal it may be any number of bits
-name_alone : searched None ≡ ends []
-unfolding given_to inside_of
-name_alone = refl
-
-no_range : searched (range (number 0) (number 65536)) ≡ ends []
-unfolding given_to inside_of
-no_range = refl
-
 -- the output of a primitive, and an input that is not as wide
 abbrev buffered : Option Range → Option Range → Drawing
-buffered input output = drawn five [] (cons (Use (record {
+buffered input output = drawn (given (codes "N") (number 5) ∷ []) [] (cons (Use (record {
   label = codes "u";
   kind = codes "BUF";
   delay = Some (number 0, number 0);
@@ -249,25 +237,14 @@ buffered input output = drawn five [] (cons (Use (record {
   place = at 4;
 })) nil)
 
-output_not_met : found (misfit 4) (buffered (range (number 1) (less_one (codes "N"))) (range (number 1) (Param (codes "N"))))
-    ≡ codes "    the output connection has width 5, where N is 5\n"
-    ++ codes "    an input connection has width 4, where N is 5\n"
-unfolding found found_with searching_at digits
+output_not_met : found (misfit 4) (buffered (range (number 1) (number 4)) (range (number 1) (Param (codes "N"))))
+    ≡ codes "    \"A\"<1:4> has 4 bits, and the output \"A\"<1:5> has 5, where N is 5\n"
+unfolding found found_with searching_at quoted digits
 output_not_met = refl
 
 output_met : found (misfit 4) (buffered (bit (Param (codes "N"))) (range (number 1) (Param (codes "N")))) ≡ []
 unfolding found found_with searching_at digits
 output_met = refl
-
-input_alone : found (misfit 4) (buffered None (range (number 1) (Param (codes "N")))) ≡ []
-unfolding found found_with searching_at digits
-input_alone = refl
-
-one_bit_of_an_input : fits true 4 1 ≡ true
-one_bit_of_an_input = refl
-
-one_bit_of_an_output : fits false 4 1 ≡ false
-one_bit_of_an_output = refl
 
 -- ---- bounds
 

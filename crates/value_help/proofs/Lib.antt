@@ -1,5 +1,5 @@
 mod Examples
-pub mod Or
+pub mod Steps
 pub mod Walking
 pub mod Turning
 pub mod Using

@@ -1,6 +1,7 @@
 -- One use: what is told of it, and what is found in the body of its macro.
 use Rattle.std.proofs.Common.{◌≡◌, ◌≢◌, ℕ, suc, zero, ◌-◌, true, false, List, Option, Some, None, Ok, Err, refl, ap, sym, ◌∙◌, arith}
 use Rattle.std.specs.Prelude.{is_some}
+use Rattle.std.specs.Result.{result_ok}
 use Rattle.scald_base.specs.declared.refusal.Refusal.{Refusal}
 use Rattle.scald_expr.specs.declared.environment.Binding.{Binding}
 use Rattle.element_kinds.specs.declared.kind.Kind.{Kind}
@@ -8,25 +9,27 @@ use Rattle.element_kinds.specs.Kinds.{kind_of}
 use Rattle.drawing_tree.specs.Tree.{UseStatement, Macro}
 use Rattle.macro_expander.specs.declared.formal.Inside.{Inside}
 use Rattle.macro_expander.specs.declared.library.Library.{Library}
-use Rattle.macro_expander.specs.declared.scope.Scope.{Scope}
+use Rattle.macro_expander.specs.Terms.{Scope}
 use Rattle.macro_expander.specs.Outcome.{Judged}
 use Rattle.macro_expander.specs.Macros.{macro_of as first_called}
 use Rattle.macro_expander.specs.Library.{macros_in, setting_in}
-use Rattle.value_help.specs.Lines.{Said}
-use Rattle.value_help.specs.Found.{Search, Searching, after, at_use, goes_on, in_body, in_macro, in_use_of, inside_at, searching_at, unless_said}
-use Rattle.value_help.specs.Walk.{bodies_in, in_all, inside_env, use_in}
-use Rattle.value_help.proofs.Or.{after_said, after_unsaid}
+use Rattle.spread_names.specs.Spreads.{body_scope, inside_at}
+use Rattle.value_lines.specs.Lines.{Said}
+use Rattle.value_lines.specs.Sites.{Site, body_site}
+use Rattle.value_help.specs.Found.{Search, Searching, after, at_use, goes_on, in_body, in_macro, in_use_of, searching_at, unless_said}
+use Rattle.value_help.specs.Walk.{bodies_in, in_all, use_in}
+use Rattle.value_help.proofs.Steps.{after_said, after_unsaid}
 
-module _ (r : Refusal) (l : Library) (levels : ℕ) (u : UseStatement) (scope : Scope) (left : ℕ)
-    (said : Said) (of_use : said ≡ at_use r (setting_in l) u scope.env) where
+module _ (r : Refusal) (l : Library) (levels : ℕ) (u : UseStatement) (site : Site) (left : ℕ)
+    (said : Said) (of_use : said ≡ at_use r (setting_in l) u site) where
   abbrev whole : Search
-  whole = use_in r l levels u scope left
+  whole = use_in r l levels u site left
 
   abbrev by_kind : Option Kind → ℕ → Search
-  by_kind k = in_use_of k (setting_in l) (bodies_in r l levels) u scope.env
+  by_kind k = in_use_of k (setting_in l) (bodies_in r l levels) u site
 
   abbrev by_macro : Option Macro → ℕ → Search
-  by_macro m = in_macro (setting_in l) (bodies_in r l levels) m u scope.env
+  by_macro m = in_macro (setting_in l) (bodies_in r l levels) m u site
 
   both : after (unless_said said left) (by_kind (kind_of u.kind)) ≡ whole
   both = ap (λ (a : Said). after (unless_said a left) (by_kind (kind_of u.kind))) of_use
@@ -51,29 +54,39 @@ module _ (r : Refusal) (l : Library) (levels : ℕ) (u : UseStatement) (scope : 
 
   module _ (m : Macro) where
     abbrev the_inside : Judged Inside
-    the_inside = inside_at l.consts m scope.env u
+    the_inside = inside_at l.consts m site.scope u
 
     pub too_deep : levels ≡ 0 → goes_on left ≡ by_macro (Some m) left
     unfolding searching_at
     too_deep h = rw h refl
 
-    pub refused_use : let no_env : Option (List Binding) = None in no_env ≡ inside_env the_inside →
+    pub refused_use : let nothing : Option Inside = None in nothing ≡ result_ok the_inside →
         goes_on left ≡ by_macro (Some m) left
     refused_use h = by the_inside (bodies_in r l levels) h where
       by : (j : Judged Inside) (body : Option (Macro → Searching)) →
-          let no_env : Option (List Binding) = None in no_env ≡ inside_env j → goes_on left ≡ in_body body m j left
+          let nothing : Option Inside = None in nothing ≡ result_ok j →
+          goes_on left ≡ in_body body m u.label site j left
       by (Ok inside) body h = absurd (cc)
       by (Err kind) None h = refl
       by (Err kind) (Some b) h = refl
 
-    pub with_body : levels ≢ 0 → (env : List Binding) → Some env ≡ inside_env the_inside → (inner : Scope) → inner.env ≡ env →
+    pub with_body : levels ≢ 0 → (inside : Inside) → Some inside ≡ result_ok the_inside →
+        (inner : Site) → inner ≡ body_site site u.label m inside →
         in_all r l (levels - 1) m.body inner left ≡ by_macro (Some m) left
     unfolding searching_at
-    with_body deep env is inner same = by levels deep the_inside is where
-      by : (n : ℕ) → n ≢ 0 → (j : Judged Inside) → Some env ≡ inside_env j →
-          in_all r l (n - 1) m.body inner left ≡ in_body (searching_at r (setting_in l) n) m j left
+    with_body deep inside is inner same = by levels deep the_inside is where
+      by : (n : ℕ) → n ≢ 0 → (j : Judged Inside) → Some inside ≡ result_ok j →
+          in_all r l (n - 1) m.body inner left
+          ≡ in_body (searching_at r (setting_in l) n) m u.label site j left
       by zero h j e = absurd (h refl)
-      by (suc n) h (Ok inside) e =
-          let there : env ≡ inside.env = cc in
+      by (suc n) h (Ok i) e =
+          let there : i ≡ inside = cc in
           let down : suc n - 1 ≡ n = omega arith in rw (down, same, there) refl
       by (suc n) h (Err kind) e = absurd (cc)
+
+-- where the body of a macro stands
+pub body_stands : (site : Site) (label : List ℕ) (m : Macro) (inside : Inside) (scope : Scope)
+    (inner : Site) → scope ≡ body_scope site.scope label inside →
+    inner ≡ record { scope = scope; head = scope.env; ins = m.ins; outs = m.outs } →
+    inner ≡ body_site site label m inside
+body_stands site label m inside scope inner is same = same ∙ rw is refl

@@ -9,15 +9,16 @@ use Rattle.drawing_tree.specs.declared.drawing.Drawing as written_drawing
 use Rattle.drawing_tree.specs.declared.statement.Stmt.{Stmt}
 use Rattle.drawing_tree.specs.Tree.{assignment_of, drawing_of, statements_of}
 use Rattle.macro_expander.specs.declared.library.Library.{Library}
-use Rattle.macro_expander.specs.declared.scope.Scope.{Scope}
 use Rattle.macro_expander.specs.Named.{State}
 use Rattle.macro_expander.specs.Outcome.{Gives}
 use Rattle.macro_expander.specs.Flat.{const_values, deepest, most_statements, nothing_yet}
 use Rattle.macro_expander.specs.Library.{HoldsMacros}
 use Rattle.macro_expander.specs.Numbered.{Failed}
-use Rattle.value_help.specs.Lines.{Said}
+use Rattle.macro_expander.specs.declared.scope.Scope as numbered_scope
+use Rattle.value_lines.specs.Lines.{Said}
+use Rattle.value_lines.specs.Sites.{Site, top_site}
 use Rattle.value_help.specs.Found.{found, found_with, lines_in, lines_of, unless_said}
-use Rattle.value_help.specs.Walk.{in_all}
+use Rattle.value_help.specs.Walk.{in_all, site_of}
 
 -- a constant has no value
 pub nothing_found : (r : Refusal) (d : written_drawing.Drawing) (stop : Stop) (q : Refusal) → stop ≡ Refused q →
@@ -35,12 +36,18 @@ lines_are : (said : Said) (left : ℕ) → lines_in said ≡ lines_of (unless_sa
 lines_are None left = refl
 lines_are (Some said) left = refl
 
-pub all_found : (r : Refusal) (d : written_drawing.Drawing) (ticks : ℕ) (l : Library) (consts copy : List Binding) (s : Scope) (ss : List Stmt) →
+-- where a drawing's own statements stand
+pub own_stands : (consts copy : List Binding) (s : numbered_scope.Scope) → copy ≡ consts →
+    s ≡ record { path = []; suffix = []; env = copy; formals = [] } →
+    site_of s s.env [] [] ≡ top_site consts
+own_stands consts copy s same is = rw (is, same) refl
+
+pub all_found : (r : Refusal) (d : written_drawing.Drawing) (ticks : ℕ) (l : Library) (consts : List Binding) (site : Site) (ss : List Stmt) →
     ticks ≡ period d.header → HoldsMacros d.version ticks consts d.macros l →
-    s ≡ record { path = []; suffix = []; env = copy; formals = [] } → copy ≡ consts → ss ≡ d.body.items →
-    (said : Said) (left : ℕ) → unless_said said left ≡ in_all r l deepest (statements_of ss) s most_statements →
+    site ≡ top_site consts → ss ≡ d.body.items →
+    (said : Said) (left : ℕ) → unless_said said left ≡ in_all r l deepest (statements_of ss) site most_statements →
     lines_in said ≡ found_with r (drawing_of d) consts
 unfolding found_with
-all_found r d ticks l consts copy s ss ticks_are holds s_is same ss_are said left is =
+all_found r d ticks l consts site ss ticks_are holds site_is ss_are said left is =
     lines_are said left ∙ ap lines_of is
-    ∙ rw (s_is, same, ss_are, holds.version, holds.ticks, ticks_are, holds.consts, holds.macros) refl
+    ∙ rw (site_is, ss_are, holds.version, holds.ticks, ticks_are, holds.consts, holds.macros) refl

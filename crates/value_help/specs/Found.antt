@@ -10,13 +10,15 @@ use Rattle.drawing_tree.specs.Tree.{Statement, Use, Wire, If, For, Statements, n
 use Rattle.drawing_grammar.specs.CanonicalDraws.{TextDraws}
 use Rattle.drawing_grammar.specs.Refused.{IsRefusal}
 use Rattle.macro_expander.specs.declared.formal.Inside.{Inside}
-use Rattle.macro_expander.specs.Outcome.{Outcome, Gives, Fails, Judged, judging}
+use Rattle.macro_expander.specs.Outcome.{Outcome, Gives, Fails, Judged}
 use Rattle.macro_expander.specs.Terms.{valued}
-use Rattle.macro_expander.specs.Macros.{given_to, inside_of, macro_of}
-use Rattle.macro_expander.specs.Loops.{binding, loop_ends, values_between}
+use Rattle.macro_expander.specs.Macros.{macro_of}
+use Rattle.macro_expander.specs.Loops.{loop_ends, values_between}
 use Rattle.macro_expander.specs.Setting.{Setting}
 use Rattle.macro_expander.specs.Flat.{const_values, deepest, is_zero, most_statements, nothing_yet, setting_of}
-use Rattle.value_help.specs.Lines.{Said}
+use Rattle.spread_names.specs.Spreads.{inside_at}
+use Rattle.value_lines.specs.Lines.{Said}
+use Rattle.value_lines.specs.Sites.{Site, body_site, top_site, turned}
 use Rattle.value_help.specs.Told.{use_told, wire_told}
 
 -- ---- one step after another
@@ -39,43 +41,41 @@ unless_said None left = goes_on left
 abbrev pub counted : (ℕ → Search) → ℕ → Search
 counted next left = if left == 0 then ends [] else next (left - 1)
 
--- where names have these values
+-- where statements stand
 abbrev pub Searching : Type 0
-Searching = List Binding → ℕ → Search
+Searching = Site → ℕ → Search
 
 -- ---- one statement
 
 abbrev pub is_at : Place → Place → Bool
 is_at place other = other.line == place.line && other.col == place.col
 
-abbrev pub at_use : Refusal → Setting → UseStatement → List Binding → Said
-at_use r setting u env = if is_at r.place u.place then use_told r.kind setting env u else None
+abbrev pub at_use : Refusal → Setting → UseStatement → Site → Said
+at_use r setting u site = if is_at r.place u.place then use_told r.kind setting site u else None
 
-abbrev pub at_wire : Refusal → WireStatement → List Binding → Said
-at_wire r w env = if is_at r.place w.place then wire_told r.kind env w else None
+abbrev pub at_wire : Refusal → WireStatement → Site → Said
+at_wire r w site = if is_at r.place w.place then wire_told r.kind site w else None
 
 -- ---- bodies
 
-abbrev pub in_body : Option (Macro → Searching) → Macro → Judged Inside → ℕ → Search
-in_body None m inside left = goes_on left
-in_body (Some body) m (Ok inside) left = body m inside.env left
-in_body (Some body) m (Err kind) left = goes_on left
-
-abbrev pub inside_at : List Binding → Macro → List Binding → UseStatement → Judged Inside
-inside_at consts m env u = judging (given_to m env u) (inside_of consts m)
+abbrev pub in_body : Option (Macro → Searching) → Macro → List ℕ → Site → Judged Inside → ℕ → Search
+in_body None m label site inside left = goes_on left
+in_body (Some body) m label site (Ok inside) left = body m (body_site site label m inside) left
+in_body (Some body) m label site (Err kind) left = goes_on left
 
 abbrev pub in_macro : Setting → Option (Macro → Searching) → Option Macro → UseStatement → Searching
-in_macro setting body None u env left = goes_on left
-in_macro setting body (Some m) u env left = in_body body m (inside_at setting.consts m env u) left
+in_macro setting body None u site left = goes_on left
+in_macro setting body (Some m) u site left =
+    in_body body m u.label site (inside_at setting.consts m site.scope u) left
 
 -- a primitive has no body
 abbrev pub in_use_of : Option Kind → Setting → Option (Macro → Searching) → UseStatement → Searching
-in_use_of (Some kind) setting body u env left = goes_on left
-in_use_of None setting body u env left =
-    in_macro setting body (macro_of u.kind setting.macros) u env left
+in_use_of (Some kind) setting body u site left = goes_on left
+in_use_of None setting body u site left =
+    in_macro setting body (macro_of u.kind setting.macros) u site left
 
 abbrev pub in_use : Setting → Option (Macro → Searching) → UseStatement → Searching
-in_use setting body u env left = in_use_of (kind_of u.kind) setting body u env left
+in_use setting body u site left = in_use_of (kind_of u.kind) setting body u site left
 
 -- ---- statements
 
@@ -85,9 +85,9 @@ through turn [] = goes_on
 through turn (v ∷ vs) = λ left. after (counted (turn v) left) (through turn vs)
 
 abbrev pub in_turns : List ℕ → Searching → Judged (ℤ × ℤ) → Searching
-in_turns var body (Ok both) env left =
-    through (λ (v : ℤ). body (binding var v ∷ env)) (values_between both.0 both.1) left
-in_turns var body (Err kind) env left = goes_on left
+in_turns var body (Ok both) site left =
+    through (λ (v : ℤ). body (turned var v site)) (values_between both.0 both.1) left
+in_turns var body (Err kind) site left = goes_on left
 
 abbrev pub if_chosen : Judged ℤ → (ℕ → Search) → (ℕ → Search) → ℕ → Search
 if_chosen (Ok v) taken other left = if is_zero v then other left else taken left
@@ -96,23 +96,23 @@ if_chosen (Err kind) taken other left = goes_on left
 abbrev mutual
   -- what is told of it, and else what is found in it
   pub in_statement : Refusal → Setting → Option (Macro → Searching) → Statement → Searching
-  in_statement r setting body (Use u) env =
-      counted (λ left. after (unless_said (at_use r setting u env) left) (in_use setting body u env))
-  in_statement r setting body (Wire w) env = counted (unless_said (at_wire r w env))
-  in_statement r setting body (If test taken other place) env =
-      counted (if_chosen (valued env test)
-      (in_statements r setting body taken env) (in_otherwise r setting body other env))
-  in_statement r setting body (For var first last ss place) env =
-      counted (in_turns var (in_statements r setting body ss) (loop_ends env first last) env)
+  in_statement r setting body (Use u) site =
+      counted (λ left. after (unless_said (at_use r setting u site) left) (in_use setting body u site))
+  in_statement r setting body (Wire w) site = counted (unless_said (at_wire r w site))
+  in_statement r setting body (If test taken other place) site =
+      counted (if_chosen (valued site.scope.env test)
+      (in_statements r setting body taken site) (in_otherwise r setting body other site))
+  in_statement r setting body (For var first last ss place) site =
+      counted (in_turns var (in_statements r setting body ss) (loop_ends site.scope.env first last) site)
 
   pub in_statements : Refusal → Setting → Option (Macro → Searching) → Statements → Searching
-  in_statements r setting body nil env left = goes_on left
-  in_statements r setting body (cons first others) env left =
-      after (in_statement r setting body first env left) (in_statements r setting body others env)
+  in_statements r setting body nil site left = goes_on left
+  in_statements r setting body (cons first others) site left =
+      after (in_statement r setting body first site left) (in_statements r setting body others site)
 
   pub in_otherwise : Refusal → Setting → Option (Macro → Searching) → Otherwise → Searching
-  in_otherwise r setting body no_else env left = goes_on left
-  in_otherwise r setting body (else_ ss) env left = in_statements r setting body ss env left
+  in_otherwise r setting body no_else site left = goes_on left
+  in_otherwise r setting body (else_ ss) site left = in_statements r setting body ss site left
 
 -- in a macro's body, where uses may go so many levels deeper: where none, there is no body
 unfoldable pub searching_at : Refusal → Setting → ℕ → Option (Macro → Searching)
@@ -133,7 +133,7 @@ lines_in None = []
 unfoldable pub found_with : Refusal → Drawing → List Binding → List ℕ
 found_with r d consts =
     let setting = setting_of d consts in
-    lines_of (in_statements r setting (searching_at r setting deepest) d.body consts most_statements)
+    lines_of (in_statements r setting (searching_at r setting deepest) d.body (top_site consts) most_statements)
 
 abbrev pub found_by : Refusal → Drawing → Outcome (List Binding) → List ℕ
 found_by r d (Gives consts s) = found_with r d consts

@@ -1,6 +1,3 @@
-pub mod Lines
-pub mod Named
-pub mod Widths
 pub mod Told
 pub mod Found
 pub mod Walk

@@ -1,19 +1,18 @@
 //! Down the statements of a drawing, as its expansion goes.
 
 ghost use Rattle.std.specs.Prelude.{◌≡◌, ◌-◌, ◌==◌, IfOk};
-ghost use Rattle.drawing_tree.specs.Tree.{drawing_of, macro_of, statement_of, statements_of, use_of};
+ghost use Rattle.drawing_tree.specs.Tree.{drawing_of, statement_of, statements_of, use_of};
 ghost use Rattle.drawing_tree.specs.WellFormed.{IsWellFormed};
 ghost use Rattle.macro_expander.specs.Library.{LeadToMacros};
-ghost use Rattle.value_help.specs.Found.{found as spec_found, found_with as spec_found_with, inside_at, lines_in, unless_said};
-ghost use Rattle.value_help.specs.Walk.{chosen_in, in_all, in_one, inside_env, turns_in, use_in};
+ghost use Rattle.value_help.specs.Found.{found as spec_found, found_with as spec_found_with, lines_in, unless_said};
+ghost use Rattle.value_help.specs.Walk.{chosen_in, in_all, in_one, site_of, turns_in, use_in};
 
-use crate::line::Said;
+use crate::body::{body_scope, inside};
 use crate::statement::{told_at_use, told_at_wire};
-use drawing_tree::{Drawing, ForStmt, IfStmt, MacroDef, Stmt, UseStmt};
+use drawing_tree::{Drawing, ForStmt, Formal, IfStmt, Stmt, UseStmt};
 use element_kinds::kind_named;
 use macro_expander::DEEPEST;
 use macro_expander::constants::{constants, copied_env};
-use macro_expander::formal::{given_to, inside_of};
 use macro_expander::library::Library;
 use macro_expander::range::value;
 use macro_expander::scope::Scope;
@@ -21,6 +20,7 @@ use macro_expander::turn::{in_turn, loop_ends, turn_to};
 use scald_base::{Bytes, NoMemory, Refusal, Stop};
 use scald_expr::Env;
 use std::alloc::Global;
+use value_lines::Said;
 
 /// The most statements that are reached: as many as an expansion may reach.
 const MOST_STATEMENTS: u32 = 262_144;
@@ -44,14 +44,19 @@ fn in_statements(
     refusal: Refusal,
     statements: &[Stmt],
     scope: &Scope,
+    head: &Env,
+    ins: &[Formal],
+    outs: &[Formal],
     levels: u32,
 ) -> Result<Said, NoMemory>
     requires { LeadToMacros library.now }
     ensures { IfOk result (λ said. unless_said said left.new
-        ≡ in_all refusal library.now levels (statements_of statements.now) scope.now left.old) }
+        ≡ in_all refusal library.now levels (statements_of statements.now) (site_of scope.now head.now ins.now outs.now) left.old) }
 {
     'statements: for statement in statements {
-        let said = in_statement(left, alloc, library, refusal, statement, scope, levels)?;
+        let said = in_statement(
+            left, alloc, library, refusal, statement, scope, head, ins, outs, levels,
+        )?;
         if said.is_some() {
             return Ok(said);
         }
@@ -67,20 +72,29 @@ fn in_statement(
     refusal: Refusal,
     statement: &Stmt,
     scope: &Scope,
+    head: &Env,
+    ins: &[Formal],
+    outs: &[Formal],
     levels: u32,
 ) -> Result<Said, NoMemory>
     requires { LeadToMacros library.now }
     ensures { IfOk result (λ said. unless_said said left.new
-        ≡ in_one refusal library.now levels (statement_of statement.now) scope.now left.old) }
+        ≡ in_one refusal library.now levels (statement_of statement.now) (site_of scope.now head.now ins.now outs.now) left.old) }
 {
     if is_past_last(left) {
         return Ok(Some(Bytes::new(alloc)));
     }
     match statement {
-        Stmt::Use(used) => in_use(left, alloc, library, refusal, used, scope, levels),
-        Stmt::Wire(wire) => told_at_wire(alloc, refusal, &scope.env, wire),
-        Stmt::If(choice) => in_if(left, alloc, library, refusal, choice, scope, levels),
-        Stmt::For(repeated) => in_for(left, alloc, library, refusal, repeated, scope, levels),
+        Stmt::Use(used) => in_use(
+            left, alloc, library, refusal, used, scope, head, ins, outs, levels,
+        ),
+        Stmt::Wire(wire) => told_at_wire(alloc, refusal, scope, head, ins, outs, wire),
+        Stmt::If(choice) => in_if(
+            left, alloc, library, refusal, choice, scope, head, ins, outs, levels,
+        ),
+        Stmt::For(repeated) => in_for(
+            left, alloc, library, refusal, repeated, scope, head, ins, outs, levels,
+        ),
     }
 }
 
@@ -92,23 +106,30 @@ fn in_if(
     refusal: Refusal,
     choice: &IfStmt,
     scope: &Scope,
+    head: &Env,
+    ins: &[Formal],
+    outs: &[Formal],
     levels: u32,
 ) -> Result<Said, NoMemory>
     requires { LeadToMacros library.now }
     ensures { IfOk result (λ said. unless_said said left.new
-        ≡ chosen_in refusal library.now levels choice.now scope.now left.old) }
+        ≡ chosen_in refusal library.now levels choice.now (site_of scope.now head.now ins.now outs.now) left.old) }
 {
     let Ok(test) = value(&choice.test, &scope.env) else {
         return Ok(None);
     };
     if test != 0 {
         let taken = choice.yes.as_slice();
-        return in_statements(left, alloc, library, refusal, taken, scope, levels);
+        return in_statements(
+            left, alloc, library, refusal, taken, scope, head, ins, outs, levels,
+        );
     }
     match &choice.no {
         Some(other) => {
             let other = other.as_slice();
-            in_statements(left, alloc, library, refusal, other, scope, levels)
+            in_statements(
+                left, alloc, library, refusal, other, scope, head, ins, outs, levels,
+            )
         }
         None => Ok(None),
     }
@@ -123,11 +144,14 @@ fn in_for(
     refusal: Refusal,
     repeated: &ForStmt,
     scope: &Scope,
+    head: &Env,
+    ins: &[Formal],
+    outs: &[Formal],
     levels: u32,
 ) -> Result<Said, NoMemory>
     requires { LeadToMacros library.now }
     ensures { IfOk result (λ said. unless_said said left.new
-        ≡ turns_in refusal library.now levels repeated.now scope.now left.old) }
+        ≡ turns_in refusal library.now levels repeated.now (site_of scope.now head.now ins.now outs.now) left.old) }
 {
     let ends = match loop_ends(repeated, &scope.env) {
         Ok(ends) => ends,
@@ -146,7 +170,9 @@ fn in_for(
         if is_past_last(left) {
             return Ok(Some(Bytes::new(alloc)));
         }
-        let said = in_statements(left, alloc, library, refusal, body, &inner, levels)?;
+        let said = in_statements(
+            left, alloc, library, refusal, body, &inner, head, ins, outs, levels,
+        )?;
         if said.is_some() {
             return Ok(said);
         }
@@ -156,30 +182,9 @@ fn in_for(
     if is_past_last(left) {
         return Ok(Some(Bytes::new(alloc)));
     }
-    in_statements(left, alloc, library, refusal, body, &inner, levels)
-}
-
-/// The names that have values in the body of a macro at a use; nothing where the use is refused.
-fn body_env(
-    alloc: Global,
-    consts: &Env,
-    definition: &MacroDef,
-    used: &UseStmt,
-    env: &Env,
-) -> Result<Option<Env>, NoMemory>
-    ensures { IfOk result (λ body. body
-        ≡ inside_env (inside_at consts.now (macro_of definition.now) env.now (use_of used.now))) }
-{
-    let given = match given_to(alloc, definition, env, used) {
-        Ok(given) => given,
-        Err(Stop::Refused(_)) => return Ok(None),
-        Err(Stop::NoMemory) => return Err(NoMemory),
-    };
-    match inside_of(alloc, consts, definition, &given, used.place) {
-        Ok(inside) => Ok(Some(inside.env)),
-        Err(Stop::Refused(_)) => Ok(None),
-        Err(Stop::NoMemory) => Err(NoMemory),
-    }
+    in_statements(
+        left, alloc, library, refusal, body, &inner, head, ins, outs, levels,
+    )
 }
 
 /// What is told of a use, and else what is found in the body of its macro.
@@ -191,13 +196,16 @@ fn in_use(
     refusal: Refusal,
     used: &UseStmt,
     scope: &Scope,
+    head: &Env,
+    ins: &[Formal],
+    outs: &[Formal],
     levels: u32,
 ) -> Result<Said, NoMemory>
     requires { LeadToMacros library.now }
     ensures { IfOk result (λ said. unless_said said left.new
-        ≡ use_in refusal library.now levels (use_of used.now) scope.now left.old) }
+        ≡ use_in refusal library.now levels (use_of used.now) (site_of scope.now head.now ins.now outs.now) left.old) }
 {
-    let said = told_at_use(alloc, library, refusal, &scope.env, used)?;
+    let said = told_at_use(alloc, library, refusal, scope, head, ins, outs, used)?;
     if said.is_some() {
         return Ok(said);
     }
@@ -210,10 +218,10 @@ fn in_use(
     if levels == 0 {
         return Ok(None);
     }
-    let Some(env) = body_env(alloc, &library.consts, definition, used, &scope.env)? else {
+    let Some(inside) = inside(alloc, &library.consts, definition, used, scope)? else {
         return Ok(None);
     };
-    let inner = Scope::top(alloc, env);
+    let inner = body_scope(alloc, scope, used.label.as_slice(), inside)?;
     in_statements(
         left,
         alloc,
@@ -221,6 +229,9 @@ fn in_use(
         refusal,
         &definition.body,
         &inner,
+        &inner.env,
+        definition.ins.as_slice(),
+        definition.outs.as_slice(),
         levels - 1,
     )
 }
@@ -255,6 +266,9 @@ fn found_with(
         refusal,
         &drawing.body,
         &top,
+        &top.env,
+        &[],
+        &[],
         DEEPEST,
     )?;
     Ok(lines(alloc, said))

@@ -1,9 +1,0 @@
-use Rattle.std.proofs.Common.{◌≡◌, [], drop, map}
-use Rattle.drawing_tree.specs.Tree.{term_of}
-use Rattle.value_help.specs.Named.{named_in_terms}
-use Rattle.value_help.proofs.named.named_in_connection.Given as goal
-
-abbrev pub invariant-terms : goal.invariant-terms
-invariant-terms l =
-    named_in_terms l.env l.named (map term_of (drop l.term-index l.terms))
-    ≡ named_in_terms l.env [] (map term_of l.terms)
