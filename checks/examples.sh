@@ -2,7 +2,7 @@
 # Compares the report, the margins and, where they stand beside it, the notes, the chains and the explanations of each
 # drawing of examples/ with those that stand beside it, and the status with the last line; and in examples/sections/ the
 # reports, and that of all sections together. A drawing of examples/ whose report has faults has chains and explanations,
-# and one without notes beside it has none.
+# and one without notes beside it has none. Beside these answers nothing is said on standard error.
 # Usage: checks/examples.sh [PROGRAM]. Where none is named and none is built it says so and ends with 0.
 . "$(dirname -- "$0")/common.sh"
 begin "${1-}"
@@ -18,6 +18,11 @@ status_of() {
     esac
 }
 
+# silent WORD: nothing was said on standard error, unless the waves do not settle
+silent() {
+    [ "$status" -eq 3 ] || [ ! -s "$work/said" ] || failure "$name: $1: this is said: $(head -n 1 "$work/said")"
+}
+
 for drawing in "$top"/examples/*.scald "$top"/examples/sections/*.scald; do
     name=$(basename -- "$drawing" .scald)
     report=${drawing%.scald}.report
@@ -26,16 +31,18 @@ for drawing in "$top"/examples/*.scald "$top"/examples/sections/*.scald; do
         failure "$name: no report beside it"
         continue
     fi
-    "$program" verify <"$drawing" >"$work/report"
+    "$program" verify <"$drawing" >"$work/report" 2>"$work/said"
     status=$?
+    silent verify
     wanted=$(status_of "$report")
     [ "$status" = "$wanted" ] || failure "$name: status $status in place of $wanted"
     cmp -s "$work/report" "$report" || failure "$name: another report"
 
     # The notes, where there are any.
     notes=${drawing%.scald}.notes
-    "$program" notes <"$drawing" >"$work/notes"
+    "$program" notes <"$drawing" >"$work/notes" 2>"$work/said"
     status=$?
+    silent notes
     if [ -f "$notes" ]; then
         wanted=$(status_of "$notes")
         [ "$status" = "$wanted" ] || failure "$name: notes with status $status in place of $wanted"
@@ -47,8 +54,9 @@ for drawing in "$top"/examples/*.scald "$top"/examples/sections/*.scald; do
     # The margins, and the chains where there are faults.
     margins=${drawing%.scald}.margins
     if [ -f "$margins" ]; then
-        "$program" margins <"$drawing" >"$work/margins"
+        "$program" margins <"$drawing" >"$work/margins" 2>"$work/said"
         status=$?
+        silent margins
         wanted=$(status_of "$margins")
         [ "$status" = "$wanted" ] || failure "$name: margins with status $status in place of $wanted"
         cmp -s "$work/margins" "$margins" || failure "$name: other margins"
@@ -57,8 +65,9 @@ for drawing in "$top"/examples/*.scald "$top"/examples/sections/*.scald; do
     fi
     chains=${drawing%.scald}.chains
     if [ -f "$chains" ]; then
-        "$program" chains <"$drawing" >"$work/chains"
+        "$program" chains <"$drawing" >"$work/chains" 2>"$work/said"
         status=$?
+        silent chains
         wanted=$(status_of "$chains")
         [ "$status" = "$wanted" ] || failure "$name: chains with status $status in place of $wanted"
         cmp -s "$work/chains" "$chains" || failure "$name: other chains"
@@ -67,8 +76,9 @@ for drawing in "$top"/examples/*.scald "$top"/examples/sections/*.scald; do
     fi
     explained=${drawing%.scald}.explained
     if [ -f "$explained" ]; then
-        "$program" explain <"$drawing" >"$work/explained"
+        "$program" explain <"$drawing" >"$work/explained" 2>"$work/said"
         status=$?
+        silent explain
         wanted=$(status_of "$explained")
         [ "$status" = "$wanted" ] || failure "$name: explanations with status $status in place of $wanted"
         cmp -s "$work/explained" "$explained" || failure "$name: other explanations"
@@ -78,7 +88,7 @@ for drawing in "$top"/examples/*.scald "$top"/examples/sections/*.scald; do
 
     # The canonical text draws the same, and is canonical.
     "$program" format <"$drawing" >"$work/text" || failure "$name: no canonical text"
-    "$program" verify <"$work/text" >"$work/report"
+    "$program" verify <"$work/text" >"$work/report" 2>/dev/null
     cmp -s "$work/report" "$report" || failure "$name: another report of its canonical text"
     "$program" format <"$work/text" | cmp -s - "$work/text" || failure "$name: another canonical text"
 done

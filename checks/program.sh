@@ -360,6 +360,15 @@ says "a loop that does not settle" 3 \
         X<2> is driven at 9:3 by pass<1>
         X<1> is driven at 9:3 by pass<0>' "$status"
 
+drawing_of 'late : BUF [1:1] ("X") -> ("A");' 'loop : AND [1:1] ("CK .P2-3", "X") -> ("X");' |
+    "$program" verify rounds=20 >"$work/answer" 2>"$work/said"
+status=$?
+says "a net after a loop that does not settle" 3 \
+    'scald: the net that is named still changes after the last round; unless rounds=N was asked for, a loop leads to it
+    it comes from a loop, each net of which comes from the next:
+        X<0> is driven at 5:1 by loop<0>
+        X<0> is driven at 5:1 by loop<0>' "$status"
+
 # --- runs
 
 short() {

@@ -5,10 +5,13 @@
 . "$(dirname -- "$0")/common.sh"
 begin "${1-}"
 
-# answers WORD STATUS WANT: the program's answer to $work/text, and in $work/said what standard error says
+# answers WORD STATUS WANT: the program's answer to $work/text, and in $work/said what standard error says: nothing but
+# printable bytes, so no colours, and nothing with status 0
 answers() {
     "$program" "$1" <"$work/text" >"$work/out" 2>"$work/said"
     status=$?
+    ! LC_ALL=C grep -q '[^ -~]' "$work/said" || failure "$1: bytes that are not printable on standard error"
+    [ "$2" -ne 0 ] || [ ! -s "$work/said" ] || failure "$1: status 0, and this is said: $(head -n 1 "$work/said")"
     if [ "$status" -ne "$2" ] || { [ -n "$3" ] && ! printf '%s\n' "$3" | cmp -s - "$work/out"; }; then
         failure "$1: status $status in place of $2, '$(head -n 1 "$work/out")' in place of '$3':"
         head -c 400 "$work/text" | sed 's/^/    /'
@@ -340,14 +343,18 @@ second '3 Syntax 5:6' 'DRAWING ROW;' 'IF 1 THEN' 'ELES b2 : BUF [0:0] ("A") -> (
 helps "    'b2' cannot stand here, after 'ELES'" \
     '    is ELSE meant?' \
     '    what may stand here: :'
-second '3 Syntax 5:7' 'DRAWING ROW;' 'IF 1 THEN' 'ELSIF 0 THEN' 'END;' 'END;'
-helps "    '0' cannot stand here, after 'ELSIF'" \
-    '    an IF in an ELSE is written ELSE IF, and each of the two has an END; of its own' \
-    '    what may stand here: :'
-second '3 Syntax 5:6' 'DRAWING ROW;' 'IF 1 THEN' 'EndIf;' 'END;'
-helps "    ';' cannot stand here, after 'EndIf'" \
-    '    what an IF, FOR, MACRO or DRAWING begins ends with END;' \
-    '    what may stand here: :'
+for word in ELSIF ELSEIF elif; do
+    second "3 Syntax 5:$((${#word} + 2))" 'DRAWING ROW;' 'IF 1 THEN' "$word 0 THEN" 'END;' 'END;'
+    helps "    '0' cannot stand here, after '$word'" \
+        '    an IF in an ELSE is written ELSE IF, and each of the two has an END; of its own' \
+        '    what may stand here: :'
+done
+for word in EndIf ENDFOR endmacro; do
+    second "3 Syntax 5:$((${#word} + 1))" 'DRAWING ROW;' 'IF 1 THEN' "$word;" 'END;'
+    helps "    ';' cannot stand here, after '$word'" \
+        '    what an IF, FOR, MACRO or DRAWING begins ends with END;' \
+        '    what may stand here: :'
+done
 joined='    conditions are joined by * and +: (A = 1) * (B = 2) holds where both do, (A = 1) + (B = 2) where one does'
 second '3 Syntax 4:10' 'DRAWING ROW;' 'IF 1 = 1 & 2 = 2 THEN' 'END;' 'END;'
 helps "    '&' cannot stand here, after '1'" \
@@ -612,10 +619,14 @@ drawn() {
     drawing '6 UnknownKind 4:1' "g1 : $1 [0:0] (\"A\", \"B\") -> (\"X\");"
     helps "    '$1' is drawn as $2"
 }
-drawn nand 'AND with a - before its output'
+for name in nand NAND; do
+    drawn "$name" 'AND with a - before its output'
+done
 drawn NOR 'OR with a - before its output'
-drawn xnor 'XOR with a - before its output'
-for name in INV not; do
+for name in xnor XNOR; do
+    drawn "$name" 'XOR with a - before its output'
+done
+for name in INV not NOT; do
     drawn "$name" 'BUF with a - before its input'
 done
 for name in DFF ff; do

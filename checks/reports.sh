@@ -416,4 +416,24 @@ row 'what is unknown, explained by its loop from the net that is named first, an
     'b1 : BUF [1:2] ("B") -> ("A");' 'b2 : BUF [1:3] ("A") -> ("B");' 'WIRE "B" 0:4;' 'w1 : MIN_PULSE_CHK {HIGH=2} ("A");' \
     -- '  its begin, unknown by the loop of B<0>, A<0>:' '    once round the loop it takes up to 9 ticks, and a period has 400' 'FAULTS 1'
 
+# 10240 faults of one cause are one paragraph, within 10 seconds and 64 MB of address space
+trying '10240 faults of one cause'
+checkers=$(awk 'BEGIN { for (i = 1; i <= 40; i++) printf "%sc#%d<0:255>", (i > 1 ? ", " : ""), i }')
+{
+    printf 'SCALD 2 PERIOD 400\nCASE 0\n\nSETUP 20 of %s (line 6): short by 10\n' "$checkers"
+    printf '%s\n' '  what follows is of c#1<0>, the first of 10240' \
+        '  D<0> is stable for 10 ticks up to tick 100, where CK<0> may rise' '  the change:' \
+        '    tick 50: IN<0> may change: "IN .S1-4" (line 4)' \
+        '    tick 90: D<0> may change: b<0> : BUF [10:40] (line 4) takes 40' '  the clock:' \
+        '    tick 100: CK<0> may rise: "CK .P2-3" (line 6)' '' 'kind | checker | short by | from | cases'
+    printf 'SETUP | %s | 10 | IN<0> | 0\nFAULTS 10240\n' "$checkers"
+} >"$work/want"
+printf '%s\n' 'SCALD 2;' 'CLOCK 8 x 50;' 'DRAWING ROW;' 'b : BUF [10:40] ("IN .S1-4"<0:255>) -> ("D"<0:255>);' \
+    'FOR I = 1 TO 40 DO' 'c : SETUP_HOLD_CHK {SETUP=20, HOLD=5} ("CK .P2-3", "D"<0:255>);' 'END;' 'END;' >"$work/text"
+# shellcheck disable=SC3045
+(ulimit -v 65536 && exec timeout 10 "$program" explain <"$work/text" >"$work/out" 2>"$work/said")
+status=$?
+[ "$status" -eq 1 ] || failure "10240 faults of one cause: status $status in place of 1"
+cmp -s "$work/out" "$work/want" || failure '10240 faults of one cause: other explanations'
+
 ended
