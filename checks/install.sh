@@ -179,6 +179,32 @@ fi
 if ! passed_over zsh; then
     run 0 'zsh' zsh -n "$prefix/share/zsh/site-functions/_scald"
     warned 'zsh warns'
+    # a line that is typed, and what is offered after it
+    cat >"$work/rows" <<'END'
+scald |bench;chains;explain;format;install;judge;margins;notes;run;sections;upgrade;verify
+scald v|verify
+scald --u|--unproved
+scald --quiet f|format
+scald verify |faults;rounds=;row.scald;sub folder;vast.scald;waves
+scald verify v|vast.scald
+scald --unproved verify w|waves
+scald format |row.scald;sub folder;vast.scald
+scald upgrade s|sub folder
+scald bench |
+scald run c|case=
+scald judge 0 v|vast.scald
+scald install |sub folder
+END
+    cut -d '|' -f 1 "$work/rows" |
+        zsh -f "$top/checks/offered.zsh" "$prefix/share/zsh/site-functions" "$work/typed" >"$work/offered" 2>&1 ||
+        failure 'zsh offers nothing'
+    number=0
+    while IFS='|' read -r line wanted; do
+        number=$((number + 1))
+        trying "zsh: $line"
+        given=$(sed -n "${number}p" "$work/offered")
+        [ "$given" = "$wanted" ] || failure "zsh offers after $line: $given in place of $wanted"
+    done <"$work/rows"
 fi
 
 # --- highlighting: every token of every example
