@@ -93,7 +93,8 @@ if ! passed_over groff; then
     # one line, with one space between words and none where a word is cut
     tr -s ' \n' '  ' <"$work/out" | sed 's/- //g' >"$work/page"
     for text in 'verify [waves|faults] [rounds=N] [FILE ..]' 'bench N' 'install PREFIX' '--unproved' \
-        '20 The system does not give the arguments' '23 scald install cannot write' 'WAVE net SKEW s v:w v:w ..' \
+        '20 The system does not give the arguments' '23 scald install cannot write' \
+        'The statuses of run and judge:' '11 The trace would have more than 4,000,000 bits' 'WAVE net SKEW s v:w v:w ..' \
         'FAULT WIDTH w1<0> LOW FROM 150 WIDTH 350' "$prefix/share/vim/vimfiles" \
         'c1 : SETUP_HOLD_CHK {SETUP=20, HOLD=10} ("CK .P2-3", "D .S1-4");' 'WAVE D<0> SKEW 0 C:51 S:149 C:200'; do
         has 'the manual' "$work/page" "$text"
@@ -120,8 +121,9 @@ with open(sys.argv[2], "w") as names:
         print(command.form, file=names)
     for option in language.options:
         print(option.name.split(", ")[0], file=names)
-    for status in language.statuses:
-        print(f" {status.name}  ", file=names)
+    for status in language.statuses + language.run_statuses:
+        if status.name.isdigit():
+            print(f" {status.name}  ", file=names)
 with open(sys.argv[3], "w") as places:
     for place in language.installed:
         print(place.name, file=places)

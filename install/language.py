@@ -50,6 +50,7 @@ class Language(NamedTuple):
     commands: tuple
     options: tuple  # Rows, of which a name may have several spellings with commas between
     statuses: tuple
+    run_statuses: tuple  # those of `run` and `judge`
     report_lines: tuple
     report_items: tuple
     fault_lines: tuple
@@ -146,6 +147,7 @@ def read_language(text):
         commands=tuple(command_of(*row, taking_files(words)) for row in commands),
         options=tuple(Row(", ".join(spelled(row[0])), row[1]) for row in own if row[0].startswith("`-")),
         statuses=tuple(Row(*row) for row in table(words, "Status")),
+        run_statuses=tuple(Row(*row) for row in table(section(text, "Runs"), "Status of `run` and `judge`")),
         report_lines=tuple(next(block for block in blocks if "SCALD v" in block).replace("    ", "").splitlines()),
         report_items=tuple(bullets),
         fault_lines=tuple(Row(spelled(row[0])[0], row[1]) for row in table(report, "Line")),

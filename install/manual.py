@@ -55,6 +55,12 @@ def is_before_words(option):
     return option.says.startswith("before the others")
 
 
+def statuses(language):
+    yield from items(language.statuses, " 4")
+    yield from (".PP", marked("The statuses of `run` and `judge`:"))
+    yield from items(language.run_statuses, " 8")
+
+
 def report(language):
     yield from example("\n".join(language.report_lines))
     for item in language.report_items:
@@ -82,7 +88,7 @@ def sections(language, first, first_report, prefix):
     ]
     yield "WORDS", items([(command.form, command.says) for command in language.commands])
     yield "OPTIONS", items(language.options)
-    yield "EXIT STATUS", items(language.statuses, " 4")
+    yield "EXIT STATUS", statuses(language)
     yield "REPORT", report(language)
     yield "FILES", items([(f"{prefix}/{place.name}", place.says) for place in language.installed])
     yield "EXAMPLE", [
