@@ -76,8 +76,8 @@ def sections(language, first, first_report, prefix):
         marked(
             "`scald` checks the timing of a drawing: gates, registers, latches and checkers, with their delays and "
             "with what is known of each input. It evaluates one period of the clock, prints the wave of each net, and "
-            "reports for each constraint the first place where it may be broken. Where it answers `CLEAN`, no run of "
-            "the circuit breaks a constraint."
+            "reports for each constraint the first place where it may be broken. If it answers `CLEAN`, no run of the "
+            "circuit breaks a constraint from the printed tick on, whatever the inputs do within their assertions."
         ),
         ".PP",
         marked(
