@@ -2,7 +2,8 @@
 # Compares the report, the margins and, where they stand beside it, the notes, the chains and the explanations of each
 # drawing of examples/ with those that stand beside it, and the status with the last line; and in examples/sections/ the
 # reports, and that of all sections together. A drawing of examples/ whose report has faults has chains and explanations,
-# and one without notes beside it has none. Beside these answers nothing is said on standard error.
+# and one without notes beside it has none. Beside these answers nothing is said on standard error. And what README.md
+# shows of the first of them is so.
 # Usage: checks/examples.sh [PROGRAM]. Where none is named and none is built it says so and ends with 0.
 . "$(dirname -- "$0")/common.sh"
 begin "${1-}"
@@ -105,6 +106,20 @@ status=$?
 [ "$status" = "$(status_of "$processor.report")" ] || failure "processor: another status: $status"
 cmp -s "$work/report" "$processor.report" || failure "processor: another report"
 cmp -s "$work/said" "$processor.crossings" || failure "processor: other nets that cross"
+
+# README.md shows the first drawing, its report, the fault that it has with another digit, and how that is explained.
+trying README.md
+awk -v folder="$work" '
+    /^## / { on = $0 == "## A drawing and its report" }
+    !on { next }
+    /^    / { print substr($0, 5) >(folder "/shown" (inside ? count : ++count)); inside = 1; next }
+    { inside = 0 }' "$top/README.md"
+"$program" verify <"$work/shown1" | cmp -s - "$work/shown2" || failure 'README.md: another report'
+grep -v '^--' "$top/examples/first.scald" | cmp -s - "$work/shown1" || failure 'README.md: another drawing than first.scald'
+sed 's/"D .S1-4"/"D .S2-4"/' "$work/shown1" >"$work/text"
+"$program" verify <"$work/text" | tail -n 2 | cmp -s - "$work/shown3" || failure 'README.md: another fault'
+"$program" explain <"$work/text" | sed -n '/^SETUP/,/^$/p' | sed '/^$/,$d' | cmp -s - "$work/shown4" ||
+    failure 'README.md: another explanation'
 
 for report in "$top"/examples/*.report "$top"/examples/*.notes "$top"/examples/*.margins "$top"/examples/*.chains "$top"/examples/*.explained \
     "$top"/examples/sections/*.report "$top"/examples/sections/*.margins "$top"/examples/sections/*.crossings; do
