@@ -239,6 +239,17 @@ early '3 Syntax 4:36' 'b1 : BUF [0:0] ("A") -> ("Y"<(1-1*2:3>);'
 helps "    ':' cannot stand here, after '2'" \
     '    what may stand here: ) < > = + - * / !' \
     '    is ) missing here or earlier?'
+early '3 Syntax 4:7' 'IF 1 == 1 THEN' 'END;'
+helps "    '=' cannot stand here, after '='" \
+    '    what may stand here: word number ( -' \
+    "    is '=' one too many here?"
+# (with an arrow in its place, or without it, the statement would say something else)
+early '3 Syntax 4:26' 'a : AND [1:2] ("CK", "D" -> "Q");'
+helps "    '->' cannot stand here, after '\"D\"'" \
+    '    what may stand here: , ) < & !'
+early '3 Syntax 4:5' 'END ELSE;'
+helps "    'ELSE' cannot stand here, after 'END'" \
+    '    what may stand here: ;'
 # (two mistakes: with neither token the statement goes on)
 early '3 Syntax 5:1' 'b1 : BUF [0:0] ("A") -> ("X")' 'b2 BUF [0:0] ("X") -> ("Y");'
 helps "    'b2' cannot stand here, after ')'" \
@@ -371,8 +382,7 @@ helps "    '/' cannot stand here, after ';'" \
 early '3 Syntax 4:22' 'a1 : AND [0:0] ("A", !"EN") -> ("X");'
 helps "    '!' cannot stand here, after ','" \
     '    a - before a name inverts it; a ! stands only after a connection, in the mark !H' \
-    '    what may stand here: "name" ZERO ONE -' \
-    "    is '!' one too many here?"
+    '    what may stand here: "name" ZERO ONE -'
 
 # --- a statement that belongs elsewhere
 # belongs LINE ..: after what stands here and after what, these lines are said
@@ -574,6 +584,15 @@ second '3 Syntax 4:11' 'DRAWING ROW;' 'FOR I = 0 1 DO' 'END;' 'END;'
 helps "    '1' cannot stand here, after '0'" \
     '    what may stand here: TO + - * /' \
     '    is TO missing here?'
+# (what is missing is offered, and not what would take the place of something)
+second '3 Syntax 4:11' 'DRAWING ROW;' 'FOR I = 0 N-1 DO' 'END;' 'END;'
+helps "    'N' cannot stand here, after '0'" \
+    '    what may stand here: TO + - * /' \
+    '    is TO missing here?'
+second '3 Syntax 4:7' 'DRAWING ROW;' 'FOR I IN 0 TO 1 DO' 'END;' 'END;'
+helps "    'IN' cannot stand here, after 'I'" \
+    '    what may stand here: =' \
+    "    is = meant in place of 'IN'?"
 second '3 Syntax 4:11' 'DRAWING ROW;' 'FOR I = 0 UPTO 1 DO' 'END;' 'END;'
 helps "    'UPTO' cannot stand here, after '0'" \
     '    what may stand here: TO + - * /' \

@@ -11,7 +11,8 @@ use Rattle.drawing_grammar.specs.declared.terminal.Terminal.TheVariants as gramm
 use Rattle.syntax_help.specs.declared.sample.Sample.TheVariants.{Word, Scald, Clock, Wire, Pskew, Cskew, Macro, Drawing, Case, If, Then, Else, End, Zero, One, Const, To, Do, Ticks, Hazard, Arrow, Semicolon, Colon, Comma, OpenParenthesis, CloseParenthesis, Less, Greater, OpenBracket, CloseBracket, OpenBrace, CloseBrace, Equals, Plus, Minus, Star, Slash, Ampersand, Exclamation}
 use Rattle.syntax_help.specs.Sample.{spelling}
 use Rattle.syntax_help.specs.Missing.{end_of, is_late, mended}
-use Rattle.syntax_help.specs.Told.{expected_line, meant_end, meant_line, missing_end, missing_line, spare_lines}
+use Rattle.syntax_help.specs.Offered.{may_be_spare}
+use Rattle.syntax_help.specs.Told.{expected_line, meant_end, meant_line, missing_end, missing_line, spare_lines, stand_lines}
 use Rattle.syntax_help.specs.Trial.{next_line, trial}
 
 -- the words
@@ -99,21 +100,21 @@ in_place : meant_line (codes "DO") (Then ∷ []) ≡ codes "    is THEN meant in
 unfolding meant_end
 in_place = refl
 
-one_more : spare_lines true (kind.Symbol 59) (codes ";") [] [] ≡ codes "    is ';' one too many here?\n"
+one_more : spare_lines true (Some 59) (kind.Symbol 59) (codes ";") [] [] ≡ codes "    is ';' one too many here?\n"
 one_more = refl
 
-closed : spare_lines true (kind.Symbol 41) (codes ")") [] [] ≡
+closed : spare_lines true (Some 49) (kind.Symbol 41) (codes ")") [] [] ≡
     codes "    is ')' one too many here, or is ( missing before it?\n"
 closed = refl
 
 -- not where it is needed, or something else is asked for
-needed : spare_lines false (kind.Symbol 59) (codes ";") [] [] ≡ []
+needed : spare_lines false (Some 59) (kind.Symbol 59) (codes ";") [] [] ≡ []
 needed = refl
 
-a_word : spare_lines true kind.Word (codes "b2") [] [] ≡ []
+a_word : spare_lines true (Some 32) kind.Word (codes "b2") [] [] ≡ []
 a_word = refl
 
-missing_one : spare_lines true kind.Name (codes "\"B\"") (Comma ∷ []) [] ≡ []
+missing_one : spare_lines true (Some 32) kind.Name (codes "\"B\"") (Comma ∷ []) [] ≡ []
 missing_one = refl
 
 -- ---- the text that is read: the statement A B; with a comma before B
@@ -135,3 +136,71 @@ no_end = refl
 
 late_end : end_of (after_bytes 262145 ∷ record { kind = kind.Symbol 59; place = record { line = 2; col = 2 }; start = 262145; end = 262146 } ∷ []) ≡ None
 late_end = refl
+
+-- ---- what is not offered, since the statement would say something else
+
+-- an = of ==, and one that stands apart; the second signs of /=, =< and **
+equals_twice : may_be_spare (Some 61) (kind.Symbol 61) ≡ true
+equals_twice = refl
+
+equals_apart : may_be_spare (Some 32) (kind.Symbol 61) ≡ true
+equals_apart = refl
+
+unequal : may_be_spare (Some 47) (kind.Symbol 61) ≡ false
+unequal = refl
+
+at_most : may_be_spare (Some 61) (kind.Symbol 60) ≡ false
+at_most = refl
+
+power : may_be_spare (Some 42) (kind.Symbol 42) ≡ false
+power = refl
+
+-- a - and a !, and a brace in place of an END; an arrow may be
+minus : may_be_spare (Some 32) (kind.Symbol 45) ≡ false
+minus = refl
+
+exclamation : may_be_spare (Some 32) (kind.Symbol 33) ≡ false
+exclamation = refl
+
+brace : may_be_spare (Some 10) (kind.Symbol 125) ≡ false
+brace = refl
+
+arrow : may_be_spare (Some 32) kind.Arrow ≡ true
+arrow = refl
+
+-- UPTO is TO, and DOWNTO is not
+upto : stand_lines (codes "0 UPTO 3") (token_of kind.Word 2 6) [] (To ∷ []) ≡
+    codes "    is TO meant in place of 'UPTO'?\n"
+unfolding meant_end
+upto = refl
+
+downto : stand_lines (codes "3 downto 0") (token_of kind.Word 2 8) [] (To ∷ []) ≡ []
+downto = refl
+
+-- what is missing leaves the N
+before_n : stand_lines (codes "0 N-1") (token_of kind.Word 2 3) (To ∷ []) (To ∷ []) ≡ []
+before_n = refl
+
+after_end : stand_lines (codes "END ELSE") (token_of kind.Word 4 8) [] (Semicolon ∷ []) ≡ []
+after_end = refl
+
+before_outputs : stand_lines (codes "\"D\" -> \"Q\"") (token_of kind.Arrow 4 6) [] (Comma ∷ Ampersand ∷ []) ≡ []
+before_outputs = refl
+
+-- the second sign of <>, and a bracket
+other_than : stand_lines (codes "I <> 2") (token_of (kind.Symbol 62) 3 4) [] (Equals ∷ []) ≡ []
+other_than = refl
+
+bracket : stand_lines (codes "{K=1> ") (token_of (kind.Symbol 62) 4 5) [] (CloseBrace ∷ []) ≡
+    codes "    is } meant in place of '>'?\n"
+unfolding meant_end
+bracket = refl
+
+-- an operand is no < or >, and may be an =
+after_not : stand_lines (codes "NOT I = 2") (token_of kind.Word 4 5) [] (Less ∷ Greater ∷ []) ≡ []
+after_not = refl
+
+from_in : stand_lines (codes "I IN 0") (token_of kind.Word 2 4) [] (Equals ∷ []) ≡
+    codes "    is = meant in place of 'IN'?\n"
+unfolding meant_end
+from_in = refl

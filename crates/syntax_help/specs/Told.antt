@@ -1,11 +1,10 @@
 -- What is said of the tokens that may stand at a place.
-use Rattle.std.specs.Prelude.{◌≡◌, ℕ, Bool, true, false, List, [], ◌∷◌, ◌++◌, take, codes, if◌then◌else◌}
+use Rattle.std.specs.Prelude.{◌≡◌, ℕ, Bool, true, false, List, [], ◌∷◌, ◌++◌, take, codes, Option, if◌then◌else◌}
 use Rattle.std.specs.List.{concat, flat_map, list_any}
 use Rattle.scald_base.specs.declared.refusal.Place.{Place}
 use Rattle.scald_base.specs.declared.refusal.Refusal.{Refusal}
 use Rattle.scald_lex.specs.declared.token.Token.{Token}
 use Rattle.scald_lex.specs.declared.token.TokenKind.{TokenKind}
-use Rattle.scald_lex.specs.declared.token.TokenKind.TheVariants.{Arrow, Symbol}
 use Rattle.scald_lex.specs.Tokens.{AreTokens, IsRefused}
 use Rattle.help_text.specs.Statement.{from_place, spelled}
 use Rattle.help_text.specs.Text.{quoted}
@@ -14,6 +13,7 @@ use Rattle.syntax_help.specs.declared.sample.Sample.{Sample}
 use Rattle.syntax_help.specs.declared.sample.Sample.TheVariants.{CloseParenthesis, Plus}
 use Rattle.syntax_help.specs.Expected.{AreChosen, IsListed, Says}
 use Rattle.syntax_help.specs.Missing.{GoesOn, Mends, end_of, is_late}
+use Rattle.syntax_help.specs.Offered.{byte_before, may_be_meant, may_be_spare}
 use Rattle.syntax_help.specs.Sample.{called, samples}
 
 abbrev pub sample_text : Sample → List ℕ
@@ -65,25 +65,25 @@ abbrev pub meant_line : List ℕ → List Sample → List ℕ
 meant_line token [] = []
 meant_line token (s ∷ ss) = meant_text token (s ∷ ss)
 
+-- the same where none is missing before the token: a missing one leaves all that is written
+abbrev pub stand_lines : List ℕ → Token → List Sample → List Sample → List ℕ
+stand_lines text t (s ∷ ss) meant = []
+stand_lines text t [] meant =
+    if may_be_meant text t meant then meant_line (spelled text t) meant else []
+
 abbrev pub spare_text : TokenKind → List ℕ
 spare_text kind =
     if is_symbol 41 kind then codes " one too many here, or is ( missing before it?\n"
     else codes " one too many here?\n"
 
--- a symbol: without a word, a number or a name a statement may go on as one that is not meant
-abbrev pub is_sign : TokenKind → Bool
-is_sign Arrow = true
-is_sign (Symbol b) = true
-is_sign kind = false
-
-abbrev pub spare_line : TokenKind → List ℕ → List ℕ
-spare_line kind token =
-    if is_sign kind then codes "    is " ++ quoted token ++ spare_text kind else []
+abbrev pub spare_line : Option ℕ → TokenKind → List ℕ → List ℕ
+spare_line before kind token =
+    if may_be_spare before kind then codes "    is " ++ quoted token ++ spare_text kind else []
 
 -- whether the token is one too many, where none is missing, or meant in place of it
-abbrev pub spare_lines : Bool → TokenKind → List ℕ → List Sample → List Sample → List ℕ
-spare_lines true kind token [] [] = spare_line kind token
-spare_lines spare kind token missing meant = []
+abbrev pub spare_lines : Bool → Option ℕ → TokenKind → List ℕ → List Sample → List Sample → List ℕ
+spare_lines true before kind token [] [] = spare_line before kind token
+spare_lines spare before kind token missing meant = []
 
 -- The tokens that may stand after the front of a text, which ends at the place, and with which of
 -- them before the token that stands there, or in place of it, the statement goes on; or whether it
@@ -98,7 +98,8 @@ pub record IsToldAfter (text front : List ℕ) (place : Place) (t : Token) (ts :
   pub spare : Bool
   pub leaves : Says (GoesOn text front [] t.end (end_of ts)) spare
   pub are : bytes ≡ expected_line found ++ missing_line found missing
-      ++ meant_line (spelled text t) meant ++ spare_lines spare t.kind (spelled text t) missing meant
+      ++ stand_lines text t missing meant
+      ++ spare_lines spare (byte_before text t) t.kind (spelled text t) missing meant
 
 -- of a token and those after it
 abbrev pub IsToldUnless : Bool → List ℕ → Place → Token → List Token → List ℕ → Type 0

@@ -4,14 +4,16 @@ ghost use Rattle.std.specs.Prelude.{◌≡◌, ◌++◌, ◌<◌, ◌^◌, lengt
 ghost use Rattle.std.specs.List.{flat_map, list_any};
 ghost use Rattle.help_text.specs.Statement.{spelled};
 ghost use Rattle.syntax_help.specs.Missing.{is_late};
-ghost use Rattle.syntax_help.specs.Told.{IsTold, IsToldAfter, IsToldOf, IsToldUnless, earlier_text, either_text, expected_line, is_plus, meant_end, meant_line, meant_text, missing_end, missing_line, missing_text, or_text, is_sign, sample_text, spare_line, spare_lines, spare_text};
+ghost use Rattle.syntax_help.specs.Offered.{byte_before};
+ghost use Rattle.syntax_help.specs.Told.{IsTold, IsToldAfter, IsToldOf, IsToldUnless, earlier_text, either_text, expected_line, is_plus, meant_end, meant_line, meant_text, missing_end, missing_line, missing_text, or_text, sample_text, spare_line, spare_lines, spare_text, stand_lines};
 
 use crate::expected::expected;
 use crate::missing::{end_from, end_of, goes_on, is_late, mending};
+use crate::offered::{byte_before, may_be_meant, may_be_spare};
 use crate::sample::Sample;
 use help_text::{Part, add_parts, from_place, front, is_symbol, spelled};
 use scald_base::{Bytes, NoMemory, Place, Stop};
-use scald_lex::{Token, TokenKind, tokens};
+use scald_lex::{Token, tokens};
 use std::alloc::Global;
 
 /// One token that may stand.
@@ -169,6 +171,23 @@ fn add_meant(out: &mut Bytes, token: &[u8], meant: &[Sample]) -> Result<(), NoMe
     }
 }
 
+/// The same of a token, where none is missing before it, and where it may be meant otherwise.
+fn add_stand(
+    out: &mut Bytes,
+    text: &[u8],
+    token: Token,
+    missing: &[Sample],
+    meant: &[Sample],
+) -> Result<(), NoMemory>
+    ensures { OnOk result (out.new ≡ out.old ++ stand_lines text.now token missing.now meant.now) }
+{
+    if missing.is_empty() && may_be_meant(text, token, meant) {
+        add_meant(out, spelled(text, token), meant)
+    } else {
+        Ok(())
+    }
+}
+
 /// What is asked of a token that may be one too many.
 fn spare_text(token: Token) -> &'static [u8]
     ensures { result.now ≡ spare_text token.kind }
@@ -180,18 +199,12 @@ fn spare_text(token: Token) -> &'static [u8]
     }
 }
 
-/// Whether a token is a symbol.
-fn is_sign(token: Token) -> bool
-    ensures { result ≡ is_sign token.kind }
-{
-    matches!(token.kind, TokenKind::Arrow | TokenKind::Symbol(_))
-}
-
 /// The question whether a token is one too many.
 fn add_spare_line(out: &mut Bytes, text: &[u8], token: Token) -> Result<(), NoMemory>
-    ensures { OnOk result (out.new ≡ out.old ++ spare_line token.kind (spelled text.now token)) }
+    ensures { OnOk result (out.new ≡ out.old
+        ++ spare_line (byte_before text.now token) token.kind (spelled text.now token)) }
 {
-    if !is_sign(token) {
+    if !may_be_spare(byte_before(text, token), token.kind) {
         return Ok(());
     }
     add_parts(
@@ -213,7 +226,8 @@ fn add_spare(
     missing: &[Sample],
     meant: &[Sample],
 ) -> Result<(), NoMemory>
-    ensures { OnOk result (out.new ≡ out.old ++ spare_lines spare token.kind (spelled text.now token) missing.now meant.now) }
+    ensures { OnOk result (out.new ≡ out.old ++ spare_lines spare (byte_before text.now token) token.kind
+        (spelled text.now token) missing.now meant.now) }
 {
     if spare && missing.is_empty() && meant.is_empty() {
         add_spare_line(out, text, token)
@@ -246,7 +260,7 @@ fn told(
     let mut out = Bytes::new(alloc);
     add_expected(&mut out, found.as_slice())?;
     add_missing(&mut out, found.as_slice(), missing.as_slice())?;
-    add_meant(&mut out, spelled(text, token), meant.as_slice())?;
+    add_stand(&mut out, text, token, missing.as_slice(), meant.as_slice())?;
     add_spare(
         &mut out,
         text,
