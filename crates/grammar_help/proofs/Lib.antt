@@ -1,3 +1,4 @@
 pub mod Said
 pub mod Examples
 pub mod ExamplesEnds
+pub mod ExamplesSyntax
