@@ -428,19 +428,24 @@ text '4 BadHeader 2:1' 'SCALD 2;' 'CLOCK 8 x 0;' 'DRAWING ROW;' 'END;'
 text '4 BadHeader 2:1' 'SCALD 1;' 'CLOCK 8 x 0;' 'DRAWING ROW;' 'END;'
 helps '    CLOCK u x k has u and k of at least 1, and a period of u times k ticks, from 2 to 4096' \
     '    8 x 0 are fewer than 2 ticks'
-# clock LINE: beside the bounds of CLOCK, this line is said
+# clock LINE ..: beside the bounds of CLOCK, these lines are said
 clock() {
-    helps '    CLOCK u x k has u and k of at least 1, and a period of u times k ticks, from 2 to 4096' "$1"
+    helps '    CLOCK u x k has u and k of at least 1, and a period of u times k ticks, from 2 to 4096' "$@"
 }
 text '4 BadHeader 2:1' 'SCALD 1;' 'CLOCK 1 x 1;' 'DRAWING ROW;' 'END;'
 clock '    1 x 1 are fewer than 2 ticks'
 text '4 BadHeader 2:1' 'SCALD 1;' 'CLOCK 4097 x 1;' 'DRAWING ROW;' 'END;'
-clock '    4097 is more than 4096, by 1'
+clock '    4097 x 1 are 4097 ticks, 1 more than 4096'
 text '4 BadHeader 2:1' 'SCALD 1;' 'CLOCK 1 x 4098;' 'DRAWING ROW;' 'END;'
-clock '    4098 is more than 4096, by 2'
+clock '    1 x 4098 are 4098 ticks, 2 more than 4096'
 text '4 BadHeader 2:1' 'SCALD 1;' 'CLOCK 8 x 600;' 'DRAWING ROW;' 'END;'
-helps '    CLOCK u x k has u and k of at least 1, and a period of u times k ticks, from 2 to 4096' \
-    '    4800 is more than 4096, by 704'
+clock '    8 x 600 are 4800 ticks, 704 more than 4096' '    with 8 units a unit has at most 512 ticks'
+text '4 BadHeader 2:1' 'SCALD 1;' 'CLOCK 8 x 5000;' 'DRAWING ROW;' 'END;'
+clock '    8 x 5000 are 40000 ticks, 35904 more than 4096' '    with 8 units a unit has at most 512 ticks'
+text '4 BadHeader 2:1' 'SCALD 1;' 'CLOCK 5000 x 8;' 'DRAWING ROW;' 'END;'
+clock '    5000 x 8 are 40000 ticks, 35904 more than 4096'
+text '4 BadHeader 2:1' 'SCALD 1;' 'CLOCK 3 x 9223372036854775807;' 'DRAWING ROW;' 'END;'
+clock '    3 x 9223372036854775807 are more than 18446744073709551615 ticks' '    with 3 units a unit has at most 1365 ticks'
 text '4 BadHeader 3:1' 'SCALD 1;' 'CLOCK 8 x 50;' 'WIRE 2:1;' 'DRAWING ROW;' 'END;'
 helps '    WIRE a:b has 0 <= a <= b <= 4095' \
     '    the least, 2, is more than the greatest, 1'

@@ -1,5 +1,5 @@
 -- Which number of a header statement is out of its bounds, and by how much.
-use Rattle.std.specs.Prelude.{ℕ, ◌*◌, ◌&&◌, ◌||◌, ◌==◌, nat_lt, List, [], ◌∷◌, ◌++◌, codes, decimal, if◌then◌else◌}
+use Rattle.std.specs.Prelude.{ℕ, ◌-◌, ◌*◌, ◌/◌, ◌^◌, ◌&&◌, ◌||◌, ◌==◌, nat_le, nat_lt, List, [], ◌∷◌, ◌++◌, codes, decimal, if◌then◌else◌}
 use Rattle.std.specs.Str.{bytes_eq}
 use Rattle.scald_lex.specs.declared.token.Token.{Token}
 use Rattle.help_text.specs.Statement.{spelled}
@@ -11,13 +11,37 @@ abbrev pub fewer_line : ℕ → ℕ → List ℕ
 fewer_line units ticks =
     line (codes "    " ∷ decimal units ∷ codes " x " ∷ decimal ticks ∷ codes " are fewer than 2 ticks" ∷ [])
 
+-- the ticks of a period that is too long, and by how many
+unfoldable pub long_line : ℕ → ℕ → List ℕ
+long_line units ticks = line (
+    codes "    " ∷ decimal units ∷ codes " x " ∷ decimal ticks ∷ codes " are " ∷ decimal (units * ticks)
+    ∷ codes " ticks, " ∷ decimal (units * ticks - 4096) ∷ codes " more than 4096" ∷ [])
+
+-- how many ticks each of several units may have, where it may have any
+unfoldable pub unit_line : ℕ → List ℕ
+unit_line units =
+    if nat_le units 1 || nat_lt 4096 units then []
+    else line (
+    codes "    with " ∷ decimal units ∷ codes " units a unit has at most " ∷ decimal (4096 / units)
+    ∷ codes " ticks" ∷ [])
+
+-- where 64 bits do not hold the ticks
+unfoldable pub huge_line : ℕ → ℕ → List ℕ
+huge_line units ticks = line (
+    codes "    " ∷ decimal units ∷ codes " x " ∷ decimal ticks
+    ∷ codes " are more than 18446744073709551615 ticks" ∷ [])
+
+abbrev pub long_lines : ℕ → ℕ → List ℕ
+long_lines units ticks =
+    if nat_le (units * ticks) 4096 then []
+    else if nat_lt (units * ticks) (2 ^ 64) then long_line units ticks ++ unit_line units
+    else huge_line units ticks ++ unit_line units
+
 -- by units and ticks
 abbrev pub period_lines : ℕ → ℕ → List ℕ
 period_lines units ticks =
     if units == 0 || (ticks == 0 || (units == 1 && ticks == 1)) then fewer_line units ticks
-    else if nat_lt 4096 units then over_line units 4096
-    else if nat_lt 4096 ticks then over_line ticks 4096
-    else over_line (units * ticks) 4096
+    else long_lines units ticks
 
 abbrev pub skew_lines : ℕ → ℕ → List ℕ
 skew_lines early late = over_line early 4095 ++ over_line late 4095

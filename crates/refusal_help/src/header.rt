@@ -2,10 +2,10 @@
 //!
 //! Each function puts lines at the end of the bytes. Its one error is that memory ran out.
 
-ghost use Rattle.std.specs.Prelude.{◌≡◌, ◌++◌, OnOk};
-ghost use Rattle.refusal_help.specs.Header.{bounds_lines, fewer_line, header_bounds, number_lines, period_lines, skew_lines, header_lines, header_note};
+ghost use Rattle.std.specs.Prelude.{◌≡◌, ◌*◌, ◌++◌, ◌<◌, OnOk};
+ghost use Rattle.refusal_help.specs.Header.{bounds_lines, fewer_line, header_bounds, header_lines, header_note, huge_line, long_line, long_lines, number_lines, period_lines, skew_lines, unit_line};
 
-use help_text::{Part, add_line, number_of, product, spelled};
+use help_text::{Part, add_line, number_of, spelled};
 use scald_base::{Bytes, NoMemory, same_bytes};
 use scald_lex::Token;
 use statement_help::{add_order, add_over};
@@ -26,18 +26,90 @@ fn add_fewer(out: &mut Bytes, units: u64, ticks: u64) -> Result<(), NoMemory>
     )
 }
 
+/// Units and ticks of a period that has so many ticks, which are too many.
+#[tactic(auto, unfolding(crate::specs::Header::long_line))]
+fn add_long(out: &mut Bytes, units: u64, ticks: u64, period: u64) -> Result<(), NoMemory>
+    requires is { period ≡ units * ticks }
+    requires long { 4096 < period }
+    ensures { OnOk result (out.new ≡ out.old ++ long_line units ticks) }
+{
+    add_line(
+        out,
+        &[
+            Part::Text(b"    "),
+            Part::Number(units),
+            Part::Text(b" x "),
+            Part::Number(ticks),
+            Part::Text(b" are "),
+            Part::Number(period),
+            Part::Text(b" ticks, "),
+            Part::Number(period - 4096),
+            Part::Text(b" more than 4096"),
+        ],
+    )
+}
+
+/// How many ticks a unit may have where there are so many units.
+#[tactic(auto, unfolding(crate::specs::Header::unit_line))]
+fn add_unit(out: &mut Bytes, units: u64) -> Result<(), NoMemory>
+    ensures { OnOk result (out.new ≡ out.old ++ unit_line units) }
+{
+    if units <= 1 || 4096 < units {
+        return Ok(());
+    }
+    add_line(
+        out,
+        &[
+            Part::Text(b"    with "),
+            Part::Number(units),
+            Part::Text(b" units a unit has at most "),
+            Part::Number(4096 / units),
+            Part::Text(b" ticks"),
+        ],
+    )
+}
+
+/// Units and ticks of a period that has more ticks than 64 bits hold.
+#[tactic(auto, unfolding(crate::specs::Header::huge_line))]
+fn add_huge(out: &mut Bytes, units: u64, ticks: u64) -> Result<(), NoMemory>
+    ensures { OnOk result (out.new ≡ out.old ++ huge_line units ticks) }
+{
+    add_line(
+        out,
+        &[
+            Part::Text(b"    "),
+            Part::Number(units),
+            Part::Text(b" x "),
+            Part::Number(ticks),
+            Part::Text(b" are more than 18446744073709551615 ticks"),
+        ],
+    )
+}
+
+/// Units and ticks of a period that is too long.
+fn add_long_lines(out: &mut Bytes, units: u64, ticks: u64) -> Result<(), NoMemory>
+    ensures { OnOk result (out.new ≡ out.old ++ long_lines units ticks) }
+{
+    match units.checked_mul(ticks) {
+        Some(period) => {
+            if period <= 4096 {
+                return Ok(());
+            }
+            add_long(out, units, ticks, period)?;
+        }
+        None => add_huge(out, units, ticks)?,
+    }
+    add_unit(out, units)
+}
+
 /// Units and ticks of a period that is too short or too long.
 fn add_period(out: &mut Bytes, units: u64, ticks: u64) -> Result<(), NoMemory>
     ensures { OnOk result (out.new ≡ out.old ++ period_lines units ticks) }
 {
     if units == 0 || ticks == 0 || units == 1 && ticks == 1 {
         add_fewer(out, units, ticks)
-    } else if units > 4096 {
-        add_over(out, units, 4096)
-    } else if ticks > 4096 {
-        add_over(out, ticks, 4096)
     } else {
-        add_over(out, product(units, ticks), 4096)
+        add_long_lines(out, units, ticks)
     }
 }
 
