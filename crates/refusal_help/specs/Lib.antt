@@ -1,5 +1,7 @@
 pub mod Advice
 pub mod Header
+pub mod CallForm
+pub mod CallReason
 pub mod CallWord
 pub mod Deep
 pub mod Explained

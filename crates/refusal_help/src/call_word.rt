@@ -1,13 +1,11 @@
-//! Words of a call that are nearly those of a form.
+//! The words of a call that a form has, and which one a word nearly is.
 
-ghost use Rattle.std.specs.Prelude.{◌≡◌, ◌++◌, IfOk, None, OnOk, Some, slice_get};
-ghost use Rattle.std.specs.Option.{option_copied};
+ghost use Rattle.std.specs.Prelude.{◌≡◌};
 ghost use Rattle.std.specs.List.{find};
-ghost use Rattle.refusal_help.specs.CallWord.{after_meant, before_meant, is_nearly, line_of, meant_at, meant_text, word_before, word_of, words_line};
+ghost use Rattle.refusal_help.specs.CallWord.{cases, commands, is_nearly, limits, options, word_of};
 
-use help_text::{Part, add_line, is_near};
-use scald_base::{Bytes, NoMemory, Words, same_bytes};
-use std::alloc::Global;
+use help_text::is_near;
+use scald_base::same_bytes;
 
 /// A word that a form has: what is asked for, and then how.
 #[derive(Clone, Copy)]
@@ -44,17 +42,12 @@ const COMMANDS: [CallWord; 11] = [
     CallWord::Bench,
 ];
 
-/// The words that may follow.
-const OPTIONS: [CallWord; 4] = [
-    CallWord::Waves,
-    CallWord::Faults,
-    CallWord::Rounds,
-    CallWord::Case,
-];
+/// The words that may follow `verify`.
+const OPTIONS: [CallWord; 3] = [CallWord::Waves, CallWord::Faults, CallWord::Rounds];
 
 impl CallWord {
     /// How it is written.
-    fn word(self) -> &'static [u8]
+    pub fn word(self) -> &'static [u8]
         ensures { result.now ≡ word_of self }
     {
         match self {
@@ -90,144 +83,30 @@ fn near_among(call_words: &[CallWord], word: &[u8]) -> Option<CallWord>
     None
 }
 
-/// The word that may be meant by the one with this number.
-fn meant_at(number: u32, word: &[u8]) -> Option<CallWord>
-    ensures { result ≡ meant_at number word.now }
+/// The word that a form begins with, where a word nearly is one.
+pub fn near_command(word: &[u8]) -> Option<CallWord>
+    ensures { result ≡ find (is_nearly word.now) commands }
 {
-    if number == 0 {
-        near_among(&COMMANDS, word)
-    } else {
-        near_among(&OPTIONS, word)
-    }
+    near_among(&COMMANDS, word)
 }
 
-/// What stands before the word that may be meant.
-fn before_meant(meant: Option<CallWord>) -> &'static [u8]
-    ensures { result.now ≡ before_meant meant }
+/// The word that may follow `verify`, where a word nearly is one.
+pub fn near_option(word: &[u8]) -> Option<CallWord>
+    ensures { result ≡ find (is_nearly word.now) options }
 {
-    match meant {
-        Some(_) => b": is ",
-        None => b"",
-    }
+    near_among(&OPTIONS, word)
 }
 
-/// The word that may be meant.
-fn meant_text(meant: Option<CallWord>) -> &'static [u8]
-    ensures { result.now ≡ meant_text meant }
+/// The word that may follow `verify waves`, where a word nearly is it.
+pub fn near_limit(word: &[u8]) -> Option<CallWord>
+    ensures { result ≡ find (is_nearly word.now) limits }
 {
-    match meant {
-        Some(call_word) => call_word.word(),
-        None => b"",
-    }
+    near_among(&[CallWord::Rounds], word)
 }
 
-/// What stands after the word that may be meant.
-fn after_meant(meant: Option<CallWord>) -> &'static [u8]
-    ensures { result.now ≡ after_meant meant }
+/// The word that may follow `run T SEED`, where a word nearly is it.
+pub fn near_case(word: &[u8]) -> Option<CallWord>
+    ensures { result ≡ find (is_nearly word.now) cases }
 {
-    match meant {
-        Some(_) => b" meant?",
-        None => b"",
-    }
-}
-
-/// A word that no form begins with.
-fn add_first(out: &mut Bytes, number: u32, word: &[u8]) -> Result<(), NoMemory>
-    ensures { OnOk result (out.new ≡ out.old ++ line_of number None (Some word.now)) }
-{
-    let meant = meant_at(number, word);
-    add_line(
-        out,
-        &[
-            Part::Text(b"scald: "),
-            Part::Quoted(word),
-            Part::Text(b" is none of its words"),
-            Part::Text(before_meant(meant)),
-            Part::Text(meant_text(meant)),
-            Part::Text(after_meant(meant)),
-        ],
-    )
-}
-
-/// A word that no form has after those before it.
-fn add_later<'a>(
-    out: &mut Bytes,
-    number: u32,
-    last: &'a [u8],
-    word: &'a [u8],
-) -> Result<(), NoMemory>
-    ensures { OnOk result (out.new ≡ out.old ++ line_of number (Some last.now) (Some word.now)) }
-{
-    let meant = meant_at(number, word);
-    add_line(
-        out,
-        &[
-            Part::Text(b"scald: "),
-            Part::Quoted(word),
-            Part::Text(b" cannot come after "),
-            Part::Quoted(last),
-            Part::Text(before_meant(meant)),
-            Part::Text(meant_text(meant)),
-            Part::Text(after_meant(meant)),
-        ],
-    )
-}
-
-/// A word that is missing.
-fn add_missing(out: &mut Bytes, number: u32, last: &[u8]) -> Result<(), NoMemory>
-    ensures { OnOk result (out.new ≡ out.old ++ line_of number (Some last.now) None) }
-{
-    add_line(
-        out,
-        &[
-            Part::Text(b"scald: a word is missing after "),
-            Part::Quoted(last),
-        ],
-    )
-}
-
-/// The word of this number.
-fn word_at(words: &Words, number: u32) -> Option<&[u8]>
-    ensures { option_copied result ≡ slice_get words.now number }
-{
-    match words.get(number as usize) {
-        Some(word) => Some(word.as_slice()),
-        None => None,
-    }
-}
-
-/// The word before the one of this number.
-fn word_before(words: &Words, number: u32) -> Option<&[u8]>
-    ensures { option_copied result ≡ word_before words.now number }
-{
-    match number.checked_sub(1) {
-        Some(last) => word_at(words, last),
-        None => None,
-    }
-}
-
-/// What is wrong with the word of this number.
-fn add_words(out: &mut Bytes, words: &Words, number: u32) -> Result<(), NoMemory>
-    ensures { OnOk result (out.new ≡ out.old ++ words_line words.now number) }
-{
-    match word_before(words, number) {
-        None => match word_at(words, number) {
-            None => Ok(()),
-            Some(word) => add_first(out, number, word),
-        },
-        Some(last) => match word_at(words, number) {
-            None => add_missing(out, number, last),
-            Some(word) => add_later(out, number, last, word),
-        },
-    }
-}
-
-/// What is wrong with the word of this number, from 0, where no form begins with the words up to
-/// it: it is another, or it is missing. The one error is that memory ran out.
-pub fn explain_words(alloc: Global, words: &Words, number: u32) -> Result<Bytes, NoMemory>
-    ensures { IfOk result (λ bytes. bytes ≡ words_line words.now number) }
-{
-    let mut out = Bytes::new(alloc);
-    add_words(&mut out, words, number)?;
-    Ok(out)
+    near_among(&[CallWord::Case], word)
 }
