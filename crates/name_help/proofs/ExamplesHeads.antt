@@ -9,7 +9,7 @@ use Rattle.help_text.specs.Assign.{begins_assign, ends_assign}
 use Rattle.name_help.specs.MacroHead.{default_line, formal_line, is_strange, macro_lines, strange_default, strange_range}
 use Rattle.name_help.specs.NearName.{leads}
 use Rattle.name_help.specs.Unknown.{ends_values, is_known, is_value}
-use Rattle.name_help.specs.UnknownName.{constants_note, known_note}
+use Rattle.name_help.specs.UnknownName.{around_note, constants_note, known_note}
 
 -- a token of a text on one line
 abbrev at : TokenKind → ℕ → ℕ → Token
@@ -47,7 +47,8 @@ abbrev text : List ℕ → List ℕ
 text given = codes "MACRO M {N=4,D=N*5} (\"A\"<0:K>);u : M {" ++ (given ++ codes "=2} ();")
 
 -- no parameter is known in the default of D
-in_default : strange_default (text (codes "N")) (head_on 0) (statement 31) (name_on 0) ≡ Some (letter 13, letter 15)
+in_default : strange_default (text (codes "N")) (head_on 0) (statement 31) (name_on 0) ≡
+    Some (letter 13, letter 15)
 unfolding begins_assign ends_assign is_strange is_value
 in_default = refl
 
@@ -84,10 +85,32 @@ told_range : macro_lines (text (codes "D")) [] (head_on 0) (statement 31) ≡
 unfolding begins_assign digits ends_assign ends_values formal_line is_known is_strange is_value leads
 told_range = refl
 
+-- with the constant that the word nearly is
+default_meant : macro_lines (codes "CONST n=1;" ++ text (codes "N")) [] constant (statement 41) ≡
+    codes "    the default of 'D' names 'N' at 1:26, and a default may name constants alone:\n" ++
+    (codes "    CONST n=1;MACRO M {N=4,D=N*5} (\"A\"<0:K>);u : M {N=2} ();\n    " ++ (replicate 25 32 ++ codes "^\n    is n meant?\n"))
+unfolding begins_assign default_line digits ends_assign ends_values is_known is_strange is_value leads
+default_meant = refl
+
+range_meant : macro_lines (codes "CONST k=1;" ++ text (codes "D")) [] constant (statement 41) ≡
+    codes "    a formal's range names 'K' at 1:38, which is neither a constant nor a parameter of the macro:\n" ++
+    (codes "    CONST k=1;MACRO M {N=4,D=N*5} (\"A\"<0:K>);u : M {D=2} ();\n    " ++ (replicate 37 32 ++ codes "^\n    is k meant?\n"))
+unfolding begins_assign digits ends_assign ends_values formal_line is_known is_strange is_value leads
+range_meant = refl
+
+-- the third token of a use is a macro's name, and of no other statement
+no_use : macro_lines (text (codes "N")) (codes "note") (head_on 0) (letter 31 ∷ symbol 61 33 ∷ letter 35 ∷ []) ≡ codes "note"
+no_use = refl
+
 -- no macro is used
-no_macro : macro_lines (text (codes "K")) (codes "note") (statement 31) (statement 31) ≡ codes "note"
+no_macro : macro_lines (text (codes "K")) (codes "note") (statement 31) (statement 31) ≡
+    codes "note"
 no_macro = refl
 
 -- parameters and variables are known in no constant
 constants : known_note (codes "CONST N=1;") constant ≡ constants_note
 constants = refl
+
+-- CONST before a colon is a label
+label : known_note (codes "CONST : M") (at Word 0 5 ∷ symbol 58 6 ∷ letter 8 ∷ []) ≡ around_note
+label = refl

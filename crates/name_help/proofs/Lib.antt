@@ -1,2 +1,5 @@
 pub mod Examples
 pub mod ExamplesHeads
+pub mod ExamplesNames
+pub mod ExamplesTaken
+pub mod ExamplesUnknown
