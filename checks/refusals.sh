@@ -384,6 +384,88 @@ helps "    '!' cannot stand here, after ','" \
     '    a - before a name inverts it; a ! stands only after a connection, in the mark !H' \
     '    what may stand here: "name" ZERO ONE -'
 
+# signs and words of other languages: in conditions
+second '3 Syntax 4:7' 'DRAWING ROW;' 'IF 1 <> 2 THEN' 'END;' 'END;'
+helps "    '>' cannot stand here, after '<'" \
+    '    not equal is written !=' \
+    '    what may stand here: word number ( = -'
+second '3 Syntax 4:7' 'DRAWING ROW;' 'IF 1 /= 2 THEN' 'END;' 'END;'
+helps "    '=' cannot stand here, after '/'" \
+    '    not equal is written !=' \
+    '    what may stand here: word number ( -'
+second '3 Syntax 4:7' 'DRAWING ROW;' 'IF 1 =< 2 THEN' 'END;' 'END;'
+helps "    '<' cannot stand here, after '='" \
+    '    at most is written <=' \
+    '    what may stand here: word number ( -'
+second '3 Syntax 4:7' 'DRAWING ROW;' 'IF 1 => 2 THEN' 'END;' 'END;'
+helps "    '>' cannot stand here, after '='" \
+    '    at least is written >=' \
+    '    what may stand here: word number ( -'
+inverted='    a condition is inverted in its comparison, as A != 1 for A = 1, or by = 0, as (A = 1) = 0'
+second '3 Syntax 4:4' 'DRAWING ROW;' 'IF !(1 = 2) THEN' 'END;' 'END;'
+helps "    '!' cannot stand here, after 'IF'" \
+    "$inverted" \
+    '    what may stand here: word number ( -'
+second '3 Syntax 4:8' 'DRAWING ROW;' 'IF NOT 1 = 2 THEN' 'END;' 'END;'
+helps "    '1' cannot stand here, after 'NOT'" \
+    "$inverted" \
+    '    what may stand here: THEN < > = + - * / !'
+# and elsewhere
+second '3 Syntax 4:11' 'DRAWING ROW;' 'FOR I = 3 DOWNTO 0 DO' 'END;' 'END;'
+helps "    'DOWNTO' cannot stand here, after '3'" \
+    '    a FOR counts upwards, by one: FOR I = 0 TO N - 1 DO' \
+    '    what may stand here: TO + - * /'
+early '3 Syntax 4:15' 'b1 : BUF [0:2**3] ("A") -> ("X");'
+helps "    '*' cannot stand here, after '*'" \
+    '    there is no power: A * A is the square of A' \
+    '    what may stand here: word number ( -'
+second '3 Syntax 5:5' 'DRAWING ROW;' 'IF 1 THEN' 'END IF;' 'END;'
+helps "    'IF' cannot stand here, after 'END'" \
+    '    what an IF, FOR, MACRO or DRAWING begins ends with END;' \
+    '    what may stand here: ;'
+early '3 Syntax 4:17' 'b1 : BUF [0:0] (NOT "A") -> ("X");'
+helps "    'NOT' cannot stand here, after '('" \
+    '    a - before a name inverts it; a ! stands only after a connection, in the mark !H' \
+    '    what may stand here: "name" ZERO ONE ) -'
+# a - that stands elsewhere than before a name
+second '3 Syntax 5:6' 'DRAWING ROW;' 'END;' 'CASE -"SEL"=1;'
+helps "    '-' cannot stand here, after 'CASE'" \
+    '    a CASE inverts no net: "A"=0 stands for -"A"=1' \
+    '    what may stand here: "name"'
+minus='    a - stands inside the parentheses, once, right before what it inverts'
+early '3 Syntax 4:16' 'b1 : BUF [0:0] -("A") -> ("X");'
+helps "    '-' cannot stand here, after ']'" "$minus" '    what may stand here: ( {'
+early '3 Syntax 4:19' 'b1 : BUF [0:0] (- -"A") -> ("X");'
+helps "    '-' cannot stand here, after '-'" "$minus" '    what may stand here: "name" ZERO ONE'
+early '3 Syntax 4:20' 'a1 : AND [0:0] ("A"-, "B") -> ("X");'
+helps "    '-' cannot stand here, after '\"A\"'" "$minus" '    what may stand here: , ) < & !'
+
+# --- where one thing alone may stand
+text '3 Syntax 2:9' 'SCALD 1;' 'CLOCK 8 X 50;'
+helps "    'X' cannot stand here, after '8'" \
+    '    is x meant?' \
+    '    what may stand here: x'
+early '3 Syntax 4:22' 'a1 : AND [0:0] ("A" !h, "B") -> ("X");'
+helps "    'h' cannot stand here, after '!'" \
+    '    is H meant?' \
+    '    what may stand here: H'
+quotes="    a net's name stands in double quotes"
+early '3 Syntax 4:17' 'b1 : BUF [0:0] (A) -> ("X");'
+helps "    'A' cannot stand here, after '('" "$quotes" '    what may stand here: "name" ZERO ONE ) -'
+early '3 Syntax 4:26' 'b1 : BUF [0:0] ("A") -> (X);'
+helps "    'X' cannot stand here, after '('" "$quotes" '    what may stand here: "name" ZERO ONE -'
+second '3 Syntax 5:6' 'DRAWING ROW;' 'END;' 'CASE SEL=1;'
+helps "    'SEL' cannot stand here, after 'CASE'" "$quotes" '    what may stand here: "name"'
+early '3 Syntax 4:17' 'b1 : BUF [0:0] (Zero) -> ("X");'
+helps "    'Zero' cannot stand here, after '('" \
+    '    is ZERO meant?' \
+    '    what may stand here: "name" ZERO ONE ) -'
+# (the DRAWING has no END before CASE, but what it lacks is its name)
+second '3 Syntax 3:9' 'DRAWING CASE;' 'END;'
+helps "    'CASE' cannot stand here, after 'DRAWING'" \
+    '    CASE is reserved: it cannot be a label, kind, macro, parameter, constant, variable or drawing' \
+    '    what may stand here: word'
+
 # --- a statement that belongs elsewhere
 # belongs LINE ..: after what stands here and after what, these lines are said
 belongs() {

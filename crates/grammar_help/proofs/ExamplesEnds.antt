@@ -48,6 +48,16 @@ not_asked : open_lines (codes "IF FOR I = END MACRO") blocks (token Word 1 8 7 8
 unfolding asks_end
 not_asked = refl
 
+-- nothing is said of the one whose own next token is refused
+own_name : open_lines (codes "DRAWING CASE") (token Word 1 1 0 7 ∷ token Word 1 9 8 12 ∷ []) (token Word 1 9 8 12) ≡ []
+unfolding asks_end begins_block
+own_name = refl
+
+outer_open : open_lines (codes "IF IF CASE") (token Word 1 1 0 2 ∷ token Word 1 4 3 5 ∷ token Word 1 7 6 10 ∷ [])
+    (token Word 1 7 6 10) ≡ codes "    the IF at 1:1 has no END before this\n"
+unfolding digits asks_end begins_block unended_line
+outer_open = refl
+
 -- a FOR with a colon after it is a label
 label : open_lines (codes "FOR : CASE")
     (token Word 1 1 0 3 ∷ token (Symbol 58) 1 5 4 5 ∷ token Word 1 7 6 10 ∷ []) (token Word 1 7 6 10) ≡ []

@@ -1,4 +1,5 @@
 pub mod Said
 pub mod Examples
 pub mod ExamplesEnds
+pub mod ExamplesOperators
 pub mod ExamplesSyntax

@@ -8,6 +8,7 @@ use Rattle.scald_lex.specs.declared.token.Token.{Token}
 use Rattle.help_text.specs.Near.{near}
 use Rattle.help_text.specs.Statement.{first_of, is_at, spelled}
 use Rattle.help_text.specs.Tokens.{is_symbol}
+use Rattle.grammar_help.specs.Operator.{inverts_name, is_named_end, operator_note}
 
 -- ---- two tokens side by side
 
@@ -82,10 +83,17 @@ word_note text (Some last) =
     else if is_joined_else (spelled text last) then else_note
     else []
 
+-- a note, or else by the word before the token
+abbrev pub note_or : List ℕ → Option Token → List ℕ → List ℕ
+note_or text before [] = word_note text before
+note_or text before (b ∷ bs) = b ∷ bs
+
 -- of a token, the one before it and those after it
 abbrev pub foreign_note : List ℕ → List Token → Option Token → Token → List Token → List ℕ
 foreign_note text tokens before t ts =
     if opens_comment before (Some t) || opens_comment (Some t) (first_of ts) then comment_note
-    else if inverts before (Some t) || inverts (Some t) (first_of ts) then invert_note
+    else if inverts before (Some t) || (inverts (Some t) (first_of ts) || inverts_name text before t (first_of ts))
+    then invert_note
     else if joins text t && in_condition text t.place false tokens then join_note
-    else word_note text before
+    else if is_named_end text before t then end_note
+    else note_or text before (operator_note text (in_condition text t.place false tokens) before t (first_of ts))

@@ -1,3 +1,4 @@
+pub mod Operator
 pub mod Reserved
 pub mod Version
 pub mod Belongs
@@ -5,3 +6,4 @@ pub mod Foreign
 pub mod Unended
 pub mod Shifted
 pub mod Syntax
+pub mod Wanted

@@ -18,6 +18,7 @@ use Rattle.grammar_help.specs.Reserved.{reserved_at, reserved_line}
 use Rattle.grammar_help.specs.Shifted.{shifted_lines}
 use Rattle.grammar_help.specs.Unended.{asks_ended, ended_line, open_lines}
 use Rattle.grammar_help.specs.Version.{is_later, said_version, version_lines}
+use Rattle.grammar_help.specs.Wanted.{wanted_note}
 
 -- ---- what stands here
 
@@ -76,10 +77,15 @@ abbrev pub meant_before : List ℕ → Option Token → Token → List ℕ
 meant_before text None t = []
 meant_before text (Some last) t = if is_symbol 58 t.kind then [] else meant_line text last
 
--- how what other languages write so is written here, or else which word may be meant
+-- a note, or else which word may be meant
 abbrev pub word_lines : List ℕ → List ℕ → Option Token → Token → List ℕ
 word_lines [] text before t = meant_line text t ++ meant_before text before t
 word_lines (b ∷ bs) text before t = b ∷ bs
+
+-- the first of two notes that says something
+abbrev pub first_note : List ℕ → List ℕ → List ℕ
+first_note [] other = other
+first_note (b ∷ bs) other = b ∷ bs
 
 -- what ENDs before the token end
 abbrev pub ends_lines : List ℕ → List Token → Option Token → Token → List ℕ
@@ -100,7 +106,7 @@ abbrev pub lines_at : List ℕ → List Token → Option ℕ → Option Token �
 lines_at text tokens said before [] = []
 lines_at text tokens said before (t ∷ ts) =
     follow_line text before t
-    ++ (word_lines (foreign_note text tokens before t ts) text before t
+    ++ (word_lines (first_note (foreign_note text tokens before t ts) (wanted_note text tokens before t)) text before t
     ++ (reserved_line (reserved_at text before t ts)
     ++ statement_lines text tokens said before t))
 

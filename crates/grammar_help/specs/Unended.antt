@@ -1,5 +1,5 @@
 -- What has no END yet where what comes only after one may not stand, and what an END ends.
-use Rattle.std.specs.Prelude.{ℕ, Bool, true, false, ◌&&◌, ◌||◌, ◌==◌, nat_lt, ◌+◌, ◌-◌, ◌^◌, min, List, [], ◌∷◌, ◌++◌, codes, Option, Some, None, if◌then◌else◌}
+use Rattle.std.specs.Prelude.{ℕ, Bool, true, false, not, ◌&&◌, ◌||◌, ◌==◌, nat_lt, ◌+◌, ◌-◌, ◌^◌, min, List, [], ◌∷◌, ◌++◌, codes, Option, Some, None, if◌then◌else◌}
 use Rattle.std.specs.Str.{bytes_eq}
 use Rattle.scald_base.specs.declared.refusal.Place.{Place}
 use Rattle.scald_lex.specs.declared.token.TokenKind.{TokenKind}
@@ -49,9 +49,14 @@ abbrev pub line_by : List ℕ → Token → Option Token → List ℕ
 line_by text t None = unended_line text t
 line_by text t (Some end) = []
 
+-- the token at the place is the next one: what the block itself lacks is told of it, and not its END
+abbrev pub is_next : Place → List Token → Bool
+is_next place [] = false
+is_next place (t ∷ ts) = is_at place t
+
 abbrev pub block_line : List ℕ → Place → Token → List Token → List ℕ
 block_line text place t ts =
-    if begins_block text t ts then line_by text t (end_of text place 0 ts) else []
+    if begins_block text t ts && not (is_next place ts) then line_by text t (end_of text place 0 ts) else []
 
 -- those that begin before the place, the outermost first
 abbrev pub block_lines : List ℕ → Place → List Token → List ℕ

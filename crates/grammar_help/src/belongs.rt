@@ -74,7 +74,7 @@ fn statement_word(word: &[u8]) -> Option<Keyword>
 }
 
 /// Whether a token is a word of the drawing's own.
-fn is_own(text: &[u8], token: Token) -> bool
+pub fn is_own(text: &[u8], token: Token) -> bool
     ensures { result ≡ is_own text.now token }
 {
     is_word(token) && reserved_word(spelled(text, token)).is_none()

@@ -1,8 +1,9 @@
 //! How what other languages write so is written here.
 
 ghost use Rattle.std.specs.Prelude.{◌≡◌, false};
-ghost use Rattle.grammar_help.specs.Foreign.{comment_note, else_note, end_note, foreign_note, goes_on, in_condition, inverts, invert_note, is_joined_else, is_joined_end, is_name, join_note, joins, opens_comment, word_note};
+ghost use Rattle.grammar_help.specs.Foreign.{comment_note, else_note, end_note, foreign_note, goes_on, in_condition, inverts, invert_note, is_joined_else, is_joined_end, is_name, join_note, joins, note_or, opens_comment, word_note};
 
+use crate::operator::{inverts_name, is_named_end, operator_note};
 use help_text::{first_of, is_at, is_symbol, near, spelled};
 use scald_base::{Place, same_bytes};
 use scald_lex::{Token, TokenKind};
@@ -148,6 +149,16 @@ fn word_note(text: &[u8], before: Option<Token>) -> &'static [u8]
     }
 }
 
+/// This note, or else what is said of the word before a token.
+fn note_or(text: &[u8], before: Option<Token>, note: &'static [u8]) -> &'static [u8]
+    ensures { result.now ≡ note_or text.now before note.now }
+{
+    match note {
+        [] => word_note(text, before),
+        [_, ..] => note,
+    }
+}
+
 /// How what stands at a token is written here, where other languages write it so: by the token
 /// before it and those after it.
 pub fn foreign_note(
@@ -162,11 +173,21 @@ pub fn foreign_note(
     let next = first_of(others);
     if opens_comment(before, Some(token)) || opens_comment(Some(token), next) {
         comment_note()
-    } else if inverts(before, Some(token)) || inverts(Some(token), next) {
+    } else if inverts(before, Some(token))
+        || inverts(Some(token), next)
+        || inverts_name(text, before, token, next)
+    {
         invert_note()
     } else if joins(text, token) && in_condition(text, tokens, token.place) {
         join_note()
+    } else if is_named_end(text, before, token) {
+        end_note()
     } else {
-        word_note(text, before)
+        let is_inside = in_condition(text, tokens, token.place);
+        note_or(
+            text,
+            before,
+            operator_note(text, is_inside, before, token, next),
+        )
     }
 }

@@ -2,17 +2,20 @@
 //!
 //! [`add_syntax`] says what stands there and after what (`specs/Syntax`), which word of the language
 //! may be meant, whether a word is reserved (`specs/Reserved`) or of another version
-//! (`specs/Version`), how what other languages write so is written here (`specs/Foreign`), where
-//! the statement belongs (`specs/Belongs`), and what has no END yet and what an END ends
+//! (`specs/Version`), how what other languages write so is written here (`specs/Foreign`,
+//! `specs/Operator`), what is wanted where one thing alone may stand (`specs/Wanted`), where the
+//! statement belongs (`specs/Belongs`), and what has no END yet and what an END ends
 //! (`specs/Unended`, `specs/Shifted`). `refusal_help` calls it for a Syntax.
 #![tactic(auto)]
 
 mod belongs;
 mod foreign;
+mod operator;
 mod reserved;
 mod shifted;
 mod syntax;
 mod unended;
 mod version;
+mod wanted;
 
 pub use syntax::add_syntax;

@@ -2,7 +2,7 @@
 
 ghost use Rattle.std.specs.Prelude.{◌≡◌, ◌++◌, OnOk};
 ghost use Rattle.help_text.specs.Text.{part_text};
-ghost use Rattle.grammar_help.specs.Syntax.{ends_lines, follow_line, meant_before, meant_keyword, meant_line, named, statement_lines, syntax_lines, word_lines};
+ghost use Rattle.grammar_help.specs.Syntax.{ends_lines, first_note, follow_line, meant_before, meant_keyword, meant_line, named, statement_lines, syntax_lines, word_lines};
 ghost use Rattle.grammar_help.specs.Version.{said_version};
 
 use crate::belongs::belongs_note;
@@ -11,6 +11,7 @@ use crate::reserved::add_reserved;
 use crate::shifted::add_shifted;
 use crate::unended::{add_ended, add_open, asks_ended};
 use crate::version::{add_versions, is_later, said_version};
+use crate::wanted::wanted_note;
 use element_kinds::is_kind_name;
 use help_text::{
     Keyword, Part, add_line, before_place, from_place, is_symbol, near_keyword, spelled,
@@ -123,6 +124,16 @@ fn add_words(
     }
 }
 
+/// The first of two notes that says something.
+fn first_note(note: &'static [u8], other: &'static [u8]) -> &'static [u8]
+    ensures { result.now ≡ first_note note.now other.now }
+{
+    match note {
+        [] => other,
+        [_, ..] => note,
+    }
+}
+
 /// What ENDs before a token end that comes after this one.
 fn add_ends(
     out: &mut Bytes,
@@ -174,13 +185,11 @@ pub fn add_syntax(
     };
     let before = before_place(tokens, place);
     add_follow(out, text, before, *token)?;
-    add_words(
-        out,
+    let note = first_note(
         foreign_note(text, tokens, before, *token, others),
-        text,
-        before,
-        *token,
-    )?;
+        wanted_note(text, tokens, before, *token),
+    );
+    add_words(out, note, text, before, *token)?;
     add_reserved(out, text, before, *token, others)?;
     add_statement(out, text, tokens, before, *token)
 }

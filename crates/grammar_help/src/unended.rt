@@ -1,7 +1,7 @@
 //! What has no END yet where what comes only after one may not stand, and what an END ends.
 
 ghost use Rattle.std.specs.Prelude.{◌≡◌, ◌++◌, None, OnOk};
-ghost use Rattle.grammar_help.specs.Unended.{asks_end, asks_ended, begins_block, block_line, block_lines, end_line, end_of, ended_at, ended_line, is_for, last_ended, last_line, later, open_lines, unended_line};
+ghost use Rattle.grammar_help.specs.Unended.{asks_end, asks_ended, begins_block, block_line, block_lines, end_line, end_of, ended_at, ended_line, is_for, is_next, last_ended, last_line, later, open_lines, unended_line};
 
 use crate::belongs::begins_statement;
 use help_text::{Part, add_line, is_at, is_symbol, spelled};
@@ -70,7 +70,18 @@ fn add_unended_line(out: &mut Bytes, text: &[u8], token: Token) -> Result<(), No
     )
 }
 
-/// The line of a token that begins what no END among the next ones ends.
+/// Whether the first of these tokens is at a place.
+fn is_next(others: &[Token], place: Place) -> bool
+    ensures { result ≡ is_next place others.now }
+{
+    match others {
+        [next, ..] => is_at(*next, place),
+        [] => false,
+    }
+}
+
+/// The line of a token that begins what no END among the next ones ends, where the place is not
+/// that of its own next token.
 fn add_block(
     out: &mut Bytes,
     text: &[u8],
@@ -80,7 +91,7 @@ fn add_block(
 ) -> Result<(), NoMemory>
     ensures { OnOk result (out.new ≡ out.old ++ block_line text.now place token others.now) }
 {
-    if !begins_block(text, token, others) {
+    if !begins_block(text, token, others) || is_next(others, place) {
         return Ok(());
     }
     match end_of(text, others, place) {

@@ -1,0 +1,74 @@
+-- What is wanted where one thing alone may stand: the x of CLOCK, the H of a mark, or a net's name.
+use Rattle.std.specs.Prelude.{ℕ, Bool, false, not, ◌&&◌, ◌||◌, List, [], ◌∷◌, codes, Option, Some, None, if◌then◌else◌}
+use Rattle.std.specs.Str.{bytes_eq}
+use Rattle.scald_lex.specs.declared.token.Token.{Token}
+use Rattle.help_text.specs.Near.{is_near}
+use Rattle.help_text.specs.Statement.{before_place, is_at, spelled}
+use Rattle.help_text.specs.Tokens.{is_symbol}
+use Rattle.grammar_help.specs.Belongs.{is_own}
+use Rattle.grammar_help.specs.Operator.{is_name_token}
+
+-- ---- SCALD n ; CLOCK u x
+
+-- an X where the sixth token of a text may only be an x
+abbrev pub wants_times : List ℕ → List Token → Token → Bool
+wants_times text (a ∷ b ∷ c ∷ d ∷ e ∷ x ∷ ts) t = is_at t.place x && bytes_eq (spelled text t) (codes "X")
+wants_times text tokens t = false
+
+-- ---- the mark of a connection
+
+-- a connection may end with the token
+abbrev pub ends_term : List ℕ → Option Token → Bool
+ends_term text None = false
+ends_term text (Some t) =
+    is_name_token t.kind
+    || (is_symbol 62 t.kind
+    || (bytes_eq (spelled text t) (codes "ZERO") || bytes_eq (spelled text t) (codes "ONE")))
+
+-- the token is the ! of a mark
+abbrev pub begins_mark : List ℕ → List Token → Option Token → Bool
+begins_mark text tokens None = false
+begins_mark text tokens (Some last) =
+    is_symbol 33 last.kind && ends_term text (before_place last.place tokens)
+
+-- an h where only the H of a mark may stand
+abbrev pub wants_mark : List ℕ → List Token → Option Token → Token → Bool
+wants_mark text tokens before t =
+    bytes_eq (spelled text t) (codes "h") && begins_mark text tokens before
+
+-- ---- a name
+
+-- a net's name may come after the token
+abbrev pub opens_name : List ℕ → Option Token → Bool
+opens_name text None = false
+opens_name text (Some last) =
+    is_symbol 40 last.kind
+    || (is_symbol 44 last.kind
+    || (is_symbol 38 last.kind
+    || (is_symbol 45 last.kind || bytes_eq (spelled text last) (codes "CASE"))))
+
+abbrev pub is_constant : List ℕ → Bool
+is_constant word = is_near word (codes "ZERO") || is_near word (codes "ONE")
+
+-- A word of the drawing's own that may not stand there. In an expression it may, so a name is wanted, ZERO or ONE.
+abbrev pub wants_name : List ℕ → Option Token → Token → Bool
+wants_name text before t = opens_name text before && (is_own text t && not (is_constant (spelled text t)))
+
+-- ---- what is said
+
+unfoldable pub times_note : List ℕ
+times_note = codes "    is x meant?\n"
+
+unfoldable pub mark_note : List ℕ
+mark_note = codes "    is H meant?\n"
+
+unfoldable pub name_note : List ℕ
+name_note = codes "    a net's name stands in double quotes\n"
+
+-- of a token and the one before it
+abbrev pub wanted_note : List ℕ → List Token → Option Token → Token → List ℕ
+wanted_note text tokens before t =
+    if wants_times text tokens t then times_note
+    else if wants_mark text tokens before t then mark_note
+    else if wants_name text before t then name_note
+    else []

@@ -1,0 +1,129 @@
+//! What is wanted where one thing alone may stand: the x of CLOCK, the H of a mark, or a net's name.
+
+ghost use Rattle.std.specs.Prelude.{◌≡◌};
+ghost use Rattle.grammar_help.specs.Wanted.{begins_mark, ends_term, is_constant, mark_note, name_note, opens_name, times_note, wanted_note, wants_mark, wants_name, wants_times};
+
+use crate::belongs::is_own;
+use crate::operator::is_name_token;
+use help_text::{before_place, is_at, is_near, is_symbol, spelled};
+use scald_base::same_bytes;
+use scald_lex::Token;
+
+/// Whether an X stands where the sixth token of a text may only be an x.
+fn wants_times(text: &[u8], tokens: &[Token], token: Token) -> bool
+    ensures { result ≡ wants_times text.now tokens.now token }
+{
+    match tokens {
+        [_, _, _, _, _, sixth, ..] => {
+            is_at(*sixth, token.place) && same_bytes(spelled(text, token), b"X")
+        }
+        _ => false,
+    }
+}
+
+/// Whether a connection may end with a token.
+fn ends_term(text: &[u8], token: Option<Token>) -> bool
+    ensures { result ≡ ends_term text.now token }
+{
+    match token {
+        None => false,
+        Some(token) => {
+            let word = spelled(text, token);
+            is_name_token(token)
+                || is_symbol(token, b'>')
+                || same_bytes(word, b"ZERO")
+                || same_bytes(word, b"ONE")
+        }
+    }
+}
+
+/// Whether a token is the `!` of a mark.
+fn begins_mark(text: &[u8], tokens: &[Token], token: Option<Token>) -> bool
+    ensures { result ≡ begins_mark text.now tokens.now token }
+{
+    match token {
+        None => false,
+        Some(last) => { is_symbol(last, b'!') && ends_term(text, before_place(tokens, last.place)) }
+    }
+}
+
+/// Whether an h stands where only the H of a mark may stand.
+fn wants_mark(text: &[u8], tokens: &[Token], before: Option<Token>, token: Token) -> bool
+    ensures { result ≡ wants_mark text.now tokens.now before token }
+{
+    same_bytes(spelled(text, token), b"h") && begins_mark(text, tokens, before)
+}
+
+/// Whether a net's name may come after a token.
+fn opens_name(text: &[u8], before: Option<Token>) -> bool
+    ensures { result ≡ opens_name text.now before }
+{
+    match before {
+        None => false,
+        Some(last) => {
+            is_symbol(last, b'(')
+                || is_symbol(last, b',')
+                || is_symbol(last, b'&')
+                || is_symbol(last, b'-')
+                || same_bytes(spelled(text, last), b"CASE")
+        }
+    }
+}
+
+/// Whether a word is nearly that of a constant.
+fn is_constant(word: &[u8]) -> bool
+    ensures { result ≡ is_constant word.now }
+{
+    is_near(word, b"ZERO") || is_near(word, b"ONE")
+}
+
+/// Whether a word of the drawing's own stands where a net's name may stand, and it may not.
+fn wants_name(text: &[u8], before: Option<Token>, token: Token) -> bool
+    ensures { result ≡ wants_name text.now before token }
+{
+    opens_name(text, before) && is_own(text, token) && !is_constant(spelled(text, token))
+}
+
+/// That an x is meant.
+#[tactic(auto, unfolding(crate::specs::Wanted::times_note))]
+fn times_note() -> &'static [u8]
+    ensures { result.now ≡ times_note }
+{
+    b"    is x meant?\n"
+}
+
+/// That an H is meant.
+#[tactic(auto, unfolding(crate::specs::Wanted::mark_note))]
+fn mark_note() -> &'static [u8]
+    ensures { result.now ≡ mark_note }
+{
+    b"    is H meant?\n"
+}
+
+/// How a net is named.
+#[tactic(auto, unfolding(crate::specs::Wanted::name_note))]
+fn name_note() -> &'static [u8]
+    ensures { result.now ≡ name_note }
+{
+    b"    a net's name stands in double quotes\n"
+}
+
+/// What is wanted where a token may not stand, after the one before it.
+pub fn wanted_note(
+    text: &[u8],
+    tokens: &[Token],
+    before: Option<Token>,
+    token: Token,
+) -> &'static [u8]
+    ensures { result.now ≡ wanted_note text.now tokens.now before token }
+{
+    if wants_times(text, tokens, token) {
+        times_note()
+    } else if wants_mark(text, tokens, before, token) {
+        mark_note()
+    } else if wants_name(text, before, token) {
+        name_note()
+    } else {
+        b""
+    }
+}
