@@ -923,6 +923,24 @@ drawing '8 AssertionClash 4:1' 'a1 : AND [0:0] ("A .S0-2,4-6", "A .S4-6,0-2"<1>)
 drawing '8 AssertionClash 5:1' 'b1 : BUF [0:0] ("A .S0-4") -> ("X");' 'b2 : AND [0:0] ("B .S", "A"<1>, "A .S0-5"<2>) -> ("Y");'
 helps '    give the assertion once, or spell it the same each time; a formal has that of the outer net' \
     '    here it is "A .S0-5", and "A .S0-4" at 4:17'
+# clash LINE ..: beside what to do about it, these lines are said
+clash() {
+    helps '    give the assertion once, or spell it the same each time; a formal has that of the outer net' "$@"
+}
+# one that stands in an IF that has ended may not be read
+drawing '8 AssertionClash 8:1' 'IF 0 THEN' 'b0 : BUF [0:0] ("A .S1-5") -> ("V");' 'END;' 'b1 : BUF [0:0] ("A .S1-2") -> ("X");' \
+    'b2 : BUF [0:0] ("A .S1-3") -> ("Y");'
+clash '    here it is "A .S1-3", and "A .S1-2" at 7:17'
+drawing '8 AssertionClash 7:1' 'IF 1 THEN' 'b0 : BUF [0:0] ("A .S1-5") -> ("V");' 'END;' 'b1 : BUF [0:0] ("A .S1-3") -> ("X");'
+clash '    here it is "A .S1-3", and "A .S1-5" at 5:17'
+# a global is one net in all macros
+macro unexpanded '8 AssertionClash 8:1' 'MACRO M ("A") -> ("Z");' 'r1 : REG [0:0] ("/CK .P0-4", "A") -> ("Z");' 'END;' \
+    'DRAWING ROW;' 'u : M ("A") -> ("X");' 'r2 : REG [0:0] ("/CK .P0-5", "B") -> ("Y");' 'END;'
+clash '    here it is "/CK .P0-5", and "/CK .P0-4" at 4:17'
+macro unexpanded '8 AssertionClash 4:1' 'MACRO M ("A") -> ("Z");' 'b1 : BUF [0:0] ("/G .S1-2") -> ("Z");' 'END;' \
+    'MACRO N ("A") -> ("Z");' 'b1 : BUF [0:0] ("/G .S1-4") -> ("Z");' 'END;' 'DRAWING ROW;' 'u : N ("A") -> ("X");' \
+    'v : M ("A") -> ("Y");' 'END;'
+clash '    here it is "/G .S1-2", and "/G .S1-4" at 7:17' '    it is reached by v at 11:1'
 macro unexpanded '8 AssertionClash 4:1' 'MACRO M ("A") -> ("Z");' 'b1 : BUF [0:0] ("A .S") -> ("Z");' 'END;' 'DRAWING ROW;' \
     'u : M ("A") -> ("X");' 'END;'
 drawing '12 Width 4:1' 'c1 : MIN_PULSE_CHK ("A"<0:255> & "B");'

@@ -1,5 +1,5 @@
 -- Where a signal has another assertion than in a statement.
-use Rattle.std.specs.Prelude.{ℕ, Bool, not, ◌&&◌, ◌==◌, nat_lt, List, [], ◌∷◌, map, length, take, codes, Option, Some, None, if◌then◌else◌, ◌++◌}
+use Rattle.std.specs.Prelude.{ℕ, ◌+◌, ◌-◌, ◌^◌, min, Bool, false, not, ◌&&◌, ◌||◌, ◌==◌, nat_lt, List, [], ◌∷◌, map, length, take, codes, Option, Some, None, if◌then◌else◌, ◌++◌}
 use Rattle.std.specs.List.{prefix_len}
 use Rattle.std.specs.Str.{bytes_eq}
 use Rattle.scald_base.specs.declared.refusal.Place.{Place}
@@ -7,7 +7,7 @@ use Rattle.scald_lex.specs.declared.token.TokenKind.{TokenKind}
 use Rattle.scald_lex.specs.declared.token.TokenKind.TheVariants.{Name}
 use Rattle.scald_lex.specs.declared.token.Token.{Token}
 use Rattle.help_text.specs.Head.{from_head}
-use Rattle.help_text.specs.Statement.{spelled, from_place}
+use Rattle.help_text.specs.Statement.{from_place, is_at, spelled}
 use Rattle.help_text.specs.Text.{line, place_text, printable}
 use Rattle.help_text.specs.Tokens.{is_symbol}
 
@@ -44,33 +44,91 @@ clash_line name other place = line (
     codes "    here it is " ∷ map printable name ∷ codes ", and " ∷ map printable other ∷ codes " at "
     ∷ place_text place ∷ [])
 
+-- ---- what is read wherever the token at the place is read: no IF or FOR that has ended holds it, and no THEN before
+-- an ELSE
+
+-- a variable and an `=` come first
+abbrev pub is_for : List Token → Bool
+is_for (t ∷ equals ∷ ts) = is_symbol 61 equals.kind
+is_for tokens = false
+
+unfoldable pub opens_block : List ℕ → Token → List Token → Bool
+opens_block text t ts =
+    bytes_eq (spelled text t) (codes "IF") || (bytes_eq (spelled text t) (codes "FOR") && is_for ts)
+
+abbrev pub is_end : List ℕ → Token → Bool
+is_end text t = bytes_eq (spelled text t) (codes "END")
+
+-- the part that a clash is in ends, where so many blocks are open after it
+abbrev pub leaves : List ℕ → ℕ → Token → Bool
+leaves text inside t = inside == 0 && (is_end text t || bytes_eq (spelled text t) (codes "ELSE"))
+
+-- how many blocks are open after a token
+abbrev pub open_after : List ℕ → ℕ → Token → List Token → ℕ
+open_after text inside t ts =
+    if opens_block text t ts then min (inside + 1) (2 ^ 64 - 1)
+    else if is_end text t then inside - 1
+    else inside
+
+-- what is found after a token, and the blocks that are open after that
+abbrev pub found_after : List ℕ → List ℕ → Option Token → ℕ → Token → Option Token
+found_after text name None inside t = if clashes name (name_bytes text t) then Some t else None
+found_after text name (Some other) inside t = if leaves text inside t then None else Some other
+
+abbrev pub inside_after : List ℕ → Option Token → ℕ → Token → List Token → ℕ
+inside_after text None inside t ts = 0
+inside_after text (Some other) inside t ts = open_after text inside t ts
+
+-- the first clash that is read wherever the place is, by what is found so far
+abbrev pub kept_clash : List ℕ → List ℕ → Place → Option Token → ℕ → List Token → Option Token
+kept_clash text name place found inside [] = None
+kept_clash text name place found inside (t ∷ ts) =
+    if is_at place t then found
+    else kept_clash text name place (found_after text name found inside t) (inside_after text found inside t ts) ts
+
+-- ---- where the other assertion is
+
+-- a net of the whole text
+abbrev pub is_global : List ℕ → Bool
+is_global name = bytes_eq (take 2 name) (codes "\"/")
+
 -- the first of them where it stands before this token
 abbrev pub before_it : Token → Option Token → Option Token
 before_it t None = None
 before_it t (Some other) = if nat_lt other.start t.start then Some other else None
 
-unfoldable pub earlier_clash : List ℕ → List Token → Token → Option Token
-earlier_clash text tokens t =
-    if is_asserted (name_bytes text t) then before_it t (first_clash text (name_bytes text t) tokens) else None
+-- one that is read with the token, or else the first: of a global that of the text, and else that of the macro or
+-- the drawing where it stands before the token
+abbrev pub clash_or : List ℕ → List Token → List Token → Token → Option Token → Option Token
+clash_or text all tokens t (Some other) = Some other
+clash_or text all tokens t None =
+    if is_global (name_bytes text t) then first_clash text (name_bytes text t) all
+    else before_it t (first_clash text (name_bytes text t) tokens)
+
+unfoldable pub other_clash : List ℕ → List Token → List Token → Token → Option Token
+other_clash text all tokens t =
+    if is_asserted (name_bytes text t)
+    then clash_or text all tokens t (kept_clash text (name_bytes text t) t.place None 0 tokens)
+    else None
 
 abbrev pub pair_or : Token → Option Token → Option (Token × Token) → Option (Token × Token)
 pair_or t (Some other) rest = Some (t, other)
 pair_or t None rest = rest
 
--- the first signal of a statement that has another assertion before, in these tokens, and where it
--- has
-abbrev pub first_pair : List ℕ → List Token → List Token → Option (Token × Token)
-first_pair text tokens [] = None
-first_pair text tokens (t ∷ ts) =
+-- the first signal of a statement that has another assertion, and where it has, by all tokens of the text and those of
+-- the macro or the drawing
+abbrev pub first_pair : List ℕ → List Token → List Token → List Token → Option (Token × Token)
+first_pair text all tokens [] = None
+first_pair text all tokens (t ∷ ts) =
     if is_symbol 59 t.kind then None
-    else pair_or t (earlier_clash text tokens t) (first_pair text tokens ts)
+    else pair_or t (other_clash text all tokens t) (first_pair text all tokens ts)
 
 abbrev pub pair_line : List ℕ → Option (Token × Token) → List ℕ
 pair_line text None = []
 pair_line text (Some pair) = clash_line (spelled text pair.0) (spelled text pair.1) pair.1.place
 
-abbrev pub clash_lines : List ℕ → List Token → List Token → List ℕ
-clash_lines text tokens statement = pair_line text (first_pair text tokens statement)
+abbrev pub clash_lines : List ℕ → List Token → List Token → List Token → List ℕ
+clash_lines text all tokens statement = pair_line text (first_pair text all tokens statement)
 
 unfoldable pub assertion_note : List ℕ
 assertion_note =
@@ -80,4 +138,4 @@ assertion_note =
 abbrev pub assertion_lines : List ℕ → List Token → Place → List ℕ
 assertion_lines text tokens place =
     assertion_note
-    ++ clash_lines text (from_head text place tokens tokens) (take 256 (from_place place tokens))
+    ++ clash_lines text tokens (from_head text place tokens tokens) (take 256 (from_place place tokens))
