@@ -775,6 +775,9 @@ helps '    MIN_PULSE_CHK takes HIGH and LOW, each once; neither is negative, and
 macro unexpanded '9 BadParameter 6:1' 'MACRO M {N=1} ();' 'END;' 'DRAWING ROW;' 'u : M {P=1} ();' 'END;'
 helps '    the parameters of M are: N' \
     "    'P' is none of its parameters"
+macro unexpanded '9 BadParameter 6:1' 'MACRO M ("A"<0:3>) -> ("Z");' 'END;' 'DRAWING ROW;' 'u : M {K=1} ("B"<0:3>) -> ("X");' 'END;'
+helps '    M takes no parameters' \
+    "    'K' is none of its parameters"
 nine='A=1, B=1, C=1, D=1, E=1, F=1, G=1, H=1, I=1'
 for given in "$nine, A=2" "$nine, K=2"; do
     macro unexpanded '9 BadParameter 6:1' "MACRO M {$nine} ();" 'END;' 'DRAWING ROW;' "u : M {$given} ();" 'END;'

@@ -12,7 +12,7 @@ use Rattle.statement_help.specs.Bits.{bits_line, bits_with, bits_word, separates
 use Rattle.statement_help.specs.Bound.{pair_lines}
 use Rattle.statement_help.specs.Count.{count_line, counted_line}
 use Rattle.statement_help.specs.Limit.{check_lines, delay_lines, none_note, value_of}
-use Rattle.statement_help.specs.Parameter.{macro_lines, names_begin, spaced, wrong_lines}
+use Rattle.statement_help.specs.Parameter.{macro_lines, names_begin, none_taken, spaced, wrong_lines}
 use Rattle.statement_help.specs.Range.{fault_at, range_line}
 use Rattle.statement_help.specs.Row.{connections_line, delay_line, parameters_line}
 
@@ -104,6 +104,12 @@ named : macro_lines (codes "M{HIHG=3, LOW=1}") (at Word 0 1 ∷ symbol 123 1 ∷
     codes "    the parameters of M are: HIHG\n"
 unfolding begins_assign ends_assign names_begin spaced
 named = refl
+
+-- M("A") has no braces
+unnamed : macro_lines (codes "M(\"A\")") (at Word 0 1 ∷ symbol 40 1 ∷ at Name 2 5 ∷ symbol 41 5 ∷ []) ≡
+    codes "    M takes no parameters\n"
+unfolding none_taken
+unnamed = refl
 
 -- SETUP=391, HOLD=10 in a period of 400
 together : check_lines (codes "{SETUP=391, HOLD=10}") Setup 400

@@ -73,8 +73,15 @@ names_text text named (t ∷ ts) =
 unfoldable pub names_begin : List ℕ → List ℕ
 names_begin name = concat (codes "    the parameters of " ∷ name ∷ codes " are:" ∷ [])
 
+unfoldable pub none_taken : List ℕ → List ℕ
+none_taken name = line (codes "    " ∷ name ∷ codes " takes no parameters" ∷ [])
+
+-- the parameters of the macro of this name, by its braces: it has none where it has no braces
+abbrev pub taken_lines : List ℕ → List ℕ → List Token → List ℕ
+taken_lines text name [] = none_taken name
+taken_lines text name (t ∷ ts) = names_begin name ++ (names_text text false (take 256 (t ∷ ts)) ++ 10 ∷ [])
+
 -- by its head, from its name on
 abbrev pub macro_lines : List ℕ → List Token → List ℕ
 macro_lines text [] = []
-macro_lines text (t ∷ ts) =
-    names_begin (spelled text t) ++ (names_text text false (take 256 (braces ts)) ++ 10 ∷ [])
+macro_lines text (t ∷ ts) = taken_lines text (spelled text t) (braces ts)

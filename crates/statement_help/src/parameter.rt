@@ -2,7 +2,7 @@
 
 ghost use Rattle.std.specs.Prelude.{◌≡◌, ◌++◌, OnOk, false};
 ghost use Rattle.help_text.specs.Assign.{braces};
-ghost use Rattle.statement_help.specs.Parameter.{first_strange, first_twice, is_of_check, is_strange, macro_lines, names_begin, names_text, spaced, strange_line, twice_line, wrong_line, wrong_lines};
+ghost use Rattle.statement_help.specs.Parameter.{first_strange, first_twice, is_of_check, is_strange, macro_lines, names_begin, names_text, spaced, strange_line, taken_lines, none_taken, twice_line, wrong_line, wrong_lines};
 
 use element_kinds::{Check, Kind};
 use help_text::{
@@ -177,17 +177,42 @@ fn add_begin(out: &mut Bytes, name: &[u8]) -> Result<(), NoMemory>
     )
 }
 
+/// That the macro of this name has no parameters.
+#[tactic(auto, unfolding(crate::specs::Parameter::none_taken))]
+fn add_none(out: &mut Bytes, name: &[u8]) -> Result<(), NoMemory>
+    ensures { OnOk result (out.new ≡ out.old ++ none_taken name.now) }
+{
+    add_line(
+        out,
+        &[
+            Part::Text(b"    "),
+            Part::Text(name),
+            Part::Text(b" takes no parameters"),
+        ],
+    )
+}
+
+/// The parameters in these braces of the macro of this name.
+fn add_taken(out: &mut Bytes, text: &[u8], name: &[u8], braces: &[Token]) -> Result<(), NoMemory>
+    ensures { OnOk result (out.new ≡ out.old ++ taken_lines text.now name.now braces.now) }
+{
+    match braces {
+        [] => add_none(out, name),
+        [_, ..] => {
+            add_begin(out, name)?;
+            add_names(out, text, first_tokens(braces))?;
+            out.push(b'\n')
+        }
+    }
+}
+
 /// Which parameters a macro has, whose head begins with its name: the first of them, where there
 /// are many.
 pub fn add_macro_parameters(out: &mut Bytes, text: &[u8], head: &[Token]) -> Result<(), NoMemory>
     ensures { OnOk result (out.new ≡ out.old ++ macro_lines text.now head.now) }
 {
     match head {
-        [name, rest @ ..] => {
-            add_begin(out, spelled(text, *name))?;
-            add_names(out, text, first_tokens(braces(rest)))?;
-            out.push(b'\n')
-        }
+        [name, rest @ ..] => add_taken(out, text, spelled(text, *name), braces(rest)),
         [] => Ok(()),
     }
 }
