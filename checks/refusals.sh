@@ -1200,13 +1200,40 @@ driven_twice 5:1 'b1#0<0>' 'b1#1<0>'
 macro unexpanded '17 TwoDrivers 4:1' 'MACRO M ("A") -> ("Y", "Z");' 'b1 : BUF [0:0] ("A") -> ("Y");' 'b2 : BUF [0:0] ("A") -> ("Z");' \
     'END;' 'DRAWING ROW;' 'u1 : M ("A") -> ("X", "W");' 'u2 : M ("B") -> ("X", "W");' 'END;'
 driven_twice 4:1 'u1/b1<0>' 'u2/b1<0>' '    it is reached by u2 at 9:1'
+# (what comes after both of them does not count)
+macro unexpanded '17 TwoDrivers 4:1' 'MACRO M ("A") -> ("Z");' 'b1 : BUF [0:0] ("A") -> ("Z");' 'END;' 'DRAWING ROW;' \
+    'u1 : M ("A") -> ("X");' 'u2 : M ("B") -> ("X");' 'b2 : BUF [0:0] ("C") -> ("X");' 'END;'
+driven_twice 4:1 'u1/b1<0>' 'u2/b1<0>' '    it is reached by u2 at 8:1'
+expanded '17 TwoDrivers 5:1' 'DRAWING ROW;' 'FOR I = 0 TO 2 DO' 'b1 : BUF [0:0] ("A"<I>) -> ("X");' 'END;' 'o1 : OR [0:0] ("B", "C") -> ("X");' 'END;'
+driven_twice 5:1 'b1#0<0>' 'b1#1<0>'
+macro unexpanded '17 TwoDrivers 4:1' 'MACRO M ("A"<0:1>) -> ("Z"<0:1>);' 'b1 : BUF [0:0] ("A") -> ("Z");' 'END;' 'DRAWING ROW;' \
+    'u : M ("A"<0:1>) -> ("X" & "X");' 'v : M ("B"<0:1>) -> (ZERO & "Y");' 'END;'
+driven_twice 4:1 'u/b1<0>' 'u/b1<1>' '    it is reached by u at 7:1'
+# (nor a loop without delay elsewhere, nor a case that is refused)
 drawing '17 TwoDrivers 6:1' 'b1 : BUF [0:0] ("Y") -> ("X");' 'a1 : AND [0:0] ("CK .P2-3", "X") -> ("Y");' 'b2 : BUF [0:0] ("B") -> ("X");'
+helps "$one_driver" \
+    '    it is driven before:' \
+    '        X<0> is driven at 4:1 by b1<0>'
+{
+    drawing_of 'b1 : BUF [0:0] ("A") -> ("X");' 'b2 : BUF [0:0] ("B") -> ("X");'
+    echo 'CASE "NONE"=0;'
+} | unexpanded '17 TwoDrivers 5:1'
+helps "$one_driver" \
+    '    it is driven before:' \
+    '        X<0> is driven at 4:1 by b1<0>'
 drawing '18 ZeroLoop 4:1' 'b1 : BUF [0:0] ("Y") -> ("X");' 'a1 : AND [0:0] ("CK .P2-3", "X") -> ("Y");'
 helps "$slow_loop" \
     '    it is in a loop, each net of which comes from the next:' \
     '        X<0> is driven at 4:1 by b1<0>' \
     '        Y<0> is driven at 5:1 by a1<0>' \
     '        X<0> is driven at 4:1 by b1<0>'
+# (of two loops the one that leads there)
+drawing '18 ZeroLoop 4:1' 'a1 : OR [0:3] ("B", "C") -> ("A");' 'b1 : BUF [0:2] ("A") -> ("B");' 'b2 : BUF [0:2] ("R") -> ("R");'
+helps "$slow_loop" \
+    '    it is in a loop, each net of which comes from the next:' \
+    '        A<0> is driven at 4:1 by a1<0>' \
+    '        B<0> is driven at 5:1 by b1<0>' \
+    '        A<0> is driven at 4:1 by a1<0>'
 # (a loop of eight nets is listed whole, and one of nine is not)
 drawing '18 ZeroLoop 4:1' 'b1 : BUF [0:0] ("H") -> ("A");' 'b2 : BUF [0:0] ("A") -> ("B");' 'b3 : BUF [0:0] ("B") -> ("C");' \
     'b4 : BUF [0:0] ("C") -> ("D");' 'b5 : BUF [0:0] ("D") -> ("E");' 'b6 : BUF [0:0] ("E") -> ("F");' \
@@ -1243,14 +1270,14 @@ drawing '18 ZeroLoop 4:1' 'b1 : BUF [0:1, 2:3] ("Y") -> ("X");' 'a1 : AND [2:3, 
 drawing '17 TwoDrivers 5:1' 'b1 : BUF [1:2, 3:4] ("A") -> ("X");' 'b2 : BUF [1:2, 3:4] ("A") -> ("X");'
 drawing '18 ZeroLoop 4:1' 'b1 : BUF [0:9] ("X") -> ("Y");' 'x1 : XOR [0:0] ("CK .P2-3", "X") -> ("X");'
 # (the element that is refused comes after the loop, whatever its own delay)
-comes_from='    it comes from a loop whose least delay is 0, each net of which comes from the next:'
+there_is='    there is a loop whose least delay is 0, each net of which comes from the next:'
 helps "$slow_loop" \
-    "$comes_from" \
+    "$there_is" \
     '        X<0> is driven at 5:1 by x1<0>' \
     '        X<0> is driven at 5:1 by x1<0>'
 drawing '18 ZeroLoop 4:1' 'b1 : BUF [3:5] ("P") -> ("O");' 'n1 : OR [0:2] ("S", "Q") -> (-"P");' 'n2 : OR [0:3] ("R", "P") -> (-"Q");'
 helps "$slow_loop" \
-    "$comes_from" \
+    "$there_is" \
     '        P<0> is driven at 5:1 by n1<0>' \
     '        Q<0> is driven at 6:1 by n2<0>' \
     '        P<0> is driven at 5:1 by n1<0>'

@@ -9,13 +9,13 @@ use Rattle.scald_lex.specs.declared.token.TokenKind.TheVariants.{Word, Number, N
 use Rattle.scald_base.specs.declared.refusal.RefusalKind.TheVariants.{TwoDrivers, ZeroLoop}
 use Rattle.circuit_help.specs.CutSet.{is_zero_loop}
 use Rattle.circuit_help.specs.Slowed.{delays, slowed_text}
-use Rattle.circuit_help.specs.Statements.{depth_after, ends_body, ends_statement, statements_of}
-use Rattle.circuit_help.specs.Cases.{case_cut, entry_bit, entry_value, has_point}
-use Rattle.circuit_help.specs.Drivers.{as_checker, cuts}
+use Rattle.circuit_help.specs.declared.changed.Change.TheVariants.{Checker, Delay}
+use Rattle.circuit_help.specs.Changed.{part_of, word_of}
+use Rattle.circuit_help.specs.Made.{overwritten}
+use Rattle.circuit_help.specs.Cases.{before_cases, case_cut, entry_bit, entry_value, has_point}
+use Rattle.circuit_help.specs.Drivers.{is_before}
 use Rattle.circuit_help.specs.Lines.{driven_line, nets_lines}
 use Rattle.circuit_help.specs.Loops.{begins, from_net, last_net}
-use Rattle.circuit_help.specs.Reached.{cut_text}
-use Rattle.circuit_help.specs.ZeroLoop.{cuts as delay_cuts, slowed}
 
 abbrev at : TokenKind → ℕ → ℕ → Token
 at kind start end = record { kind = kind; place = record { line = 1; col = 1 }; start = start; end = end }
@@ -25,14 +25,11 @@ symbol b start = at (Symbol b) start (start + 1)
 
 -- ---- texts: no place after the part moves
 
-checker : as_checker (codes "b : BUF [0:0] (\"A\") ->\n(\"X\");") 4 23 ≡ codes "b : MIN_PULSE_CHK     \n(\"X\");"
+checker : overwritten (codes "b : BUF [0:0] (\"A\") ->\n(\"X\");") (word_of Checker) 4 23 ≡ codes "b : MIN_PULSE_CHK     \n(\"X\");"
 checker = refl
 
-with_delay : slowed (codes "b : BUF [0 : 0] (\"A\") -> (\"A\");") 8 16 ≡ codes "b : BUF [1:1]   (\"A\") -> (\"A\");"
+with_delay : overwritten (codes "b : BUF [0 : 0] (\"A\") -> (\"A\");") (word_of Delay) 8 16 ≡ codes "b : BUF [1:1]   (\"A\") -> (\"A\");"
 with_delay = refl
-
-before_use : cut_text (codes "DRAWING D; u : M (); END;") 10 ≡ codes "DRAWING D;END;"
-before_use = refl
 
 -- ---- where they are made: b : BUF [0:0] ("A") -> ("X");
 
@@ -42,13 +39,13 @@ use_tokens =
     at (Number (pos 0)) 11 12 ∷ symbol 93 12 ∷ symbol 40 14 ∷ at Name 15 18 ∷ symbol 41 18 ∷ at Arrow 20 22 ∷
     symbol 40 23 ∷ at Name 24 27 ∷ symbol 41 27 ∷ symbol 59 28 ∷ []
 
-use_cuts : cuts use_tokens ≡ Some (4, 23)
+use_cuts : part_of Checker use_tokens ≡ Some (4, 23)
 use_cuts = refl
 
-use_delay : delay_cuts use_tokens ≡ Some (8, 14)
+use_delay : part_of Delay use_tokens ≡ Some (8, 14)
 use_delay = refl
 
-no_outputs : cuts (at Word 0 1 ∷ symbol 58 2 ∷ at Word 4 17 ∷ symbol 40 18 ∷ symbol 59 24 ∷ []) ≡ None
+no_outputs : part_of Checker (at Word 0 1 ∷ symbol 58 2 ∷ at Word 4 17 ∷ symbol 40 18 ∷ symbol 59 24 ∷ []) ≡ None
 no_outputs = refl
 
 -- ---- entries: "A"<3>=1 and "A"=2
@@ -68,6 +65,27 @@ value_alone = refl
 
 first_case : case_cut (codes "END;CASE \"A\"=0;") (at Word 0 3 ∷ symbol 59 3 ∷ at Word 4 8 ∷ at Name 9 12 ∷ []) ≡ Some 4
 first_case = refl
+
+text_before : before_cases (codes "END;CASE \"A\"=0;") (at Word 0 3 ∷ symbol 59 3 ∷ at Word 4 8 ∷ at Name 9 12 ∷ [])
+    ≡ codes "END;"
+text_before = refl
+
+text_without : before_cases (codes "END;") (at Word 0 3 ∷ symbol 59 3 ∷ []) ≡ codes "END;"
+text_without = refl
+
+-- ---- what drives a net before the instance of a number
+
+earlier : is_before 3 (Some 2) ≡ true
+earlier = refl
+
+itself : is_before 3 (Some 3) ≡ false
+itself = refl
+
+later : is_before 3 (Some 4) ≡ false
+later = refl
+
+undriven : is_before 3 None ≡ false
+undriven = refl
 
 pointed : has_point (codes "A .S") ≡ true
 pointed = refl
@@ -97,25 +115,6 @@ loop_of_eight c = refl
 loop_of_nine : (c : Circuit) → nets_lines c (eight ++ 8 ∷ 0 ∷ [])
     ≡ flat_map (driven_line c) eight ++ codes "        and so on\n"
 loop_of_nine c = refl
-
--- ---- statements of the drawing: a:M(); and an IF with one in it
-
-abbrev head : List Token
-head = at Word 0 7 ∷ at Word 8 9 ∷ symbol 59 9 ∷ []
-
-one_statement : statements_of (codes "DRAWING D;a:M();END;")
-    (head ++ (at Word 10 11 ∷ symbol 58 11 ∷ at Word 12 13 ∷ symbol 40 13 ∷ symbol 41 14 ∷ symbol 59 15
-    ∷ at Word 16 19 ∷ symbol 59 19 ∷ []))
-    ≡ record { first = at Word 10 11; end = 16 } ∷ []
-unfolding depth_after ends_body ends_statement
-one_statement = refl
-
-with_an_if : statements_of (codes "DRAWING D;IF N THEN a:M();END;END;")
-    (head ++ (at Word 10 12 ∷ at Word 13 14 ∷ at Word 15 19 ∷ at Word 20 21 ∷ symbol 58 21 ∷ at Word 22 23 ∷ symbol 40 23
-    ∷ symbol 41 24 ∷ symbol 59 25 ∷ at Word 26 29 ∷ symbol 59 29 ∷ at Word 30 33 ∷ symbol 59 33 ∷ []))
-    ≡ record { first = at Word 10 12; end = 30 } ∷ []
-unfolding depth_after ends_body ends_statement
-with_an_if = refl
 
 -- ---- delays
 

@@ -1,5 +1,5 @@
 pub mod Told
-pub mod Judging
+pub mod Changing
 pub mod Examples
 pub mod Appending
 pub mod Nearest

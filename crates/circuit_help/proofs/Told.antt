@@ -13,9 +13,11 @@ use Rattle.flat_circuit.specs.Circuit.{Circuit}
 use Rattle.flat_circuit.specs.Name.{net_at}
 use Rattle.drawn_circuit.specs.Drawn.{DrawsCircuit, IsTextRefused}
 use Rattle.help_text.specs.Statement.{from_place}
+use Rattle.circuit_help.specs.declared.changed.Change.TheVariants.{Checker, Delay}
 use Rattle.circuit_help.specs.declared.rule.Rule.TheVariants.{Listening, WithoutDelay}
 use Rattle.circuit_help.specs.declared.slowed.Delayed.{Delayed}
 use Rattle.circuit_help.specs.Cases as case
+use Rattle.circuit_help.specs.Changed.{IsDrawnWith}
 use Rattle.circuit_help.specs.CutSet as cut
 use Rattle.circuit_help.specs.Drivers as driver
 use Rattle.circuit_help.specs.Loops as loop
@@ -43,15 +45,14 @@ loop_told text place net c cases nets old new drawn at none is =
 pub no_loop_told : (text : List ℕ) (place : ℕ) (bytes : List ℕ) → bytes ≡ [] → loop.IsTold text place bytes
 no_loop_told text place bytes none = subst (loop.IsTold text place) (sym none) loop.nothing
 
-pub zero_told : (text : List ℕ) (place : Place) (c : Circuit) (cases : List (List CaseValue)) (net : ℕ)
-    (nets old new : List ℕ) → DrawsCircuit text c cases → zero.IsDrivenAt c place net → old ≡ [] →
-    new ≡ old ++ loop.way_lines c (WithoutDelay place) net nets → zero.IsToldBy text place new
-zero_told text place c cases net nets old new drawn driven none is =
-    subst (zero.IsToldBy text place) (sym (put old new (loop.way_lines c (WithoutDelay place) net nets) none is))
-    (zero.told c cases net nets drawn driven)
+pub zero_told : (c : Circuit) (place : Place) (net : ℕ) (nets old new : List ℕ) → zero.IsDrivenAt c place net →
+    old ≡ [] → new ≡ old ++ loop.way_lines c (WithoutDelay place) net nets → zero.IsToldOf c place new
+zero_told c place net nets old new driven none is =
+    subst (zero.IsToldOf c place) (sym (put old new (loop.way_lines c (WithoutDelay place) net nets) none is))
+    (zero.told net nets driven)
 
-pub no_zero_told : (text : List ℕ) (place : Place) (bytes : List ℕ) → bytes ≡ [] → zero.IsToldBy text place bytes
-no_zero_told text place bytes none = subst (zero.IsToldBy text place) (sym none) zero.nothing
+pub no_zero_told : (c : Circuit) (place : Place) (bytes : List ℕ) → bytes ≡ [] → zero.IsToldOf c place bytes
+no_zero_told c place bytes none = subst (zero.IsToldOf c place) (sym none) zero.nothing
 
 pub zero_untold : (text : List ℕ) (place : Place) (bytes : List ℕ) → bytes ≡ [] → zero.IsTold text place bytes
 zero_untold text place bytes none = subst (zero.IsTold text place) (sym none) zero.untold
@@ -65,14 +66,6 @@ output_told c place target old new output none is =
 pub twins_told : (c : Circuit) (place : Place) (old new : List ℕ) → old ≡ [] → Tells c place old new →
     driver.IsToldOf c place new
 twins_told c place old new none said = driver.twins new (subst (λ (l : List ℕ). Tells c place l new) none said)
-
-pub with_checker : (text : List ℕ) (tokens rest : List Token) (place : Place) (kind outputs : ℕ)
-    (found : Option (ℕ × ℕ)) (made : List ℕ) → rest ≡ from_place place tokens → found ≡ driver.cuts rest →
-    found ≡ Some (kind, outputs) → made ≡ driver.as_checker text kind outputs →
-    driver.IsWithChecker text tokens place made
-with_checker text tokens rest place kind outputs found made from is some make =
-    subst (driver.IsWithChecker text tokens place) (sym make)
-    (driver.made kind outputs (ap driver.cuts (sym from) ∙ sym is ∙ some))
 
 pub driver_untold : (text : List ℕ) (place : Place) (bytes : List ℕ) → bytes ≡ [] →
     driver.IsTold text place bytes
@@ -144,25 +137,17 @@ case_explained text place tokens seen again rest cut found front bytes are see i
     (subst (λ (ts : List Token). case.IsToldOf text (take cut text) ts bytes) (from ∙ ap (from_place place) same)
     by_front)
 
-pub driver_explained : (text : List ℕ) (place : Place) (tokens seen : List Token) (made seen_made : List ℕ)
-    (c : Circuit) (cases : List (List CaseValue)) (bytes : List ℕ) → AreTokens text tokens → seen ≡ tokens →
-    driver.AreChecked text seen place made → seen_made ≡ made → DrawsCircuit seen_made c cases →
-    driver.IsToldOf c place bytes → driver.IsTold text place bytes
-driver_explained text place tokens seen made seen_made c cases bytes are see checked see_made drawn said =
-    driver.by_circuit tokens made c cases bytes are
-    (subst (λ (ts : List Token). driver.AreChecked text ts place made) see checked)
-    (subst (λ (l : List ℕ). DrawsCircuit l c cases) see_made drawn) said
+pub driver_explained : (text : List ℕ) (place : Place) (tokens : List Token) (before : List ℕ) (c : Circuit)
+    (bytes : List ℕ) → AreTokens text tokens → before ≡ case.before_cases text tokens →
+    IsDrawnWith Checker tokens before place c → driver.IsToldOf c place bytes → driver.IsTold text place bytes
+driver_explained text place tokens before c bytes are is by said =
+    driver.by_circuit tokens c bytes are (subst (λ (l : List ℕ). IsDrawnWith Checker tokens l place c) is by) said
 
-pub zero_explained : (text : List ℕ) (place : Place) (tokens seen rest : List Token) (from to : ℕ)
-    (found : Option (ℕ × ℕ)) (made seen_made bytes : List ℕ) → AreTokens text tokens → seen ≡ tokens →
-    rest ≡ from_place place seen → found ≡ zero.cuts rest → found ≡ Some (from, to) →
-    made ≡ zero.slowed text from to → seen_made ≡ made → zero.IsToldBy seen_made place bytes →
-    zero.IsTold text place bytes
-zero_explained text place tokens seen rest from to found made seen_made bytes are see there is some make see_made said =
-    let at : zero.cuts (from_place place tokens) ≡ Some (from, to) =
-    ap zero.cuts (sym (there ∙ ap (from_place place) see)) ∙ sym is ∙ some in
-    zero.by_circuit tokens from to bytes are at
-    (subst (λ (l : List ℕ). zero.IsToldBy l place bytes) (see_made ∙ make) said)
+pub zero_explained : (text : List ℕ) (place : Place) (tokens : List Token) (before : List ℕ) (c : Circuit)
+    (bytes : List ℕ) → AreTokens text tokens → before ≡ case.before_cases text tokens →
+    IsDrawnWith Delay tokens before place c → zero.IsToldOf c place bytes → zero.IsTold text place bytes
+zero_explained text place tokens before c bytes are is by said =
+    zero.by_circuit tokens c bytes are (subst (λ (l : List ℕ). IsDrawnWith Delay tokens l place c) is by) said
 
 -- ---- a loop somewhere in a text
 
@@ -172,16 +157,24 @@ cut_untold_at text ds n bytes none = subst (cut.IsToldAt text ds n) (sym none) c
 pub cut_untold : (text bytes : List ℕ) → bytes ≡ [] → cut.IsTold text bytes
 cut_untold text bytes none = subst (cut.IsTold text) (sym none) cut.untold
 
+pub no_round_told : (c : Circuit) (place : Place) (bytes : List ℕ) → bytes ≡ [] → cut.IsRound c place bytes
+no_round_told c place bytes none = subst (cut.IsRound c place) (sym none) cut.no_way
+
+pub round_told : (c : Circuit) (place : Place) (net : ℕ) (nets old new : List ℕ) → zero.IsDrivenAt c place net →
+    old ≡ [] → new ≡ old ++ cut.round_lines c (WithoutDelay place) net nets → cut.IsRound c place new
+round_told c place net nets old new driven none is =
+    subst (cut.IsRound c place) (sym (put old new (cut.round_lines c (WithoutDelay place) net nets) none is))
+    (cut.by_way net nets driven)
+
 pub cut_told : (text : List ℕ) (ds front more : List Delayed) (n : ℕ) (d : Delayed) (is_there : Bool) (made : List ℕ)
-    (c : Circuit) (cases : List (List CaseValue)) (net : ℕ) (nets old new : List ℕ) → slice_get ds n ≡ Some d →
+    (c : Circuit) (cases : List (List CaseValue)) (bytes : List ℕ) → slice_get ds n ≡ Some d →
     front ≡ take n ds → (is_there ≡ true → cut.IsLooping (slowed_text text front)) → is_there ≡ true →
-    more ≡ take (n + 1) ds → made ≡ slowed_text text more → DrawsCircuit made c cases → zero.IsDrivenAt c d.at net →
-    old ≡ [] → new ≡ old ++ cut.round_lines c (WithoutDelay d.at) net nets → cut.IsToldAt text ds n new
-cut_told text ds front more n d is_there made c cases net nets old new at fore looping is_so further make drawn driven none is =
-    subst (cut.IsToldAt text ds n) (sym (put old new (cut.round_lines c (WithoutDelay d.at) net nets) none is))
-    (cut.told d c cases net nets at
+    more ≡ take (n + 1) ds → made ≡ slowed_text text more → DrawsCircuit made c cases →
+    cut.IsRound c d.at bytes → cut.IsToldAt text ds n bytes
+cut_told text ds front more n d is_there made c cases bytes at fore looping is_so further make drawn said =
+    cut.told d c cases bytes at
     (subst (λ (l : List Delayed). cut.IsLooping (slowed_text text l)) fore (looping is_so))
-    (subst (λ (l : List ℕ). DrawsCircuit l c cases) (make ∙ ap (slowed_text text) further) drawn) driven)
+    (subst (λ (l : List ℕ). DrawsCircuit l c cases) (make ∙ ap (slowed_text text) further) drawn) said
 
 pub cut_explained : (text : List ℕ) (tokens seen : List Token) (found seen_found : List Delayed) (n : ℕ)
     (bytes : List ℕ) → AreTokens text tokens → seen ≡ tokens → found ≡ delays seen → seen_found ≡ found →

@@ -29,6 +29,14 @@ case_cut text [] = None
 case_cut text (t ∷ ts) =
     if bytes_eq (spelled text t) (codes "CASE") then Some t.start else case_cut text ts
 
+abbrev pub up_to : List ℕ → Option ℕ → List ℕ
+up_to text None = text
+up_to text (Some cut) = take cut text
+
+-- the text up to it, or all of the text
+abbrev pub before_cases : List ℕ → List Token → List ℕ
+before_cases text tokens = up_to text (case_cut text tokens)
+
 -- the bit that is named: 0 where none is written
 abbrev pub entry_bit : List Token → ℕ
 entry_bit (t ∷ less ∷ bit ∷ ts) = if is_symbol 60 less.kind then number_of bit.kind else 0

@@ -1,6 +1,7 @@
 -- A loop without delay that is somewhere in a text. It goes through the first use with whose delay, and
 -- those of the uses before it, in place of [1:1] there is none.
 use Rattle.std.specs.Prelude.{◌≡◌, ℕ, ◌+◌, Bool, true, false, List, [], ◌++◌, take, slice_get, codes, Option, Some, None, if◌then◌else◌}
+use Rattle.scald_base.specs.declared.refusal.Place.{Place}
 use Rattle.scald_base.specs.declared.refusal.Refusal.{Refusal}
 use Rattle.scald_base.specs.declared.refusal.RefusalKind.{RefusalKind}
 use Rattle.scald_base.specs.declared.refusal.RefusalKind.TheVariants.{ZeroLoop}
@@ -27,11 +28,11 @@ pub record IsLooping (text : List ℕ) : Type 0 where
   pub refused : IsTextRefused text refusal
   pub kind : is_zero_loop refusal.kind ≡ true
 
-abbrev pub comes_from : List ℕ
-comes_from = codes "    it comes from a loop whose least delay is 0, each net of which comes from the next:\n"
+abbrev pub loop_head : List ℕ
+loop_head = codes "    there is a loop whose least delay is 0, each net of which comes from the next:\n"
 
 unfoldable pub loop_of : Circuit → List ℕ → List ℕ
-loop_of c round = comes_from ++ nets_lines c round
+loop_of c round = loop_head ++ nets_lines c round
 
 abbrev pub round_to : Circuit → Rule → ℕ → List ℕ → Option ℕ → List ℕ
 round_to c rule net nets None = []
@@ -44,14 +45,20 @@ round_to c rule net nets (Some last) =
 abbrev pub round_lines : Circuit → Rule → ℕ → List ℕ → List ℕ
 round_lines c rule net nets = round_to c rule net nets (last_net nets)
 
+-- Nothing is told, or the loop with which a way back from a net ends that the use at the place drives.
+pub data IsRound (c : Circuit) (place : Place) : List ℕ → Type 0 where
+  no_way : IsRound c place []
+  by_way : (net : ℕ) (nets : List ℕ) → IsDrivenAt c place net →
+      IsRound c place (round_lines c (WithoutDelay place) net nets)
+
 -- Nothing is told, or a loop through the use with the delay of a number. The text with [1:1] in place of
 -- the delays before it has a loop, and with [1:1] in place of this one too it has a circuit.
 pub data IsToldAt (text : List ℕ) (ds : List Delayed) (n : ℕ) : List ℕ → Type 0 where
   nothing : IsToldAt text ds n []
-  told : (d : Delayed) (c : Circuit) (cases : List (List CaseValue)) (net : ℕ) (nets : List ℕ) →
+  told : (d : Delayed) (c : Circuit) (cases : List (List CaseValue)) (bytes : List ℕ) →
       slice_get ds n ≡ Some d → IsLooping (slowed_text text (take n ds)) →
-      DrawsCircuit (slowed_text text (take (n + 1) ds)) c cases → IsDrivenAt c d.at net →
-      IsToldAt text ds n (round_lines c (WithoutDelay d.at) net nets)
+      DrawsCircuit (slowed_text text (take (n + 1) ds)) c cases → IsRound c d.at bytes →
+      IsToldAt text ds n bytes
 
 pub data IsTold (text : List ℕ) : List ℕ → Type 0 where
   untold : IsTold text []

@@ -2,11 +2,10 @@ pub mod Rule
 pub mod Lines
 pub mod Loops
 pub mod Made
+pub mod Changed
 pub mod Twins
 pub mod Drivers
 pub mod Cases
-pub mod Statements
-pub mod Reached
 pub mod ZeroLoop
 pub mod Slowed
 pub mod CutSet

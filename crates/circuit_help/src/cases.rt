@@ -1,7 +1,7 @@
 //! Why a case may not set a net.
 
 ghost use Rattle.std.specs.Prelude.{◌≡◌, ◌++◌, ◌<◌, ◌-◌, ◌^◌, length, slice_get, IfOk, OnOk};
-ghost use Rattle.circuit_help.specs.Cases.{IsFound, IsTold, IsToldBy, IsToldOf, case_cut, entry_bit, entry_value, first_of, found_lines, has_point, is_clock, may_mean, meant_line, missing_line, near_net, net_lines, value_lines};
+ghost use Rattle.circuit_help.specs.Cases.{IsFound, IsTold, IsToldBy, IsToldOf, before_cases, case_cut, entry_bit, entry_value, first_of, found_lines, has_point, is_clock, may_mean, meant_line, missing_line, near_net, net_lines, value_lines};
 
 use crate::lines::add_driven;
 use drawn_circuit::read_circuit;
@@ -24,6 +24,16 @@ fn case_cut(text: &[u8], tokens: &[Token]) -> Option<u32>
         rest = others;
     }
     None
+}
+
+/// The text up to its first CASE, or all of it where there is none.
+pub fn before_cases<'a>(text: &'a [u8], tokens: &[Token]) -> &'a [u8]
+    ensures { result.now ≡ before_cases text.now tokens.now }
+{
+    match case_cut(text, tokens) {
+        Some(cut) => front(text, cut as usize),
+        None => text,
+    }
 }
 
 /// The bit that an entry names, whose tokens begin with its name.

@@ -5,7 +5,7 @@
 //! of the text with these delays shows it.
 
 ghost use Rattle.std.specs.Prelude.{◌≡◌, ◌++◌, ◌+◌, ◌<◌, ◌≤◌, ◌-◌, ◌^◌, length, slice_get, take, true, IfOk, IfSome, OnOk};
-ghost use Rattle.circuit_help.specs.CutSet.{IsLooping, IsTold, IsToldAt, comes_from, is_zero_loop, loop_of, round_lines};
+ghost use Rattle.circuit_help.specs.CutSet.{IsLooping, IsRound, IsTold, IsToldAt, loop_head, is_zero_loop, loop_of, round_lines};
 ghost use Rattle.circuit_help.specs.Slowed.{slowed_text};
 ghost use Rattle.circuit_help.specs.ZeroLoop.{IsDrivenAt};
 
@@ -118,10 +118,10 @@ fn way_at(alloc: Global, c: &Circuit, place: Place) -> Result<Option<Way>, NoMem
 }
 
 /// The line before the nets of a loop.
-fn comes_from() -> &'static [u8]
-    ensures { result.now ≡ comes_from }
+fn loop_head() -> &'static [u8]
+    ensures { result.now ≡ loop_head }
 {
-    b"    it comes from a loop whose least delay is 0, each net of which comes from the next:\n"
+    b"    there is a loop whose least delay is 0, each net of which comes from the next:\n"
 }
 
 /// What is told of a loop.
@@ -129,7 +129,7 @@ fn comes_from() -> &'static [u8]
 fn add_loop_of(out: &mut Bytes, c: &Circuit, round: &[u32]) -> Result<(), NoMemory>
     ensures { OnOk result (out.new ≡ out.old ++ loop_of c.now round.now) }
 {
-    out.extend(comes_from())?;
+    out.extend(loop_head())?;
     add_nets(out, c, round)
 }
 
@@ -169,6 +169,24 @@ fn first_delays(delays: &[Delayed], count: usize) -> &[Delayed]
     &delays[..count]
 }
 
+/// What is told of the loop with which a way back ends from a net that the statement at the place drives.
+fn told_at(alloc: Global, c: &Circuit, place: Place) -> Result<Bytes, NoMemory>
+    ensures { IfOk result (IsRound c.now place) }
+{
+    let Some(way) = way_at(alloc, c, place)? else {
+        return Ok(Bytes::new(alloc));
+    };
+    let mut out = Bytes::new(alloc);
+    add_round(
+        &mut out,
+        c,
+        Rule::WithoutDelay(place),
+        way.net,
+        way.nets.as_slice(),
+    )?;
+    Ok(out)
+}
+
 /// What is told by the circuit of the text with [1:1] in place of the delays up to the one of a number,
 /// where a loop is there without that one.
 fn told(alloc: Global, text: &[u8], delays: &[Delayed], number: usize) -> Result<Bytes, NoMemory>
@@ -187,23 +205,11 @@ fn told(alloc: Global, text: &[u8], delays: &[Delayed], number: usize) -> Result
     let Some(made) = made_of(alloc, text, first_delays(delays, number + 1))? else {
         return Ok(Bytes::new(alloc));
     };
-    let drawn = match read_circuit(alloc, made.as_slice()) {
-        Ok(drawn) => drawn,
-        Err(Stop::Refused(_)) => return Ok(Bytes::new(alloc)),
-        Err(Stop::NoMemory) => return Err(NoMemory),
-    };
-    let Some(way) = way_at(alloc, &drawn.circuit, delay.at)? else {
-        return Ok(Bytes::new(alloc));
-    };
-    let mut out = Bytes::new(alloc);
-    add_round(
-        &mut out,
-        &drawn.circuit,
-        Rule::WithoutDelay(delay.at),
-        way.net,
-        way.nets.as_slice(),
-    )?;
-    Ok(out)
+    match read_circuit(alloc, made.as_slice()) {
+        Ok(drawn) => told_at(alloc, &drawn.circuit, delay.at),
+        Err(Stop::Refused(_)) => Ok(Bytes::new(alloc)),
+        Err(Stop::NoMemory) => Err(NoMemory),
+    }
 }
 
 /// Of a text that is refused for a loop without delay: such a loop, where the text has at most 262,144

@@ -8,10 +8,9 @@ ghost use Rattle.scald.specs.Said.{bad_count, forms, no_memory, too_long, unread
 
 use crate::named::Answer;
 use crate::traced::say_trace;
-use circuit_help::{
-    explain_case, explain_drivers, explain_reached, explain_unsettled, explain_zero_loop,
-};
+use circuit_help::{explain_case, explain_drivers, explain_unsettled, explain_zero_loop};
 use formal_help::explain_slips;
+use reach_help::explain_reached;
 use refusal_help::{explain_refusal, explain_words, shown_use};
 use scald_base::{Bytes, NoMemory, Place, Refusal, RefusalKind};
 use scald_tool::{Outcome, Words};

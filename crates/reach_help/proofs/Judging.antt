@@ -10,10 +10,9 @@ use Rattle.flat_circuit.specs.Circuit.{Circuit}
 use Rattle.drawn_circuit.specs.Drawn.{DrawsCircuit, IsTextRefused}
 use Rattle.drawn_circuit.specs.Laws.{NotBoth, OneRefusal}
 use Rattle.help_text.specs.Statement.{spelled}
-use Rattle.circuit_help.specs.declared.statements.Statement.{Statement}
-use Rattle.circuit_help.specs.Reached.{IsRefusedAt, IsTold, IsToldOf, Says, by_tokens, cut_text, none, nothing, reached, reached_line}
-use Rattle.circuit_help.specs.Rule.{is_at}
-use Rattle.circuit_help.specs.Statements.{statements_of}
+use Rattle.reach_help.specs.declared.statements.Statement.{Statement}
+use Rattle.reach_help.specs.Reached.{IsRefusedAt, IsTold, IsToldOf, Says, by_tokens, cut_text, is_at, none, nothing, reached, reached_line}
+use Rattle.reach_help.specs.Statements.{statements_of}
 
 pub drawn_is_not : (text : List ℕ) (place : Place) (c : Circuit) (cases : List (List CaseValue)) → NotBoth →
     DrawsCircuit text c cases → ¬ IsRefusedAt text place

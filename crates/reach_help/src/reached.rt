@@ -1,9 +1,8 @@
 //! By which statement of the drawing a place in a macro is reached.
 
 ghost use Rattle.std.specs.Prelude.{◌≡◌, ◌++◌, ◌<◌, ◌≤◌, ◌-◌, ◌^◌, length, slice_get, IfOk, OnOk};
-ghost use Rattle.circuit_help.specs.Reached.{IsRefusedAt, IsTold, IsToldOf, Says, cut_text, reached_line};
+ghost use Rattle.reach_help.specs.Reached.{IsRefusedAt, IsTold, IsToldOf, Says, cut_text, is_at, reached_line};
 
-use crate::rule::is_at;
 use crate::statements::{Statement, statements};
 use drawn_circuit::laws::{refused_text_draws_nothing, text_has_one_refusal};
 use drawn_circuit::read_circuit;
@@ -15,6 +14,13 @@ use std::alloc::Global;
 
 /// The most bytes of a text that is read again and again.
 const MOST_BYTES: usize = 262_144;
+
+/// Whether two places are one.
+fn is_at(place: Place, other: Place) -> bool
+    ensures { result ≡ is_at place other }
+{
+    place.line == other.line && place.col == other.col
+}
 
 /// Whether a text is refused at a place.
 fn is_refused_at(alloc: Global, text: &[u8], place: Place) -> Result<bool, NoMemory>

@@ -1,5 +1,5 @@
 -- By which statement of the drawing a place in a macro is reached.
-use Rattle.std.specs.Prelude.{◌≡◌, ℕ, Bool, true, false, List, [], ◌∷◌, ◌++◌, take, slice_get, codes, decimal, Some}
+use Rattle.std.specs.Prelude.{◌≡◌, ℕ, Bool, true, false, ◌&&◌, ◌==◌, List, [], ◌∷◌, ◌++◌, take, slice_get, codes, decimal, Some}
 use Rattle.scald_base.specs.declared.refusal.Place.{Place}
 use Rattle.scald_base.specs.declared.refusal.Refusal.{Refusal}
 use Rattle.scald_lex.specs.declared.token.Token.{Token}
@@ -7,14 +7,16 @@ use Rattle.scald_lex.specs.Tokens.{AreTokens}
 use Rattle.listing.specs.Text.{line}
 use Rattle.drawn_circuit.specs.Drawn.{IsTextRefused}
 use Rattle.help_text.specs.Statement.{spelled}
-use Rattle.circuit_help.specs.declared.statements.Statement.{Statement}
-use Rattle.circuit_help.specs.Rule.{is_at}
-use Rattle.circuit_help.specs.Statements.{statements_of}
+use Rattle.reach_help.specs.declared.statements.Statement.{Statement}
+use Rattle.reach_help.specs.Statements.{statements_of}
 
 -- The text up to a byte, with the end of a drawing after it: the byte is one at the end of a
 -- statement of the drawing, or before its first.
 abbrev pub cut_text : List ℕ → ℕ → List ℕ
 cut_text text cut = take cut text ++ codes "END;"
+
+abbrev pub is_at : Place → Place → Bool
+is_at place other = place.line == other.line && place.col == other.col
 
 -- the text is refused there
 pub record IsRefusedAt (text : List ℕ) (place : Place) : Type 0 where

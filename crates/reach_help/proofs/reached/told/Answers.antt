@@ -1,7 +1,7 @@
 use Rattle.std.proofs.Common.{◌∙◌, ◌++◌, List, ℕ, ap, sym}
-use Rattle.circuit_help.specs.Reached.{reached_line}
-use Rattle.circuit_help.proofs.Judging.{not_reached, reached_told}
-use Rattle.circuit_help.proofs.reached.told.Goals as goal
+use Rattle.reach_help.specs.Reached.{reached_line}
+use Rattle.reach_help.proofs.Judging.{not_reached, reached_told}
+use Rattle.reach_help.proofs.reached.told.Goals as goal
 
 pub returns-in_default : goal.returns-in_default
 returns-in_default c = not_reached c.args.text.now c.args.found.now c.args.place _ c.new.ensures

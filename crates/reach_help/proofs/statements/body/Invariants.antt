@@ -1,6 +1,6 @@
 use Rattle.std.proofs.Common.{◌≡◌, ◌≤◌, length}
-use Rattle.circuit_help.specs.Statements.{body}
-use Rattle.circuit_help.proofs.statements.body.Given as goal
+use Rattle.reach_help.specs.Statements.{body}
+use Rattle.reach_help.proofs.statements.body.Given as goal
 
 abbrev pub invariant-tokens : goal.invariant-tokens
 invariant-tokens l = record {

@@ -1,7 +1,7 @@
 use Rattle.std.proofs.Common.{◌≡◌, ◌∙◌, ◌++◌, ℕ, List, ap, subst}
 use Rattle.std.specs.Prelude.{OnOk}
-use Rattle.circuit_help.specs.Reached.{reached_line}
-use Rattle.circuit_help.proofs.reached.add_statement.Goals as goal
+use Rattle.reach_help.specs.Reached.{reached_line}
+use Rattle.reach_help.proofs.reached.add_statement.Goals as goal
 
 abbrev said : List ℕ → ℕ → ℕ → List ℕ
 said word line col = reached_line word (record { line = line; col = col })

@@ -1,7 +1,7 @@
 //! The statements of a drawing, by its tokens.
 
 ghost use Rattle.std.specs.Prelude.{◌≡◌, ◌+◌, ◌<◌, ◌≤◌, ◌^◌, length, IfOk};
-ghost use Rattle.circuit_help.specs.Statements.{begins_block, body, depth_after, ends_body, ends_statement, is_end, statements_of};
+ghost use Rattle.reach_help.specs.Statements.{begins_block, body, depth_after, ends_body, ends_statement, is_end, statements_of};
 
 use help_text::{is_symbol, is_word, spelled};
 use scald_base::{List, NoMemory, same_bytes};

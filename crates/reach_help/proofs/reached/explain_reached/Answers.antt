@@ -1,7 +1,7 @@
 use Rattle.std.proofs.lemmas.Result.{IfOk-weaker}
-use Rattle.circuit_help.specs.Reached.{IsTold, IsToldOf}
-use Rattle.circuit_help.proofs.Judging.{none_reached, told_of}
-use Rattle.circuit_help.proofs.reached.explain_reached.Goals as goal
+use Rattle.reach_help.specs.Reached.{IsTold, IsToldOf}
+use Rattle.reach_help.proofs.Judging.{none_reached, told_of}
+use Rattle.reach_help.proofs.reached.explain_reached.Goals as goal
 
 pub returns-then-text-gt-MOST_BYTES : goal.returns-then-text-gt-MOST_BYTES
 returns-then-text-gt-MOST_BYTES c = none_reached c.args.text.now c.args.place c.new.result c.new.ensures

@@ -4,7 +4,7 @@ use Rattle.std.specs.Str.{bytes_eq}
 use Rattle.scald_lex.specs.declared.token.Token.{Token}
 use Rattle.help_text.specs.Statement.{spelled}
 use Rattle.help_text.specs.Tokens.{is_symbol, is_word}
-use Rattle.circuit_help.specs.declared.statements.Statement.{Statement}
+use Rattle.reach_help.specs.declared.statements.Statement.{Statement}
 
 -- ---- the body of the drawing
 

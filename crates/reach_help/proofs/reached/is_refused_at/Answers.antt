@@ -1,10 +1,10 @@
 use Rattle.std.proofs.Common.{Bool, Result, sym, subst}
 use Rattle.std.specs.Prelude.{IfOk}
 use Rattle.scald_base.specs.declared.list.NoMemory.{NoMemory}
-use Rattle.circuit_help.specs.Reached.{IsRefusedAt, Says}
-use Rattle.circuit_help.proofs.Judging.{drawn_is_not, refused_is}
-use Rattle.circuit_help.proofs.reached.is_refused_at.Goals as goal
-use Rattle.circuit_help.proofs.reached.is_refused_at.Goals.{in-Ok, in-Err-Refused, in-Err-NoMemory}
+use Rattle.reach_help.specs.Reached.{IsRefusedAt, Says}
+use Rattle.reach_help.proofs.Judging.{drawn_is_not, refused_is}
+use Rattle.reach_help.proofs.reached.is_refused_at.Goals as goal
+use Rattle.reach_help.proofs.reached.is_refused_at.Goals.{in-Ok, in-Err-Refused, in-Err-NoMemory}
 
 pub returns : goal.returns
 returns c =

@@ -1,6 +1,6 @@
 use Rattle.std.proofs.Common.{◌≡◌, ◌+◌, ◌≤◌, ◌++◌, length}
-use Rattle.circuit_help.specs.Statements.{statements_from, statements_of}
-use Rattle.circuit_help.proofs.statements.statements.Given as goal
+use Rattle.reach_help.specs.Statements.{statements_from, statements_of}
+use Rattle.reach_help.proofs.statements.statements.Given as goal
 
 abbrev pub invariant-tokens : goal.invariant-tokens
 invariant-tokens l = record {
