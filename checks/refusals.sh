@@ -1386,7 +1386,7 @@ said "$(of 2 7 'the net /Q<0> does not assert here what it asserts in section 1'
     '    in section 1 it stands at 4:32, line 4 of the text:' \
     "    $first" \
     '                                   ^' \
-    '    give it the same assertion in each section where it stands, or none in any'
+    '    give it the same assertion in each section where it stands'
 sections 10 "$first" "b2 : BUF [1:2] (\"E .S1-8\") -> (\"/Q .S2-8\");$end"
 said "$(of 2 7 'the net /Q<0> is driven here, and in section 1')" \
     '    here it is driven at 4:1, line 10 of the text:' \

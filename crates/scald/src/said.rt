@@ -9,13 +9,14 @@ ghost use Rattle.scald.specs.Said.{bad_count, forms, no_memory, too_long, unread
 use crate::named::Answer;
 use crate::traced::say_trace;
 use circuit_help::{explain_case, explain_drivers, explain_unsettled, explain_zero_loop};
+use crossing_help::list_crossings;
 use formal_help::explain_slips;
 use reach_help::explain_reached;
 use refusal_help::{explain_refusal, explain_words, shown_use};
 use scald_base::{Bytes, NoMemory, Place, Refusal, RefusalKind};
 use scald_tool::{Outcome, Words};
 use section_compose::SectionsOutcome;
-use section_help::{explain_broken, explain_section, explain_separator, list_crossings};
+use section_help::{explain_broken, explain_section, explain_separator};
 use section_rules::{Piece, sections_of};
 use std::alloc::Global;
 use std::io::Eprint;

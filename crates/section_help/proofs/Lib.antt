@@ -3,6 +3,4 @@ pub mod Parts
 pub mod Numbers
 pub mod Reading
 pub mod Telling
-pub mod Listing
 pub mod Examples
-pub mod ExamplesCrossing

@@ -1,5 +1,5 @@
 -- The sections of a text read one after the other.
-use Rattle.std.proofs.Common.{◌≡◌, ℕ, ◌+◌, ◌<◌, ◌≤◌, List, [], ◌∷◌, ◌++◌, length, get_or, take}
+use Rattle.std.proofs.Common.{◌≡◌, ℕ, ◌+◌, ◌<◌, ◌≤◌, List, [], ◌∷◌, ◌++◌, length, get_or, take, arith}
 use Rattle.std.proofs.Common.{map, refl, sym, ap, subst, ◌∙◌}
 use Rattle.std.specs.Prelude.{option_map}
 use Rattle.std.specs.List.{AllZip}
@@ -9,9 +9,10 @@ use Rattle.std.proofs.lemmas.Slice.Zip.{AllZip-long}
 use Rattle.scald_base.specs.declared.refusal.Refusal.{Refusal}
 use Rattle.section_rules.specs.declared.cut.Piece.{Piece}
 use Rattle.section_rules.specs.declared.section.Section.{Section}
+use Rattle.section_rules.specs.Cut.{sections_of}
 use Rattle.section_rules.specs.Drawn.{DrawsSection, IsSectionRefused}
 use Rattle.section_rules.specs.Pieces.{piece_of}
-use Rattle.section_help.specs.Broken.{IsUndrawn}
+use Rattle.section_help.specs.Read.{IsUndrawn}
 
 zip_push : {A B : Type 0} (R : A → B → Type 0) (xs : List A) (ys : List B) (x : A) (y : B) → AllZip R xs ys → R x y →
     AllZip R (xs ++ x ∷ []) (ys ++ y ∷ [])
@@ -57,3 +58,25 @@ module _ (text : List ℕ) (pieces : List Piece) where
     is = slice_get-map (piece_of text) pieces s ∙ ap (option_map (piece_of text)) (slice_get_read pieces (length pieces) s p refl below is);
     refused = refused;
   }
+
+-- ---- by the sections of a text, of which the code has the list, and slices of it
+
+module _ (text : List ℕ) (list seen : List Piece) (are : map (piece_of text) list ≡ sections_of text)
+    (see : seen ≡ list) where
+  seen_are : map (piece_of text) seen ≡ sections_of text
+  seen_are = ap (map (piece_of text)) see ∙ are
+
+  pub many_sections : 64 < length seen → 64 < length (sections_of text)
+  many_sections many =
+      let long : length (sections_of text) ≡ length seen =
+      ap length (sym seen_are) ∙ length-map seen (piece_of text) in
+      omega (arith, long, many)
+
+  pub undrawn_sections : IsUndrawn (map (piece_of text) seen) → IsUndrawn (sections_of text)
+  undrawn_sections refused = subst IsUndrawn seen_are refused
+
+  pub drawn_sections : (read sections : List Section) → AllZip DrawsSection (map (piece_of text) seen) read →
+      sections ≡ read → AllZip DrawsSection (sections_of text) sections
+  drawn_sections read sections drawn same =
+      subst (AllZip DrawsSection (sections_of text)) (sym same)
+      (subst (λ (texts : List (List ℕ)). AllZip DrawsSection texts read) seen_are drawn)

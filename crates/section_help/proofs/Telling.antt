@@ -1,8 +1,7 @@
 -- What is told once it is known to be so.
-use Rattle.std.proofs.Common.{◌≡◌, ℕ, ◌<◌, List, [], ◌++◌, length, map, ap, sym, subst, ◌∙◌, arith}
+use Rattle.std.proofs.Common.{◌≡◌, ℕ, ◌<◌, List, [], ◌++◌, length, map, ap, sym, subst, ◌∙◌}
 use Rattle.std.specs.Prelude.{Option, Some, None, slice_get}
 use Rattle.std.specs.List.{AllZip}
-use Rattle.std.proofs.lemmas.List.{length-map}
 use Rattle.scald_base.specs.declared.refusal.Place.{Place}
 use Rattle.flat_circuit.specs.declared.net.Net.{Net}
 use Rattle.section_rules.specs.declared.rules.Broken.{Broken}
@@ -14,10 +13,12 @@ use Rattle.section_rules.specs.Pieces.{piece_of}
 use Rattle.section_rules.specs.Rules.{first_broken}
 use Rattle.section_help.specs.declared.words.Site.{Site}
 use Rattle.section_help.specs.Beside.{beside}
-use Rattle.section_help.specs.Broken.{IsAt, IsTold, IsToldOf, IsToldOfHeader, IsToldOfNet, IsUndrawn, broken, by_both, by_header, index_of, too_many, unbroken, undrawn}
+use Rattle.section_help.specs.Broken.{IsAt, IsTold, IsToldOf, IsToldOfHeader, IsToldOfNet, broken, by_both, by_header, index_of, too_many, unbroken, undrawn}
 use Rattle.section_help.specs.Found.{IsFound, first_word}
 use Rattle.section_help.specs.Part.{text_at}
+use Rattle.section_help.specs.Read.{IsUndrawn}
 use Rattle.section_help.specs.Words.{end_lines, header_lines, header_word, other_lines, other_site, own_lines, own_site, top_lines}
+use Rattle.section_help.proofs.Reading.{drawn_sections, many_sections, undrawn_sections}
 
 -- bytes that were put after none
 put : (old new text : List ℕ) → old ≡ [] → new ≡ old ++ text → new ≡ text
@@ -67,33 +68,25 @@ module _ (text : List ℕ) (list seen : List Piece) where
   pub too_many_told : (bytes : List ℕ) → map (piece_of text) list ≡ sections_of text → seen ≡ list →
       64 < length seen → bytes ≡ [] → IsTold text bytes
   too_many_told bytes are see many none =
-      let long : length (sections_of text) ≡ length seen =
-      ap length (sym are) ∙ length-map list (piece_of text) ∙ ap length (sym see) in
-      subst (IsTold text) (sym none) (too_many (omega (arith, long, many)))
+      subst (IsTold text) (sym none) (too_many (many_sections text list seen are see many))
 
   pub undrawn_told : (bytes : List ℕ) → map (piece_of text) list ≡ sections_of text → seen ≡ list →
       IsUndrawn (map (piece_of text) seen) → bytes ≡ [] → IsTold text bytes
   undrawn_told bytes are see refused none =
-      subst (IsTold text) (sym none) (undrawn (subst IsUndrawn (ap (map (piece_of text)) see ∙ are) refused))
+      subst (IsTold text) (sym none) (undrawn (undrawn_sections text list seen are see refused))
 
   module _ (read sections : List Section) where
-    pub drawn_sections : map (piece_of text) list ≡ sections_of text → seen ≡ list →
-        AllZip DrawsSection (map (piece_of text) seen) read → sections ≡ read →
-        AllZip DrawsSection (sections_of text) sections
-    drawn_sections are see drawn same =
-        subst (AllZip DrawsSection (sections_of text)) (sym same)
-        (subst (λ (texts : List (List ℕ)). AllZip DrawsSection texts read) (ap (map (piece_of text)) see ∙ are) drawn)
-
     pub unbroken_told : (found : Option Broken) (bytes : List ℕ) → map (piece_of text) list ≡ sections_of text →
         seen ≡ list → AllZip DrawsSection (map (piece_of text) seen) read → sections ≡ read →
         found ≡ first_broken sections → found ≡ None → bytes ≡ [] → IsTold text bytes
     unbroken_told found bytes are see drawn same is absent none =
-        subst (IsTold text) (sym none) (unbroken sections (drawn_sections are see drawn same) (sym is ∙ absent))
+        subst (IsTold text) (sym none)
+        (unbroken sections (drawn_sections text list seen are see read sections drawn same) (sym is ∙ absent))
 
     pub broken_told : (b : Broken) (found : Option Broken) (bytes : List ℕ) →
         map (piece_of text) list ≡ sections_of text → seen ≡ list →
         AllZip DrawsSection (map (piece_of text) seen) read → sections ≡ read → found ≡ first_broken sections →
         found ≡ Some b → IsToldOf (map (piece_of text) seen) sections b bytes → IsTold text bytes
     broken_told b found bytes are see drawn same is some said =
-        broken sections b bytes (drawn_sections are see drawn same) (sym is ∙ some)
+        broken sections b bytes (drawn_sections text list seen are see read sections drawn same) (sym is ∙ some)
         (subst (λ (texts : List (List ℕ)). IsToldOf texts sections b bytes) (ap (map (piece_of text)) see ∙ are) said)

@@ -2,14 +2,13 @@
 use Rattle.std.specs.Prelude.{◌≡◌, ℕ, ◌-◌, ◌<◌, true, false, List, [], ◌++◌, length, slice_get, Option, Some, None}
 use Rattle.std.specs.List.{AllZip}
 use Rattle.scald_base.specs.declared.refusal.Place.{Place}
-use Rattle.scald_base.specs.declared.refusal.Refusal.{Refusal}
 use Rattle.flat_circuit.specs.declared.net.Net.{Net}
 use Rattle.flat_circuit.specs.Circuit.{Circuit}
 use Rattle.flat_circuit.specs.Name.{net_at}
 use Rattle.section_rules.specs.declared.rules.Broken.{Broken}
 use Rattle.section_rules.specs.declared.section.Section.{Section}
 use Rattle.section_rules.specs.Cut.{sections_of}
-use Rattle.section_rules.specs.Drawn.{DrawsSection, IsSectionRefused}
+use Rattle.section_rules.specs.Drawn.{DrawsSection}
 use Rattle.section_rules.specs.Rule.{is_of_net}
 use Rattle.section_rules.specs.Rules.{first_broken}
 use Rattle.section_help.specs.declared.words.Site.{Site}
@@ -17,6 +16,7 @@ use Rattle.section_help.specs.declared.words.Site.TheVariants.{Stands, Driven}
 use Rattle.section_help.specs.Beside.{beside, driver_place}
 use Rattle.section_help.specs.Found.{IsFound, first_word, named_place}
 use Rattle.section_help.specs.Part.{text_at}
+use Rattle.section_help.specs.Read.{IsUndrawn}
 use Rattle.section_help.specs.Words.{header_lines, header_word, other_lines, other_site, own_lines, own_site}
 
 -- Where a net stands in a section, or where it is driven.
@@ -60,14 +60,6 @@ pub data IsToldOf (texts : List (List ℕ)) (sections : List Section) (b : Broke
   no_net : is_of_net b.rule ≡ true → net_of sections b ≡ None → IsToldOf texts sections b []
 
 -- ---- by the sections of a text
-
--- a section is refused by itself
-pub record IsUndrawn (texts : List (List ℕ)) : Type 0 where
-  pub at : ℕ
-  pub text : List ℕ
-  pub refusal : Refusal
-  pub is : slice_get texts at ≡ Some text
-  pub refused : IsSectionRefused text refusal
 
 pub data IsTold (text : List ℕ) : List ℕ → Type 0 where
   too_many : 64 < length (sections_of text) → IsTold text []

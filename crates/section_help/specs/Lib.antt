@@ -2,11 +2,7 @@ pub mod Part
 pub mod Found
 pub mod Beside
 pub mod Words
+pub mod Read
 pub mod Broken
 pub mod Section
 pub mod Separator
-pub mod Taken
-pub mod Listed
-pub mod Meant
-pub mod RunLine
-pub mod Crossing

@@ -47,7 +47,7 @@ middle Delay = codes " has a driver that may take no time, and goes to section "
 abbrev pub advice : Rule → List ℕ
 advice Case = codes "    verify this section with its cases by itself, and leave them out here\n"
 advice Clock = codes "    write CLOCK, PSKEW and CSKEW alike in all sections\n"
-advice Assertion = codes "    give it the same assertion in each section where it stands, or none in any\n"
+advice Assertion = codes "    give it the same assertion in each section where it stands\n"
 advice Drivers = codes "    one section drives it, and the others take it as it asserts\n"
 advice Unasserted = codes "    nothing else is known of it there: give it one assertion in each section where it stands\n"
 advice Delay = codes "    give its driver a least delay of 1 or more\n"

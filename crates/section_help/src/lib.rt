@@ -4,8 +4,7 @@
 //! sections that is broken (`specs/Broken`): the section, the places that it is about, each with its line
 //! and a mark, and what to do. [`explain_section`] says which section a refusal is of, and
 //! [`explain_separator`] which line is nearly one between sections (`specs/Separator`). Of sections that
-//! break no rule [`list_crossings`] lists the global nets that cross, and those that no section drives
-//! (`specs/Crossing`): there a name that is misspelt shows.
+//! break no rule `crossing_help` tells; it has them from [`read_sections`].
 #![tactic(auto)]
 
 // where things stand
@@ -13,21 +12,16 @@ mod beside;
 mod found;
 mod part;
 
-// the sections of a text, and their global nets
-mod listed;
-mod meant;
+// the sections of a text
 mod read;
-mod taken;
 
 // what is said
 mod broken;
-mod crossing;
-mod run_line;
 mod section;
 mod separator;
 mod words;
 
 pub use broken::explain_broken;
-pub use crossing::list_crossings;
+pub use read::{Unread, read_sections};
 pub use section::explain_section;
 pub use separator::explain_separator;

@@ -4,7 +4,7 @@ ghost use Rattle.std.specs.Prelude.{◌≡◌, ◌<◌, ◌-◌, ◌^◌, length
 ghost use Rattle.std.specs.List.{AllZip};
 ghost use Rattle.section_rules.specs.Drawn.{DrawsSection};
 ghost use Rattle.section_rules.specs.Pieces.{piece_of};
-ghost use Rattle.section_help.specs.Broken.{IsUndrawn};
+ghost use Rattle.section_help.specs.Read.{IsUndrawn};
 
 use crate::part::piece_text;
 use scald_base::{List, NoMemory, Stop};

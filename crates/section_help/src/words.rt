@@ -72,8 +72,7 @@ pub fn advice(rule: Rule) -> &'static [u8]
         Rule::Case =>
             b"    verify this section with its cases by itself, and leave them out here\n",
         Rule::Clock => b"    write CLOCK, PSKEW and CSKEW alike in all sections\n",
-        Rule::Assertion =>
-            b"    give it the same assertion in each section where it stands, or none in any\n",
+        Rule::Assertion => b"    give it the same assertion in each section where it stands\n",
         Rule::Drivers => b"    one section drives it, and the others take it as it asserts\n",
         Rule::Unasserted =>
             b"    nothing else is known of it there: give it one assertion in each section where it stands\n",
