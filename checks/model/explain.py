@@ -287,6 +287,16 @@ def told_delay(instance, value, wire, late):
     return instance.delay, "" if allowing else " by neither of its delays"
 
 
+def shortening(instance, begin, end):
+    """By how many ticks two delays make a pulse shorter at most, from what its begin and its end may do at the output."""
+    if instance.split is None or begin not in ("R", "F") or end == begin:
+        return 0
+    rise, fall = instance.split
+    is_high = (begin == "R") != instance.output.is_complemented
+    first, last = (rise, fall) if is_high else (fall, rise)
+    return first.greatest - last.least
+
+
 def parts_of(late, wire, delay):
     """How many of these ticks are the wire's, and how many the delay's: the wire has as few as may be."""
     taken = min(late - wire.least, delay.greatest)
@@ -533,9 +543,9 @@ class Told:
                 break
             if opens.links[number + 1].net != closes.links[number + 1].net:
                 break
-            less = opens.late[number + 1] - closes.late[number + 1]
+            element = self.circuit.drivers[opens.links[number].net]
+            less = shortening(element, opens.links[number].value, closes.links[number].value)
             if less > 0:
-                element = self.circuit.drivers[opens.links[number].net]
                 shorter.append(f"  {element_text(element, self.naming)} makes it {ticks_text(less)} shorter")
         lines += shorter[::-1]
         lines += self.side("its begin", opens, arrival)

@@ -7,14 +7,14 @@ use Rattle.std.proofs.lemmas.Option.{slice_get-get_or}
 use Rattle.step_values.specs.declared.value.Value.TheVariants.{Zero}
 use Rattle.flat_circuit.specs.Circuit.{Circuit}
 use Rattle.fault_chain.specs.declared.chain.Link.{Link}
-use Rattle.fault_account.specs.Late.{late_from}
 use Rattle.fault_words.specs.declared.naming.Naming.{Naming}
 use Rattle.fault_lines.specs.Lines.{AreAlikeTo, shorter_by, shorter_lines}
+use Rattle.fault_lines.specs.Shorter.{less_at}
 
 -- two links of each, the same way
 pub both_alike : (naming : Naming) (c : Circuit) (a b l m : Link) (begins ends : List Link) → a.net ≡ l.net → b.net ≡ m.net →
     shorter_lines naming c (a ∷ b ∷ begins) (l ∷ m ∷ ends)
-    ≡ shorter_lines naming c (b ∷ begins) (m ∷ ends) ++ shorter_by naming c a.net (late_from c b a - late_from c m l)
+    ≡ shorter_lines naming c (b ∷ begins) (m ∷ ends) ++ shorter_by naming c a.net (less_at c a l)
 both_alike naming c a b l m begins ends first second = rw (eq-eqb a.net l.net first, eq-eqb b.net m.net second) refl
 
 -- ---- where one of them has no more links
@@ -71,8 +71,7 @@ pub shorter_more : (naming : Naming) (c : Circuit) (begins ends : List Link) (pl
     shorter_lines naming c (drop (place - 1) begins) (drop (place - 1) ends)
     ≡ shorter_lines naming c (drop place begins) (drop place ends)
     ++ shorter_by naming c (get_or begins (place - 1) no_link).net
-    (late_from c (get_or begins place no_link) (get_or begins (place - 1) no_link)
-    - late_from c (get_or ends place no_link) (get_or ends (place - 1) no_link))
+    (less_at c (get_or begins (place - 1) no_link) (get_or ends (place - 1) no_link))
 shorter_more naming c begins ends place some alike =
     let reach_begin = alike.begins_reach in
     let reach_end = alike.ends_reach in
@@ -88,7 +87,7 @@ shorter_more naming c begins ends place some alike =
     (ap (slice_get begins) next ∙ slice_get-get_or begins place no_link begin)
     (slice_get-get_or ends (place - 1) no_link (omega (arith, end)))
     (ap (slice_get ends) next ∙ slice_get-get_or ends place no_link end) in
-    let less : ℕ = late_from c b a - late_from c m l in
+    let less : ℕ = less_at c a l in
     (λ k. shorter_lines naming c (two_front begins place some begin k) (two_front ends place some end k))
     ∙ both_alike naming c a b l m (drop (suc place) begins) (drop (suc place) ends) nets.0 nets.1
     ∙ sym (λ k. shorter_lines naming c (drop-cons begins place no_link begin k) (drop-cons ends place no_link end k) ++ shorter_by naming c a.net less)

@@ -1,6 +1,6 @@
 -- When the changes of a paragraph are, and how long they take, worked out on paper in a period of
 -- 400 ticks.
-use Rattle.std.specs.Prelude.{◌≡◌, ℕ, ◌≤◌, true, false, List, [], ◌∷◌, codes, Option, Some, None}
+use Rattle.std.specs.Prelude.{◌≡◌, ℕ, ◌≤◌, Bool, true, false, List, [], ◌∷◌, codes, Option, Some, None}
 use Rattle.std.specs.Fmt.{digits}
 use Rattle.std.proofs.Common.{refl, arith}
 use Rattle.scald_base.specs.Clock.{back}
@@ -28,15 +28,14 @@ use Rattle.fault_account.specs.declared.account.OfNet.{OfNet}
 use Rattle.fault_words.specs.Words.{tick_text}
 use Rattle.fault_lines.specs.declared.two_delays.Way.TheVariants.{Rise, Fall, Either}
 use Rattle.fault_lines.specs.TwoDelays.{delay_told, way_of, which_text}
-use Rattle.fault_lines.specs.Axis.{asserted_tick, broken_tick, change_tick, edge_tick, first_tick, last_tick, mark_tick, net_tick, pulse_tick}
+use Rattle.fault_lines.specs.Axis.{asserted_tick, broken_tick, change_tick, edge_tick, first_tick, last_tick, mark_tick, net_tick}
 use Rattle.fault_lines.specs.Endings.{links_after}
 use Rattle.fault_lines.specs.Laws.{IsToldAt}
 use Rattle.fault_lines.specs.Launched.{input_of, is_early, is_one, is_said, is_within, late_line, late_lines, sooner_of}
 use Rattle.fault_lines.specs.LastChange.{has_last, is_shown, over_of, which_change}
-use Rattle.fault_lines.specs.Lines.{breaks_text, moved_text, moves_text, shorter_line, shorter_lines, when_text}
-use Rattle.fault_words.specs.declared.naming.Naming.TheVariants.{Whole}
+use Rattle.fault_lines.specs.Lines.{breaks_text, moved_text, moves_text, when_text}
 
-abbrev span : ℕ → ℕ → Bounds
+abbrev pub span : ℕ → ℕ → Bounds
 span least greatest = record { min = least; max = greatest }
 
 -- ---- which of two delays
@@ -83,41 +82,44 @@ of_one_delay = (refl, refl)
 abbrev net : List ℕ → Option ℕ → Net
 net name driver = record { name = name; bit = 0; spec = Unasserted; wire = span 0 0; driver = driver }
 
-abbrev buffer : Bounds → Instance
-buffer delay =
+abbrev buffer : Bounds → Option Split → Bool → Instance
+buffer delay split inverted =
     record {
       path = codes "slow";
       bit = 0;
       kind = Buf;
       delay = delay;
-      split = None;
+      split = split;
       limits = (0, 0);
       pins = record { target = OnNet 0; inverted = false; hold = false } ∷ [];
       out = Some (OnNet 1);
-      out_inverted = false;
+      out_inverted = inverted;
       place = record { line = 5; col = 1 };
     }
 
 abbrev header : Header
 header = record { units = 8; ticks = 50; wire = span 0 0; pskew = (0, 0); cskew = (0, 0) }
 
-abbrev circuit : Bounds → Circuit
-circuit delay =
+abbrev pub circuit_with : Bounds → Option Split → Bool → Circuit
+circuit_with delay split inverted =
     record {
       header = header;
       nets = net (codes "CK") None ∷ net (codes "D") (Some 0) ∷ [];
-      instances = buffer delay ∷ [];
+      instances = buffer delay split inverted ∷ [];
       order = 0 ∷ 1 ∷ [];
     }
 
-abbrev side : List Link → ℕ → Side
+abbrev pub circuit : Bounds → Circuit
+circuit delay = circuit_with delay None false
+
+abbrev pub side : List Link → ℕ → Side
 side links slot = record { chain = record { links = links; end = Undriven }; slot = slot; wire = span 0 0; unknown = [] }
 
 -- the clock rises in slot 100
-abbrev rise : Link
+abbrev pub rise : Link
 rise = record { net = 0; slot = 100; value = R }
 
-abbrev change : ℕ → Side
+abbrev pub change : ℕ → Side
 change slot = side (record { net = 1; slot = slot; value = C } ∷ rise ∷ []) slot
 
 abbrev clock : Side
@@ -296,13 +298,6 @@ over_the_end : (asserted_tick (circuit (span 0 0)) (asserted 100 70 10 0) ≡ 38
 unfolding net_tick back
 over_the_end = (refl, refl, refl)
 
--- ---- of a pulse
-
--- a pulse from slot 103 for 5 ticks: its end comes to slot 108 by 408
-of_pulse : pulse_tick (circuit (span 400 410)) (record { checker = 0; asked = None; high = true; width = 5; begin = side (rise ∷ []) 103; end = change 108 }) ≡ 503
-unfolding pulse_tick back
-of_pulse = refl
-
 -- ---- when
 
 of_stretches : (when_text 400 90 0 ≡ codes "at tick 90") × (when_text 400 90 5 ≡ codes "from tick 90 to tick 95") × (when_text 400 90 399 ≡ codes "at every tick")
@@ -379,29 +374,13 @@ late_in_it : (net_tick (circuit (span 0 0)) (asserted 100 50 60 50) ≡ 450) × 
 unfolding net_tick back
 late_in_it = (refl, refl, refl)
 
--- Its end in slot 10 takes 408 ticks, so its begin in slot 5 is at tick 403 or later.
-abbrev ending : Side
-ending = side (record { net = 1; slot = 10; value = C } ∷ record { net = 0; slot = 2; value = R } ∷ []) 10
-
-of_short_pulse : pulse_tick (circuit (span 400 410)) (record { checker = 0; asked = None; high = true; width = 5; begin = side (record { net = 1; slot = 5; value = R } ∷ []) 5; end = ending }) ≡ 405
-unfolding pulse_tick back
-of_short_pulse = refl
-
--- ---- a loop, and a pulse that becomes shorter
+-- ---- a loop
 
 abbrev on : ℕ → ℕ → Link
 on i slot = record { net = i; slot = slot; value = C }
 
 of_loop : (links_after 0 (on 1 9 ∷ on 0 8 ∷ on 1 7 ∷ on 0 6 ∷ []) ≡ on 1 7 ∷ on 0 6 ∷ []) × (links_after 2 (on 1 9 ∷ on 0 8 ∷ []) ≡ [])
 of_loop = (refl, refl)
-
--- its begin takes 8 ticks through the buffer and its end 3; and of two nets, and of one link, nothing
-shorter : (shorter_lines Whole (circuit (span 2 10)) (on 1 8 ∷ on 0 0 ∷ []) (on 1 13 ∷ on 0 10 ∷ []) ≡ shorter_line Whole (circuit (span 2 10)) 1 5)
-    × (shorter_lines Whole (circuit (span 2 10)) (on 1 13 ∷ on 0 10 ∷ []) (on 1 8 ∷ on 0 0 ∷ []) ≡ [])
-    × (shorter_lines Whole (circuit (span 2 10)) (on 1 8 ∷ on 0 0 ∷ []) (on 1 13 ∷ on 1 10 ∷ []) ≡ [])
-    × (shorter_lines Whole (circuit (span 2 10)) (on 1 8 ∷ []) (on 1 13 ∷ on 0 10 ∷ []) ≡ [])
-unfolding back
-shorter = (refl, refl, refl, refl)
 
 -- ---- at a tick of its slot
 

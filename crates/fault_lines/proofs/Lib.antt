@@ -5,3 +5,4 @@ pub mod TheOthers
 pub mod Launched
 pub mod LastChange
 pub mod Examples
+pub mod ExamplesPulses

@@ -1,5 +1,6 @@
 pub mod Axis
 pub mod TwoDelays
+pub mod Shorter
 pub mod Endings
 pub mod Side
 pub mod Launched

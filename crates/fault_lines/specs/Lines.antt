@@ -21,13 +21,13 @@ use Rattle.fault_account.specs.declared.account.Account.TheVariants as account
 use Rattle.fault_words.specs.declared.naming.Naming.{Naming}
 use Rattle.fault_account.specs.Account.{is_hold, is_setup, least_of, would_do}
 use Rattle.fault_account.specs.Asked.{never_fits}
-use Rattle.fault_account.specs.Late.{late_from}
 use Rattle.fault_words.specs.Words.{does, tick_text, ticks_text}
 use Rattle.fault_words.specs.Elements.{driver_text, pin_named}
 use Rattle.fault_lines.specs.Axis.{asserted_tick, broken_tick, change_tick, edge_tick, first_tick, last_tick, mark_tick, net_tick, pulse_tick}
 use Rattle.fault_lines.specs.Side.{side_lines}
 use Rattle.fault_lines.specs.Launched.{launched_lines}
 use Rattle.fault_lines.specs.LastChange.{is_shown, over_lines}
+use Rattle.fault_lines.specs.Shorter.{less_at}
 
 -- ---- at an edge
 
@@ -185,7 +185,7 @@ pulse_line naming c pulse = line (
     ∷ level_said pulse.high ∷ codes " for " ∷ ticks_text pulse.width ∷ codes ", from "
     ∷ tick_text (period c.header) (pulse_tick c pulse) ∷ codes " to " ∷ tick_text (period c.header) (pulse_tick c pulse + pulse.width) ∷ [])
 
--- an element through which the pulse becomes so much shorter
+-- an element that makes the pulse so much shorter
 unfoldable pub shorter_line : Naming → Circuit → ℕ → ℕ → List ℕ
 shorter_line naming c i less = line (
     codes "  " ∷ driver_text naming c i ∷ codes " makes it " ∷ ticks_text less
@@ -194,13 +194,13 @@ shorter_line naming c i less = line (
 abbrev pub shorter_by : Naming → Circuit → ℕ → ℕ → List ℕ
 shorter_by naming c i less = if less == 0 then [] else shorter_line naming c i less
 
--- While the begin and the end of the pulse come the same way: through each element as much shorter
--- as the begin is later there than the end. The elements are in the direction of the signals.
+-- The elements that make the pulse shorter, while its begin and its end come the same way: in the
+-- direction of the signals.
 abbrev pub shorter_lines : Naming → Circuit → List Link → List Link → List ℕ
 shorter_lines naming c (a ∷ b ∷ begins) (l ∷ m ∷ ends) =
     if (a.net == l.net) && (b.net == m.net)
     then shorter_lines naming c (b ∷ begins) (m ∷ ends)
-    ++ shorter_by naming c a.net (late_from c b a - late_from c m l)
+    ++ shorter_by naming c a.net (less_at c a l)
     else []
 shorter_lines naming c begins ends = []
 

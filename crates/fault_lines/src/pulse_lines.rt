@@ -1,17 +1,16 @@
 //! The lines of a pulse that may be too short.
 
 ghost use Rattle.std.specs.Prelude.{◌≡◌, ◌<◌, ◌≤◌, ◌++◌, OnOk};
-ghost use Rattle.std.specs.List.{All};
 ghost use Rattle.drawing_tree.specs.Tree.{drawing_of};
-ghost use Rattle.scald_base.specs.Time.{period};
 ghost use Rattle.listing.specs.Piece.{piece_text};
 ghost use Rattle.fault_account.specs.Sides.{IsSide};
 ghost use Rattle.fault_lines.specs.Axis.{pulse_tick as tick_of_pulse};
 ghost use Rattle.fault_lines.specs.Lines.{IsCommon, level_said, pulse_line, pulse_lines, shorter_by, shorter_lines};
 
 use crate::axis::pulse_tick;
+use crate::shorter::less_at;
 use crate::side_lines::add_side;
-use fault_account::{OfPulse, late_from};
+use fault_account::OfPulse;
 use fault_chain::Link;
 use fault_words::{Told, driver_text, pin_name, tick_text, ticks_text, word};
 use listing::{Piece, add_line};
@@ -66,7 +65,7 @@ fn add_pulse_line(
     )
 }
 
-/// An element through which a pulse becomes shorter.
+/// An element that makes a pulse shorter.
 #[tactic(auto, unfolding(crate::specs::Lines::shorter_line))]
 fn add_shorter(
     out: &mut Bytes,
@@ -109,8 +108,7 @@ fn common_steps(begins: &[Link], ends: &[Link]) -> usize
     count
 }
 
-/// The elements through which a pulse becomes shorter, while its begin and its end come the same
-/// way.
+/// The elements that make a pulse shorter, while its begin and its end come the same way.
 fn add_all_shorter(
     out: &mut Bytes,
     alloc: Global,
@@ -118,23 +116,14 @@ fn add_all_shorter(
     begins: &[Link],
     ends: &[Link],
 ) -> Result<(), NoMemory>
-    requires begins { All (λ link. link.slot < period told.circuit.now.header) begins.now }
-    requires ends { All (λ link. link.slot < period told.circuit.now.header) ends.now }
     ensures { OnOk result (out.new ≡ out.old
         ++ shorter_lines told.entry.naming told.entry.circuit.now begins.now ends.now) }
 {
     let mut place = common_steps(begins, ends);
     while place > 0 {
-        let before = late_from(told.circuit, ends[place], ends[place - 1]);
-        let late = late_from(told.circuit, begins[place], begins[place - 1]);
         place -= 1;
-        add_shorter(
-            out,
-            alloc,
-            told,
-            begins[place].net,
-            late.saturating_sub(before),
-        )?;
+        let less = less_at(told.circuit, begins[place], ends[place]);
+        add_shorter(out, alloc, told, begins[place].net, less)?;
     }
     Ok(())
 }
