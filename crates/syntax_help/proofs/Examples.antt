@@ -1,19 +1,22 @@
 -- The tokens that are tried are one of each kind that the grammar tells apart; texts with them, and
 -- what is said, worked out on paper.
-use Rattle.std.proofs.Common.{◌≡◌, ℕ, ◌+◌, true, false, List, [], ◌∷◌, map, refl}
+use Rattle.std.proofs.Common.{◌≡◌, ℕ, ◌+◌, true, false, List, [], ◌∷◌, ◌++◌, map, refl, pos}
 use Rattle.std.specs.Prelude.{codes, Some, None}
+use Rattle.std.specs.List.{filter, flat_map}
+use Rattle.scald_base.specs.declared.refusal.Place.{Place}
+use Rattle.scald_base.specs.declared.refusal.RefusalKind.TheVariants.{BadName, Syntax}
 use Rattle.scald_lex.specs.declared.token.Token.{Token}
 use Rattle.scald_lex.specs.declared.token.TokenKind.{TokenKind}
 use Rattle.scald_lex.specs.declared.token.TokenKind.TheVariants as kind
 use Rattle.drawing_grammar.specs.Lexeme.{symbol_terminal, word_terminal}
 use Rattle.drawing_grammar.specs.declared.terminal.Terminal.{Terminal}
 use Rattle.drawing_grammar.specs.declared.terminal.Terminal.TheVariants as grammar
-use Rattle.syntax_help.specs.declared.sample.Sample.TheVariants.{Word, Scald, Clock, Wire, Pskew, Cskew, Macro, Drawing, Case, If, Then, Else, End, Zero, One, Const, To, Do, Ticks, Hazard, Arrow, Semicolon, Colon, Comma, OpenParenthesis, CloseParenthesis, Less, Greater, OpenBracket, CloseBracket, OpenBrace, CloseBrace, Equals, Plus, Minus, Star, Slash, Ampersand, Exclamation}
-use Rattle.syntax_help.specs.Sample.{spelling}
-use Rattle.syntax_help.specs.Missing.{end_of, is_late, mended}
-use Rattle.syntax_help.specs.Offered.{may_be_spare}
-use Rattle.syntax_help.specs.Told.{expected_line, meant_end, meant_line, missing_end, missing_line, spare_lines, stand_lines}
-use Rattle.syntax_help.specs.Trial.{next_line, trial}
+use Rattle.syntax_help.specs.declared.sample.Sample.TheVariants.{Word, Number, Name, Scald, Clock, Wire, Pskew, Cskew, Macro, Drawing, Case, If, Then, Else, End, Zero, One, Const, To, Do, Ticks, Hazard, Arrow, Semicolon, Colon, Comma, OpenParenthesis, CloseParenthesis, Less, Greater, OpenBracket, CloseBracket, OpenBrace, CloseBrace, Equals, Plus, Minus, Star, Slash, Ampersand, Exclamation}
+use Rattle.syntax_help.specs.Sample.{is_word, samples, spelling}
+use Rattle.syntax_help.specs.Missing.{end_of, is_asked, is_late, mended}
+use Rattle.syntax_help.specs.Offered.{is_operator, may_be_spare}
+use Rattle.syntax_help.specs.Told.{expected_line, meant_end, meant_line, missing_end, missing_line, sample_text, spare_lines, stand_lines}
+use Rattle.syntax_help.specs.Trial.{is_syntax_at, next_line, trial}
 
 -- the words
 reserved : map word_terminal (map spelling
@@ -43,6 +46,25 @@ symbols : map by_byte (map spelling
 unfolding by_byte symbol_terminal
 symbols = refl
 
+a_number_and_a_name : map spelling (Number ∷ Name ∷ []) ≡ codes "1" ∷ codes "\"A\"" ∷ []
+a_number_and_a_name = refl
+
+-- all of them, as they are called
+called_so : flat_map sample_text samples ≡
+    codes " word number \"name\" SCALD CLOCK WIRE PSKEW CSKEW MACRO DRAWING CASE IF THEN ELSE END ZERO ONE CONST TO DO x H"
+    ++ codes " -> ; : , ( ) < > [ ] { } = + - * / & ! (end of text)"
+called_so = refl
+
+-- words that mean something only at some places
+as_any_word : filter is_word samples ≡ Const ∷ To ∷ Do ∷ Ticks ∷ Hazard ∷ []
+as_any_word = refl
+
+-- what ends something, or goes on with it: no operator, and nothing with which a statement begins
+asked_for : filter is_asked samples ≡
+    Then ∷ To ∷ Do ∷ Arrow ∷ Semicolon ∷ Colon ∷ Comma ∷ OpenParenthesis ∷ CloseParenthesis ∷ Less ∷ Greater
+    ∷ OpenBracket ∷ CloseBracket ∷ OpenBrace ∷ CloseBrace ∷ Equals ∷ Ampersand ∷ []
+asked_for = refl
+
 -- texts, and the places of their tokens
 clock_tried : trial (codes "SCALD 1;") (codes "CLOCK") ≡ codes "SCALD 1;\nCLOCK"
 clock_tried = refl
@@ -55,6 +77,27 @@ after_fourth = refl
 
 after_last : next_line (record { line = 4294967295; col = 22 }) ≡ record { line = 4294967295; col = 1 }
 after_last = refl
+
+-- the token is where the text is refused for the grammar
+abbrev fifth_line : Place
+fifth_line = record { line = 5; col = 1 }
+
+refused_there : is_syntax_at (Some (record { kind = Syntax; place = fifth_line })) fifth_line ≡ true
+refused_there = refl
+
+for_a_name : is_syntax_at (Some (record { kind = BadName; place = fifth_line })) fifth_line ≡ false
+for_a_name = refl
+
+on_another_line : is_syntax_at (Some (record { kind = Syntax; place = record { line = 4; col = 1 } })) fifth_line ≡
+    false
+on_another_line = refl
+
+further_right : is_syntax_at (Some (record { kind = Syntax; place = record { line = 5; col = 2 } })) fifth_line ≡
+    false
+further_right = refl
+
+drawn : is_syntax_at None fifth_line ≡ false
+drawn = refl
 
 -- 262,144 bytes before a token are read again and again, and more are not
 abbrev after_bytes : ℕ → Token
@@ -96,12 +139,24 @@ in_list : missing_line (Comma ∷ CloseParenthesis ∷ []) (CloseParenthesis ∷
 unfolding missing_end
 in_list = refl
 
+-- of two that may be missing either may be meant
+in_either : missing_line (Comma ∷ CloseParenthesis ∷ Plus ∷ []) (Comma ∷ CloseParenthesis ∷ []) ≡
+    codes "    is , or ) missing here?\n"
+unfolding missing_end
+in_either = refl
+
+not_in_place : meant_line (codes "DO") [] ≡ []
+not_in_place = refl
+
 in_place : meant_line (codes "DO") (Then ∷ []) ≡ codes "    is THEN meant in place of 'DO'?\n"
 unfolding meant_end
 in_place = refl
 
 one_more : spare_lines true (Some 59) (kind.Symbol 59) (codes ";") [] [] ≡ codes "    is ';' one too many here?\n"
 one_more = refl
+
+one_arrow : spare_lines true (Some 32) kind.Arrow (codes "->") [] [] ≡ codes "    is '->' one too many here?\n"
+one_arrow = refl
 
 closed : spare_lines true (Some 49) (kind.Symbol 41) (codes ")") [] [] ≡
     codes "    is ')' one too many here, or is ( missing before it?\n"
@@ -114,8 +169,14 @@ needed = refl
 a_word : spare_lines true (Some 32) kind.Word (codes "b2") [] [] ≡ []
 a_word = refl
 
-missing_one : spare_lines true (Some 32) kind.Name (codes "\"B\"") (Comma ∷ []) [] ≡ []
+a_number : spare_lines true (Some 32) (kind.Number (pos 2)) (codes "2") [] [] ≡ []
+a_number = refl
+
+missing_one : spare_lines true (Some 59) (kind.Symbol 59) (codes ";") (Comma ∷ []) [] ≡ []
 missing_one = refl
+
+meant_one : spare_lines true (Some 59) (kind.Symbol 59) (codes ";") [] (Comma ∷ []) ≡ []
+meant_one = refl
 
 -- ---- the text that is read: the statement A B; with a comma before B
 
@@ -155,6 +216,21 @@ at_most = refl
 power : may_be_spare (Some 42) (kind.Symbol 42) ≡ false
 power = refl
 
+-- of an operator's second sign, whichever the first is, and not after another byte
+operators : map is_operator (codes "<>=!+-*/,") ≡ true ∷ true ∷ true ∷ true ∷ true ∷ true ∷ true ∷ true ∷ false ∷ []
+operators = refl
+
+second_signs : map (λ (b : ℕ). may_be_spare (Some b) (kind.Symbol 62)) (codes "<>=!+-*/,") ≡
+    false ∷ false ∷ false ∷ false ∷ false ∷ false ∷ false ∷ false ∷ true ∷ []
+second_signs = refl
+
+-- neither a second sign that is no operator, nor one at the front of the text
+no_operator : may_be_spare (Some 61) (kind.Symbol 44) ≡ true
+no_operator = refl
+
+first_sign : may_be_spare None (kind.Symbol 61) ≡ true
+first_sign = refl
+
 -- a - and a !, and a brace in place of an END; an arrow may be
 minus : may_be_spare (Some 32) (kind.Symbol 45) ≡ false
 minus = refl
@@ -168,6 +244,14 @@ brace = refl
 arrow : may_be_spare (Some 32) kind.Arrow ≡ true
 arrow = refl
 
+other_brace : may_be_spare (Some 10) (kind.Symbol 123) ≡ false
+other_brace = refl
+
+-- no word, number or name
+no_sign : map (may_be_spare (Some 32)) (kind.Word ∷ kind.Number (pos 1) ∷ kind.Name ∷ kind.End ∷ []) ≡
+    false ∷ false ∷ false ∷ false ∷ []
+no_sign = refl
+
 -- UPTO is TO, and DOWNTO is not
 upto : stand_lines (codes "0 UPTO 3") (token_of kind.Word 2 6) [] (To ∷ []) ≡
     codes "    is TO meant in place of 'UPTO'?\n"
@@ -176,6 +260,11 @@ upto = refl
 
 downto : stand_lines (codes "3 downto 0") (token_of kind.Word 2 8) [] (To ∷ []) ≡ []
 downto = refl
+
+downton : stand_lines (codes "3 downton 0") (token_of kind.Word 2 9) [] (To ∷ []) ≡
+    codes "    is TO meant in place of 'downton'?\n"
+unfolding meant_end
+downton = refl
 
 -- what is missing leaves the N
 before_n : stand_lines (codes "0 N-1") (token_of kind.Word 2 3) (To ∷ []) (To ∷ []) ≡ []
@@ -199,6 +288,21 @@ bracket = refl
 -- an operand is no < or >, and may be an =
 after_not : stand_lines (codes "NOT I = 2") (token_of kind.Word 4 5) [] (Less ∷ Greater ∷ []) ≡ []
 after_not = refl
+
+-- nor is a number or a name, and a symbol may be
+numbers : map (λ (k : TokenKind). stand_lines (codes "x 1 = 2") (token_of k 2 3) [] (Less ∷ [])) (kind.Number (pos 1) ∷ kind.Name ∷ []) ≡
+    [] ∷ [] ∷ []
+numbers = refl
+
+greater_first : stand_lines (codes "x 1 = 2") (token_of (kind.Number (pos 1)) 2 3) [] (Greater ∷ Less ∷ []) ≡
+    codes "    is > or < meant in place of '1'?\n"
+unfolding meant_end
+greater_first = refl
+
+symbol : stand_lines (codes "A ( 2") (token_of (kind.Symbol 40) 2 3) [] (Less ∷ []) ≡
+    codes "    is < meant in place of '('?\n"
+unfolding meant_end
+symbol = refl
 
 from_in : stand_lines (codes "I IN 0") (token_of kind.Word 2 4) [] (Equals ∷ []) ≡
     codes "    is = meant in place of 'IN'?\n"

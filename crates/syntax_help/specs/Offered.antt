@@ -1,6 +1,6 @@
 -- Which tokens may be meant otherwise, or may be one too many. A mend that is offered is not to turn the
 -- statement into one that says something else.
-use Rattle.std.specs.Prelude.{ℕ, ◌-◌, Bool, true, false, not, ◌&&◌, ◌||◌, ◌==◌, List, [], ◌∷◌, codes, Option, Some, None, is_some}
+use Rattle.std.specs.Prelude.{ℕ, ◌-◌, Bool, true, false, not, ◌&&◌, ◌||◌, ◌==◌, List, ◌∷◌, codes, Option, Some, None, is_some}
 use Rattle.std.specs.List.{slice_get}
 use Rattle.scald_lex.specs.declared.token.Token.{Token}
 use Rattle.scald_lex.specs.declared.token.TokenKind.{TokenKind}
