@@ -396,7 +396,8 @@ whole 'a race at a checker of a high clock' explain 1 \
     'c1 : SETUP_RISE_HOLD_FALL_CHK {SETUP=20, HOLD=4} ("CK2", "Q");' \
     -- 'SCALD 1 PERIOD 400' 'CASE 0' '' 'SETUP 20 of c1<0> (line 6): the whole of it does not suffice' \
     '  Q<0> is not stable from tick 102 to tick 106, and CK2<0> may rise at tick 102' \
-    '  with SETUP 0 there is still HIGH EDGE 102 SLOT 103 VALUE C' "$early" '  the change:' \
+    '  with SETUP 0 there is still a fault while the clock is high: Q<0> may change at tick 103, CK2<0> may rise at tick 102 and may stay high until then' \
+    "$early" '  the change:' \
     '    tick 100: CK<0> may rise: "CK .P2-3" (line 4)' '    tick 102: Q<0> may change: r1<0> : REG [2:6] (line 4) takes 2' \
     '  the clock:' '    tick 100: CK<0> may rise: "CK .P2-3" (line 4)' \
     '    tick 102: CK2<0> may rise: b1<0> : BUF [2:3] (line 5) takes 2' \
@@ -407,7 +408,7 @@ row 'a row of registers whose clock is passed on through late wires' explain 1 \
     'c2 : SETUP_HOLD_CHK {SETUP=20, HOLD=4} ("CK3", "Q2");' 'END;' \
     -- 'SETUP 20 of c2<0> (line 9): the whole of it does not suffice' \
     '  Q2<0> is not stable from tick 104 to tick 112, and CK3<0> may rise at tick 104' \
-    '  with SETUP 0 there is still HOLD EDGE 104 SLOT 105 VALUE C' "$early" '  the change:' \
+    '  with SETUP 0 there is still a hold fault: Q2<0> may change at tick 105, and CK3<0> may rise at tick 104' "$early" '  the change:' \
     '    tick 100: CK<0> may rise: "CK .P2-3" (line 5)' \
     '    tick 102: CK2<0> may rise: b1<0> : BUF [2:3] (line 6) takes 2, its wire 0 of 0:1' \
     '    tick 104: Q2<0> may change: r2<0> : REG [2:6] (line 7) takes 2, its wire 0 of 0:1' \

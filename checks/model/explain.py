@@ -453,7 +453,7 @@ class Told:
             over = ticks_text(last_tick - (edge_tick - asked.limit))
             lines.append(f"  {which} is {over} too late for SETUP {asked.limit}")
         if asked.least == 0 and asked.parameter:
-            lines.append(f"  with {asked.parameter} 0 there is still {asked.worst.without_element}")
+            lines.append(f"  with {asked.parameter} 0 there is still {self.still(asked.worst, data, clock, edge_tick)}")
         if is_early:
             lines.append(EARLY if is_too_fast else MAYBE_EARLY)
         elif began is not None and began[0] < began[1] and not (is_setup and asked.least):
@@ -466,6 +466,20 @@ class Told:
         if edge_side:
             lines += self.side("the clock", edge_side, edge_tick)
         return lines
+
+    def still(self, worst, data, clock, tick):
+        """The fault that there is even without the limit: its edge is the first from this tick on, and its change is up
+        to that edge or the first after it; neither is before tick 0."""
+        edge, period = int(worst.rest.split()[1]), self.period
+        ahead = (edge - worst.slot) % period if worst.kind == "SETUP" else 0
+        least = max(tick, ahead)
+        edge_tick = least + (edge - least) % period
+        change = edge_tick - ahead if worst.kind == "SETUP" else edge_tick + 1 + (worst.slot - edge_tick - 1) % period
+        moves = f"{self.naming.pin(data)} {DOES[worst_value(worst)]} at {self.tick(change)}"
+        risen = f"{self.naming.pin(clock)} may rise at {self.tick(edge_tick)}"
+        if worst.kind == "HIGH":
+            return f"a fault while the clock is high: {moves}, {risen} and may stay high until then"
+        return f"a {worst.kind.lower()} fault: {moves}, and {risen}"
 
     def last_of(self, change, arrival, pin, slot, tick):
         """The side of the last change, at a tick: where it comes of the same change of an input, at the same tick."""

@@ -156,7 +156,7 @@ CASE 0
 SETUP 20 of m#0/c<0>, m#1/c<0> (line 5, in use m of line 10): the whole of it does not suffice
   what follows is of m#0/c<0>, the first of 2
   D<0> is not stable from tick 200 to tick 500 = 1*400 + 100, and CK<0> may rise at tick 495 = 1*400 + 95
-  with SETUP 0 there is still HOLD EDGE 95 SLOT 96 VALUE C
+  with SETUP 0 there is still a hold fault: D<0> may change at tick 496 = 1*400 + 96, and CK<0> may rise at tick 495 = 1*400 + 95
   the change:
     tick 495 = 1*400 + 95: D<0> may change: "D .S2-4" (line 10)
   the clock:
@@ -165,7 +165,7 @@ SETUP 20 of m#0/c<0>, m#1/c<0> (line 5, in use m of line 10): the whole of it do
 SETUP 20 of m#0/e<0>, m#1/e<0> (line 6, in use m of line 10): the whole of it does not suffice
   what follows is of m#0/e<0>, the first of 2
   D<0> is not stable from tick 200 to tick 500 = 1*400 + 100, and CK<0> may rise at tick 495 = 1*400 + 95
-  with SETUP 0 there is still HOLD EDGE 95 SLOT 96 VALUE C
+  with SETUP 0 there is still a hold fault: D<0> may change at tick 496 = 1*400 + 96, and CK<0> may rise at tick 495 = 1*400 + 95
   the change:
     tick 495 = 1*400 + 95: D<0> may change: "D .S2-4" (line 10)
   the clock:

@@ -98,7 +98,7 @@ CASE 0
 
 SETUP 20 of c1<0> (line 6): the whole of it does not suffice
   Q<0> is not stable from tick 102 to tick 106, and CK2<0> may rise at tick 102
-  with SETUP 0 there is still HOLD EDGE 102 SLOT 103 VALUE C
+  with SETUP 0 there is still a hold fault: Q<0> may change at tick 103, and CK2<0> may rise at tick 102
   it is early and not late: it began with this edge of the clock, so this is a hold miss of that edge, and the data has to be slower or the clock earlier
   the change:
     tick 100: CK<0> may rise: "CK .P2-3" (line 4)
@@ -172,7 +172,7 @@ CASE 0
 SETUP 20 of c1<0> (line 8): the whole of it does not suffice
   E<0> is not stable from tick 395 to tick 585 = 1*400 + 185, and CK<0> may rise at tick 400 = 1*400 + 0
   the last of these changes, at tick 585 = 1*400 + 185, is 205 ticks too late for SETUP 20
-  with SETUP 0 there is still HOLD EDGE 0 SLOT 1 VALUE C
+  with SETUP 0 there is still a hold fault: E<0> may change at tick 401 = 1*400 + 1, and CK<0> may rise at tick 400 = 1*400 + 0
   it is late and not early: it began 400 ticks before this edge of the clock did, so it has to be faster, or a later edge has to take it
   the change:
     tick 0: CK<0> may rise: "CK .P0-4" (line 4)
@@ -204,7 +204,7 @@ CASE 0
 SETUP 20 of c1<0> (line 5): the whole of it does not suffice
   X<0> may rise at tick 490 = 1*400 + 90, and CK<0> may rise at tick 500 = 1*400 + 100
   this change is 10 ticks too late for SETUP 20
-  with SETUP 0 there is still HOLD EDGE 100 SLOT 140 VALUE F
+  with SETUP 0 there is still a hold fault: X<0> may fall at tick 540 = 1*400 + 140, and CK<0> may rise at tick 500 = 1*400 + 100
   it is late and not early: it began 400 ticks before this edge of the clock did, so it has to be faster, or a later edge has to take it
   the change:
     tick 100: CK<0> may rise: "CK .P2-3" (line 4)
@@ -227,7 +227,7 @@ CASE 0
 
 SETUP 20 of c1<0> (line 6): the whole of it does not suffice
   B<0> is stable at no tick, and CK<0> may rise at tick 500 = 1*400 + 100
-  with SETUP 0 there is still HOLD EDGE 100 SLOT 101 VALUE C
+  with SETUP 0 there is still a hold fault: B<0> may change at tick 501 = 1*400 + 101, and CK<0> may rise at tick 500 = 1*400 + 100
   it is late and not early: it began 400 ticks before this edge of the clock did, so it has to be faster, or a later edge has to take it
   the change:
     tick 100: CK<0> may rise: "CK .P2-3" (line 4)
@@ -270,7 +270,7 @@ CASE 0
 
 SETUP 20 of c1<0> (line 4): the whole of it does not suffice
   D<0> is not stable from tick 300 to tick 650 = 1*400 + 250, and CK<0> may rise at tick 500 = 1*400 + 100
-  with SETUP 0 there is still HOLD EDGE 100 SLOT 101 VALUE C
+  with SETUP 0 there is still a hold fault: D<0> may change at tick 501 = 1*400 + 101, and CK<0> may rise at tick 500 = 1*400 + 100
   the change:
     tick 500 = 1*400 + 100: D<0> may change: "D .S5-6" (line 4)
   the clock:
@@ -292,7 +292,7 @@ CASE 0
 
 SETUP 20 of c1<0> (line 7): the whole of it does not suffice
   D<0> is not stable from tick 210 to tick 530 = 1*400 + 130, and CK<0> may rise at tick 500 = 1*400 + 100
-  with SETUP 0 there is still HOLD EDGE 100 SLOT 101 VALUE C
+  with SETUP 0 there is still a hold fault: D<0> may change at tick 501 = 1*400 + 101, and CK<0> may rise at tick 500 = 1*400 + 100
   the change:
     tick 450 = 1*400 + 50: IN<0> may change: "IN .S1-4" (line 4)
     tick 500 = 1*400 + 100: A<0> may change: b1<0> : BUF [10:54] (line 4) takes 50
@@ -314,7 +314,7 @@ CASE 0
 
 HOLD 10 of c1<0> (line 5): the whole of it does not suffice
   D<0> is not stable from tick 101 to tick 451 = 1*400 + 51, and CK<0> may rise at tick 100
-  with HOLD 0 there is still SETUP EDGE 300 SLOT 281 VALUE C
+  with HOLD 0 there is still a setup fault: D<0> may change at tick 281, and CK<0> may rise at tick 300
   the change:
     tick 100: IN<0> may change: "IN .S1-2" (line 4)
     tick 101: D<0> may change: b1<0> : BUF [1:1] (line 4) takes 1
@@ -461,7 +461,7 @@ CASE 0
 
 SETUP 20 of c1<0> (line 5): the whole of it does not suffice
   X<0> is stable at no tick, and CK<0> may rise at tick 100
-  with SETUP 0 there is still HOLD EDGE 100 SLOT 101 VALUE U
+  with SETUP 0 there is still a hold fault: X<0> is unknown at tick 101, and CK<0> may rise at tick 100
   the change, unknown by the loop of X<0>:
     once round the loop it takes up to 1 tick, and a period has 400
     tick 80: X<0> is unknown: on the loop of X<0>

@@ -122,10 +122,10 @@ rise = record { net = 0; slot = 100; value = R }
 abbrev pub change : ℕ → Side
 change slot = side (record { net = 1; slot = slot; value = C } ∷ rise ∷ []) slot
 
-abbrev clock : Side
+abbrev pub clock : Side
 clock = side (rise ∷ []) 100
 
-abbrev edge : PointKind → Side → ℕ → ℕ → Side → AtEdge
+abbrev pub edge : PointKind → Side → ℕ → ℕ → Side → AtEdge
 edge kind moved ahead behind clock =
     record {
       checker = 0;
@@ -175,7 +175,7 @@ launched_before = (refl, refl, refl, refl)
 abbrev setup : ℕ → Option Asked
 setup least = Some (record { parameter = parameter.Setup; limit = 20; least = least; worst = Point Setup 0 100 100 67 })
 
-abbrev asks : Option Asked → AtEdge → AtEdge
+abbrev pub asks : Option Asked → AtEdge → AtEdge
 asks asked told =
     record {
       checker = 0;

@@ -2,7 +2,9 @@ pub mod Linking
 pub mod Common
 pub mod OneAxis
 pub mod TheOthers
+pub mod OtherFault
 pub mod Launched
 pub mod LastChange
 pub mod Examples
 pub mod ExamplesPulses
+pub mod ExamplesStill

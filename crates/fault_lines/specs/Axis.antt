@@ -1,12 +1,15 @@
 -- At which ticks the sides of a paragraph arrive. All ticks of a paragraph count from one tick 0,
 -- before which none of its sides begins.
 use Rattle.std.specs.Prelude.{ℕ, ◌+◌, ◌-◌, ◌==◌, max, Bool, if◌then◌else◌}
+use Rattle.scald_base.specs.Clock.{back}
 use Rattle.scald_base.specs.Time.{period}
+use Rattle.flat_circuit.specs.declared.fault.PointKind.{PointKind}
 use Rattle.flat_circuit.specs.Circuit.{Circuit}
 use Rattle.fault_account.specs.declared.account.AtEdge.{AtEdge}
 use Rattle.fault_account.specs.declared.account.AtMark.{AtMark}
 use Rattle.fault_account.specs.declared.account.OfNet.{OfNet}
 use Rattle.fault_account.specs.declared.account.OfPulse.{OfPulse}
+use Rattle.fault_account.specs.Account.{is_setup}
 use Rattle.fault_account.specs.Late.{arrives, takes}
 
 -- ---- at an edge
@@ -27,6 +30,26 @@ first_tick c edge = change_tick c edge - (edge.earlier + edge.later)
 -- the last of them
 abbrev pub last_tick : Circuit → AtEdge → ℕ
 last_tick c edge = first_tick c edge + (edge.earlier + edge.more)
+
+-- ---- another fault at the same checker, in a period of p
+
+-- the first tick in a slot, from a tick on
+abbrev pub first_in : ℕ → ℕ → ℕ → ℕ
+first_in p slot tick = tick + back p slot tick
+
+-- how many ticks its change is before its edge
+abbrev pub ahead_in : ℕ → PointKind → ℕ → ℕ → ℕ
+ahead_in p kind edge slot = if is_setup kind then back p edge slot else 0
+
+-- Its edge: the first from a tick on, with the change at tick 0 or later.
+abbrev pub other_edge : ℕ → PointKind → ℕ → ℕ → ℕ → ℕ
+other_edge p kind edge slot tick = first_in p edge (max tick (ahead_in p kind edge slot))
+
+-- Its change, where the edge is at this tick: of a setup fault the last up to the edge, and else the
+-- first after it.
+abbrev pub other_change : ℕ → PointKind → ℕ → ℕ → ℕ → ℕ
+other_change p kind edge slot tick =
+    if is_setup kind then tick - back p edge slot else first_in p slot (tick + 1)
 
 -- ---- at a mark
 

@@ -2,6 +2,7 @@
 use Rattle.std.specs.Prelude.{◌≡◌, ℕ, ◌+◌, ◌%◌, Bool, true, ◌<◌, ◌≤◌, Option}
 use Rattle.scald_base.specs.Time.{IsHeader, period}
 use Rattle.flat_circuit.specs.declared.fault.PointKind.{PointKind}
+use Rattle.flat_circuit.specs.declared.fault.PointKind.TheVariants.{Setup, High, Hold}
 use Rattle.flat_circuit.specs.Circuit.{Circuit}
 use Rattle.net_waves.specs.Waves.{Waves}
 use Rattle.fault_account.specs.declared.account.Asked.{Asked}
@@ -11,7 +12,7 @@ use Rattle.fault_account.specs.declared.account.AtMark.{AtMark}
 use Rattle.fault_account.specs.declared.account.OfPulse.{OfPulse}
 use Rattle.fault_account.specs.Account.{edge_account, mark_account, net_account, pulse_account}
 use Rattle.fault_account.specs.Late.{takes}
-use Rattle.fault_lines.specs.Axis.{change_tick, edge_tick, last_tick, mark_tick, net_tick, pulse_tick}
+use Rattle.fault_lines.specs.Axis.{change_tick, edge_tick, last_tick, mark_tick, net_tick, other_change, other_edge, pulse_tick}
 use Rattle.fault_lines.specs.Launched.{began_alike, change_begin, clock_begin, input_of, is_early, is_one, is_within, limit_of, sooner_of}
 use Rattle.fault_lines.specs.LastChange.{has_last, over_of}
 
@@ -56,6 +57,25 @@ abbrev pub PulsesAreOnOneAxis : Type 0
 PulsesAreOnOneAxis =
     (c : Circuit) (ws : Waves) (k : ℕ) (asked : Option Asked) (high : Bool) (from width : ℕ) →
     IsHeader c.header → from < period c.header → AreApart c (pulse_account c ws k asked high from width)
+
+-- ---- another fault at the same checker
+
+-- of a setup fault the change is up to the edge, and else after it; less than a period apart, or just one
+abbrev pub AreInOrder : ℕ → PointKind → ℕ → ℕ → Type 0
+AreInOrder p Setup change at = (change ≤ at) × (at < change + p)
+AreInOrder p High change at = (at < change) × (change ≤ at + p)
+AreInOrder p Hold change at = (at < change) × (change ≤ at + p)
+
+-- They are told at ticks of their slots.
+pub record AreOther (p : ℕ) (kind : PointKind) (edge slot change at : ℕ) : Type 0 where
+  pub edge_there : at % p ≡ edge
+  pub change_there : change % p ≡ slot
+  pub order : AreInOrder p kind change at
+
+abbrev pub OtherFaultsAreOnTheAxis : Type 0
+OtherFaultsAreOnTheAxis =
+    (p : ℕ) (kind : PointKind) (edge slot tick : ℕ) → 0 < p → edge < p → slot < p →
+    AreOther p kind edge slot (other_change p kind edge slot (other_edge p kind edge slot tick)) (other_edge p kind edge slot tick)
 
 -- ---- when a change at an edge began
 

@@ -4,11 +4,15 @@ use Rattle.std.specs.List.{concat}
 use Rattle.scald_base.specs.Time.{period}
 use Rattle.flat_circuit.specs.declared.fault.PointKind.{PointKind}
 use Rattle.flat_circuit.specs.declared.fault.PointKind.TheVariants.{Setup, High, Hold}
+use Rattle.flat_circuit.specs.declared.fault.Fault.{Fault}
+use Rattle.flat_circuit.specs.declared.fault.Fault.TheVariants.{Point, Width, Hazard, Assertion}
 use Rattle.flat_circuit.specs.Circuit.{Circuit}
 use Rattle.drawing_tree.specs.Tree.{Drawing}
 use Rattle.step_values.specs.declared.value.Value.{Value}
+use Rattle.step_values.specs.declared.value.Value.TheVariants.{C, F, R, U}
+use Rattle.step_values.specs.Steps.{letter_of}
 use Rattle.listing.specs.Text.{line}
-use Rattle.listing.specs.Fault.{unnamed_fault}
+use Rattle.margin_report.specs.declared.margin.Parameter.{Parameter}
 use Rattle.margin_report.specs.Report.{parameter_text}
 use Rattle.fault_chain.specs.declared.chain.Link.{Link}
 use Rattle.fault_account.specs.declared.account.Asked.{Asked}
@@ -23,7 +27,7 @@ use Rattle.fault_account.specs.Account.{is_hold, is_setup, least_of, would_do}
 use Rattle.fault_account.specs.Asked.{never_fits}
 use Rattle.fault_words.specs.Words.{does, tick_text, ticks_text}
 use Rattle.fault_words.specs.Elements.{driver_text, pin_named}
-use Rattle.fault_lines.specs.Axis.{asserted_tick, broken_tick, change_tick, edge_tick, first_tick, last_tick, mark_tick, net_tick, pulse_tick}
+use Rattle.fault_lines.specs.Axis.{asserted_tick, broken_tick, change_tick, edge_tick, first_tick, last_tick, mark_tick, net_tick, other_change, other_edge, pulse_tick}
 use Rattle.fault_lines.specs.Side.{side_lines}
 use Rattle.fault_lines.specs.Launched.{launched_lines}
 use Rattle.fault_lines.specs.LastChange.{is_shown, over_lines}
@@ -71,9 +75,10 @@ risen_text naming c edge tick = concat (
     pin_named naming c (Some edge.checker) 0 ∷ codes " may rise at "
     ∷ tick_text (period c.header) tick ∷ [])
 
-abbrev pub edge_text : Naming → Circuit → AtEdge → ℕ → List ℕ
-edge_text naming c edge tick =
-    if is_setup edge.kind || is_hold edge.kind then codes ", and " ++ risen_text naming c edge tick
+-- that, after when the input may change in a fault of this kind
+abbrev pub edge_text : Naming → Circuit → AtEdge → PointKind → ℕ → List ℕ
+edge_text naming c edge kind tick =
+    if is_setup kind || is_hold kind then codes ", and " ++ risen_text naming c edge tick
     else concat (
     codes ", " ∷ risen_text naming c edge tick ∷ codes " and may stay high until then" ∷ [])
 
@@ -87,17 +92,59 @@ unfoldable pub moved_line : Naming → Circuit → AtEdge → ℕ → ℕ → Li
 moved_line naming c edge first tick = line (
     codes "  " ∷ pin_named naming c (Some edge.checker) 1 ∷ codes " "
     ∷ moved_text (period c.header) edge.value first (edge.earlier + edge.more)
-    ∷ edge_text naming c edge tick ∷ [])
+    ∷ edge_text naming c edge edge.kind tick ∷ [])
 
--- which fault there is even without the limit
-unfoldable pub still_line : Circuit → Asked → List ℕ
-still_line c asked = line (
-    codes "  with " ∷ parameter_text asked.parameter ∷ codes " 0 there is still "
-    ∷ unnamed_fault c asked.worst ∷ [])
+-- ---- which fault there is even without the limit
 
-abbrev pub still_lines : Circuit → Option Asked → List ℕ
-still_lines c None = []
-still_lines c (Some asked) = if never_fits asked then still_line c asked else []
+abbrev pub kind_said : PointKind → List ℕ
+kind_said Setup = codes "a setup fault"
+kind_said High = codes "a fault while the clock is high"
+kind_said Hold = codes "a hold fault"
+
+-- what an input does that is not quiet, by the letter of the report
+abbrev pub letter_does : ℕ → List ℕ
+letter_does letter =
+    if letter == letter_of R then does R
+    else if letter == letter_of F then does F
+    else if letter == letter_of U then does U
+    else does C
+
+-- that, at a tick
+abbrev pub input_said : Naming → Circuit → AtEdge → ℕ → ℕ → List ℕ
+input_said naming c edge letter tick = concat (
+    pin_named naming c (Some edge.checker) 1 ∷ codes " " ∷ letter_does letter ∷ codes " at "
+    ∷ tick_text (period c.header) tick ∷ [])
+
+-- with this limit 0: a fault of this kind, and at which ticks its change and its edge are
+unfoldable pub still_line : Naming → Circuit → AtEdge → Parameter → PointKind → ℕ → ℕ → ℕ → List ℕ
+still_line naming c edge parameter kind letter change at = line (
+    codes "  with " ∷ parameter_text parameter ∷ codes " 0 there is still " ∷ kind_said kind
+    ∷ codes ": " ∷ input_said naming c edge letter change ∷ edge_text naming c edge kind at ∷ [])
+
+-- its edge is the first from the one on that is told
+abbrev pub still_point : Naming → Circuit → AtEdge → Parameter → PointKind → ℕ → ℕ → ℕ → List ℕ
+still_point naming c edge parameter kind letter at slot =
+    let p = period c.header in
+    let tick = other_edge p kind at slot (edge_tick c edge) in
+    still_line naming c edge parameter kind letter (other_change p kind at slot tick) tick
+
+-- a checker at edges has no other faults than these
+abbrev pub still_fault : Naming → Circuit → AtEdge → Parameter → Fault → List ℕ
+still_fault naming c edge parameter (Point kind k at slot letter) =
+    still_point naming c edge parameter kind letter at slot
+still_fault naming c edge parameter (Width k high from width) = []
+still_fault naming c edge parameter (Hazard k slot pin) = []
+still_fault naming c edge parameter (Assertion i slot letter) = []
+
+abbrev pub still_asked : Naming → Circuit → AtEdge → Option Asked → List ℕ
+still_asked naming c edge None = []
+still_asked naming c edge (Some asked) =
+    if never_fits asked then still_fault naming c edge asked.parameter asked.worst else []
+
+abbrev pub still_lines : Naming → Circuit → AtEdge → List ℕ
+still_lines naming c edge = still_asked naming c edge edge.asked
+
+-- ---- all that is told at an edge
 
 -- the first line: one of these two
 abbrev pub first_edge_line : Naming → Circuit → AtEdge → List ℕ
@@ -110,7 +157,7 @@ abbrev pub said_lines : Naming → Circuit → AtEdge → List ℕ
 said_lines naming c edge =
     first_edge_line naming c edge
     ++ over_lines c edge
-    ++ still_lines c edge.asked
+    ++ still_lines naming c edge
     ++ launched_lines c edge
 
 abbrev pub last_lines : Naming → Drawing → Circuit → AtEdge → List ℕ

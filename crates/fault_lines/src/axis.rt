@@ -1,14 +1,15 @@
 //! At which ticks the sides of a paragraph arrive: all of them count from one tick 0.
 
-ghost use Rattle.std.specs.Prelude.{◌≡◌, ◌+◌, ◌≤◌};
+ghost use Rattle.std.specs.Prelude.{◌≡◌, ◌+◌, ◌<◌, ◌≤◌};
+ghost use Rattle.scald_base.specs.Clock.{back};
 ghost use Rattle.scald_base.specs.Time.{period};
 ghost use Rattle.fault_account.specs.Sides.{IsSide};
 ghost use Rattle.fault_account.specs.Account.{IsAtEdge};
 ghost use Rattle.fault_account.specs.Late.{takes as ticks_of};
-ghost use Rattle.fault_lines.specs.Axis.{asserted_ahead as ahead_of, asserted_tick as tick_asserted, before_change as before_told, broken_tick as tick_broken, change_tick as tick_of_change, edge_tick as tick_of_edge, first_tick as tick_of_first, last_tick as tick_of_last, mark_tick as tick_of_mark, net_tick as tick_of_net, pulse_tick as tick_of_pulse};
+ghost use Rattle.fault_lines.specs.Axis.{ahead_in as ahead_of_other, asserted_ahead as ahead_of, asserted_tick as tick_asserted, before_change as before_told, broken_tick as tick_broken, change_tick as tick_of_change, edge_tick as tick_of_edge, first_in as first_at, first_tick as tick_of_first, last_tick as tick_of_last, mark_tick as tick_of_mark, net_tick as tick_of_net, other_change as change_of_other, other_edge as edge_of_other, pulse_tick as tick_of_pulse};
 
-use fault_account::{AtEdge, AtMark, OfNet, OfPulse, arrives, takes};
-use flat_circuit::Circuit;
+use fault_account::{AtEdge, AtMark, OfNet, OfPulse, arrives, is_setup, takes};
+use flat_circuit::{Circuit, PointKind};
 
 // ---- at an edge
 
@@ -54,6 +55,65 @@ pub fn last_tick(c: &Circuit, edge: &AtEdge) -> u32
 {
     c.header().known();
     first_tick(c, edge) + u32::from(edge.earlier + edge.more)
+}
+
+// ---- another fault at the same checker
+
+/// How many slots a slot is after that of a tick.
+fn slots_to(period: u16, tick: u32, slot: u16) -> u32
+    requires period { 0 < period }
+    ensures is { result ≡ back period slot tick }
+    ensures within { result < period }
+{
+    let whole = u32::from(period);
+    (u32::from(slot) % whole + (whole - tick % whole)) % whole
+}
+
+/// The first tick in a slot, from a tick on.
+fn first_in(period: u16, slot: u16, tick: u32) -> u32
+    requires period { 0 < period }
+    requires tick { tick ≤ 2000000000 }
+    ensures is { result ≡ first_at period slot tick }
+    ensures small { result < tick + period }
+{
+    tick + slots_to(period, tick, slot)
+}
+
+/// How many ticks its change is before its edge.
+fn ahead_in(period: u16, kind: PointKind, edge: u16, slot: u16) -> u32
+    requires period { 0 < period }
+    ensures is { result ≡ ahead_of_other period kind edge slot }
+    ensures within { result < period }
+{
+    if is_setup(kind) {
+        slots_to(period, u32::from(slot), edge)
+    } else {
+        0
+    }
+}
+
+/// Its edge: the first from a tick on, with the change at tick 0 or later.
+pub fn other_edge(period: u16, kind: PointKind, edge: u16, slot: u16, tick: u32) -> u32
+    requires period { 0 < period }
+    requires tick { tick ≤ 1500000000 }
+    ensures is { result ≡ edge_of_other period kind edge slot tick }
+    ensures small { result ≤ 1500100000 }
+{
+    let least = tick.max(ahead_in(period, kind, edge, slot));
+    first_in(period, edge, least)
+}
+
+/// Its change, where the edge is at this tick: up to the edge, or after it.
+pub fn other_change(period: u16, kind: PointKind, edge: u16, slot: u16, tick: u32) -> u32
+    requires period { 0 < period }
+    requires tick { tick ≤ 1500100000 }
+    ensures { result ≡ change_of_other period kind edge slot tick }
+{
+    if is_setup(kind) {
+        tick.saturating_sub(slots_to(period, u32::from(slot), edge))
+    } else {
+        first_in(period, slot, tick + 1)
+    }
 }
 
 // ---- at a mark

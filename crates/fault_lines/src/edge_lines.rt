@@ -4,20 +4,20 @@ ghost use Rattle.std.specs.Prelude.{◌≡◌, ◌+◌, ◌-◌, ◌<◌, ◌≤
 ghost use Rattle.drawing_tree.specs.Tree.{drawing_of};
 ghost use Rattle.scald_base.specs.Time.{period as period_of};
 ghost use Rattle.listing.specs.Piece.{piece_text};
-ghost use Rattle.margin_report.specs.Report.{parameter_text};
 ghost use Rattle.fault_account.specs.Account.{IsAtEdge, least_of};
-ghost use Rattle.fault_lines.specs.Lines.{edge_lines, edge_said as edge_written, edge_text as edge_with, first_edge_line, kept_line, last_lines, moved_line, moved_text as moved_with, moves_text as moves_with, risen_text as risen_with, said_lines, side_of_edge, stable_text as stable_with, still_line, still_lines, way_text};
+ghost use Rattle.fault_lines.specs.Lines.{edge_lines, edge_said as edge_written, first_edge_line, kept_line, last_lines, moved_line, moved_text as moved_with, moves_text as moves_with, said_lines, side_of_edge, stable_text as stable_with, way_text};
 
 use crate::axis::{change_tick, edge_tick, first_tick, last_tick};
 use crate::last_change::{add_over, is_shown};
 use crate::launch::add_launched;
+use crate::risen::edge_text;
 use crate::side_lines::add_side;
+use crate::still_fault::add_still;
 use crate::when::when_text;
-use fault_account::{Asked, AtEdge, is_hold, is_setup, would_do};
+use fault_account::{Asked, AtEdge, would_do};
 use fault_words::{Told, does_piece, pin_name, text, tick_text, ticks_text, word};
-use flat_circuit::{Circuit, PointKind};
-use listing::{Piece, add_line, write_unnamed_fault};
-use margin_report::Parameter;
+use flat_circuit::PointKind;
+use listing::{Piece, add_line};
 use scald_base::{Bytes, NoMemory};
 use std::alloc::Global;
 use step_values::Value;
@@ -153,46 +153,6 @@ fn moved_text(
     )
 }
 
-/// When the clock may rise.
-fn risen_text(alloc: Global, told: Told, edge: &AtEdge, tick: u32) -> Result<Bytes, NoMemory>
-    ensures { IfOk result (λ text.
-        text ≡ risen_with told.entry.naming told.entry.circuit.now edge.now tick) }
-{
-    told.circuit.header().known();
-    let clock = pin_name(alloc, told, edge.checker, 0)?;
-    let at = tick_text(alloc, told.circuit.header().period(), tick)?;
-    text(
-        alloc,
-        &[
-            Piece::Text(clock.as_slice()),
-            Piece::Text(b" may rise at "),
-            Piece::Text(at.as_slice()),
-        ],
-    )
-}
-
-/// That, after when the input may change.
-fn edge_text(alloc: Global, told: Told, edge: &AtEdge, tick: u32) -> Result<Bytes, NoMemory>
-    ensures { IfOk result (λ text.
-        text ≡ edge_with told.entry.naming told.entry.circuit.now edge.now tick) }
-{
-    let risen = risen_text(alloc, told, edge, tick)?;
-    if is_setup(edge.kind) || is_hold(edge.kind) {
-        return text(
-            alloc,
-            &[Piece::Text(b", and "), Piece::Text(risen.as_slice())],
-        );
-    }
-    text(
-        alloc,
-        &[
-            Piece::Text(b", "),
-            Piece::Text(risen.as_slice()),
-            Piece::Text(b" and may stay high until then"),
-        ],
-    )
-}
-
 /// Where no lower limit would do: when the input may change.
 #[tactic(auto, unfolding(crate::specs::Lines::moved_line))]
 fn add_moved(
@@ -213,7 +173,7 @@ fn add_moved(
     let input = pin_name(alloc, told, edge.checker, 1)?;
     let more = edge.earlier + edge.more;
     let moved = moved_text(alloc, period, edge.value, first, more)?;
-    let risen = edge_text(alloc, told, edge, tick)?;
+    let risen = edge_text(alloc, told, edge, edge.kind, tick)?;
     add_line(
         out,
         &[
@@ -224,57 +184,6 @@ fn add_moved(
             Piece::Text(risen.as_slice()),
         ],
     )
-}
-
-/// The name of a parameter in a drawing.
-fn parameter_piece(parameter: Parameter) -> Piece<'static>
-    ensures { piece_text result ≡ parameter_text parameter }
-{
-    match parameter {
-        Parameter::Setup => Piece::Text(b"SETUP"),
-        Parameter::Hold => Piece::Text(b"HOLD"),
-        Parameter::High => Piece::Text(b"HIGH"),
-        Parameter::Low => Piece::Text(b"LOW"),
-    }
-}
-
-/// Which fault there is even with 0.
-#[tactic(auto, unfolding(crate::specs::Lines::still_line))]
-fn add_still_line(out: &mut Bytes, alloc: Global, c: &Circuit, asked: Asked) -> Result<(), NoMemory>
-    ensures { OnOk result (out.new ≡ out.old ++ still_line c.now asked) }
-{
-    let mut fault = Bytes::new(alloc);
-    write_unnamed_fault(c, &asked.worst, &mut fault)?;
-    add_line(
-        out,
-        &[
-            word(b"  with "),
-            parameter_piece(asked.parameter),
-            word(b" 0 there is still "),
-            Piece::Text(fault.as_slice()),
-        ],
-    )
-}
-
-/// That, where there is one.
-fn add_still(
-    out: &mut Bytes,
-    alloc: Global,
-    c: &Circuit,
-    asked: Option<Asked>,
-) -> Result<(), NoMemory>
-    ensures { OnOk result (out.new ≡ out.old ++ still_lines c.now asked) }
-{
-    match asked {
-        None => Ok(()),
-        Some(asked) => {
-            if asked.never_fits() {
-                add_still_line(out, alloc, c, asked)
-            } else {
-                Ok(())
-            }
-        }
-    }
 }
 
 /// The first line of a change at an edge.
@@ -299,7 +208,7 @@ fn add_said(out: &mut Bytes, alloc: Global, told: Told, edge: &AtEdge) -> Result
 {
     add_first(out, alloc, told, edge)?;
     add_over(out, alloc, told.circuit, edge)?;
-    add_still(out, alloc, told.circuit, edge.asked)?;
+    add_still(out, alloc, told, edge)?;
     add_launched(out, alloc, told.circuit, edge)
 }
 

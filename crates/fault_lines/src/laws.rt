@@ -1,6 +1,6 @@
 //! Laws of the lines of an explanation. The functions do nothing: what each states is its contract.
 
-ghost use Rattle.fault_lines.specs.Laws.{EarlyByOneEdge, EdgesAreOnOneAxis, LastIsTooLate, LateByPeriods, MarksAreAtOneTick, NetsAreOnTheAxis, PulsesAreOnOneAxis};
+ghost use Rattle.fault_lines.specs.Laws.{EarlyByOneEdge, EdgesAreOnOneAxis, LastIsTooLate, LateByPeriods, MarksAreAtOneTick, NetsAreOnTheAxis, OtherFaultsAreOnTheAxis, PulsesAreOnOneAxis};
 
 /// The change and the clock of an edge are each told at a tick of its slot, counted from one tick
 /// 0.
@@ -22,6 +22,12 @@ pub fn nets_are_on_the_axis()
 /// pulse is wide.
 pub fn pulses_are_on_one_axis()
     ensures { PulsesAreOnOneAxis }
+{}
+
+/// The change and the edge of a fault that there is even without a limit are each told at a tick of
+/// its slot: the change up to the edge for setup, and else after it.
+pub fn other_faults_are_on_the_axis()
+    ensures { OtherFaultsAreOnTheAxis }
 {}
 
 /// A change that is told to be late, and not early, was launched whole periods before this edge of

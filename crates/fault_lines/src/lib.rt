@@ -23,7 +23,9 @@ mod last_change;
 mod launch;
 mod lines;
 mod pulse_lines;
+mod risen;
 mod shorter;
+mod still_fault;
 
 // beside the calls
 pub mod laws;
