@@ -1,5 +1,5 @@
 -- What is told of the words of a call, worked out on paper.
-use Rattle.std.proofs.Common.{◌≡◌, ℕ, List, [], ◌∷◌, refl, true, false}
+use Rattle.std.proofs.Common.{◌≡◌, [], ◌∷◌, refl, true, false}
 use Rattle.std.specs.Prelude.{codes}
 use Rattle.help_text.specs.Near.{exchanged}
 use Rattle.refusal_help.specs.CallReason.{after_text, none_text, sets_limit, words_line}
