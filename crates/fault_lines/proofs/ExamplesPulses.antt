@@ -1,5 +1,5 @@
 -- When a pulse is, and what makes it shorter, worked out on paper in a period of 400 ticks.
-use Rattle.std.specs.Prelude.{◌≡◌, ℕ, Bool, true, false, List, [], ◌∷◌, Some, None}
+use Rattle.std.specs.Prelude.{◌≡◌, ℕ, Bool, true, false, [], ◌∷◌, Some, None}
 use Rattle.std.proofs.Common.{refl}
 use Rattle.scald_base.specs.Clock.{back}
 use Rattle.step_values.specs.declared.value.Value.{Value}

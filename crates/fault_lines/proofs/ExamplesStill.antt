@@ -1,11 +1,10 @@
 -- The fault that there is even without a limit, and when, worked out on paper in a period of 400 ticks.
-use Rattle.std.specs.Prelude.{◌≡◌, ℕ, List, [], ◌∷◌, codes, Option, Some, None}
+use Rattle.std.specs.Prelude.{◌≡◌, ℕ, [], codes, Option, Some, None}
 use Rattle.std.proofs.Common.{refl}
 use Rattle.scald_base.specs.Clock.{back}
-use Rattle.flat_circuit.specs.declared.fault.PointKind.{PointKind}
 use Rattle.flat_circuit.specs.declared.fault.PointKind.TheVariants.{Setup, High, Hold}
 use Rattle.flat_circuit.specs.declared.fault.Fault.{Fault}
-use Rattle.flat_circuit.specs.declared.fault.Fault.TheVariants.{Point, Width, Hazard}
+use Rattle.flat_circuit.specs.declared.fault.Fault.TheVariants.{Point, Hazard}
 use Rattle.margin_report.specs.declared.margin.Parameter.TheVariants as parameter
 use Rattle.fault_account.specs.declared.account.Asked.{Asked}
 use Rattle.fault_account.specs.declared.account.AtEdge.{AtEdge}

@@ -1,6 +1,6 @@
 -- The last change comes of the one that is told, and is too late by so many ticks.
-use Rattle.std.proofs.Common.{◌≡◌, ℕ, ◌+◌, ◌-◌, ◌%◌, ◌<◌, ◌≤◌, min, Bool, true, false, cond, not, ◌&&◌, refl, sym, ap, ◌∙◌, arith, Option}
-use Rattle.std.specs.Prelude.{◌==◌, nat_lt}
+use Rattle.std.proofs.Common.{◌≡◌, ℕ, ◌+◌, ◌-◌, ◌%◌, ◌<◌, ◌≤◌, min, Bool, true, false, cond, not, ◌&&◌, sym, ap, ◌∙◌, arith, Option}
+use Rattle.std.specs.Prelude.{◌==◌}
 use Rattle.std.proofs.lemmas.Bool.{and_parts, eqb-true, ltb-true}
 use Rattle.std.proofs.Math.Nat.{mod-add-mod, mod-lt}
 use Rattle.scald_base.specs.Clock.{back}
@@ -15,7 +15,7 @@ use Rattle.fault_account.specs.Account.{edge_account}
 use Rattle.fault_account.specs.Late.{takes}
 use Rattle.fault_lines.specs.Axis.{change_tick, edge_tick, last_tick}
 use Rattle.fault_lines.specs.Launched.{change_begin, input_of, is_one, limit_of}
-use Rattle.fault_lines.specs.LastChange.{has_last, is_alike, is_over, is_too_fast, is_unmet, over_of}
+use Rattle.fault_lines.specs.LastChange.{is_alike, is_over, is_too_fast, is_unmet}
 use Rattle.fault_lines.specs.Laws.{LastIsTooLate}
 use Rattle.fault_lines.proofs.OneAxis.{change_there, in_reach, tick_back}
 

@@ -5,15 +5,13 @@ use Rattle.std.specs.Prelude.{◌==◌, slice_get}
 use Rattle.std.proofs.lemmas.Bool.{and_parts, cases_lt, eqb-true, ltb-true}
 use Rattle.std.proofs.Math.Nat.{mod-add-mod, mod-lt}
 use Rattle.scald_base.specs.Clock.{back}
-use Rattle.scald_base.specs.Time.{Bounds, IsHeader, period}
+use Rattle.scald_base.specs.Time.{Bounds, period}
 use Rattle.scald_base.proofs.Back.{back_later, back_zero, mod_small}
 use Rattle.flat_circuit.specs.Circuit.{Circuit, driver, wire_at}
-use Rattle.net_waves.specs.Waves.{Waves}
 use Rattle.fault_chain.specs.declared.chain.Link.{Link}
 use Rattle.fault_chain.specs.Chain.{then_late}
 use Rattle.fault_chain.specs.declared.chain.End.{End}
 use Rattle.fault_chain.specs.declared.chain.End.TheVariants.{Level, Repeat, Undriven, Both}
-use Rattle.fault_account.specs.declared.account.Asked.{Asked}
 use Rattle.fault_account.specs.declared.account.AtEdge.{AtEdge}
 use Rattle.fault_account.specs.declared.account.Side.{Side}
 use Rattle.step_values.specs.Steps.{is_unknown}
@@ -21,7 +19,7 @@ use Rattle.fault_account.specs.Account.{edge_account, is_setup}
 use Rattle.fault_account.proofs.Arriving.{arrival_later}
 use Rattle.fault_account.specs.Late.{arrival, delay_in, late_at_pin, late_in, takes}
 use Rattle.fault_lines.specs.Axis.{change_tick, edge_tick}
-use Rattle.fault_lines.specs.Launched.{began_alike, begun_by, change_begin, clock_begin, input_of, is_early, is_of_one_edge, is_one, is_within, known_by, limit_of, sooner_of}
+use Rattle.fault_lines.specs.Launched.{began_alike, begun_by, change_begin, clock_begin, input_of, is_of_one_edge, is_one, known_by, limit_of, sooner_of}
 use Rattle.fault_lines.specs.Laws.{AreOnOneAxis, EarlyByOneEdge, IsToldAt, LateByPeriods}
 use Rattle.fault_lines.proofs.OneAxis.{edges_are_on_one_axis, tick_back, tick_on}
 

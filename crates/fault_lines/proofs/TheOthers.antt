@@ -1,13 +1,11 @@
 -- Marks, assertions and pulses are told at ticks of their slots.
-use Rattle.std.proofs.Common.{◌≡◌, ℕ, ◌+◌, ◌-◌, ◌%◌, ◌<◌, ◌≤◌, max, Bool, true, false, cond, ap, sym, ◌∙◌, arith, Option}
+use Rattle.std.proofs.Common.{◌≡◌, ℕ, ◌+◌, ◌-◌, ◌%◌, ◌<◌, ◌≤◌, max, Bool, true, false, cond, ap, sym, ◌∙◌, arith}
 use Rattle.std.specs.Prelude.{◌==◌}
 use Rattle.std.proofs.Math.Nat.{mod-add-mod, mod-lt}
 use Rattle.scald_base.specs.Clock.{back}
 use Rattle.scald_base.specs.Time.{IsHeader, period}
 use Rattle.scald_base.proofs.Back.{back_lt, mod_small}
 use Rattle.flat_circuit.specs.Circuit.{Circuit}
-use Rattle.net_waves.specs.Waves.{Waves}
-use Rattle.fault_account.specs.declared.account.Asked.{Asked}
 use Rattle.fault_account.specs.declared.account.AtMark.{AtMark}
 use Rattle.fault_account.specs.declared.account.OfNet.{OfNet}
 use Rattle.fault_account.specs.declared.account.OfPulse.{OfPulse}

@@ -1,7 +1,5 @@
 -- When the change at an edge began, and when the edge of the clock did: what is told of that.
-use Rattle.std.specs.Prelude.{ℕ, ◌+◌, ◌-◌, ◌==◌, nat_lt, Bool, true, false, not, ◌&&◌, List, [], ◌∷◌, length, codes, decimal, slice_get, Option, Some, None, if◌then◌else◌}
-use Rattle.std.specs.List.{concat}
-use Rattle.scald_base.specs.Time.{period}
+use Rattle.std.specs.Prelude.{ℕ, ◌+◌, ◌-◌, ◌==◌, nat_lt, Bool, false, not, ◌&&◌, List, [], ◌∷◌, length, codes, slice_get, Option, Some, None, if◌then◌else◌}
 use Rattle.flat_circuit.specs.declared.fault.PointKind.{PointKind}
 use Rattle.flat_circuit.specs.declared.fault.PointKind.TheVariants.{Setup, High, Hold}
 use Rattle.flat_circuit.specs.Circuit.{Circuit}
@@ -15,8 +13,8 @@ use Rattle.fault_account.specs.declared.account.Side.{Side}
 use Rattle.fault_account.specs.declared.account.AtEdge.{AtEdge}
 use Rattle.fault_account.specs.Account.{is_setup, would_do}
 use Rattle.fault_account.specs.Late.{takes}
-use Rattle.fault_words.specs.Words.{tick_text, ticks_text}
-use Rattle.fault_lines.specs.Axis.{change_tick, edge_tick, last_tick}
+use Rattle.fault_words.specs.Words.{ticks_text}
+use Rattle.fault_lines.specs.Axis.{change_tick, edge_tick}
 
 -- ---- one change of one input
 
