@@ -908,7 +908,7 @@ macro unexpanded '15 TooDeep 4:1' 'MACRO M ("A") -> ("Z");' 'x : M ("A") -> ("Z"
 helps '    at most 64 uses of macros may be inside one another, and this is one more' \
     '    it is reached by u at 7:1'
 macro unexpanded '11 BadRange 6:1' 'MACRO M {N=1} ("A"<0:N>);' 'END;' 'DRAWING ROW;' 'u : M {N=256} ("A");' 'END;'
-helps '    the range of the formal "A" of M goes from 0 to 256, where N is 256'
+helps '    the range of the formal "A" of M at 3:7 goes from 0 to 256, where N is 256'
 drawing '11 BadRange 4:1' 'b1 : BUF [0:0] ("A"<65536>) -> ("X");'
 helps '    bit 65536 of "A" is past the last, 65535'
 drawing '11 BadRange 4:1' 'b1 : BUF [0:0] ("A"<0-1>) -> ("X");'
@@ -994,12 +994,18 @@ expanded '11 BadRange 6:1' 'CONST W = 4;' 'DRAWING ROW;' 'FOR I = 0 TO 3 DO' 'b1
 helps '    the bit of "A" is -2, where W is 4, I is 2'
 # the head of a macro
 expanded '11 BadRange 7:1' 'MACRO M {N=1} ("A"<0:N>);' 'END;' 'DRAWING ROW;' 'u1 : M ("X"<0:1>);' 'u2 : M {N=256} ("X");' 'END;'
-helps '    the range of the formal "A" of M goes from 0 to 256, where N is 256'
+helps '    the range of the formal "A" of M at 3:7 goes from 0 to 256, where N is 256'
 expanded '11 BadRange 7:1' 'MACRO M {N=1} ("A"<N>);' 'END;' 'DRAWING ROW;' 'u1 : M ("X"<0>);' 'u2 : M {N=65536} ("X");' 'END;'
-helps '    the bit of the formal "A" of M is 65536, where N is 65536'
+helps '    the bit of the formal "A" of M at 3:7 is 65536, where N is 65536'
 # in a macro that uses itself N is 1 at the use that is refused, and 0 in the head of what it uses
 expanded '11 BadRange 4:1' 'MACRO M {N=1} ("A"<0:N-1>);' 'u : M {N=N/2} ("A"<0:N/2-1>);' 'END;' 'DRAWING ROW;' 'u1 : M {N=2} ("X"<0:1>);' 'END;'
-helps '    the range of the formal "A" of M goes from 0 to -1, where N is 0' '    at this use N is 1' '    it is reached by u1 at 7:1'
+helps '    the range of the formal "A" of M at 3:7 goes from 0 to -1, where N is 0' '    at this use N is 1' '    it is reached by u1 at 7:1'
+# by a constant, given at the use or in the default
+expanded '11 BadRange 8:1' 'CONST HALF = 2;' 'MACRO PART {SIZE=4} ("CK", "D"<0:SIZE-1>);' 'END;' 'DRAWING ROW;' 'p : PART ("C", "A"<0:3>);' \
+    'q : PART {SIZE=HALF-2} ("C", "A");' 'END;'
+helps '    the range of the formal "D" of PART at 4:7 goes from 0 to -1, where SIZE is 0' '    at this use HALF is 2'
+expanded '11 BadRange 7:1' 'CONST W = 0;' 'MACRO M {N=W} ("D"<0:N-1>);' 'END;' 'DRAWING ROW;' 'u : M ("A");' 'END;'
+helps '    the range of the formal "D" of M at 4:7 goes from 0 to -1, where N is 0'
 expanded '11 BadRange 5:1' 'CONST N = 65536;' 'DRAWING ROW;' 'WIRE "A"<N> 0:0;' 'END;'
 helps '    the bit of "A" is 65536, where N is 65536'
 # delays under an IF, and in one macro for two uses

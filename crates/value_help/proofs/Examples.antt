@@ -178,7 +178,7 @@ sliced n params input = drawn (given (codes "N") (number n) ∷ []) (slice ∷ [
 
 -- a formal, by the value that the use gives
 formal_of_no_bits : found (bad_range 6) (sliced 5 (given (codes "W") (Binary Sub (Param (codes "N")) (number 5)) ∷ []) None)
-    ≡ codes "    the range of the formal \"A\" of SLICE goes from 0 to -1, where W is 0\n"
+    ≡ codes "    the range of the formal \"A\" of SLICE at 2:3 goes from 0 to -1, where W is 0\n"
     ++ codes "    at this use N is 5\n"
 unfolding found found_with searching_at range_of formal_text quoted given_to inside_of digits
 formal_of_no_bits = refl

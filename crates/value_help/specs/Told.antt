@@ -42,7 +42,8 @@ connections_told site u =
 -- the formals of a macro, where its parameters have these values
 abbrev pub formals_told : List Binding → Macro → Said
 formals_told env m =
-    or_else (first_told (formal_told env m.name) m.ins) (first_told (formal_told env m.name) m.outs)
+    or_else (first_told (formal_told env m.name m.place) m.ins)
+    (first_told (formal_told env m.name m.place) m.outs)
 
 abbrev pub with_use : List Binding → Said → Said
 with_use given None = None

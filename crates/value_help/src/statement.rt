@@ -51,11 +51,12 @@ fn all_formals_told(alloc: Global, env: &Env, definition: &MacroDef) -> Result<S
     ensures { IfOk result (λ said. said ≡ spec_formals_told env.now (macro_of definition.now)) }
 {
     let name = definition.name.as_slice();
-    let said = formals_told(alloc, env, name, definition.ins.as_slice())?;
+    let place = definition.place;
+    let said = formals_told(alloc, env, name, place, definition.ins.as_slice())?;
     if said.is_some() {
         return Ok(said);
     }
-    formals_told(alloc, env, name, definition.outs.as_slice())
+    formals_told(alloc, env, name, place, definition.outs.as_slice())
 }
 
 /// The names that have values in the head of a macro at a use, where its parameters have some.

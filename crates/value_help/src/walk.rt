@@ -1,9 +1,10 @@
 //! Down the statements of a drawing, as its expansion goes.
 
 ghost use Rattle.std.specs.Prelude.{◌≡◌, ◌-◌, ◌==◌, IfOk};
+ghost use Rattle.scald_base.specs.Time.{period as spec_period};
 ghost use Rattle.drawing_tree.specs.Tree.{drawing_of, statement_of, statements_of, use_of};
 ghost use Rattle.drawing_tree.specs.WellFormed.{IsWellFormed};
-ghost use Rattle.macro_expander.specs.Library.{LeadToMacros};
+ghost use Rattle.macro_expander.specs.Library.{HoldsMacros, LeadToMacros};
 ghost use Rattle.value_help.specs.Found.{found as spec_found, found_with as spec_found_with, lines_in, unless_said};
 ghost use Rattle.value_help.specs.Walk.{chosen_in, in_all, in_one, site_of, turns_in, use_in};
 
@@ -246,23 +247,24 @@ fn lines(alloc: Global, said: Said) -> Bytes
     }
 }
 
-/// What is said of a refusal where the constants of a drawing have these values.
-fn found_with(
+/// What is said of a refusal in a drawing with this library.
+fn found_in(
     alloc: Global,
     drawing: &Drawing,
-    consts: Env,
+    library: &Library,
     refusal: Refusal,
 ) -> Result<Bytes, NoMemory>
-    ensures { IfOk result (λ said. said ≡ spec_found_with refusal (drawing_of drawing.now) consts) }
+    requires { HoldsMacros drawing.now.version (spec_period drawing.now.header) library.now.consts
+        drawing.now.macros library.now }
+    ensures { IfOk result (λ said.
+        said ≡ spec_found_with refusal (drawing_of drawing.now) library.now.consts) }
 {
-    let top = Scope::top(alloc, copied_env(alloc, &consts)?);
-    let period = drawing.header.period();
-    let library = Library::of(alloc, drawing.version, period, consts, &drawing.macros)?;
+    let top = Scope::top(alloc, copied_env(alloc, &library.consts)?);
     let mut left = MOST_STATEMENTS;
     let said = in_statements(
         &mut left,
         alloc,
-        &library,
+        library,
         refusal,
         &drawing.body,
         &top,
@@ -272,6 +274,20 @@ fn found_with(
         DEEPEST,
     )?;
     Ok(lines(alloc, said))
+}
+
+/// What is said of a refusal where the constants of a drawing have these values.
+fn found_with(
+    alloc: Global,
+    drawing: &Drawing,
+    consts: Env,
+    refusal: Refusal,
+) -> Result<Bytes, NoMemory>
+    ensures { IfOk result (λ said. said ≡ spec_found_with refusal (drawing_of drawing.now) consts) }
+{
+    let period = drawing.header.period();
+    let library = Library::of(alloc, drawing.version, period, consts, &drawing.macros)?;
+    found_in(alloc, drawing, &library, refusal)
 }
 
 /// What is said of a refusal where a drawing is expanded: nothing where no statement at its place

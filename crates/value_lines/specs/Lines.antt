@@ -1,7 +1,8 @@
 -- A line that tells values.
 use Rattle.std.specs.Prelude.{ℕ, ℤ, Bool, ◌&&◌, ◌==◌, List, [], ◌∷◌, ◌++◌, length, Option, Some, None, if◌then◌else◌, codes}
-use Rattle.std.specs.Fmt.{signed_decimal}
+use Rattle.std.specs.Fmt.{decimal, signed_decimal}
 use Rattle.std.specs.List.{join_by}
+use Rattle.scald_base.specs.declared.refusal.Place.{Place}
 use Rattle.scald_expr.specs.declared.environment.Binding.{Binding}
 
 -- what is said of something that is refused, and None of what is not
@@ -39,13 +40,19 @@ pair_text pair = signed_decimal pair.0 ++ codes ":" ++ signed_decimal pair.1
 abbrev pub way_text : ℤ × ℤ → List ℕ
 way_text ends = signed_decimal ends.0 ++ codes " to " ++ signed_decimal ends.1
 
--- ---- what has a range: `"A"`, or in the head of a macro `the formal "A" of SLICE`
+-- ---- what has a range: `"A"`, or in the head of a macro `the formal "A" of SLICE at 3:7`
 
 unfoldable pub quoted : List ℕ → List ℕ
 quoted base = codes "\"" ++ base ++ codes "\""
 
-unfoldable pub formal_text : List ℕ → List ℕ → List ℕ
-formal_text name base = codes "the formal " ++ quoted base ++ codes " of " ++ name
+-- `3:7`
+abbrev pub place_text : Place → List ℕ
+place_text place = decimal place.line ++ codes ":" ++ decimal place.col
+
+-- a formal of the macro of a name, which stands at this place
+unfoldable pub formal_text : List ℕ → Place → List ℕ → List ℕ
+formal_text name place base =
+    codes "the formal " ++ quoted base ++ codes " of " ++ name ++ codes " at " ++ place_text place
 
 -- where a range goes
 unfoldable pub range_of : List ℕ → List ℕ

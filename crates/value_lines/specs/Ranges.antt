@@ -2,6 +2,7 @@
 -- that is not refused.
 use Rattle.std.specs.Prelude.{ℕ, ℤ, pos, Bool, false, ◌&&◌, ◌||◌, ◌-◌, ◌==◌, int_lt, List, ◌++◌, length, slice_get, Option, Some, None, Ok, Err, is_some, if◌then◌else◌, codes}
 use Rattle.std.specs.Fmt.{decimal, signed_decimal}
+use Rattle.scald_base.specs.declared.refusal.Place.{Place}
 use Rattle.assertion_syntax.specs.declared.name.SignalName.{SignalName}
 use Rattle.scald_expr.specs.declared.environment.Binding.{Binding}
 use Rattle.vector_names.specs.Bits.{bits_of}
@@ -32,9 +33,9 @@ judged_told env whose range (Err kind) = None
 abbrev pub range_told : List Binding → List ℕ → Option Range → Said
 range_told env whose range = judged_told env whose range (written_ends env range)
 
--- a formal of the macro of a name
-abbrev pub formal_told : List Binding → List ℕ → Formal → Said
-formal_told env name f = range_told env (formal_text name f.base) f.range
+-- a formal of the macro of a name, which stands at this place
+abbrev pub formal_told : List Binding → List ℕ → Place → Formal → Said
+formal_told env name place f = range_told env (formal_text name place f.base) f.range
 
 -- ---- of a formal
 

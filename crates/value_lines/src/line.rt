@@ -1,10 +1,10 @@
 //! Lines that tell values.
 
 ghost use Rattle.std.specs.Prelude.{◌≡◌, ◌++◌, IfOk, OnOk, Some, codes};
-ghost use Rattle.value_lines.specs.Lines.{bit_of, bit_text, both_text as spec_both_text, formal_text as spec_formal_text, goes_text, line as spec_line, pair_text, quoted as spec_quoted, range_of, range_text as spec_range_text, told_in_use as spec_told_in_use, value_text, values_text as spec_values_text, way_text, where_text};
+ghost use Rattle.value_lines.specs.Lines.{bit_of, bit_text, both_text as spec_both_text, formal_text as spec_formal_text, goes_text, line as spec_line, pair_text, place_text, quoted as spec_quoted, range_of, range_text as spec_range_text, told_in_use as spec_told_in_use, value_text, values_text as spec_values_text, way_text, where_text};
 
 use itoa::Buffer;
-use scald_base::{Bytes, NoMemory};
+use scald_base::{Bytes, NoMemory, Place};
 use scald_expr::Binding;
 use std::alloc::Global;
 
@@ -71,22 +71,33 @@ pub fn quoted(alloc: Global, base: &[u8]) -> Result<Bytes, NoMemory>
     Ok(text)
 }
 
+/// Puts a line and a column with a colon between them at the end.
+fn add_place(out: &mut Bytes, place: Place) -> Result<(), NoMemory>
+    ensures { OnOk result (out.new ≡ out.old ++ place_text place) }
+{
+    out.extend(Buffer::new().format(place.line).as_bytes())?;
+    out.push(b':')?;
+    out.extend(Buffer::new().format(place.col).as_bytes())
+}
+
 #[tactic(auto, unfolding(crate::specs::Lines::formal_text))]
-fn add_formal(out: &mut Bytes, name: &[u8], base: &[u8]) -> Result<(), NoMemory>
-    ensures { OnOk result (out.new ≡ out.old ++ spec_formal_text name.now base.now) }
+fn add_formal(out: &mut Bytes, name: &[u8], place: Place, base: &[u8]) -> Result<(), NoMemory>
+    ensures { OnOk result (out.new ≡ out.old ++ spec_formal_text name.now place base.now) }
 {
     out.extend(b"the formal ")?;
     add_quoted(out, base)?;
     out.extend(b" of ")?;
-    out.extend(name)
+    out.extend(name)?;
+    out.extend(b" at ")?;
+    add_place(out, place)
 }
 
-/// A formal, and the name of its macro.
-pub fn formal_text(alloc: Global, name: &[u8], base: &[u8]) -> Result<Bytes, NoMemory>
-    ensures { IfOk result (λ text. text ≡ spec_formal_text name.now base.now) }
+/// A formal, and the name of its macro, which stands at this place.
+pub fn formal_text(alloc: Global, name: &[u8], place: Place, base: &[u8]) -> Result<Bytes, NoMemory>
+    ensures { IfOk result (λ text. text ≡ spec_formal_text name.now place base.now) }
 {
     let mut text = Bytes::new(alloc);
-    add_formal(&mut text, name, base)?;
+    add_formal(&mut text, name, place, base)?;
     Ok(text)
 }
 

@@ -14,7 +14,7 @@ use assertion_syntax::SignalName;
 use drawing_tree::{Conn, Formal, Item, RangeExpr, Term, WrittenRange};
 use itoa::Buffer;
 use macro_expander::range::written_ends;
-use scald_base::{Bytes, NoMemory};
+use scald_base::{Bytes, NoMemory, Place};
 use scald_expr::Env;
 use std::alloc::Global;
 use vector_names::{VectorFault, bits_of};
@@ -286,26 +286,33 @@ pub fn connections_told(alloc: Global, site: &Site, connections: &[Conn]) -> Res
 
 // ---- in the head of a macro
 
-fn formal_told(alloc: Global, env: &Env, name: &[u8], formal: &Formal) -> Result<Said, NoMemory>
+fn formal_told(
+    alloc: Global,
+    env: &Env,
+    name: &[u8],
+    place: Place,
+    formal: &Formal,
+) -> Result<Said, NoMemory>
     ensures { IfOk result (λ said.
-        said ≡ spec_formal_told env.now name.now (formal_of formal.now)) }
+        said ≡ spec_formal_told env.now name.now place (formal_of formal.now)) }
 {
-    let whose = formal_text(alloc, name, formal.base.as_slice())?;
+    let whose = formal_text(alloc, name, place, formal.base.as_slice())?;
     range_told(alloc, env, whose.as_slice(), &formal.range)
 }
 
-/// What is told of formals of the macro of a name.
+/// What is told of formals of the macro of a name, which stands at this place.
 pub fn formals_told(
     alloc: Global,
     env: &Env,
     name: &[u8],
+    place: Place,
     formals: &[Formal],
 ) -> Result<Said, NoMemory>
     ensures { IfOk result (λ said.
-        said ≡ spec_first_told (spec_formal_told env.now name.now) (map formal_of formals.now)) }
+        said ≡ spec_first_told (spec_formal_told env.now name.now place) (map formal_of formals.now)) }
 {
     'formals: for formal in formals {
-        let said = formal_told(alloc, env, name, formal)?;
+        let said = formal_told(alloc, env, name, place, formal)?;
         if said.is_some() {
             return Ok(said);
         }

@@ -5,8 +5,7 @@ ghost use Rattle.std.specs.Option.{option_copied};
 ghost use Rattle.drawing_tree.specs.Tree.{formal_of};
 ghost use Rattle.macro_expander.specs.Numbered.{bound_of};
 ghost use Rattle.macro_expander.specs.Terms.{formal_of as bound_formal};
-ghost use Rattle.spread_names.specs.Walk.{seen};
-ghost use Rattle.value_lines.specs.Sites.{formal_named as spec_formal_named, head_formal as spec_head_formal, seen_site, within as spec_within};
+ghost use Rattle.value_lines.specs.Sites.{formal_named as spec_formal_named, head_formal as spec_head_formal, seen_site};
 
 use assertion_syntax::SignalName;
 use drawing_tree::Formal;
@@ -64,17 +63,5 @@ impl<'a> Site<'a> {
             return None;
         }
         self.scope.formals.find(name.base.as_slice())
-    }
-
-    /// The same within another scope, that of a turn of a FOR.
-    pub fn within(&self, scope: &'a Scope) -> Site<'a>
-        ensures { seen_site result ≡ spec_within (seen_site self.now) (seen scope.now) }
-    {
-        Site {
-            scope,
-            head: self.head,
-            ins: self.ins,
-            outs: self.outs,
-        }
     }
 }

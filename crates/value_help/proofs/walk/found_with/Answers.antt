@@ -1,13 +1,22 @@
-use Rattle.std.proofs.Common.{[], ◌∙◌}
-use Rattle.value_help.specs.Walk.{site_of}
-use Rattle.value_help.proofs.Whole.{all_found, own_stands}
+use Rattle.std.proofs.Common.{ap, refl, ◌∙◌}
+use Rattle.drawing_tree.specs.Tree.{drawing_of}
+use Rattle.value_help.specs.Found.{found_with}
+use Rattle.value_help.proofs.Walking.{if_ok}
 use Rattle.value_help.proofs.walk.found_with.Goals as goal
+
+pub found_in-requires : goal.found_in-requires
+found_in-requires c =
+    let held = c.in_ok-library.ensures in
+    record {
+      version = held.version;
+      ticks = held.ticks ∙ c.period-period.ensures.is;
+      consts = refl;
+      macros = held.macros;
+      places = held.places;
+    }
 
 pub returns : goal.returns
 returns c =
-    c.lines.ensures
-    ∙ all_found c.args.refusal c.args.drawing.now c.period-period.result c.in_ok-library.library c.args.consts
-    (site_of c.top-top.result c.top-top.result.env [] [])
-    c.deref.result.now c.period-period.ensures.is c.in_ok-library.ensures
-    (own_stands c.args.consts c.in_ok-copied_env.field-0 c.top-top.result c.in_ok-copied_env.ensures c.top-top.ensures)
-    c.deref.ensures.value c.in_ok-said.said c.in_statements.new.left c.in_ok-said.ensures
+    let held = c.in_ok-library.ensures in
+    if_ok c.found_in.result
+    (λ said is. is ∙ ap (found_with c.args.refusal (drawing_of c.args.drawing.now)) held.consts) c.found_in.ensures

@@ -6,5 +6,5 @@ use Rattle.value_lines.proofs.range.formals_told.Given as goal
 
 abbrev pub invariant-formals : goal.invariant-formals
 invariant-formals l =
-    first_told (formal_told l.env l.name) (map formal_of (drop l.formal-index l.formals))
-    ≡ first_told (formal_told l.env l.name) (map formal_of l.formals)
+    first_told (formal_told l.env l.name l.place) (map formal_of (drop l.formal-index l.formals))
+    ≡ first_told (formal_told l.env l.name l.place) (map formal_of l.formals)
