@@ -25,8 +25,12 @@ unfoldable pub cause_line : Circuit → Option Asked → Fault → List ℕ
 cause_line c asked f = line (
     kind_said f ∷ limit_said asked ∷ codes " of " ∷ element_named Stem c f ∷ short_said asked ∷ [])
 
+-- of a fault of which this is asked and told
+abbrev pub cause_with : Circuit → Drawing → Fault → Option Asked → Account → List ℕ
+cause_with c d f asked told = cause_line c asked f ++ account_lines Stem d c told
+
 unfoldable pub cause : Circuit → Drawing → Waves → Fault → List ℕ
-cause c d ws f = cause_line c (asked_of c ws f) f ++ account_lines Stem d c (account_of c ws f)
+cause c d ws f = cause_with c d f (asked_of c ws f) (account_of c ws f)
 
 -- ---- groups
 

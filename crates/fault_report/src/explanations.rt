@@ -7,15 +7,16 @@ ghost use Rattle.drawing_tree.specs.Tree.{Drawing as Drawn, drawing_of};
 ghost use Rattle.net_waves.specs.Waves.{FitWaves, waves_of};
 ghost use Rattle.timing_analysis.specs.Case.{Case, Listed, faults_of};
 ghost use Rattle.timing_analysis.specs.Rested.{settled_case};
-ghost use Rattle.text_groups.specs.Group.{gathered};
+ghost use Rattle.text_groups.specs.Group.{added, gathered};
+ghost use Rattle.fault_account.specs.Account.{IsAccount};
 ghost use Rattle.fault_account.specs.Laws.{AreWithin};
 ghost use Rattle.fault_chain.specs.Report.{number_line};
 ghost use Rattle.fault_report.specs.Answer.{explained as explained_by};
-ghost use Rattle.fault_report.specs.Group.{fault_groups, group_lines};
+ghost use Rattle.fault_report.specs.Group.{IsMeasured, fault_groups, group_lines, paragraph};
 ghost use Rattle.fault_report.specs.Report.{HasExplained, all_lines};
-ghost use Rattle.fault_report.specs.Table.{group_rows, rows_of};
+ghost use Rattle.fault_report.specs.Table.{group_rows, row_with, rows_of};
 
-use crate::groups::{explain, groups_of};
+use crate::groups::{Explanation, explain, groups_of};
 use crate::paragraph::add_paragraph;
 use crate::table::{add_table, row_text};
 use drawing_tree::Drawing;
@@ -73,6 +74,72 @@ impl Explanations {
         })
     }
 
+    /// The row of a group of faults of a case of this number, of which this is the first.
+    fn add_row(
+        &mut self,
+        alloc: Global,
+        c: &Circuit,
+        number: u32,
+        first: Fault,
+        faults: &[Fault],
+        found: &Explanation,
+    ) -> Result<(), NoMemory>
+        requires { IsMeasured found.now.asked }
+        ensures lines { self.new.bytes ≡ self.old.bytes }
+        ensures rows { OnOk result (self.new.table ≡ added self.old.table
+            (row_with c.now faults.now first found.now.asked found.now.account) number) }
+        ensures total { self.new.total ≡ self.old.total }
+    {
+        let row = row_text(alloc, c, faults, first, found)?;
+        self.table.add(alloc, row.as_slice(), number)
+    }
+
+    /// The paragraph and the row of such a group.
+    fn add_found(
+        &mut self,
+        alloc: Global,
+        told: Told,
+        number: u32,
+        first: Fault,
+        faults: &[Fault],
+        found: &Explanation,
+    ) -> Result<(), NoMemory>
+        requires whole { told.naming ≡ Naming.Whole }
+        requires asked { IsMeasured found.now.asked }
+        requires account { IsAccount told.circuit.now found.now.account }
+        ensures lines { OnOk result (self.new.bytes ≡ self.old.bytes ++ paragraph told.entry.circuit.now
+            (drawing_of told.entry.drawing.now) first faults.now found.now.asked found.now.account) }
+        ensures rows { OnOk result (self.new.table ≡ added self.old.table
+            (row_with told.entry.circuit.now faults.now first found.now.asked found.now.account) number) }
+        ensures total { self.new.total ≡ self.old.total }
+    {
+        add_paragraph(&mut self.bytes, alloc, told, first, faults, found)?;
+        self.add_row(alloc, told.circuit, number, first, faults, found)
+    }
+
+    /// The same, after which what is told of the group is no longer needed. It is dropped here alone, where
+    /// nothing else is known of it.
+    fn add_explained(
+        &mut self,
+        alloc: Global,
+        told: Told,
+        number: u32,
+        first: Fault,
+        faults: &[Fault],
+        found: Explanation,
+    ) -> Result<(), NoMemory>
+        requires whole { told.naming ≡ Naming.Whole }
+        requires asked { IsMeasured found.asked }
+        requires account { IsAccount told.circuit.now found.account }
+        ensures lines { OnOk result (self.new.bytes ≡ self.old.bytes ++ paragraph told.entry.circuit.now
+            (drawing_of told.entry.drawing.now) first faults.now found.asked found.account) }
+        ensures rows { OnOk result (self.new.table ≡ added self.old.table
+            (row_with told.entry.circuit.now faults.now first found.asked found.account) number) }
+        ensures total { self.new.total ≡ self.old.total }
+    {
+        self.add_found(alloc, told, number, first, faults, &found)
+    }
+
     /// A group of faults of a case of this number.
     fn add_group<W: CyclicWave<Item = Value>>(
         &mut self,
@@ -97,11 +164,8 @@ impl Explanations {
         let Some((first, _)) = faults.split_first() else {
             return Ok(());
         };
-        let c = told.circuit;
-        let found = explain(alloc, c, waves, met, *first)?;
-        add_paragraph(&mut self.bytes, alloc, told, *first, faults, &found)?;
-        let row = row_text(alloc, c, faults, *first, &found)?;
-        self.table.add(alloc, row.as_slice(), number)
+        let found = explain(alloc, told.circuit, waves, met, *first)?;
+        self.add_explained(alloc, told, number, *first, faults, found)
     }
 
     /// Groups of faults of a case of this number.

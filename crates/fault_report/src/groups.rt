@@ -7,7 +7,7 @@ ghost use Rattle.net_waves.specs.Waves.{FitWaves, waves_of};
 ghost use Rattle.fault_account.specs.Account.{IsAccount, account_of};
 ghost use Rattle.fault_account.specs.Asked.{asked_of as asked_by};
 ghost use Rattle.fault_account.specs.Laws.{AreWithin};
-ghost use Rattle.fault_report.specs.Group.{IsMeasured, cause, cause_line, fault_groups};
+ghost use Rattle.fault_report.specs.Group.{IsMeasured, cause, cause_line, cause_with, fault_groups};
 
 use crate::heading::{element_name, kind_piece, limit_text, short_text};
 use drawing_tree::Drawing;
@@ -82,8 +82,54 @@ fn add_cause_line(
     )
 }
 
+/// What faults of one cause have in common, by what is told of this one.
+fn add_cause(
+    out: &mut Bytes,
+    alloc: Global,
+    told: Told,
+    fault: Fault,
+    found: &Explanation,
+) -> Result<(), NoMemory>
+    requires stem { told.naming ≡ Naming.Stem }
+    requires asked { IsMeasured found.now.asked }
+    requires account { IsAccount told.circuit.now found.now.account }
+    ensures { OnOk result (out.new ≡ out.old ++ cause_with told.entry.circuit.now
+        (drawing_of told.entry.drawing.now) fault found.now.asked found.now.account) }
+{
+    add_cause_line(out, alloc, told.circuit, found.asked, fault)?;
+    add_account(out, alloc, told, &found.account)
+}
+
+/// The same as a text.
+fn found_text(
+    alloc: Global,
+    told: Told,
+    fault: Fault,
+    found: &Explanation,
+) -> Result<Bytes, NoMemory>
+    requires stem { told.naming ≡ Naming.Stem }
+    requires asked { IsMeasured found.now.asked }
+    requires account { IsAccount told.circuit.now found.now.account }
+    ensures { IfOk result (λ text. text ≡ cause_with told.entry.circuit.now
+        (drawing_of told.entry.drawing.now) fault found.now.asked found.now.account) }
+{
+    let mut out = Bytes::new(alloc);
+    add_cause(&mut out, alloc, told, fault, found)?;
+    Ok(out)
+}
+
+/// The same, after which what is told of the fault is no longer needed.
+fn text_of(alloc: Global, told: Told, fault: Fault, found: Explanation) -> Result<Bytes, NoMemory>
+    requires stem { told.naming ≡ Naming.Stem }
+    requires asked { IsMeasured found.asked }
+    requires account { IsAccount told.circuit.now found.account }
+    ensures { IfOk result (λ text. text ≡ cause_with told.entry.circuit.now
+        (drawing_of told.entry.drawing.now) fault found.asked found.account) }
+{
+    found_text(alloc, told, fault, &found)
+}
+
 /// What faults of one cause have in common: all that is told of them but for bits.
-#[tactic(auto, unfolding(crate::specs::Group::cause))]
 fn cause_text<W: CyclicWave<Item = Value>>(
     alloc: Global,
     drawing: &Drawing,
@@ -104,10 +150,7 @@ fn cause_text<W: CyclicWave<Item = Value>>(
         naming: Naming::Stem,
     };
     let found = explain(alloc, c, waves, met, fault)?;
-    let mut out = Bytes::new(alloc);
-    add_cause_line(&mut out, alloc, c, found.asked, fault)?;
-    add_account(&mut out, alloc, told, &found.account)?;
-    Ok(out)
+    text_of(alloc, told, fault, found)
 }
 
 /// The faults of a case by their causes: each group where its first fault is, and in it all of its cause, in
