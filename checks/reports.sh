@@ -416,6 +416,9 @@ row 'a row of registers whose clock is passed on through late wires' explain 1 \
 row 'what is unknown, explained by its loop from the net that is named first, and by its ticks once round' explain 1 \
     'b1 : BUF [1:2] ("B") -> ("A");' 'b2 : BUF [1:3] ("A") -> ("B");' 'WIRE "B" 0:4;' 'w1 : MIN_PULSE_CHK {HIGH=2} ("A");' \
     -- '  its begin, unknown by the loop of B<0>, A<0>:' '    once round the loop it takes up to 9 ticks, and a period has 400' 'FAULTS 1'
+row 'a pulse behind a hazard' explain 1 \
+    'g1 : AND [2:3] ("CK .P2-3" !H, "EN .S3-8") -> ("GCK");' 'w1 : MIN_PULSE_CHK {HIGH=2} ("GCK");' \
+    -- 'HAZARD of g1<0> (line 4)' '  its begin comes through g1<0> : AND [2:3] (line 4), which has a HAZARD of its own: mend that first' 'FAULTS 2'
 
 # 10240 faults of one cause are one paragraph, within 10 seconds and 64 MB of address space
 trying '10240 faults of one cause'

@@ -334,10 +334,11 @@ def run_round(passes, slot):
 class Told:
     """The explanation of one fault, but for its first line."""
 
-    def __init__(self, circuit, drawing, waves, naming):
+    def __init__(self, circuit, drawing, waves, hazards, naming):
         self.circuit = circuit
         self.drawing = drawing
         self.waves = waves
+        self.hazards = hazards  # the elements that have one in the case
         self.naming = naming
         self.period = circuit.period
         self.first = None  # the net at which the first side begins
@@ -379,6 +380,17 @@ class Told:
             f"  {title}, unknown by the loop of {', '.join(map(self.naming, nets))}:",
             f"    once round the loop it takes up to {round_ticks}, and a period has {self.period}",
         ]
+
+    def through_hazard(self, sides, own=None):
+        """Of these sides the first that comes through an element with a hazard, which is not its own: and of several such
+        elements the first in the direction of the signals."""
+        for what, side in sides:
+            for link in reversed(side.links if side else []):
+                driver = self.circuit.drivers.get(link.net)
+                if driver is not own and any(driver is element for element in self.hazards):
+                    element = element_text(driver, self.naming)
+                    return [f"  {what} comes through {element}, which has a HAZARD of its own: mend that first"]
+        return []
 
     def side(self, title, side, end):
         """The lines of a side that arrives at this tick, from where it begins."""
@@ -444,7 +456,10 @@ class Told:
         began = begun_by_one(change, arrival, edge_side, edge_tick)
         is_early = is_setup and began is not None and began[0] == began[1]
         is_too_fast = is_early and edge_tick < began[1] + asked.limit
-        lines = [self.point_line(worst, asked, data, clock, arrival - later - earlier, earlier + more, edge_tick, is_fall)]
+        lines = self.through_hazard([("its clock", edge_side), ("its change", change)])
+        lines.append(
+            self.point_line(worst, asked, data, clock, arrival - later - earlier, earlier + more, edge_tick, is_fall)
+        )
         last, last_tick = None, arrival + more - later
         if is_setup and asked.least == 0 and earlier + more < period - 1 and not is_too_fast:
             last = self.last_of(change, arrival, data, (worst.slot + more) % period, last_tick)
@@ -511,10 +526,11 @@ class Told:
         mark = side_of(self.circuit, self.waves, marked, fault.slot)
         arrival = self.arrives(change, fault.slot, mark.takes if mark else 0)
         value = fold(pin_wave(self.circuit, self.waves, marked))[fault.slot]
-        lines = [
+        lines = self.through_hazard([("its mark", mark), ("its change", change)], element)
+        lines.append(
             f"  pin {number}, {self.naming.pin(fault.pin)}, may change at {self.tick(arrival)}, while"
             f" {self.naming.pin(marked)}, which is marked !H, {DOES[value]}"
-        ]
+        )
         lines += self.side("the change", change, arrival)
         if mark:
             lines += self.side("the mark", mark, arrival)
@@ -538,7 +554,9 @@ class Told:
         first = arrival - told
         asks = f"{self.when(first + back - before, asserted)} it {DOES[wide[fault.slot]]} by that"
         does = "breaks that" if back + on else DOES[found[slot]]
-        return [f"  {asks}, and it {does} {self.when(first, back + on)}"] + self.side("the change", change, arrival)
+        lines = self.through_hazard([("its change", change)])
+        lines.append(f"  {asks}, and it {does} {self.when(first, back + on)}")
+        return lines + self.side("the change", change, arrival)
 
     def width(self, worst, kind):
         level, _, begin_slot, _, width = worst.rest.split()
@@ -547,10 +565,11 @@ class Told:
         opens = side_of(self.circuit, self.waves, pin, begin_slot)
         closes = side_of(self.circuit, self.waves, pin, begin_slot + width)
         arrival = self.arrives(opens, begin_slot, max(closes.takes - width, 0))
-        lines = [
+        lines = self.through_hazard([("its begin", opens), ("its end", closes)])
+        lines.append(
             f"  {self.naming.pin(pin)} may be {level.lower()} for {ticks_text(width)}, from {self.tick(arrival)} to"
             f" {self.tick(arrival + width)}"
-        ]
+        )
         shorter = []
         for number in range(min(len(opens.links), len(closes.links)) - 1):
             if opens.links[number].net != closes.links[number].net:
@@ -628,9 +647,9 @@ def first_line(circuit, drawing, group):
     return f"{group.kind}{limit} of {names}{said}{shortness(group.asked)[0]}"
 
 
-def key_of(circuit, drawing, waves, fault, asked):
+def key_of(circuit, drawing, waves, hazards, fault, asked):
     """What faults of one group have in common: all that is told of them but for bits."""
-    told = Told(circuit, drawing, waves, STEM)
+    told = Told(circuit, drawing, waves, hazards, STEM)
     return "\n".join([
         kind_of(fault), stem_of(fault.element), element_said(circuit, drawing, fault.element), shortness(asked)[1],
         *told.fault(fault, asked),
@@ -639,14 +658,16 @@ def key_of(circuit, drawing, waves, fault, asked):
 
 def groups(circuit, drawing, waves):
     """The faults of a case, those of one cause together, in the order of the first of each."""
+    all_faults = faults(circuit, waves)
+    hazards = [fault.element for fault in all_faults if fault.kind == "HAZARD"]
     found = {}
-    for fault in faults(circuit, waves):
+    for fault in all_faults:
         asked = asked_by(circuit, waves, fault)
-        key = key_of(circuit, drawing, waves, fault, asked)
+        key = key_of(circuit, drawing, waves, hazards, fault, asked)
         found.setdefault(key, []).append((fault, asked))
     for same in found.values():
         fault, asked = same[0]
-        told = Told(circuit, drawing, waves, WHOLE)
+        told = Told(circuit, drawing, waves, hazards, WHOLE)
         lines = told.fault(fault, asked)
         yield Explained([fault for fault, _ in same], kind_of(fault), asked, lines, told.first)
 

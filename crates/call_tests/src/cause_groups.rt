@@ -299,6 +299,77 @@ kind | checker | short by | from | cases
 SETUP | c1<0:1> | 1 | P<0> | 0
 SETUP | c2<0> | 1 | A<0> | 0
 FAULTS 3
+#### a setup fault that is there since the clock's gate has a hazard
+words:
+drawing:
+g1 : AND [2:3] ("CK .P2-3" !H, "EN .S3-8"<0:1>) -> ("GCK"<0:1>);
+c1 : SETUP_HOLD_CHK {SETUP=20} ("GCK"<0:1>, "D .S1-3"<0:1>);
+answer: Faulty(4)
+SCALD 1 PERIOD 400
+CASE 0
+
+HAZARD of g1<0:1> (line 4)
+  what follows is of g1<0>, the first of 2
+  pin 1, EN<0>, may change at tick 100, while CK<0>, which is marked !H, may rise
+  the change:
+    tick 100: EN<0> may change: "EN .S3-8" (line 4)
+  the mark:
+    tick 100: CK<0> may rise: "CK .P2-3" (line 4)
+
+SETUP 20 of c1<0:1> (line 5): short by 20
+  what follows is of c1<0>, the first of 2
+  its clock comes through g1<0> : AND [2:3] (line 4), which has a HAZARD of its own: mend that first
+  D<0> is stable for 0 ticks up to tick 150, where GCK<0> may rise
+  the change:
+    tick 150: D<0> may change: "D .S1-3" (line 5)
+  the clock:
+    tick 148: EN<0> may change: "EN .S3-8" (line 4)
+    tick 150: GCK<0> may change: g1<0> : AND [2:3] (line 4) takes 2
+
+kind | checker | short by | from | cases
+HAZARD | g1<0:1> | - | EN<0> | 0
+SETUP | c1<0:1> | 20 | D<0> | 0
+FAULTS 4
+#### the same where the gate has none
+words:
+drawing:
+g1 : AND [2:3] ("CK .P2-3" !H, "EN .S1-4"<0:1>) -> ("GCK"<0:1>);
+c1 : SETUP_HOLD_CHK {SETUP=20} ("GCK"<0:1>, "D .S1-3"<0:1>);
+answer: Clean
+SCALD 1 PERIOD 400
+CASE 0
+CLEAN
+#### data that such a clock launches
+words:
+drawing:
+g1 : AND [2:3] ("CK .P2-3" !H, "EN .S3-8") -> ("GCK");
+r1 : REG [5:10] ("GCK", "W .S") -> ("Q");
+c1 : SETUP_HOLD_CHK {SETUP=20} ("K .P3-4", "Q");
+answer: Faulty(2)
+SCALD 1 PERIOD 400
+CASE 0
+
+HAZARD of g1<0> (line 4)
+  pin 1, EN<0>, may change at tick 100, while CK<0>, which is marked !H, may rise
+  the change:
+    tick 100: EN<0> may change: "EN .S3-8" (line 4)
+  the mark:
+    tick 100: CK<0> may rise: "CK .P2-3" (line 4)
+
+SETUP 20 of c1<0> (line 6): short by 20
+  its change comes through g1<0> : AND [2:3] (line 4), which has a HAZARD of its own: mend that first
+  Q<0> is stable for 0 ticks up to tick 150, where K<0> may rise
+  the change:
+    tick 143: EN<0> may change: "EN .S3-8" (line 4)
+    tick 145: GCK<0> may change: g1<0> : AND [2:3] (line 4) takes 2
+    tick 150: Q<0> may change: r1<0> : REG [5:10] (line 5) takes 5
+  the clock:
+    tick 150: K<0> may rise: "K .P3-4" (line 6)
+
+kind | checker | short by | from | cases
+HAZARD | g1<0> | - | EN<0> | 0
+SETUP | c1<0> | 20 | EN<0> | 0
+FAULTS 2
 "##;
 
 #[test]

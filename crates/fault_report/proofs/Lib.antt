@@ -2,6 +2,9 @@ pub mod Gathering
 pub mod Grouped
 pub mod Naming
 pub mod Last
+pub mod Through
 pub mod Telling
 pub mod Replied
 pub mod Promised
+pub mod Examples
+pub mod ExamplesHazards

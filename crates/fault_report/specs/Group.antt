@@ -1,18 +1,21 @@
 -- Faults of one cause: those of which the same is told but for bits, and for what FORs put behind labels.
-use Rattle.std.specs.Prelude.{ℕ, ◌≤◌, nat_lt, IfSome, List, [], ◌∷◌, ◌++◌, length, map, codes, decimal, Option, if◌then◌else◌}
+use Rattle.std.specs.Prelude.{ℕ, ◌≤◌, nat_lt, Bool, IfSome, List, [], ◌∷◌, ◌++◌, length, map, codes, decimal, Option, if◌then◌else◌}
 use Rattle.flat_circuit.specs.declared.fault.Fault.{Fault}
 use Rattle.flat_circuit.specs.Circuit.{Circuit}
 use Rattle.net_waves.specs.Waves.{Waves}
 use Rattle.drawing_tree.specs.Tree.{Drawing}
+use Rattle.timing_analysis.specs.Case.{faults_of}
 use Rattle.listing.specs.Text.{line}
 use Rattle.text_groups.specs.Group.{Group, gathered}
 use Rattle.fault_account.specs.declared.account.Asked.{Asked}
 use Rattle.fault_account.specs.declared.account.Account.{Account}
 use Rattle.fault_account.specs.Account.{account_of}
 use Rattle.fault_account.specs.Asked.{asked_of}
+use Rattle.fault_words.specs.declared.naming.Naming.{Naming}
 use Rattle.fault_words.specs.declared.naming.Naming.TheVariants.{Whole, Stem}
 use Rattle.fault_lines.specs.Lines.{account_lines}
 use Rattle.fault_report.specs.Heading.{element_named, element_said, kind_said, limit_said, short_said}
+use Rattle.fault_report.specs.Hazards.{has_hazard, hazard_lines}
 use Rattle.fault_report.specs.Bits.{names_text}
 
 -- ---- what faults of one cause have in common
@@ -25,12 +28,18 @@ unfoldable pub cause_line : Circuit → Option Asked → Fault → List ℕ
 cause_line c asked f = line (
     kind_said f ∷ limit_said asked ∷ codes " of " ∷ element_named Stem c f ∷ short_said asked ∷ [])
 
--- of a fault of which this is asked and told
-abbrev pub cause_with : Circuit → Drawing → Fault → Option Asked → Account → List ℕ
-cause_with c d f asked told = cause_line c asked f ++ account_lines Stem d c told
+-- the lines of what is told, where these instances have a hazard
+abbrev pub told_lines : Naming → Circuit → Drawing → (ℕ → Bool) → Account → List ℕ
+told_lines naming c d hazards told = hazard_lines naming c hazards told ++ account_lines naming d c told
 
+-- of a fault of which this is asked and told
+abbrev pub cause_with : Circuit → Drawing → (ℕ → Bool) → Fault → Option Asked → Account → List ℕ
+cause_with c d hazards f asked told = cause_line c asked f ++ told_lines Stem c d hazards told
+
+-- of a fault among all of the case
 unfoldable pub cause : Circuit → Drawing → Waves → Fault → List ℕ
-cause c d ws f = cause_with c d f (asked_of c ws f) (account_of c ws f)
+cause c d ws f =
+    cause_with c d (has_hazard c (faults_of c ws)) f (asked_of c ws f) (account_of c ws f)
 
 -- ---- groups
 
@@ -54,11 +63,14 @@ which_line c f count = line (
 abbrev pub which_lines : Circuit → Fault → ℕ → List ℕ
 which_lines c f count = if nat_lt 1 count then which_line c f count else []
 
--- An empty line, the first line, and what is told of the first of these faults, of which this is asked.
-abbrev pub paragraph : Circuit → Drawing → Fault → List Fault → Option Asked → Account → List ℕ
-paragraph c d f faults asked told =
-    10 ∷ first_line c d asked f faults ++ which_lines c f (length faults) ++ account_lines Whole d c told
+-- An empty line, the first line, and what is told of the first of these faults, of which this is
+-- asked, where these instances have a hazard.
+abbrev pub paragraph : Circuit → Drawing → (ℕ → Bool) → Fault → List Fault → Option Asked → Account → List ℕ
+paragraph c d hazards f faults asked told =
+    10 ∷ first_line c d asked f faults ++ which_lines c f (length faults)
+    ++ told_lines Whole c d hazards told
 
 abbrev pub group_lines : Circuit → Drawing → Waves → List Fault → List ℕ
 group_lines c d ws [] = []
-group_lines c d ws (f ∷ others) = paragraph c d f (f ∷ others) (asked_of c ws f) (account_of c ws f)
+group_lines c d ws (f ∷ others) =
+    paragraph c d (has_hazard c (faults_of c ws)) f (f ∷ others) (asked_of c ws f) (account_of c ws f)

@@ -1,5 +1,6 @@
 pub mod Heading
 pub mod Bits
+pub mod Hazards
 pub mod Group
 pub mod Table
 pub mod Report

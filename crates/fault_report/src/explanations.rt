@@ -5,6 +5,7 @@ ghost use Rattle.std.specs.List.{All};
 ghost use Rattle.flat_circuit.specs.Circuit.{Circuit as Flat};
 ghost use Rattle.drawing_tree.specs.Tree.{Drawing as Drawn, drawing_of};
 ghost use Rattle.net_waves.specs.Waves.{FitWaves, waves_of};
+ghost use Rattle.fixpoint_engine.specs.Settled.{marked_in};
 ghost use Rattle.timing_analysis.specs.Case.{Case, Listed, faults_of};
 ghost use Rattle.timing_analysis.specs.Rested.{settled_case};
 ghost use Rattle.text_groups.specs.Group.{added, gathered};
@@ -13,15 +14,18 @@ ghost use Rattle.fault_account.specs.Laws.{AreWithin};
 ghost use Rattle.fault_chain.specs.Report.{number_line};
 ghost use Rattle.fault_report.specs.Answer.{explained as explained_by};
 ghost use Rattle.fault_report.specs.Group.{IsMeasured, fault_groups, group_lines, paragraph};
+ghost use Rattle.fault_report.specs.Hazards.{has_hazard};
 ghost use Rattle.fault_report.specs.Report.{HasExplained, all_lines};
 ghost use Rattle.fault_report.specs.Table.{group_rows, row_with, rows_of};
 
 use crate::groups::{Explanation, explain, groups_of};
+use crate::hazards::hazards_of;
 use crate::paragraph::add_paragraph;
 use crate::table::{add_table, row_text};
 use drawing_tree::Drawing;
 use fault_words::{Naming, Told};
-use fixpoint_engine::NetSet;
+// a set of numbers: of nets, and of instances
+use fixpoint_engine::{NetSet, NetSet as InstanceSet};
 use flat_circuit::{Circuit, Fault};
 use listing::{Piece, add_line, end_report, write_period};
 use net_waves::Waves;
@@ -99,6 +103,7 @@ impl Explanations {
         &mut self,
         alloc: Global,
         told: Told,
+        hazards: &InstanceSet,
         number: u32,
         first: Fault,
         faults: &[Fault],
@@ -108,12 +113,13 @@ impl Explanations {
         requires asked { IsMeasured found.now.asked }
         requires account { IsAccount told.circuit.now found.now.account }
         ensures lines { OnOk result (self.new.bytes ≡ self.old.bytes ++ paragraph told.entry.circuit.now
-            (drawing_of told.entry.drawing.now) first faults.now found.now.asked found.now.account) }
+            (drawing_of told.entry.drawing.now) (marked_in hazards.now) first faults.now found.now.asked
+            found.now.account) }
         ensures rows { OnOk result (self.new.table ≡ added self.old.table
             (row_with told.entry.circuit.now faults.now first found.now.asked found.now.account) number) }
         ensures total { self.new.total ≡ self.old.total }
     {
-        add_paragraph(&mut self.bytes, alloc, told, first, faults, found)?;
+        add_paragraph(&mut self.bytes, alloc, told, hazards, first, faults, found)?;
         self.add_row(alloc, told.circuit, number, first, faults, found)
     }
 
@@ -123,6 +129,7 @@ impl Explanations {
         &mut self,
         alloc: Global,
         told: Told,
+        hazards: &InstanceSet,
         number: u32,
         first: Fault,
         faults: &[Fault],
@@ -132,12 +139,13 @@ impl Explanations {
         requires asked { IsMeasured found.asked }
         requires account { IsAccount told.circuit.now found.account }
         ensures lines { OnOk result (self.new.bytes ≡ self.old.bytes ++ paragraph told.entry.circuit.now
-            (drawing_of told.entry.drawing.now) first faults.now found.asked found.account) }
+            (drawing_of told.entry.drawing.now) (marked_in hazards.now) first faults.now found.asked
+            found.account) }
         ensures rows { OnOk result (self.new.table ≡ added self.old.table
             (row_with told.entry.circuit.now faults.now first found.asked found.account) number) }
         ensures total { self.new.total ≡ self.old.total }
     {
-        self.add_found(alloc, told, number, first, faults, &found)
+        self.add_found(alloc, told, hazards, number, first, faults, &found)
     }
 
     /// A group of faults of a case of this number.
@@ -147,10 +155,13 @@ impl Explanations {
         told: Told,
         number: u32,
         waves: &Waves<W>,
+        hazards: &InstanceSet,
         met: &mut NetSet,
         faults: &[Fault],
     ) -> Result<(), NoMemory>
         requires whole { told.naming ≡ Naming.Whole }
+        requires hazards { marked_in hazards.now
+            ≡ has_hazard told.circuit.now (faults_of told.circuit.now (waves_of waves.now)) }
         requires met { met.old ≡ replicate (length told.circuit.now.nets) false }
         requires fit { FitWaves told.circuit.now waves.now }
         requires within { All (AreWithin told.circuit.now (waves_of waves.now)) faults.now }
@@ -165,7 +176,7 @@ impl Explanations {
             return Ok(());
         };
         let found = explain(alloc, told.circuit, waves, met, *first)?;
-        self.add_explained(alloc, told, number, *first, faults, found)
+        self.add_explained(alloc, told, hazards, number, *first, faults, found)
     }
 
     /// Groups of faults of a case of this number.
@@ -175,10 +186,13 @@ impl Explanations {
         told: Told,
         number: u32,
         waves: &Waves<W>,
+        hazards: &InstanceSet,
         met: &mut NetSet,
         groups: &Groups<Fault>,
     ) -> Result<(), NoMemory>
         requires whole { told.naming ≡ Naming.Whole }
+        requires hazards { marked_in hazards.now
+            ≡ has_hazard told.circuit.now (faults_of told.circuit.now (waves_of waves.now)) }
         requires met { met.old ≡ replicate (length told.circuit.now.nets) false }
         requires fit { FitWaves told.circuit.now waves.now }
         requires within { All (λ group. All (AreWithin told.circuit.now (waves_of waves.now)) group.items) groups.now }
@@ -192,14 +206,43 @@ impl Explanations {
             match groups.get(place) {
                 None => {}
                 Some((_, faults)) => {
-                    self.add_group(alloc, told, number, waves, met, faults)?;
+                    self.add_group(alloc, told, number, waves, hazards, met, faults)?;
                 }
             }
         }
         Ok(())
     }
 
-    /// The faults of a case of this number, by their groups.
+    /// The faults of a case of this number, by their groups, where these instances have a hazard.
+    fn add_marked<W: CyclicWave<Item = Value>>(
+        &mut self,
+        alloc: Global,
+        told: Told,
+        number: u32,
+        waves: &Waves<W>,
+        hazards: &InstanceSet,
+        faults: &[Fault],
+    ) -> Result<(), NoMemory>
+        requires whole { told.naming ≡ Naming.Whole }
+        requires hazards { marked_in hazards.now
+            ≡ has_hazard told.circuit.now (faults_of told.circuit.now (waves_of waves.now)) }
+        requires fit { FitWaves told.circuit.now waves.now }
+        requires within { All (AreWithin told.circuit.now (waves_of waves.now)) faults.now }
+        ensures lines { OnOk result (self.new.bytes ≡ self.old.bytes
+            ++ all_lines told.entry.circuit.now (drawing_of told.entry.drawing.now) (waves_of waves.now)
+            (fault_groups told.entry.circuit.now (drawing_of told.entry.drawing.now) (waves_of waves.now) faults.now)) }
+        ensures rows { OnOk result (self.new.table ≡ gathered self.old.table
+            (rows_of told.entry.circuit.now number (waves_of waves.now)
+            (fault_groups told.entry.circuit.now (drawing_of told.entry.drawing.now) (waves_of waves.now) faults.now))) }
+        ensures total { self.new.total ≡ self.old.total }
+    {
+        let c = told.circuit;
+        let mut met = NetSet::new(alloc, c.net_count())?;
+        let groups = groups_of(alloc, told.drawing, c, waves, hazards, &mut met, faults)?;
+        self.add_groups(alloc, told, number, waves, hazards, &mut met, &groups)
+    }
+
+    /// All faults of a case of this number, by their groups.
     fn add_faults<W: CyclicWave<Item = Value>>(
         &mut self,
         alloc: Global,
@@ -210,6 +253,7 @@ impl Explanations {
         faults: &[Fault],
     ) -> Result<(), NoMemory>
         requires fit { FitWaves c.now waves.now }
+        requires found { faults.now ≡ faults_of c.now (waves_of waves.now) }
         requires within { All (AreWithin c.now (waves_of waves.now)) faults.now }
         ensures lines { OnOk result (self.new.bytes ≡ self.old.bytes
             ++ all_lines c.now (drawing_of drawing.now) (waves_of waves.now)
@@ -224,9 +268,8 @@ impl Explanations {
             circuit: c,
             naming: Naming::Whole,
         };
-        let mut met = NetSet::new(alloc, c.net_count())?;
-        let groups = groups_of(alloc, drawing, c, waves, &mut met, faults)?;
-        self.add_groups(alloc, told, number, waves, &mut met, &groups)
+        let hazards = hazards_of(alloc, c, faults)?;
+        self.add_marked(alloc, told, number, waves, &hazards, faults)
     }
 
     /// One case more, with its waves. Where memory runs out what is kept is of no use.

@@ -4,17 +4,22 @@ ghost use Rattle.std.specs.Prelude.{◌≡◌, ◌++◌, IfOk, OnOk, false, leng
 ghost use Rattle.std.specs.List.{All};
 ghost use Rattle.drawing_tree.specs.Tree.{drawing_of};
 ghost use Rattle.net_waves.specs.Waves.{FitWaves, waves_of};
+ghost use Rattle.fixpoint_engine.specs.Settled.{marked_in};
+ghost use Rattle.timing_analysis.specs.Case.{faults_of};
 ghost use Rattle.fault_account.specs.Account.{IsAccount, account_of};
 ghost use Rattle.fault_account.specs.Asked.{asked_of as asked_by};
 ghost use Rattle.fault_account.specs.Laws.{AreWithin};
-ghost use Rattle.fault_report.specs.Group.{IsMeasured, cause, cause_line, cause_with, fault_groups};
+ghost use Rattle.fault_report.specs.Group.{IsMeasured, cause, cause_line, cause_with, fault_groups, told_lines};
+ghost use Rattle.fault_report.specs.Hazards.{has_hazard};
 
+use crate::hazards::add_hazard;
 use crate::heading::{element_name, kind_piece, limit_text, short_text};
 use drawing_tree::Drawing;
 use fault_account::{Account, Asked, account_with, asked_of, told_fault};
 use fault_lines::add_account;
 use fault_words::{Naming, Told, word};
-use fixpoint_engine::NetSet;
+// a set of numbers: of nets, and of instances
+use fixpoint_engine::{NetSet, NetSet as InstanceSet};
 use flat_circuit::{Circuit, Fault};
 use listing::{Piece, add_line};
 use net_waves::Waves;
@@ -55,6 +60,22 @@ pub fn explain<W: CyclicWave<Item = Value>>(
     Ok(Explanation { asked, account })
 }
 
+/// The lines of what is told, where these instances have a hazard.
+pub fn add_told(
+    out: &mut Bytes,
+    alloc: Global,
+    told: Told,
+    hazards: &InstanceSet,
+    account: &Account,
+) -> Result<(), NoMemory>
+    requires { IsAccount told.circuit.now account.now }
+    ensures { OnOk result (out.new ≡ out.old ++ told_lines told.entry.naming told.entry.circuit.now
+        (drawing_of told.entry.drawing.now) (marked_in hazards.now) account.now) }
+{
+    add_hazard(out, alloc, told, hazards, account)?;
+    add_account(out, alloc, told, account)
+}
+
 /// The first line of what faults of one cause have in common.
 #[tactic(auto, unfolding(crate::specs::Group::cause_line))]
 fn add_cause_line(
@@ -87,6 +108,7 @@ fn add_cause(
     out: &mut Bytes,
     alloc: Global,
     told: Told,
+    hazards: &InstanceSet,
     fault: Fault,
     found: &Explanation,
 ) -> Result<(), NoMemory>
@@ -94,16 +116,18 @@ fn add_cause(
     requires asked { IsMeasured found.now.asked }
     requires account { IsAccount told.circuit.now found.now.account }
     ensures { OnOk result (out.new ≡ out.old ++ cause_with told.entry.circuit.now
-        (drawing_of told.entry.drawing.now) fault found.now.asked found.now.account) }
+        (drawing_of told.entry.drawing.now) (marked_in hazards.now) fault found.now.asked
+        found.now.account) }
 {
     add_cause_line(out, alloc, told.circuit, found.asked, fault)?;
-    add_account(out, alloc, told, &found.account)
+    add_told(out, alloc, told, hazards, &found.account)
 }
 
 /// The same as a text.
 fn found_text(
     alloc: Global,
     told: Told,
+    hazards: &InstanceSet,
     fault: Fault,
     found: &Explanation,
 ) -> Result<Bytes, NoMemory>
@@ -111,22 +135,29 @@ fn found_text(
     requires asked { IsMeasured found.now.asked }
     requires account { IsAccount told.circuit.now found.now.account }
     ensures { IfOk result (λ text. text ≡ cause_with told.entry.circuit.now
-        (drawing_of told.entry.drawing.now) fault found.now.asked found.now.account) }
+        (drawing_of told.entry.drawing.now) (marked_in hazards.now) fault found.now.asked
+        found.now.account) }
 {
     let mut out = Bytes::new(alloc);
-    add_cause(&mut out, alloc, told, fault, found)?;
+    add_cause(&mut out, alloc, told, hazards, fault, found)?;
     Ok(out)
 }
 
 /// The same, after which what is told of the fault is no longer needed.
-fn text_of(alloc: Global, told: Told, fault: Fault, found: Explanation) -> Result<Bytes, NoMemory>
+fn text_of(
+    alloc: Global,
+    told: Told,
+    hazards: &InstanceSet,
+    fault: Fault,
+    found: Explanation,
+) -> Result<Bytes, NoMemory>
     requires stem { told.naming ≡ Naming.Stem }
     requires asked { IsMeasured found.asked }
     requires account { IsAccount told.circuit.now found.account }
     ensures { IfOk result (λ text. text ≡ cause_with told.entry.circuit.now
-        (drawing_of told.entry.drawing.now) fault found.asked found.account) }
+        (drawing_of told.entry.drawing.now) (marked_in hazards.now) fault found.asked found.account) }
 {
-    found_text(alloc, told, fault, &found)
+    found_text(alloc, told, hazards, fault, &found)
 }
 
 /// What faults of one cause have in common: all that is told of them but for bits.
@@ -135,9 +166,11 @@ fn cause_text<W: CyclicWave<Item = Value>>(
     drawing: &Drawing,
     c: &Circuit,
     waves: &Waves<W>,
+    hazards: &InstanceSet,
     met: &mut NetSet,
     fault: Fault,
 ) -> Result<Bytes, NoMemory>
+    requires hazards { marked_in hazards.now ≡ has_hazard c.now (faults_of c.now (waves_of waves.now)) }
     requires met { met.old ≡ replicate (length c.now.nets) false }
     requires fit { FitWaves c.now waves.now }
     requires within { AreWithin c.now (waves_of waves.now) fault }
@@ -150,7 +183,7 @@ fn cause_text<W: CyclicWave<Item = Value>>(
         naming: Naming::Stem,
     };
     let found = explain(alloc, c, waves, met, fault)?;
-    text_of(alloc, told, fault, found)
+    text_of(alloc, told, hazards, fault, found)
 }
 
 /// The faults of a case by their causes: each group where its first fault is, and in it all of its cause, in
@@ -161,9 +194,11 @@ pub fn groups_of<W: CyclicWave<Item = Value>>(
     drawing: &Drawing,
     c: &Circuit,
     waves: &Waves<W>,
+    hazards: &InstanceSet,
     met: &mut NetSet,
     faults: &[Fault],
 ) -> Result<Groups<Fault>, NoMemory>
+    requires hazards { marked_in hazards.now ≡ has_hazard c.now (faults_of c.now (waves_of waves.now)) }
     requires met { met.old ≡ replicate (length c.now.nets) false }
     requires fit { FitWaves c.now waves.now }
     requires within { All (AreWithin c.now (waves_of waves.now)) faults.now }
@@ -173,7 +208,7 @@ pub fn groups_of<W: CyclicWave<Item = Value>>(
 {
     let mut groups = Groups::new(alloc);
     for fault in faults {
-        let text = cause_text(alloc, drawing, c, waves, met, *fault)?;
+        let text = cause_text(alloc, drawing, c, waves, hazards, met, *fault)?;
         groups.add(alloc, text.as_slice(), *fault)?;
     }
     Ok(groups)

@@ -3,8 +3,9 @@
 //!
 //! The program calls [`explain_main`], the main call of `program_call` for the program [`ExplainProgram`].
 //! `specs/Group` says which faults come together and which lines they have, over `fault_account` and
-//! `fault_lines`; `specs/Table` which rows the table at the end has; `specs/Report` and `specs/Answer` what
-//! is answered; and `specs/Laws` what holds of groups.
+//! `fault_lines`; `specs/Hazards` what is told where a fault may be gone with a hazard; `specs/Table`
+//! which rows the table at the end has; `specs/Report` and `specs/Answer` what is answered; and
+//! `specs/Laws` what holds of groups.
 #![tactic(auto)]
 
 // the first line of a paragraph
@@ -13,6 +14,7 @@ mod heading;
 
 // faults of one cause, and all of them
 mod groups;
+mod hazards;
 mod paragraph;
 mod table;
 

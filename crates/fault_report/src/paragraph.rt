@@ -2,15 +2,17 @@
 
 ghost use Rattle.std.specs.Prelude.{◌≡◌, ◌++◌, OnOk};
 ghost use Rattle.drawing_tree.specs.Tree.{drawing_of};
+ghost use Rattle.fixpoint_engine.specs.Settled.{marked_in};
 ghost use Rattle.fault_account.specs.Account.{IsAccount};
 ghost use Rattle.fault_report.specs.Group.{IsMeasured, first_line, paragraph, which_line, which_lines};
 
 use crate::bits::names_text;
-use crate::groups::Explanation;
+use crate::groups::{Explanation, add_told};
 use crate::heading::{element_name, element_text, kind_piece, limit_text, short_text};
 use fault_account::Asked;
-use fault_lines::add_account;
 use fault_words::{Naming, Told, word};
+// a set of numbers: here of instances
+use fixpoint_engine::NetSet as InstanceSet;
 use flat_circuit::{Circuit, Fault};
 use listing::{Piece, add_line};
 use scald_base::{Bytes, NoMemory};
@@ -92,6 +94,7 @@ pub fn add_paragraph(
     out: &mut Bytes,
     alloc: Global,
     told: Told,
+    hazards: &InstanceSet,
     first: Fault,
     faults: &[Fault],
     found: &Explanation,
@@ -100,10 +103,11 @@ pub fn add_paragraph(
     requires asked { IsMeasured found.now.asked }
     requires account { IsAccount told.circuit.now found.now.account }
     ensures { OnOk result (out.new ≡ out.old ++ paragraph told.entry.circuit.now
-        (drawing_of told.entry.drawing.now) first faults.now found.now.asked found.now.account) }
+        (drawing_of told.entry.drawing.now) (marked_in hazards.now) first faults.now found.now.asked
+        found.now.account) }
 {
     out.push(b'\n')?;
     add_first_line(out, alloc, told, found.asked, first, faults)?;
     add_which(out, alloc, told.circuit, first, faults.len())?;
-    add_account(out, alloc, told, &found.account)
+    add_told(out, alloc, told, hazards, &found.account)
 }

@@ -12,6 +12,9 @@ use Rattle.fault_report.specs.Table.{rows_of}
 use Rattle.fault_report.proofs.Telling.{explained_more}
 use Rattle.fault_report.proofs.explanations.Explanations.add_case.Goals as goal
 
+pub add_faults-requires-clause-found : goal.add_faults-requires-clause-found
+add_faults-requires-clause-found c = c.as_slice-faults.ensures ∙ c.requires.found
+
 pub returns-clause-told : goal.returns-clause-told
 returns-clause-told c listed cases numbered has =
     let circuit = c.args.circuit.now in

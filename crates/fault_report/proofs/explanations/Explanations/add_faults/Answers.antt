@@ -1,15 +1,6 @@
-use Rattle.std.proofs.Common.{sym, subst}
-use Rattle.std.specs.List.{All}
-use Rattle.drawing_tree.specs.Tree.{drawing_of}
-use Rattle.flat_circuit.specs.declared.fault.Fault.{Fault}
-use Rattle.net_waves.specs.Waves.{waves_of}
-use Rattle.text_groups.specs.Group.{Group}
-use Rattle.fault_account.specs.Laws.{AreWithin}
-use Rattle.fault_report.proofs.Grouped.{each_group}
+use Rattle.std.proofs.Common.{ap, ◌∙◌}
+use Rattle.fault_report.specs.Hazards.{has_hazard}
 use Rattle.fault_report.proofs.explanations.Explanations.add_faults.Goals as goal
 
-pub add_groups-requires-clause-within : goal.add_groups-requires-clause-within
-add_groups-requires-clause-within g c =
-    let P = AreWithin c.args.c.now (waves_of c.args.waves.now) in
-    subst (All (λ (group : Group Fault). All P group.items)) (sym c.in_ok-groups.ensures.are)
-    (each_group c.args.c.now (drawing_of c.args.drawing.now) (waves_of c.args.waves.now) P c.args.faults.now c.requires.within)
+pub add_marked-requires-clause-hazards : goal.add_marked-requires-clause-hazards
+add_marked-requires-clause-hazards g c = c.in_ok-hazards.ensures ∙ ap (has_hazard c.args.c.now) c.requires.found
