@@ -136,13 +136,15 @@ all_is name names =
 
 -- ---- of faults, one after the other
 
-pub names_start : (c : Circuit) (faults others : List Fault) (f : Fault) (out : List ℕ) (bits : Bits) → faults ≡ f ∷ others →
-    out ≡ (name_in c f).text ++ codes "<" → bits ≡ one_bit (name_in c f) → out ++ rest_text bits (map (name_in c) (drop 0 others)) ≡ names_text c faults
-names_start c faults others f out bits are is one =
+pub names_start : (c : Circuit) (faults others : List Fault) (f : Fault) (old out : List ℕ) (bits : Bits) → faults ≡ f ∷ others →
+    out ≡ (old ++ (name_in c f).text) ++ codes "<" → bits ≡ one_bit (name_in c f) →
+    out ++ rest_text bits (map (name_in c) (drop 0 others)) ≡ old ++ names_text c faults
+names_start c faults others f old out bits are is one =
+    let rest : List ℕ = rest_text (one_bit (name_in c f)) (map (name_in c) others) in
     (λ k. is k ++ rest_text (one k) (map (name_in c) others))
-    ∙ append_assoc (name_in c f).text (codes "<") (rest_text (one_bit (name_in c f)) (map (name_in c) others))
-    ∙ all_is (name_in c f) (map (name_in c) others)
-    ∙ ap (names_text c) (sym are)
+    ∙ append_assoc (old ++ (name_in c f).text) (codes "<") rest
+    ∙ append_assoc old (name_in c f).text (codes "<" ++ rest)
+    ∙ ap (λ (t : List ℕ). old ++ t) (all_is (name_in c f) (map (name_in c) others) ∙ ap (names_text c) (sym are))
 
 pub names_next : (c : Circuit) (others : List Fault) (i : ℕ) (d : Fault) (old new whole : List ℕ) (bits next : Bits) → i < length others →
     ((names : List Name) → new ++ rest_text next names ≡ old ++ rest_text bits (name_in c (get_or others i d) ∷ names)) →

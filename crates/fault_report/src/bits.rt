@@ -3,13 +3,12 @@
 ghost use Rattle.std.specs.Prelude.{◌≡◌, ◌++◌, ◌∷◌, List, IfOk, OnOk};
 ghost use Rattle.flat_circuit.specs.Name.{Name};
 ghost use Rattle.fault_words.specs.Naming.{name_of_instance, name_of_net};
-ghost use Rattle.fault_report.specs.Bits.{bits_text, name_in, names_text as names_with, one_bit, rest_text, run_bits};
+ghost use Rattle.fault_report.specs.Bits.{bits_text, name_in, names_text, one_bit, rest_text, run_bits};
 
 use fault_words::{text_of_instance, text_of_net};
 use flat_circuit::{Circuit, Fault};
 use listing::{Piece, add_pieces};
 use scald_base::{Bytes, NoMemory, same_bytes};
-use std::alloc::Global;
 
 /// The bit of a net.
 fn bit_of_net(c: &Circuit, net: u32) -> u16
@@ -119,20 +118,18 @@ fn add_name(out: &mut Bytes, c: &Circuit, run: Run, fault: Fault) -> Result<Run,
 }
 
 /// The names of what has these faults, the bits of one name together.
-pub fn names_text(alloc: Global, c: &Circuit, faults: &[Fault]) -> Result<Bytes, NoMemory>
-    ensures { IfOk result (λ text. text ≡ names_with c.now faults.now) }
+pub fn add_names(out: &mut Bytes, c: &Circuit, faults: &[Fault]) -> Result<(), NoMemory>
+    ensures { OnOk result (out.new ≡ out.old ++ names_text c.now faults.now) }
 {
-    let mut out = Bytes::new(alloc);
     let Some((first, others)) = faults.split_first() else {
-        return Ok(out);
+        return Ok(());
     };
     out.extend(text_of(c, *first))?;
     out.push(b'<')?;
     let mut run = run_of(c, *first);
     for fault in others {
-        run = add_name(&mut out, c, run, *fault)?;
+        run = add_name(out, c, run, *fault)?;
     }
-    add_bits(&mut out, c, run)?;
-    out.push(b'>')?;
-    Ok(out)
+    add_bits(out, c, run)?;
+    out.push(b'>')
 }

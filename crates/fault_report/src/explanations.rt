@@ -312,7 +312,7 @@ impl Explanations {
             table,
             total,
         } = self;
-        add_table(&mut bytes, alloc, &table)?;
+        add_table(&mut bytes, &table)?;
         end_report(total, &mut bytes)?;
         Ok(Reply {
             outcome: verdict(total),

@@ -13,15 +13,14 @@ ghost use Rattle.fault_report.specs.Group.{IsMeasured, cause, cause_line, cause_
 ghost use Rattle.fault_report.specs.Hazards.{has_hazard};
 
 use crate::hazards::add_hazard;
-use crate::heading::{element_name, kind_piece, limit_text, short_text};
+use crate::heading::{add_kind, add_name, add_short};
 use drawing_tree::Drawing;
 use fault_account::{Account, Asked, account_with, asked_of, told_fault};
 use fault_lines::add_account;
-use fault_words::{Naming, Told, word};
+use fault_words::{Naming, Told};
 // a set of numbers: of nets, and of instances
 use fixpoint_engine::{NetSet, NetSet as InstanceSet};
 use flat_circuit::{Circuit, Fault};
-use listing::{Piece, add_line};
 use net_waves::Waves;
 use scald_base::{Bytes, NoMemory};
 use std::alloc::Global;
@@ -88,19 +87,10 @@ fn add_cause_line(
     requires { IsMeasured asked }
     ensures { OnOk result (out.new ≡ out.old ++ cause_line c.now asked fault) }
 {
-    let limit = limit_text(alloc, asked)?;
-    let element = element_name(alloc, c, Naming::Stem, fault)?;
-    let short = short_text(alloc, asked)?;
-    add_line(
-        out,
-        &[
-            kind_piece(fault),
-            Piece::Text(limit.as_slice()),
-            word(b" of "),
-            Piece::Text(element.as_slice()),
-            Piece::Text(short.as_slice()),
-        ],
-    )
+    add_kind(out, asked, fault)?;
+    add_name(out, alloc, c, Naming::Stem, fault)?;
+    add_short(out, asked)?;
+    out.push(b'\n')
 }
 
 /// What faults of one cause have in common, by what is told of this one.

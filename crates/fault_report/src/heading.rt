@@ -1,6 +1,6 @@
 //! What the first line of a paragraph says beside names.
 
-ghost use Rattle.std.specs.Prelude.{◌≡◌, IfOk};
+ghost use Rattle.std.specs.Prelude.{◌≡◌, ◌++◌, IfOk, OnOk, codes};
 ghost use Rattle.drawing_tree.specs.Tree.{drawing_of};
 ghost use Rattle.listing.specs.Fault.{kind_text, level_text};
 ghost use Rattle.listing.specs.Piece.{piece_text};
@@ -9,9 +9,9 @@ ghost use Rattle.fault_report.specs.Group.{IsMeasured};
 
 use drawing_places::scope_len;
 use fault_account::Asked;
-use fault_words::{Naming, Told, instance_name, net_name, scope_text, text, written_text};
+use fault_words::{Naming, Told, instance_name, net_name, scope_text, written_text};
 use flat_circuit::{Circuit, Fault, PointKind};
-use listing::Piece;
+use listing::{Piece, add_pieces};
 use scald_base::{Bytes, NoMemory, Place};
 use std::alloc::Global;
 
@@ -40,31 +40,41 @@ pub fn kind_piece(fault: Fault) -> Piece<'static>
 }
 
 /// The limit that a fault breaks, if it breaks one.
-pub fn limit_text(alloc: Global, asked: Option<Asked>) -> Result<Bytes, NoMemory>
-    ensures { IfOk result (λ text. text ≡ limit_said asked) }
+fn add_limit(out: &mut Bytes, asked: Option<Asked>) -> Result<(), NoMemory>
+    ensures { OnOk result (out.new ≡ out.old ++ limit_said asked) }
 {
     match asked {
-        None => Ok(Bytes::new(alloc)),
-        Some(asked) => text(
-            alloc,
+        None => Ok(()),
+        Some(asked) => add_pieces(
+            out,
             &[Piece::Text(b" "), Piece::Number(u64::from(asked.limit))],
         ),
     }
 }
 
+/// What a first line begins with: the kind of a fault, and the limit that it breaks.
+pub fn add_kind(out: &mut Bytes, asked: Option<Asked>, fault: Fault) -> Result<(), NoMemory>
+    ensures { OnOk result (out.new
+        ≡ out.old ++ (kind_said fault ++ (limit_said asked ++ codes " of "))) }
+{
+    add_pieces(out, &[kind_piece(fault)])?;
+    add_limit(out, asked)?;
+    out.extend(b" of ")
+}
+
 /// By how much a limit is short.
-pub fn short_text(alloc: Global, asked: Option<Asked>) -> Result<Bytes, NoMemory>
+pub fn add_short(out: &mut Bytes, asked: Option<Asked>) -> Result<(), NoMemory>
     requires { IsMeasured asked }
-    ensures { IfOk result (λ text. text ≡ short_said asked) }
+    ensures { OnOk result (out.new ≡ out.old ++ short_said asked) }
 {
     match asked {
-        None => Ok(Bytes::new(alloc)),
+        None => Ok(()),
         Some(asked) => {
             if asked.never_fits() {
-                return Bytes::of(alloc, b": the whole of it does not suffice");
+                return out.extend(b": the whole of it does not suffice");
             }
-            text(
-                alloc,
+            add_pieces(
+                out,
                 &[
                     Piece::Text(b": short by "),
                     Piece::Number(u64::from(asked.shortness())),
@@ -91,13 +101,34 @@ pub fn element_name(
     }
 }
 
+/// The same as a part of a line.
+pub fn add_name(
+    out: &mut Bytes,
+    alloc: Global,
+    c: &Circuit,
+    naming: Naming,
+    fault: Fault,
+) -> Result<(), NoMemory>
+    ensures { OnOk result (out.new ≡ out.old ++ element_named naming c.now fault) }
+{
+    let name = element_name(alloc, c, naming, fault)?;
+    out.extend(name.as_slice())
+}
+
 /// The line of a statement with this path, and the uses that it is in.
-fn stands_text(alloc: Global, told: Told, path: &[u8], place: Place) -> Result<Bytes, NoMemory>
-    ensures { IfOk result (λ text. text ≡ stands_with (drawing_of told.entry.drawing.now) path.now place) }
+fn add_stands(
+    out: &mut Bytes,
+    alloc: Global,
+    told: Told,
+    path: &[u8],
+    place: Place,
+) -> Result<(), NoMemory>
+    ensures { OnOk result (out.new
+        ≡ out.old ++ stands_with (drawing_of told.entry.drawing.now) path.now place) }
 {
     let uses = scope_text(alloc, told.drawing, &path[..scope_len(path)])?;
-    text(
-        alloc,
+    add_pieces(
+        out,
         &[
             Piece::Text(b" (line "),
             Piece::Number(u64::from(place.line)),
@@ -108,24 +139,21 @@ fn stands_text(alloc: Global, told: Told, path: &[u8], place: Place) -> Result<B
 }
 
 /// Where the element of a fault stands, or what the name of its net is.
-pub fn element_text(alloc: Global, told: Told, fault: Fault) -> Result<Bytes, NoMemory>
+pub fn add_element(out: &mut Bytes, alloc: Global, told: Told, fault: Fault) -> Result<(), NoMemory>
     requires { told.naming ≡ Naming.Whole }
-    ensures { IfOk result (λ text. text
-        ≡ element_said told.entry.circuit.now (drawing_of told.entry.drawing.now) fault) }
+    ensures { OnOk result (out.new ≡ out.old
+        ++ element_said told.entry.circuit.now (drawing_of told.entry.drawing.now) fault) }
 {
     match fault {
         Fault::Point { instance, .. }
         | Fault::Width { instance, .. }
         | Fault::Hazard { instance, .. } => match told.circuit.instance(instance) {
-            None => Ok(Bytes::new(alloc)),
-            Some(found) => stands_text(alloc, told, found.path.as_slice(), found.place),
+            None => Ok(()),
+            Some(found) => add_stands(out, alloc, told, found.path.as_slice(), found.place),
         },
         Fault::Assertion { net, .. } => {
             let written = written_text(alloc, told, net)?;
-            text(
-                alloc,
-                &[Piece::Text(b", "), Piece::Text(written.as_slice())],
-            )
+            add_pieces(out, &[Piece::Text(b", "), Piece::Text(written.as_slice())])
         }
     }
 }

@@ -6,11 +6,11 @@ ghost use Rattle.fixpoint_engine.specs.Settled.{marked_in};
 ghost use Rattle.fault_account.specs.Account.{IsAccount};
 ghost use Rattle.fault_report.specs.Group.{IsMeasured, first_line, paragraph, which_line, which_lines};
 
-use crate::bits::names_text;
+use crate::bits::add_names;
 use crate::groups::{Explanation, add_told};
-use crate::heading::{element_name, element_text, kind_piece, limit_text, short_text};
+use crate::heading::{add_element, add_kind, add_short, element_name};
 use fault_account::Asked;
-use fault_words::{Naming, Told, word};
+use fault_words::{Naming, Told};
 // a set of numbers: here of instances
 use fixpoint_engine::NetSet as InstanceSet;
 use flat_circuit::{Circuit, Fault};
@@ -33,21 +33,11 @@ fn add_first_line(
     ensures { OnOk result (out.new ≡ out.old
         ++ first_line told.entry.circuit.now (drawing_of told.entry.drawing.now) asked first faults.now) }
 {
-    let limit = limit_text(alloc, asked)?;
-    let names = names_text(alloc, told.circuit, faults)?;
-    let said = element_text(alloc, told, first)?;
-    let short = short_text(alloc, asked)?;
-    add_line(
-        out,
-        &[
-            kind_piece(first),
-            Piece::Text(limit.as_slice()),
-            word(b" of "),
-            Piece::Text(names.as_slice()),
-            Piece::Text(said.as_slice()),
-            Piece::Text(short.as_slice()),
-        ],
-    )
+    add_kind(out, asked, first)?;
+    add_names(out, told.circuit, faults)?;
+    add_element(out, alloc, told, first)?;
+    add_short(out, asked)?;
+    out.push(b'\n')
 }
 
 /// Of which fault the paragraph of so many is.

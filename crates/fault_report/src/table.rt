@@ -2,17 +2,18 @@
 
 ghost use Rattle.std.specs.Prelude.{◌≡◌, ◌++◌, IfOk, OnOk, codes, decimal};
 ghost use Rattle.std.specs.List.{flat_map, join_by};
+ghost use Rattle.listing.specs.Piece.{piece_text};
 ghost use Rattle.fault_report.specs.Group.{IsMeasured};
-ghost use Rattle.fault_report.specs.Table.{columns_line, entry_line, main_side as side_of, row_with, short_in_row, source_text as source_with, table_of};
+ghost use Rattle.fault_report.specs.Table.{columns_line, entry_line, main_side as side_of, row_with, short_in_row, source_text, table_of};
 
-use crate::bits::names_text;
+use crate::bits::add_names;
 use crate::groups::Explanation;
 use crate::heading::kind_piece;
 use fault_account::{Account, Asked, Side};
 use fault_chain::Link;
-use fault_words::{Naming, net_name, text, word};
+use fault_words::word;
 use flat_circuit::{Circuit, Fault};
-use listing::{Piece, add_line, add_pieces};
+use listing::{Piece, add_line, add_pieces, net_piece};
 use scald_base::{Bytes, NoMemory};
 use std::alloc::Global;
 use text_groups::Groups;
@@ -20,20 +21,20 @@ use text_groups::Groups;
 // ---- a row, without its cases
 
 /// By how much a limit is short, in a row.
-fn short_text(alloc: Global, asked: Option<Asked>) -> Result<Bytes, NoMemory>
+fn add_short(out: &mut Bytes, asked: Option<Asked>) -> Result<(), NoMemory>
     requires { IsMeasured asked }
-    ensures { IfOk result (λ text. text ≡ short_in_row asked) }
+    ensures { OnOk result (out.new ≡ out.old ++ short_in_row asked) }
 {
     match asked {
-        None => Bytes::of(alloc, b"-"),
+        None => out.extend(b"-"),
         Some(asked) => {
             if asked.never_fits() {
-                return text(
-                    alloc,
+                return add_pieces(
+                    out,
                     &[Piece::Text(b"over "), Piece::Number(u64::from(asked.limit))],
                 );
             }
-            text(alloc, &[Piece::Number(u64::from(asked.shortness()))])
+            add_pieces(out, &[Piece::Number(u64::from(asked.shortness()))])
         }
     }
 }
@@ -51,20 +52,37 @@ fn main_side(account: &Account) -> &Side
 }
 
 /// The net at which a chain of these links begins.
-fn source_text(alloc: Global, c: &Circuit, links: &[Link]) -> Result<Bytes, NoMemory>
-    ensures { IfOk result (λ text. text ≡ source_with c.now links.now) }
+fn source_piece<'a>(c: &'a Circuit, links: &[Link]) -> Piece<'a>
+    ensures { piece_text result ≡ source_text c.now links.now }
 {
     match links.last() {
-        None => Ok(Bytes::new(alloc)),
-        Some(link) => {
-            let name = net_name(alloc, c, Naming::Whole, link.net)?;
-            Ok(name)
-        }
+        None => Piece::Text(&[]),
+        Some(link) => net_piece(c, link.net),
     }
 }
 
 /// The row of a group of faults, of which this is the first, without its cases.
 #[tactic(auto, unfolding(crate::specs::Table::row_with))]
+fn add_row(
+    out: &mut Bytes,
+    c: &Circuit,
+    faults: &[Fault],
+    first: Fault,
+    found: &Explanation,
+) -> Result<(), NoMemory>
+    requires { IsMeasured found.now.asked }
+    ensures { OnOk result (out.new
+        ≡ out.old ++ row_with c.now faults.now first found.now.asked found.now.account) }
+{
+    add_pieces(out, &[kind_piece(first), word(b" | ")])?;
+    add_names(out, c, faults)?;
+    out.extend(b" | ")?;
+    add_short(out, found.asked)?;
+    let links = main_side(&found.account).chain.links.as_slice();
+    add_pieces(out, &[word(b" | "), source_piece(c, links)])
+}
+
+/// The same as a text.
 pub fn row_text(
     alloc: Global,
     c: &Circuit,
@@ -76,22 +94,9 @@ pub fn row_text(
     ensures { IfOk result (λ text.
         text ≡ row_with c.now faults.now first found.now.asked found.now.account) }
 {
-    let names = names_text(alloc, c, faults)?;
-    let short = short_text(alloc, found.asked)?;
-    let links = main_side(&found.account).chain.links.as_slice();
-    let source = source_text(alloc, c, links)?;
-    text(
-        alloc,
-        &[
-            kind_piece(first),
-            word(b" | "),
-            Piece::Text(names.as_slice()),
-            word(b" | "),
-            Piece::Text(short.as_slice()),
-            word(b" | "),
-            Piece::Text(source.as_slice()),
-        ],
-    )
+    let mut out = Bytes::new(alloc);
+    add_row(&mut out, c, faults, first, found)?;
+    Ok(out)
 }
 
 // ---- the lines
@@ -110,32 +115,25 @@ fn add_more(out: &mut Bytes, numbers: &[u32]) -> Result<(), NoMemory>
 }
 
 /// Numbers of cases.
-fn numbers_text(alloc: Global, numbers: &[u32]) -> Result<Bytes, NoMemory>
-    ensures { IfOk result (λ text. text ≡ join_by decimal (codes ", ") numbers.now) }
+fn add_numbers(out: &mut Bytes, numbers: &[u32]) -> Result<(), NoMemory>
+    ensures { OnOk result (out.new ≡ out.old ++ join_by decimal (codes ", ") numbers.now) }
 {
     let Some((first, others)) = numbers.split_first() else {
-        return Ok(Bytes::new(alloc));
+        return Ok(());
     };
-    let mut out = text(alloc, &[Piece::Number(u64::from(*first))])?;
-    add_more(&mut out, others)?;
-    Ok(out)
+    add_pieces(out, &[Piece::Number(u64::from(*first))])?;
+    add_more(out, others)
 }
 
 /// The line of a row, with the numbers of its cases.
 #[tactic(auto, unfolding(crate::specs::Table::entry_line))]
-fn add_entry(out: &mut Bytes, alloc: Global, row: &[u8], numbers: &[u32]) -> Result<(), NoMemory>
+fn add_entry(out: &mut Bytes, row: &[u8], numbers: &[u32]) -> Result<(), NoMemory>
     ensures { OnOk result (out.new
         ≡ out.old ++ entry_line (record { text = row.now; items = numbers.now })) }
 {
-    let cases = numbers_text(alloc, numbers)?;
-    add_line(
-        out,
-        &[
-            Piece::Text(row),
-            word(b" | "),
-            Piece::Text(cases.as_slice()),
-        ],
-    )
+    add_pieces(out, &[Piece::Text(row), word(b" | ")])?;
+    add_numbers(out, numbers)?;
+    out.push(b'\n')
 }
 
 /// The names of the columns.
@@ -147,20 +145,20 @@ fn add_columns(out: &mut Bytes) -> Result<(), NoMemory>
 }
 
 /// The lines of the rows.
-fn add_entries(out: &mut Bytes, alloc: Global, table: &Groups<u32>) -> Result<(), NoMemory>
+fn add_entries(out: &mut Bytes, table: &Groups<u32>) -> Result<(), NoMemory>
     ensures { OnOk result (out.new ≡ out.old ++ flat_map entry_line table.now) }
 {
     for place in 0..table.len() {
         match table.get(place) {
             None => {}
-            Some((row, numbers)) => add_entry(out, alloc, row, numbers)?,
+            Some((row, numbers)) => add_entry(out, row, numbers)?,
         }
     }
     Ok(())
 }
 
 /// The lines of the table; none where there is no row.
-pub fn add_table(out: &mut Bytes, alloc: Global, table: &Groups<u32>) -> Result<(), NoMemory>
+pub fn add_table(out: &mut Bytes, table: &Groups<u32>) -> Result<(), NoMemory>
     ensures { OnOk result (out.new ≡ out.old ++ table_of table.now) }
 {
     if table.len() == 0 {
@@ -168,5 +166,5 @@ pub fn add_table(out: &mut Bytes, alloc: Global, table: &Groups<u32>) -> Result<
     }
     out.push(b'\n')?;
     add_columns(out)?;
-    add_entries(out, alloc, table)
+    add_entries(out, table)
 }
