@@ -1,6 +1,6 @@
 //! What is told of a circuit, case by case.
 
-ghost use Rattle.std.specs.Prelude.{◌≡◌, ◌≤◌, [], IfErr, IfOk};
+ghost use Rattle.std.specs.Prelude.{◌≡◌, ◌≤◌, [], IfErr, IfOk, OnOk};
 ghost use Rattle.drawing_tree.specs.Tree.{drawing_of};
 ghost use Rattle.flat_circuit.specs.Instances.{outputs};
 ghost use Rattle.fixpoint_engine.specs.Loops.{HasNoLoop};
@@ -10,8 +10,9 @@ ghost use Rattle.timing_analysis.specs.Case.{listed_cases, numbered};
 ghost use Rattle.timing_analysis.specs.Ended.{EndsCases, EndsEarly};
 ghost use Rattle.timing_analysis.specs.Rested.{IsBaseIn};
 ghost use Rattle.timing_analysis.specs.Subject.{IsSubject};
-ghost use Rattle.timing_reply.specs.Teller.{IsTold};
+ghost use Rattle.timing_reply.specs.Teller.{HasTold, IsTold};
 ghost use Rattle.fault_report.specs.Answer.{explained};
+ghost use Rattle.fault_report.specs.Report.{HasExplained};
 
 use crate::explanations::Explanations;
 use drawing_tree::Drawing;
@@ -77,6 +78,60 @@ fn only_case(
     kept.end(alloc)
 }
 
+/// Tells the cases that are listed, one after the other, up to the end of the first that never settles.
+fn add_cases(
+    alloc: Global,
+    drawing: &Drawing,
+    subject: &Subject,
+    limit: u32,
+    rested: &mut Rested<RunWave<Value>>,
+    kept: &mut Explanations,
+) -> Result<(), EngineEnd>
+    requires is { IsSubject subject.now }
+    requires few { limit ≤ 10000000 }
+    requires rest { IsBaseIn subject.now.circuit limit
+        rested.old.base.rounds rested.old.store rested.old.base.numbers rested.old.known }
+    requires told { HasExplained (drawing_of drawing.now) kept.old subject.now.circuit [] }
+    requires none { kept.old.total ≡ 0 }
+    ensures told { OnOk result (HasTold (HasExplained (drawing_of drawing.now)) kept.new subject.now.circuit
+        limit rested.old.base.rounds (numbered 1 subject.now.cases)) }
+    ensures ended { IfErr result
+        (EndsCases subject.now.circuit limit rested.old.base.rounds (numbered 1 subject.now.cases)) }
+{
+    let circuit = &subject.circuit;
+    circuit.known();
+    circuit.header().known();
+    faults_are_within();
+    for place in 0..subject.cases.len() as u32 {
+        let case = subject.case(alloc, rested, place, limit)?;
+        let waves = Waves::new(rested.store.waves(), case.settled.numbers.as_slice());
+        kept.add_case(alloc, drawing, circuit, &case, &waves)?;
+    }
+    Ok(())
+}
+
+/// What is told of them.
+fn told_cases(
+    alloc: Global,
+    drawing: &Drawing,
+    subject: &Subject,
+    limit: u32,
+    rested: &mut Rested<RunWave<Value>>,
+) -> Result<Reply<Outcome>, EngineEnd>
+    requires is { IsSubject subject.now }
+    requires few { limit ≤ 10000000 }
+    requires rest { IsBaseIn subject.now.circuit limit
+        rested.old.base.rounds rested.old.store rested.old.base.numbers rested.old.known }
+    ensures told { IfOk result (λ reply. IsTold (explained (drawing_of drawing.now)) subject.now.circuit limit
+        rested.old.base.rounds (numbered 1 subject.now.cases) reply.outcome reply.bytes) }
+    ensures ended { IfErr result
+        (EndsCases subject.now.circuit limit rested.old.base.rounds (numbered 1 subject.now.cases)) }
+{
+    let mut kept = Explanations::begin(alloc, drawing, &subject.circuit)?;
+    add_cases(alloc, drawing, subject, limit, rested, &mut kept)?;
+    Ok(kept.end(alloc)?)
+}
+
 /// What is told of a circuit with cases, or the end of the first that never settles.
 fn each_case(
     alloc: Global,
@@ -94,16 +149,6 @@ fn each_case(
     ensures ended { IfErr result
         (EndsCases subject.now.circuit limit rested.base.rounds (numbered 1 subject.now.cases)) }
 {
-    let circuit = &subject.circuit;
-    circuit.known();
-    circuit.header().known();
-    faults_are_within();
     let mut rested = rested;
-    let mut kept = Explanations::begin(alloc, drawing, circuit)?;
-    for place in 0..subject.cases.len() as u32 {
-        let case = subject.case(alloc, &mut rested, place, limit)?;
-        let waves = Waves::new(rested.store.waves(), case.settled.numbers.as_slice());
-        kept.add_case(alloc, drawing, circuit, &case, &waves)?;
-    }
-    Ok(kept.end(alloc)?)
+    told_cases(alloc, drawing, subject, limit, &mut rested)
 }

@@ -3,7 +3,7 @@ use Rattle.drawing_tree.specs.Tree.{drawing_of}
 use Rattle.timing_analysis.specs.Rested.{IsBaseIn}
 use Rattle.timing_reply.proofs.Telling.{Going}
 use Rattle.fault_report.specs.Report.{HasExplained, IsReady}
-use Rattle.fault_report.proofs.cases.each_case.Given as goal
+use Rattle.fault_report.proofs.cases.add_cases.Given as goal
 
 abbrev pub invariant-loop-place : goal.invariant-loop-place
 invariant-loop-place l = record {

@@ -13,17 +13,17 @@ use Rattle.timing_analysis.proofs.Stored.{case_from, ends_from}
 use Rattle.timing_reply.specs.Teller.{HasTold}
 use Rattle.timing_reply.proofs.Telling.{told_start, read_case, going_more, going_ends}
 use Rattle.fault_report.specs.Report.{HasExplained, IsReady}
-use Rattle.fault_report.proofs.Telling.{explained_done, within_case}
-use Rattle.fault_report.proofs.cases.each_case.Goals as goal
+use Rattle.fault_report.proofs.Telling.{within_case}
+use Rattle.fault_report.proofs.cases.add_cases.Goals as goal
 
 pub loop-place-init : goal.loop-place-init
 loop-place-init c =
-    let none = c.in_ok-kept.ensures.none in
+    let none = c.requires.none in
     record {
       going = record {
         told_so_far =
-            told_start (HasExplained (drawing_of c.args.drawing.now)) c.args.subject.now.circuit c.args.limit c.args.rested.base.rounds
-            c.in_ok-kept.kept c.in_ok-kept.ensures.told;
+            told_start (HasExplained (drawing_of c.args.drawing.now)) c.args.subject.now.circuit c.args.limit c.args.rested.now.base.rounds
+            c.args.kept.now c.requires.told;
         is_ready = omega (arith, none);
       };
       rest = c.requires.rest;
@@ -64,13 +64,13 @@ add_case-requires-clause-within c =
 
 pub returns-in_err-case-clause-ended : goal.returns-in_err-case-clause-ended
 returns-in_err-case-clause-ended c =
-    let p = err_from_is_err_and c.from_residual-in_err-case.result c.from_residual-in_err-case.ensures.1 in
+    let p = err_from_is_err_and c.from_residual.result c.from_residual.ensures.1 in
     let len = c.len-place-end.ensures in
     let inside = c.loop-place-test.true in
-    rw (p.1, p.2) (going_ends (HasExplained (drawing_of c.args.drawing.now)) IsReady c.args.subject.now.circuit c.args.limit c.args.rested.base.rounds
+    rw (p.1, p.2) (going_ends (HasExplained (drawing_of c.args.drawing.now)) IsReady c.args.subject.now.circuit c.args.limit c.args.rested.now.base.rounds
     c.args.subject.now.cases c.loop-place.place c.loop-place.kept
     (omega (arith, len, inside)) c.loop-place.invariant.going c.in_err-case.field-0.0
-    (ends_from c.args.subject.now.circuit c.args.limit c.args.rested.base.rounds c.loop-place.rested.base.rounds _ c.in_err-case.field-0.0
+    (ends_from c.args.subject.now.circuit c.args.limit c.args.rested.now.base.rounds c.loop-place.rested.base.rounds _ c.in_err-case.field-0.0
     c.loop-place.invariant.same c.in_err-case.ensures.unsettled))
 
 pub loop-place-preserved : goal.loop-place-preserved
@@ -83,11 +83,11 @@ loop-place-preserved c =
     c.new-waves.ensures ∙ ap (λ t. waves_at t c.as_slice.result.now) c.waves.ensures ∙ ap (waves_at c.case.new.rested.store) c.as_slice.ensures in
     record {
       going =
-          going_more (HasExplained (drawing_of c.args.drawing.now)) IsReady c.args.subject.now.circuit c.args.limit c.args.rested.base.rounds
+          going_more (HasExplained (drawing_of c.args.drawing.now)) IsReady c.args.subject.now.circuit c.args.limit c.args.rested.now.base.rounds
           c.args.subject.now.cases c.loop-place.place c.loop-place.kept
           (omega (arith, len, inside)) c.loop-place.invariant.going _ _ _ _ _ _
-          (read_case c.args.subject.now.circuit c.args.limit c.args.rested.base.rounds _ _ _ _ _ c.new-waves.result _ same
-          (case_from c.args.subject.now.circuit c.args.limit c.args.rested.base.rounds c.loop-place.rested.base.rounds _ _ _ _ _ _
+          (read_case c.args.subject.now.circuit c.args.limit c.args.rested.now.base.rounds _ _ _ _ _ c.new-waves.result _ same
+          (case_from c.args.subject.now.circuit c.args.limit c.args.rested.now.base.rounds c.loop-place.rested.base.rounds _ _ _ _ _ _
           c.loop-place.invariant.same c.in_ok-case.ensures.rest.rest))
           c.in_ok-add_case.ensures.told (omega (arith, ready, more));
       rest = c.in_ok-case.ensures.kept;
@@ -96,13 +96,9 @@ loop-place-preserved c =
 
 pub returns-clause-told : goal.returns-clause-told
 returns-clause-told c =
-    let d = drawing_of c.args.drawing.now in
     let len = c.len-place-end.ensures in
     let past = c.loop-place-test.false in
     let whole : take c.loop-place.place c.args.subject.now.cases ≡ c.args.subject.now.cases =
     take_all c.loop-place.place c.args.subject.now.cases (omega (arith, len, past)) in
-    let told =
-    subst (λ (xs : List (List CaseValue)). HasTold (HasExplained d) c.loop-place.kept c.args.subject.now.circuit c.args.limit
-    c.args.rested.base.rounds (numbered 1 xs)) whole c.loop-place.invariant.going.told_so_far in
-    explained_done d c.args.subject.now.circuit c.args.limit c.args.rested.base.rounds
-    (numbered 1 c.args.subject.now.cases) c.loop-place.kept told _ _ c.in_ok-end.ensures.outcome c.in_ok-end.ensures.bytes
+    subst (λ (xs : List (List CaseValue)). HasTold (HasExplained (drawing_of c.args.drawing.now)) c.loop-place.kept c.args.subject.now.circuit
+    c.args.limit c.args.rested.now.base.rounds (numbered 1 xs)) whole c.loop-place.invariant.going.told_so_far
