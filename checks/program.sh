@@ -378,7 +378,7 @@ done
 status=$?
 : >"$work/out"
 says "a loop that does not settle" 3 \
-    'scald: the net that is named still changes after the last round; unless rounds=N was asked for, a loop leads to it
+    'scald: the net that is named still changes after the last round: a loop leads to it
     it is in a loop, each net of which comes from the next:
         X<1> is driven at 9:3 by pass<0>
         X<0> is driven at 8:3 by gate<0>
@@ -391,10 +391,14 @@ drawing_of 'late : BUF [1:1] ("X") -> ("A");' 'loop : AND [1:1] ("CK .P2-3", "X"
     "$program" verify rounds=20 >"$work/answer" 2>"$work/said"
 status=$?
 says "a net after a loop that does not settle" 3 \
-    'scald: the net that is named still changes after the last round; unless rounds=N was asked for, a loop leads to it
+    'scald: the net that is named still changes after the rounds that rounds=N allows
     it comes from a loop, each net of which comes from the next:
         X<0> is driven at 5:1 by loop<0>
         X<0> is driven at 5:1 by loop<0>' "$status"
+
+drawing_of 'b1 : BUF [1:1] ("CK .P2-3") -> ("X");' 'b2 : BUF [1:1] ("X") -> ("Y");' |
+    "$program" verify faults rounds=1 >"$work/answer" 2>"$work/said"
+says "too few rounds, and no loop" 3 'scald: the net that is named still changes after the rounds that rounds=N allows' $?
 
 # --- runs
 

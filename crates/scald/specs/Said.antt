@@ -1,5 +1,5 @@
 -- What the program says on standard error where it ends without an answer, and with which status it then ends.
-use Rattle.std.specs.Prelude.{ℕ, List, ◌++◌, codes, Option, Some, None}
+use Rattle.std.specs.Prelude.{ℕ, Bool, List, ◌++◌, codes, Option, Some, None, if◌then◌else◌}
 use Rattle.scald_base.specs.declared.outcome.Outcome.{Outcome}
 use Rattle.scald_base.specs.declared.outcome.Outcome.TheVariants.{Clean, Faulty, Done, Refused, Unsettled, BadWords, TooLong, ReadFault, WriteFault, NoMemory}
 use Rattle.section_compose.specs.declared.outcome.SectionsOutcome.{SectionsOutcome}
@@ -29,8 +29,10 @@ abbrev pub no_memory : List ℕ
 no_memory = codes "scald: there is not enough memory"
 
 abbrev pub unsettled : List ℕ
-unsettled =
-    codes "scald: the net that is named still changes after the last round; unless rounds=N was asked for, a loop leads to it"
+unsettled = codes "scald: the net that is named still changes after the last round: a loop leads to it"
+
+abbrev pub unsettled_within : List ℕ
+unsettled_within = codes "scald: the net that is named still changes after the rounds that rounds=N allows"
 
 abbrev pub too_long : List ℕ
 too_long = codes "scald: the drawing has more than 4194304 bytes"
@@ -44,18 +46,22 @@ unwritten = codes "scald: standard output could not be written"
 abbrev pub bad_count : List ℕ
 bad_count = codes "scald: there should be 2 to 64 sections, with a line ===== between them"
 
--- why an outcome is no answer, where there is something to say
-abbrev pub why_of : Outcome → Option (List ℕ)
-why_of Clean = None
-why_of (Faulty n) = None
-why_of Done = None
-why_of (Refused r) = None
-why_of (Unsettled k limit) = Some unsettled
-why_of (BadWords i) = Some forms
-why_of TooLong = Some too_long
-why_of ReadFault = Some unread
-why_of WriteFault = Some unwritten
-why_of NoMemory = Some no_memory
+abbrev pub why_unsettled : Bool → List ℕ
+why_unsettled limited = if limited then unsettled_within else unsettled
+
+-- why an outcome is no answer, where there is something to say: of waves that do not settle by whether the words set
+-- a limit
+abbrev pub why_of : Bool → Outcome → Option (List ℕ)
+why_of limited Clean = None
+why_of limited (Faulty n) = None
+why_of limited Done = None
+why_of limited (Refused r) = None
+why_of limited (Unsettled k limit) = Some (why_unsettled limited)
+why_of limited (BadWords i) = Some forms
+why_of limited TooLong = Some too_long
+why_of limited ReadFault = Some unread
+why_of limited WriteFault = Some unwritten
+why_of limited NoMemory = Some no_memory
 
 -- the same of an answer to sections
 abbrev pub why_of_sections : SectionsOutcome → Option (List ℕ)

@@ -4,7 +4,7 @@
 ghost use Rattle.std.specs.Prelude.{◌≡◌, ◌-◌, ◌^◌, ◌<◌, IfSome, length};
 ghost use Rattle.std.specs.Option.{option_copied};
 ghost use Rattle.section_rules.specs.Pieces.{Lies};
-ghost use Rattle.scald.specs.Said.{bad_count, forms, no_memory, too_long, unread, unsettled, unwritten, why_of, why_of_sections};
+ghost use Rattle.scald.specs.Said.{bad_count, forms, no_memory, too_long, unread, unsettled, unsettled_within, unwritten, why_of, why_of_sections, why_unsettled};
 
 use crate::named::Answer;
 use crate::traced::say_trace;
@@ -12,7 +12,7 @@ use circuit_help::{explain_case, explain_drivers, explain_unsettled, explain_zer
 use crossing_help::list_crossings;
 use formal_help::explain_slips;
 use reach_help::explain_reached;
-use refusal_help::{explain_refusal, explain_words, shown_use};
+use refusal_help::{explain_refusal, explain_words, sets_limit, shown_use};
 use scald_base::{Bytes, NoMemory, Place, Refusal, RefusalKind};
 use scald_tool::{Outcome, Words};
 use section_compose::SectionsOutcome;
@@ -52,11 +52,29 @@ pub fn no_memory() -> &'static str
     "scald: there is not enough memory"
 }
 
-/// What is said where the waves do not settle.
+/// What is said where the waves do not settle, and the words set no limit.
 fn unsettled() -> &'static str
     ensures { result.now ≡ unsettled }
 {
-    "scald: the net that is named still changes after the last round; unless rounds=N was asked for, a loop leads to it"
+    "scald: the net that is named still changes after the last round: a loop leads to it"
+}
+
+/// What is said where the waves do not settle in the rounds that are asked for.
+fn unsettled_within() -> &'static str
+    ensures { result.now ≡ unsettled_within }
+{
+    "scald: the net that is named still changes after the rounds that rounds=N allows"
+}
+
+/// What is said where the waves do not settle, by whether the words set a limit.
+fn why_unsettled(is_limited: bool) -> &'static str
+    ensures { result.now ≡ why_unsettled is_limited }
+{
+    if is_limited {
+        unsettled_within()
+    } else {
+        unsettled()
+    }
 }
 
 /// What is said where more bytes came than a text may have.
@@ -87,9 +105,10 @@ fn bad_count() -> &'static str
     "scald: there should be 2 to 64 sections, with a line ===== between them"
 }
 
-/// Why an outcome is no answer to the drawing, or None where there is nothing to say.
-fn why(outcome: &Outcome) -> Option<&'static str>
-    ensures { option_copied result ≡ why_of outcome.now }
+/// Why an outcome is no answer to the drawing, or None where there is nothing to say: of waves that do not settle by
+/// whether the words set a limit.
+fn why(outcome: &Outcome, is_limited: bool) -> Option<&'static str>
+    ensures { option_copied result ≡ why_of is_limited outcome.now }
 {
     match outcome {
         Outcome::BadWords(_) => Some(forms()),
@@ -97,7 +116,7 @@ fn why(outcome: &Outcome) -> Option<&'static str>
         Outcome::ReadFault => Some(unread()),
         Outcome::WriteFault => Some(unwritten()),
         Outcome::NoMemory => Some(no_memory()),
-        Outcome::Unsettled { .. } => Some(unsettled()),
+        Outcome::Unsettled { .. } => Some(why_unsettled(is_limited)),
         Outcome::Clean | Outcome::Faulty(_) | Outcome::Done | Outcome::Refused(_) => None,
     }
 }
@@ -268,7 +287,7 @@ fn say_outcome(
         Outcome::Clean | Outcome::Faulty(_) => say_slips(rt, text),
         _ => {}
     }
-    if let Some(why) = why(outcome) {
+    if let Some(why) = why(outcome, sets_limit(words)) {
         say(rt, why);
     }
     if let Outcome::Unsettled { net, .. } = outcome {
