@@ -743,6 +743,18 @@ helps "    'ADDER' is none. The kinds are BUF, AND, OR, XOR, MUX2, MUX4, MUX8, C
     '    SETUP_HOLD_CHK, SETUP_RISE_HOLD_FALL_CHK and MIN_PULSE_CHK; a - before a connection inverts it'
 macro unexpanded '6 UnknownKind 6:1' 'MACRO ADDER ();' 'END;' 'DRAWING ROW;' 'u : ADER ();' 'END;'
 helps "    'ADER' is none: is ADDER meant?"
+# a kind or a macro with other letters, also where the word is nearly another kind, or has a meaning elsewhere
+drawing '6 UnknownKind 4:1' 'm1 : mux4 [0:0] ("S"<0>, "S"<1>, "A", "B", "C", "D") -> ("X");'
+helps "    'mux4' is none: is MUX4 meant?"
+macro unexpanded '6 UnknownKind 6:1' 'MACRO FF ("CK", "D") -> ("Q");' 'END;' 'DRAWING ROW;' 'flag : ff ("CK", "A") -> ("X");' 'END;'
+helps "    'ff' is none: is FF meant?"
+macro unexpanded '6 UnknownKind 6:1' 'MACRO AND3 ("A") -> ("Z");' 'END;' 'DRAWING ROW;' 'u : and3 ("A") -> ("X");' 'END;'
+helps "    'and3' is none: is AND3 meant?"
+# a macro that the word nearly is comes before what has the name elsewhere
+macro unexpanded '6 UnknownKind 6:1' 'MACRO DFFR ("CK", "D") -> ("Q");' 'END;' 'DRAWING ROW;' 'u : DFF ("CK", "A") -> ("X");' 'END;'
+helps "    'DFF' is none: is DFFR meant?"
+macro unexpanded '6 UnknownKind 6:1' 'MACRO SYNC ("CK", "D") -> ("Q");' 'END;' 'DRAWING ROW;' 'u : DFF ("CK", "A") -> ("X");' 'END;'
+helps "    'DFF' is drawn as REG"
 drawing '6 UnknownKind 4:1' 'a1 : ADN [0:0] ("A", "B") -> ("X");'
 helps "    'ADN' is none: is AND meant?"
 drawing '14 Bounds 4:1' 'b1 : BUF ("A") -> ("X");'

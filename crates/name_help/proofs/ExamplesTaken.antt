@@ -80,6 +80,24 @@ asked : kind_lines (codes "u : BUFF") (used 8) (used 8) ≡
 unfolding exchanged leads
 asked = refl
 
+-- a kind or a macro with other letters comes before all that it nearly is: mux4 is nearly MUX2, and or2 nearly OR
+lower_kind : kind_lines (codes "u : mux4") (used 8) (used 8) ≡ codes "    'mux4' is none: is MUX4 meant?\n"
+lower_kind = refl
+
+abbrev with_macro : List Token
+with_macro = word 0 5 ∷ word 6 9 ∷ symbol 59 9 ∷ []
+
+lower_macro : kind_lines (codes "MACRO OR2;u : or2") with_macro (word 10 11 ∷ symbol 58 12 ∷ word 14 17 ∷ []) ≡
+    codes "    'or2' is none: is OR2 meant?\n"
+unfolding leads
+lower_macro = refl
+
+-- and a macro that it nearly is before what has the name elsewhere
+before_usual : kind_lines (codes "MACRO FFA;u : FF") with_macro (word 10 11 ∷ symbol 58 12 ∷ word 14 16 ∷ []) ≡
+    codes "    'FF' is none: is FFA meant?\n"
+unfolding exchanged leads
+before_usual = refl
+
 -- NAND is nearly AND too
 drawn : kind_lines (codes "u : NAND") (used 8) (used 8) ≡
     codes "    'NAND' is drawn as AND with a - before its output\n"

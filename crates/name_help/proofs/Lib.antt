@@ -1,4 +1,5 @@
 pub mod Examples
+pub mod ExamplesClash
 pub mod ExamplesHeads
 pub mod ExamplesNames
 pub mod ExamplesTaken

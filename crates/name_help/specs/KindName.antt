@@ -7,14 +7,25 @@ use Rattle.scald_lex.specs.declared.token.Token.{Token}
 use Rattle.help_text.specs.Near.{is_near, near}
 use Rattle.help_text.specs.Statement.{kind_token, spelled}
 use Rattle.help_text.specs.Text.{line, printable, quoted}
-use Rattle.name_help.specs.NearName.{near_after}
+use Rattle.name_help.specs.NearName.{near_after, same_after}
+
+-- but for the case of its letters
+abbrev pub is_same : List ℕ → Kind → Bool
+is_same word kind = near 0 word (name_of kind)
 
 abbrev pub is_nearly : List ℕ → Kind → Bool
 is_nearly word kind = is_near word (name_of kind)
 
+abbrev pub same_kind : List ℕ → Option Kind
+same_kind word = find (is_same word) kinds
+
 -- the first kind that a word nearly is
 abbrev pub near_kind : List ℕ → Option Kind
 near_kind word = find (is_nearly word) kinds
+
+-- the first macro whose name a word is, but for the case of its letters
+abbrev pub same_macro : List ℕ → List ℕ → List Token → Option Token
+same_macro text word tokens = same_after text (codes "MACRO") word tokens
 
 -- the first macro whose name a word nearly is
 abbrev pub near_macro : List ℕ → List ℕ → List Token → Option Token
@@ -35,13 +46,16 @@ abbrev pub spelled_in : List ℕ → Option Token → Option (List ℕ)
 spelled_in text None = None
 spelled_in text (Some t) = Some (spelled text t)
 
-abbrev pub or_macro : List ℕ → List Token → List ℕ → Option Kind → Option (List ℕ)
-or_macro text tokens word (Some kind) = Some (name_of kind)
-or_macro text tokens word None = spelled_in text (near_macro text word tokens)
+-- this kind, or else this macro
+abbrev pub or_macro : List ℕ → Option Token → Option Kind → Option (List ℕ)
+or_macro text t (Some kind) = Some (name_of kind)
+or_macro text t None = spelled_in text t
 
--- the kind or else the macro that a word nearly is
+abbrev pub same_use : List ℕ → List Token → List ℕ → Option (List ℕ)
+same_use text tokens word = or_macro text (same_macro text word tokens) (same_kind word)
+
 abbrev pub near_use : List ℕ → List Token → List ℕ → Option (List ℕ)
-near_use text tokens word = or_macro text tokens word (near_kind word)
+near_use text tokens word = or_macro text (near_macro text word tokens) (near_kind word)
 
 abbrev pub kinds_note : List ℕ
 kinds_note =
@@ -54,12 +68,22 @@ near_line word None = line (codes "    " ∷ quoted word ∷ kinds_note ∷ [])
 near_line word (Some other) =
     line (codes "    " ∷ quoted word ∷ codes " is none: is " ∷ map printable other ∷ codes " meant?" ∷ [])
 
-abbrev pub way_line : List ℕ → Option (List ℕ) → Option (List ℕ) → List ℕ
-way_line word other (Some way) = line (codes "    " ∷ quoted word ∷ codes " is drawn as " ∷ way ∷ [])
-way_line word other None = near_line word other
+-- A macro that the word nearly is comes before what has the name elsewhere.
+abbrev pub way_line : List ℕ → List ℕ → Option (List ℕ) → List ℕ
+way_line word way None = line (codes "    " ∷ quoted word ∷ codes " is drawn as " ∷ way ∷ [])
+way_line word way (Some macro) = near_line word (Some macro)
+
+abbrev pub usual_line : List ℕ → List Token → List ℕ → Option (List ℕ) → List ℕ
+usual_line text tokens word None = near_line word (near_use text tokens word)
+usual_line text tokens word (Some way) = way_line word way (spelled_in text (near_macro text word tokens))
+
+-- by the kind or macro that it is but for the case of its letters, where there is one
+abbrev pub told_line : List ℕ → List Token → List ℕ → Option (List ℕ) → List ℕ
+told_line text tokens word None = usual_line text tokens word (drawn_as word)
+told_line text tokens word (Some other) = near_line word (Some other)
 
 abbrev pub word_lines : List ℕ → List Token → List ℕ → List ℕ
-word_lines text tokens word = way_line word (near_use text tokens word) (drawn_as word)
+word_lines text tokens word = told_line text tokens word (same_use text tokens word)
 
 abbrev pub kind_lines_at : List ℕ → List Token → Option Token → List ℕ
 kind_lines_at text tokens None = []

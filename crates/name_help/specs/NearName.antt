@@ -3,7 +3,7 @@ use Rattle.std.specs.Prelude.{ℕ, ◌-◌, Bool, false, ◌&&◌, List, [], ◌
 use Rattle.std.specs.Str.{bytes_eq}
 use Rattle.scald_lex.specs.declared.token.Token.{Token}
 use Rattle.help_text.specs.Assign.{begins_assign, braces, ends_assign}
-use Rattle.help_text.specs.Near.{is_near}
+use Rattle.help_text.specs.Near.{is_near, near}
 use Rattle.help_text.specs.Statement.{spelled}
 use Rattle.help_text.specs.Text.{line, printable}
 use Rattle.name_help.specs.Unknown.{after_head}
@@ -20,6 +20,16 @@ near_led text leader word led [] = None
 near_led text leader word led (t ∷ ts) =
     if led && is_near word (spelled text t) then Some t
     else near_led text leader word (leads text leader t) ts
+
+-- the same of a word that it is but for the case of its letters
+abbrev pub same_led : List ℕ → List ℕ → List ℕ → Bool → List Token → Option Token
+same_led text leader word led [] = None
+same_led text leader word led (t ∷ ts) =
+    if led && near 0 word (spelled text t) then Some t
+    else same_led text leader word (leads text leader t) ts
+
+abbrev pub same_after : List ℕ → List ℕ → List ℕ → List Token → Option Token
+same_after text leader word tokens = same_led text leader word false tokens
 
 abbrev pub near_after : List ℕ → List ℕ → List ℕ → List Token → Option Token
 near_after text leader word tokens = near_led text leader word false tokens

@@ -3,13 +3,25 @@
 ghost use Rattle.std.specs.Prelude.{◌≡◌, ◌++◌, OnOk, None, Some};
 ghost use Rattle.std.specs.List.{find};
 ghost use Rattle.std.specs.Option.{option_copied};
-ghost use Rattle.name_help.specs.KindName.{is_nearly, near_kind, drawn_as, kind_lines, near_line, near_use, word_lines};
+ghost use Rattle.name_help.specs.KindName.{drawn_as, is_nearly, is_same, kind_lines, near_kind, near_line, near_macro, near_use, same_kind, same_use, spelled_in, usual_line, way_line, word_lines};
 
-use crate::near_name::near_after;
+use crate::near_name::{near_after, same_after};
 use element_kinds::{KINDS, Kind};
 use help_text::{Part, add_line, is_near, kind_token, near, spelled};
 use scald_base::{Bytes, NoMemory};
 use scald_lex::Token;
+
+/// The first of these kinds that a word is, but for the case of its letters.
+fn same_among(kinds: &[Kind], word: &[u8]) -> Option<Kind>
+    ensures { result ≡ find (is_same word.now) kinds.now }
+{
+    'kinds: for kind in kinds {
+        if near(0, word, kind.name()) {
+            return Some(*kind);
+        }
+    }
+    None
+}
 
 /// The first of these kinds that a word nearly is.
 fn near_among(kinds: &[Kind], word: &[u8]) -> Option<Kind>
@@ -21,6 +33,13 @@ fn near_among(kinds: &[Kind], word: &[u8]) -> Option<Kind>
         }
     }
     None
+}
+
+/// The kind that a word is, but for the case of its letters.
+fn same_kind(word: &[u8]) -> Option<Kind>
+    ensures { result ≡ same_kind word.now }
+{
+    same_among(&KINDS, word)
 }
 
 /// The first kind that a word nearly is.
@@ -49,16 +68,40 @@ fn drawn_as(word: &[u8]) -> Option<&'static [u8]>
     }
 }
 
+/// The bytes of a token, where there is one.
+fn spelled_in(text: &[u8], token: Option<Token>) -> Option<&[u8]>
+    ensures { option_copied result ≡ spelled_in text.now token }
+{
+    match token {
+        Some(token) => Some(spelled(text, token)),
+        None => None,
+    }
+}
+
+/// The kind or the macro that a word is, but for the case of its letters.
+fn same_use<'a>(text: &'a [u8], tokens: &[Token], word: &[u8]) -> Option<&'a [u8]>
+    ensures { option_copied result ≡ same_use text.now tokens.now word.now }
+{
+    match same_kind(word) {
+        Some(kind) => Some(kind.name()),
+        None => spelled_in(text, same_after(text, tokens, b"MACRO", word)),
+    }
+}
+
+/// The macro that a word nearly is.
+fn near_macro<'a>(text: &'a [u8], tokens: &[Token], word: &[u8]) -> Option<&'a [u8]>
+    ensures { option_copied result ≡ spelled_in text.now (near_macro text.now word.now tokens.now) }
+{
+    spelled_in(text, near_after(text, tokens, b"MACRO", word))
+}
+
 /// The kind or the macro that a word nearly is.
 fn near_use<'a>(text: &'a [u8], tokens: &[Token], word: &[u8]) -> Option<&'a [u8]>
     ensures { option_copied result ≡ near_use text.now tokens.now word.now }
 {
     match near_kind(word) {
         Some(kind) => Some(kind.name()),
-        None => match near_after(text, tokens, b"MACRO", word) {
-            Some(head) => Some(spelled(text, head)),
-            None => None,
-        },
+        None => near_macro(text, tokens, word),
     }
 }
 
@@ -95,6 +138,42 @@ fn add_none(out: &mut Bytes, word: &[u8]) -> Result<(), NoMemory>
     )
 }
 
+/// How what has this name elsewhere is drawn.
+fn add_way<'a>(out: &mut Bytes, word: &'a [u8], way: &'a [u8]) -> Result<(), NoMemory>
+    ensures { OnOk result (out.new ≡ out.old ++ way_line word.now way.now None) }
+{
+    add_line(
+        out,
+        &[
+            Part::Text(b"    "),
+            Part::Quoted(word),
+            Part::Text(b" is drawn as "),
+            Part::Text(way),
+        ],
+    )
+}
+
+/// What may be meant by a word that is no kind and no macro in any case of its letters.
+fn add_usual<'a>(
+    out: &mut Bytes,
+    text: &'a [u8],
+    tokens: &[Token],
+    word: &'a [u8],
+) -> Result<(), NoMemory>
+    ensures { OnOk result (out.new ≡ out.old ++ usual_line text.now tokens.now word.now (drawn_as word.now)) }
+{
+    match drawn_as(word) {
+        Some(way) => match near_macro(text, tokens, word) {
+            Some(macro_name) => add_near(out, word, macro_name),
+            None => add_way(out, word, way),
+        },
+        None => match near_use(text, tokens, word) {
+            Some(other) => add_near(out, word, other),
+            None => add_none(out, word),
+        },
+    }
+}
+
 /// What may be meant by a word that names no kind.
 fn add_word<'a>(
     out: &mut Bytes,
@@ -104,20 +183,9 @@ fn add_word<'a>(
 ) -> Result<(), NoMemory>
     ensures { OnOk result (out.new ≡ out.old ++ word_lines text.now tokens.now word.now) }
 {
-    match drawn_as(word) {
-        Some(way) => add_line(
-            out,
-            &[
-                Part::Text(b"    "),
-                Part::Quoted(word),
-                Part::Text(b" is drawn as "),
-                Part::Text(way),
-            ],
-        ),
-        None => match near_use(text, tokens, word) {
-            Some(other) => add_near(out, word, other),
-            None => add_none(out, word),
-        },
+    match same_use(text, tokens, word) {
+        Some(other) => add_near(out, word, other),
+        None => add_usual(out, text, tokens, word),
     }
 }
 

@@ -1,10 +1,10 @@
 //! The name of a number, or of a macro, that a word nearly is.
 
 ghost use Rattle.std.specs.Prelude.{◌≡◌, ◌++◌, false, OnOk};
-ghost use Rattle.name_help.specs.NearName.{before_last, leads, meant_lines, near_after, near_constant, near_given, near_known, near_parameter};
+ghost use Rattle.name_help.specs.NearName.{before_last, leads, meant_lines, near_after, near_constant, near_given, near_known, near_parameter, same_after};
 
 use crate::unknown::after_head;
-use help_text::{Part, add_line, begins_assign, braces, ends_assign, is_near, spelled};
+use help_text::{Part, add_line, begins_assign, braces, ends_assign, is_near, near, spelled};
 use scald_base::{Bytes, NoMemory, same_bytes};
 use scald_lex::Token;
 
@@ -24,6 +24,22 @@ pub fn near_after(text: &[u8], tokens: &[Token], leader: &[u8], word: &[u8]) -> 
     let mut rest = tokens;
     'tokens: while let [token, others @ ..] = rest {
         if is_led && is_near(word, spelled(text, *token)) {
+            return Some(*token);
+        }
+        is_led = leads(text, leader, *token);
+        rest = others;
+    }
+    None
+}
+
+/// The first name after such a token that a word is, but for the case of its letters.
+pub fn same_after(text: &[u8], tokens: &[Token], leader: &[u8], word: &[u8]) -> Option<Token>
+    ensures { result ≡ same_after text.now leader.now word.now tokens.now }
+{
+    let mut is_led = false;
+    let mut rest = tokens;
+    'tokens: while let [token, others @ ..] = rest {
+        if is_led && near(0, word, spelled(text, *token)) {
             return Some(*token);
         }
         is_led = leads(text, leader, *token);
