@@ -901,20 +901,20 @@ helps '    WIRE "A" a:b has 0 <= a <= b <= 4095' \
     '    4096 is more than 4095, by 1'
 drawing '13 PinCount 4:1' 'b1 : BUF [0:0] ("A", "B") -> ("X");'
 helps '    BUF takes 1 input connection, without !H, and 1 output connection' \
-    '    here it has 2 input and 1 output connections'
+    '    here it has 2 input connections and 1 output connection'
 drawing '13 PinCount 4:1' 'b1 : BUF [0:0] () -> ("X");'
 helps '    BUF takes 1 input connection, without !H, and 1 output connection' \
-    '    here it has 0 input and 1 output connections'
+    '    here it has 0 input connections and 1 output connection'
 drawing '13 PinCount 4:1' 'b1 : BUF [0:0] ("A");'
 drawing '13 PinCount 4:1' 'm1 : MUX4 [0:0] ("S", "A", "B", "C", "D") -> ("X");'
 drawing '13 PinCount 4:1' "a1 : AND [0:0] (\"A\"$(many 16 ', "A"')) -> (\"X\");"
 drawing '13 PinCount 4:1' 'c1 : MIN_PULSE_CHK ("A") -> ("X");'
 helps '    MIN_PULSE_CHK takes 1 input connection, without !H, and no output connection' \
-    '    here it has 1 input and 1 output connections'
+    '    here it has 1 input connection and 1 output connection'
 drawing '13 PinCount 4:1' 'b1 : BUF [0:0] ("A" !H) -> ("X");'
 drawing '13 PinCount 4:1' 'a1 : AND [0:0] ("A" !H, "B" !H) -> ("X");'
 helps '    AND takes 1 to 16 input connections, one of which may have !H, and 1 output connection' \
-    '    here it has 2 input and 1 output connections, 2 and 0 of them with !H'
+    '    here it has 2 input connections and 1 output connection, 2 and 0 of them with !H'
 drawing '13 PinCount 4:1' 'a1 : AND [0:0] ("A", "B") -> ("X" !H);'
 macro unexpanded '15 TooDeep 4:1' 'MACRO M ("A") -> ("Z");' 'x : M ("A") -> ("Z");' 'END;' 'DRAWING ROW;' 'u : M ("A") -> ("X");' 'END;'
 helps '    at most 64 uses of macros may be inside one another, and this is one more' \
@@ -964,7 +964,7 @@ drawing '12 Width 4:1' 'b1 : BUF [0:0] ("A"<0:2>) -> ("X"<0:3>);'
 wide() {
     rule=$1
     shift
-    helps "    $rule" '    a name without a range is its bit 0 alone, and a formal without one is all of its bits' "$@"
+    helps "    $rule" '    a name without a range is its bit 0 alone, and a formal without one is all of its bits; a formal that is declared without one has one bit' "$@"
 }
 by_output='connections are as wide as the output, or have one bit for all'
 by_widest='connections are as wide as the widest one, or have one bit for all'
@@ -1142,8 +1142,14 @@ drawing '11 BadRange 4:1' 'a1 : AND [0:0] ("A"<0:1>, "B"<0:2>) -> ("X"<65536>);'
 drawing '21 ZeroDivisor 4:1' 'WIRE "A"<65536> 0:1/0;'
 drawing '11 BadRange 4:1' 'WIRE "A"<65536> 2:1;'
 macro unexpanded '13 PinCount 6:1' 'MACRO M ("A"<65536>) -> ("Z");' 'END;' 'DRAWING ROW;' 'u : M ("A", "B") -> ("X");' 'END;'
-helps '    without !H the macro takes 1 input and 1 output connections' \
-    '    here it has 2 input and 1 output connections'
+helps '    M takes 1 input connection and 1 output connection, none with !H' \
+    '    here it has 2 input connections and 1 output connection'
+macro unexpanded '13 PinCount 6:1' 'MACRO SYNC ("CK", "A") -> ("Z");' 'END;' 'DRAWING ROW;' 'u : SYNC ("CK" !H, "B") -> ("X");' 'END;'
+helps '    SYNC takes 2 input connections and 1 output connection, none with !H' \
+    '    here it has 2 input connections and 1 output connection, 1 and 0 of them with !H'
+macro unexpanded '13 PinCount 6:1' 'MACRO M ("A");' 'END;' 'DRAWING ROW;' 'u : M () -> ("X", "Y");' 'END;'
+helps '    M takes 1 input connection and 0 output connections, none with !H' \
+    '    here it has 0 input connections and 2 output connections'
 macro unexpanded '21 ZeroDivisor 6:1' 'MACRO M {N=1/0} ("A"<65536>) -> ("Z");' 'END;' 'DRAWING ROW;' 'u : M ("A"<65536>) -> ("X");' 'END;'
 macro unexpanded '22 UnknownName 7:1' 'MACRO M {N=P} ();' 'b : BUF [0:N] ("A") -> ("X");' 'END;' 'MACRO O {P=7} ();' 'u : M ();' 'END;' \
     'DRAWING ROW;' 'o : O ();' 'END;'

@@ -10,7 +10,7 @@ use Rattle.element_kinds.specs.declared.form.Check.TheVariants.{SetupHold as Set
 use Rattle.help_text.specs.Assign.{begins_assign, ends_assign}
 use Rattle.statement_help.specs.Bits.{bits_line, bits_with, bits_word, separates, separator}
 use Rattle.statement_help.specs.Bound.{pair_lines}
-use Rattle.statement_help.specs.Count.{count_line, counted_line}
+use Rattle.statement_help.specs.Count.{count_line, counts_text, head_lines, here_it_has, marks_end, takes}
 use Rattle.statement_help.specs.Limit.{check_lines, delay_lines, none_note, value_of}
 use Rattle.statement_help.specs.Parameter.{macro_lines, names_begin, none_taken, spaced, wrong_lines}
 use Rattle.statement_help.specs.Range.{fault_at, range_line}
@@ -71,16 +71,29 @@ lists =
     symbol 40 0 ∷ at Name 1 4 ∷ symbol 44 4 ∷ at Name 6 9 ∷ symbol 33 10 ∷ at Word 11 12 ∷ symbol 41 12 ∷
     at Arrow 14 16 ∷ symbol 40 17 ∷ at Name 18 21 ∷ symbol 41 21 ∷ symbol 59 22 ∷ []
 
-counted : count_line (codes "it has ") lists ≡
-    codes "    it has 2 input and 1 output connections, 1 and 0 of them with !H\n"
-unfolding digits counted_line
+counted : count_line lists ≡
+    codes "    here it has 2 input connections and 1 output connection, 1 and 0 of them with !H\n"
+unfolding counts_text digits here_it_has marks_end
 counted = refl
 
 -- marks are counted where there are any
-unmarked : count_line (codes "it has ") (symbol 40 0 ∷ at Name 1 4 ∷ symbol 41 5 ∷ []) ≡
-    codes "    it has 1 input and 0 output connections\n"
-unfolding digits counted_line
+unmarked : count_line (symbol 40 0 ∷ at Name 1 4 ∷ symbol 41 5 ∷ []) ≡
+    codes "    here it has 1 input connection and 0 output connections\n"
+unfolding counts_text digits here_it_has marks_end
 unmarked = refl
+
+-- M ("A", "B") -> ("X"); and M ("A"); as heads from the name on
+taken : head_lines (codes "M")
+    (at Word 0 1 ∷ symbol 40 2 ∷ at Name 3 6 ∷ symbol 44 6 ∷ at Name 8 11 ∷ symbol 41 11 ∷ at Arrow 13 15 ∷ symbol 40 16 ∷
+    at Name 17 20 ∷ symbol 41 20 ∷ symbol 59 21 ∷ []) ≡
+    codes "    M takes 2 input connections and 1 output connection, none with !H\n"
+unfolding counts_text digits takes
+taken = refl
+
+no_outputs : head_lines (codes "M") (at Word 0 1 ∷ symbol 40 2 ∷ at Name 3 6 ∷ symbol 41 6 ∷ symbol 59 7 ∷ []) ≡
+    codes "    M takes 1 input connection and 0 output connections, none with !H\n"
+unfolding counts_text digits takes
+no_outputs = refl
 
 -- ---- parameters: {HIHG=3, LOW=1}
 

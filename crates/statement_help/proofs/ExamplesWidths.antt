@@ -31,15 +31,14 @@ of_outputs = refl
 of_checkers : rule (Some MinPulse) ≡ codes "    connections are as wide as the widest one, or have one bit for all\n"
 of_checkers = refl
 
--- ---- ("A"<0:1>,"B")->("Z"<0:1>), as formals and as connections with other names and ranges
+-- ---- "A"<0:1>->"Z"<0:1>; as formals, and as connections with other ranges: no parenthesis is looked at
 
 -- the last bits of both ranges
 abbrev lists : ℕ → ℕ → List Token
 lists first last =
-    symbol 40 0 ∷ at Name 1 4 ∷ symbol 60 4 ∷ at (Number (pos 0)) 5 6 ∷ symbol 58 6 ∷ at (Number (pos first)) 7 8 ∷
-    symbol 62 8 ∷ symbol 44 9 ∷ at Name 10 13 ∷ symbol 41 13 ∷ at Arrow 14 16 ∷ symbol 40 16 ∷ at Name 17 20 ∷
-    symbol 60 20 ∷ at (Number (pos 0)) 21 22 ∷ symbol 58 22 ∷ at (Number (pos last)) 23 24 ∷ symbol 62 24 ∷
-    symbol 41 25 ∷ symbol 59 26 ∷ []
+    at Name 0 3 ∷ symbol 60 3 ∷ at (Number (pos 0)) 4 5 ∷ symbol 58 5 ∷ at (Number (pos first)) 6 7 ∷ symbol 62 7 ∷
+    at Arrow 8 10 ∷ at Name 10 13 ∷ symbol 60 13 ∷ at (Number (pos 0)) 14 15 ∷ symbol 58 15 ∷ at (Number (pos last)) 16 17 ∷
+    symbol 62 17 ∷ symbol 59 18 ∷ []
 
 fits : misfit_from [] [] (lists 1 1) false (Some 0) (lists 1 1) ≡ None
 unfolding bits_with separates
@@ -50,25 +49,32 @@ one_for_all : misfit_from [] [] (lists 1 1) false (Some 0) (lists 0 1) ≡ None
 unfolding bits_with separates
 one_for_all = refl
 
-wide_input : misfit_from [] [] (lists 1 1) false (Some 0) (lists 2 1) ≡ Some (at Name 1 4, (2, 3))
+wide_input : misfit_from [] [] (lists 1 1) false (Some 0) (lists 2 1) ≡ Some (at Name 0 3, (2, 3))
 unfolding bits_with separates
 wide_input = refl
 
-one_output : misfit_from [] [] (lists 1 1) false (Some 0) (lists 1 0) ≡ Some (at Name 17 20, (2, 1))
+one_output : misfit_from [] [] (lists 1 1) false (Some 0) (lists 1 0) ≡ Some (at Name 10 13, (2, 1))
 unfolding bits_with separates
 one_output = refl
 
--- an output without inputs before it: ()->("Z"<0:1>)
+-- the second of two inputs, "A","B"; as formals, which have one bit each
+second_input : misfit_from [] [] (at Name 0 3 ∷ symbol 44 3 ∷ at Name 4 7 ∷ symbol 59 7 ∷ []) false (Some 0)
+    (at Name 0 3 ∷ symbol 44 3 ∷ at Name 4 7 ∷ symbol 60 7 ∷ at (Number (pos 0)) 8 9 ∷ symbol 58 9 ∷
+    at (Number (pos 1)) 10 11 ∷ symbol 62 11 ∷ symbol 59 12 ∷ []) ≡ Some (at Name 4 7, (1, 2))
+unfolding bits_with separates
+second_input = refl
+
+-- an output without inputs before it: ->"Z"<0:1>;
 abbrev output_alone : ℕ → List Token
 output_alone last =
-    symbol 40 0 ∷ symbol 41 1 ∷ at Arrow 2 4 ∷ symbol 40 4 ∷ at Name 5 8 ∷ symbol 60 8 ∷ at (Number (pos 0)) 9 10 ∷
-    symbol 58 10 ∷ at (Number (pos last)) 11 12 ∷ symbol 62 12 ∷ symbol 41 13 ∷ symbol 59 14 ∷ []
+    at Arrow 0 2 ∷ at Name 2 5 ∷ symbol 60 5 ∷ at (Number (pos 0)) 6 7 ∷ symbol 58 7 ∷ at (Number (pos last)) 8 9 ∷
+    symbol 62 9 ∷ symbol 59 10 ∷ []
 
 no_inputs : misfit_from [] [] (output_alone 1) false (Some 0) (output_alone 1) ≡ None
 unfolding bits_with separates
 no_inputs = refl
 
-no_inputs_wide : misfit_from [] [] (output_alone 1) false (Some 0) (output_alone 2) ≡ Some (at Name 5 8, (2, 3))
+no_inputs_wide : misfit_from [] [] (output_alone 1) false (Some 0) (output_alone 2) ≡ Some (at Name 2 5, (2, 3))
 unfolding bits_with separates
 no_inputs_wide = refl
 

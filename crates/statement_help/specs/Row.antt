@@ -17,7 +17,7 @@ output_note kind =
     if has_output kind then codes "1 output connection" else codes "no output connection"
 
 abbrev pub input_note : ℕ → List ℕ
-input_note most = if most == 1 then codes " input connection" else codes " input connections"
+input_note count = if count == 1 then codes " input connection" else codes " input connections"
 
 unfoldable pub connections_line : Kind → List ℕ
 connections_line kind = line (

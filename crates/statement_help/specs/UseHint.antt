@@ -36,14 +36,14 @@ after_name [] = []
 after_name (t ∷ ts) = ts
 
 -- by its kind, or else by its macro's head
-abbrev pub taken_connections : List Token → Option Kind → List ℕ
-taken_connections head (Some kind) = connections_line kind
-taken_connections head None = head_lines head
+abbrev pub taken_connections : List ℕ → List Token → Option Kind → List ℕ
+taken_connections text head (Some kind) = connections_line kind
+taken_connections text head None = head_lines text head
 
 abbrev pub connections_lines : List ℕ → List Token → List Token → List ℕ
 connections_lines text tokens statement =
-    taken_connections (head_of_use text tokens statement) (kind_of_use text statement)
-    ++ count_line (codes "here it has ") (lists (after_kind statement))
+    taken_connections text (head_of_use text tokens statement) (kind_of_use text statement)
+    ++ count_line (lists (after_kind statement))
 
 abbrev pub taken_parameters : List ℕ → List Token → Option Kind → List ℕ
 taken_parameters text head (Some kind) = parameters_line kind

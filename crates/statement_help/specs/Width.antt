@@ -24,7 +24,9 @@ rule (Some kind) =
     else codes "    connections are as wide as the widest one, or have one bit for all\n"
 
 unfoldable pub bit_note : List ℕ
-bit_note = codes "    a name without a range is its bit 0 alone, and a formal without one is all of its bits\n"
+bit_note =
+    codes "    a name without a range is its bit 0 alone, and a formal without one is all of its bits; " ++
+    codes "a formal that is declared without one has one bit\n"
 
 -- ---- the bits of connections and formals
 

@@ -2,9 +2,12 @@
 
 ghost use Rattle.std.specs.Prelude.{◌≡◌, ◌++◌, OnOk, false};
 ghost use Rattle.help_text.specs.Tokens.{lists};
-ghost use Rattle.statement_help.specs.Count.{commas, connections, count_line, counted_line, head_lines, marks, one_more};
+ghost use Rattle.statement_help.specs.Count.{commas, connections, count_line, counts_text, formals_line, head_lines, here_it_has, marks, marks_end, one_more, outputs_note, taken_line, takes};
 
-use help_text::{Part, add_line, after_arrow, ends_list, is_symbol, is_word, lists};
+use crate::row::input_note;
+use help_text::{
+    Part, add_line, add_parts, after_arrow, ends_list, is_symbol, is_word, lists, spelled,
+};
 use scald_base::{Bytes, NoMemory};
 use scald_lex::Token;
 
@@ -65,67 +68,116 @@ fn connections(tokens: &[Token]) -> u64
     }
 }
 
-/// So many inputs and outputs, and so many of them with a mark, where any has one, after these
-/// words.
-#[tactic(auto, unfolding(crate::specs::Count::counted_line))]
-fn add_counted(
-    out: &mut Bytes,
-    said: &[u8],
-    connections: (u64, u64),
-    marks: (u64, u64),
-) -> Result<(), NoMemory>
-    ensures { OnOk result (out.new ≡ out.old ++ counted_line said.now connections.0 connections.1 marks.0 marks.1) }
+/// What so many outputs are called.
+fn outputs_note(count: u64) -> &'static [u8]
+    ensures { result.now ≡ outputs_note count }
 {
-    if marks.0 == 0 && marks.1 == 0 {
-        return add_line(
-            out,
-            &[
-                Part::Text(b"    "),
-                Part::Text(said),
-                Part::Number(connections.0),
-                Part::Text(b" input and "),
-                Part::Number(connections.1),
-                Part::Text(b" output connections"),
-            ],
-        );
+    if count == 1 {
+        b" output connection"
+    } else {
+        b" output connections"
+    }
+}
+
+/// So many inputs and outputs.
+#[tactic(auto, unfolding(crate::specs::Count::counts_text))]
+fn add_counts(out: &mut Bytes, inputs: u64, outputs: u64) -> Result<(), NoMemory>
+    ensures { OnOk result (out.new ≡ out.old ++ counts_text inputs outputs) }
+{
+    add_parts(
+        out,
+        &[
+            Part::Number(inputs),
+            Part::Text(input_note(inputs)),
+            Part::Text(b" and "),
+            Part::Number(outputs),
+            Part::Text(outputs_note(outputs)),
+        ],
+    )
+}
+
+/// How many inputs and outputs have a mark, where any has one.
+#[tactic(auto, unfolding(crate::specs::Count::marks_end))]
+fn add_marks(out: &mut Bytes, inputs: u64, outputs: u64) -> Result<(), NoMemory>
+    ensures { OnOk result (out.new ≡ out.old ++ marks_end inputs outputs) }
+{
+    if inputs == 0 && outputs == 0 {
+        return out.extend(b"\n");
     }
     add_line(
         out,
         &[
-            Part::Text(b"    "),
-            Part::Text(said),
-            Part::Number(connections.0),
-            Part::Text(b" input and "),
-            Part::Number(connections.1),
-            Part::Text(b" output connections, "),
-            Part::Number(marks.0),
+            Part::Text(b", "),
+            Part::Number(inputs),
             Part::Text(b" and "),
-            Part::Number(marks.1),
+            Part::Number(outputs),
             Part::Text(b" of them with !H"),
         ],
     )
 }
 
-/// How many connections there are in lists of them, after these words.
-pub fn add_count(out: &mut Bytes, said: &[u8], tokens: &[Token]) -> Result<(), NoMemory>
-    ensures { OnOk result (out.new ≡ out.old ++ count_line said.now (lists tokens.now)) }
+/// What stands before how many connections there are.
+#[tactic(auto, unfolding(crate::specs::Count::here_it_has))]
+fn here_it_has() -> &'static [u8]
+    ensures { result.now ≡ here_it_has }
+{
+    b"    here it has "
+}
+
+/// How many connections there are in lists of them.
+pub fn add_count(out: &mut Bytes, tokens: &[Token]) -> Result<(), NoMemory>
+    ensures { OnOk result (out.new ≡ out.old ++ count_line (lists tokens.now)) }
 {
     let inputs = lists(tokens);
     let outputs = after_arrow(inputs);
-    add_counted(
+    out.extend(here_it_has())?;
+    add_counts(out, connections(inputs), connections(outputs))?;
+    add_marks(out, marks(inputs), marks(outputs))
+}
+
+/// What stands before how many connections the macro of this name takes.
+#[tactic(auto, unfolding(crate::specs::Count::takes))]
+fn add_takes(out: &mut Bytes, name: &[u8]) -> Result<(), NoMemory>
+    ensures { OnOk result (out.new ≡ out.old ++ takes name.now) }
+{
+    add_parts(
         out,
-        said,
-        (connections(inputs), connections(outputs)),
-        (marks(inputs), marks(outputs)),
+        &[
+            Part::Text(b"    "),
+            Part::Text(name),
+            Part::Text(b" takes "),
+        ],
     )
 }
 
-/// How many formals a macro has, whose head begins with its name.
-pub fn add_head(out: &mut Bytes, head: &[Token]) -> Result<(), NoMemory>
-    ensures { OnOk result (out.new ≡ out.old ++ head_lines head.now) }
+/// How many inputs and outputs the macro of this name takes.
+fn add_taken(out: &mut Bytes, name: &[u8], inputs: u64, outputs: u64) -> Result<(), NoMemory>
+    ensures { OnOk result (out.new ≡ out.old ++ taken_line name.now inputs outputs) }
+{
+    add_takes(out, name)?;
+    add_counts(out, inputs, outputs)?;
+    out.extend(b", none with !H\n")
+}
+
+/// The same by the tokens after the name of its head.
+fn add_formals(out: &mut Bytes, name: &[u8], tokens: &[Token]) -> Result<(), NoMemory>
+    ensures { OnOk result (out.new ≡ out.old ++ formals_line name.now (lists tokens.now)) }
+{
+    let inputs = lists(tokens);
+    add_taken(
+        out,
+        name,
+        connections(inputs),
+        connections(after_arrow(inputs)),
+    )
+}
+
+/// How many connections the macro takes whose head begins with its name.
+pub fn add_head(out: &mut Bytes, text: &[u8], head: &[Token]) -> Result<(), NoMemory>
+    ensures { OnOk result (out.new ≡ out.old ++ head_lines text.now head.now) }
 {
     match head {
-        [_, rest @ ..] => add_count(out, b"without !H the macro takes ", rest),
+        [name, rest @ ..] => add_formals(out, spelled(text, *name), rest),
         [] => Ok(()),
     }
 }

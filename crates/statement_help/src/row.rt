@@ -7,11 +7,11 @@ use element_kinds::{Check, Kind};
 use help_text::{Part, add_line};
 use scald_base::{Bytes, NoMemory};
 
-/// What is counted, where a kind takes at most so many inputs.
-fn input_note(most: u16) -> &'static [u8]
-    ensures { result.now ≡ input_note most }
+/// What so many inputs are called.
+pub fn input_note(count: u64) -> &'static [u8]
+    ensures { result.now ≡ input_note count }
 {
-    if most == 1 {
+    if count == 1 {
         b" input connection"
     } else {
         b" input connections"
@@ -53,7 +53,7 @@ pub fn add_connections(out: &mut Bytes, kind: Kind) -> Result<(), NoMemory>
             Part::Text(kind.name()),
             Part::Text(b" takes "),
             Part::Range(least, most),
-            Part::Text(input_note(most)),
+            Part::Text(input_note(u64::from(most))),
             Part::Text(mark_note(kind)),
             Part::Text(output_note(kind)),
         ],

@@ -49,12 +49,17 @@ pub fn after_name(head: &[Token]) -> &[Token]
 }
 
 /// How many connections a kind takes, or else the macro with this head.
-fn add_taken(out: &mut Bytes, head: &[Token], kind: Option<Kind>) -> Result<(), NoMemory>
-    ensures { OnOk result (out.new ≡ out.old ++ taken_connections head.now kind) }
+fn add_taken(
+    out: &mut Bytes,
+    text: &[u8],
+    head: &[Token],
+    kind: Option<Kind>,
+) -> Result<(), NoMemory>
+    ensures { OnOk result (out.new ≡ out.old ++ taken_connections text.now head.now kind) }
 {
     match kind {
         Some(kind) => add_connections(out, kind),
-        None => add_head(out, head),
+        None => add_head(out, text, head),
     }
 }
 
@@ -83,8 +88,8 @@ pub fn add_use_connections(
     ensures { OnOk result (out.new ≡ out.old ++ connections_lines text.now tokens.now statement.now) }
 {
     let head = head_of_use(text, tokens, statement);
-    add_taken(out, head, kind_of_use(text, statement))?;
-    add_count(out, b"here it has ", after_kind(statement))
+    add_taken(out, text, head, kind_of_use(text, statement))?;
+    add_count(out, after_kind(statement))
 }
 
 /// Which parameters the use takes, and which of those that it has is wrong.

@@ -37,7 +37,7 @@ fn rule(kind: Option<Kind>) -> &'static [u8]
 fn bit_note() -> &'static [u8]
     ensures { result.now ≡ bit_note }
 {
-    b"    a name without a range is its bit 0 alone, and a formal without one is all of its bits\n"
+    b"    a name without a range is its bit 0 alone, and a formal without one is all of its bits; a formal that is declared without one has one bit\n"
 }
 
 /// How many bits the connections of a use have, in the macro with this head.
