@@ -548,10 +548,10 @@ named() {
 begins='a name begins with a letter, a digit, _, # or $, or with a / before these'
 has='a name has letters, digits, _, # and $, single spaces, and at its end a space and .S, .P or .C'
 spaced='after a space comes a letter, a digit, _, # or $, or the . of an assertion'
-ends='after an interval comes a comma and the next one, and after those of .P and .C a skew like (2,3), an L'
-named 'CK .P2-9' '    an interval ends with 9, past the end of the period, 8' \
+ends='after an interval comes a comma and the next one, and after the last of .P or .C a skew like (2,3) or an L, without spaces'
+named 'CK .P2-9' '    an interval ends at unit 9, and the period has 8 units' \
     '    one that wraps over the end of the period is written 2-1'
-named 'CK .P2-17' '    an interval ends with 17, past the end of the period, 8'
+named 'CK .P2-17' '    an interval ends at unit 17, and the period has 8 units'
 named 'CK .P8-3' '    unit 8 is past the last: 8 units count from 0'
 named 'CK .P3-3' '    an interval ends where it begins, with 3'
 named 'CK .P02-3' "    after 'CK .P0' there cannot be '2': a number has no 0 in front"
@@ -560,20 +560,23 @@ named 'CK .P2-3(4096,0)' '    a skew is at most 4095 ticks, and this is 4096'
 named 'A .S0-2L' "    after 'A .S0-2' there cannot be 'L': $ends"
 named 'A .S0-2(1,1)' "    after 'A .S0-2' there cannot be '(': $ends"
 named 'CK .P' "    after 'CK .P' the name cannot end: an interval like 2-3 comes here"
-named ' A' "    after '' there cannot be ' ': $begins"
+named ' A' "    it cannot begin with ' ': $begins"
+named '-CK' "    it cannot begin with '-': $begins" '    the - stands before the quote'
 named 'A ' "    after 'A ' the name cannot end: $spaced"
 named 'A  B' "    after 'A ' there cannot be ' ': $spaced"
-named '' "    after '' the name cannot end: $begins"
+named '' "    it is empty: $begins"
 named '/' "    after '/' the name cannot end: after the / comes a letter, a digit, _, # or \$"
 named 'A-B' "    after 'A' there cannot be '-': $has"
 named 'A.B' "    after 'A' there cannot be '.': $has"
 named 'A .SX' "    after 'A .S' there cannot be 'X': after .S comes an interval like 1-4, or nothing"
 named 'CK .P2' "    after 'CK .P2' the name cannot end: the unit in which an interval begins is followed by a - and its end"
 named 'CK .P2-' "    after 'CK .P2-' the name cannot end: the end of an interval is a number"
-named 'CK .P2-3(' "    after 'CK .P2-3(' the name cannot end: a skew is written like (2,3)"
-named 'CK .P2-3(1)' "    after 'CK .P2-3(1' there cannot be ')': a skew is written like (2,3)"
-named 'CK .P2-3(1,L)' "    after 'CK .P2-3(1,' there cannot be 'L': a skew is written like (2,3)"
-named 'CK .P2-3(1,2L' "    after 'CK .P2-3(1,2' there cannot be 'L': a skew is written like (2,3)"
+skew='a skew is written like (2,3), two numbers of ticks that are not negative'
+named 'CK .P2-3(' "    after 'CK .P2-3(' the name cannot end: $skew"
+named 'CK .P2-3(-5,5)' "    after 'CK .P2-3(' there cannot be '-': $skew"
+named 'CK .P2-3(1)' "    after 'CK .P2-3(1' there cannot be ')': $skew"
+named 'CK .P2-3(1,L)' "    after 'CK .P2-3(1,' there cannot be 'L': $skew"
+named 'CK .P2-3(1,2L' "    after 'CK .P2-3(1,2' there cannot be 'L': $skew"
 named 'CK .P2-3(1,1)X' "    after 'CK .P2-3(1,1)' there cannot be 'X': after a skew comes an L, or nothing"
 named 'CK .P2-3LL' "    after 'CK .P2-3L' there cannot be 'L': nothing comes after the L"
 named 'CK .X2-3' "    after 'CK .' there cannot be 'X': an assertion begins with .S, .P or .C"
@@ -806,18 +809,19 @@ unknown() {
         "$@"
 }
 drawing '22 UnknownName 4:1' 'b1 : BUF [0:N] ("A") -> ("X");'
-unknown "    'N' is none of these"
+unknown '    no name is known here' "    'N' is none of these"
 drawing '22 UnknownName 4:1' 'IF N THEN END;'
-unknown "    'N' is none of these"
+unknown '    no name is known here' "    'N' is none of these"
 drawing '22 UnknownName 4:1' 'a1 : AND [0:0] ("A" !H, ONE & "B"<0:W>) -> ("X"<0:2>);'
-unknown "    'W' is none of these"
+unknown '    no name is known here' "    'W' is none of these"
 drawing '22 UnknownName 4:1' 'c1 : SETUP_HOLD_CHK {SETUP=1, HOLD=SETUP} ("CK", "D");'
-unknown "    'SETUP' is none of these"
+unknown '    no name is known here' "    'SETUP' is none of these"
 macro unexpanded '22 UnknownName 4:1' 'MACRO M {N=1} ("A") -> ("Z");' 'b1 : BUF [N:N+K] ("A") -> ("Z");' 'END;' 'DRAWING ROW;' \
     'u : M ("A") -> ("X");' 'END;'
-unknown "    'K' is none of these" '    it is reached by u at 7:1'
+unknown '    known here: N' "    'K' is none of these" '    it is reached by u at 7:1'
 expanded '22 UnknownName 3:1' 'CONST N = M;' 'CONST M = 1;' 'DRAWING ROW;' 'END;'
-helps '    a name here is a constant declared before it' "    'M' is none of these"
+helps '    a name here is a constant declared before it' '    no name is known here' "    'M' is none of these" \
+    '    M is declared later, at 4:7'
 # the head of a macro: of its defaults those that the use does not give, and then its ranges
 expanded '22 UnknownName 7:1' 'CONST W = 2;' 'MACRO M {N=W, D=N*5} ("A"<0:N-1>) -> ("Z");' 'END;' 'DRAWING ROW;' \
     'u : M {N=3} ("A"<0:2>) -> ("X");' 'END;'
@@ -828,17 +832,17 @@ expanded '22 UnknownName 6:1' 'MACRO M {N=4, D=N*5} ("A"<0:K-N>) -> ("Z");' 'END
 helps "    a formal's range names 'K' at 3:29, which is neither a constant nor a parameter of the macro:" \
     '    MACRO M {N=4, D=N*5} ("A"<0:K-N>) -> ("Z");' '                                ^'
 expanded '22 UnknownName 6:1' 'MACRO M {N=P} ("A") -> ("Z");' 'END;' 'DRAWING ROW;' 'u : M {N=Q} ("A") -> ("X");' 'END;'
-unknown "    'Q' is none of these"
+unknown '    no name is known here' "    'Q' is none of these"
 # the name that is nearly written: a constant before the statement, a parameter, a variable before it
 macro unexpanded '22 UnknownName 4:1' 'MACRO M {TMAX=1} ("A") -> ("Z");' 'b1 : BUF [0:TMAXX] ("A") -> ("Z");' 'END;' 'DRAWING ROW;' \
     'u : M ("A") -> ("X");' 'END;'
-unknown "    'TMAXX' is none of these" '    is TMAX meant?' '    it is reached by u at 7:1'
+unknown '    known here: TMAX' "    'TMAXX' is none of these" '    is TMAX meant?' '    it is reached by u at 7:1'
 expanded '22 UnknownName 5:1' 'CONST WIDTH = 2;' 'DRAWING ROW;' 'b1 : BUF [0:WITDH] ("A") -> ("X");' 'END;'
-unknown "    'WITDH' is none of these" '    is WIDTH meant?'
+unknown '    known here: WIDTH' "    'WITDH' is none of these" '    is WIDTH meant?'
 expanded '22 UnknownName 5:1' 'DRAWING ROW;' 'FOR TURN = 0 TO 1 DO' 'b1 : BUF [0:TRUN] ("A") -> ("X"<TURN>);' 'END;' 'END;'
-unknown "    'TRUN' is none of these" '    is TURN meant?'
+unknown '    known here: TURN' "    'TRUN' is none of these" '    is TURN meant?'
 expanded '22 UnknownName 3:1' 'CONST N = TMAXX;' 'CONST TMAX = 1;' 'DRAWING ROW;' 'END;'
-helps '    a name here is a constant declared before it' "    'TMAXX' is none of these"
+helps '    a name here is a constant declared before it' '    no name is known here' "    'TMAXX' is none of these"
 expanded '22 UnknownName 7:1' 'CONST TMIN = 2;' 'MACRO M {LO=1, HI=TMIN_} ("A") -> ("Z");' 'END;' 'DRAWING ROW;' \
     'u : M ("A") -> ("X");' 'END;'
 helps "    the default of 'HI' names 'TMIN_' at 4:19, and a default may name constants alone:" \
@@ -850,10 +854,24 @@ helps "    a formal's range names 'SIZ' at 3:25, which is neither a constant nor
     '    MACRO M {SIZE=4} ("A"<0:SIZ-1>) -> ("Z");' '                            ^' \
     '    is SIZE meant?'
 expanded '22 UnknownName 5:1' 'CONST N = 1;' 'DRAWING ROW;' 'FOR I = N TO K DO' 'END;' 'END;'
-unknown "    'K' is none of these"
-# a variable of a FOR before it, which may be around it for all that is told
-expanded '22 UnknownName 5:1' 'DRAWING ROW;' 'FOR I = 0 TO 1 DO END;' 'b1 : BUF [0:I] ("A") -> ("X");' 'END;'
-unknown
+unknown '    known here: N' "    'K' is none of these"
+# the variable of a FOR is known up to its END, and is not meant after it either
+expanded '22 UnknownName 5:1' 'DRAWING ROW;' 'FOR TURN = 0 TO 1 DO END;' 'b1 : BUF [0:TURN] ("A") -> ("X");' 'END;'
+unknown '    no name is known here' "    'TURN' is none of these"
+expanded '22 UnknownName 5:1' 'DRAWING ROW;' 'FOR TURN = 0 TO 1 DO END;' 'b1 : BUF [0:TRUN] ("A") -> ("X");' 'END;'
+unknown '    no name is known here' "    'TRUN' is none of these"
+# constants, parameters and variables, in this order, and the first 16 of them
+expanded '22 UnknownName 7:1' 'CONST N = 1;' 'MACRO M {W=4} ("A"<0:W-1>);' 'FOR J = 0 TO 1 DO END;' \
+    'FOR I = 0 TO W-1 DO IF I > 0 THEN' 'c : MIN_PULSE_CHK ("A"<J>);' 'END; END;' 'END;' 'DRAWING ROW;' 'u : M ("X"<0:3>);' 'END;'
+unknown '    known here: N, W, I' "    'J' is none of these" '    it is reached by u at 11:1'
+constants='CONST A = 1;'
+for name in B C D E F G H I J K L M N O P; do
+    constants="$constants CONST $name = 1;"
+done
+expanded '22 UnknownName 5:1' "$constants" 'DRAWING ROW;' 'b1 : BUF [0:Z] ("A") -> ("X");' 'END;'
+unknown '    known here: A, B, C, D, E, F, G, H, I, J, K, L, M, N, O, P' "    'Z' is none of these"
+expanded '22 UnknownName 5:1' "$constants CONST Q = 1; CONST R = 1;" 'DRAWING ROW;' 'b1 : BUF [0:Z] ("A") -> ("X");' 'END;'
+unknown '    known here: A, B, C, D, E, F, G, H, I, J, K, L, M, N, O, P and 2 more' "    'Z' is none of these"
 for delay in 3:2 0:4096 0-1:0; do
     drawing '14 Bounds 4:1' "b1 : BUF [$delay] (\"A\") -> (\"X\");"
 done

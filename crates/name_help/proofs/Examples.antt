@@ -8,9 +8,11 @@ use Rattle.scald_lex.specs.declared.token.TokenKind.TheVariants.{Word, Number, N
 use Rattle.name_fault.specs.Naming.{of_end, step}
 use Rattle.help_text.specs.Assign.{begins_assign, ends_assign}
 use Rattle.help_text.specs.Near.{exchanged}
+use Rattle.name_help.specs.Clash.{opens_block}
 use Rattle.name_help.specs.Edge.{clock_skew, edges_line, edges_lines, gap_line, is_searched, reach, spread}
 use Rattle.name_help.specs.Naming.{name_line, past_line, stop_line}
-use Rattle.name_help.specs.NearName.{leads, meant_lines, near_known}
+use Rattle.name_help.specs.NearName.{meant_lines, near_known}
+use Rattle.name_help.specs.Turn.{is_turned, leads, turned_after}
 use Rattle.name_help.specs.Unknown.{ends_values, first_unknown, is_known, is_value}
 
 -- a token of a text on one line
@@ -33,7 +35,7 @@ unfolding step of_end stop_line
 path = refl
 
 wraps : name_line 8 (codes "CK .P6-9") ≡
-    codes "    an interval ends with 9, past the end of the period, 8\n    one that wraps over the end of the period is written 6-1\n"
+    codes "    an interval ends at unit 9, and the period has 8 units\n    one that wraps over the end of the period is written 6-1\n"
 unfolding step of_end digits past_line
 wraps = refl
 
@@ -112,16 +114,16 @@ constant from rest =
 
 unknown : first_unknown (codes "IF N THEN") (condition 0) (condition 0) (condition 0) ≡
     Some (at Word 3 4)
-unfolding begins_assign ends_values is_known is_value
+unfolding begins_assign ends_values is_known is_value leads opens_block turned_after
 unknown = refl
 
 known : first_unknown (codes "CONST N=1;IF N THEN") (constant 0 (condition 10)) (condition 10) (condition 10) ≡ None
-unfolding begins_assign ends_assign ends_values is_known is_value
+unfolding begins_assign ends_assign ends_values is_known is_value leads opens_block turned_after
 known = refl
 
 known_later : first_unknown (codes "CONST M=N;CONST N=1;") (constant 0 (constant 10 [])) (constant 0 (constant 10 []))
     (at Word 0 5 ∷ at Word 6 7 ∷ symbol 61 7 ∷ at Word 8 9 ∷ symbol 59 9 ∷ []) ≡ Some (at Word 8 9)
-unfolding begins_assign ends_assign ends_values is_known is_value
+unfolding begins_assign ends_assign ends_values is_known is_value leads opens_block turned_after
 known_later = refl
 
 -- FOR I=0 TO N DO: neither TO nor DO is the name of a number
@@ -132,7 +134,7 @@ repeated =
 
 unknown_end : first_unknown (codes "FOR I=0 TO N DO M") repeated repeated repeated ≡
     Some (at Word 11 12)
-unfolding begins_assign ends_assign ends_values is_known is_value
+unfolding begins_assign ends_assign ends_values is_known is_value leads opens_block turned_after
 unknown_end = refl
 
 -- in FOR I=0 TO 1 DO IF I THEN the variable is known
@@ -143,7 +145,7 @@ turned =
 
 known_variable : first_unknown (codes "FOR I=0 TO 1 DO IF I THEN") turned turned (condition 16) ≡
     None
-unfolding begins_assign ends_assign ends_values is_known is_value
+unfolding begins_assign ends_assign ends_values is_known is_value leads opens_block turned_after
 known_variable = refl
 
 -- in MACRO M {K=1} IF K THEN the parameter is, and of u : M {K=N} (a !H) the name N alone is asked for
@@ -153,7 +155,7 @@ with_parameter =
     condition 14
 
 known_parameter : first_unknown (codes "MACRO M {K=1} IF K THEN") with_parameter with_parameter (condition 14) ≡ None
-unfolding begins_assign ends_assign ends_values is_known is_value
+unfolding begins_assign ends_assign ends_values is_known is_value leads opens_block turned_after
 known_parameter = refl
 
 abbrev use_of_n : List Token
@@ -161,42 +163,42 @@ use_of_n =
     at Word 0 1 ∷ symbol 58 2 ∷ at Word 4 5 ∷ symbol 123 6 ∷ at Word 7 8 ∷ symbol 61 8 ∷ at Word 9 10 ∷ symbol 125 10 ∷ []
 
 given_name : first_unknown (codes "u : M {K=N}") use_of_n use_of_n use_of_n ≡ Some (at Word 9 10)
-unfolding begins_assign ends_assign ends_values is_known is_value
+unfolding begins_assign ends_assign ends_values is_known is_value leads opens_block turned_after
 given_name = refl
 
 mark : first_unknown (codes "u : M (\"A\" !H);")
     (at Word 0 1 ∷ symbol 58 2 ∷ at Word 4 5 ∷ symbol 40 6 ∷ at Name 7 10 ∷ symbol 33 11 ∷ at Word 12 13 ∷ symbol 41 13 ∷ symbol 59 14 ∷ [])
     [] (at Word 0 1 ∷ symbol 58 2 ∷ at Word 4 5 ∷ symbol 40 6 ∷ at Name 7 10 ∷ symbol 33 11 ∷ at Word 12 13 ∷ symbol 41 13 ∷ symbol 59 14 ∷ []) ≡ None
-unfolding begins_assign ends_assign ends_values is_known is_value
+unfolding begins_assign ends_assign ends_values is_known is_value leads opens_block turned_after
 mark = refl
 
 -- in IF A=1 THEN the word before the = is one, as in BUF [1,N] the word after the comma
 compared : first_unknown (codes "IF A=1 THEN")
     (at Word 0 2 ∷ at Word 3 4 ∷ symbol 61 4 ∷ at (Number (pos 1)) 5 6 ∷ at Word 7 11 ∷ []) []
     (at Word 0 2 ∷ at Word 3 4 ∷ symbol 61 4 ∷ at (Number (pos 1)) 5 6 ∷ at Word 7 11 ∷ []) ≡ Some (at Word 3 4)
-unfolding begins_assign ends_assign ends_values is_known is_value
+unfolding begins_assign ends_assign ends_values is_known is_value leads opens_block turned_after
 compared = refl
 
 second_delay : first_unknown (codes "u : BUF [1,N]")
     (at Word 0 1 ∷ symbol 58 2 ∷ at Word 4 7 ∷ symbol 91 8 ∷ at (Number (pos 1)) 9 10 ∷ symbol 44 10 ∷ at Word 11 12 ∷ symbol 93 12 ∷ []) []
     (at Word 0 1 ∷ symbol 58 2 ∷ at Word 4 7 ∷ symbol 91 8 ∷ at (Number (pos 1)) 9 10 ∷ symbol 44 10 ∷ at Word 11 12 ∷ symbol 93 12 ∷ []) ≡
     Some (at Word 11 12)
-unfolding begins_assign ends_assign ends_values is_known is_value
+unfolding begins_assign ends_assign ends_values is_known is_value leads opens_block turned_after
 second_delay = refl
 
 -- what comes after THEN, DO or a `;` is of the next statement
 after_then : first_unknown (codes "IF 1 THEN X") [] [] (at Word 0 2 ∷ at (Number (pos 1)) 3 4 ∷ at Word 5 9 ∷ at Word 10 11 ∷ []) ≡ None
-unfolding begins_assign ends_assign ends_values is_known is_value
+unfolding begins_assign ends_assign ends_values is_known is_value leads opens_block turned_after
 after_then = refl
 
 after_do : first_unknown (codes "FOR I=1 DO X") [] []
     (at Word 0 3 ∷ at Word 4 5 ∷ symbol 61 5 ∷ at (Number (pos 1)) 6 7 ∷ at Word 8 10 ∷ at Word 11 12 ∷ []) ≡ None
-unfolding begins_assign ends_assign ends_values is_known is_value
+unfolding begins_assign ends_assign ends_values is_known is_value leads opens_block turned_after
 after_do = refl
 
 after_semicolon : first_unknown (codes "CONST B=1;X") [] []
     (at Word 0 5 ∷ at Word 6 7 ∷ symbol 61 7 ∷ at (Number (pos 1)) 8 9 ∷ symbol 59 9 ∷ at Word 10 11 ∷ []) ≡ None
-unfolding begins_assign ends_assign ends_values is_known is_value
+unfolding begins_assign ends_assign ends_values is_known is_value leads opens_block turned_after
 after_semicolon = refl
 
 -- ---- the name that a word of IF nearly is
@@ -254,7 +256,7 @@ with_turn = at Word 0 3 ∷ at Word 4 8 ∷ symbol 61 8 ∷ at (Number (pos 0)) 
 
 near_variable : near_known (codes "FOR TURN=0 IF TRUN") with_turn with_turn (statement 11 4) (codes "TRUN") ≡
     Some (at Word 4 8)
-unfolding begins_assign ends_assign exchanged leads
+unfolding begins_assign ends_assign exchanged is_turned leads opens_block
 near_variable = refl
 
 -- a constant comes before a parameter, a parameter before a variable, and of two the first
@@ -275,7 +277,7 @@ first_constant = refl
 
 -- neither a value in the braces nor what stands after them is a parameter
 no_parameter : near_known (codes "MACRO M {K=SIZE} (a,SIZE) IF SIZ") unsized unsized (statement 26 3) (codes "SIZ") ≡ None
-unfolding begins_assign ends_assign leads
+unfolding begins_assign ends_assign is_turned leads
 no_parameter = refl
 
 -- a variable of another macro is not known

@@ -6,12 +6,12 @@ use Rattle.scald_lex.specs.declared.token.Token.{Token}
 use Rattle.scald_lex.specs.declared.token.TokenKind.{TokenKind}
 use Rattle.scald_lex.specs.declared.token.TokenKind.TheVariants.{Word, Number, Name, Symbol}
 use Rattle.name_fault.specs.Naming.{of_end, step}
-use Rattle.name_help.specs.Naming.{name_line, name_lines, past_line, short_line, stop_line}
+use Rattle.name_help.specs.Naming.{first_line, name_line, name_lines, past_line, short_line, stop_line}
 
 -- ---- where it ends too soon
 
 empty : name_line 8 [] ≡
-    codes "    after '' the name cannot end: a name begins with a letter, a digit, _, # or $, or with a / before these\n"
+    codes "    it is empty: a name begins with a letter, a digit, _, # or $, or with a / before these\n"
 unfolding step of_end short_line
 empty = refl
 
@@ -46,14 +46,25 @@ unfolding step of_end short_line
 hyphen = refl
 
 skews : map (name_line 8) (codes "CK .C2-3(" ∷ codes "CK .C2-3(2" ∷ codes "CK .C2-3(2," ∷ codes "CK .C2-3(2,3" ∷ []) ≡
-    codes "    after 'CK .C2-3(' the name cannot end: a skew is written like (2,3)\n"
-    ∷ codes "    after 'CK .C2-3(2' the name cannot end: a skew is written like (2,3)\n"
-    ∷ codes "    after 'CK .C2-3(2,' the name cannot end: a skew is written like (2,3)\n"
-    ∷ codes "    after 'CK .C2-3(2,3' the name cannot end: a skew is written like (2,3)\n" ∷ []
+    codes "    after 'CK .C2-3(' the name cannot end: a skew is written like (2,3), two numbers of ticks that are not negative\n"
+    ∷ codes "    after 'CK .C2-3(2' the name cannot end: a skew is written like (2,3), two numbers of ticks that are not negative\n"
+    ∷ codes "    after 'CK .C2-3(2,' the name cannot end: a skew is written like (2,3), two numbers of ticks that are not negative\n"
+    ∷ codes "    after 'CK .C2-3(2,3' the name cannot end: a skew is written like (2,3), two numbers of ticks that are not negative\n" ∷ []
 unfolding step of_end short_line
 skews = refl
 
 -- ---- where it goes on wrongly
+
+no_first : name_line 8 (codes " A") ≡
+    codes "    it cannot begin with ' ': a name begins with a letter, a digit, _, # or $, or with a / before these\n"
+unfolding step of_end first_line
+no_first = refl
+
+inside_minus : name_line 8 (codes "-CK") ≡
+    codes "    it cannot begin with '-': a name begins with a letter, a digit, _, # or $, or with a / before these\n" ++
+    codes "    the - stands before the quote\n"
+unfolding step of_end first_line
+inside_minus = refl
 
 -- a / after a space goes on no path
 two_names : name_line 8 (codes "A /B") ≡
@@ -67,7 +78,8 @@ unfolding step of_end stop_line
 no_number = refl
 
 low_signal : name_line 8 (codes "A .S0-2L") ≡
-    codes "    after 'A .S0-2' there cannot be 'L': after an interval comes a comma and the next one, and after those of .P and .C a skew like (2,3), an L\n"
+    codes "    after 'A .S0-2' there cannot be 'L': after an interval comes a comma and the next one, and after the last of " ++
+    codes ".P or .C a skew like (2,3) or an L, without spaces\n"
 unfolding step of_end stop_line
 low_signal = refl
 
@@ -106,7 +118,7 @@ late_begin = refl
 
 -- no interval of a period or more wraps
 more_than_all : name_line 8 (codes "A .S1-9") ≡
-    codes "    an interval ends with 9, past the end of the period, 8\n"
+    codes "    an interval ends at unit 9, and the period has 8 units\n"
 unfolding step of_end digits past_line
 more_than_all = refl
 

@@ -9,7 +9,7 @@ use Rattle.scald_lex.specs.declared.token.TokenKind.TheVariants.{Word, Number, N
 use Rattle.help_text.specs.Near.{exchanged}
 use Rattle.name_help.specs.Double.{double_lines, is_before, is_declared}
 use Rattle.name_help.specs.KindName.{drawn_as, kind_lines, near_use}
-use Rattle.name_help.specs.NearName.{leads}
+use Rattle.name_help.specs.Turn.{leads}
 
 -- a token of a text on one line
 abbrev at : TokenKind → ℕ → ℕ → Token
@@ -80,21 +80,22 @@ asked : kind_lines (codes "u : BUFF") (used 8) (used 8) ≡
 unfolding exchanged leads
 asked = refl
 
--- a kind or a macro with other letters comes before all that it nearly is: mux4 is nearly MUX2, and or2 nearly OR
+-- a kind or a macro with other letters comes before all that it nearly is: mux4 is nearly MUX2, and and3 nearly AND
 lower_kind : kind_lines (codes "u : mux4") (used 8) (used 8) ≡ codes "    'mux4' is none: is MUX4 meant?\n"
 lower_kind = refl
 
 abbrev with_macro : List Token
-with_macro = word 0 5 ∷ word 6 9 ∷ symbol 59 9 ∷ []
+with_macro = word 0 5 ∷ word 6 10 ∷ symbol 59 10 ∷ []
 
-lower_macro : kind_lines (codes "MACRO OR2;u : or2") with_macro (word 10 11 ∷ symbol 58 12 ∷ word 14 17 ∷ []) ≡
-    codes "    'or2' is none: is OR2 meant?\n"
+lower_macro : kind_lines (codes "MACRO AND2;MACRO AND3;u : and3") (with_macro ++ word 11 16 ∷ word 17 21 ∷ [])
+    (word 22 23 ∷ symbol 58 24 ∷ word 26 30 ∷ []) ≡
+    codes "    'and3' is none: is AND3 meant?\n"
 unfolding leads
 lower_macro = refl
 
 -- and a macro that it nearly is before what has the name elsewhere
-before_usual : kind_lines (codes "MACRO FFA;u : FF") with_macro (word 10 11 ∷ symbol 58 12 ∷ word 14 16 ∷ []) ≡
-    codes "    'FF' is none: is FFA meant?\n"
+before_usual : kind_lines (codes "MACRO DFFA;u : DFF") with_macro (word 11 12 ∷ symbol 58 13 ∷ word 15 18 ∷ []) ≡
+    codes "    'DFF' is none: is DFFA meant?\n"
 unfolding exchanged leads
 before_usual = refl
 

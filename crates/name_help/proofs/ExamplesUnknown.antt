@@ -9,7 +9,8 @@ use Rattle.scald_lex.specs.declared.token.TokenKind.TheVariants.{Word, Number, S
 use Rattle.help_text.specs.Assign.{begins_assign, ends_assign}
 use Rattle.help_text.specs.Near.{exchanged}
 use Rattle.name_help.specs.Edge.{is_overlap}
-use Rattle.name_help.specs.NearName.{leads}
+use Rattle.name_help.specs.Known.{name_text, names_end, one_more}
+use Rattle.name_help.specs.Turn.{is_turned, leads, turned_after}
 use Rattle.name_help.specs.Unknown.{ends_values, is_known, is_value}
 use Rattle.name_help.specs.UnknownName.{around_note, constants_note, unknown_lines}
 
@@ -34,22 +35,22 @@ in_condition : unknown_lines (codes "CONST SIZE=1;DRAWING D;IF SIZ THEN")
     (word 0 5 ∷ word 6 10 ∷ symbol 61 10 ∷ number 11 ∷ symbol 59 12 ∷ word 13 20 ∷ word 21 22 ∷ symbol 59 22 ∷ word 23 25
     ∷ word 26 29 ∷ word 30 34 ∷ []) (on 24) ≡
     codes "    a name here is a constant declared before it, a parameter of the MACRO or a variable of a FOR around it\n"
-    ++ codes "    'SIZ' is none of these\n    is SIZE meant?\n"
-unfolding around_note begins_assign ends_assign ends_values exchanged is_known is_value leads
+    ++ codes "    known here: SIZE\n    'SIZ' is none of these\n    is SIZE meant?\n"
+unfolding around_note begins_assign ends_assign ends_values exchanged is_known is_turned is_value leads name_text names_end one_more turned_after
 in_condition = refl
 
 in_constant : unknown_lines (codes "CONST SIZ=1;CONST B=SIZE;")
     (word 0 5 ∷ word 6 9 ∷ symbol 61 9 ∷ number 10 ∷ symbol 59 11 ∷ word 12 17 ∷ word 18 19 ∷ symbol 61 19 ∷ word 20 24
     ∷ symbol 59 24 ∷ []) (on 13) ≡
-    codes "    a name here is a constant declared before it\n    'SIZE' is none of these\n    is SIZ meant?\n"
-unfolding begins_assign constants_note ends_assign ends_values exchanged is_known is_value leads
+    codes "    a name here is a constant declared before it\n    known here: SIZ\n    'SIZE' is none of these\n    is SIZ meant?\n"
+unfolding begins_assign constants_note ends_assign ends_values exchanged is_known is_turned is_value leads name_text names_end one_more turned_after
 in_constant = refl
 
 -- the rule alone where each name means something
 no_name : unknown_lines (codes "DRAWING D;IF 1 THEN")
     (word 0 7 ∷ word 8 9 ∷ symbol 59 9 ∷ word 10 12 ∷ number 13 ∷ word 15 19 ∷ []) (on 11) ≡
     codes "    a name here is a constant declared before it, a parameter of the MACRO or a variable of a FOR around it\n"
-unfolding around_note begins_assign ends_assign ends_values is_known is_value
+unfolding around_note begins_assign ends_assign ends_values is_known is_value leads turned_after
 no_name = refl
 
 -- edges are told of one refusal alone

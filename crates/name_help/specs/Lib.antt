@@ -2,7 +2,9 @@ pub mod Naming
 pub mod Edge
 pub mod Clash
 pub mod Double
+pub mod Turn
 pub mod Unknown
+pub mod Known
 pub mod NearName
 pub mod KindName
 pub mod MacroHead

@@ -11,7 +11,7 @@ use Rattle.help_text.specs.Statement.{from_after, kind_token, spelled}
 use Rattle.help_text.specs.Text.{line, place_text, quoted}
 use Rattle.help_text.specs.Tokens.{after_group, after_kind, head_of, is_use, lists}
 use Rattle.name_help.specs.NearName.{meant_lines, near_after, near_known}
-use Rattle.name_help.specs.Unknown.{after_head, is_value, names_value, start_of, unknown_from}
+use Rattle.name_help.specs.Unknown.{after_head, is_value, names_value, unknown_from}
 
 -- ---- defaults
 
@@ -55,7 +55,7 @@ strange_default text tokens statement (name ∷ ts) =
 -- the same of the ranges of its formals, by the tokens from its word MACRO on
 abbrev pub strange_range : List ℕ → List Token → List Token → Option Token
 strange_range text tokens head =
-    unknown_from text tokens head (start_of head) None (take 256 (lists (after_head head)))
+    unknown_from text tokens head head None (take 256 (lists (after_head head)))
 
 -- ---- what is said
 

@@ -11,7 +11,7 @@ use Rattle.help_text.specs.Text.{line, quoted}
 use Rattle.help_text.specs.Tokens.{units_of}
 
 abbrev skew_form : List ℕ
-skew_form = codes "a skew is written like (2,3)"
+skew_form = codes "a skew is written like (2,3), two numbers of ticks that are not negative"
 
 -- what may follow
 abbrev pub follow_note : Mode → List ℕ
@@ -26,7 +26,8 @@ follow_note Interval = codes "an interval like 2-3 comes here"
 follow_note Begin = codes "the unit in which an interval begins is followed by a - and its end"
 follow_note Hyphen = codes "the end of an interval is a number"
 follow_note End =
-    codes "after an interval comes a comma and the next one, and after those of .P and .C a skew like (2,3), an L"
+    codes "after an interval comes a comma and the next one, and after the last of .P or .C a skew like (2,3) or an L, " ++
+    codes "without spaces"
 follow_note Open = skew_form
 follow_note Early = skew_form
 follow_note Comma = skew_form
@@ -50,10 +51,18 @@ unfoldable pub stop_line : List ℕ → List ℕ → List ℕ → List ℕ
 stop_line read stop note = line (
     codes "    after " ∷ quoted read ∷ codes " there cannot be " ∷ quoted stop ∷ codes ": " ∷ note ∷ [])
 
+abbrev pub empty_line : List ℕ → List ℕ
+empty_line note = line (codes "    it is empty: " ∷ note ∷ [])
+
+unfoldable pub first_line : List ℕ → List ℕ → List ℕ
+first_line stop note = line (codes "    it cannot begin with " ∷ quoted stop ∷ codes ": " ∷ note ∷ [])
+
 -- by the bytes that were read and those that are left
 abbrev pub cut_line : List ℕ → List ℕ → List ℕ → List ℕ
-cut_line read [] note = short_line read note
-cut_line read (b ∷ bs) note = stop_line read (take 1 (b ∷ bs)) note
+cut_line [] [] note = empty_line note
+cut_line [] (b ∷ bs) note = first_line (take 1 (b ∷ bs)) note
+cut_line (r ∷ rs) [] note = short_line (r ∷ rs) note
+cut_line (r ∷ rs) (b ∷ bs) note = stop_line (r ∷ rs) (take 1 (b ∷ bs)) note
 
 abbrev pub begins_line : ℕ → ℕ → List ℕ
 begins_line units first = line (
@@ -69,13 +78,13 @@ wrapped_line first last =
 
 unfoldable pub past_line : ℕ → ℕ → List ℕ
 past_line units last = line (
-    codes "    an interval ends with " ∷ decimal last ∷ codes ", past the end of the period, " ∷ decimal units ∷ [])
+    codes "    an interval ends at unit " ∷ decimal last ∷ codes ", and the period has " ∷ decimal units ∷ codes " units" ∷ [])
 
 abbrev pub ends_lines : ℕ → ℕ → ℕ → List ℕ
 ends_lines units first last = past_line units last ++ wrapped_line first (last - units)
 
-abbrev pub empty_line : ℕ → List ℕ
-empty_line first = line (codes "    an interval ends where it begins, with " ∷ decimal first ∷ [])
+abbrev pub same_line : ℕ → List ℕ
+same_line first = line (codes "    an interval ends where it begins, with " ∷ decimal first ∷ [])
 
 abbrev pub skew_line : ℕ → List ℕ
 skew_line number = line (codes "    a skew is at most 4095 ticks, and this is " ∷ decimal number ∷ [])
@@ -88,17 +97,22 @@ abbrev pub inner_lines : List ℕ → List ℕ
 inner_lines [] = []
 inner_lines (b ∷ bs) = if b == 47 then inner_note else []
 
--- what is said where a name goes on after a base with a /, as a path does
-abbrev pub path_lines : Misread → List ℕ → List ℕ
-path_lines (Follow Base) left = inner_lines left
-path_lines misread left = []
+abbrev pub minus_lines : List ℕ → List ℕ
+minus_lines [] = []
+minus_lines (b ∷ bs) = if b == 45 then codes "    the - stands before the quote\n" else []
+
+-- what is said where a name goes on after a base with a /, as a path does, or begins with a -
+abbrev pub beside_lines : Misread → List ℕ → List ℕ
+beside_lines (Follow Base) left = inner_lines left
+beside_lines (Follow Start) left = minus_lines left
+beside_lines misread left = []
 
 abbrev pub misread_line : ℕ → Misread → List ℕ → List ℕ → List ℕ
 misread_line units (BeginsPast first) read left = begins_line units first
 misread_line units (EndsPast first last) read left = ends_lines units first last
-misread_line units (Empty first) read left = empty_line first
+misread_line units (Empty first) read left = same_line first
 misread_line units (Skew number) read left = skew_line number
-misread_line units misread read left = cut_line read left (told_note misread) ++ path_lines misread left
+misread_line units misread read left = cut_line read left (told_note misread) ++ beside_lines misread left
 
 abbrev pub formal_line : List ℕ
 formal_line = codes "    a formal of a macro has neither an assertion nor a / before it\n"

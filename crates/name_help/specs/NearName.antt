@@ -1,18 +1,14 @@
 -- The name of a number, or of a macro, that a word nearly is.
-use Rattle.std.specs.Prelude.{ℕ, ◌-◌, Bool, false, ◌&&◌, List, [], ◌∷◌, length, map, take, codes, Option, Some, None, if◌then◌else◌}
-use Rattle.std.specs.Str.{bytes_eq}
+use Rattle.std.specs.Prelude.{ℕ, Bool, false, ◌&&◌, List, [], ◌∷◌, map, codes, Option, Some, None, if◌then◌else◌}
 use Rattle.scald_lex.specs.declared.token.Token.{Token}
 use Rattle.help_text.specs.Assign.{begins_assign, braces, ends_assign}
 use Rattle.help_text.specs.Near.{is_near, near}
 use Rattle.help_text.specs.Statement.{spelled}
 use Rattle.help_text.specs.Text.{line, printable}
-use Rattle.name_help.specs.Unknown.{after_head}
+use Rattle.name_help.specs.Turn.{leads, near_variable}
+use Rattle.name_help.specs.Unknown.{after_head, before_last}
 
 -- ---- one name
-
--- A name comes after the text `leader`.
-unfoldable pub leads : List ℕ → List ℕ → Token → Bool
-leads text leader t = bytes_eq (spelled text t) leader
 
 -- the first name that a word nearly is, where the fourth argument says whether the first token is one
 abbrev pub near_led : List ℕ → List ℕ → List ℕ → Bool → List Token → Option Token
@@ -48,10 +44,6 @@ abbrev pub or_else : Option Token → Option Token → Option Token
 or_else (Some t) other = Some t
 or_else None other = other
 
--- what stands before the last of these, so many
-abbrev pub before_last : List Token → List Token → List Token
-before_last tokens last = take (length tokens - length last) tokens
-
 -- a constant that is declared before the statement, or else a parameter of the macro with this head
 abbrev pub near_constant : List ℕ → List Token → List Token → List ℕ → Option Token
 near_constant text tokens statement word =
@@ -60,12 +52,12 @@ near_constant text tokens statement word =
 abbrev pub near_parameter : List ℕ → List Token → List ℕ → Option Token
 near_parameter text head word = near_given text word false (braces (after_head head))
 
--- or else a variable of a FOR before the statement, which may be around it
+-- or else a variable of a FOR around the statement
 abbrev pub near_known : List ℕ → List Token → List Token → List Token → List ℕ → Option Token
 near_known text tokens head statement word =
     or_else (near_constant text tokens statement word)
     (or_else (near_parameter text head word)
-    (near_after text (codes "FOR") word (before_last head statement)))
+    (near_variable text word (before_last head statement)))
 
 -- ---- what is asked
 

@@ -1,5 +1,5 @@
 -- Which word of a statement is the name of no number there.
-use Rattle.std.specs.Prelude.{ℕ, Bool, true, false, not, ◌&&◌, ◌||◌, nat_lt, List, [], ◌∷◌, take, codes, Option, Some, None, if◌then◌else◌}
+use Rattle.std.specs.Prelude.{ℕ, ◌-◌, Bool, true, false, not, ◌&&◌, ◌||◌, nat_lt, List, [], ◌∷◌, length, take, codes, Option, Some, None, if◌then◌else◌}
 use Rattle.std.specs.Str.{bytes_eq}
 use Rattle.scald_lex.specs.declared.token.Token.{Token}
 use Rattle.help_text.specs.declared.keyword.Keyword.{Keyword}
@@ -7,6 +7,7 @@ use Rattle.help_text.specs.Assign.{begins_assign, braces, is_assigned}
 use Rattle.help_text.specs.Keyword.{reserved_word}
 use Rattle.help_text.specs.Statement.{from_after, spelled}
 use Rattle.help_text.specs.Tokens.{is_use, after_kind, is_symbol, is_word}
+use Rattle.name_help.specs.Turn.{gives_value, is_variable}
 
 -- ---- the words that stand for numbers
 
@@ -27,10 +28,6 @@ ends_values word =
 abbrev pub is_absent : Option Keyword → Bool
 is_absent None = true
 is_absent (Some keyword) = false
-
-abbrev pub gives_value : List Token → Bool
-gives_value [] = false
-gives_value (t ∷ ts) = is_symbol 61 t.kind
 
 -- after this token, and before these, it is a mark or the name of a parameter that is given
 abbrev pub names_value : Option Token → List Token → Bool
@@ -58,24 +55,28 @@ after_head [] = []
 after_head (t ∷ []) = []
 after_head (t ∷ u ∷ ts) = ts
 
--- A constant that is declared before the statement, a variable of a FOR before it, which may be
--- around it, or a parameter of the macro with this head.
-unfoldable pub is_known : List ℕ → List Token → List Token → ℕ → List ℕ → Bool
-is_known text tokens head start word =
-    begins_before start (from_after text (codes "CONST") word tokens)
-    || (begins_before start (from_after text (codes "FOR") word head)
-    || is_assigned text word false (braces (after_head head)))
+-- what stands before the last of these, so many
+abbrev pub before_last : List Token → List Token → List Token
+before_last tokens last = take (length tokens - length last) tokens
+
+-- A constant that is declared before the statement, a parameter of the macro with this head, or a
+-- variable of a FOR around the statement.
+unfoldable pub is_known : List ℕ → List Token → List Token → List Token → List ℕ → Bool
+is_known text tokens head statement word =
+    begins_before (start_of statement) (from_after text (codes "CONST") word tokens)
+    || (is_assigned text word false (braces (after_head head))
+    || is_variable text word (before_last head statement))
 
 -- the first word of values that is not known, where this token stands before them all
-abbrev pub unknown_from : List ℕ → List Token → List Token → ℕ → Option Token → List Token → Option Token
-unknown_from text tokens head start last [] = None
-unknown_from text tokens head start last (t ∷ ts) =
+abbrev pub unknown_from : List ℕ → List Token → List Token → List Token → Option Token → List Token → Option Token
+unknown_from text tokens head statement last [] = None
+unknown_from text tokens head statement last (t ∷ ts) =
     if ends_values (spelled text t) then None
-    else if is_value text last t ts && not (is_known text tokens head start (spelled text t)) then Some t
-    else unknown_from text tokens head start (Some t) ts
+    else if is_value text last t ts && not (is_known text tokens head statement (spelled text t)) then Some t
+    else unknown_from text tokens head statement (Some t) ts
 
 -- Of a long statement the first 256 tokens are looked at, so that the time stays in proportion to
 -- the text.
 abbrev pub first_unknown : List ℕ → List Token → List Token → List Token → Option Token
 first_unknown text tokens head statement =
-    unknown_from text tokens head (start_of statement) None (take 256 (values_of text statement))
+    unknown_from text tokens head statement None (take 256 (values_of text statement))

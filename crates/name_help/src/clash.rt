@@ -92,7 +92,7 @@ fn opens_block(text: &[u8], token: Token, others: &[Token]) -> bool
 }
 
 /// Whether a token is an END.
-fn is_end(text: &[u8], token: Token) -> bool
+pub fn is_end(text: &[u8], token: Token) -> bool
     ensures { result ≡ is_end text.now token }
 {
     same_bytes(spelled(text, token), b"END")
@@ -106,7 +106,7 @@ fn leaves(text: &[u8], inside: u64, token: Token) -> bool
 }
 
 /// How many blocks are open after a token.
-fn open_after(text: &[u8], inside: u64, token: Token, others: &[Token]) -> u64
+pub fn open_after(text: &[u8], inside: u64, token: Token, others: &[Token]) -> u64
     ensures { result ≡ open_after text.now inside token others.now }
 {
     if opens_block(text, token, others) {

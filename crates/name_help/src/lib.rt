@@ -4,8 +4,8 @@
 //! which edges of its clock may come in one slot (`specs/Edge`), and where it has another assertion
 //! (`specs/Clash`). Of a word: where it is taken (`specs/Double`), which kind or macro it may mean
 //! (`specs/KindName`), and which one of an expression stands for no number (`specs/UnknownName`),
-//! with the name that it nearly is (`specs/NearName`). `refusal_help` calls each for its kind of
-//! refusal.
+//! with the names that are known there (`specs/Known`) and the one that it nearly is
+//! (`specs/NearName`). `refusal_help` calls each for its kind of refusal.
 #![tactic(auto)]
 
 // signals
@@ -16,8 +16,10 @@ mod naming;
 // words
 mod double;
 mod kind;
+mod known;
 mod macro_head;
 mod near_name;
+mod turn;
 mod unknown;
 mod unknown_name;
 

@@ -4,7 +4,7 @@ ghost use Rattle.std.specs.Prelude.{◌≡◌, ◌++◌, None, OnOk};
 ghost use Rattle.name_help.specs.MacroHead.{default_from, default_line, default_lines, formal_line, given_in, is_constant, is_strange, lines_of, macro_lines, range_lines, strange_default, strange_range, strange_lines};
 
 use crate::near_name::{add_meant, near_after, near_known};
-use crate::unknown::{after_head, is_value, names_value, start_of, unknown_among};
+use crate::unknown::{after_head, is_value, names_value, unknown_among};
 use help_text::{
     Part, add_line, add_shown, after_group, after_kind, braces, ends_assign, first_tokens,
     from_after, from_head, head_of, is_assigned, is_use, kind_token, lists, spelled,
@@ -105,7 +105,7 @@ fn strange_range(text: &[u8], tokens: &[Token], head: &[Token]) -> Option<Token>
     ensures { result ≡ strange_range text.now tokens.now head.now }
 {
     let formals = first_tokens(lists(after_head(head)));
-    unknown_among(text, tokens, head, start_of(head), formals)
+    unknown_among(text, tokens, head, head, formals)
 }
 
 /// A word that means nothing in the default of a parameter.

@@ -1,7 +1,7 @@
 //! Why a text is no signal's name, in words.
 
 ghost use Rattle.std.specs.Prelude.{◌≡◌, ◌++◌, OnOk};
-ghost use Rattle.name_help.specs.Naming.{begins_line, cut_line, empty_line, ends_lines, follow_note, formal_line, misread_line, name_line, name_lines, past_line, path_lines, short_line, skew_line, stop_line, told_note, wrapped_line};
+ghost use Rattle.name_help.specs.Naming.{begins_line, beside_lines, cut_line, empty_line, ends_lines, first_line, follow_note, formal_line, misread_line, name_line, name_lines, past_line, same_line, short_line, skew_line, stop_line, told_note, wrapped_line};
 
 use help_text::{Part, add_line, after, front, spelled, units_of, unquoted};
 use name_fault::{Misread, Mode, name_end};
@@ -26,9 +26,11 @@ fn follow_note(mode: Mode) -> &'static [u8]
         Mode::Begin => b"the unit in which an interval begins is followed by a - and its end",
         Mode::Hyphen => b"the end of an interval is a number",
         Mode::End => {
-            b"after an interval comes a comma and the next one, and after those of .P and .C a skew like (2,3), an L"
+            b"after an interval comes a comma and the next one, and after the last of .P or .C a skew like (2,3) or an L, without spaces"
         }
-        Mode::Open | Mode::Early | Mode::Comma | Mode::Late => b"a skew is written like (2,3)",
+        Mode::Open | Mode::Early | Mode::Comma | Mode::Late => {
+            b"a skew is written like (2,3), two numbers of ticks that are not negative"
+        }
         Mode::Closed => b"after a skew comes an L, or nothing",
         Mode::Low => b"nothing comes after the L",
     }
@@ -85,6 +87,29 @@ fn add_stop<'a>(
     )
 }
 
+/// A name without a byte, and how names begin.
+fn add_empty(out: &mut Bytes, note: &[u8]) -> Result<(), NoMemory>
+    ensures { OnOk result (out.new ≡ out.old ++ empty_line note.now) }
+{
+    add_line(out, &[Part::Text(b"    it is empty: "), Part::Text(note)])
+}
+
+/// A byte that no name begins with, and how names begin.
+#[tactic(auto, unfolding(crate::specs::Naming::first_line))]
+fn add_first<'a>(out: &mut Bytes, stop: &'a [u8], note: &'a [u8]) -> Result<(), NoMemory>
+    ensures { OnOk result (out.new ≡ out.old ++ first_line stop.now note.now) }
+{
+    add_line(
+        out,
+        &[
+            Part::Text(b"    it cannot begin with "),
+            Part::Quoted(stop),
+            Part::Text(b": "),
+            Part::Text(note),
+        ],
+    )
+}
+
 /// What stands before the byte that cannot follow, and what may.
 fn add_cut<'a>(
     out: &mut Bytes,
@@ -94,9 +119,15 @@ fn add_cut<'a>(
 ) -> Result<(), NoMemory>
     ensures { OnOk result (out.new ≡ out.old ++ cut_line read.now left.now note.now) }
 {
-    match left {
-        [] => add_short(out, read, note),
-        [_, ..] => add_stop(out, read, front(left, 1), note),
+    match read {
+        [] => match left {
+            [] => add_empty(out, note),
+            [_, ..] => add_first(out, front(left, 1), note),
+        },
+        [_, ..] => match left {
+            [] => add_short(out, read, note),
+            [_, ..] => add_stop(out, read, front(left, 1), note),
+        },
     }
 }
 
@@ -143,10 +174,11 @@ fn add_past(out: &mut Bytes, units: u64, last: u64) -> Result<(), NoMemory>
     add_line(
         out,
         &[
-            Part::Text(b"    an interval ends with "),
+            Part::Text(b"    an interval ends at unit "),
             Part::Number(last),
-            Part::Text(b", past the end of the period, "),
+            Part::Text(b", and the period has "),
             Part::Number(units),
+            Part::Text(b" units"),
         ],
     )
 }
@@ -160,8 +192,8 @@ fn add_ends(out: &mut Bytes, units: u64, first: u64, last: u64) -> Result<(), No
 }
 
 /// An interval that ends where it begins.
-fn add_empty(out: &mut Bytes, first: u64) -> Result<(), NoMemory>
-    ensures { OnOk result (out.new ≡ out.old ++ empty_line first) }
+fn add_same(out: &mut Bytes, first: u64) -> Result<(), NoMemory>
+    ensures { OnOk result (out.new ≡ out.old ++ same_line first) }
 {
     add_line(
         out,
@@ -185,15 +217,19 @@ fn add_skew(out: &mut Bytes, number: u64) -> Result<(), NoMemory>
     )
 }
 
-/// What is said where a name goes on after a base with a /, as a path does.
-fn path_note(misread: Misread, left: &[u8]) -> &'static [u8]
-    ensures { result.now ≡ path_lines misread left.now }
+/// What is said where a name goes on after a base with a /, as a path does, or begins with a -.
+fn beside_note(misread: Misread, left: &[u8]) -> &'static [u8]
+    ensures { result.now ≡ beside_lines misread left.now }
 {
     match misread {
         Misread::Follow(Mode::Base) => match left {
             [b'/', ..] => {
                 b"    a / stands only before a whole name: a net in a macro has no name outside it, not in a CASE either\n"
             }
+            _ => b"",
+        },
+        Misread::Follow(Mode::Start) => match left {
+            [b'-', ..] => b"    the - stands before the quote\n",
             _ => b"",
         },
         _ => b"",
@@ -213,11 +249,11 @@ fn add_misread(
     match misread {
         Misread::BeginsPast(first) => add_begins(out, units, first),
         Misread::EndsPast(first, last) => add_ends(out, units, first, last),
-        Misread::Empty(first) => add_empty(out, first),
+        Misread::Empty(first) => add_same(out, first),
         Misread::Skew(number) => add_skew(out, number),
         _ => {
             add_cut(out, read, left, told_note(misread))?;
-            out.extend(path_note(misread, left))
+            out.extend(beside_note(misread, left))
         }
     }
 }

@@ -1,22 +1,15 @@
 //! The name of a number, or of a macro, that a word nearly is.
 
 ghost use Rattle.std.specs.Prelude.{◌≡◌, ◌++◌, false, OnOk};
-ghost use Rattle.name_help.specs.NearName.{before_last, leads, meant_lines, near_after, near_constant, near_given, near_known, near_parameter, same_after};
+ghost use Rattle.name_help.specs.NearName.{meant_lines, near_after, near_constant, near_given, near_known, near_parameter, same_after};
 
-use crate::unknown::after_head;
+use crate::turn::{leads, near_variable};
+use crate::unknown::{after_head, before_last};
 use help_text::{Part, add_line, begins_assign, braces, ends_assign, is_near, near, spelled};
-use scald_base::{Bytes, NoMemory, same_bytes};
+use scald_base::{Bytes, NoMemory};
 use scald_lex::Token;
 
-/// Whether a name comes after a token: the token is of the text `leader`.
-#[tactic(auto, unfolding(crate::specs::NearName::leads))]
-fn leads(text: &[u8], leader: &[u8], token: Token) -> bool
-    ensures { result ≡ leads text.now leader.now token }
-{
-    same_bytes(spelled(text, token), leader)
-}
-
-/// The first name after such a token that a word nearly is.
+/// The first name after a token of the text `leader` that a word nearly is.
 pub fn near_after(text: &[u8], tokens: &[Token], leader: &[u8], word: &[u8]) -> Option<Token>
     ensures { result ≡ near_after text.now leader.now word.now tokens.now }
 {
@@ -67,13 +60,6 @@ fn near_given(text: &[u8], braces: &[Token], word: &[u8]) -> Option<Token>
     None
 }
 
-/// What stands before the last of these tokens.
-fn before_last<'a>(tokens: &'a [Token], last: &[Token]) -> &'a [Token]
-    ensures { result.now ≡ before_last tokens.now last.now }
-{
-    &tokens[..tokens.len().saturating_sub(last.len())]
-}
-
 /// The first constant declared before a statement that a word nearly is. The statement goes on to
 /// the end of the text.
 pub fn near_constant(
@@ -95,7 +81,7 @@ pub fn near_parameter(text: &[u8], head: &[Token], word: &[u8]) -> Option<Token>
 }
 
 /// The first constant that a word in a statement nearly is, or else the first parameter, or else
-/// the first variable of a FOR before the statement.
+/// the first variable of a FOR around the statement.
 pub fn near_known(
     text: &[u8],
     tokens: &[Token],
@@ -111,7 +97,7 @@ pub fn near_known(
     if let Some(parameter) = near_parameter(text, head, word) {
         return Some(parameter);
     }
-    near_after(text, before_last(head, statement), b"FOR", word)
+    near_variable(text, before_last(head, statement), word)
 }
 
 /// Whether a name is meant.

@@ -1,8 +1,9 @@
 //! Which word of a statement is the name of no number there.
 
 ghost use Rattle.std.specs.Prelude.{◌≡◌, None};
-ghost use Rattle.name_help.specs.Unknown.{after_head, begins_before, declares_value, ends_values, first_unknown, gives_value, is_known, is_value, names_value, start_of, unknown_from, values_of};
+ghost use Rattle.name_help.specs.Unknown.{after_head, before_last, begins_before, declares_value, ends_values, first_unknown, is_known, is_value, names_value, start_of, unknown_from, values_of};
 
+use crate::turn::{gives_value, is_variable};
 use help_text::{
     after_kind, begins_assign, braces, first_tokens, from_after, is_assigned, is_symbol, is_use,
     is_word, reserved_word, spelled,
@@ -43,16 +44,6 @@ fn ends_values(word: &[u8]) -> bool
     same_bytes(word, b";") || same_bytes(word, b"THEN") || same_bytes(word, b"DO")
 }
 
-/// Whether tokens begin with a `=`.
-fn gives_value(tokens: &[Token]) -> bool
-    ensures { result ≡ gives_value tokens.now }
-{
-    match tokens {
-        [first, ..] => is_symbol(*first, b'='),
-        [] => false,
-    }
-}
-
 /// Whether a word between these tokens is a mark, or the name of a parameter that is given.
 pub fn names_value(last: Option<Token>, rest: &[Token]) -> bool
     ensures { result ≡ names_value last rest.now }
@@ -76,7 +67,7 @@ pub fn is_value(text: &[u8], last: Option<Token>, token: Token, rest: &[Token]) 
 }
 
 /// Where the first of these tokens begins.
-pub fn start_of(tokens: &[Token]) -> u32
+fn start_of(tokens: &[Token]) -> u32
     ensures { result ≡ start_of tokens.now }
 {
     match tokens {
@@ -105,15 +96,23 @@ pub fn after_head(head: &[Token]) -> &[Token]
     }
 }
 
-/// Whether a word may be known in a statement that begins with this byte, in the macro or drawing
-/// with this head.
-#[tactic(auto, unfolding(crate::specs::Unknown::is_known))]
-fn is_known(text: &[u8], tokens: &[Token], head: &[Token], start: u32, word: &[u8]) -> bool
-    ensures { result ≡ is_known text.now tokens.now head.now start word.now }
+/// What stands before the last of these tokens.
+pub fn before_last<'a>(tokens: &'a [Token], last: &[Token]) -> &'a [Token]
+    ensures { result.now ≡ before_last tokens.now last.now }
 {
-    begins_before(from_after(text, tokens, b"CONST", word), start)
-        || begins_before(from_after(text, head, b"FOR", word), start)
-        || is_assigned(text, braces(after_head(head)), word)
+    &tokens[..tokens.len().saturating_sub(last.len())]
+}
+
+/// Whether a word is known in a statement, in the macro or drawing with this head.
+#[tactic(auto, unfolding(crate::specs::Unknown::is_known))]
+fn is_known(text: &[u8], tokens: &[Token], head: &[Token], statement: &[Token], word: &[u8]) -> bool
+    ensures { result ≡ is_known text.now tokens.now head.now statement.now word.now }
+{
+    begins_before(
+        from_after(text, tokens, b"CONST", word),
+        start_of(statement),
+    ) || is_assigned(text, braces(after_head(head)), word)
+        || is_variable(text, before_last(head, statement), word)
 }
 
 /// The first word of these values that is not known.
@@ -121,10 +120,10 @@ pub fn unknown_among(
     text: &[u8],
     tokens: &[Token],
     head: &[Token],
-    start: u32,
+    statement: &[Token],
     values: &[Token],
 ) -> Option<Token>
-    ensures { result ≡ unknown_from text.now tokens.now head.now start None values.now }
+    ensures { result ≡ unknown_from text.now tokens.now head.now statement.now None values.now }
 {
     let mut last = None;
     let mut rest = values;
@@ -133,7 +132,7 @@ pub fn unknown_among(
         if ends_values(word) {
             return None;
         }
-        if is_value(text, last, *token, others) && !is_known(text, tokens, head, start, word) {
+        if is_value(text, last, *token, others) && !is_known(text, tokens, head, statement, word) {
             return Some(*token);
         }
         last = Some(*token);
@@ -152,5 +151,5 @@ pub fn first_unknown(
     ensures { result ≡ first_unknown text.now tokens.now head.now statement.now }
 {
     let values = first_tokens(values_of(text, statement));
-    unknown_among(text, tokens, head, start_of(statement), values)
+    unknown_among(text, tokens, head, statement, values)
 }

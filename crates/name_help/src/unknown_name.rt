@@ -1,12 +1,13 @@
 //! What is told of a name in an expression that means nothing there.
 
 ghost use Rattle.std.specs.Prelude.{◌≡◌, ◌++◌, OnOk};
-ghost use Rattle.name_help.specs.UnknownName.{around_note, constants_note, known_note, unknown_line, unknown_lines, word_lines};
+ghost use Rattle.name_help.specs.UnknownName.{around_note, constants_note, known_note, later, later_line, later_or_near, unknown_line, unknown_lines, word_lines};
 
+use crate::known::add_known;
 use crate::macro_head::add_macro_head;
 use crate::near_name::{add_meant, near_known};
 use crate::unknown::first_unknown;
-use help_text::{Part, add_line, from_head, from_place, is_use, spelled};
+use help_text::{Part, add_line, first_of, from_after, from_head, from_place, is_use, spelled};
 use scald_base::{Bytes, NoMemory, Place, same_bytes};
 use scald_lex::Token;
 
@@ -39,41 +40,82 @@ fn known_note(text: &[u8], statement: &[Token]) -> &'static [u8]
 }
 
 /// That a word is not known.
-fn add_unknown_word(out: &mut Bytes, text: &[u8], token: Token) -> Result<(), NoMemory>
-    ensures { OnOk result (out.new ≡ out.old ++ unknown_line text.now token) }
+fn add_unknown_word(out: &mut Bytes, word: &[u8]) -> Result<(), NoMemory>
+    ensures { OnOk result (out.new ≡ out.old ++ unknown_line word.now) }
 {
     add_line(
         out,
         &[
             Part::Text(b"    "),
-            Part::Quoted(spelled(text, token)),
+            Part::Quoted(word),
             Part::Text(b" is none of these"),
         ],
     )
 }
 
-/// That a word in a statement is not known, and which known name may be meant.
+/// The first constant of this name after the one that a statement declares.
+fn later(text: &[u8], statement: &[Token], word: &[u8]) -> Option<Token>
+    ensures { result ≡ later text.now statement.now word.now }
+{
+    match statement {
+        [_, rest @ ..] => first_of(from_after(text, rest, b"CONST", word)),
+        [] => None,
+    }
+}
+
+/// Where a constant is declared later.
+#[tactic(auto, unfolding(crate::specs::UnknownName::later_line))]
+fn add_later(out: &mut Bytes, word: &[u8], place: Place) -> Result<(), NoMemory>
+    ensures { OnOk result (out.new ≡ out.old ++ later_line word.now place) }
+{
+    add_line(
+        out,
+        &[
+            Part::Text(b"    "),
+            Part::Shown(word),
+            Part::Text(b" is declared later, at "),
+            Part::Place(place),
+        ],
+    )
+}
+
+/// Where a word in a statement is declared later, or else which known name may be meant.
+fn add_meaning(
+    out: &mut Bytes,
+    text: &[u8],
+    tokens: &[Token],
+    head: &[Token],
+    statement: &[Token],
+    word: &[u8],
+) -> Result<(), NoMemory>
+    ensures { let constant = later text.now statement.now word.now in
+        OnOk result (out.new ≡ out.old ++ later_or_near text.now tokens.now head.now statement.now word.now constant) }
+{
+    match later(text, statement, word) {
+        Some(constant) => add_later(out, word, constant.place),
+        None => add_meant(out, text, near_known(text, tokens, head, statement, word)),
+    }
+}
+
+/// The names that are known in a statement, that a word is none of them, and what it may mean.
 fn add_word(
     out: &mut Bytes,
     text: &[u8],
     tokens: &[Token],
     head: &[Token],
     statement: &[Token],
-    token: Token,
+    word: &[u8],
 ) -> Result<(), NoMemory>
-    ensures { OnOk result (out.new ≡ out.old ++ word_lines text.now tokens.now head.now statement.now token) }
+    ensures { OnOk result (out.new ≡ out.old ++ word_lines text.now tokens.now head.now statement.now word.now) }
 {
-    add_unknown_word(out, text, token)?;
-    add_meant(
-        out,
-        text,
-        near_known(text, tokens, head, statement, spelled(text, token)),
-    )
+    add_known(out, text, tokens, head, statement)?;
+    add_unknown_word(out, word)?;
+    add_meaning(out, text, tokens, head, statement, word)
 }
 
-/// Puts which words are known at the place at the end of the bytes, and which one of the statement
-/// there is not, with the known name that it nearly is; or else which one in the head of its macro is
-/// not, and the rule there. The one error is that memory ran out.
+/// Puts which names are known at the place at the end of the bytes, and which word of the statement
+/// there is none of them, with what it may mean; or else which one in the head of its macro is not,
+/// and the rule there. The one error is that memory ran out.
 pub fn add_unknown(
     out: &mut Bytes,
     text: &[u8],
@@ -88,7 +130,7 @@ pub fn add_unknown(
     match first_unknown(text, tokens, head, statement) {
         Some(token) => {
             out.extend(note)?;
-            add_word(out, text, tokens, head, statement, token)
+            add_word(out, text, tokens, head, statement, spelled(text, token))
         }
         None => add_macro_head(out, text, note, tokens, statement),
     }

@@ -4,8 +4,8 @@ use Rattle.name_help.proofs.unknown.unknown_among.Given as goal
 
 abbrev pub invariant-tokens : goal.invariant-tokens
 invariant-tokens l =
-    unknown_from l.text l.tokens l.head l.start l.last l.rest
-    ≡ unknown_from l.text l.tokens l.head l.start None l.values
+    unknown_from l.text l.tokens l.head l.statement l.last l.rest
+    ≡ unknown_from l.text l.tokens l.head l.statement None l.values
 
 abbrev pub decreases-tokens : goal.decreases-tokens
 decreases-tokens l = length l.rest

@@ -1,0 +1,12 @@
+use Rattle.std.proofs.Common.{◌≡◌, ◌++◌, false, length}
+use Rattle.name_help.specs.Known.{constants_from, count_after, names_text}
+use Rattle.name_help.proofs.known.add_constants.Given as goal
+
+abbrev pub invariant-tokens : goal.invariant-tokens
+invariant-tokens l =
+    (l.out ++ names_text l.text l.count (constants_from l.text l.is_led l.rest)
+    ≡ l.fn.out ++ names_text l.text l.before (constants_from l.text false l.tokens))
+    × (count_after l.count (constants_from l.text l.is_led l.rest) ≡ count_after l.before (constants_from l.text false l.tokens))
+
+abbrev pub decreases-tokens : goal.decreases-tokens
+decreases-tokens l = length l.rest
