@@ -1,5 +1,5 @@
 -- What is said of a text once it is known to be so.
-use Rattle.std.proofs.Common.{◌≡◌, ℕ, ◌<◌, List, [], length, ap, sym, subst, ◌∙◌}
+use Rattle.std.proofs.Common.{◌≡◌, ℕ, ◌<◌, ◌≤◌, List, [], length, ap, sym, subst, ◌∙◌}
 use Rattle.scald_base.specs.declared.refusal.Refusal.{Refusal}
 use Rattle.drawing_tree.specs.Tree.{Drawing}
 use Rattle.drawing_grammar.specs.CanonicalDraws.{TextDraws}
@@ -16,7 +16,7 @@ module _ (text : List ℕ) where
   undrawn_told r bytes refused none = subst (IsTold text) (sym none) (undrawn r refused)
 
   -- of the names that were found the code has a list and a slice of it
-  pub drawn_told : (d : Drawing) (list some : List borrowed.Slip) (bytes : List ℕ) → TextDraws text d →
-      seen list ≡ slips_of d → some ≡ list → bytes ≡ lines_of text (seen some) → IsTold text bytes
-  drawn_told d list some bytes draws are same lines =
-      subst (IsTold text) (sym (lines ∙ ap (lines_of text) (ap seen same ∙ are))) (drawn d draws)
+  pub drawn_told : (d : Drawing) (list some : List borrowed.Slip) (bytes : List ℕ) → length text ≤ 262144 →
+      TextDraws text d → seen list ≡ slips_of d → some ≡ list → bytes ≡ lines_of text (seen some) → IsTold text bytes
+  drawn_told d list some bytes short draws are same lines =
+      subst (IsTold text) (sym (lines ∙ ap (lines_of text) (ap seen same ∙ are))) (drawn short d draws)

@@ -1,5 +1,5 @@
 -- What is said of names that are nearly a formal.
-use Rattle.std.specs.Prelude.{ℕ, ◌-◌, ◌<◌, nat_le, List, [], ◌∷◌, ◌++◌, length, take, codes, decimal, if◌then◌else◌}
+use Rattle.std.specs.Prelude.{ℕ, ◌-◌, ◌<◌, ◌≤◌, nat_le, List, [], ◌∷◌, ◌++◌, length, take, codes, decimal, if◌then◌else◌}
 use Rattle.std.specs.List.{flat_map}
 use Rattle.scald_base.specs.declared.refusal.Refusal.{Refusal}
 use Rattle.help_text.specs.Shown.{shown}
@@ -26,7 +26,8 @@ more_line count =
 abbrev pub lines_of : List ℕ → List Slip → List ℕ
 lines_of text slips = flat_map (slip_lines text) (take 8 slips) ++ more_line (length slips)
 
+-- nothing of a text that is refused, nor of a long one
 pub data IsTold (text : List ℕ) : List ℕ → Type 0 where
   too_long : 262144 < length text → IsTold text []
   undrawn : (r : Refusal) → IsRefusal text r → IsTold text []
-  drawn : (d : Drawing) → TextDraws text d → IsTold text (lines_of text (slips_of d))
+  drawn : length text ≤ 262144 → (d : Drawing) → TextDraws text d → IsTold text (lines_of text (slips_of d))

@@ -20,5 +20,5 @@ returns c =
     let text = c.args.text.now in let some = c.as_slice.result.now in
     IfOk-weaker c.told.result (λ bytes. bytes ≡ lines_of text (seen some)) (IsTold text)
     (λ bytes lines. drawn_told text (drawing_of c.in-Ok.drawing) c.in_ok-slips.slips some bytes
-    c.in-Ok.ensures.drawn c.in_ok-slips.ensures c.as_slice.ensures lines)
+    c.if-text-gt-MOST_BYTES.false c.in-Ok.ensures.drawn c.in_ok-slips.ensures c.as_slice.ensures lines)
     c.told.ensures
