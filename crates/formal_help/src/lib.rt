@@ -1,16 +1,22 @@
-//! What helps a person who misspells a formal in a macro.
+//! What helps a person who misspells the name of a net.
 //!
-//! Such a name is a net of the macro that nothing drives, and the drawing may still be clean. The program
-//! says on standard error what [`explain_slips`] gives: the names in macros that are nearly a formal, that
-//! no statement there drives, and that assert nothing (`specs/Slips`), each with its place.
+//! Such a name is a net of its own that nothing drives, and the drawing may still be clean. The program says on
+//! standard error what [`explain_slips`] gives: the names that nothing drives, that assert nothing, and that are
+//! nearly a formal of the macro or nearly another net, and the outputs of macros that no statement there drives
+//! (`specs/Findings`), each with its place.
 #![tactic(auto)]
 
-// what a macro has
+// what a body has
+mod body;
 mod names;
-mod uses;
+
+// what is found
+mod finding;
+mod findings;
+mod slips;
+mod within;
 
 // what is said
 mod explain;
-mod slips;
 
 pub use explain::explain_slips;

@@ -1,16 +1,16 @@
-//! The names of nets in connections.
+//! The names of nets in a body.
 
 ghost use Rattle.std.specs.Prelude.{◌≡◌, ◌++◌, IfOk, OnOk, map};
-ghost use Rattle.drawing_tree.specs.Tree.{connection_of};
-ghost use Rattle.formal_help.specs.Names.{in_spots, out_spots, seen, spots_in, spots_of};
-ghost use Rattle.formal_help.specs.Uses.{trees};
+ghost use Rattle.drawing_tree.specs.Tree.{connection_of, statement_of};
+ghost use Rattle.formal_help.specs.Body.{trees};
+ghost use Rattle.formal_help.specs.Names.{case_spots, entry_spot, given_in, outputs, outputs_in, reads, reads_in, seen, spots_in, spots_of};
 
 use assertion_syntax::SignalName;
-use drawing_tree::{Conn, Item, UseStmt};
+use drawing_tree::{CaseEntry, CaseStmt, Conn, Item, Stmt};
 use scald_base::{List, NoMemory, Place};
 use std::alloc::Global;
 
-/// A name, and the place of the connection in which it stands.
+/// A name, and the place of the connection, of the WIRE or in the case in which it stands.
 #[derive(Clone, Copy)]
 pub struct Spot<'a> {
     pub name: &'a SignalName,
@@ -19,6 +19,8 @@ pub struct Spot<'a> {
 
 /// Names, in the order of the text.
 pub type Spots<'a> = List<Spot<'a>>;
+
+// ---- of connections
 
 /// Adds those of a connection.
 fn add_connection<'a>(out: &mut Spots<'a>, connection: &'a Conn) -> Result<(), NoMemory>
@@ -46,24 +48,103 @@ fn add_connections<'a>(out: &mut Spots<'a>, connections: &'a [Conn]) -> Result<(
     Ok(())
 }
 
-/// The names in the inputs of uses.
-pub fn in_spots<'a>(alloc: Global, uses: &[&'a UseStmt]) -> Result<Spots<'a>, NoMemory>
-    ensures { IfOk result (λ spots. seen spots ≡ in_spots (trees uses.now)) }
+// ---- of statements
+
+/// Adds what a statement reads: a use its inputs, and a WIRE the name that it is about.
+fn add_read<'a>(out: &mut Spots<'a>, statement: &'a Stmt) -> Result<(), NoMemory>
+    ensures { OnOk result (seen out.new ≡ seen out.old ++ reads_in (statement_of statement.now)) }
+{
+    match statement {
+        Stmt::Use(used) => add_connections(out, used.ins.as_slice()),
+        Stmt::Wire(wire) => out.push(Spot {
+            name: &wire.name,
+            place: wire.place,
+        }),
+        Stmt::If(_) | Stmt::For(_) => Ok(()),
+    }
+}
+
+/// Adds what a statement drives: a use its outputs.
+fn add_output<'a>(out: &mut Spots<'a>, statement: &'a Stmt) -> Result<(), NoMemory>
+    ensures { OnOk result (seen out.new ≡ seen out.old ++ outputs_in (statement_of statement.now)) }
+{
+    match statement {
+        Stmt::Use(used) => add_connections(out, used.outs.as_slice()),
+        Stmt::Wire(_) | Stmt::If(_) | Stmt::For(_) => Ok(()),
+    }
+}
+
+/// Adds what statements read.
+fn add_reads<'a>(out: &mut Spots<'a>, statements: &[&'a Stmt]) -> Result<(), NoMemory>
+    ensures { OnOk result (seen out.new ≡ seen out.old ++ reads (trees statements.now)) }
+{
+    'statements: for statement in statements {
+        add_read(out, *statement)?;
+    }
+    Ok(())
+}
+
+/// What statements read.
+pub fn reads<'a>(alloc: Global, statements: &[&'a Stmt]) -> Result<Spots<'a>, NoMemory>
+    ensures { IfOk result (λ spots. seen spots ≡ reads (trees statements.now)) }
 {
     let mut spots = Spots::new(alloc);
-    'uses: for used in uses {
-        add_connections(&mut spots, used.ins.as_slice())?;
+    add_reads(&mut spots, statements)?;
+    Ok(spots)
+}
+
+/// What statements drive.
+pub fn outputs<'a>(alloc: Global, statements: &[&'a Stmt]) -> Result<Spots<'a>, NoMemory>
+    ensures { IfOk result (λ spots. seen spots ≡ outputs (trees statements.now)) }
+{
+    let mut spots = Spots::new(alloc);
+    'statements: for statement in statements {
+        add_output(&mut spots, *statement)?;
     }
     Ok(spots)
 }
 
-/// The names in their outputs.
-pub fn out_spots<'a>(alloc: Global, uses: &[&'a UseStmt]) -> Result<Spots<'a>, NoMemory>
-    ensures { IfOk result (λ spots. seen spots ≡ out_spots (trees uses.now)) }
+// ---- of cases
+
+/// Adds those of the entries of a case.
+fn add_entries<'a>(out: &mut Spots<'a>, entries: &'a [CaseEntry]) -> Result<(), NoMemory>
+    ensures { OnOk result (seen out.new ≡ seen out.old ++ map entry_spot entries.now) }
 {
-    let mut spots = Spots::new(alloc);
-    'uses: for used in uses {
-        add_connections(&mut spots, used.outs.as_slice())?;
+    'entries: for entry in entries {
+        out.push(Spot {
+            name: &entry.name,
+            place: entry.place,
+        })?;
+    }
+    Ok(())
+}
+
+/// Adds those of cases.
+fn add_cases<'a>(out: &mut Spots<'a>, cases: &'a [CaseStmt]) -> Result<(), NoMemory>
+    ensures { OnOk result (seen out.new ≡ seen out.old ++ case_spots cases.now) }
+{
+    'cases: for case in cases {
+        add_entries(out, case.entries.as_slice())?;
+    }
+    Ok(())
+}
+
+// ---- what is given
+
+/// What statements drive and cases set; and also what statements read, where a macro may drive its inputs.
+pub fn given<'a>(
+    alloc: Global,
+    both_ways: bool,
+    cases: &'a [CaseStmt],
+    statements: &[&'a Stmt],
+) -> Result<Spots<'a>, NoMemory>
+    ensures { IfOk result (λ spots. seen spots
+        ≡ given_in both_ways cases.now (trees statements.now)) }
+{
+    let mut spots = outputs(alloc, statements)?;
+    add_cases(&mut spots, cases)?;
+    if both_ways {
+        add_reads(&mut spots, statements)?;
     }
     Ok(spots)
 }

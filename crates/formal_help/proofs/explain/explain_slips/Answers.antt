@@ -2,7 +2,7 @@ use Rattle.std.proofs.Common.{◌≡◌}
 use Rattle.std.proofs.lemmas.Result.{IfOk-weaker}
 use Rattle.drawing_tree.specs.Tree.{drawing_of}
 use Rattle.formal_help.specs.Explain.{IsTold, lines_of}
-use Rattle.formal_help.specs.Slips.{seen}
+use Rattle.formal_help.specs.Finding.{seen}
 use Rattle.formal_help.proofs.Told.{drawn_told, too_long_told, undrawn_told}
 use Rattle.formal_help.proofs.explain.explain_slips.Goals as goal
 
@@ -19,6 +19,6 @@ pub returns : goal.returns
 returns c =
     let text = c.args.text.now in let some = c.as_slice.result.now in
     IfOk-weaker c.told.result (λ bytes. bytes ≡ lines_of text (seen some)) (IsTold text)
-    (λ bytes lines. drawn_told text (drawing_of c.in-Ok.drawing) c.in_ok-slips.slips some bytes
-    c.if-text-gt-MOST_BYTES.false c.in-Ok.ensures.drawn c.in_ok-slips.ensures c.as_slice.ensures lines)
+    (λ bytes lines. drawn_told text (drawing_of c.in-Ok.drawing) c.in_ok-found.found some bytes
+    c.if-text-gt-MOST_BYTES.false c.in-Ok.ensures.drawn c.in_ok-found.ensures c.as_slice.ensures lines)
     c.told.ensures
