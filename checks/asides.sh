@@ -1,6 +1,7 @@
 #!/bin/sh
 # What standard error says beside an answer: of sections that are joined which global nets cross, and which no section
-# drives; of a drawing which names in a macro are nearly a formal. Usage: checks/asides.sh [PROGRAM]. Where none is named and none is built it says so and ends with 0.
+# drives; of a drawing which names that nothing drives are nearly a formal or another net, and which outputs of macros
+# nothing drives. Usage: checks/asides.sh [PROGRAM]. Where none is named and none is built it says so and ends with 0.
 . "$(dirname -- "$0")/common.sh"
 begin "${1-}"
 
@@ -128,11 +129,15 @@ answers() {
 one() {
     answers verify 0 'MACRO STEP ("D") -> ("Q");' "$@" 'END;'
 }
-# slip PLACE MACRO NAME FORMAL: what is said of a name at this place, with the line of the text and a mark
-slip() {
-    echo "scald: $1: no statement of $2 drives \"$3\", and it is no formal: is \"$4\" meant?"
+# shown PLACE: the line of the text at a place, and a mark
+shown() {
     sed -n "${1%:*}s/^/    /p" "$work/text"
     printf '    %*s^\n' "$((${1#*:} - 1))" ''
+}
+# slip PLACE MACRO NAME FORMAL: what is said of a name at this place that is nearly a formal
+slip() {
+    echo "scald: $1: no statement of $2 drives \"$3\", and it is no formal: is \"$4\" meant?"
+    shown "$1"
 }
 right='b : BUF [1:2] ("D") -> ("Q");'
 wrong='b : BUF [1:2] ("DD") -> ("Q");'
@@ -176,9 +181,6 @@ drawing='u : ROW {N=3} ("A"<0:2>) -> ("Y"<0:2>);'
 answers verify 0 'MACRO ROW {N=2} ("D"<0:N-1>) -> ("Q"<0:N-1>);' \
     'FOR I = 0 TO N-1 DO b : BUF [1:2] ("DD"<I>) -> ("Q"<I>); END;' 'END;'
 said 'in a FOR' "$(slip 4:36 ROW DD D)"
-drawing='b : BUF [1:2] ("DD") -> ("D");'
-answers verify 0
-said 'in the drawing itself'
 unset drawing
 # many_slips COUNT: a macro with so many formals, each of which has a letter too many in its body
 many_slips() {
@@ -186,7 +188,7 @@ many_slips() {
     answers verify 0 "$(awk -v count="$1" 'BEGIN {
         printf "MACRO STEP ("
         for (i = 0; i < count; i++) printf "%s\"IN%c\"", i ? ", " : "", 65 + i
-        print ") -> (\"Q\");"
+        print ");"
         for (i = 0; i < count; i++) printf "b%d : BUF [1:2] (\"IN%cX\") -> (\"Y%d\");\n", i, 65 + i, i
     }')" 'END;'
     unset drawing
@@ -204,5 +206,121 @@ many_slips 8
 said 'eight names' "$(eight)"
 many_slips 9
 said 'nine names' "$(eight)" '    and 1 more'
+
+# --- nets, and outputs of macros
+# alone LINE ..: a drawing without macros, with these lines from line 4 on and then the lines $cases, ends with status 0
+alone() {
+    {
+        printf 'SCALD %s;\nCLOCK 8 x 50;\nDRAWING T;\n' "${version-2}"
+        printf '%s\n' "$@" 'END;'
+        printf '%s' "${cases-}"
+    } >"$work/text"
+    "$program" verify <"$work/text" >"$work/out" 2>"$work/said"
+    status=$?
+    [ "$status" -eq 0 ] || failure "verify: status $status in place of 0: $*"
+}
+# net PLACE NAME OTHER: what is said of a name at this place that is nearly another net
+net() {
+    echo "scald: $1: nothing drives \"$2\", and it has no assertion: is \"$3\" meant?"
+    shown "$1"
+}
+# output PLACE MACRO NAME: what is said of an output of the macro at this place
+output() {
+    echo "scald: $1: no statement of $2 drives its output \"$3\""
+    shown "$1"
+}
+# reads NAME: a buffer from this name, which stands in column 16
+reads() {
+    echo "b : BUF [1:2] (\"$1\") -> (\"X\");"
+}
+given='r : REG [5:10] ("CK .P2-3", "D .S1-4") -> ("NOT EMPTY");'
+
+alone "$given" "$(reads KC)"
+said 'letters of a clock exchanged' "$(net 5:16 KC CK)"
+version=1
+alone "$given" "$(reads KC)"
+said 'the same in version 1' "$(net 5:16 KC CK)"
+unset version
+alone "$given" "$(reads CLK)"
+said 'a letter too many' "$(net 5:16 CLK CK)"
+alone "$given" "$(reads ck)"
+said 'another case of a net' "$(net 5:16 ck CK)"
+alone "$given" "$(reads NOT_EMPTY)"
+said 'a line for a space' "$(net 5:16 NOT_EMPTY 'NOT EMPTY')"
+alone "$(reads KC)" "$given"
+said 'before the clock' "$(net 4:16 KC CK)"
+alone "$given" "$(reads KCC)"
+said 'two slips'
+alone "$given" "$(reads EN)"
+said 'a constant'
+alone "$given" "$(reads Y)"
+said 'a constant of one letter'
+alone "$given" "$(reads CK)"
+said 'the clock'
+alone "$given" "$(reads KC)" 'a : BUF [1:2] ("D") -> ("KC");'
+said 'a net that is driven later'
+alone "$given" "$(reads KC)" 'IF 1 = 2 THEN' 'a : BUF [1:2] ("D") -> ("KC");' 'END;'
+said 'a net that is driven in a branch that is not taken'
+alone "$given" "$(reads KC)" 'a : BUF [1:2] ("KC .S1-4") -> ("Z");'
+said 'a net that asserts something elsewhere'
+alone "$given" "$(reads KC)" 'WIRE "KC .S1-4" 0:0;'
+said 'a net that asserts something in a WIRE'
+alone "$given" "$(reads KC)" 'a : BUF [1:2] (-"KC") -> ("Z");'
+said 'a net twice' "$(net 5:16 KC CK)"
+alone "$given" 'FOR I = 1 TO 2 DO b : BUF [1:2] ("KC"<I>) -> ("X"<I>); END;'
+said 'a net in a FOR' "$(net 5:34 KC CK)"
+alone "$given" 'a : BUF [1:2] ("EN") -> ("Z");' "$(reads EM)"
+said 'nearly a constant'
+alone "$given" 'WIRE "NOT EMTPY" 3:8;'
+said 'a WIRE alone' "$(net 5:1 'NOT EMTPY' 'NOT EMPTY')"
+alone "$given" 'WIRE "NOT EMPTY" 3:8;'
+said 'a WIRE of a net that is driven'
+cases='CASE "SEL"=0;
+'
+alone "$(reads SEL)" 'a : BUF [1:2] ("D") -> ("SELL");'
+said 'a net of a case'
+alone "$(reads SEL)" 'a : BUF [1:2] ("SLE") -> ("Z");'
+said 'nearly a net of a case' "$(net 5:16 SLE SEL)"
+unset cases
+alone "$(reads /RST)" 'a : BUF [1:2] ("/RTS .S1-4") -> ("Z");'
+said 'a global' "$(net 4:16 /RST /RTS)"
+alone "$(reads RST)" 'a : BUF [1:2] ("/RST .S1-4") -> ("Z");'
+said 'a global without its slash' "$(net 4:16 RST /RST)"
+alone "$(reads /RST)" 'a : BUF [1:2] ("D") -> ("RST");'
+said 'a slash too many'
+
+drives='g : BUF [1:2] ("D") -> ("/RST");'
+drawing='u : STEP ("A .S1-8") -> ("Y");
+c : AND [1:2] ("/RST", "/RTS .S1-4") -> ("Z");'
+one "$right" "$drives"
+said 'a global that a macro drives'
+drawing='u : STEP ("A .S1-8") -> ("Y");
+c : BUF [1:2] ("/RTS") -> ("Z");'
+one "$right" "$drives"
+said 'a global that is nearly one that a macro drives' "$(net 9:16 /RTS /RST)"
+unset drawing
+one 'a : BUF [1:2] ("D") -> ("MID");' 'b : BUF [1:2] ("MDI") -> ("Q");'
+said 'a net of a macro' "$(net 5:16 MDI MID)"
+one 'a : BUF [1:2] ("D") -> ("DE");' "$wrong"
+said 'nearly a formal and nearly a net' "$(slip 5:16 STEP DD D)"
+drawing='u : STEP ("A .S1-8") -> ("MID");
+b : BUF [1:2] ("B") -> ("X");'
+one 'a : BUF [1:2] ("MDI") -> ("Q");'
+said 'nearly a net of the drawing'
+unset drawing
+one 'b : BUF [1:2] ("D") -> ("QQ");'
+said 'an output that nothing drives' "$(output 3:7 STEP Q)"
+one 'IF 1 = 2 THEN' "$right" 'END;'
+said 'an output in a branch that is not taken'
+one 'b : BUF [1:2] ("D") -> ("/Q");'
+said 'a global for an output' "$(output 3:7 STEP Q)"
+one 'b : BUF [1:2] ("DD") -> ("QQ");'
+said 'an output and a name' "$(output 3:7 STEP Q)" "$(slip 4:16 STEP DD D)"
+one 'b : BUF [1:2] ("DD") -> ("D");'
+said 'a macro that drives its input' "$(output 3:7 STEP Q)"
+answers notes 0 'MACRO STEP ("D") -> ("Q");' 'END;'
+said 'an empty macro, by its notes' "$(output 3:7 STEP Q)"
+answers format 0 'MACRO STEP ("D") -> ("Q");' 'END;'
+said 'the same, printed'
 
 ended

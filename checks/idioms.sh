@@ -1,7 +1,7 @@
 #!/bin/sh
 # Runs each drawing of docs/IDIOMS.md and compares its report with the one below it, or its last line where one line
-# stands there; each idiom has a drawing. Usage: checks/idioms.sh [PROGRAM]. Where none is named and none is built it
-# says so and ends with 0.
+# stands there. Nothing is said on standard error, and each idiom has a drawing. Usage: checks/idioms.sh [PROGRAM].
+# Where none is named and none is built it says so and ends with 0.
 . "$(dirname -- "$0")/common.sh"
 begin "${1-}"
 
@@ -41,7 +41,8 @@ for drawing in "$work"/page/*.scald; do
         failure "$name: no report below it"
         continue
     fi
-    "$program" verify <"$drawing" >"$work/report"
+    "$program" verify <"$drawing" >"$work/report" 2>"$work/said"
+    [ ! -s "$work/said" ] || failure "$name: this is said: $(head -n 1 "$work/said")"
     if [ "$(lines "$answer")" -eq 1 ]; then
         tail -n 1 "$work/report" >"$work/last"
         mv "$work/last" "$work/report"
