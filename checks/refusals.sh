@@ -1251,7 +1251,36 @@ driven_twice 5:1 'b1#0<0>' 'b1#1<0>'
 macro unexpanded '17 TwoDrivers 4:1' 'MACRO M ("A"<0:1>) -> ("Z"<0:1>);' 'b1 : BUF [0:0] ("A") -> ("Z");' 'END;' 'DRAWING ROW;' \
     'u : M ("A"<0:1>) -> ("X" & "X");' 'v : M ("B"<0:1>) -> (ZERO & "Y");' 'END;'
 driven_twice 4:1 'u/b1<0>' 'u/b1<1>' '    it is reached by u at 7:1'
-# (nor a loop without delay elsewhere, nor a case that is refused)
+# driven_first NET PLACE ELEMENT LINE ..: beside what to do, that this element drives the net before, and these lines
+driven_first() {
+    net=$1
+    place=$2
+    element=$3
+    shift 3
+    helps "$one_driver" \
+        '    it is driven before:' \
+        "        $net is driven at $place by $element" \
+        "$@"
+}
+# (another statement drives it before, and again later, so that it is refused as well: under ELSE, under THEN, and
+# under ELSE again; by a macro's use; and where the one that is refused drives it again too)
+expanded '17 TwoDrivers 6:1' 'DRAWING ROW;' 'FOR I = 0 TO 3 DO' 'IF I = 1 THEN' 'u : BUF [1:5] ("A") -> ("X");' 'ELSE' \
+    'v : BUF [0:0] ("B") -> ("X");' 'END;' 'END;' 'END;'
+driven_first 'X<0>' 8:1 'v#0<0>'
+expanded '17 TwoDrivers 9:1' 'MACRO P ("A") -> ("Z");' 'b : BUF [0:0] ("A") -> ("Z");' 'END;' 'DRAWING ROW;' 'FOR I = 0 TO 3 DO' \
+    'IF I = 1 THEN' 'u : BUF [1:5] ("A") -> ("X");' 'ELSE' 'v : P ("B") -> ("X");' 'END;' 'END;' 'END;'
+driven_first 'X<0>' 4:1 'v#0/b<0>'
+expanded '17 TwoDrivers 6:1' 'DRAWING ROW;' 'FOR I = 0 TO 3 DO' 'IF I - I / 2 * 2 = 1 THEN' 'u : BUF [1:5] ("A") -> ("X");' 'ELSE' \
+    'v : BUF [0:0] ("B") -> ("X");' 'END;' 'END;' 'END;'
+driven_first 'X<0>' 8:1 'v#0<0>'
+# (of three statements the first)
+drawing '17 TwoDrivers 5:1' 'b1 : BUF [0:0] ("A") -> ("X");' 'b2 : BUF [0:0] ("B") -> ("X");' 'b3 : BUF [0:0] ("C") -> ("X");'
+driven_first 'X<0>' 4:1 'b1<0>'
+# (its second bit is driven before, and its first again only later)
+macro unexpanded '17 TwoDrivers 4:1' 'MACRO M ("A"<0:1>) -> ("Z"<0:1>);' 'b1 : BUF [0:0] ("A") -> ("Z");' 'END;' 'DRAWING ROW;' \
+    'b2 : BUF [0:0] ("B") -> ("Y");' 'u : M ("A"<0:1>) -> ("X" & "Y");' 'b3 : BUF [0:0] ("C") -> ("X");' 'END;'
+driven_first 'Y<0>' 7:1 'b2<0>' '    it is reached by u at 8:1'
+# (a loop without delay elsewhere does not count, nor a case that is refused)
 drawing '17 TwoDrivers 6:1' 'b1 : BUF [0:0] ("Y") -> ("X");' 'a1 : AND [0:0] ("CK .P2-3", "X") -> ("Y");' 'b2 : BUF [0:0] ("B") -> ("X");'
 helps "$one_driver" \
     '    it is driven before:' \

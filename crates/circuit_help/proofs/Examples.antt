@@ -1,11 +1,18 @@
 -- Texts that are made, entries and ways, worked out on paper.
 use Rattle.std.proofs.Common.{◌≡◌, ℕ, ◌+◌, true, false, List, [], ◌∷◌, ◌++◌, refl, pos}
-use Rattle.std.specs.Prelude.{codes, Some, None}
+use Rattle.std.specs.Prelude.{codes, Option, Some, None}
 use Rattle.std.specs.List.{flat_map}
+use Rattle.vector_names.specs.declared.bits.Target.{Target}
+use Rattle.vector_names.specs.declared.bits.Target.TheVariants.{Net as OnNet}
+use Rattle.element_kinds.specs.declared.kind.Kind.{Kind}
+use Rattle.element_kinds.specs.declared.kind.Kind.TheVariants.{Buf, MinPulse}
+use Rattle.flat_circuit.specs.declared.instance.Instance.{Instance}
+use Rattle.flat_circuit.specs.declared.instance.Pin.{Pin}
 use Rattle.flat_circuit.specs.Circuit.{Circuit}
 use Rattle.scald_lex.specs.declared.token.Token.{Token}
 use Rattle.scald_lex.specs.declared.token.TokenKind.{TokenKind}
 use Rattle.scald_lex.specs.declared.token.TokenKind.TheVariants.{Word, Number, Name, Arrow, Symbol}
+use Rattle.scald_base.specs.declared.refusal.Place.{Place}
 use Rattle.scald_base.specs.declared.refusal.RefusalKind.TheVariants.{TwoDrivers, ZeroLoop}
 use Rattle.circuit_help.specs.CutSet.{is_zero_loop}
 use Rattle.circuit_help.specs.Slowed.{delays, slowed_text}
@@ -13,7 +20,7 @@ use Rattle.circuit_help.specs.declared.changed.Change.TheVariants.{Checker, Dela
 use Rattle.circuit_help.specs.Changed.{part_of, word_of}
 use Rattle.circuit_help.specs.Made.{overwritten}
 use Rattle.circuit_help.specs.Cases.{before_cases, case_cut, entry_bit, entry_value, has_point}
-use Rattle.circuit_help.specs.Drivers.{is_before}
+use Rattle.circuit_help.specs.Outputs.{first_driving, output_of}
 use Rattle.circuit_help.specs.Lines.{driven_line, nets_lines}
 use Rattle.circuit_help.specs.Loops.{begins, from_net, last_net}
 
@@ -73,20 +80,6 @@ text_before = refl
 text_without : before_cases (codes "END;") (at Word 0 3 ∷ symbol 59 3 ∷ []) ≡ codes "END;"
 text_without = refl
 
--- ---- what drives a net before the instance of a number
-
-earlier : is_before 3 (Some 2) ≡ true
-earlier = refl
-
-itself : is_before 3 (Some 3) ≡ false
-itself = refl
-
-later : is_before 3 (Some 4) ≡ false
-later = refl
-
-undriven : is_before 3 None ≡ false
-undriven = refl
-
 pointed : has_point (codes "A .S") ≡ true
 pointed = refl
 
@@ -138,3 +131,52 @@ for_a_loop = refl
 
 for_something_else : is_zero_loop TwoDrivers ≡ false
 for_something_else = refl
+
+-- ---- what instances drive: a checker stands for the use on line 6, and one on line 5 is of the text
+
+abbrev instance : Kind → List Pin → Option Target → ℕ → Instance
+instance kind pins out line = record {
+  path = [];
+  pins = pins;
+  out = out;
+  place = record { line = line; col = 1 };
+  split = None;
+  delay = record { min = 1; max = 1 };
+  limits = (0, 0);
+  bit = 0;
+  kind = kind;
+  out_inverted = false;
+}
+
+abbrev on : ℕ → List Pin
+on net = record { target = OnNet net; inverted = false; hold = false } ∷ []
+
+abbrev stands : Instance
+stands = instance MinPulse (on 3) None 6
+
+abbrev checker_there : Instance
+checker_there = instance MinPulse (on 3) None 5
+
+abbrev element : Instance
+element = instance Buf (on 2) (Some (OnNet 3)) 4
+
+abbrev changed : List Place
+changed = record { line = 4; col = 1 } ∷ record { line = 6; col = 1 } ∷ []
+
+driven_by_output : output_of changed element ≡ Some (OnNet 3)
+driven_by_output = refl
+
+driven_by_use : output_of changed stands ≡ Some (OnNet 3)
+driven_by_use = refl
+
+checked_alone : output_of changed checker_there ≡ None
+checked_alone = refl
+
+before_element : first_driving changed 3 (checker_there ∷ stands ∷ element ∷ []) ≡ Some 1
+before_element = refl
+
+by_element : first_driving changed 3 (checker_there ∷ element ∷ stands ∷ []) ≡ Some 1
+by_element = refl
+
+not_driven : first_driving changed 2 (stands ∷ element ∷ []) ≡ None
+not_driven = refl

@@ -7,8 +7,9 @@ use Rattle.scald_base.specs.declared.refusal.Stop.{Stop}
 use Rattle.scald_base.specs.declared.refusal.Stop.TheVariants.{Refused, NoMemory}
 use Rattle.scald_lex.specs.declared.token.Token.{Token}
 use Rattle.scald_lex.specs.Tokens.{AreTokens}
-use Rattle.vector_names.specs.declared.bits.Target.{Target}
+use Rattle.vector_names.specs.declared.bits.Target.TheVariants.{Net as OnNet, Constant}
 use Rattle.flat_circuit.specs.declared.case.CaseValue.{CaseValue}
+use Rattle.flat_circuit.specs.declared.instance.Instance.{Instance}
 use Rattle.flat_circuit.specs.Circuit.{Circuit}
 use Rattle.flat_circuit.specs.Name.{net_at}
 use Rattle.drawn_circuit.specs.Drawn.{DrawsCircuit, IsTextRefused}
@@ -21,8 +22,9 @@ use Rattle.circuit_help.specs.Changed.{IsDrawnWith}
 use Rattle.circuit_help.specs.CutSet as cut
 use Rattle.circuit_help.specs.Drivers as driver
 use Rattle.circuit_help.specs.Loops as loop
+use Rattle.circuit_help.specs.Outputs.{IsFirst, IsOutput}
 use Rattle.circuit_help.specs.Slowed.{delays, slowed_text}
-use Rattle.circuit_help.specs.Twins.{Tells}
+use Rattle.circuit_help.specs.Twins.{both_lines}
 use Rattle.circuit_help.specs.ZeroLoop as zero
 
 -- what holds of what is found
@@ -57,15 +59,18 @@ no_zero_told c place bytes none = subst (zero.IsToldOf c place) (sym none) zero.
 pub zero_untold : (text : List ℕ) (place : Place) (bytes : List ℕ) → bytes ≡ [] → zero.IsTold text place bytes
 zero_untold text place bytes none = subst (zero.IsTold text place) (sym none) zero.untold
 
-pub output_told : (c : Circuit) (place : Place) (target : Target) (old new : List ℕ) → driver.IsOutput c place target →
-    old ≡ [] → new ≡ old ++ driver.output_lines c target → driver.IsToldOf c place new
-output_told c place target old new output none is =
-    subst (driver.IsToldOf c place) (sym (put old new (driver.output_lines c target) none is))
-    (driver.driven target output)
+module _ (c : Circuit) (places : List Place) (place : Place) (number : ℕ) (element : Instance) (old new : List ℕ) where
+  pub constant_told : (one : Bool) (said : List ℕ) → IsOutput c places place number element (Constant one) →
+      said ≡ driver.constant_line → new ≡ old ++ said → driver.IsToldOf c places place old new
+  constant_told one said output is put =
+      subst (driver.IsToldOf c places place old) (sym (put ∙ ap (λ (l : List ℕ). old ++ l) is))
+      (driver.constant number element one output)
 
-pub twins_told : (c : Circuit) (place : Place) (old new : List ℕ) → old ≡ [] → Tells c place old new →
-    driver.IsToldOf c place new
-twins_told c place old new none said = driver.twins new (subst (λ (l : List ℕ). Tells c place l new) none said)
+  pub before_told : (net : ℕ) (first : Instance) → IsOutput c places place number element (OnNet net) →
+      IsFirst c places net number first → new ≡ old ++ both_lines c place net first element →
+      driver.IsToldOf c places place old new
+  before_told net first output earliest put =
+      subst (driver.IsToldOf c places place old) (sym put) (driver.driven net number first element output earliest)
 
 pub driver_untold : (text : List ℕ) (place : Place) (bytes : List ℕ) → bytes ≡ [] →
     driver.IsTold text place bytes
@@ -137,17 +142,19 @@ case_explained text place tokens seen again rest cut found front bytes are see i
     (subst (λ (ts : List Token). case.IsToldOf text (take cut text) ts bytes) (from ∙ ap (from_place place) same)
     by_front)
 
-pub driver_explained : (text : List ℕ) (place : Place) (tokens : List Token) (before : List ℕ) (c : Circuit)
-    (bytes : List ℕ) → AreTokens text tokens → before ≡ case.before_cases text tokens →
-    IsDrawnWith Checker tokens before place c → driver.IsToldOf c place bytes → driver.IsTold text place bytes
-driver_explained text place tokens before c bytes are is by said =
-    driver.by_circuit tokens c bytes are (subst (λ (l : List ℕ). IsDrawnWith Checker tokens l place c) is by) said
+pub driver_explained : (text : List ℕ) (place : Place) (tokens : List Token) (before : List ℕ) (seen places : List Place)
+    (c : Circuit) (bytes : List ℕ) → AreTokens text tokens → before ≡ case.before_cases text tokens → seen ≡ places →
+    IsDrawnWith Checker tokens before place places c → driver.IsToldOf c seen place [] bytes → driver.IsTold text place bytes
+driver_explained text place tokens before seen places c bytes are is see by said =
+    driver.by_circuit tokens places c bytes are
+    (subst (λ (l : List ℕ). IsDrawnWith Checker tokens l place places c) is by)
+    (subst (λ (l : List Place). driver.IsToldOf c l place [] bytes) see said)
 
-pub zero_explained : (text : List ℕ) (place : Place) (tokens : List Token) (before : List ℕ) (c : Circuit)
-    (bytes : List ℕ) → AreTokens text tokens → before ≡ case.before_cases text tokens →
-    IsDrawnWith Delay tokens before place c → zero.IsToldOf c place bytes → zero.IsTold text place bytes
-zero_explained text place tokens before c bytes are is by said =
-    zero.by_circuit tokens c bytes are (subst (λ (l : List ℕ). IsDrawnWith Delay tokens l place c) is by) said
+pub zero_explained : (text : List ℕ) (place : Place) (tokens : List Token) (before : List ℕ) (places : List Place)
+    (c : Circuit) (bytes : List ℕ) → AreTokens text tokens → before ≡ case.before_cases text tokens →
+    IsDrawnWith Delay tokens before place places c → zero.IsToldOf c place bytes → zero.IsTold text place bytes
+zero_explained text place tokens before places c bytes are is by said =
+    zero.by_circuit tokens places c bytes are (subst (λ (l : List ℕ). IsDrawnWith Delay tokens l place places c) is by) said
 
 -- ---- a loop somewhere in a text
 

@@ -1,6 +1,6 @@
 -- Why a case may not set a net.
-use Rattle.std.specs.Prelude.{◌≡◌, ℕ, ◌+◌, ◌<◌, Bool, true, false, not, ◌&&◌, ◌==◌, nat_lt, List, [], ◌∷◌, ◌++◌, take, slice_get, codes, decimal, is_some, Option, Some, None, if◌then◌else◌}
-use Rattle.std.specs.List.{list_any}
+use Rattle.std.specs.Prelude.{◌≡◌, ℕ, ◌<◌, Bool, true, false, not, ◌&&◌, ◌==◌, nat_lt, List, [], ◌∷◌, ◌++◌, take, slice_get, codes, decimal, is_some, Option, Some, None, if◌then◌else◌}
+use Rattle.std.specs.List.{list_any, position_from}
 use Rattle.std.specs.Str.{bytes_eq}
 use Rattle.scald_base.specs.declared.assertion.AssertSpec.{AssertSpec}
 use Rattle.scald_base.specs.declared.assertion.AssertSpec.TheVariants.{None as Unasserted, Precision, Clock, Stable}
@@ -95,13 +95,9 @@ abbrev pub may_mean : List ℕ → Option Net → Bool
 may_mean name None = false
 may_mean name (Some n) = not (is_some n.driver) && is_near name n.name
 
--- the first such net, of those from a number on
-abbrev pub near_from : List ℕ → ℕ → List Net → Option ℕ
-near_from name at [] = None
-near_from name at (n ∷ ns) = if may_mean name (Some n) then Some at else near_from name (at + 1) ns
-
+-- the number of the first such net
 abbrev pub near_net : List ℕ → List Net → Option ℕ
-near_net name nets = near_from name 0 nets
+near_net name nets = position_from (λ (n : Net). may_mean name (Some n)) 0 nets
 
 unfoldable pub meant_line : Circuit → Option ℕ → List ℕ
 meant_line c None = []

@@ -1,5 +1,5 @@
 -- A text in which uses are replaced, one after another, until it has a circuit.
-use Rattle.std.specs.Prelude.{◌≡◌, ℕ, List, [], ◌∷◌, codes, Option, Some, None}
+use Rattle.std.specs.Prelude.{◌≡◌, ℕ, List, [], ◌∷◌, ◌++◌, codes, Option, Some, None}
 use Rattle.scald_base.specs.declared.refusal.Place.{Place}
 use Rattle.scald_lex.specs.declared.token.Token.{Token}
 use Rattle.flat_circuit.specs.declared.case.CaseValue.{CaseValue}
@@ -43,13 +43,18 @@ pub data IsChanged (change : Change) (tokens : List Token) (text : List ℕ) (pl
 
 -- ---- one after another
 
-pub data AreChanged (change : Change) (tokens : List Token) (text : List ℕ) (place : Place) : List ℕ → Type 0 where
-  one : (made : List ℕ) → IsChanged change tokens text place made → AreChanged change tokens text place made
-  more : (other : Change) (beside : Place) (made next : List ℕ) → AreChanged change tokens text place made →
-      IsChanged other tokens made beside next → AreChanged change tokens text place next
+-- with the places of the uses that are changed, in their order
+pub data AreChanged (change : Change) (tokens : List Token) (text : List ℕ) (place : Place) :
+    List Place → List ℕ → Type 0 where
+  one : (made : List ℕ) → IsChanged change tokens text place made →
+      AreChanged change tokens text place (place ∷ []) made
+  more : (other : Change) (beside : Place) (places : List Place) (made next : List ℕ) →
+      AreChanged change tokens text place places made → IsChanged other tokens made beside next →
+      AreChanged change tokens text place (places ++ beside ∷ []) next
 
 -- the circuit of such a text
-pub data IsDrawnWith (change : Change) (tokens : List Token) (text : List ℕ) (place : Place) : Circuit → Type 0 where
+pub data IsDrawnWith (change : Change) (tokens : List Token) (text : List ℕ) (place : Place) (places : List Place) :
+    Circuit → Type 0 where
   drawn : (made : List ℕ) (c : Circuit) (cases : List (List CaseValue)) →
-      AreChanged change tokens text place made → DrawsCircuit made c cases →
-      IsDrawnWith change tokens text place c
+      AreChanged change tokens text place places made → DrawsCircuit made c cases →
+      IsDrawnWith change tokens text place places c

@@ -3,6 +3,7 @@ pub mod Lines
 pub mod Loops
 pub mod Made
 pub mod Changed
+pub mod Outputs
 pub mod Twins
 pub mod Drivers
 pub mod Cases

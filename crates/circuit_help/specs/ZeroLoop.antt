@@ -31,6 +31,6 @@ pub data IsToldOf (c : Circuit) (place : Place) : List ℕ → Type 0 where
 -- by the tokens of the text, and the circuit of its part up to the first CASE with the delay
 pub data IsTold (text : List ℕ) (place : Place) : List ℕ → Type 0 where
   untold : IsTold text place []
-  by_circuit : (tokens : List Token) (c : Circuit) (bytes : List ℕ) → AreTokens text tokens →
-      IsDrawnWith Delay tokens (before_cases text tokens) place c → IsToldOf c place bytes →
+  by_circuit : (tokens : List Token) (places : List Place) (c : Circuit) (bytes : List ℕ) → AreTokens text tokens →
+      IsDrawnWith Delay tokens (before_cases text tokens) place places c → IsToldOf c place bytes →
       IsTold text place bytes

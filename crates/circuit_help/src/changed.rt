@@ -1,13 +1,13 @@
 //! Texts in which uses are replaced, one after another, until they have a circuit.
 
-ghost use Rattle.std.specs.Prelude.{◌≡◌, ◌≤◌, length, IfOk, IfSome};
+ghost use Rattle.std.specs.Prelude.{◌≡◌, ◌≤◌, [], length, IfOk, IfSome};
 ghost use Rattle.circuit_help.specs.Changed.{IsChanged, IsDrawnWith, checker_part, delay_part, part_of, word_of};
 
 use crate::made::{keeps_places, overwritten};
 use crate::rule::is_at;
 use drawn_circuit::{Drawn, read_circuit};
 use help_text::{after_arrow, from_place, past};
-use scald_base::{Bytes, NoMemory, Place, RefusalKind, Stop};
+use scald_base::{Bytes, List, NoMemory, Place, RefusalKind, Stop};
 use scald_lex::Token;
 use std::alloc::Global;
 
@@ -23,7 +23,7 @@ pub enum Change {
 /// The most bytes of a text that is read again: more than a drawing may have.
 const MOST_BYTES: usize = 8_388_608;
 
-/// The most uses that are replaced.
+/// The most uses that are changed.
 const MOST_TURNS: u32 = 64;
 
 // ---- one use
@@ -108,20 +108,24 @@ fn change_for(kind: RefusalKind) -> Option<Change> {
 }
 
 /// What a text draws in which the use at a place is changed, and then others for which it is refused;
-/// nothing where that is no circuit. The uses are found by these tokens.
+/// nothing where that is no circuit. The uses are found by these tokens, and the places of those that are
+/// changed are kept.
 pub fn drawn_with(
     alloc: Global,
     text: &[u8],
     tokens: &[Token],
     place: Place,
     change: Change,
+    places: &mut List<Place>,
 ) -> Result<Option<Drawn>, NoMemory>
-    ensures { IfOk result (λ found.
-        IfSome found (λ drawn. IsDrawnWith change tokens.now text.now place drawn.circuit)) }
+    requires { places.old ≡ [] }
+    ensures { IfOk result (λ found. IfSome found (λ drawn.
+        IsDrawnWith change tokens.now text.now place places.new drawn.circuit)) }
 {
     let Some(mut made) = changed(alloc, text, tokens, place, change)? else {
         return Ok(None);
     };
+    places.push(place)?;
     let mut last = place;
     'turns: for turn in 0..MOST_TURNS {
         match read_circuit(alloc, made.as_slice()) {
@@ -138,6 +142,7 @@ pub fn drawn_with(
                     Some(next) => made = next,
                     None => return Ok(None),
                 }
+                places.push(last)?;
             }
             Err(Stop::NoMemory) => return Err(NoMemory),
         }

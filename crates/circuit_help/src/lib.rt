@@ -14,6 +14,7 @@ mod drivers;
 mod lines;
 mod loops;
 mod made;
+mod outputs;
 mod rule;
 mod search;
 mod slowed;

@@ -1,34 +1,47 @@
 //! Lines on nets.
 
-ghost use Rattle.std.specs.Prelude.{◌≡◌, ◌++◌, OnOk};
+ghost use Rattle.std.specs.Prelude.{◌≡◌, ◌++◌, OnOk, Some};
 ghost use Rattle.std.specs.List.{flat_map};
-ghost use Rattle.circuit_help.specs.Lines.{driven_line, nets_lines};
+ghost use Rattle.listing.specs.Names.{net_text};
+ghost use Rattle.circuit_help.specs.Lines.{driven_by, driven_line, nets_lines};
 
-use flat_circuit::Circuit;
+use flat_circuit::{Circuit, Instance};
 use listing::{Piece, add_line, net_piece};
 use scald_base::{Bytes, NoMemory};
 
 /// The most nets of a loop that is listed whole.
 const MOST_NAMED: usize = 8;
 
+/// A net, and where the statement of an instance that drives it stands.
+pub fn add_driven_by<'a>(
+    out: &mut Bytes,
+    c: &'a Circuit,
+    net: u32,
+    element: &'a Instance,
+) -> Result<(), NoMemory>
+    ensures { OnOk result (out.new ≡ out.old ++ driven_by (net_text c.now net) (Some element.now)) }
+{
+    add_line(
+        out,
+        &[
+            Piece::Text(b"        "),
+            net_piece(c, net),
+            Piece::Text(b" is driven at "),
+            Piece::Number(u64::from(element.place.line)),
+            Piece::Byte(b':'),
+            Piece::Number(u64::from(element.place.col)),
+            Piece::Text(b" by "),
+            Piece::Bit(element.path.as_slice(), element.bit),
+        ],
+    )
+}
+
 /// A net, and where the statement of its driver stands.
 pub fn add_driven(out: &mut Bytes, c: &Circuit, net: u32) -> Result<(), NoMemory>
     ensures { OnOk result (out.new ≡ out.old ++ driven_line c.now net) }
 {
     match c.driver_of(net) {
-        Some(element) => add_line(
-            out,
-            &[
-                Piece::Text(b"        "),
-                net_piece(c, net),
-                Piece::Text(b" is driven at "),
-                Piece::Number(u64::from(element.place.line)),
-                Piece::Byte(b':'),
-                Piece::Number(u64::from(element.place.col)),
-                Piece::Text(b" by "),
-                Piece::Bit(element.path.as_slice(), element.bit),
-            ],
-        ),
+        Some(element) => add_driven_by(out, c, net, element),
         None => add_line(
             out,
             &[

@@ -12,7 +12,7 @@ use crate::loops::add_way;
 use crate::rule::{Rule, is_at};
 use crate::search::way_back;
 use flat_circuit::Circuit;
-use scald_base::{Bytes, NoMemory, Place, Stop};
+use scald_base::{Bytes, List, NoMemory, Place, Stop};
 use scald_lex::{Token, tokens};
 use std::alloc::Global;
 use vector_names::Target;
@@ -53,7 +53,8 @@ fn by_tokens(alloc: Global, text: &[u8], tokens: &[Token], place: Place) -> Resu
     ensures { IfOk result (IsTold text.now place) }
 {
     let before = before_cases(text, tokens);
-    match drawn_with(alloc, before, tokens, place, Change::Delay)? {
+    let mut places = List::new(alloc);
+    match drawn_with(alloc, before, tokens, place, Change::Delay, &mut places)? {
         Some(drawn) => told(alloc, &drawn.circuit, place),
         None => Ok(Bytes::new(alloc)),
     }

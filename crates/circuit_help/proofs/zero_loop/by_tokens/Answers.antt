@@ -10,11 +10,12 @@ pub returns-in-Some : goal.returns-in-Some
 returns-in-Some c =
     let text = c.args.text.now in let tokens = c.args.tokens.now in let place = c.args.place in
     let before = c.before_cases-before.result.now in let drawn = c.in-Some.drawn in
+    let places = c.drawn_with.new.places in
     IfOk-weaker c.told.result (IsToldOf drawn.circuit place) (IsTold text place)
-    (λ bytes said. zero_explained text place tokens before drawn.circuit bytes c.requires c.before_cases-before.ensures
-    (found_holds Drawn (λ found. IsDrawnWith Delay tokens before place found.circuit) c.in_ok-drawn.field-0 drawn
+    (λ bytes said. zero_explained text place tokens before places drawn.circuit bytes c.requires c.before_cases-before.ensures
+    (found_holds Drawn (λ found. IsDrawnWith Delay tokens before place places found.circuit) c.in_ok-drawn.field-0 drawn
     c.in_ok-drawn.ensures c.in-Some.is) said)
     c.told.ensures
 
-pub returns-in-None : goal.returns-in-None
-returns-in-None c = zero_untold c.args.text.now c.args.place c.new.result c.new.ensures
+pub returns : goal.returns
+returns c = zero_untold c.args.text.now c.args.place c.new.result c.new.ensures
