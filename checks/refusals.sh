@@ -1292,6 +1292,13 @@ helps "$one_driver" \
 helps "$one_driver" \
     '    it is driven before:' \
     '        X<0> is driven at 4:1 by b1<0>'
+# (eight statements are refused in turn, or nine)
+# shellcheck disable=SC2046
+for last in 9 10; do
+    drawing '17 TwoDrivers 5:1' $(i=1; while [ "$i" -le "$last" ]; do echo "b$i:BUF[0:0](\"A\")->(\"X\");"; i=$((i + 1)); done)
+    [ "$last" -eq 9 ] || helps "$one_driver"
+    [ "$last" -ne 9 ] || driven_first 'X<0>' 4:1 'b1<0>'
+done
 drawing '18 ZeroLoop 4:1' 'b1 : BUF [0:0] ("Y") -> ("X");' 'a1 : AND [0:0] ("CK .P2-3", "X") -> ("Y");'
 helps "$slow_loop" \
     '    it is in a loop, each net of which comes from the next:' \

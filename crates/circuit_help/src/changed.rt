@@ -23,8 +23,8 @@ pub enum Change {
 /// The most bytes of a text that is read again: more than a drawing may have.
 const MOST_BYTES: usize = 8_388_608;
 
-/// The most uses that are changed.
-const MOST_TURNS: u32 = 64;
+/// The most uses that are changed. For each the text is read once more, so they are few.
+const MOST_TURNS: u32 = 8;
 
 // ---- one use
 
