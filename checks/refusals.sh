@@ -1481,6 +1481,40 @@ said "$(of 1 1 'the net /Q<0> asserts nothing, and goes to section 2')" \
     '                                   ^' \
     '    in section 2 it stands at 4:17, line 10 of the text:' \
     '    b2 : BUF [1:2] ("/Q") -> ("X");' \
+# (the assertion stands at a name that is nearly the one without it, in the first section or in the second)
+slipping='b1 : AND [1:2] ("/DONE", "/DOEN .S2-8") -> ("X");'
+driving='b1 : BUF [1:2] ("D .S1-8") -> ("/DONE .S2-8");'
+sections 10 "$slipping" "$driving$end"
+said "$(of 2 7 'the net /DONE<0> does not assert here what it asserts in section 1')" \
+    '    here it stands at 4:32, line 10 of the text:' \
+    "    $driving" \
+    '                                   ^' \
+    '    in section 1 it stands at 4:17, line 4 of the text:' \
+    "    $slipping" \
+    '                    ^' \
+    '    give it the same assertion in each section where it stands' \
+    '    section 1 has /DOEN with this assertion: is /DONE meant?'
+sections 10 "$driving" "$slipping$end"
+said "$(of 2 7 'the net /DONE<0> does not assert here what it asserts in section 1')" \
+    '    here it stands at 4:17, line 10 of the text:' \
+    "    $slipping" \
+    '                    ^' \
+    '    in section 1 it stands at 4:32, line 4 of the text:' \
+    "    $driving" \
+    '                                   ^' \
+    '    give it the same assertion in each section where it stands' \
+    '    section 2 has /DOEN with this assertion: is /DONE meant?'
+# (it stands in both)
+both='b1 : AND [1:2] ("D .S1-8", "/DOEN .S2-8") -> ("/DONE .S2-8");'
+sections 10 "$slipping" "$both$end"
+said "$(of 2 7 'the net /DONE<0> does not assert here what it asserts in section 1')" \
+    '    here it stands at 4:47, line 10 of the text:' \
+    "    $both" \
+    '                                                  ^' \
+    '    in section 1 it stands at 4:17, line 4 of the text:' \
+    "    $slipping" \
+    '                    ^' \
+    '    give it the same assertion in each section where it stands'
     '                    ^' \
     '    nothing else is known of it there: give it one assertion in each section where it stands'
 sections 10 'b1 : BUF [0:2] ("D .S1-8") -> ("/Q .S2-8");' "$second$end"
@@ -1502,16 +1536,18 @@ said "$(of 2 7 'places count from there')" \
 nearly() {
     sections 9 "$first" "$second$end" "$1"
     said 'scald: there should be 2 to 64 sections, with a line ===== between them' \
-        "    line 6 of the text is nearly one between two sections, which is ===== and nothing else: $3 stands in column $2" \
+        "    line 6 of the text is nearly one between two sections, which is ===== and nothing else: $3" \
         "    $(printf %s "$1" | tr '\t\r' '  ')" \
         "    $(printf "%$(($2 - 1))s" '')^"
 }
-nearly '===== ' 6 'a space'
-nearly '=====	' 6 'a tab'
-nearly "$(printf '=====\r')" 6 'a carriage return'
-nearly '====' 5 'its end'
-nearly '======' 6 'one = more'
-nearly ' =====' 1 'a space'
+nearly '===== ' 6 'a space stands in column 6'
+nearly '=====	' 6 'a tab stands in column 6'
+nearly "$(printf '=====\r')" 6 'a carriage return stands in column 6'
+nearly '====' 5 'it has 4 of the 5 ='
+nearly '===' 4 'it has 3 of the 5 ='
+nearly '======' 6 'it has 6 = in place of 5'
+nearly '========' 6 'it has 8 = in place of 5'
+nearly ' =====' 1 'a space stands in column 1'
 sections 9 "$first" "$second$end" '== =='
 said 'scald: there should be 2 to 64 sections, with a line ===== between them' \
     '    line 6 of the text is nearly one between two sections, which is ===== and nothing else: a space stands in column 3' \

@@ -1,17 +1,23 @@
 -- Parts of a text, names and lines between sections, worked out on paper.
 use Rattle.std.proofs.Common.{◌≡◌, ℕ, ◌+◌, true, false, List, [], ◌∷◌, take, refl}
 use Rattle.std.specs.Prelude.{codes, Some, None}
+use Prim.Native.String.{String}
+use Rattle.std.specs.Fmt.{digits}
 use Rattle.scald_base.specs.declared.assertion.AssertSpec.TheVariants.{None as Unasserted, Stable}
 use Rattle.scald_base.specs.declared.refusal.Place.{Place}
+use Rattle.scald_base.specs.Time.{Header}
 use Rattle.scald_lex.specs.declared.token.Token.{Token}
 use Rattle.scald_lex.specs.declared.token.TokenKind.{TokenKind}
 use Rattle.scald_lex.specs.declared.token.TokenKind.TheVariants.{Word, Name}
+use Rattle.help_text.specs.Near.{exchanged}
 use Rattle.flat_circuit.specs.declared.net.Net.{Net}
+use Rattle.flat_circuit.specs.Circuit.{Circuit}
 use Rattle.section_rules.specs.declared.rules.Rule.TheVariants.{Assertion, Drivers, Delay}
 use Rattle.section_help.specs.Beside.{clashes, number_in}
 use Rattle.section_help.specs.Found.{first_word, is_asserting, named_place}
 use Rattle.section_help.specs.Part.{lines_before, newlines, text_at}
-use Rattle.section_help.specs.Separator.{first_near, is_near, wrong_col}
+use Rattle.section_help.specs.Separator.{first_near, is_near, why, wrong_col}
+use Rattle.section_help.specs.Slip.{is_nearly, slip_in, slip_line}
 use Rattle.section_help.specs.Words.{pair_line}
 
 -- ---- where sections begin: two of two lines and of one, with a line after each
@@ -105,6 +111,50 @@ other_bit = refl
 not_there : number_in driven (record driven { bit = 2 } ∷ []) ≡ 1
 not_there = refl
 
+-- ---- a net that is nearly one which asserts nothing
+
+abbrev header : Header
+header = record { units = 8; ticks = 50; wire = record { min = 0; max = 0 }; pskew = (0, 0); cskew = (0, 0) }
+
+abbrev asserted : String → Net
+asserted name = record {
+  name = codes name;
+  bit = 0;
+  spec = Stable (record { lo = 1; hi = 8 } ∷ []);
+  wire = record { min = 0; max = 0 };
+  driver = None;
+}
+
+abbrev with_nets : List Net → Circuit
+with_nets nets = record { header = header; nets = nets; instances = []; order = [] }
+
+slip : slip_in (with_nets (asserted "/DONE" ∷ [])) (asserted "/DONE")
+    (with_nets (record (asserted "/DONE") { spec = Unasserted } ∷ asserted "/DOEN" ∷ [])) ≡ Some (asserted "/DOEN")
+unfolding exchanged
+slip = refl
+
+stands_in_both : slip_in (with_nets (asserted "/DONE" ∷ asserted "/DOEN" ∷ [])) (asserted "/DONE")
+    (with_nets (asserted "/DOEN" ∷ [])) ≡ None
+unfolding exchanged
+stands_in_both = refl
+
+asserts_nothing : slip_in (with_nets (asserted "/DONE" ∷ [])) (asserted "/DONE")
+    (with_nets (record (asserted "/DOEN") { spec = Unasserted } ∷ [])) ≡ None
+unfolding exchanged
+asserts_nothing = refl
+
+two_edits : is_nearly (codes "/DOES") (codes "/DONE") ≡ false
+unfolding exchanged
+two_edits = refl
+
+not_global : is_nearly (codes "DOEN") (codes "/DONE") ≡ false
+not_global = refl
+
+its_line : slip_line 0 (asserted "/DONE") (Some (asserted "/DOEN"))
+    ≡ codes "    section 1 has /DOEN with this assertion: is /DONE meant?\n"
+unfolding digits slip_line
+its_line = refl
+
 -- ---- what differs
 
 same_clock : pair_line (codes "CLOCK") (codes " x ") (8, 50) (8, 50) ≡ []
@@ -138,6 +188,18 @@ on_line_two = refl
 
 inside_a_line : first_near (codes "A ====\n=====\n") ≡ None
 inside_a_line = refl
+
+four : why 4 5 None ≡ codes "it has 4 of the 5 ="
+unfolding digits why
+four = refl
+
+six : why 6 6 (Some 61) ≡ codes "it has 6 = in place of 5"
+unfolding digits why
+six = refl
+
+tab : why 5 6 (Some 9) ≡ codes "a tab stands in column 6"
+unfolding digits why
+tab = refl
 
 past_five : wrong_col (codes "=======") ≡ 6
 past_five = refl

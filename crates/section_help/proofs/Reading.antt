@@ -72,6 +72,12 @@ module _ (text : List ℕ) (list seen : List Piece) (are : map (piece_of text) l
       ap length (sym seen_are) ∙ length-map seen (piece_of text) in
       omega (arith, long, many)
 
+  pub few_sections : length seen ≤ 64 → length (sections_of text) ≤ 64
+  few_sections few =
+      let long : length (sections_of text) ≡ length seen =
+      ap length (sym seen_are) ∙ length-map seen (piece_of text) in
+      omega (arith, long, few)
+
   pub undrawn_sections : IsUndrawn (map (piece_of text) seen) → IsUndrawn (sections_of text)
   undrawn_sections refused = subst IsUndrawn seen_are refused
 

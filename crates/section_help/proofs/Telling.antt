@@ -1,5 +1,5 @@
 -- What is told once it is known to be so.
-use Rattle.std.proofs.Common.{◌≡◌, ℕ, ◌<◌, List, [], ◌++◌, length, map, ap, sym, subst, ◌∙◌}
+use Rattle.std.proofs.Common.{◌≡◌, ℕ, ◌<◌, ◌≤◌, List, [], ◌++◌, length, map, ap, sym, subst, ◌∙◌, append_assoc}
 use Rattle.std.specs.Prelude.{Option, Some, None, slice_get}
 use Rattle.std.specs.List.{AllZip}
 use Rattle.scald_base.specs.declared.refusal.Place.{Place}
@@ -17,8 +17,9 @@ use Rattle.section_help.specs.Broken.{IsAt, IsTold, IsToldOf, IsToldOfHeader, Is
 use Rattle.section_help.specs.Found.{IsFound, first_word}
 use Rattle.section_help.specs.Part.{text_at}
 use Rattle.section_help.specs.Read.{IsUndrawn}
+use Rattle.section_help.specs.Slip.{slip_lines}
 use Rattle.section_help.specs.Words.{end_lines, header_lines, header_word, other_lines, other_site, own_lines, own_site, top_lines}
-use Rattle.section_help.proofs.Reading.{drawn_sections, many_sections, undrawn_sections}
+use Rattle.section_help.proofs.Reading.{drawn_sections, few_sections, many_sections, undrawn_sections}
 
 -- bytes that were put after none
 put : (old new text : List ℕ) → old ≡ [] → new ≡ old ++ text → new ≡ text
@@ -49,16 +50,23 @@ module _ (texts : List (List ℕ)) (sections : List Section) (b : Broken) where
         (subst (λ (g : Option Section). IsAt (text_at k texts) g net site place) got_is
         (subst (λ (l : List ℕ). IsAt l got net site place) part_is at)))
 
-    pub net_told : (o : ℕ) (own place : Option Place) (old mid new : List ℕ) → o ≡ beside b.rule net sections →
+    pub net_told : (k o : ℕ) (own place : Option Place) (old mid most new : List ℕ) → k ≡ index_of b →
+        o ≡ beside b.rule net sections →
         IsAt (text_at (index_of b) texts) (slice_get sections (index_of b)) net (own_site b.rule) own →
         IsAt (text_at o texts) (slice_get sections o) net (other_site b.rule) place → old ≡ [] →
-        mid ≡ old ++ own_lines texts b net o own → new ≡ mid ++ other_lines texts b.rule o place →
-        IsToldOfNet texts sections b net new
-    net_told o own place old mid new o_is here there none first second =
-        let whole : new ≡ own_lines texts b net o own ++ other_lines texts b.rule o place =
-        second ∙ ap (λ (l : List ℕ). l ++ other_lines texts b.rule o place) (put old mid (own_lines texts b net o own) none first) in
+        mid ≡ old ++ own_lines texts b net o own → most ≡ mid ++ other_lines texts b.rule o place →
+        new ≡ most ++ slip_lines b.rule net k o sections → IsToldOfNet texts sections b net new
+    net_told k o own place old mid most new k_is o_is here there none first second third =
+        let front : ℕ → List ℕ = λ n. own_lines texts b net n own in
+        let middle : ℕ → List ℕ = λ n. other_lines texts b.rule n place in
+        let end : ℕ → ℕ → List ℕ = λ m n. slip_lines b.rule net m n sections in
+        let two : most ≡ front o ++ middle o =
+        second ∙ ap (λ (l : List ℕ). l ++ middle o) (put old mid (front o) none first) in
+        let whole : new ≡ front o ++ (middle o ++ end k o) =
+        third ∙ ap (λ (l : List ℕ). l ++ end k o) two ∙ append_assoc (front o) (middle o) (end k o) in
         subst (IsToldOfNet texts sections b net)
-        (sym (whole ∙ ap (λ (n : ℕ). own_lines texts b net n own ++ other_lines texts b.rule n place) o_is))
+        (sym (whole ∙ ap (λ (m : ℕ). front o ++ (middle o ++ end m o)) k_is
+        ∙ ap (λ (n : ℕ). front n ++ (middle n ++ end (index_of b) n)) o_is))
         (by_both own place here
         (subst (λ (n : ℕ). IsAt (text_at n texts) (slice_get sections n) net (other_site b.rule) place) o_is there))
 
@@ -86,7 +94,7 @@ module _ (text : List ℕ) (list seen : List Piece) where
     pub broken_told : (b : Broken) (found : Option Broken) (bytes : List ℕ) →
         map (piece_of text) list ≡ sections_of text → seen ≡ list →
         AllZip DrawsSection (map (piece_of text) seen) read → sections ≡ read → found ≡ first_broken sections →
-        found ≡ Some b → IsToldOf (map (piece_of text) seen) sections b bytes → IsTold text bytes
-    broken_told b found bytes are see drawn same is some said =
-        broken sections b bytes (drawn_sections text list seen are see read sections drawn same) (sym is ∙ some)
+        found ≡ Some b → length seen ≤ 64 → IsToldOf (map (piece_of text) seen) sections b bytes → IsTold text bytes
+    broken_told b found bytes are see drawn same is some few said =
+        broken sections b bytes (few_sections text list seen are see few) (drawn_sections text list seen are see read sections drawn same) (sym is ∙ some)
         (subst (λ (texts : List (List ℕ)). IsToldOf texts sections b bytes) (ap (map (piece_of text)) see ∙ are) said)

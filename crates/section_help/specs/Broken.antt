@@ -1,5 +1,5 @@
 -- What is told of sections by the first rule that they break. Sections count from 0 here.
-use Rattle.std.specs.Prelude.{◌≡◌, ℕ, ◌-◌, ◌<◌, true, false, List, [], ◌++◌, length, slice_get, Option, Some, None}
+use Rattle.std.specs.Prelude.{◌≡◌, ℕ, ◌-◌, ◌<◌, ◌≤◌, true, false, List, [], ◌++◌, length, slice_get, Option, Some, None}
 use Rattle.std.specs.List.{AllZip}
 use Rattle.scald_base.specs.declared.refusal.Place.{Place}
 use Rattle.flat_circuit.specs.declared.net.Net.{Net}
@@ -17,6 +17,7 @@ use Rattle.section_help.specs.Beside.{beside, driver_place}
 use Rattle.section_help.specs.Found.{IsFound, first_word, named_place}
 use Rattle.section_help.specs.Part.{text_at}
 use Rattle.section_help.specs.Read.{IsUndrawn}
+use Rattle.section_help.specs.Slip.{slip_lines}
 use Rattle.section_help.specs.Words.{header_lines, header_word, other_lines, other_site, own_lines, own_site}
 
 -- Where a net stands in a section, or where it is driven.
@@ -51,7 +52,9 @@ pub data IsToldOfNet (texts : List (List ℕ)) (sections : List Section) (b : Br
       IsAt (text_at (beside b.rule net sections) texts) (slice_get sections (beside b.rule net sections)) net
       (other_site b.rule) place →
       IsToldOfNet texts sections b net
-      (own_lines texts b net (beside b.rule net sections) own ++ other_lines texts b.rule (beside b.rule net sections) place)
+      (own_lines texts b net (beside b.rule net sections) own
+      ++ (other_lines texts b.rule (beside b.rule net sections) place
+      ++ slip_lines b.rule net (index_of b) (beside b.rule net sections) sections))
 
 pub data IsToldOf (texts : List (List ℕ)) (sections : List Section) (b : Broken) : List ℕ → Type 0 where
   of_header : (bytes : List ℕ) → is_of_net b.rule ≡ false → IsToldOfHeader texts sections b bytes → IsToldOf texts sections b bytes
@@ -66,5 +69,6 @@ pub data IsTold (text : List ℕ) : List ℕ → Type 0 where
   undrawn : IsUndrawn (sections_of text) → IsTold text []
   unbroken : (sections : List Section) → AllZip DrawsSection (sections_of text) sections →
       first_broken sections ≡ None → IsTold text []
-  broken : (sections : List Section) (b : Broken) (bytes : List ℕ) → AllZip DrawsSection (sections_of text) sections →
+  broken : (sections : List Section) (b : Broken) (bytes : List ℕ) →
+      length (sections_of text) ≤ 64 → AllZip DrawsSection (sections_of text) sections →
       first_broken sections ≡ Some b → IsToldOf (sections_of text) sections b bytes → IsTold text bytes

@@ -1,6 +1,7 @@
 pub mod Part
 pub mod Found
 pub mod Beside
+pub mod Slip
 pub mod Words
 pub mod Read
 pub mod Broken

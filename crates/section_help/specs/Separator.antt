@@ -1,9 +1,8 @@
 -- A line that is nearly one between sections.
 use Rattle.std.specs.Prelude.{ℕ, ◌+◌, ◌-◌, ◌==◌, ◌&&◌, ◌||◌, Bool, true, not, nat_le, nat_lt, List, [], ◌∷◌, ◌++◌, slice_get, count_by, codes, decimal, Option, Some, None, if◌then◌else◌}
-use Rattle.std.specs.List.{list_all, prefix_len}
+use Rattle.std.specs.List.{concat, list_all, prefix_len}
 use Rattle.std.specs.Str.{bytes_eq}
 use Rattle.help_text.specs.Shown.{shown, source_line, until_end}
-use Rattle.help_text.specs.Text.{line}
 
 -- ---- which lines
 
@@ -35,25 +34,28 @@ first_near text = near_from 1 true text
 abbrev pub wrong_col : List ℕ → ℕ
 wrong_col bytes = if nat_lt (prefix_len is_sign bytes) 5 then prefix_len is_sign bytes + 1 else 6
 
-abbrev pub standing : Option ℕ → List ℕ
-standing None = codes "its end"
-standing (Some b) =
-    if b == 32 then codes "a space" else if b == 9 then codes "a tab"
-    else if b == 13 then codes "a carriage return" else codes "one = more"
+abbrev pub blank : ℕ → List ℕ
+blank b = if b == 32 then codes "a space" else if b == 9 then codes "a tab" else codes "a carriage return"
+
+-- by what stands in that column: its end, a sign too many, or a blank
+unfoldable pub why : ℕ → ℕ → Option ℕ → List ℕ
+why signs col None = concat (codes "it has " ∷ decimal signs ∷ codes " of the 5 =" ∷ [])
+why signs col (Some b) =
+    if b == 61 then concat (codes "it has " ∷ decimal signs ∷ codes " = in place of 5" ∷ [])
+    else concat (blank b ∷ codes " stands in column " ∷ decimal col ∷ [])
 
 abbrev pub nearly : List ℕ
 nearly = codes " of the text is nearly one between two sections, which is ===== and nothing else: "
 
-unfoldable pub near_line : ℕ → ℕ → Option ℕ → List ℕ
-near_line n col byte = line (
-    codes "    line " ∷ decimal n
-    ∷ nearly ∷ standing byte ∷ codes " stands in column " ∷ decimal col ∷ [])
+unfoldable pub near_lead : ℕ → List ℕ
+near_lead n = concat (codes "    line " ∷ decimal n ∷ nearly ∷ [])
 
 -- the line of this number, which has these bytes
 unfoldable pub wrong_lines : List ℕ → ℕ → List ℕ → List ℕ
 wrong_lines text n bytes =
-    near_line n (wrong_col bytes) (slice_get bytes (wrong_col bytes - 1))
-    ++ shown text (record { line = n; col = wrong_col bytes })
+    near_lead n
+    ++ (why (prefix_len is_sign bytes) (wrong_col bytes) (slice_get bytes (wrong_col bytes - 1))
+    ++ (codes "\n" ++ shown text (record { line = n; col = wrong_col bytes })))
 
 abbrev pub near_lines : List ℕ → ℕ → List ℕ
 near_lines text n = wrong_lines text n (source_line text n)

@@ -38,7 +38,7 @@ pub fn number_in(c: &Circuit, net: &Net) -> u32
 }
 
 /// Whether a net of the same name is why a rule is broken.
-fn clashes(rule: Rule, net: &Net, other: &Net) -> bool
+pub fn clashes(rule: Rule, net: &Net, other: &Net) -> bool
     ensures { result ≡ clashes rule net.now other.now }
 {
     match rule {

@@ -11,6 +11,7 @@ use crate::beside::{beside, driver_place};
 use crate::found::{find_name, find_word};
 use crate::part::{add_begin, add_site, text_at};
 use crate::read::{Unread, read_sections};
+use crate::slip::add_slip;
 use crate::words::{
     Site, add_differences, add_lead, add_sentence, advice, header_sentence, header_word, lead,
     other_site, own_site,
@@ -195,6 +196,7 @@ fn told_net(
     let mut out = Bytes::new(alloc);
     add_own(&mut out, text, pieces, broken, net, other, own)?;
     add_other(&mut out, text, pieces, rule, other, place)?;
+    add_slip(&mut out, rule, net, section, other, sections)?;
     Ok(out)
 }
 

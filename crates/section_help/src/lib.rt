@@ -19,6 +19,7 @@ mod read;
 mod broken;
 mod section;
 mod separator;
+mod slip;
 mod words;
 
 pub use broken::explain_broken;

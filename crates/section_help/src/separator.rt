@@ -3,9 +3,9 @@
 ghost use Rattle.std.specs.Prelude.{◌≡◌, ◌++◌, ◌<◌, ◌-◌, ◌^◌, count_by, length, slice_get, IfOk, OnOk};
 ghost use Rattle.std.specs.List.{list_all, prefix_len};
 ghost use Rattle.help_text.specs.Shown.{is_inside, until_end};
-ghost use Rattle.section_help.specs.Separator.{first_near, is_near, is_sign, is_stuff, line_of, near_line, nearly, standing, wrong_col, wrong_lines};
+ghost use Rattle.section_help.specs.Separator.{blank, first_near, is_near, is_sign, is_stuff, line_of, near_lead, nearly, why, wrong_col, wrong_lines};
 
-use help_text::{Part, add_line, add_shown, front, source_line};
+use help_text::{Part, add_parts, add_shown, front, source_line};
 use scald_base::{Bytes, NoMemory, Place, same_bytes};
 use std::alloc::Global;
 
@@ -118,16 +118,47 @@ fn byte_in(line: &[u8], col: u32) -> Option<u8>
     line.get((col as usize).saturating_sub(1)).copied()
 }
 
-/// What stands there.
-fn standing(byte: Option<u8>) -> &'static [u8]
-    ensures { result.now ≡ standing byte }
+/// A blank.
+fn blank(byte: u8) -> &'static [u8]
+    ensures { result.now ≡ blank byte }
 {
     match byte {
-        None => b"its end",
-        Some(b' ') => b"a space",
-        Some(b'\t') => b"a tab",
-        Some(b'\r') => b"a carriage return",
-        Some(_) => b"one = more",
+        b' ' => b"a space",
+        b'\t' => b"a tab",
+        _ => b"a carriage return",
+    }
+}
+
+/// What is wrong there with a line that begins with so many signs.
+#[tactic(auto, unfolding(crate::specs::Separator::why))]
+fn add_why(out: &mut Bytes, signs: usize, col: u32, byte: Option<u8>) -> Result<(), NoMemory>
+    ensures { OnOk result (out.new ≡ out.old ++ why signs col byte) }
+{
+    match byte {
+        None => add_parts(
+            out,
+            &[
+                Part::Text(b"it has "),
+                Part::Number(signs as u64),
+                Part::Text(b" of the 5 ="),
+            ],
+        ),
+        Some(b'=') => add_parts(
+            out,
+            &[
+                Part::Text(b"it has "),
+                Part::Number(signs as u64),
+                Part::Text(b" = in place of 5"),
+            ],
+        ),
+        Some(byte) => add_parts(
+            out,
+            &[
+                Part::Text(blank(byte)),
+                Part::Text(b" stands in column "),
+                Part::Number(u64::from(col)),
+            ],
+        ),
     }
 }
 
@@ -138,20 +169,17 @@ fn nearly() -> &'static [u8]
     b" of the text is nearly one between two sections, which is ===== and nothing else: "
 }
 
-/// What stands in a column of the line of this number.
-#[tactic(auto, unfolding(crate::specs::Separator::near_line))]
-fn add_standing(out: &mut Bytes, number: u32, col: u32, byte: Option<u8>) -> Result<(), NoMemory>
-    ensures { OnOk result (out.new ≡ out.old ++ near_line number col byte) }
+/// That the line of this number is nearly one.
+#[tactic(auto, unfolding(crate::specs::Separator::near_lead))]
+fn add_near(out: &mut Bytes, number: u32) -> Result<(), NoMemory>
+    ensures { OnOk result (out.new ≡ out.old ++ near_lead number) }
 {
-    add_line(
+    add_parts(
         out,
         &[
             Part::Text(b"    line "),
             Part::Number(u64::from(number)),
             Part::Text(nearly()),
-            Part::Text(standing(byte)),
-            Part::Text(b" stands in column "),
-            Part::Number(u64::from(col)),
         ],
     )
 }
@@ -162,7 +190,9 @@ fn add_wrong(out: &mut Bytes, text: &[u8], number: u32, line: &[u8]) -> Result<(
     ensures { OnOk result (out.new ≡ out.old ++ wrong_lines text.now number line.now) }
 {
     let col = wrong_col(line);
-    add_standing(out, number, col, byte_in(line, col))?;
+    add_near(out, number)?;
+    add_why(out, signs(line), col, byte_in(line, col))?;
+    out.extend(b"\n")?;
     add_shown(out, text, Place { line: number, col })
 }
 

@@ -21,7 +21,7 @@ returns-in-Some c =
     let b = c.in-Some.broken in
     IfOk-weaker c.told.result (IsToldOf (map (piece_of text) pieces) sections b) (IsTold text)
     (λ bytes said. broken_told text c.in_ok-list.list pieces c.in-Ok.read sections b c.first_broken.result bytes c.in_ok-list.ensures.are
-    c.as_slice-pieces.ensures c.in-Ok.ensures.drawn c.as_slice-sections.ensures c.first_broken.ensures c.in-Some.is said)
+    c.as_slice-pieces.ensures c.in-Ok.ensures.drawn c.as_slice-sections.ensures c.first_broken.ensures c.in-Some.is c.if-pieces-gt-MOST.false said)
     c.told.ensures
 
 pub returns : goal.returns
