@@ -1,7 +1,9 @@
 //! Copies of statements with the selects of each use in the order that version 2 has.
 
-ghost use Rattle.std.specs.Prelude.{◌≡◌, ◌≤◌, IfOk, length, map};
-ghost use Rattle.drawing_tree.specs.Tree.{connection_of, use_of, if_of, for_of, macro_of, statement_of, statements_of};
+ghost use Rattle.std.specs.Prelude.{◌≡◌, ◌≤◌, IfOk, length, map, option_map};
+ghost use Rattle.drawing_tree.specs.Tree.{assignment_of, both_of, connection_of, written_fall_of};
+ghost use Rattle.drawing_tree.specs.Tree.{use_of, if_of, for_of, macro_of};
+ghost use Rattle.drawing_tree.specs.Tree.{statement_of, statements_of};
 ghost use Rattle.macro_expander.specs.Primitives.{first_reversed};
 ghost use Rattle.format_upgrade.specs.Upgraded.{turned_selects};
 ghost use Rattle.format_upgrade.specs.Order.{in_order_ins, in_order_use, in_order_macro};
@@ -9,13 +11,16 @@ ghost use Rattle.format_upgrade.specs.Order.{in_order_statement, in_order_statem
 
 use crate::copy::bytes;
 use crate::tree::{Tree, trees};
-use drawing_tree::{Conn, Conns, ForStmt, IfStmt, MacroDef, MacroDefs, Stmt, Stmts, UseStmt};
+use drawing_tree::{
+    Assigns, Conn, Conns, ForStmt, IfStmt, MacroDef, MacroDefs, Stmt, Stmts, UseStmt,
+};
 use element_kinds::{Kind, kind_named};
-use scald_base::{List, NoMemory};
+use scald_base::{Bytes, List, NoMemory};
+use scald_expr::Expr;
 use std::alloc::Global;
 
 /// The order in which a copy has the selects of MUX4 and MUX8.
-#[derive(Clone, Copy, PartialEq, Eq, Debug)]
+#[derive(Clone, Copy)]
 pub enum Order {
     /// That of the drawing.
     Kept,
@@ -68,17 +73,73 @@ fn ins(alloc: Global, order: Order, used: &UseStmt) -> Result<Conns, NoMemory>
     }
 }
 
-fn use_statement(alloc: Global, order: Order, used: &UseStmt) -> Result<UseStmt, NoMemory>
-    ensures { IfOk result (λ copy. use_of copy ≡ in_order_use order (use_of used.now)) }
+/// Copies of what stands before the parameters of a use. Each part of a use is copied by a function of
+/// its own, so that none owns more than half of the copies when memory runs out.
+#[derive(Drop)]
+struct Front {
+    label: Bytes,
+    kind: Bytes,
+    delay: Option<(Expr, Expr)>,
+    fall: Option<Box<(Expr, Expr)>>,
+}
+
+fn copied_front(alloc: Global, used: &UseStmt) -> Result<Front, NoMemory>
+    ensures label { IfOk result (λ f. f.label ≡ used.now.label) }
+    ensures kind { IfOk result (λ f. f.kind ≡ used.now.kind) }
+    ensures delay { IfOk result (λ f.
+        option_map both_of f.delay ≡ option_map both_of used.now.delay) }
+    ensures fall { IfOk result (λ f. written_fall_of f.fall ≡ written_fall_of used.now.fall) }
 {
-    Ok(UseStmt {
+    Ok(Front {
         label: bytes(alloc, &used.label)?,
         kind: bytes(alloc, &used.kind)?,
         delay: used.delay.again(alloc)?,
         fall: used.fall.again(alloc)?,
+    })
+}
+
+/// Copies of the parameters and of the connections of a use.
+#[derive(Drop)]
+struct Connections {
+    params: Assigns,
+    ins: Conns,
+    outs: Conns,
+}
+
+fn copied_connections(alloc: Global, order: Order, used: &UseStmt) -> Result<Connections, NoMemory>
+    ensures params { IfOk result (λ x.
+        map assignment_of x.params ≡ map assignment_of used.now.params) }
+    ensures ins { IfOk result (λ x. map connection_of x.ins
+        ≡ in_order_ins order used.now.kind (map connection_of used.now.ins)) }
+    ensures outs { IfOk result (λ x. map connection_of x.outs ≡ map connection_of used.now.outs) }
+{
+    Ok(Connections {
         params: trees(alloc, used.params.as_slice())?,
         ins: ins(alloc, order, used)?,
         outs: trees(alloc, used.outs.as_slice())?,
+    })
+}
+
+fn use_statement(alloc: Global, order: Order, used: &UseStmt) -> Result<UseStmt, NoMemory>
+    ensures { IfOk result (λ copy. use_of copy ≡ in_order_use order (use_of used.now)) }
+{
+    let front = copied_front(alloc, used)?;
+    let connections = copied_connections(alloc, order, used)?;
+    let Front {
+        label,
+        kind,
+        delay,
+        fall,
+    } = front;
+    let Connections { params, ins, outs } = connections;
+    Ok(UseStmt {
+        label,
+        kind,
+        delay,
+        fall,
+        params,
+        ins,
+        outs,
         place: used.place,
     })
 }
