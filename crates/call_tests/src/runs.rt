@@ -49,6 +49,27 @@ b1<0> 1 : 0
 A<0> 000
 X<0> 100
 END TRACE
+#### a gate that may take no time stands before what drives it
+words: run 3 0 case=1
+text:
+SCALD 1;
+CLOCK 4 x 1;
+DRAWING ROW;
+g1 : AND [0:0] ("A", "A") -> ("Z");
+b2 : BUF [0:1] ("X") -> ("Y");
+b1 : BUF [0:0] ("A") -> ("X");
+END;
+CASE "A"=1;
+answer: Done
+TRACE 3
+g1<0> 0 : 0 0
+b2<0> 0 : 0
+b1<0> 0 : 0
+A<0> 111
+X<0> 111
+Y<0> 111
+Z<0> 111
+END TRACE
 #### a case past the last
 words: run 3 0 case=3
 text:
