@@ -42,6 +42,31 @@ module _ {Self : Type 0} (told : TellingOf Self) (c : Circuit) (limit base : ℕ
         is = more l has.cases is.numbered has.is;
       }
 
+-- a case at rest, whose waves are read from the table that has them
+pub read_case : (c : Circuit) (limit base : ℕ) (listed : Listed) (number rounds tick : ℕ) (ws read : List (Wave Value)) (fs : List Fault) → read ≡ ws →
+    IsCaseAtRest c limit base listed number rounds tick ws fs → IsCaseAtRest c limit base listed number rounds tick read fs
+read_case c limit base listed number rounds tick ws read fs same is =
+    subst (λ (xs : List (Wave Value)). IsCaseAtRest c limit base listed number rounds tick xs fs) (sym same) is
+
+-- one case more is told, whichever the cases before are, where its waves are read from the table that has them
+module _ {Self : Type 0} (told : ℕ → TellingOf Self) (c : Circuit) (teller after : Self) (number rounds tick : ℕ)
+    (ws read : List (Wave Value)) (fs : List Fault) (same : read ≡ ws) where
+  pub told_read : ((version : ℕ) (l : Listed) (cases : List Case) → number ≡ l.number → told version teller c cases →
+      told version after c (cases ++ settled_case l rounds read ∷ [])) →
+      (version limit base : ℕ) (before : List Listed) (l : Listed) → HasTold (told version) teller c limit base before →
+      IsCaseAtRest c limit base l number rounds tick ws fs → HasTold (told version) after c limit base (before ++ l ∷ [])
+  told_read more version limit base before l has is =
+      told_more (told version) c limit base before l teller after number rounds tick read fs has
+      (read_case c limit base l number rounds tick ws read fs same is) (more version)
+
+-- the same from a base whose round is known to be another's
+pub told_from : {Self : Type 0} (told : TellingOf Self) (c : Circuit) (limit base from : ℕ) (before listed : List Listed)
+    (teller after : Self) → from ≡ base →
+    (HasTold told teller c limit from before → HasTold told after c limit from listed) →
+    HasTold told teller c limit base before → HasTold told after c limit base listed
+told_from told c limit base from before listed teller after same more has =
+    subst (λ (b : ℕ). HasTold told teller c limit b before → HasTold told after c limit b listed) same more has
+
 -- What is replied after all cases is what is told of them, by the version of the drawing.
 module _ {Self : Type 0} (told : ℕ → TellingOf Self) (tell : ℕ → Telling) (version : ℕ) (c : Circuit) (limit base : ℕ)
     (listed : List Listed) (teller : Self) (has : HasTold (told version) teller c limit base listed) where
@@ -63,11 +88,19 @@ module _ {Self : Type 0} (told : ℕ → TellingOf Self) (tell : ℕ → Telling
   told_end (Ok reply) outcome text = told_done reply.outcome reply.bytes outcome text
   told_end (Err e) outcome text = tt
 
--- a case at rest, whose waves are read from the table that has them
-pub read_case : (c : Circuit) (limit base : ℕ) (listed : Listed) (number rounds tick : ℕ) (ws read : List (Wave Value)) (fs : List Fault) → read ≡ ws →
-    IsCaseAtRest c limit base listed number rounds tick ws fs → IsCaseAtRest c limit base listed number rounds tick read fs
-read_case c limit base listed number rounds tick ws read fs same is =
-    subst (λ (xs : List (Wave Value)). IsCaseAtRest c limit base listed number rounds tick xs fs) (sym same) is
+-- the same of one case, whichever it is
+module _ {Self : Type 0} (told : ℕ → TellingOf Self) (tell : ℕ → Telling) (version : ℕ) (c : Circuit) (teller : Self)
+    (Rests : ℕ → ℕ → Listed → Type 0)
+    (has : (limit base : ℕ) (l : Listed) → Rests limit base l → HasTold (told version) teller c limit base (l ∷ [])) where
+  pub told_of_one : (made : Result (Reply Outcome) OutOfMemory) →
+      IfOk made (λ reply. (v b : ℕ) (cases : List Case) → told v teller c cases → reply.outcome ≡ (tell v c b cases).0) →
+      IfOk made (λ reply. (v b : ℕ) (cases : List Case) → told v teller c cases → reply.bytes ≡ (tell v c b cases).1) →
+      IfOk made (λ reply. (limit base : ℕ) (l : Listed) → Rests limit base l →
+      IsTold (tell version) c limit base (l ∷ []) reply.outcome reply.bytes)
+  told_of_one (Ok reply) outcome text =
+      λ limit base l is. told_done told tell version c limit base (l ∷ []) teller (has limit base l is)
+      reply.outcome reply.bytes outcome text
+  told_of_one (Err e) outcome text = tt
 
 -- ---- so many of the cases of a drawing
 
@@ -83,19 +116,23 @@ module _ {Self : Type 0} (told : TellingOf Self) (ready : Self → Circuit → �
   abbrev here : Listed
   here = record { number = k + 1; values = case_at cases k }
 
+  pub going_told : (after : Self) → HasTold told after c limit base (numbered 1 (take k cases) ++ here ∷ []) →
+      ready after c (k + 1) → Going told ready c limit base cases (k + 1) after
+  going_told after has next_ready = record {
+    told_so_far =
+        let next : take (k + 1) cases ≡ take k cases ++ case_at cases k ∷ [] = take_more cases k [] inside in
+        subst (λ (ls : List Listed). HasTold told after c limit base ls)
+        (sym (ap (numbered 1) next ∙ numbered_here cases k inside [])) has;
+    is_ready = next_ready;
+  }
+
   pub going_more : (after : Self) (number rounds tick : ℕ) (ws : List (Wave Value)) (fs : List Fault) →
       IsCaseAtRest c limit base here number rounds tick ws fs →
       ((m : Listed) (before : List Case) → number ≡ m.number → told teller c before → told after c (before ++ settled_case m rounds ws ∷ [])) →
       ready after c (k + 1) → Going told ready c limit base cases (k + 1) after
-  going_more after number rounds tick ws fs is more next_ready = record {
-    told_so_far =
-        let next : take (k + 1) cases ≡ take k cases ++ case_at cases k ∷ [] = take_more cases k [] inside in
-        subst (λ (ls : List Listed). HasTold told after c limit base ls)
-        (sym (ap (numbered 1) next ∙ numbered_here cases k inside []))
-        (told_more told c limit base (numbered 1 (take k cases)) here teller after number rounds tick ws fs
-        going.told_so_far is more);
-    is_ready = next_ready;
-  }
+  going_more after number rounds tick ws fs is more =
+      going_told after (told_more told c limit base (numbered 1 (take k cases)) here teller after number rounds tick ws fs
+      going.told_so_far is more)
 
   pub going_ends : (end : EngineEnd) → EndsCase c limit base here end → EndsCases c limit base (numbered 1 cases) end
   going_ends NoMemory ends = tt

@@ -12,6 +12,7 @@
 mod ends;
 
 // what is told
+mod cases;
 mod outcome;
 mod reply;
 mod teller;

@@ -1,29 +1,28 @@
 //! From a text to the reply on its circuit.
 
-ghost use Rattle.std.specs.Prelude.{◌≡◌, ◌-◌, ◌^◌, ◌<◌, ◌≤◌, [], None, IfOk, IfErr, length};
+ghost use Rattle.std.specs.Prelude.{◌≡◌, ◌-◌, ◌^◌, ◌<◌, ◌≤◌, None, IfOk, IfErr, length};
 ghost use Rattle.flat_circuit.specs.Instances.{outputs};
 ghost use Rattle.fixpoint_engine.specs.Loops.{HasNoLoop};
 ghost use Rattle.fixpoint_engine.specs.Rounds.{RestsAt};
 ghost use Rattle.case_analysis.specs.Base.{base_round};
-ghost use Rattle.timing_analysis.specs.Case.{listed_cases, numbered};
-ghost use Rattle.timing_analysis.specs.Ended.{EndsCases, EndsEarly};
-ghost use Rattle.timing_analysis.specs.Rested.{IsBaseIn};
+ghost use Rattle.timing_analysis.specs.Case.{listed_cases};
+ghost use Rattle.timing_analysis.specs.Ended.{EndsEarly};
 ghost use Rattle.timing_analysis.specs.Subject.{IsSubject};
 ghost use Rattle.timing_reply.specs.Answer.{Evaluated};
 ghost use Rattle.timing_reply.specs.Teller.{IsTold};
 
+use crate::cases::{each_case, only_case};
 use crate::ends::{ended, refused};
 use crate::teller::Teller;
 use case_analysis::default_limit;
 use drawn_circuit::read_circuit;
 use fixpoint_engine::EngineEnd;
-use net_waves::Waves;
 use program_call::Reply;
 use run_wave::RunWave;
 use scald_base::{NoMemory, Outcome, Stop};
 use std::alloc::Global;
 use step_values::Value;
-use timing_analysis::{Rested, Subject};
+use timing_analysis::Subject;
 
 /// The reply to a text of fewer than 4,294,967,295 bytes: what `T` tells of its circuit, after at most as
 /// many rounds of the base and of each case as the circuit's own limit has; or why the text is refused,
@@ -73,54 +72,4 @@ pub fn told_of<T: Teller>(alloc: Global, subject: &Subject, limit: u32) -> Resul
         each_case::<T>(alloc, subject, limit, rested)?
     };
     Ok(Told { reply, base })
-}
-
-/// What is told of a circuit for which no case is listed.
-fn only_case<T: Teller>(
-    alloc: Global,
-    subject: &Subject,
-    limit: u32,
-    rested: Rested<RunWave<Value>>,
-) -> Result<Reply<Outcome>, NoMemory>
-    requires is { IsSubject subject.now }
-    requires few { limit ≤ 10000000 }
-    requires rest { IsBaseIn subject.now.circuit limit
-        rested.base.rounds rested.store rested.base.numbers rested.known }
-    ensures { IfOk result (λ reply. IsTold (T.tell subject.now.version) subject.now.circuit limit
-        rested.base.rounds (listed_cases []) reply.outcome reply.bytes) }
-{
-    let circuit = &subject.circuit;
-    let mut teller = T::begin(alloc, subject.version, circuit)?;
-    let (store, case) = rested.only_case(alloc, subject, limit)?;
-    let waves = Waves::new(store.waves(), case.settled.numbers.as_slice());
-    teller.add_case(alloc, circuit, 0, &case, &waves)?;
-    teller.end(alloc, circuit)
-}
-
-/// What is told of a circuit with cases, or the end of the first that never settles.
-fn each_case<T: Teller>(
-    alloc: Global,
-    subject: &Subject,
-    limit: u32,
-    rested: Rested<RunWave<Value>>,
-) -> Result<Reply<Outcome>, EngineEnd>
-    requires is { IsSubject subject.now }
-    requires few { limit ≤ 10000000 }
-    requires rest { IsBaseIn subject.now.circuit
-        limit rested.base.rounds rested.store rested.base.numbers rested.known }
-    ensures told { IfOk result (λ reply. IsTold (T.tell subject.now.version) subject.now.circuit limit
-        rested.base.rounds (numbered 1 subject.now.cases) reply.outcome reply.bytes) }
-    ensures ended { IfErr result
-        (EndsCases subject.now.circuit limit rested.base.rounds (numbered 1 subject.now.cases)) }
-    ensures loopless { HasNoLoop subject.now.circuit →
-        outputs subject.now.circuit.instances ≤ limit → IfErr result (λ end. end ≡ EngineEnd.NoMemory) }
-{
-    let mut rested = rested;
-    let mut teller = T::begin(alloc, subject.version, &subject.circuit)?;
-    for place in 0..subject.cases.len() as u32 {
-        let case = subject.case(alloc, &mut rested, place, limit)?;
-        let waves = Waves::new(rested.store.waves(), case.settled.numbers.as_slice());
-        teller.add_case(alloc, &subject.circuit, place, &case, &waves)?;
-    }
-    Ok(teller.end(alloc, &subject.circuit)?)
 }

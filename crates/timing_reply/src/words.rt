@@ -6,7 +6,7 @@ ghost use Rattle.timing_reply.specs.Program.{no_words};
 use scald_base::Words;
 
 /// What a program without words may be asked for.
-#[derive(Clone, Copy, PartialEq, Eq, Debug)]
+#[derive(Clone, Copy)]
 pub enum Request {
     /// Its reply to the text that it reads.
     Reply,

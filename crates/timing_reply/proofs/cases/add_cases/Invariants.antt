@@ -1,7 +1,7 @@
 use Rattle.std.proofs.Common.{◌≡◌}
 use Rattle.timing_analysis.specs.Rested.{IsBaseIn}
 use Rattle.timing_reply.proofs.Telling.{Going}
-use Rattle.timing_reply.proofs.reply.each_case.Given as goal
+use Rattle.timing_reply.proofs.cases.add_cases.Given as goal
 
 abbrev pub invariant-loop-place : goal.invariant-loop-place
 invariant-loop-place g l = record {
