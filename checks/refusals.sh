@@ -718,6 +718,22 @@ limits_of_nets='    at most 65536 bits of nets and 262144 statements may be reac
 limits_of_elements='    at most 65536 bits of nets, 65536 of elements, 1048576 pins and 262144 statements may be reached,'
 limits_of_checkers='    at most 65536 bits of nets, 65536 of checkers, 1048576 pins and 262144 statements may be reached,'
 past_one='    and this is past one of these limits'
+helps "$limits_of_nets" '    it is reached by t at 10:1'
+# (E reaches 262142 statements with N=16, so the third of the second use is one too many)
+macro unexpanded '16 TooMany 5:1' 'MACRO E {N=1} ();' 'IF N > 0 THEN' 'a : E {N=N-1} ();' 'b : E {N=N-1} ();' 'END;' 'END;' \
+    'DRAWING ROW;' 't : E {N=16} ();' 'u : E {N=16} ();' 'v : E {N=0} ();' 'END;'
+helps "$limits_of_nets" '    it is reached by u at 11:1'
+# after COUNT: the same with so many uses before it that reach two statements each
+after() {
+    {
+        clocked 'MACRO E {N=1} ();' 'IF N > 0 THEN' 'a : E {N=N-1} ();' 'b : E {N=N-1} ();' 'END;' 'END;' 'DRAWING ROW;'
+        awk -v count="$1" 'BEGIN { for (i = 0; i < count; i++) printf "l%d : E {N=0} ();\n", i }'
+        printf 't : E {N=20} ();\nEND;\n'
+    } | unexpanded '16 TooMany 6:1'
+}
+after 63
+helps "$limits_of_nets" '    it is reached by t at 73:1'
+after 64
 helps "$limits_of_nets"
 expanded '16 TooMany 4:1' 'DRAWING ROW;' 'FOR I = 0 TO 262143 DO END;' 'END;'
 helps '    at most 262144 statements may be reached, each value of a FOR as one, and this is one more'
@@ -1276,6 +1292,13 @@ driven_first 'X<0>' 8:1 'v#0<0>'
 # (of three statements the first)
 drawing '17 TwoDrivers 5:1' 'b1 : BUF [0:0] ("A") -> ("X");' 'b2 : BUF [0:0] ("B") -> ("X");' 'b3 : BUF [0:0] ("C") -> ("X");'
 driven_first 'X<0>' 4:1 'b1<0>'
+# (eight statements are refused one after another, or nine)
+# shellcheck disable=SC2046
+for last in 9 10; do
+    drawing '17 TwoDrivers 5:1' $(i=1; while [ "$i" -le "$last" ]; do echo "b$i:BUF[0:0](\"A\")->(\"X\");"; i=$((i + 1)); done)
+    [ "$last" -eq 9 ] || helps "$one_driver"
+    [ "$last" -ne 9 ] || driven_first 'X<0>' 4:1 'b1<0>'
+done
 # (its second bit is driven before, and its first again only later)
 macro unexpanded '17 TwoDrivers 4:1' 'MACRO M ("A"<0:1>) -> ("Z"<0:1>);' 'b1 : BUF [0:0] ("A") -> ("Z");' 'END;' 'DRAWING ROW;' \
     'b2 : BUF [0:0] ("B") -> ("Y");' 'u : M ("A"<0:1>) -> ("X" & "Y");' 'b3 : BUF [0:0] ("C") -> ("X");' 'END;'
@@ -1292,13 +1315,6 @@ helps "$one_driver" \
 helps "$one_driver" \
     '    it is driven before:' \
     '        X<0> is driven at 4:1 by b1<0>'
-# (eight statements are refused in turn, or nine)
-# shellcheck disable=SC2046
-for last in 9 10; do
-    drawing '17 TwoDrivers 5:1' $(i=1; while [ "$i" -le "$last" ]; do echo "b$i:BUF[0:0](\"A\")->(\"X\");"; i=$((i + 1)); done)
-    [ "$last" -eq 9 ] || helps "$one_driver"
-    [ "$last" -ne 9 ] || driven_first 'X<0>' 4:1 'b1<0>'
-done
 drawing '18 ZeroLoop 4:1' 'b1 : BUF [0:0] ("Y") -> ("X");' 'a1 : AND [0:0] ("CK .P2-3", "X") -> ("Y");'
 helps "$slow_loop" \
     '    it is in a loop, each net of which comes from the next:' \
@@ -1465,22 +1481,6 @@ said "$(of 2 7 'the net /Q<0> does not assert here what it asserts in section 1'
     "    $first" \
     '                                   ^' \
     '    give it the same assertion in each section where it stands'
-sections 10 "$first" "b2 : BUF [1:2] (\"E .S1-8\") -> (\"/Q .S2-8\");$end"
-said "$(of 2 7 'the net /Q<0> is driven here, and in section 1')" \
-    '    here it is driven at 4:1, line 10 of the text:' \
-    '    b2 : BUF [1:2] ("E .S1-8") -> ("/Q .S2-8");' \
-    '    ^' \
-    '    in section 1 it is driven at 4:1, line 4 of the text:' \
-    "    $first" \
-    '    ^' \
-    '    one section drives it, and the others take it as it asserts'
-sections 10 'b1 : BUF [1:2] ("D .S1-8") -> ("/Q");' "b2 : BUF [1:2] (\"/Q\") -> (\"X\");$end"
-said "$(of 1 1 'the net /Q<0> asserts nothing, and goes to section 2')" \
-    '    here it stands at 4:32, line 4 of the text:' \
-    '    b1 : BUF [1:2] ("D .S1-8") -> ("/Q");' \
-    '                                   ^' \
-    '    in section 2 it stands at 4:17, line 10 of the text:' \
-    '    b2 : BUF [1:2] ("/Q") -> ("X");' \
 # (the assertion stands at a name that is nearly the one without it, in the first section or in the second)
 slipping='b1 : AND [1:2] ("/DONE", "/DOEN .S2-8") -> ("X");'
 driving='b1 : BUF [1:2] ("D .S1-8") -> ("/DONE .S2-8");'
@@ -1515,6 +1515,22 @@ said "$(of 2 7 'the net /DONE<0> does not assert here what it asserts in section
     "    $slipping" \
     '                    ^' \
     '    give it the same assertion in each section where it stands'
+sections 10 "$first" "b2 : BUF [1:2] (\"E .S1-8\") -> (\"/Q .S2-8\");$end"
+said "$(of 2 7 'the net /Q<0> is driven here, and in section 1')" \
+    '    here it is driven at 4:1, line 10 of the text:' \
+    '    b2 : BUF [1:2] ("E .S1-8") -> ("/Q .S2-8");' \
+    '    ^' \
+    '    in section 1 it is driven at 4:1, line 4 of the text:' \
+    "    $first" \
+    '    ^' \
+    '    one section drives it, and the others take it as it asserts'
+sections 10 'b1 : BUF [1:2] ("D .S1-8") -> ("/Q");' "b2 : BUF [1:2] (\"/Q\") -> (\"X\");$end"
+said "$(of 1 1 'the net /Q<0> asserts nothing, and goes to section 2')" \
+    '    here it stands at 4:32, line 4 of the text:' \
+    '    b1 : BUF [1:2] ("D .S1-8") -> ("/Q");' \
+    '                                   ^' \
+    '    in section 2 it stands at 4:17, line 10 of the text:' \
+    '    b2 : BUF [1:2] ("/Q") -> ("X");' \
     '                    ^' \
     '    nothing else is known of it there: give it one assertion in each section where it stands'
 sections 10 'b1 : BUF [0:2] ("D .S1-8") -> ("/Q .S2-8");' "$second$end"

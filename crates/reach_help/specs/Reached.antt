@@ -2,6 +2,7 @@
 use Rattle.std.specs.Prelude.{◌≡◌, ℕ, Bool, true, false, ◌&&◌, ◌==◌, List, [], ◌∷◌, ◌++◌, take, slice_get, codes, decimal, Some}
 use Rattle.scald_base.specs.declared.refusal.Place.{Place}
 use Rattle.scald_base.specs.declared.refusal.Refusal.{Refusal}
+use Rattle.scald_base.specs.Refusal.{number_of}
 use Rattle.scald_lex.specs.declared.token.Token.{Token}
 use Rattle.scald_lex.specs.Tokens.{AreTokens}
 use Rattle.listing.specs.Text.{line}
@@ -18,11 +19,15 @@ cut_text text cut = take cut text ++ codes "END;"
 abbrev pub is_at : Place → Place → Bool
 is_at place other = place.line == other.line && place.col == other.col
 
--- the text is refused there
-pub record IsRefusedAt (text : List ℕ) (place : Place) : Type 0 where
+-- of one kind, at one place
+abbrev pub is_same : Refusal → Refusal → Bool
+is_same refusal other = is_at refusal.place other.place && number_of refusal.kind == number_of other.kind
+
+-- the text has this refusal
+pub record IsRefusedSo (text : List ℕ) (wanted : Refusal) : Type 0 where
   pub refusal : Refusal
   pub refused : IsTextRefused text refusal
-  pub there : is_at refusal.place place ≡ true
+  pub same : is_same refusal wanted ≡ true
 
 -- it is true exactly where this holds
 abbrev pub Says : Type 0 → Bool → Type 0
@@ -34,15 +39,15 @@ reached_line word place = line (
     codes "    it is reached by " ∷ word ∷ codes " at " ∷ decimal place.line ∷ (58 ∷ [])
     ∷ decimal place.col ∷ [])
 
--- With one of these statements the text is refused at the place, and up to it it is not.
-pub data IsToldOf (text : List ℕ) (found : List Statement) (place : Place) : List ℕ → Type 0 where
-  none : IsToldOf text found place []
-  reached : (n : ℕ) (s : Statement) → slice_get found n ≡ Some s → IsRefusedAt (cut_text text s.end) place →
-      ¬ IsRefusedAt (cut_text text s.first.start) place →
-      IsToldOf text found place (reached_line (spelled text s.first) s.first.place)
+-- With one of these statements the text has the refusal, and up to it it does not.
+pub data IsToldOf (text : List ℕ) (found : List Statement) (wanted : Refusal) : List ℕ → Type 0 where
+  none : IsToldOf text found wanted []
+  reached : (n : ℕ) (s : Statement) → slice_get found n ≡ Some s → IsRefusedSo (cut_text text s.end) wanted →
+      ¬ IsRefusedSo (cut_text text s.first.start) wanted →
+      IsToldOf text found wanted (reached_line (spelled text s.first) s.first.place)
 
 -- of the statements of the drawing itself
-pub data IsTold (text : List ℕ) (place : Place) : List ℕ → Type 0 where
-  nothing : IsTold text place []
+pub data IsTold (text : List ℕ) (wanted : Refusal) : List ℕ → Type 0 where
+  nothing : IsTold text wanted []
   by_tokens : (tokens : List Token) (bytes : List ℕ) → AreTokens text tokens →
-      IsToldOf text (statements_of text tokens) place bytes → IsTold text place bytes
+      IsToldOf text (statements_of text tokens) wanted bytes → IsTold text wanted bytes

@@ -1,19 +1,22 @@
 //! By which statement of the drawing a place in a macro is reached.
 
 ghost use Rattle.std.specs.Prelude.{◌≡◌, ◌++◌, ◌<◌, ◌≤◌, ◌-◌, ◌^◌, length, slice_get, IfOk, OnOk};
-ghost use Rattle.reach_help.specs.Reached.{IsRefusedAt, IsTold, IsToldOf, Says, cut_text, is_at, reached_line};
+ghost use Rattle.reach_help.specs.Reached.{IsRefusedSo, IsTold, IsToldOf, Says, cut_text, is_at, is_same, reached_line};
 
 use crate::statements::{Statement, statements};
 use drawn_circuit::laws::{refused_text_draws_nothing, text_has_one_refusal};
 use drawn_circuit::read_circuit;
 use help_text::{front, spelled};
 use listing::{Piece, add_line};
-use scald_base::{Bytes, NoMemory, Place, Stop};
+use scald_base::{Bytes, NoMemory, Place, Refusal, RefusalKind, Stop};
 use scald_lex::tokens;
 use std::alloc::Global;
 
 /// The most bytes of a text that is read again and again.
 const MOST_BYTES: usize = 262_144;
+
+/// The most statements of a drawing in which something is too many.
+const MOST_STATEMENTS: usize = 64;
 
 /// Whether two places are one.
 fn is_at(place: Place, other: Place) -> bool
@@ -22,16 +25,23 @@ fn is_at(place: Place, other: Place) -> bool
     place.line == other.line && place.col == other.col
 }
 
-/// Whether a text is refused at a place.
-fn is_refused_at(alloc: Global, text: &[u8], place: Place) -> Result<bool, NoMemory>
+/// Whether two refusals are of one kind, at one place.
+fn is_same(refusal: Refusal, other: Refusal) -> bool
+    ensures { result ≡ is_same refusal other }
+{
+    is_at(refusal.place, other.place) && refusal.kind.number() == other.kind.number()
+}
+
+/// Whether a text has this refusal.
+fn is_refused(alloc: Global, text: &[u8], wanted: Refusal) -> Result<bool, NoMemory>
     requires { length text.now < 2 ^ 32 - 1 }
-    ensures { IfOk result (Says (IsRefusedAt text.now place)) }
+    ensures { IfOk result (Says (IsRefusedSo text.now wanted)) }
 {
     text_has_one_refusal();
     refused_text_draws_nothing();
     match read_circuit(alloc, text) {
         Ok(_) => Ok(false),
-        Err(Stop::Refused(refusal)) => Ok(is_at(refusal.place, place)),
+        Err(Stop::Refused(refusal)) => Ok(is_same(refusal, wanted)),
         Err(Stop::NoMemory) => Err(NoMemory),
     }
 }
@@ -46,22 +56,21 @@ fn cut_text(alloc: Global, text: &[u8], cut: u32) -> Result<Bytes, NoMemory>
     Ok(made)
 }
 
-/// Whether the text that ends at a byte is refused at a place.
-fn is_refused_with(alloc: Global, text: &[u8], cut: u32, place: Place) -> Result<bool, NoMemory>
+/// Whether the text that ends at a byte has this refusal.
+fn is_refused_with(alloc: Global, text: &[u8], cut: u32, wanted: Refusal) -> Result<bool, NoMemory>
     requires { length text.now ≤ 262144 }
-    ensures { IfOk result (Says (IsRefusedAt (cut_text text.now cut) place)) }
+    ensures { IfOk result (Says (IsRefusedSo (cut_text text.now cut) wanted)) }
 {
     let made = cut_text(alloc, text, cut)?;
-    is_refused_at(alloc, made.as_slice(), place)
+    is_refused(alloc, made.as_slice(), wanted)
 }
 
-/// The number of the statement with which the text is refused at a place, if one by one they came
-/// to it.
+/// The number of the statement with which the text has this refusal, if one by one they came to it.
 fn searched(
     alloc: Global,
     text: &[u8],
     found: &[Statement],
-    place: Place,
+    wanted: Refusal,
 ) -> Result<usize, NoMemory>
     requires { length text.now ≤ 262144 }
 {
@@ -77,7 +86,7 @@ fn searched(
             Some(statement) => statement.end,
             None => return Ok(least),
         };
-        if is_refused_with(alloc, text, end, place)? {
+        if is_refused_with(alloc, text, end, wanted)? {
             most = middle;
         } else {
             least = middle;
@@ -129,18 +138,18 @@ fn is_shown(place: Place, shown: Option<Place>) -> bool {
     }
 }
 
-/// What is told of a statement of the drawing, one of these, unless it is shown: that with it the text is
-/// refused at the place, and without it it is not.
+/// What is told of a statement of the drawing, one of these, unless it is shown: that with it the text has
+/// the refusal, and up to it it does not.
 fn told(
     alloc: Global,
     text: &[u8],
     found: &[Statement],
     number: usize,
-    place: Place,
+    wanted: Refusal,
     shown: Option<Place>,
 ) -> Result<Bytes, NoMemory>
     requires { length text.now ≤ 262144 }
-    ensures { IfOk result (IsToldOf text.now found.now place) }
+    ensures { IfOk result (IsToldOf text.now found.now wanted) }
 {
     let Some(statement) = statement_at(found, number) else {
         return Ok(Bytes::new(alloc));
@@ -150,11 +159,11 @@ fn told(
     if shown {
         return Ok(Bytes::new(alloc));
     }
-    let with = is_refused_with(alloc, text, statement.end, place)?;
+    let with = is_refused_with(alloc, text, statement.end, wanted)?;
     if !with {
         return Ok(Bytes::new(alloc));
     }
-    let without = is_refused_with(alloc, text, first.start, place)?;
+    let without = is_refused_with(alloc, text, first.start, wanted)?;
     if without {
         return Ok(Bytes::new(alloc));
     }
@@ -163,17 +172,27 @@ fn told(
     Ok(out)
 }
 
+/// Whether the text is read again and again, where its drawing has so many statements. What has too many of
+/// something costs the most, so it is read eight times at most.
+fn is_searched(kind: RefusalKind, count: usize) -> bool {
+    match kind {
+        RefusalKind::TooMany => count <= MOST_STATEMENTS,
+        _ => true,
+    }
+}
+
 /// Of a text that is refused at a place in a macro: the use in the drawing by which that is
 /// reached, where the text has at most 262,144 bytes, and that use is not the one that is shown. It reads
-/// the text a few times, by halves of its statements. The one error is that memory ran out.
+/// the text a few times, by halves of its statements; where something is too many, only a drawing of at
+/// most 64 statements. The one error is that memory ran out.
 pub fn explain_reached(
     alloc: Global,
     text: &[u8],
-    place: Place,
+    refusal: Refusal,
     shown: Option<Place>,
 ) -> Result<Bytes, NoMemory>
     requires { length text.now < 2 ^ 32 - 1 }
-    ensures { IfOk result (IsTold text.now place) }
+    ensures { IfOk result (IsTold text.now refusal) }
 {
     if text.len() > MOST_BYTES {
         return Ok(Bytes::new(alloc));
@@ -184,9 +203,11 @@ pub fn explain_reached(
         Err(Stop::NoMemory) => return Err(NoMemory),
     };
     let found = statements(alloc, text, list.as_slice())?;
-    if !is_in_macro(place, found.as_slice()) {
+    let place = refusal.place;
+    let is_sought = is_in_macro(place, found.as_slice()) && is_searched(refusal.kind, found.len());
+    if !is_sought {
         return Ok(Bytes::new(alloc));
     }
-    let number = searched(alloc, text, found.as_slice(), place)?;
-    told(alloc, text, found.as_slice(), number, place, shown)
+    let number = searched(alloc, text, found.as_slice(), refusal)?;
+    told(alloc, text, found.as_slice(), number, refusal, shown)
 }

@@ -175,25 +175,24 @@ fn say_more(rt: &(impl Eprint + AllocGlobal), text: &[u8], refusal: Refusal)
         RefusalKind::CaseNet => say_lines(rt, explain_case(alloc, text, refusal.place)),
         RefusalKind::TwoDrivers => {
             say_lines(rt, explain_drivers(alloc, text, refusal.place));
-            say_lines(rt, explain_reached(alloc, text, refusal.place, shown));
+            say_lines(rt, explain_reached(alloc, text, refusal, shown));
         }
         RefusalKind::ZeroLoop => {
             say_lines(rt, explain_zero_loop(alloc, text, refusal.place));
-            say_lines(rt, explain_reached(alloc, text, refusal.place, shown));
+            say_lines(rt, explain_reached(alloc, text, refusal, shown));
         }
         RefusalKind::BadRange | RefusalKind::Bounds | RefusalKind::Width => {
             say_lines(rt, explain_values(alloc, text, refusal));
-            say_lines(rt, explain_reached(alloc, text, refusal.place, shown));
+            say_lines(rt, explain_reached(alloc, text, refusal, shown));
         }
-        // These are of the text, and a circuit that is too large is not made again.
+        // These are of the text, and not of its circuit.
         RefusalKind::BadByte
         | RefusalKind::BadToken
         | RefusalKind::BadHeader
         | RefusalKind::BadName
         | RefusalKind::EdgesOverlap
-        | RefusalKind::DoubleName
-        | RefusalKind::TooMany => {}
-        _ => say_lines(rt, explain_reached(alloc, text, refusal.place, shown)),
+        | RefusalKind::DoubleName => {}
+        _ => say_lines(rt, explain_reached(alloc, text, refusal, shown)),
     }
 }
 
