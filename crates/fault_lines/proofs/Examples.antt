@@ -79,7 +79,7 @@ of_one_delay = (refl, refl)
 
 -- ---- a clock CK, and a net D that a buffer drives from it
 
-abbrev net : List ℕ → Option ℕ → Net
+abbrev pub net : List ℕ → Option ℕ → Net
 net name driver = record { name = name; bit = 0; spec = Unasserted; wire = span 0 0; driver = driver }
 
 abbrev buffer : Bounds → Option Split → Bool → Instance
@@ -97,7 +97,7 @@ buffer delay split inverted =
       place = record { line = 5; col = 1 };
     }
 
-abbrev header : Header
+abbrev pub header : Header
 header = record { units = 8; ticks = 50; wire = span 0 0; pskew = (0, 0); cskew = (0, 0) }
 
 abbrev pub circuit_with : Bounds → Option Split → Bool → Circuit
@@ -155,7 +155,7 @@ after_edge = (refl, refl, refl, refl)
 
 -- A change of an input in slot 90, 13 ticks before an edge to which the clock takes 403 from tick
 -- 100 on.
-abbrev moved : Side
+abbrev pub moved : Side
 moved = side (record { net = 0; slot = 90; value = C } ∷ []) 90
 
 before_edge : (change_tick (circuit (span 400 410)) (edge Setup moved 13 0 (change 103)) ≡ 490) × (edge_tick (circuit (span 400 410)) (edge Setup moved 13 0 (change 103)) ≡ 503)
@@ -172,7 +172,7 @@ unfolding change_tick back
 launched_before = (refl, refl, refl, refl)
 
 -- what breaks a setup time of 20, of which so many are too many
-abbrev setup : ℕ → Option Asked
+abbrev pub setup : ℕ → Option Asked
 setup least = Some (record { parameter = parameter.Setup; limit = 20; least = least; worst = Point Setup 0 100 100 67 })
 
 abbrev pub asks : Option Asked → AtEdge → AtEdge
@@ -219,7 +219,7 @@ too_near = (refl, refl)
 -- ---- the last change
 
 -- It changes in 16 slots, the sixth of which is that of the edge in slot 100. A path of 390 to 410 ticks leads to it.
-abbrev stretch : ℕ → Side → AtEdge
+abbrev pub stretch : ℕ → Side → AtEdge
 stretch more last =
     record {
       checker = 0;
@@ -245,7 +245,7 @@ unfolding change_tick back
 by_so_many = (refl, refl, refl, refl, refl)
 
 -- what the edge at tick 500 launches; another change of the input; changes all round; and where a lower setup time would do
-abbrev at_once : Side
+abbrev pub at_once : Side
 at_once = side (rise ∷ []) 110
 
 no_last : (has_last (circuit (span 390 410)) (stretch 15 at_once) ≡ false)
@@ -353,7 +353,7 @@ unfolding change_tick back
 over_the_begin = (refl, refl, refl)
 
 -- a mark that takes 403 ticks to the slot of a change, or 3
-abbrev marked : AtMark
+abbrev pub marked : AtMark
 marked =
     record {
       element = 0;
@@ -376,7 +376,7 @@ late_in_it = (refl, refl, refl)
 
 -- ---- a loop
 
-abbrev on : ℕ → ℕ → Link
+abbrev pub on : ℕ → ℕ → Link
 on i slot = record { net = i; slot = slot; value = C }
 
 of_loop : (links_after 0 (on 1 9 ∷ on 0 8 ∷ on 1 7 ∷ on 0 6 ∷ []) ≡ on 1 7 ∷ on 0 6 ∷ []) × (links_after 2 (on 1 9 ∷ on 0 8 ∷ []) ≡ [])

@@ -26,7 +26,7 @@ abbrev on : ℕ → ℕ → Value → Link
 on i slot value = record { net = i; slot = slot; value = value }
 
 -- Its end in slot 10 takes 408 ticks, so its begin in slot 5 is at tick 403 or later.
-abbrev ending : Side
+abbrev pub ending : Side
 ending = side (on 1 10 C ∷ on 0 2 R ∷ []) 10
 
 of_short_pulse : pulse_tick (circuit (span 400 410)) (record { checker = 0; asked = None; high = true; width = 5; begin = side (on 1 5 R ∷ []) 5; end = ending }) ≡ 405

@@ -8,3 +8,6 @@ pub mod LastChange
 pub mod Examples
 pub mod ExamplesPulses
 pub mod ExamplesStill
+pub mod ExamplesLaunched
+pub mod ExamplesSide
+pub mod ExamplesLaws
