@@ -1,16 +1,21 @@
 -- Ticks that a wire and a delay share, and others; and numbers of faults, worked out on paper in a period of 400 ticks.
-use Rattle.std.proofs.Common.{ℕ, ◌<◌, ◌≤◌, true, List, [], ◌∷◌, refl, arith, None}
+use Rattle.std.specs.Prelude.{◌==◌, ◌||◌, ◌≡◌, ◌+◌, ◌%◌, false, if◌then◌else◌}
+use Rattle.std.proofs.Common.{ℕ, zero, suc, ◌<◌, ◌≤◌, true, List, [], ◌∷◌, refl, arith, None}
 use Rattle.scald_base.specs.Clock.{back}
 use Rattle.scald_base.specs.Time.{Bounds}
 use Rattle.scald_base.specs.declared.assertion.AssertSpec.TheVariants.{None as Unasserted}
-use Rattle.step_values.specs.declared.value.Value.TheVariants.{C}
+use Rattle.step_values.specs.declared.value.Value.TheVariants.{S, C}
+use Rattle.step_values.specs.Steps.{is_quiet}
+use Rattle.point_check.specs.Window.{Folds}
 use Rattle.flat_circuit.specs.declared.fault.PointKind.TheVariants.{Setup}
 use Rattle.flat_circuit.specs.declared.fault.Fault.TheVariants.{Point, Width, Hazard, Assertion}
 use Rattle.flat_circuit.specs.declared.net.Net.{Net}
 use Rattle.flat_circuit.specs.Circuit.{Circuit}
 use Rattle.fault_chain.specs.declared.chain.Link.{Link}
+use Rattle.fault_chain.specs.declared.chain.End.TheVariants.{Undriven}
+use Rattle.fault_account.specs.declared.account.Side.{Side}
 use Rattle.fault_account.specs.Account.{IsWithin}
-use Rattle.fault_account.specs.Laws.{AreSteps, AreTicks, IsShared}
+use Rattle.fault_account.specs.Laws.{AddsUp, AreSideBySide, AreSteps, AreTicks, IsShared}
 
 abbrev span : ℕ → ℕ → Bounds
 span least greatest = record { min = least; max = greatest }
@@ -69,6 +74,66 @@ no_step are = let clash : 4 ≤ 3 = are.0.shared.wire_greatest in absurd (omega 
 no_second_step : AreSteps circuit (on 0 105 ∷ on 1 104 ∷ on 0 100 ∷ []) → ⊥
 unfolding back
 no_second_step are = let clash : 4 ≤ 3 = are.1.0.shared.wire_greatest in absurd (omega (arith, clash))
+
+-- ---- up to a pin
+
+-- through a wire of 2 to 5 ticks
+abbrev side : ℕ → Side
+side slot = record { chain = record { links = on 1 103 ∷ on 0 100 ∷ []; end = Undriven }; slot = slot; wire = span 2 5; unknown = [] }
+
+-- 3 ticks by the step, and 4 by the wire
+adds_up : AddsUp circuit (side 107)
+unfolding back
+adds_up = record {
+  steps = steps;
+  wired = record { leads = refl; least = omega arith; greatest = omega arith };
+  sum = λ tick few. let most : 7 ≤ tick = few in omega (arith, most);
+}
+
+-- 6 are more than the wire takes, and from 1 on it is a period more
+too_far : AddsUp circuit (side 109) → ⊥
+unfolding back
+too_far are = let clash : 6 ≤ 5 = are.wired.greatest in absurd (omega (arith, clash))
+
+too_near : AddsUp circuit (side 104) → ⊥
+unfolding back
+too_near are = let clash : 401 ≤ 5 = are.wired.greatest in absurd (omega (arith, clash))
+
+-- ---- side by side
+
+-- changes in slots 8, 9, 0 and 1 of ten
+abbrev input : Folds
+input s = if ((s == 8) || (s == 9)) || ((s == 0) || (s == 1)) then C else S
+
+beside : AreSideBySide 10 input 9 1 2
+unfolding back
+beside = record { after = after; before = before; ends = λ more. refl; begins = λ more. refl }
+  where
+    after : (s : ℕ) → s ≤ 2 → is_quiet (input ((9 + s) % 10)) ≡ false
+    after zero few = refl
+    after (suc zero) few = refl
+    after (suc (suc zero)) few = refl
+    after (suc (suc (suc s))) few = absurd (omega (arith, few))
+
+    before : (s : ℕ) → s ≤ 1 → is_quiet (input (back 10 9 s)) ≡ false
+    before zero few = refl
+    before (suc zero) few = refl
+    before (suc (suc s)) few = absurd (omega (arith, few))
+
+-- a slot more, or fewer, after it or before it
+one_more : AreSideBySide 10 input 9 1 3 → ⊥
+one_more are = let clash : true ≡ false = are.after 3 (omega arith) in absurd (cc)
+
+one_fewer : AreSideBySide 10 input 9 1 1 → ⊥
+one_fewer are = let clash : false ≡ true = are.ends (omega arith) in absurd (cc)
+
+one_more_before : AreSideBySide 10 input 9 2 2 → ⊥
+unfolding back
+one_more_before are = let clash : true ≡ false = are.before 2 (omega arith) in absurd (cc)
+
+one_fewer_before : AreSideBySide 10 input 9 0 2 → ⊥
+unfolding back
+one_fewer_before are = let clash : false ≡ true = are.begins (omega arith) in absurd (cc)
 
 -- ---- numbers
 

@@ -15,3 +15,5 @@ pub mod Existing
 pub mod Telling
 pub mod ExamplesLaws
 pub mod ExamplesLoops
+pub mod ExamplesUnknown
+pub mod ExamplesEdges
