@@ -17,3 +17,5 @@ pub mod ExamplesLaws
 pub mod ExamplesLoops
 pub mod ExamplesUnknown
 pub mod ExamplesEdges
+pub mod GoingRound
+pub mod ExamplesRound

@@ -2,6 +2,7 @@ pub mod Asked
 pub mod Late
 pub mod Loops
 pub mod Unknown
+pub mod GoingRound
 pub mod Sides
 pub mod Around
 pub mod Shown

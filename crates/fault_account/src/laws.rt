@@ -1,6 +1,7 @@
 //! Laws of what is told of a fault. The functions do nothing: what each states is its contract.
 
 ghost use Rattle.fault_account.specs.Laws.{ChangesAreSideBySide, FaultsAreWithin, LimitsAreShort, StepsAreShared, TicksAreShared};
+ghost use Rattle.fault_account.specs.GoingRound.{LoopsGoRound};
 ghost use Rattle.fault_account.specs.Loops.{LoopsAreToldAlike};
 
 /// A limit is short by the least amount: with so much less there is no fault, and with any more there is one.
@@ -35,4 +36,10 @@ pub fn faults_are_within()
 /// Wherever a loop is met, it is told from its net of the least number on.
 pub fn loops_are_told_alike()
     ensures { LoopsAreToldAlike }
+{}
+
+/// The nets of a loop that is told are one of the circuit: the driver of each listens to the one before it, and
+/// that of the first to the last.
+pub fn loops_go_round()
+    ensures { LoopsGoRound }
 {}
