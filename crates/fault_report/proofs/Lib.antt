@@ -8,3 +8,4 @@ pub mod Replied
 pub mod Promised
 pub mod Examples
 pub mod ExamplesHazards
+pub mod ExamplesRows
