@@ -83,9 +83,14 @@ module _ (d : Drawing) (c : Circuit) (limit base : ℕ) (listed : List Listed) (
       told_done (λ (v : ℕ). HasExplained d) (λ (v : ℕ). explained d) 0 c limit base listed kept has o bytes
       (λ v b cases is. outcome d c b cases is) (λ v b cases is. text d c b cases is)
 
-  pub explained_end : (made : Result (Reply Outcome) OutOfMemory) →
+-- the same of one case, whichever it is
+module _ (d : Drawing) (c : Circuit) (kept : Explanations) (Rests : ℕ → ℕ → Listed → Type 0)
+    (has : (limit base : ℕ) (l : Listed) → Rests limit base l → HasTold (HasExplained d) kept c limit base (l ∷ [])) where
+  pub explained_of_one : (made : Result (Reply Outcome) OutOfMemory) →
       IfOk made (λ reply. (e : Drawing) (z : Circuit) (b : ℕ) (cases : List Case) → HasExplained e kept z cases → reply.outcome ≡ (explained e z b cases).0) →
       IfOk made (λ reply. (e : Drawing) (z : Circuit) (b : ℕ) (cases : List Case) → HasExplained e kept z cases → reply.bytes ≡ (explained e z b cases).1) →
-      IfOk made (λ reply. IsTold (explained d) c limit base listed reply.outcome reply.bytes)
-  explained_end (Ok reply) outcome text = explained_done reply.outcome reply.bytes outcome text
-  explained_end (Err e) outcome text = tt
+      IfOk made (λ reply. (limit base : ℕ) (l : Listed) → Rests limit base l →
+      IsTold (explained d) c limit base (l ∷ []) reply.outcome reply.bytes)
+  explained_of_one (Ok reply) outcome text =
+      λ limit base l is. explained_done d c limit base (l ∷ []) kept (has limit base l is) reply.outcome reply.bytes outcome text
+  explained_of_one (Err e) outcome text = tt

@@ -1,30 +1,33 @@
 //! What is told of a circuit, case by case.
 
-ghost use Rattle.std.specs.Prelude.{◌≡◌, ◌≤◌, [], IfErr, IfOk, OnOk};
+ghost use Rattle.std.specs.Prelude.{◌≡◌, ◌≤◌, ◌∷◌, ℕ, [], IfErr, IfOk, OnOk, length};
+ghost use Rattle.std.specs.List.{All};
 ghost use Rattle.drawing_tree.specs.Tree.{drawing_of};
-ghost use Rattle.flat_circuit.specs.Instances.{outputs};
-ghost use Rattle.fixpoint_engine.specs.Loops.{HasNoLoop};
+ghost use Rattle.wave_table.specs.Table.{AreKnown, waves_at};
+ghost use Rattle.net_waves.specs.Waves.{FitWaves, waves_of};
 ghost use Rattle.fixpoint_engine.specs.Rounds.{RestsAt};
 ghost use Rattle.case_analysis.specs.Base.{base_round};
-ghost use Rattle.timing_analysis.specs.Case.{listed_cases, numbered};
+ghost use Rattle.timing_analysis.specs.Case.{Listed, faults_of, listed_cases, numbered};
 ghost use Rattle.timing_analysis.specs.Ended.{EndsCases, EndsEarly};
-ghost use Rattle.timing_analysis.specs.Rested.{IsBaseIn};
+ghost use Rattle.timing_analysis.specs.Rested.{IsBaseIn, IsCaseIn};
 ghost use Rattle.timing_analysis.specs.Subject.{IsSubject};
 ghost use Rattle.timing_reply.specs.Teller.{HasTold, IsTold};
+ghost use Rattle.fault_account.specs.Laws.{AreWithin};
 ghost use Rattle.fault_report.specs.Answer.{explained};
 ghost use Rattle.fault_report.specs.Report.{HasExplained};
 
 use crate::explanations::Explanations;
 use drawing_tree::Drawing;
 use fault_account::laws::faults_are_within;
-use fixpoint_engine::EngineEnd;
+use fixpoint_engine::{EngineEnd, Store};
+use flat_circuit::Circuit;
 use net_waves::Waves;
 use program_call::Reply;
 use run_wave::RunWave;
 use scald_base::{NoMemory, Outcome};
 use std::alloc::Global;
 use step_values::Value;
-use timing_analysis::{Rested, Subject};
+use timing_analysis::{CaseAtRest, Rested, Subject};
 use timing_reply::Told;
 
 /// What is told of a circuit and its cases, or the end of the base or of the first case that never settles
@@ -52,6 +55,33 @@ pub fn told_of(
     Ok(Told { reply, base })
 }
 
+/// What is told of a circuit that has this case alone.
+fn told_alone(
+    alloc: Global,
+    drawing: &Drawing,
+    circuit: &Circuit,
+    store: &Store<RunWave<Value>>,
+    case: &CaseAtRest,
+) -> Result<Reply<Outcome>, NoMemory>
+    requires known { AreKnown store.now case.now.settled.numbers }
+    requires fit { FitWaves circuit.now (waves_at store.now case.now.settled.numbers) }
+    requires found { case.now.faults
+        ≡ faults_of circuit.now (waves_of (waves_at store.now case.now.settled.numbers)) }
+    requires few { length case.now.faults ≤ 458752 }
+    requires within { All (AreWithin circuit.now
+        (waves_of (waves_at store.now case.now.settled.numbers))) case.now.faults }
+    ensures { IfOk result (λ reply. (limit base : ℕ) (listed : Listed) →
+        IsCaseIn circuit.now limit base listed case.now.number case.now.settled.rounds case.now.tick
+            store.now case.now.settled.numbers case.now.faults →
+        IsTold (explained (drawing_of drawing.now)) circuit.now limit base (listed ∷ [])
+            reply.outcome reply.bytes) }
+{
+    let mut kept = Explanations::begin(alloc, drawing, circuit)?;
+    let waves = Waves::new(store.waves(), case.settled.numbers.as_slice());
+    kept.add_case(alloc, drawing, circuit, case, &waves)?;
+    kept.end(alloc)
+}
+
 /// What is told of a circuit for which no case is listed.
 fn only_case(
     alloc: Global,
@@ -71,11 +101,8 @@ fn only_case(
     circuit.known();
     circuit.header().known();
     faults_are_within();
-    let mut kept = Explanations::begin(alloc, drawing, circuit)?;
     let (store, case) = rested.only_case(alloc, subject, limit)?;
-    let waves = Waves::new(store.waves(), case.settled.numbers.as_slice());
-    kept.add_case(alloc, drawing, circuit, &case, &waves)?;
-    kept.end(alloc)
+    told_alone(alloc, drawing, circuit, &store, &case)
 }
 
 /// Tells the cases that are listed, one after the other, up to the end of the first that never settles.
