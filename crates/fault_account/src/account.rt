@@ -10,7 +10,7 @@ use step_values::Value;
 pub type Nets = List<u32>;
 
 /// A limit that a fault breaks.
-#[derive(Clone, Copy, PartialEq, Eq, Debug)]
+#[derive(Clone, Copy)]
 pub struct Asked {
     pub parameter: Parameter,
     /// Its written value, in ticks.
@@ -22,7 +22,7 @@ pub struct Asked {
 }
 
 /// A chain of changes that ends at a pin, or on a net, in a slot.
-#[derive(Drop, Debug)]
+#[derive(Drop)]
 pub struct Side {
     pub chain: Chain,
     pub slot: u16,
@@ -34,7 +34,7 @@ pub struct Side {
 }
 
 /// A change at an edge of a checker's clock.
-#[derive(Drop, Debug)]
+#[derive(Drop)]
 pub struct AtEdge {
     pub checker: u32,
     /// The limit that it breaks; none while the clock is high.
@@ -62,7 +62,7 @@ pub struct AtEdge {
 }
 
 /// A change beside a marked pin that lets it through.
-#[derive(Drop, Debug)]
+#[derive(Drop)]
 pub struct AtMark {
     pub element: u32,
     pub pin: u16,
@@ -74,7 +74,7 @@ pub struct AtMark {
 }
 
 /// A driven net that does not keep its assertion.
-#[derive(Drop, Debug)]
+#[derive(Drop)]
 pub struct OfNet {
     pub net: u32,
     /// In how many slots side by side the same is asserted as in the fault's, less one, and how many of
@@ -94,7 +94,7 @@ pub struct OfNet {
 }
 
 /// A pulse that may be too short.
-#[derive(Drop, Debug)]
+#[derive(Drop)]
 pub struct OfPulse {
     pub checker: u32,
     pub asked: Option<Asked>,
@@ -105,7 +105,7 @@ pub struct OfPulse {
 }
 
 /// What is told of a fault.
-#[derive(Drop, Debug)]
+#[derive(Drop)]
 pub enum Account {
     Edge(AtEdge),
     Mark(AtMark),
