@@ -72,9 +72,9 @@ fn told_alone(
         (waves_of (waves_at store.now case.now.settled.numbers))) case.now.faults }
     ensures { IfOk result (λ reply. (limit base : ℕ) (listed : Listed) →
         IsCaseIn circuit.now limit base listed case.now.number case.now.settled.rounds case.now.tick
-            store.now case.now.settled.numbers case.now.faults →
+        store.now case.now.settled.numbers case.now.faults →
         IsTold (explained (drawing_of drawing.now)) circuit.now limit base (listed ∷ [])
-            reply.outcome reply.bytes) }
+        reply.outcome reply.bytes) }
 {
     let mut kept = Explanations::begin(alloc, drawing, circuit)?;
     let waves = Waves::new(store.waves(), case.settled.numbers.as_slice());
