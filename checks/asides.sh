@@ -1,7 +1,8 @@
 #!/bin/sh
-# What standard error says beside an answer: of sections that are joined which global nets cross, and which no section
-# drives; of a drawing which names that nothing drives are nearly a formal or another net, and which outputs of macros
-# nothing drives. Usage: checks/asides.sh [PROGRAM]. Where none is named and none is built it says so and ends with 0.
+# What standard error says beside an answer: of sections that are joined which global nets cross, which no section drives
+# and which no other takes; of a drawing which names that nothing drives are nearly a formal or another net, and which
+# outputs of macros nothing drives. Usage: checks/asides.sh [PROGRAM]. Where none is named and none is built it says so
+# and ends with 0.
 . "$(dirname -- "$0")/common.sh"
 begin "${1-}"
 
@@ -38,6 +39,7 @@ sections() {
 cross='scald: global nets that cross, from the section that drives each to those that take it:'
 none='scald: no net crosses: sections share only nets whose names begin with /'
 undriven='scald: global nets that no section drives, so that all that is known of each is what it asserts:'
+untaken='scald: global nets that stand only in the section that drives each:'
 # drive NAME BITS, take NAME BITS: a buffer that drives these bits, or takes them
 drive() {
     echo "d : BUF [1:2] (\"D .S1-8\"$2) -> (\"$1 .S2-8\"$2);"
@@ -56,27 +58,44 @@ sections 0 "$op" "$(take /OP '<0:3>')"
 said 'version 1' "$cross" '    /OP<0:3> from section 1 to 2'
 unset version
 sections 0 "$op" "$(take /OPP '<0:3>')"
-said 'a letter too many' "$none" "$undriven" '    /OPP<0:3> in section 2: is /OP meant?'
+said 'a letter too many' "$none" "$undriven" '    /OPP<0:3> in section 2: is /OP meant?' \
+    "$untaken" '    /OP<0:3> from section 1'
 sections 0 "$(drive /OPP '<0:3>')" "$(take /OP '<0:3>')"
-said 'a letter too many where it is driven' "$none" "$undriven" '    /OP<0:3> in section 2: is /OPP meant?'
+said 'a letter too many where it is driven' "$none" "$undriven" '    /OP<0:3> in section 2: is /OPP meant?' \
+    "$untaken" '    /OPP<0:3> from section 1'
 sections 0 "$(drive /STORE '<0>')" "$(take /STROE '<0>')"
-said 'letters exchanged' "$none" "$undriven" '    /STROE<0> in section 2: is /STORE meant?'
+said 'letters exchanged' "$none" "$undriven" '    /STROE<0> in section 2: is /STORE meant?' \
+    "$untaken" '    /STORE<0> from section 1'
 sections 0 "$(drive /STORE '<0>')" "$(take /STAXE '<0>')"
-said 'two other letters' "$none" "$undriven" '    /STAXE<0> in section 2'
+said 'two other letters' "$none" "$undriven" '    /STAXE<0> in section 2' "$untaken" '    /STORE<0> from section 1'
 sections 0 "$(drive /A '<0>')" "$(take /B '<0>')"
-said 'names of one letter' "$none" "$undriven" '    /B<0> in section 2'
+said 'names of one letter' "$none" "$undriven" '    /B<0> in section 2' "$untaken" '    /A<0> from section 1'
 sections 0 "$(drive STORE '<0>')" "$(take /STORF '<0>')"
 said 'a name that is not global' "$none" "$undriven" '    /STORF<0> in section 2'
 sections 0 "$op" "$(take /OP '<0:4>')"
 said 'a bit too many' "$cross" '    /OP<0:3> from section 1 to 2' \
     "$undriven" '    /OP<4> in section 2: other bits of it are driven'
+# a name without its slash, where it is taken and where it is driven: of the same bits alone, of a net that is not
+# driven in the one and is in the other, and in the drawing itself
 sections 0 "$op" "$(take OP '<0:3>')"
-said 'no slash' "$none"
+said 'no slash' "$none" "$untaken" '    /OP<0:3> from section 1: section 2 has OP without the /'
+sections 0 "$op" "$(take OP '<4>')"
+said 'no slash, and another bit' "$none" "$untaken" '    /OP<0:3> from section 1'
+sections 0 "$op" "$(drive OP '<0:3>')"
+said 'no slash, and driven too' "$none" "$untaken" '    /OP<0:3> from section 1'
+sections 0 "$(drive OP '<0:3>')" "$(take /OP '<0:3>')"
+said 'no slash where it is driven' "$none" "$undriven" '    /OP<0:3> in section 2: section 1 drives OP without the /'
+sections 0 "$(take OP '<0:3>')" "$(take /OP '<0:3>')"
+said 'no slash, and not driven either' "$none" "$undriven" '    /OP<0:3> in section 2'
+sections 0 "$(drive OP '<0:3>')" "$(drive /OPP '<0>')" "$(take /OP '<0:3>')"
+said 'no slash before a name that is nearly it' "$none" \
+    "$undriven" '    /OP<0:3> in section 3: section 1 drives OP without the /' "$untaken" '    /OPP<0> from section 2'
 sections 0 "$op" "$(take /OP '<0:3>')" "$(take /OP '<0:1>')"
 said 'three sections' "$cross" '    /OP<0:1> from section 1 to 2, 3' '    /OP<2:3> from section 1 to 2'
 sections 0 "$op" "$(take /OP '<0>')
 u : BUF [1:2] (\"/OP\"<2>) -> (\"Y\");"
-said 'every second bit' "$cross" '    /OP<0> from section 1 to 2' '    /OP<2> from section 1 to 2'
+said 'every second bit' "$cross" '    /OP<0> from section 1 to 2' '    /OP<2> from section 1 to 2' \
+    "$untaken" '    /OP<1> from section 1' '    /OP<3> from section 1'
 sections 0 "$op
 e : BUF [1:2] (\"D\"<0>) -> (\"/GO .S2-8\");
 f : BUF [1:2] (\"/ACK .S3-8\") -> (\"Z\");" "$(take /OP '<0:3>')
@@ -85,12 +104,12 @@ said 'both ways' "$cross" '    /GO<0> from section 1 to 2' '    /OP<0:3> from se
     '    /ACK<0> from section 2 to 1'
 sections 0 "$op" "$(take /OP '<2:5>')"
 said 'bits past its end' "$cross" '    /OP<2:3> from section 1 to 2' \
-    "$undriven" '    /OP<4:5> in section 2: other bits of it are driven'
+    "$undriven" '    /OP<4:5> in section 2: other bits of it are driven' "$untaken" '    /OP<0:1> from section 1'
 input='i : BUF [1:2] ("/IN .P2-3") -> ("X");'
 sections 0 "$input" "$op" "$input"
-said 'an input of two sections' "$none" "$undriven" '    /IN<0> in section 1, 3'
+said 'an input of two sections' "$none" "$undriven" '    /IN<0> in section 1, 3' "$untaken" '    /OP<0:3> from section 2'
 sections 0 'i : BUF [1:2] ("A") -> ("B");' "$op"
-said 'a net that no other section takes' "$none"
+said 'a net that no other section takes' "$none" "$untaken" '    /OP<0:3> from section 2'
 sections 1 'd : BUF [60:70] ("D .S1-8") -> ("/OP .S2-8");' "$(take /OP '<0>')"
 said 'a fault' "$cross" '    /OP<0> from section 1 to 2'
 # inputs COUNT: so many global nets that nothing drives, each on a line of its own
@@ -106,7 +125,7 @@ for count in 32 33 100; do
     more=
     [ "$count" -eq 32 ] || more="
     and $((count - 32)) more"
-    said "$count inputs" "$none" "$undriven" "$(listed 32)$more"
+    said "$count inputs" "$none" "$undriven" "$(listed 32)$more" "$untaken" '    /OP<0:3> from section 2'
 done
 
 # --- names in macros

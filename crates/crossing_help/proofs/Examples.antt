@@ -11,12 +11,14 @@ use Rattle.flat_circuit.specs.declared.net.Net.{Net}
 use Rattle.flat_circuit.specs.Circuit.{net_name}
 use Rattle.section_rules.specs.declared.section.Section.{Section}
 use Rattle.crossing_help.specs.declared.listed.Run.{Run}
-use Rattle.crossing_help.specs.declared.listed.Standing.TheVariants.{Crosses, Undriven}
+use Rattle.crossing_help.specs.declared.listed.Standing.TheVariants.{Crosses, Undriven, Untaken}
+use Rattle.crossing_help.specs.declared.local.End.TheVariants.{Driver, Taker}
 use Rattle.crossing_help.specs.declared.meant.Likeness.TheVariants.{Same, Slip}
 use Rattle.crossing_help.specs.Crossing.{more_line}
 use Rattle.crossing_help.specs.Listed.{goes_on, runs}
+use Rattle.crossing_help.specs.Local.{local_section}
 use Rattle.crossing_help.specs.Meant.{is_slip, meant}
-use Rattle.crossing_help.specs.RunLine.{bits_text, driver_text, from_text, hint, list_text}
+use Rattle.crossing_help.specs.RunLine.{bits_text, driver_text, from_text, hint, list_text, local_text, near_text}
 use Rattle.crossing_help.specs.Taken.{drives, takers, takes}
 
 -- ---- sections
@@ -91,6 +93,12 @@ not_driven = refl
 nothing_crosses : runs Crosses (first ∷ []) ≡ []
 nothing_crosses = refl
 
+no_other_has_it : runs Untaken (first ∷ third ∷ []) ≡ run 0 0 0 ∷ []
+no_other_has_it = refl
+
+others_have_all : runs Untaken two ≡ []
+others_have_all = refl
+
 next_bit : goes_on two (net "/OP" 0 None) (net "/OP" 1 None) ≡ true
 next_bit = refl
 
@@ -131,6 +139,23 @@ not_global = refl
 input : meant Same (codes "/IN") three ≡ None
 input = refl
 
+-- ---- a name without its slash: D is bit 0 of the first section, which does not drive it
+
+has_input : local_section Taker (net "/D" 0 None) two ≡ Some 1
+has_input = refl
+
+input_of_second : local_section Taker (net "/D" 0 None) (second ∷ first ∷ []) ≡ Some 2
+input_of_second = refl
+
+no_driver_of_it : local_section Driver (net "/D" 0 None) two ≡ None
+no_driver_of_it = refl
+
+no_such_bit : local_section Taker (net "/D" 1 None) two ≡ None
+no_such_bit = refl
+
+whole_name : local_section Taker (net "/IN" 0 None) three ≡ None
+whole_name = refl
+
 -- ---- texts
 
 bits : bits_text (net "/OP" 0 None) (net "/OP" 3 None) ≡ codes "/OP<0:3>"
@@ -145,6 +170,10 @@ driver : from_text Crosses 0 ≡ codes " from section 1 to "
 unfolding digits driver_text
 driver = refl
 
+driver_alone : from_text Untaken 0 ≡ codes " from section 1"
+unfolding digits driver_text
+driver_alone = refl
+
 no_driver : from_text Undriven 0 ≡ codes " in section "
 no_driver = refl
 
@@ -152,13 +181,21 @@ numbers : list_text (1 ∷ 3 ∷ 12 ∷ []) ≡ codes "1, 3, 12"
 unfolding digits
 numbers = refl
 
-other_bits : hint (Some (net "/OP" 1 (Some 1))) None ≡ codes ": other bits of it are driven"
+other_bits : hint (codes "/OP") (Some (net "/OP" 1 (Some 1))) (Some 2) None ≡ codes ": other bits of it are driven"
 unfolding hint
 other_bits = refl
 
-misspelt : hint None (Some (net "/OP" 1 (Some 1))) ≡ codes ": is /OP meant?"
-unfolding hint
+driven_there : hint (codes "/OP") None (Some 2) (Some (net "/OPS" 1 (Some 1))) ≡ codes ": section 2 drives OP without the /"
+unfolding digits hint local_text
+driven_there = refl
+
+misspelt : hint (codes "/OPP") None None (Some (net "/OP" 1 (Some 1))) ≡ codes ": is /OP meant?"
+unfolding hint near_text
 misspelt = refl
+
+taken_there : local_text (codes " has ") (codes "/OP") (Some 3) ≡ codes ": section 3 has OP without the /"
+unfolding digits local_text
+taken_there = refl
 
 all_shown : more_line 32 ≡ []
 unfolding more_line

@@ -1,11 +1,9 @@
 -- What is listed of sections that are joined, once it is known to be so.
-use Rattle.std.proofs.Common.{◌≡◌, ℕ, suc, ◌+◌, ◌<◌, ◌≤◌, Bool, true, false, cond, List, [], ◌∷◌, ◌++◌, length, drop, map, ap, sym, subst, ◌∙◌, add-one, append_assoc, refl}
-use Rattle.std.specs.Prelude.{Option, Some, None, slice_get}
-use Rattle.std.specs.List.{AllZip, filter, find}
+use Rattle.std.proofs.Common.{◌≡◌, ℕ, suc, ◌+◌, ◌<◌, ◌≤◌, Bool, true, false, cond, List, [], ◌∷◌, ◌++◌, length, drop, map, ap, sym, subst, ◌∙◌, add-one, append_assoc}
+use Rattle.std.specs.Prelude.{Option, Some, None}
+use Rattle.std.specs.List.{AllZip, filter}
 use Rattle.std.proofs.lemmas.List.{append-nil, drop_all}
 use Rattle.std.proofs.Math.Seq.{drop-cons}
-use Rattle.std.proofs.lemmas.Option.{get_or_from_slice_get, slice_get_within}
-use Rattle.flat_circuit.specs.declared.net.Net.{Net}
 use Rattle.flat_circuit.specs.Name.{net_at}
 use Rattle.section_rules.specs.declared.rules.Broken.{Broken}
 use Rattle.section_rules.specs.declared.section.Section.{Section}
@@ -14,11 +12,9 @@ use Rattle.section_rules.specs.Cut.{sections_of}
 use Rattle.section_rules.specs.Drawn.{DrawsSection}
 use Rattle.section_rules.specs.Pieces.{piece_of}
 use Rattle.section_rules.specs.Rules.{first_broken}
-use Rattle.section_rules.specs.Tests.{passes}
 use Rattle.section_help.specs.Read.{IsUndrawn}
 use Rattle.crossing_help.specs.Crossing.{IsListed, broken, crossing_lines, joined, too_many, undrawn}
-use Rattle.section_help.proofs.Numbers.{none_within, not_so}
-use Rattle.section_help.proofs.Reading.{drawn_sections, many_sections, undrawn_sections}
+use Rattle.section_help.proofs.Reading.{drawn_sections, few_sections, many_sections, undrawn_sections}
 
 -- ---- nets, one after the other
 
@@ -51,36 +47,6 @@ pub listed_all : (test : ℕ → Bool) (order list all : List ℕ) (place : ℕ)
 listed_all test order list all place past so_far =
     sym (append-nil list) ∙ ap (λ (xs : List ℕ). list ++ filter test xs) (sym (drop_all place order past)) ∙ so_far
 
--- the first net that passes, among those that are still to be looked at
-module _ (test : Net → Bool) (nets : List Net) (i : ℕ) (net : Net) (is : slice_get nets i ≡ Some net) where
-  rest : drop i nets ≡ net ∷ drop (i + 1) nets
-  rest =
-      drop-cons nets i net (slice_get_within nets i net is)
-      ∙ ap (λ (n : Net). n ∷ drop (suc i) nets) (get_or_from_slice_get nets i net net is)
-      ∙ ap (λ (k : ℕ). net ∷ drop k nets) (sym (add-one i))
-
-  next_by : (b : Bool) → test net ≡ b → find test (drop i nets) ≡ cond b (Some net) (find test (drop (i + 1) nets))
-  next_by b tests =
-      ap (find test) rest ∙ ap (λ (t : Bool). cond t (Some net) (find test (drop (i + 1) nets))) tests
-
-module _ (test : Net → Bool) (nets : List Net) (i : ℕ) where
-  found_by : (o : Option Net) → slice_get nets i ≡ o → passes test (slice_get nets i) ≡ true →
-      find test (drop i nets) ≡ slice_get nets i
-  found_by None is tests = absurd (not_so (sym (ap (passes test) is) ∙ tests))
-  found_by (Some net) is tests = next_by test nets i net is true (sym (ap (passes test) is) ∙ tests) ∙ sym is
-
-  pub found_here : passes test (slice_get nets i) ≡ true → find test (drop i nets) ≡ slice_get nets i
-  found_here tests = found_by (slice_get nets i) refl tests
-
-  later_by : (o : Option Net) → slice_get nets i ≡ o → i < length nets → passes test (slice_get nets i) ≡ false →
-      find test (drop i nets) ≡ find test (drop (i + 1) nets)
-  later_by None is below tests = absurd (none_within nets i is below)
-  later_by (Some net) is below tests = next_by test nets i net is false (sym (ap (passes test) is) ∙ tests)
-
-  pub found_later : i < length nets → passes test (slice_get nets i) ≡ false →
-      find test (drop i nets) ≡ find test (drop (i + 1) nets)
-  found_later below tests = later_by (slice_get nets i) refl below tests
-
 -- ---- by the sections of a text, of which the code has the list, and slices of it
 
 module _ (text : List ℕ) (list seen : List Piece) where
@@ -105,7 +71,8 @@ module _ (text : List ℕ) (list seen : List Piece) where
 
     pub joined_listed : (found : Option Broken) (bytes : List ℕ) → map (piece_of text) list ≡ sections_of text →
         seen ≡ list → AllZip DrawsSection (map (piece_of text) seen) read → sections ≡ read →
-        found ≡ first_broken sections → found ≡ None → bytes ≡ crossing_lines sections → IsListed text bytes
-    joined_listed found bytes are see drawn same is absent lines =
+        found ≡ first_broken sections → found ≡ None → length seen ≤ 64 → bytes ≡ crossing_lines sections →
+        IsListed text bytes
+    joined_listed found bytes are see drawn same is absent few lines =
         subst (IsListed text) (sym lines)
-        (joined sections (drawn_sections text list seen are see read sections drawn same) (sym is ∙ absent))
+        (joined sections (few_sections text list seen are see few) (drawn_sections text list seen are see read sections drawn same) (sym is ∙ absent))

@@ -10,18 +10,20 @@ use Rattle.section_rules.specs.Rules.{circuits}
 use Rattle.section_rules.specs.Same.{same_bit}
 use Rattle.crossing_help.specs.declared.listed.Run.{Run}
 use Rattle.crossing_help.specs.declared.listed.Standing.{Standing}
-use Rattle.crossing_help.specs.declared.listed.Standing.TheVariants.{Crosses, Undriven}
+use Rattle.crossing_help.specs.declared.listed.Standing.TheVariants.{Crosses, Undriven, Untaken}
 use Rattle.crossing_help.specs.Taken.{drives, takes}
 
 -- ---- nets
 
--- A net that crosses is listed in the section that drives it, and a global net that no section drives
--- in the first in which it stands.
+-- A net that one section drives is listed there, where it crosses or where it does not, and a global net
+-- that no section drives in the first in which it stands.
 abbrev pub is_listed : Standing → List Section → List Section → Net → Bool
 is_listed Crosses sections before net = is_driven net && crosses (circuits sections) net
 is_listed Undriven sections before net =
     is_global net && (not (list_any (drives (net_name net)) sections)
     && not (list_any (takes (net_name net)) before))
+is_listed Untaken sections before net =
+    is_driven net && (is_global net && not (crosses (circuits sections) net))
 
 abbrev pub is_listed_at : Standing → List Section → List Section → Option Net → Bool
 is_listed_at standing sections before None = false

@@ -1,4 +1,5 @@
-//! What is said of sections that are joined: the global nets that cross, and those that no section drives.
+//! What is said of sections that are joined: the global nets that cross, those that no section drives, and
+//! those that no other takes.
 
 ghost use Rattle.std.specs.Prelude.{◌≡◌, ◌++◌, ◌<◌, ◌≤◌, ◌-◌, ◌^◌, length, take, IfOk, OnOk};
 ghost use Rattle.std.specs.List.{flat_map};
@@ -28,6 +29,8 @@ fn heading(standing: Standing) -> &'static [u8]
             b"scald: global nets that cross, from the section that drives each to those that take it:\n",
         Standing::Undriven =>
             b"scald: global nets that no section drives, so that all that is known of each is what it asserts:\n",
+        Standing::Untaken =>
+            b"scald: global nets that stand only in the section that drives each:\n",
     }
 }
 
@@ -38,7 +41,7 @@ fn nothing(standing: Standing) -> &'static [u8]
     match standing {
         Standing::Crosses =>
             b"scald: no net crosses: sections share only nets whose names begin with /\n",
-        Standing::Undriven => b"",
+        Standing::Undriven | Standing::Untaken => b"",
     }
 }
 
@@ -120,20 +123,21 @@ fn add_list(
     }
 }
 
-/// Both lists.
-fn both(alloc: Global, sections: &[Section]) -> Result<Bytes, NoMemory>
+/// All lists.
+fn all_lists(alloc: Global, sections: &[Section]) -> Result<Bytes, NoMemory>
     requires { length sections.now ≤ 64 }
     ensures { IfOk result (λ bytes. bytes ≡ crossing_lines sections.now) }
 {
     let mut out = Bytes::new(alloc);
     add_list(alloc, &mut out, Standing::Crosses, sections)?;
     add_list(alloc, &mut out, Standing::Undriven, sections)?;
+    add_list(alloc, &mut out, Standing::Untaken, sections)?;
     Ok(out)
 }
 
-/// Of a text of sections that break no rule: which global nets cross, from which section to which, and
-/// which stand in some section while no section drives them, each with what may be meant by it. Nothing
-/// is told where a section is refused by itself, where a rule is broken, and of more than 64 sections. The
+/// Of a text of sections that break no rule: which global nets cross, from which section to which,
+/// which stand in some section while no section drives them, and which stand only in the section that drives
+/// them, each with what may be meant by it. Nothing is told where a section is refused by itself, where a rule is broken, and of more than 64 sections. The
 /// one error is that memory ran out.
 pub fn list_crossings(alloc: Global, text: &[u8]) -> Result<Bytes, NoMemory>
     requires { length text.now < 2 ^ 32 - 1 }
@@ -152,6 +156,6 @@ pub fn list_crossings(alloc: Global, text: &[u8]) -> Result<Bytes, NoMemory>
     let sections = read.as_slice();
     match first_broken(sections) {
         Some(_) => Ok(Bytes::new(alloc)),
-        None => both(alloc, sections),
+        None => all_lists(alloc, sections),
     }
 }

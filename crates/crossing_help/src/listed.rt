@@ -21,6 +21,8 @@ pub enum Standing {
     Crosses,
     /// No section drives it.
     Undriven,
+    /// One drives it, and it stands in no other.
+    Untaken,
 }
 
 /// Bits of one name that stand on one line: the section, counted from 0, and there the numbers of the
@@ -53,6 +55,7 @@ fn is_listed(standing: Standing, sections: &[Section], before: &[Section], net: 
         Standing::Undriven => {
             is_global(net) && !is_driven_in_one(sections, net) && !is_taken_in_one(before, net)
         }
+        Standing::Untaken => net.driver.is_some() && is_global(net) && !crosses(sections, net),
     }
 }
 

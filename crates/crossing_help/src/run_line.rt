@@ -2,13 +2,14 @@
 
 ghost use Rattle.std.specs.Prelude.{◌≡◌, ◌++◌, ◌≤◌, length, slice_get, OnOk};
 ghost use Rattle.std.specs.Option.{option_copied};
-ghost use Rattle.crossing_help.specs.RunLine.{bits_text, driver_text, from_text, hint, hint_of, line_by, list_text, net_line, others_text, run_line};
+ghost use Rattle.crossing_help.specs.RunLine.{bits_text, driver_text, from_text, hint, hint_of, line_by, list_text, local_text, near_text, net_line, others_text, run_line};
 
 use crate::listed::{Run, Standing};
+use crate::local::{End, local_section};
 use crate::meant::{Likeness, meant};
 use crate::taken::takers;
 use flat_circuit::{Circuit, Net};
-use help_text::{Part, add_number, add_parts};
+use help_text::{Part, add_number, add_parts, after};
 use scald_base::{Bytes, NoMemory};
 use section_rules::Section;
 use std::alloc::Global;
@@ -42,7 +43,7 @@ fn add_bits(out: &mut Bytes, first: &Net, last: &Net) -> Result<(), NoMemory>
     )
 }
 
-/// The section that drives it, and the words before those that take it.
+/// The section that drives it.
 #[tactic(auto, unfolding(crate::specs::RunLine::driver_text))]
 fn add_driver(out: &mut Bytes, section: u32) -> Result<(), NoMemory>
     ensures { OnOk result (out.new ≡ out.old ++ driver_text section) }
@@ -52,7 +53,6 @@ fn add_driver(out: &mut Bytes, section: u32) -> Result<(), NoMemory>
         &[
             Part::Text(b" from section "),
             Part::Number(section as u64 + 1),
-            Part::Text(b" to "),
         ],
     )
 }
@@ -62,8 +62,12 @@ fn add_from(out: &mut Bytes, standing: Standing, section: u32) -> Result<(), NoM
     ensures { OnOk result (out.new ≡ out.old ++ from_text standing section) }
 {
     match standing {
-        Standing::Crosses => add_driver(out, section),
+        Standing::Crosses => {
+            add_driver(out, section)?;
+            out.extend(b" to ")
+        }
         Standing::Undriven => out.extend(b" in section "),
+        Standing::Untaken => add_driver(out, section),
     }
 }
 
@@ -89,14 +93,36 @@ fn add_list(out: &mut Bytes, numbers: &[u32]) -> Result<(), NoMemory>
     add_others(out, rest)
 }
 
-/// By a driven net of the same name, and by one that may be meant.
-#[tactic(auto, unfolding(crate::specs::RunLine::hint))]
-fn add_hint(out: &mut Bytes, same: Option<&Net>, near: Option<&Net>) -> Result<(), NoMemory>
-    ensures { OnOk result (out.new ≡ out.old ++ hint (option_copied same.entry) (option_copied near.entry)) }
+/// The section, if there is one, that has the net of the name without its slash.
+#[tactic(auto, unfolding(crate::specs::RunLine::local_text))]
+fn add_local<'a>(
+    out: &mut Bytes,
+    does: &'a [u8],
+    name: &'a [u8],
+    section: Option<u32>,
+) -> Result<(), NoMemory>
+    ensures { OnOk result (out.new ≡ out.old ++ local_text does.now name.now section) }
 {
-    if same.is_some() {
-        return out.extend(b": other bits of it are driven");
-    }
+    let Some(number) = section else {
+        return Ok(());
+    };
+    add_parts(
+        out,
+        &[
+            Part::Text(b": section "),
+            Part::Number(u64::from(number)),
+            Part::Text(does),
+            Part::Text(after(name, 1)),
+            Part::Text(b" without the /"),
+        ],
+    )
+}
+
+/// The net that may be meant.
+#[tactic(auto, unfolding(crate::specs::RunLine::near_text))]
+fn add_near(out: &mut Bytes, near: Option<&Net>) -> Result<(), NoMemory>
+    ensures { OnOk result (out.new ≡ out.old ++ near_text (option_copied near.entry)) }
+{
     match near {
         Some(near) => add_parts(
             out,
@@ -110,21 +136,49 @@ fn add_hint(out: &mut Bytes, same: Option<&Net>, near: Option<&Net>) -> Result<(
     }
 }
 
-/// What may be meant by a net that no section drives.
+/// By a driven net of the same name, by a section that drives a local one, and by one that may be meant.
+#[tactic(auto, unfolding(crate::specs::RunLine::hint))]
+fn add_hint(
+    out: &mut Bytes,
+    name: &[u8],
+    same: Option<&Net>,
+    local: Option<u32>,
+    near: Option<&Net>,
+) -> Result<(), NoMemory>
+    ensures { OnOk result (out.new ≡ out.old
+        ++ hint name.now (option_copied same.entry) local (option_copied near.entry)) }
+{
+    if same.is_some() {
+        return out.extend(b": other bits of it are driven");
+    }
+    match local {
+        Some(_) => add_local(out, b" drives ", name, local),
+        None => add_near(out, near),
+    }
+}
+
+/// What may be meant by a net that no section drives, or that no other takes.
 fn add_hint_of(
     out: &mut Bytes,
     standing: Standing,
-    name: &[u8],
+    net: &Net,
     sections: &[Section],
 ) -> Result<(), NoMemory>
-    ensures { OnOk result (out.new ≡ out.old ++ hint_of standing name.now sections.now) }
+    requires { length sections.now ≤ 64 }
+    ensures { OnOk result (out.new ≡ out.old ++ hint_of standing net.now sections.now) }
 {
+    let name = net.name.as_slice();
     match standing {
         Standing::Crosses => Ok(()),
         Standing::Undriven => {
             let same = meant(Likeness::Same, name, sections);
+            let local = local_section(End::Driver, net, sections);
             let near = meant(Likeness::Slip, name, sections);
-            add_hint(out, same, near)
+            add_hint(out, name, same, local, near)
+        }
+        Standing::Untaken => {
+            let local = local_section(End::Taker, net, sections);
+            add_local(out, b" has ", name, local)
         }
     }
 }
@@ -148,7 +202,7 @@ fn add_net(
     add_bits(out, first, last)?;
     add_from(out, standing, section)?;
     add_list(out, numbers.as_slice())?;
-    add_hint_of(out, standing, first.name.as_slice(), sections)?;
+    add_hint_of(out, standing, first, sections)?;
     out.extend(b"\n")
 }
 

@@ -4,6 +4,7 @@ ghost use Rattle.std.specs.Prelude.{◌≡◌, ◌&&◌, ◌≤◌, Bool, IfOk, 
 ghost use Rattle.std.specs.List.{list_any};
 ghost use Rattle.std.specs.Option.{option_copied};
 ghost use Rattle.flat_circuit.specs.declared.net.Net.{Net as FlatNet};
+ghost use Rattle.flat_circuit.specs.Name.{Name};
 ghost use Rattle.flat_circuit.specs.Circuit.{net_name};
 ghost use Rattle.section_rules.specs.Globals.{has_name, is_driven};
 ghost use Rattle.section_rules.specs.Tests.{passes};
@@ -15,10 +16,23 @@ use section_rules::Section;
 use std::alloc::Global;
 
 /// Whether an instance of its own section drives a net.
-fn is_driven(net: &Net) -> bool
+pub fn is_driven(net: &Net) -> bool
     ensures { result ≡ is_driven net.now }
 {
     net.driver.is_some()
+}
+
+/// The net of a name and a bit in a circuit.
+pub fn named_net<'a>(circuit: &'a Circuit, text: &[u8], bit: u16) -> Option<&'a Net>
+    ensures { let name : Name = record { text = text.now; bit = bit } in
+        (test : FlatNet → Bool) → passes test (option_copied result)
+        ≡ list_any (λ other. has_name name other && test other) circuit.now.nets }
+{
+    circuit.known();
+    match circuit.find(text, bit) {
+        Some(number) => circuit.net(number),
+        None => None,
+    }
 }
 
 /// The net of the same name and bit in a circuit.
@@ -26,11 +40,7 @@ fn same_net<'a>(circuit: &'a Circuit, net: &Net) -> Option<&'a Net>
     ensures { (test : FlatNet → Bool) → passes test (option_copied result)
         ≡ list_any (λ other. has_name (net_name net.now) other && test other) circuit.now.nets }
 {
-    circuit.known();
-    match circuit.find(net.name.as_slice(), net.bit) {
-        Some(number) => circuit.net(number),
-        None => None,
-    }
+    named_net(circuit, net.name.as_slice(), net.bit)
 }
 
 /// Whether a section drives the net of this name.

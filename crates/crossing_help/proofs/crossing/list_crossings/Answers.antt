@@ -23,8 +23,8 @@ returns-in-Some c =
 pub returns : goal.returns
 returns c =
     let text = c.args.text.now in let sections = c.as_slice-sections.result.now in
-    IfOk-weaker c.both.result (λ bytes. bytes ≡ crossing_lines sections) (IsListed text)
+    IfOk-weaker c.all_lists.result (λ bytes. bytes ≡ crossing_lines sections) (IsListed text)
     (λ bytes lines. joined_listed text c.in_ok-list.list c.as_slice-pieces.result.now c.in-Ok.read sections c.first_broken.result bytes
     c.in_ok-list.ensures.are c.as_slice-pieces.ensures c.in-Ok.ensures.drawn c.as_slice-sections.ensures c.first_broken.ensures
-    c.in-None.is lines)
-    c.both.ensures
+    c.in-None.is c.if-pieces-gt-MOST.false lines)
+    c.all_lists.ensures
