@@ -181,6 +181,13 @@ helps "    'clock' cannot stand here, after ';'" \
     '    is CLOCK meant?' \
     '    what may stand here: CLOCK'
 text '3 Syntax 2:9' 'SCALD 1;' 'CLOCK 8 x50;'
+helps "    'x50' cannot stand here, after '8'" \
+    "    is a space missing after the x of 'x50'?" \
+    '    what may stand here: x'
+text '3 Syntax 2:8' 'SCALD 1;' 'CLOCK 8x50ns;'
+helps "    'x50ns' cannot stand here, after '8'" \
+    "    is a space missing after the x of 'x50ns'?" \
+    '    what may stand here: x'
 text '3 Syntax 3:1' 'SCALD 1;' 'CLOCK 8 x 50;'
 helps "    the end of the text cannot stand here, after ';'" \
     '    what may stand here: WIRE PSKEW CSKEW MACRO DRAWING'
@@ -246,9 +253,11 @@ helps "    '=' cannot stand here, after '='" \
 # (with an arrow in its place, or without it, the statement would say something else)
 early '3 Syntax 4:26' 'a : AND [1:2] ("CK", "D" -> "Q");'
 helps "    '->' cannot stand here, after '\"D\"'" \
+    '    is ) missing before ->, and ( after it?' \
     '    what may stand here: , ) < & !'
 early '3 Syntax 4:5' 'END ELSE;'
 helps "    'ELSE' cannot stand here, after 'END'" \
+    '    an ELSE stands in an IF, once, before its END' \
     '    what may stand here: ;'
 # (two mistakes: with neither token the statement goes on)
 early '3 Syntax 5:1' 'b1 : BUF [0:0] ("A") -> ("X")' 'b2 BUF [0:0] ("X") -> ("Y");'
@@ -360,10 +369,11 @@ for word in ELSIF ELSEIF elif; do
         '    an IF in an ELSE is written ELSE IF, and each of the two has an END; of its own' \
         '    what may stand here: :'
 done
-for word in EndIf ENDFOR endmacro; do
+ended='    IF, FOR, MACRO and DRAWING each end with END;'
+for word in EndIf ENDFOR endmacro Next EndModule; do
     second "3 Syntax 5:$((${#word} + 1))" 'DRAWING ROW;' 'IF 1 THEN' "$word;" 'END;'
     helps "    ';' cannot stand here, after '$word'" \
-        '    what an IF, FOR, MACRO or DRAWING begins ends with END;' \
+        "$ended" \
         '    what may stand here: :'
 done
 joined='    conditions are joined by * and +: (A = 1) * (B = 2) holds where both do, (A = 1) + (B = 2) where one does'
@@ -421,7 +431,7 @@ helps "    '*' cannot stand here, after '*'" \
     '    what may stand here: word number ( -'
 second '3 Syntax 5:5' 'DRAWING ROW;' 'IF 1 THEN' 'END IF;' 'END;'
 helps "    'IF' cannot stand here, after 'END'" \
-    '    what an IF, FOR, MACRO or DRAWING begins ends with END;' \
+    "$ended" \
     '    what may stand here: ;'
 early '3 Syntax 4:17' 'b1 : BUF [0:0] (NOT "A") -> ("X");'
 helps "    'NOT' cannot stand here, after '('" \
@@ -439,6 +449,87 @@ early '3 Syntax 4:19' 'b1 : BUF [0:0] (- -"A") -> ("X");'
 helps "    '-' cannot stand here, after '-'" "$minus" '    what may stand here: "name" ZERO ONE'
 early '3 Syntax 4:20' 'a1 : AND [0:0] ("A"-, "B") -> ("X");'
 helps "    '-' cannot stand here, after '\"A\"'" "$minus" '    what may stand here: , ) < & !'
+
+# --- words of other languages that a statement begins with
+# word PLACE WORD AFTER NOTE LINE ..: a drawing with these lines is refused at this word after that one, with this note
+word() {
+    at=$1
+    named=$2
+    last=$3
+    note=$4
+    shift 4
+    second "3 Syntax $at" 'DRAWING ROW;' "$@" 'END;'
+    helps "    '$named' cannot stand here, after '$last'" "$note" '    what may stand here: :'
+}
+labelled='    a label and a colon come first, as in b1 : BUF [0:0] ("A") -> ("X");'
+word 4:8 '"X"' assign "$labelled" 'assign "X" = "A";'
+word 4:4 '[' OR "$labelled" 'OR [4:9] ("A", "B") -> ("X");'
+word 4:6 '(' SYNC "$labelled" 'SYNC ("A") -> ("X");'
+nets='    a net needs no declaration: its name in double quotes is enough'
+word 4:5 Q reg "$nets" 'reg Q;'
+word 4:8 '"A"' SIGNAL "$nets" 'SIGNAL "A";'
+begun='    IF, FOR, MACRO and DRAWING have no BEGIN or GENERATE, and end with END;'
+word 5:1 b1 BEGIN "$begun" 'BEGIN' 'b1 : BUF [0:0] ("A") -> ("X");'
+word 5:1 END generate "$begun" 'generate'
+word 4:8 M module '    a module is a MACRO here, and the top one is the DRAWING' 'module M;'
+when='    a condition is written IF A = 1 THEN, and a case is written CASE "A"=1;'
+word 4:6 1 WHEN "$when" 'WHEN 1 < 2 THEN' 'END;'
+second '3 Syntax 5:1' 'DRAWING ROW;' 'END;' 'WHEN "SEL"=0;'
+helps "    'WHEN' cannot stand here, after ';'" \
+    "$when" \
+    '    the last END before this, at 4:1, is that of the DRAWING at 3:1' \
+    '    what may stand here: CASE (end of text)'
+# (a label may be such a word)
+second '3 Syntax 4:5' 'DRAWING ROW;' 'reg REG [8:15] ("CK", "D") -> ("Q");' 'END;'
+helps "    'REG' cannot stand here, after 'reg'" \
+    '    what may stand here: :' \
+    '    is : missing here?'
+# the kind before the label
+second '3 Syntax 4:4' 'DRAWING ROW;' 'OR any [4:9] ("A", "B") -> ("X");' 'END;'
+helps "    'any' cannot stand here, after 'OR'" \
+    '    the label comes first: any : OR' \
+    '    what may stand here: :' \
+    '    is : missing here?'
+second '3 Syntax 4:5' 'DRAWING ROW;' 'FOR (I = 0; I < 4; I = I + 1) DO' 'END;' 'END;'
+helps "    '(' cannot stand here, after 'FOR'" \
+    '    a FOR counts upwards, by one: FOR I = 0 TO N - 1 DO' \
+    '    what may stand here: word :'
+second '3 Syntax 6:1' 'DRAWING ROW;' 'FOR I = 0 TO 1 DO' 'b1 : BUF [0:0] ("A"<I>) -> ("X"<I>);' '}' 'END;'
+helps "    '}' cannot stand here, after ';'" \
+    "$ended" \
+    '    what may stand here: word WIRE IF END'
+# a comment that begins where an arrow or a - is meant, and hides the rest of its line
+early '3 Syntax 5:1' 'b1 : BUF [0:0] ("A") --> ("X");'
+helps "    'END' cannot stand here, after ')'" \
+    '    --> begins a comment: is -> meant?' \
+    '    what may stand here: -> ;' \
+    '    is ; missing here?'
+early '3 Syntax 5:1' 'b1 : BUF [0:0] (--"A") -> ("X");'
+helps "    'END' cannot stand here, after '('" \
+    '    -- begins a comment: a - stands once before a name' \
+    '    what may stand here: "name" ZERO ONE ) -'
+
+# --- brackets of another kind
+# bracket PLACE TOKEN AFTER NOTE MAY LINE: a drawing with this line is refused at this token after that one, with this note
+bracket() {
+    early "3 Syntax $1" "$6"
+    helps "    '$2' cannot stand here, after '$3'" "$4" "    what may stand here: $5"
+}
+ranges='    a range stands in < > after the name, as in "A"<3:0>'
+bracket 4:20 '[' '"A"' "$ranges" ', ) < & !' 'b1 : BUF [0:0] ("A"[0]) -> ("X");'
+bracket 4:20 '(' '"A"' "$ranges" ', ) < & !' 'b1 : BUF [0:0] ("A"(0)) -> ("X");'
+bracket 4:10 '[' '"X"' '    the delay of a WIRE has no brackets, as in WIRE "A" 3:8;' 'word number ( < -' 'WIRE "X" [3:8];'
+delays='    a delay stands in [ ], the least and the greatest, as in [20:60]'
+bracket 4:11 0 '(' "$delays" '"name" ZERO ONE ) -' 'b1 : BUF (0:5) ("A") -> ("X");'
+bracket 4:11 4 '{' "$delays" word 'a1 : AND {4:8} ("A", "B") -> ("X");'
+bracket 4:14 = min "$delays" ': + - * /' 'b1 : BUF [min=20, max=60] ("A") -> ("X");'
+parameters='    parameters stand in { }, as in {N=8}'
+bracket 4:20 HIGH '(' "$parameters" '"name" ZERO ONE ) -' 'w : MIN_PULSE_CHK (HIGH=70, LOW=120) ("A");'
+bracket 4:26 = SETUP "$parameters" ': + - * /' 'c : SETUP_HOLD_CHK [SETUP=25, HOLD=5] ("CK", "D");'
+connections='    connections stand in ( )'
+bracket 4:16 '[' ']' "$connections" '( {' 'b1 : BUF [0:0] ["A"] -> ("X");'
+bracket 4:25 '"X"' '->' "$connections" '(' 'b1 : BUF [0:0] ("A") -> "X";'
+bracket 4:17 '{' '(' '    bits are joined by &, as in "A" & "B"' '"name" ZERO ONE ) -' 'a1 : AND [1:2] ({"A", "B"}) -> ("X");'
 
 # --- where one thing alone may stand
 text '3 Syntax 2:9' 'SCALD 1;' 'CLOCK 8 X 50;'

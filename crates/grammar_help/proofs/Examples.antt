@@ -9,7 +9,8 @@ use Rattle.scald_lex.specs.declared.token.TokenKind.{TokenKind}
 use Rattle.scald_lex.specs.declared.token.TokenKind.TheVariants.{Word, Number, Name, Symbol}
 use Rattle.help_text.specs.declared.keyword.Keyword.TheVariants.{Scald, Wire, Macro, Drawing, If, Else, End, Zero, One, To, Do}
 use Rattle.grammar_help.specs.Belongs.{begins_statement, belongs, belongs_lines}
-use Rattle.grammar_help.specs.Foreign.{comment_note, else_note, end_note, foreign_note, invert_note, is_joined_else, is_joined_end, join_note, joins}
+use Rattle.grammar_help.specs.Foreign.{comment_note, foreign_note, invert_note, join_note, joins}
+use Rattle.grammar_help.specs.OtherWord.{other_word}
 use Rattle.grammar_help.specs.Version.{is_later, said_version, version_line, version_lines}
 
 abbrev place : ℕ → ℕ → Place
@@ -165,8 +166,8 @@ first_of_first = refl
 labels_of_first : is_later (codes "FOR :") (Some 1) (Some (token Word 1 1 0 3)) (token (Symbol 58) 1 5 4 5) ≡ false
 labels_of_first = refl
 
-other_word : is_later (codes ";CASE") (Some 1) (Some semicolon) (token Word 1 2 1 5) ≡ false
-other_word = refl
+plain_word : is_later (codes ";CASE") (Some 1) (Some semicolon) (token Word 1 2 1 5) ≡ false
+plain_word = refl
 
 -- ---- what other languages write so
 
@@ -188,20 +189,20 @@ unfolding comment_note
 slash_star = refl
 
 slashes_apart : foreign_note (codes "/ / x") (symbol 47 0 ∷ symbol 47 2 ∷ []) (Some (symbol 47 0)) (symbol 47 2) [] ≡ []
-unfolding is_joined_else is_joined_end joins
+unfolding joins other_word
 slashes_apart = refl
 
 quotient : foreign_note (codes "/(x") [] (Some (symbol 47 0)) (symbol 40 1) [] ≡ []
-unfolding is_joined_else is_joined_end joins
+unfolding joins other_word
 quotient = refl
 
 -- a product begins no comment, nor does a name after a word an inversion
 product : foreign_note (codes "x* y") [] (Some (word 0 1)) (symbol 42 1) [] ≡ []
-unfolding is_joined_else is_joined_end joins
+unfolding joins other_word
 product = refl
 
 name_after_word : foreign_note (codes "x\"A\"") [] (Some (word 0 1)) (token Name 1 2 1 4) [] ≡ []
-unfolding is_joined_else is_joined_end joins
+unfolding joins other_word
 name_after_word = refl
 
 -- an inversion, and no mark
@@ -216,7 +217,7 @@ unfolding invert_note
 inverted_name = refl
 
 mark : foreign_note (codes "!H") [] None (symbol 33 0) (word 1 2 ∷ []) ≡ []
-unfolding is_joined_else is_joined_end joins
+unfolding joins other_word
 mark = refl
 
 -- inside a condition, before it and after it
@@ -229,15 +230,15 @@ unfolding join_note joins
 both_conditions = refl
 
 after_condition : foreign_note (codes "IF THEN & B") (word 0 2 ∷ word 3 7 ∷ symbol 38 8 ∷ []) (Some (word 3 7)) (symbol 38 8) [] ≡ []
-unfolding is_joined_else is_joined_end joins
+unfolding joins other_word
 after_condition = refl
 
 after_statement : foreign_note (codes "IF A; & B") (word 0 2 ∷ word 3 4 ∷ symbol 59 4 ∷ symbol 38 6 ∷ []) (Some (symbol 59 4)) (symbol 38 6) [] ≡ []
-unfolding is_joined_else is_joined_end joins
+unfolding joins other_word
 after_statement = refl
 
 before_condition : foreign_note (codes "A & IF B") (word 0 1 ∷ symbol 38 2 ∷ word 4 6 ∷ word 7 8 ∷ []) (Some (word 0 1)) (symbol 38 2) [] ≡ []
-unfolding is_joined_else is_joined_end joins
+unfolding joins other_word
 before_condition = refl
 
 and_in_condition : foreign_note (codes "IF A And B") (word 0 2 ∷ word 3 4 ∷ word 5 8 ∷ word 9 10 ∷ []) (Some (word 3 4)) (word 5 8) [] ≡
@@ -250,36 +251,21 @@ either_condition : foreign_note (codes "IF A or B") (word 0 2 ∷ word 3 4 ∷ w
 unfolding join_note joins
 either_condition = refl
 
--- the word before
-end_if : foreign_note (codes "EndIf;") [] (Some (word 0 5)) (symbol 59 5) [] ≡
-    codes "    what an IF, FOR, MACRO or DRAWING begins ends with END;\n"
-unfolding end_note is_joined_end joins
-end_if = refl
+abbrev words : List Token
+words = word 0 2 ∷ word 3 4 ∷ word 5 8 ∷ word 9 10 ∷ word 11 15 ∷ []
 
-other_ends : map is_joined_end (codes "ENDFOR" ∷ codes "EndMacro" ∷ codes "END" ∷ []) ≡
-    true ∷ true ∷ false ∷ []
-unfolding is_joined_end
-other_ends = refl
-
-other_elses : map is_joined_else (codes "ElseIf" ∷ codes "ELIF" ∷ codes "ELSE" ∷ []) ≡
-    true ∷ true ∷ false ∷ []
-unfolding is_joined_else
-other_elses = refl
-
-no_elses : map is_joined_else (codes "ELSE" ∷ codes "ELSIFS" ∷ codes "ELSEIFS" ∷ codes "ELIFS" ∷ []) ≡
-    false ∷ false ∷ false ∷ false ∷ []
-unfolding is_joined_else
-no_elses = refl
+-- of nearly these words nothing is said
+nearly_joined : map (λ (text : List ℕ). foreign_note text words (Some (word 3 4)) (word 5 8) [])
+    (codes "IF A AND B THEN" ∷ codes "IF A ANT B THEN" ∷ codes "IF A ORB B THEN" ∷ []) ≡
+    codes "    conditions are joined by * and +: (A = 1) * (B = 2) holds where both do, (A = 1) + (B = 2) where one does\n"
+    ∷ [] ∷ [] ∷ []
+unfolding join_note joins other_word
+nearly_joined = refl
 
 nothing_before : foreign_note (codes "A") [] None (word 0 1) [] ≡ []
-unfolding joins
+unfolding joins other_word
 nothing_before = refl
 
-else_if : foreign_note (codes "ELSIF A") [] (Some (word 0 5)) (word 6 7) [] ≡
-    codes "    an IF in an ELSE is written ELSE IF, and each of the two has an END; of its own\n"
-unfolding else_note is_joined_else is_joined_end joins
-else_if = refl
-
 plain_end : foreign_note (codes "END A") [] (Some (word 0 3)) (word 4 5) [] ≡ []
-unfolding is_joined_else is_joined_end joins
+unfolding joins other_word
 plain_end = refl

@@ -1,13 +1,14 @@
 -- Operators of other languages, and what is wanted where one thing alone may stand, worked out on paper.
-use Rattle.std.proofs.Common.{◌≡◌, ℕ, List, [], ◌∷◌, refl, ◌+◌, true, false, pos}
+use Rattle.std.proofs.Common.{◌≡◌, ℕ, List, [], ◌∷◌, map, refl, ◌+◌, true, false, pos}
 use Rattle.std.specs.Prelude.{codes, Some, None}
 use Rattle.scald_lex.specs.declared.token.Token.{Token}
 use Rattle.scald_lex.specs.declared.token.TokenKind.{TokenKind}
 use Rattle.scald_lex.specs.declared.token.TokenKind.TheVariants.{Word, Number, Name, Symbol}
 use Rattle.help_text.specs.Near.{exchanged}
-use Rattle.grammar_help.specs.Foreign.{end_note, foreign_note, invert_note, joins}
+use Rattle.grammar_help.specs.Foreign.{foreign_note, invert_note, joins}
 use Rattle.grammar_help.specs.Operator.{case_note, down_note, is_named_end, least_note, minus_note, most_note, not_note, operator_note, power_note, unequal_note}
-use Rattle.grammar_help.specs.Wanted.{mark_note, name_note, times_note, wanted_note}
+use Rattle.grammar_help.specs.OtherWord.{end_note, other_word}
+use Rattle.grammar_help.specs.Wanted.{mark_note, name_note, space_line, times_note, wanted_note}
 
 -- a token of a text on one line
 abbrev at : TokenKind → ℕ → ℕ → Token
@@ -76,6 +77,12 @@ downwards : operator_note (codes "N DownTo 2") false (Some (at Word 0 1)) (at Wo
 unfolding down_note
 downwards = refl
 
+-- a parenthesis after a FOR
+for_loop : operator_note (codes "for (") false (Some (at Word 0 3)) (symbol 40 4) (Some (at Word 5 6)) ≡
+    codes "    a FOR counts upwards, by one: FOR I = 0 TO N - 1 DO\n"
+unfolding down_note
+for_loop = refl
+
 minus_of_case : operator_note (codes "CASE -\"A\"") false (Some (at Word 0 4)) (symbol 45 5) (Some (at Name 6 9)) ≡
     codes "    a CASE inverts no net: \"A\"=0 stands for -\"A\"=1\n"
 unfolding case_note
@@ -119,12 +126,17 @@ unfolding invert_note
 inverted_by_word = refl
 
 end_of_if : foreign_note (codes "END IF;") [] (Some (at Word 0 3)) (at Word 4 6) (symbol 59 6 ∷ []) ≡
-    codes "    what an IF, FOR, MACRO or DRAWING begins ends with END;\n"
+    codes "    IF, FOR, MACRO and DRAWING each end with END;\n"
 unfolding end_note joins
 end_of_if = refl
 
 end_of_label : is_named_end (codes "END b1") (Some (at Word 0 3)) (at Word 4 6) ≡ false
+unfolding other_word
 end_of_label = refl
+
+end_of_module : is_named_end (codes "end module") (Some (at Word 0 3)) (at Word 4 10) ≡ true
+unfolding other_word
+end_of_module = refl
 
 unequal_of : foreign_note (codes "IF I<>N") (at Word 0 2 ∷ at Word 3 4 ∷ symbol 60 4 ∷ symbol 62 5 ∷ []) (Some (symbol 60 4))
     (symbol 62 5) (at Word 6 7 ∷ []) ≡ codes "    not equal is written !=\n"
@@ -147,6 +159,19 @@ other_times = refl
 -- after another token it is no x
 later_times : wanted_note (codes "SCALD 1;CLOCK 8 X X") clock (Some (at Word 16 17)) (at Word 18 19) ≡ []
 later_times = refl
+
+-- an x and its number in one word
+abbrev space_at : List ℕ → List ℕ
+space_at text = space_line text clock (at Word 16 19)
+
+no_space : space_at (codes "SCALD 1;CLOCK 8 x50;") ≡ codes "    is a space missing after the x of 'x50'?\n"
+no_space = refl
+
+no_number : map space_at (codes "SCALD 1;CLOCK 8 xns;" ∷ codes "SCALD 1;CLOCK 8 X50;" ∷ []) ≡ [] ∷ [] ∷ []
+no_number = refl
+
+later_space : space_line (codes "SCALD 1;CLOCK 8 x x5") clock (at Word 18 20) ≡ []
+later_space = refl
 
 mark : wanted_note (codes "\"A\" !h") (at Name 0 3 ∷ symbol 33 4 ∷ at Word 5 6 ∷ []) (Some (symbol 33 4)) (at Word 5 6) ≡
     codes "    is H meant?\n"

@@ -10,7 +10,8 @@ use Rattle.scald_lex.specs.declared.token.TokenKind.TheVariants.{Word, Number, N
 use Rattle.scald_lex.specs.declared.token.TokenKind.TheVariants as kinds
 use Rattle.help_text.specs.Near.{exchanged}
 use Rattle.help_text.specs.declared.keyword.Keyword.TheVariants.{Case, If, Then, End, Zero, One}
-use Rattle.grammar_help.specs.Foreign.{is_joined_else, is_joined_end, joins}
+use Rattle.grammar_help.specs.Foreign.{joins}
+use Rattle.grammar_help.specs.OtherWord.{other_word}
 use Rattle.grammar_help.specs.Reserved.{reserved_at, reserved_line}
 use Rattle.grammar_help.specs.Shifted.{shifted_line}
 use Rattle.grammar_help.specs.Syntax.{follow_line, meant_before, meant_keyword, syntax_lines, word_lines}
@@ -144,7 +145,7 @@ all_of_it : syntax_lines text tokens (place 4 1) ≡
     ++ codes "    the last END before this, at 3:2, is that of the IF at 2:1\n"
     ++ codes "    the END at 3:2 ends the IF at 2:1, which begins in another column\n"
     ++ codes "    a CASE stands after the END of the DRAWING\n"
-unfolding asks_end begins_block digits end_line exchanged is_joined_else is_joined_end joins shifted_line unended_line
+unfolding asks_end begins_block digits end_line exchanged joins other_word shifted_line unended_line
 all_of_it = refl
 
 -- nothing where no token stands
@@ -157,18 +158,18 @@ of_version_2 : syntax_lines (codes "SCALD 1;CONST N=1;")
     ∷ token (Number (pos 1)) 1 17 16 17 ∷ symbol 59 17 ∷ []) (place 1 15) ≡
     codes "    'N' cannot stand here, after 'CONST'\n"
     ++ codes "    FOR and CONST are of version 2, in texts that begin with SCALD 2\n"
-unfolding asks_end exchanged is_joined_else is_joined_end joins
+unfolding asks_end exchanged joins other_word
 of_version_2 = refl
 
 -- the word that may be meant before the word that is reserved
 of_two_words : syntax_lines (codes "DRAWNG IF:") (word 0 6 ∷ word 7 9 ∷ symbol 58 9 ∷ []) (place 1 8) ≡
     codes "    'IF' cannot stand here, after 'DRAWNG'\n    is DRAWING meant?\n"
     ++ codes "    IF is reserved: it cannot be a label, kind, macro, parameter, constant, variable or drawing\n"
-unfolding asks_end exchanged is_joined_else is_joined_end joins
+unfolding asks_end exchanged joins other_word
 of_two_words = refl
 
 -- nothing of ENDs where no statement may begin
 inside : syntax_lines (codes "IF a END b c") (word 0 2 ∷ word 3 4 ∷ word 5 8 ∷ word 9 10 ∷ word 11 12 ∷ []) (place 1 12) ≡
     codes "    'c' cannot stand here, after 'b'\n"
-unfolding asks_end exchanged is_joined_else is_joined_end joins
+unfolding asks_end exchanged joins other_word
 inside = refl

@@ -3,3 +3,4 @@ pub mod Examples
 pub mod ExamplesEnds
 pub mod ExamplesOperators
 pub mod ExamplesSyntax
+pub mod ExamplesWords

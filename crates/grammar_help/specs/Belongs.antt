@@ -63,12 +63,17 @@ is_free (Some keyword) = false
 abbrev pub is_own : List ℕ → Token → Bool
 is_own text t = is_word t.kind && is_free (reserved_word (spelled text t))
 
--- The first word of the statement that may not stand there. It is the token that may not, or else
--- the CONST before a word, which would be a label there.
+-- an END and an ELSE
+abbrev pub ends_else : List ℕ → Token → Token → Bool
+ends_else text last t = bytes_eq (spelled text last) (codes "END") && bytes_eq (spelled text t) (codes "ELSE")
+
+-- The first word of the statement that may not stand there. It is the token that may not, also an
+-- ELSE right after an END, or else the CONST before a word, which would be a label there.
 abbrev pub misplaced : List ℕ → Option Token → Token → Option Keyword
 misplaced text None t = None
 misplaced text (Some last) t =
     if ends_before text last then statement_word (spelled text t)
+    else if ends_else text last t then Some Else
     else if bytes_eq (spelled text last) (codes "CONST") && is_own text t then Some Const
     else None
 

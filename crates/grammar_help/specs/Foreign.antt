@@ -8,7 +8,9 @@ use Rattle.scald_lex.specs.declared.token.Token.{Token}
 use Rattle.help_text.specs.Near.{near}
 use Rattle.help_text.specs.Statement.{first_of, is_at, spelled}
 use Rattle.help_text.specs.Tokens.{is_symbol}
+use Rattle.grammar_help.specs.Belongs.{ends_before}
 use Rattle.grammar_help.specs.Operator.{inverts_name, is_named_end, operator_note}
+use Rattle.grammar_help.specs.OtherWord.{end_note, first_note, words_note}
 
 -- ---- two tokens side by side
 
@@ -46,15 +48,10 @@ joins text t =
     is_symbol 38 t.kind
     || (near 0 (spelled text t) (codes "AND") || near 0 (spelled text t) (codes "OR"))
 
--- ---- words, whose letters may be of either case
-
-unfoldable pub is_joined_end : List ℕ → Bool
-is_joined_end word =
-    near 0 word (codes "ENDIF") || (near 0 word (codes "ENDFOR") || near 0 word (codes "ENDMACRO"))
-
-unfoldable pub is_joined_else : List ℕ → Bool
-is_joined_else word =
-    near 0 word (codes "ELSIF") || (near 0 word (codes "ELSEIF") || near 0 word (codes "ELIF"))
+-- a brace where a statement may stand
+abbrev pub is_block_brace : List ℕ → Option Token → Token → Bool
+is_block_brace text None t = false
+is_block_brace text (Some last) t = (is_symbol 123 t.kind || is_symbol 125 t.kind) && ends_before text last
 
 -- ---- what is said
 
@@ -69,25 +66,6 @@ unfoldable pub join_note : List ℕ
 join_note =
     codes "    conditions are joined by * and +: (A = 1) * (B = 2) holds where both do, (A = 1) + (B = 2) where one does\n"
 
-unfoldable pub end_note : List ℕ
-end_note = codes "    what an IF, FOR, MACRO or DRAWING begins ends with END;\n"
-
-unfoldable pub else_note : List ℕ
-else_note = codes "    an IF in an ELSE is written ELSE IF, and each of the two has an END; of its own\n"
-
--- by the word before the token
-abbrev pub word_note : List ℕ → Option Token → List ℕ
-word_note text None = []
-word_note text (Some last) =
-    if is_joined_end (spelled text last) then end_note
-    else if is_joined_else (spelled text last) then else_note
-    else []
-
--- a note, or else by the word before the token
-abbrev pub note_or : List ℕ → Option Token → List ℕ → List ℕ
-note_or text before [] = word_note text before
-note_or text before (b ∷ bs) = b ∷ bs
-
 -- of a token, the one before it and those after it
 abbrev pub foreign_note : List ℕ → List Token → Option Token → Token → List Token → List ℕ
 foreign_note text tokens before t ts =
@@ -95,5 +73,7 @@ foreign_note text tokens before t ts =
     else if inverts before (Some t) || (inverts (Some t) (first_of ts) || inverts_name text before t (first_of ts))
     then invert_note
     else if joins text t && in_condition text t.place false tokens then join_note
-    else if is_named_end text before t then end_note
-    else note_or text before (operator_note text (in_condition text t.place false tokens) before t (first_of ts))
+    else if is_named_end text before t || is_block_brace text before t then end_note
+    else
+    first_note (operator_note text (in_condition text t.place false tokens) before t (first_of ts))
+    (words_note text tokens before t ts)

@@ -7,3 +7,8 @@ pub mod Unended
 pub mod Shifted
 pub mod Syntax
 pub mod Wanted
+pub mod OtherWord
+pub mod Brackets
+pub mod Label
+pub mod Hidden
+pub mod Settled

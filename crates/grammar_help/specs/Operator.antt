@@ -7,6 +7,7 @@ use Rattle.scald_lex.specs.declared.token.Token.{Token}
 use Rattle.help_text.specs.Near.{near}
 use Rattle.help_text.specs.Statement.{spelled}
 use Rattle.help_text.specs.Tokens.{is_symbol}
+use Rattle.grammar_help.specs.OtherWord.{is_other, other_word}
 
 -- ---- a token, the one before it, and the one after it
 
@@ -63,13 +64,18 @@ inverts_name text before t next =
 abbrev pub inverts_case : List ℕ → Option Token → Token → Bool
 inverts_case text before t = is_symbol 45 t.kind && holds_word text (codes "CASE") before
 
--- a statement's word after an END
+-- a statement's word after an END, of this language or of another
 abbrev pub is_named_end : List ℕ → Option Token → Token → Bool
 is_named_end text before t =
     holds_word text (codes "END") before
     && (bytes_eq (spelled text t) (codes "IF")
     || (bytes_eq (spelled text t) (codes "FOR")
-    || (bytes_eq (spelled text t) (codes "MACRO") || bytes_eq (spelled text t) (codes "DRAWING"))))
+    || (bytes_eq (spelled text t) (codes "MACRO")
+    || (bytes_eq (spelled text t) (codes "DRAWING") || is_other (other_word (spelled text t))))))
+
+-- a parenthesis after a FOR
+abbrev pub opens_for : List ℕ → Option Token → Token → Bool
+opens_for text before t = is_symbol 40 t.kind && holds_word text (codes "FOR") before
 
 -- ---- what is said
 
@@ -102,7 +108,7 @@ minus_note = codes "    a - stands inside the parentheses, once, right before wh
 abbrev pub sign_note : List ℕ → Option Token → Token → Option Token → List ℕ
 sign_note text before t next =
     if is_pair 42 42 before t then power_note
-    else if holds_word text (codes "DOWNTO") (Some t) then down_note
+    else if holds_word text (codes "DOWNTO") (Some t) || opens_for text before t then down_note
     else if inverts_case text before t then case_note
     else if is_stray_minus before t next then minus_note
     else []

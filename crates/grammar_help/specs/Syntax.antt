@@ -13,12 +13,16 @@ use Rattle.help_text.specs.Statement.{before_place, from_place, spelled}
 use Rattle.help_text.specs.Text.{line, quoted}
 use Rattle.help_text.specs.Tokens.{is_symbol}
 use Rattle.grammar_help.specs.Belongs.{belongs_lines}
+use Rattle.grammar_help.specs.Brackets.{bracket_note}
 use Rattle.grammar_help.specs.Foreign.{foreign_note}
+use Rattle.grammar_help.specs.Hidden.{hidden_note}
+use Rattle.grammar_help.specs.Label.{label_line, lacking_note}
+use Rattle.grammar_help.specs.OtherWord.{first_note}
 use Rattle.grammar_help.specs.Reserved.{reserved_at, reserved_line}
 use Rattle.grammar_help.specs.Shifted.{shifted_lines}
 use Rattle.grammar_help.specs.Unended.{asks_ended, ended_line, open_lines}
 use Rattle.grammar_help.specs.Version.{is_later, said_version, version_lines}
-use Rattle.grammar_help.specs.Wanted.{wanted_note}
+use Rattle.grammar_help.specs.Wanted.{space_line, wanted_note}
 
 -- ---- what stands here
 
@@ -82,10 +86,16 @@ abbrev pub word_lines : List ℕ → List ℕ → Option Token → Token → Lis
 word_lines [] text before t = meant_line text t ++ meant_before text before t
 word_lines (b ∷ bs) text before t = b ∷ bs
 
--- the first of two notes that says something
-abbrev pub first_note : List ℕ → List ℕ → List ℕ
-first_note [] other = other
-first_note (b ∷ bs) other = b ∷ bs
+-- how what stands there is written here: what a comment hides is looked at first
+abbrev pub written_note : List ℕ → List Token → Option Token → Token → List Token → List ℕ
+written_note text tokens before t ts =
+    first_note (hidden_note text before) (first_note (foreign_note text tokens before t ts) (bracket_note text tokens before t ts))
+
+-- the same, or else what is missing or wanted there
+abbrev pub note_at : List ℕ → List Token → Option Token → Token → List Token → List ℕ
+note_at text tokens before t ts =
+    first_note (written_note text tokens before t ts)
+    (first_note (lacking_note text tokens before t) (wanted_note text tokens before t))
 
 -- what ENDs before the token end
 abbrev pub ends_lines : List ℕ → List Token → Option Token → Token → List ℕ
@@ -106,9 +116,11 @@ abbrev pub lines_at : List ℕ → List Token → Option ℕ → Option Token �
 lines_at text tokens said before [] = []
 lines_at text tokens said before (t ∷ ts) =
     follow_line text before t
-    ++ (word_lines (first_note (foreign_note text tokens before t ts) (wanted_note text tokens before t)) text before t
+    ++ (word_lines (note_at text tokens before t ts) text before t
+    ++ (space_line text tokens t
+    ++ (label_line text tokens before t
     ++ (reserved_line (reserved_at text before t ts)
-    ++ statement_lines text tokens said before t))
+    ++ statement_lines text tokens said before t))))
 
 abbrev pub syntax_lines : List ℕ → List Token → Place → List ℕ
 syntax_lines text tokens place =

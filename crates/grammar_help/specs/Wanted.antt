@@ -1,19 +1,38 @@
 -- What is wanted where one thing alone may stand: the x of CLOCK, the H of a mark, or a net's name.
-use Rattle.std.specs.Prelude.{ℕ, Bool, false, not, ◌&&◌, ◌||◌, List, [], ◌∷◌, codes, Option, Some, None, if◌then◌else◌}
+use Rattle.std.specs.Prelude.{ℕ, Bool, false, not, ◌&&◌, ◌||◌, ◌==◌, List, [], ◌∷◌, codes, Option, Some, None, if◌then◌else◌}
 use Rattle.std.specs.Str.{bytes_eq}
+use Rattle.scald_base.specs.Word.{is_digit}
 use Rattle.scald_lex.specs.declared.token.Token.{Token}
 use Rattle.help_text.specs.Near.{is_near}
 use Rattle.help_text.specs.Statement.{before_place, is_at, spelled}
+use Rattle.help_text.specs.Text.{line, quoted}
 use Rattle.help_text.specs.Tokens.{is_symbol}
 use Rattle.grammar_help.specs.Belongs.{is_own}
 use Rattle.grammar_help.specs.Operator.{is_name_token}
 
 -- ---- SCALD n ; CLOCK u x
 
--- an X where the sixth token of a text may only be an x
+-- the token is the sixth of the text, and may only be an x
+abbrev pub is_sixth : List Token → Token → Bool
+is_sixth (a ∷ b ∷ c ∷ d ∷ e ∷ x ∷ ts) t = is_at t.place x
+is_sixth tokens t = false
+
+-- an X there
 abbrev pub wants_times : List ℕ → List Token → Token → Bool
-wants_times text (a ∷ b ∷ c ∷ d ∷ e ∷ x ∷ ts) t = is_at t.place x && bytes_eq (spelled text t) (codes "X")
-wants_times text tokens t = false
+wants_times text tokens t = is_sixth tokens t && bytes_eq (spelled text t) (codes "X")
+
+-- an x and a digit right after it
+abbrev pub joins_number : List ℕ → Bool
+joins_number (x ∷ b ∷ bs) = x == 120 && is_digit b
+joins_number word = false
+
+abbrev pub space_text : List ℕ → List ℕ
+space_text word = line (codes "    is a space missing after the x of " ∷ quoted word ∷ codes "?" ∷ [])
+
+-- of a word with an x and a number there
+abbrev pub space_line : List ℕ → List Token → Token → List ℕ
+space_line text tokens t =
+    if is_sixth tokens t && joins_number (spelled text t) then space_text (spelled text t) else []
 
 -- ---- the mark of a connection
 

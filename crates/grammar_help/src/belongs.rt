@@ -1,7 +1,7 @@
 //! Where a statement belongs that stands where it may not, by its first word.
 
 ghost use Rattle.std.specs.Prelude.{◌≡◌};
-ghost use Rattle.grammar_help.specs.Belongs.{begins_statement, belongs, belongs_lines, ends_before, is_own, misplaced, statement_word};
+ghost use Rattle.grammar_help.specs.Belongs.{begins_statement, belongs, belongs_lines, ends_before, ends_else, is_own, misplaced, statement_word};
 
 use help_text::{Keyword, is_symbol, is_word, reserved_word, spelled};
 use scald_base::same_bytes;
@@ -35,7 +35,7 @@ fn belongs(keyword: Keyword) -> &'static [u8]
 }
 
 /// Whether a statement comes after a token.
-fn ends_before(text: &[u8], last: Token) -> bool
+pub fn ends_before(text: &[u8], last: Token) -> bool
     ensures { result ≡ ends_before text.now last }
 {
     let word = spelled(text, last);
@@ -80,6 +80,13 @@ pub fn is_own(text: &[u8], token: Token) -> bool
     is_word(token) && reserved_word(spelled(text, token)).is_none()
 }
 
+/// Whether tokens are an END and an ELSE.
+fn ends_else(text: &[u8], last: Token, token: Token) -> bool
+    ensures { result ≡ ends_else text.now last token }
+{
+    same_bytes(spelled(text, last), b"END") && same_bytes(spelled(text, token), b"ELSE")
+}
+
 /// The first word of the statement that may not stand where a token may not: that token, or the
 /// CONST before it.
 fn misplaced(text: &[u8], before: Option<Token>, token: Token) -> Option<Keyword>
@@ -90,6 +97,8 @@ fn misplaced(text: &[u8], before: Option<Token>, token: Token) -> Option<Keyword
     };
     if ends_before(text, last) {
         statement_word(spelled(text, token))
+    } else if ends_else(text, last, token) {
+        Some(Keyword::Else)
     } else if same_bytes(spelled(text, last), b"CONST") && is_own(text, token) {
         Some(Keyword::Const)
     } else {

@@ -1,9 +1,11 @@
 //! How what other languages write so is written here.
 
 ghost use Rattle.std.specs.Prelude.{◌≡◌, false};
-ghost use Rattle.grammar_help.specs.Foreign.{comment_note, else_note, end_note, foreign_note, goes_on, in_condition, inverts, invert_note, is_joined_else, is_joined_end, is_name, join_note, joins, note_or, opens_comment, word_note};
+ghost use Rattle.grammar_help.specs.Foreign.{comment_note, foreign_note, goes_on, in_condition, inverts, invert_note, is_block_brace, is_name, join_note, joins, opens_comment};
 
+use crate::belongs::ends_before;
 use crate::operator::{inverts_name, is_named_end, operator_note};
+use crate::other_word::{end_note, first_note, words_note};
 use help_text::{first_of, is_at, is_symbol, near, spelled};
 use scald_base::{Place, same_bytes};
 use scald_lex::{Token, TokenKind};
@@ -76,20 +78,16 @@ fn joins(text: &[u8], token: Token) -> bool
     is_symbol(token, b'&') || near(0, word, b"AND") || near(0, word, b"OR")
 }
 
-/// Whether a word is an END with another word.
-#[tactic(auto, unfolding(crate::specs::Foreign::is_joined_end))]
-fn is_joined_end(word: &[u8]) -> bool
-    ensures { result ≡ is_joined_end word.now }
+/// Whether a brace stands where a statement may.
+fn is_block_brace(text: &[u8], before: Option<Token>, token: Token) -> bool
+    ensures { result ≡ is_block_brace text.now before token }
 {
-    near(0, word, b"ENDIF") || near(0, word, b"ENDFOR") || near(0, word, b"ENDMACRO")
-}
-
-/// Whether a word is an ELSE with an IF.
-#[tactic(auto, unfolding(crate::specs::Foreign::is_joined_else))]
-fn is_joined_else(word: &[u8]) -> bool
-    ensures { result ≡ is_joined_else word.now }
-{
-    near(0, word, b"ELSIF") || near(0, word, b"ELSEIF") || near(0, word, b"ELIF")
+    match before {
+        None => false,
+        Some(last) => {
+            (is_symbol(token, b'{') || is_symbol(token, b'}')) && ends_before(text, last)
+        }
+    }
 }
 
 /// How a comment is written.
@@ -116,49 +114,6 @@ fn join_note() -> &'static [u8]
     b"    conditions are joined by * and +: (A = 1) * (B = 2) holds where both do, (A = 1) + (B = 2) where one does\n"
 }
 
-/// How a block ends.
-#[tactic(auto, unfolding(crate::specs::Foreign::end_note))]
-fn end_note() -> &'static [u8]
-    ensures { result.now ≡ end_note }
-{
-    b"    what an IF, FOR, MACRO or DRAWING begins ends with END;\n"
-}
-
-/// How an IF in an ELSE is written.
-#[tactic(auto, unfolding(crate::specs::Foreign::else_note))]
-fn else_note() -> &'static [u8]
-    ensures { result.now ≡ else_note }
-{
-    b"    an IF in an ELSE is written ELSE IF, and each of the two has an END; of its own\n"
-}
-
-/// What is said of the word before a token.
-fn word_note(text: &[u8], before: Option<Token>) -> &'static [u8]
-    ensures { result.now ≡ word_note text.now before }
-{
-    let Some(last) = before else {
-        return b"";
-    };
-    let word = spelled(text, last);
-    if is_joined_end(word) {
-        end_note()
-    } else if is_joined_else(word) {
-        else_note()
-    } else {
-        b""
-    }
-}
-
-/// This note, or else what is said of the word before a token.
-fn note_or(text: &[u8], before: Option<Token>, note: &'static [u8]) -> &'static [u8]
-    ensures { result.now ≡ note_or text.now before note.now }
-{
-    match note {
-        [] => word_note(text, before),
-        [_, ..] => note,
-    }
-}
-
 /// How what stands at a token is written here, where other languages write it so: by the token
 /// before it and those after it.
 pub fn foreign_note(
@@ -180,14 +135,13 @@ pub fn foreign_note(
         invert_note()
     } else if joins(text, token) && in_condition(text, tokens, token.place) {
         join_note()
-    } else if is_named_end(text, before, token) {
+    } else if is_named_end(text, before, token) || is_block_brace(text, before, token) {
         end_note()
     } else {
         let is_inside = in_condition(text, tokens, token.place);
-        note_or(
-            text,
-            before,
+        first_note(
             operator_note(text, is_inside, before, token, next),
+            words_note(text, tokens, before, token, others),
         )
     }
 }

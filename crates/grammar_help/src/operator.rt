@@ -1,8 +1,9 @@
 //! How operators and words that other languages have are written here.
 
 ghost use Rattle.std.specs.Prelude.{◌≡◌};
-ghost use Rattle.grammar_help.specs.Operator.{case_note, condition_note, down_note, ends_connection, holds_name, holds_symbol, holds_word, inverts_case, inverts_condition, inverts_name, is_name_token, is_named_end, is_pair, is_stray_minus, is_unequal, least_note, minus_note, most_note, not_note, operator_note, power_note, sign_note, unequal_note};
+ghost use Rattle.grammar_help.specs.Operator.{case_note, condition_note, down_note, ends_connection, holds_name, holds_symbol, holds_word, inverts_case, inverts_condition, inverts_name, is_name_token, is_named_end, is_pair, is_stray_minus, is_unequal, least_note, minus_note, most_note, not_note, opens_for, operator_note, power_note, sign_note, unequal_note};
 
+use crate::other_word::other_word;
 use help_text::{is_symbol, near, spelled};
 use scald_base::same_bytes;
 use scald_lex::{Token, TokenKind};
@@ -20,7 +21,7 @@ fn is_pair(first: u8, second: u8, before: Option<Token>, token: Token) -> bool
 }
 
 /// Whether there is a token, and it is this symbol.
-fn holds_symbol(symbol: u8, token: Option<Token>) -> bool
+pub fn holds_symbol(symbol: u8, token: Option<Token>) -> bool
     ensures { result ≡ holds_symbol symbol token }
 {
     match token {
@@ -30,7 +31,7 @@ fn holds_symbol(symbol: u8, token: Option<Token>) -> bool
 }
 
 /// Whether there is a token, and it is this word, in letters of either case.
-fn holds_word(text: &[u8], word: &[u8], token: Option<Token>) -> bool
+pub fn holds_word(text: &[u8], word: &[u8], token: Option<Token>) -> bool
     ensures { result ≡ holds_word text.now word.now token }
 {
     match token {
@@ -47,7 +48,7 @@ pub fn is_name_token(token: Token) -> bool
 }
 
 /// Whether there is a token, and it is a name in quotes.
-fn holds_name(token: Option<Token>) -> bool
+pub fn holds_name(token: Option<Token>) -> bool
     ensures { result ≡ holds_name token }
 {
     match token {
@@ -111,7 +112,15 @@ pub fn is_named_end(text: &[u8], before: Option<Token>, token: Token) -> bool
         && (same_bytes(word, b"IF")
             || same_bytes(word, b"FOR")
             || same_bytes(word, b"MACRO")
-            || same_bytes(word, b"DRAWING"))
+            || same_bytes(word, b"DRAWING")
+            || other_word(word).is_some())
+}
+
+/// Whether a parenthesis comes after a FOR.
+fn opens_for(text: &[u8], before: Option<Token>, token: Token) -> bool
+    ensures { result ≡ opens_for text.now before token }
+{
+    is_symbol(token, b'(') && holds_word(text, b"FOR", before)
 }
 
 /// How not equal is written.
@@ -184,7 +193,7 @@ fn sign_note(text: &[u8], before: Option<Token>, token: Token, next: Option<Toke
 {
     if is_pair(b'*', b'*', before, token) {
         power_note()
-    } else if holds_word(text, b"DOWNTO", Some(token)) {
+    } else if holds_word(text, b"DOWNTO", Some(token)) || opens_for(text, before, token) {
         down_note()
     } else if inverts_case(text, before, token) {
         case_note()

@@ -21,7 +21,7 @@ fn declares(text: &[u8], before: Option<Token>) -> bool
 }
 
 /// Whether a name of the drawing's own comes before the first of these tokens.
-fn gives(tokens: &[Token]) -> bool
+pub fn gives(tokens: &[Token]) -> bool
     ensures { result ≡ gives tokens.now }
 {
     match tokens {

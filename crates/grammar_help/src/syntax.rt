@@ -2,16 +2,20 @@
 
 ghost use Rattle.std.specs.Prelude.{◌≡◌, ◌++◌, OnOk};
 ghost use Rattle.help_text.specs.Text.{part_text};
-ghost use Rattle.grammar_help.specs.Syntax.{ends_lines, first_note, follow_line, meant_before, meant_keyword, meant_line, named, statement_lines, syntax_lines, word_lines};
+ghost use Rattle.grammar_help.specs.Syntax.{ends_lines, follow_line, meant_before, meant_keyword, meant_line, named, note_at, statement_lines, syntax_lines, word_lines, written_note};
 ghost use Rattle.grammar_help.specs.Version.{said_version};
 
 use crate::belongs::belongs_note;
+use crate::brackets::bracket_note;
 use crate::foreign::foreign_note;
+use crate::hidden::hidden_note;
+use crate::label::{add_label, lacking_note};
+use crate::other_word::first_note;
 use crate::reserved::add_reserved;
 use crate::shifted::add_shifted;
 use crate::unended::{add_ended, add_open, asks_ended};
 use crate::version::{add_versions, is_later, said_version};
-use crate::wanted::wanted_note;
+use crate::wanted::{add_space, wanted_note};
 use element_kinds::is_kind_name;
 use help_text::{
     Keyword, Part, add_line, before_place, from_place, is_symbol, near_keyword, spelled,
@@ -124,14 +128,38 @@ fn add_words(
     }
 }
 
-/// The first of two notes that says something.
-fn first_note(note: &'static [u8], other: &'static [u8]) -> &'static [u8]
-    ensures { result.now ≡ first_note note.now other.now }
+/// How what stands there is written here: what a comment hides is looked at first.
+fn written_note(
+    text: &[u8],
+    tokens: &[Token],
+    before: Option<Token>,
+    token: Token,
+    others: &[Token],
+) -> &'static [u8]
+    ensures { result.now ≡ written_note text.now tokens.now before token others.now }
 {
-    match note {
-        [] => other,
-        [_, ..] => note,
-    }
+    let written = first_note(
+        foreign_note(text, tokens, before, token, others),
+        bracket_note(text, tokens, before, token, others),
+    );
+    first_note(hidden_note(text, before), written)
+}
+
+/// The same, or else what is missing or wanted there.
+fn note_at(
+    text: &[u8],
+    tokens: &[Token],
+    before: Option<Token>,
+    token: Token,
+    others: &[Token],
+) -> &'static [u8]
+    ensures { result.now ≡ note_at text.now tokens.now before token others.now }
+{
+    let wanted = first_note(
+        lacking_note(text, tokens, before, token),
+        wanted_note(text, tokens, before, token),
+    );
+    first_note(written_note(text, tokens, before, token, others), wanted)
 }
 
 /// What ENDs before a token end that comes after this one.
@@ -185,11 +213,10 @@ pub fn add_syntax(
     };
     let before = before_place(tokens, place);
     add_follow(out, text, before, *token)?;
-    let note = first_note(
-        foreign_note(text, tokens, before, *token, others),
-        wanted_note(text, tokens, before, *token),
-    );
+    let note = note_at(text, tokens, before, *token, others);
     add_words(out, note, text, before, *token)?;
+    add_space(out, text, tokens, *token)?;
+    add_label(out, text, tokens, before, *token)?;
     add_reserved(out, text, before, *token, others)?;
     add_statement(out, text, tokens, before, *token)
 }

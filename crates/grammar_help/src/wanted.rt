@@ -1,28 +1,74 @@
 //! What is wanted where one thing alone may stand: the x of CLOCK, the H of a mark, or a net's name.
 
-ghost use Rattle.std.specs.Prelude.{◌≡◌};
-ghost use Rattle.grammar_help.specs.Wanted.{begins_mark, ends_term, is_constant, mark_note, name_note, opens_name, times_note, wanted_note, wants_mark, wants_name, wants_times};
+ghost use Rattle.std.specs.Prelude.{◌≡◌, ◌++◌, OnOk};
+ghost use Rattle.grammar_help.specs.Wanted.{begins_mark, ends_term, is_constant, is_sixth, joins_number, mark_note, name_note, opens_name, space_line, space_text, times_note, wanted_note, wants_mark, wants_name, wants_times};
 
 use crate::belongs::is_own;
 use crate::operator::is_name_token;
-use help_text::{before_place, is_at, is_near, is_symbol, spelled};
-use scald_base::same_bytes;
+use help_text::{Part, add_line, before_place, is_at, is_near, is_symbol, spelled};
+use scald_base::{Bytes, NoMemory, same_bytes};
 use scald_lex::Token;
 
-/// Whether an X stands where the sixth token of a text may only be an x.
-fn wants_times(text: &[u8], tokens: &[Token], token: Token) -> bool
-    ensures { result ≡ wants_times text.now tokens.now token }
+/// Whether a token is the sixth of a text, which may only be an x.
+fn is_sixth(tokens: &[Token], token: Token) -> bool
+    ensures { result ≡ is_sixth tokens.now token }
 {
     match tokens {
-        [_, _, _, _, _, sixth, ..] => {
-            is_at(*sixth, token.place) && same_bytes(spelled(text, token), b"X")
-        }
+        [_, _, _, _, _, sixth, ..] => is_at(*sixth, token.place),
         _ => false,
     }
 }
 
+/// Whether an X stands where only an x may.
+fn wants_times(text: &[u8], tokens: &[Token], token: Token) -> bool
+    ensures { result ≡ wants_times text.now tokens.now token }
+{
+    is_sixth(tokens, token) && same_bytes(spelled(text, token), b"X")
+}
+
+/// Whether a word is an x with a digit right after it.
+fn joins_number(word: &[u8]) -> bool
+    ensures { result ≡ joins_number word.now }
+{
+    match word {
+        [first, second, ..] => *first == b'x' && b'0' <= *second && *second <= b'9',
+        _ => false,
+    }
+}
+
+/// The question whether a space is missing in a word.
+fn add_space_text(out: &mut Bytes, word: &[u8]) -> Result<(), NoMemory>
+    ensures { OnOk result (out.new ≡ out.old ++ space_text word.now) }
+{
+    add_line(
+        out,
+        &[
+            Part::Text(b"    is a space missing after the x of "),
+            Part::Quoted(word),
+            Part::Text(b"?"),
+        ],
+    )
+}
+
+/// The same of the word that stands where only an x may, where a number is right after its x.
+pub fn add_space(
+    out: &mut Bytes,
+    text: &[u8],
+    tokens: &[Token],
+    token: Token,
+) -> Result<(), NoMemory>
+    ensures { OnOk result (out.new ≡ out.old ++ space_line text.now tokens.now token) }
+{
+    let word = spelled(text, token);
+    if is_sixth(tokens, token) && joins_number(word) {
+        add_space_text(out, word)
+    } else {
+        Ok(())
+    }
+}
+
 /// Whether a connection may end with a token.
-fn ends_term(text: &[u8], token: Option<Token>) -> bool
+pub fn ends_term(text: &[u8], token: Option<Token>) -> bool
     ensures { result ≡ ends_term text.now token }
 {
     match token {
