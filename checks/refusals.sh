@@ -488,8 +488,7 @@ helps "    'REG' cannot stand here, after 'reg'" \
 second '3 Syntax 4:4' 'DRAWING ROW;' 'OR any [4:9] ("A", "B") -> ("X");' 'END;'
 helps "    'any' cannot stand here, after 'OR'" \
     '    the label comes first: any : OR' \
-    '    what may stand here: :' \
-    '    is : missing here?'
+    '    what may stand here: :'
 second '3 Syntax 4:5' 'DRAWING ROW;' 'FOR (I = 0; I < 4; I = I + 1) DO' 'END;' 'END;'
 helps "    '(' cannot stand here, after 'FOR'" \
     '    a FOR counts upwards, by one: FOR I = 0 TO N - 1 DO' \
@@ -502,8 +501,7 @@ helps "    '}' cannot stand here, after ';'" \
 early '3 Syntax 5:1' 'b1 : BUF [0:0] ("A") --> ("X");'
 helps "    'END' cannot stand here, after ')'" \
     '    --> begins a comment: is -> meant?' \
-    '    what may stand here: -> ;' \
-    '    is ; missing here?'
+    '    what may stand here: -> ;'
 early '3 Syntax 5:1' 'b1 : BUF [0:0] (--"A") -> ("X");'
 helps "    'END' cannot stand here, after '('" \
     '    -- begins a comment: a - stands once before a name' \

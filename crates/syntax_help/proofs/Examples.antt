@@ -1,6 +1,6 @@
 -- The tokens that are tried are one of each kind that the grammar tells apart; texts with them, and
 -- what is said, worked out on paper.
-use Rattle.std.proofs.Common.{◌≡◌, ℕ, ◌+◌, true, false, List, [], ◌∷◌, ◌++◌, map, refl, pos}
+use Rattle.std.proofs.Common.{◌≡◌, ℕ, Bool, ◌+◌, true, false, List, [], ◌∷◌, ◌++◌, map, refl, pos}
 use Rattle.std.specs.Prelude.{codes, Some, None}
 use Rattle.std.specs.List.{filter, flat_map}
 use Rattle.scald_base.specs.declared.refusal.Place.{Place}
@@ -15,7 +15,7 @@ use Rattle.syntax_help.specs.declared.sample.Sample.TheVariants.{Word, Number, N
 use Rattle.syntax_help.specs.Sample.{is_word, samples, spelling}
 use Rattle.syntax_help.specs.Missing.{end_of, is_asked, is_late, mended}
 use Rattle.syntax_help.specs.Offered.{is_operator, may_be_spare}
-use Rattle.syntax_help.specs.Told.{expected_line, meant_end, meant_line, missing_end, missing_line, sample_text, spare_lines, stand_lines}
+use Rattle.syntax_help.specs.Told.{asked_line, expected_line, meant_end, meant_line, missing_end, missing_line, sample_text, spare_lines, stand_lines}
 use Rattle.syntax_help.specs.Trial.{is_syntax_at, next_line, trial}
 
 -- the words
@@ -125,6 +125,11 @@ either : missing_line (Comma ∷ CloseParenthesis ∷ Ampersand ∷ []) (Comma �
     codes "    is , or & missing here?\n"
 unfolding missing_end
 either = refl
+
+settled : map (λ (s : Bool). asked_line s (Semicolon ∷ []) (Semicolon ∷ [])) (true ∷ false ∷ []) ≡
+    [] ∷ codes "    is ; missing here?\n" ∷ []
+unfolding missing_end
+settled = refl
 
 nothing : missing_line (Semicolon ∷ []) [] ≡ []
 nothing = refl

@@ -6,7 +6,8 @@ use Rattle.scald_base.specs.declared.refusal.Refusal.{Refusal}
 use Rattle.scald_lex.specs.declared.token.Token.{Token}
 use Rattle.scald_lex.specs.declared.token.TokenKind.{TokenKind}
 use Rattle.scald_lex.specs.Tokens.{AreTokens, IsRefused}
-use Rattle.help_text.specs.Statement.{from_place, spelled}
+use Rattle.grammar_help.specs.Settled.{is_settled}
+use Rattle.help_text.specs.Statement.{before_place, from_place, spelled}
 use Rattle.help_text.specs.Text.{quoted}
 use Rattle.help_text.specs.Tokens.{is_symbol}
 use Rattle.syntax_help.specs.declared.sample.Sample.{Sample}
@@ -60,6 +61,10 @@ meant_end token = concat (codes " meant in place of " ∷ quoted token ∷ codes
 abbrev pub meant_text : List ℕ → List Sample → List ℕ
 meant_text token meant = codes "    is " ++ (either_text meant ++ meant_end token)
 
+-- the same, and nothing where it is settled that none is missing
+abbrev pub asked_line : Bool → List Sample → List Sample → List ℕ
+asked_line settled found missing = if settled then [] else missing_line found missing
+
 -- those that may be meant in place of the token
 abbrev pub meant_line : List ℕ → List Sample → List ℕ
 meant_line token [] = []
@@ -87,8 +92,8 @@ spare_lines spare before kind token missing meant = []
 
 -- The tokens that may stand after the front of a text, which ends at the place, and with which of
 -- them before the token that stands there, or in place of it, the statement goes on; or whether it
--- goes on without the token. The token comes first of these.
-pub record IsToldAfter (text front : List ℕ) (place : Place) (t : Token) (ts : List Token) (bytes : List ℕ) : Type 0 where
+-- goes on without the token. The token comes first of these, and it may be settled that none is missing before it.
+pub record IsToldAfter (settled : Bool) (text front : List ℕ) (place : Place) (t : Token) (ts : List Token) (bytes : List ℕ) : Type 0 where
   pub found : List Sample
   pub expected : AreChosen (IsListed front place) samples found
   pub missing : List Sample
@@ -97,23 +102,24 @@ pub record IsToldAfter (text front : List ℕ) (place : Place) (t : Token) (ts :
   pub stand : AreChosen (Mends text front t.end (end_of ts)) found meant
   pub spare : Bool
   pub leaves : Says (GoesOn text front [] t.end (end_of ts)) spare
-  pub are : bytes ≡ expected_line found ++ missing_line found missing
+  pub are : bytes ≡ expected_line found ++ asked_line settled found missing
       ++ stand_lines text t missing meant
       ++ spare_lines spare (byte_before text t) t.kind (spelled text t) missing meant
 
 -- of a token and those after it
-abbrev pub IsToldUnless : Bool → List ℕ → Place → Token → List Token → List ℕ → Type 0
-IsToldUnless true text place t ts bytes = bytes ≡ []
-IsToldUnless false text place t ts bytes = IsToldAfter text (take t.start text) place t ts bytes
+abbrev pub IsToldUnless : Bool → Bool → List ℕ → Place → Token → List Token → List ℕ → Type 0
+IsToldUnless true settled text place t ts bytes = bytes ≡ []
+IsToldUnless false settled text place t ts bytes = IsToldAfter settled text (take t.start text) place t ts bytes
 
--- by the tokens from the place on
-abbrev pub IsToldOf : List ℕ → Place → List Token → List ℕ → Type 0
-IsToldOf text place [] bytes = bytes ≡ []
-IsToldOf text place (t ∷ ts) bytes = IsToldUnless (is_late t) text place t ts bytes
+-- by all tokens, and those from the place on
+abbrev pub IsToldOf : List ℕ → Place → List Token → List Token → List ℕ → Type 0
+IsToldOf text place tokens [] bytes = bytes ≡ []
+IsToldOf text place tokens (t ∷ ts) bytes =
+    IsToldUnless (is_late t) (is_settled text tokens (before_place place tokens) t) text place t ts bytes
 
 -- Nothing is said of a text that has no tokens, nor where no token stands at the place, or a late
 -- one.
 pub data IsTold (text : List ℕ) (place : Place) : List ℕ → Type 0 where
   refused : (r : Refusal) → IsRefused text r → IsTold text place []
   read : (tokens : List Token) (bytes : List ℕ) → AreTokens text tokens →
-      IsToldOf text place (from_place place tokens) bytes → IsTold text place bytes
+      IsToldOf text place tokens (from_place place tokens) bytes → IsTold text place bytes

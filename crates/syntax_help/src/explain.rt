@@ -5,13 +5,14 @@ ghost use Rattle.std.specs.List.{flat_map, list_any};
 ghost use Rattle.help_text.specs.Statement.{spelled};
 ghost use Rattle.syntax_help.specs.Missing.{is_late};
 ghost use Rattle.syntax_help.specs.Offered.{byte_before};
-ghost use Rattle.syntax_help.specs.Told.{IsTold, IsToldAfter, IsToldOf, IsToldUnless, earlier_text, either_text, expected_line, is_plus, meant_end, meant_line, meant_text, missing_end, missing_line, missing_text, or_text, sample_text, spare_line, spare_lines, spare_text, stand_lines};
+ghost use Rattle.syntax_help.specs.Told.{IsTold, IsToldAfter, IsToldOf, IsToldUnless, asked_line, earlier_text, either_text, expected_line, is_plus, meant_end, meant_line, meant_text, missing_end, missing_line, missing_text, or_text, sample_text, spare_line, spare_lines, spare_text, stand_lines};
 
 use crate::expected::expected;
 use crate::missing::{end_from, end_of, goes_on, is_late, mending};
 use crate::offered::{byte_before, may_be_meant, may_be_spare};
 use crate::sample::Sample;
-use help_text::{Part, add_parts, from_place, front, is_symbol, spelled};
+use grammar_help::is_settled;
+use help_text::{Part, add_parts, before_place, from_place, front, is_symbol, spelled};
 use scald_base::{Bytes, NoMemory, Place, Stop};
 use scald_lex::{Token, tokens};
 use std::alloc::Global;
@@ -137,6 +138,22 @@ fn add_missing(out: &mut Bytes, found: &[Sample], missing: &[Sample]) -> Result<
     }
 }
 
+/// The same, and nothing where it is settled that none is missing.
+fn add_asked(
+    out: &mut Bytes,
+    is_settled: bool,
+    found: &[Sample],
+    missing: &[Sample],
+) -> Result<(), NoMemory>
+    ensures { OnOk result (out.new ≡ out.old ++ asked_line is_settled found.now missing.now) }
+{
+    if is_settled {
+        Ok(())
+    } else {
+        add_missing(out, found, missing)
+    }
+}
+
 /// The end of the question of tokens that may be meant in place of this one.
 #[tactic(auto, unfolding(crate::specs::Told::meant_end))]
 fn add_meant_end(out: &mut Bytes, token: &[u8]) -> Result<(), NoMemory>
@@ -238,9 +255,10 @@ fn add_spare(
 
 /// What is said of the tokens that may stand after the front of a text, which ends at this place,
 /// and of those with which the statement goes on, before the token that comes first of these or in
-/// place of it, or of the statement without it.
+/// place of it, or of the statement without it. It may be settled that none is missing before it.
 fn told(
     alloc: Global,
+    is_settled: bool,
     text: &[u8],
     front: &[u8],
     place: Place,
@@ -249,7 +267,7 @@ fn told(
 ) -> Result<Bytes, NoMemory>
     requires short { length front.now < 2 ^ 20 }
     requires text { length text.now < 2 ^ 31 }
-    ensures { IfOk result (IsToldAfter text.now front.now place token others.now) }
+    ensures { IfOk result (IsToldAfter is_settled text.now front.now place token others.now) }
 {
     let found = expected(alloc, front, place)?;
     let end = end_from(token, others);
@@ -259,7 +277,7 @@ fn told(
     let spare = goes_on(alloc, text, front, b"", token.end, next_end)?;
     let mut out = Bytes::new(alloc);
     add_expected(&mut out, found.as_slice())?;
-    add_missing(&mut out, found.as_slice(), missing.as_slice())?;
+    add_asked(&mut out, is_settled, found.as_slice(), missing.as_slice())?;
     add_stand(&mut out, text, token, missing.as_slice(), meant.as_slice())?;
     add_spare(
         &mut out,
@@ -275,19 +293,21 @@ fn told(
 /// What is said of the tokens that may stand where this one does, and nothing where it is late.
 fn told_unless_late(
     alloc: Global,
+    is_settled: bool,
     text: &[u8],
     place: Place,
     token: Token,
     others: &[Token],
 ) -> Result<Bytes, NoMemory>
     requires { length text.now < 2 ^ 31 }
-    ensures { IfOk result (IsToldUnless (is_late token) text.now place token others.now) }
+    ensures { IfOk result (IsToldUnless (is_late token) is_settled text.now place token others.now) }
 {
     if is_late(token) {
         Ok(Bytes::new(alloc))
     } else {
         told(
             alloc,
+            is_settled,
             text,
             front(text, token.start as usize),
             place,
@@ -297,13 +317,22 @@ fn told_unless_late(
     }
 }
 
-/// The same of the first of the tokens from the place on.
-fn told_of(alloc: Global, text: &[u8], place: Place, tokens: &[Token]) -> Result<Bytes, NoMemory>
+/// The same of the token at the place, which is the first of these of all tokens.
+fn told_of(
+    alloc: Global,
+    text: &[u8],
+    place: Place,
+    tokens: &[Token],
+    from: &[Token],
+) -> Result<Bytes, NoMemory>
     requires { length text.now < 2 ^ 31 }
-    ensures { IfOk result (IsToldOf text.now place tokens.now) }
+    ensures { IfOk result (IsToldOf text.now place tokens.now from.now) }
 {
-    match tokens {
-        [token, others @ ..] => told_unless_late(alloc, text, place, *token, others),
+    match from {
+        [token, others @ ..] => {
+            let settled = is_settled(text, tokens, before_place(tokens, place), *token);
+            told_unless_late(alloc, settled, text, place, *token, others)
+        }
         [] => Ok(Bytes::new(alloc)),
     }
 }
@@ -322,5 +351,6 @@ pub fn explain_expected(alloc: Global, text: &[u8], place: Place) -> Result<Byte
         Err(Stop::Refused(_)) => return Ok(Bytes::new(alloc)),
         Err(Stop::NoMemory) => return Err(NoMemory),
     };
-    told_of(alloc, text, place, from_place(list.as_slice(), place))
+    let all = list.as_slice();
+    told_of(alloc, text, place, all, from_place(all, place))
 }

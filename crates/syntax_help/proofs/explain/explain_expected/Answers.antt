@@ -14,9 +14,11 @@ pub returns : goal.returns
 returns c =
     let text = c.args.text.now in let place = c.args.place in
     let tokens = c.in-Ok.list in
+    let all = c.as_slice-all.result.now in
     let here : c.from_place.result.now ≡ from_place place tokens =
-    c.from_place.ensures ∙ ap (from_place place) c.as_slice.ensures in
-    IfOk-weaker c.told_of.result (IsToldOf text place c.from_place.result.now) (IsTold text place)
+    c.from_place.ensures ∙ ap (from_place place) c.as_slice-all.ensures in
+    IfOk-weaker c.told_of.result (IsToldOf text place all c.from_place.result.now) (IsTold text place)
     (λ bytes said. read tokens bytes c.in-Ok.ensures.found
-    (subst (λ (found : List Token). IsToldOf text place found bytes) here said))
+    (subst (λ (found : List Token). IsToldOf text place tokens found bytes) here
+    (subst (λ (each : List Token). IsToldOf text place each c.from_place.result.now bytes) c.as_slice-all.ensures said)))
     c.told_of.ensures
