@@ -489,6 +489,11 @@ second '3 Syntax 4:4' 'DRAWING ROW;' 'OR any [4:9] ("A", "B") -> ("X");' 'END;'
 helps "    'any' cannot stand here, after 'OR'" \
     '    the label comes first: any : OR' \
     '    what may stand here: :'
+# (of two kinds the first may be the label)
+second '3 Syntax 4:5' 'DRAWING ROW;' 'AND REG [8:15] ("CK", "D") -> ("Q");' 'END;'
+helps "    'REG' cannot stand here, after 'AND'" \
+    '    what may stand here: :' \
+    '    is : missing here?'
 second '3 Syntax 4:5' 'DRAWING ROW;' 'FOR (I = 0; I < 4; I = I + 1) DO' 'END;' 'END;'
 helps "    '(' cannot stand here, after 'FOR'" \
     '    a FOR counts upwards, by one: FOR I = 0 TO N - 1 DO' \

@@ -243,11 +243,11 @@ no_statement : lacking_note (codes ",OR (") (symbol 44 0 ∷ at Word 1 3 ∷ sym
 no_statement = refl
 
 -- a label after its kind
-abbrev label_after : List ℕ → List ℕ
-label_after text = label_line text (symbol 59 0 ∷ at Word 1 4 ∷ at Word 5 8 ∷ []) (Some (at Word 1 4)) (at Word 5 8)
+abbrev turned_of : List ℕ → List ℕ
+turned_of text = label_line text (symbol 59 0 ∷ at Word 1 4 ∷ at Word 5 8 ∷ []) (Some (at Word 1 4)) (at Word 5 8)
 
-turned : map label_after (codes ";BUF any" ∷ codes ";any BUF" ∷ codes ";BUF END" ∷ []) ≡
-    codes "    the label comes first: any : BUF\n" ∷ [] ∷ [] ∷ []
+turned : map turned_of (codes ";BUF any" ∷ codes ";any BUF" ∷ codes ";BUF END" ∷ codes ";AND REG" ∷ []) ≡
+    codes "    the label comes first: any : BUF\n" ∷ [] ∷ [] ∷ [] ∷ []
 turned = refl
 
 -- a kind that begins no statement

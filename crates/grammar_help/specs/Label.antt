@@ -1,5 +1,5 @@
 -- A label that is missing, or that stands after its kind.
-use Rattle.std.specs.Prelude.{ℕ, Bool, false, ◌&&◌, ◌||◌, List, [], ◌∷◌, codes, Option, Some, None, if◌then◌else◌}
+use Rattle.std.specs.Prelude.{ℕ, Bool, false, not, ◌&&◌, ◌||◌, List, [], ◌∷◌, codes, Option, Some, None, if◌then◌else◌}
 use Rattle.scald_lex.specs.declared.token.TokenKind.{TokenKind}
 use Rattle.scald_lex.specs.declared.token.Token.{Token}
 use Rattle.help_text.specs.Keyword.{near_keyword}
@@ -27,14 +27,21 @@ lacks_label text tokens (Some last) t =
 abbrev pub lacking_note : List ℕ → List Token → Option Token → Token → List ℕ
 lacking_note text tokens before t = if lacks_label text tokens before t then label_note else []
 
--- a word after a kind that begins a statement
+-- a word that may be a label
+abbrev pub may_label : List ℕ → Token → Bool
+may_label text t = is_own text t && not (is_kind text t)
+
+-- one after a kind that begins a statement: of two kinds the first may be the label
 abbrev pub turned_label : List ℕ → List Token → Token → Token → Bool
-turned_label text tokens last t = is_own text t && (is_kind text last && begins_use text tokens last)
+turned_label text tokens last t = may_label text t && (is_kind text last && begins_use text tokens last)
 
 abbrev pub label_text : List ℕ → List ℕ → List ℕ
 label_text kind label = line (codes "    the label comes first: " ∷ label ∷ codes " : " ∷ kind ∷ [])
 
+abbrev pub label_after : List ℕ → List Token → Token → Token → List ℕ
+label_after text tokens last t =
+    if turned_label text tokens last t then label_text (spelled text last) (spelled text t) else []
+
 abbrev pub label_line : List ℕ → List Token → Option Token → Token → List ℕ
 label_line text tokens None t = []
-label_line text tokens (Some last) t =
-    if turned_label text tokens last t then label_text (spelled text last) (spelled text t) else []
+label_line text tokens (Some last) t = label_after text tokens last t

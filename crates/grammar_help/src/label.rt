@@ -1,7 +1,7 @@
 //! A label that is missing, or that stands after its kind.
 
 ghost use Rattle.std.specs.Prelude.{◌≡◌, ◌++◌, OnOk};
-ghost use Rattle.grammar_help.specs.Label.{begins_use, label_line, label_text, lacking_note, lacks_label, opens_part, turned_label};
+ghost use Rattle.grammar_help.specs.Label.{begins_use, label_after, label_line, label_text, lacking_note, lacks_label, may_label, opens_part, turned_label};
 
 use crate::belongs::is_own;
 use crate::other_word::{is_kind, label_note, starts};
@@ -54,11 +54,18 @@ pub fn lacking_note(
     }
 }
 
-/// Whether a word stands after a kind that a statement begins with.
+/// Whether a token is a word that may be a label.
+fn may_label(text: &[u8], token: Token) -> bool
+    ensures { result ≡ may_label text.now token }
+{
+    is_own(text, token) && !is_kind(text, token)
+}
+
+/// Whether a label stands after a kind that a statement begins with.
 pub fn turned_label(text: &[u8], tokens: &[Token], last: Token, token: Token) -> bool
     ensures { result ≡ turned_label text.now tokens.now last token }
 {
-    is_own(text, token) && is_kind(text, last) && begins_use(text, tokens, last)
+    may_label(text, token) && is_kind(text, last) && begins_use(text, tokens, last)
 }
 
 /// In which order a kind and a label stand.
@@ -76,6 +83,23 @@ fn add_label_text<'a>(out: &mut Bytes, kind: &'a [u8], label: &'a [u8]) -> Resul
     )
 }
 
+/// That the label comes first, where it stands after this token, its kind.
+fn add_label_after(
+    out: &mut Bytes,
+    text: &[u8],
+    tokens: &[Token],
+    last: Token,
+    token: Token,
+) -> Result<(), NoMemory>
+    ensures { OnOk result (out.new ≡ out.old ++ label_after text.now tokens.now last token) }
+{
+    if turned_label(text, tokens, last, token) {
+        add_label_text(out, spelled(text, last), spelled(text, token))
+    } else {
+        Ok(())
+    }
+}
+
 /// That the label comes first, where it stands after its kind.
 pub fn add_label(
     out: &mut Bytes,
@@ -87,9 +111,7 @@ pub fn add_label(
     ensures { OnOk result (out.new ≡ out.old ++ label_line text.now tokens.now before token) }
 {
     match before {
-        Some(last) if turned_label(text, tokens, last, token) => {
-            add_label_text(out, spelled(text, last), spelled(text, token))
-        }
-        _ => Ok(()),
+        Some(last) => add_label_after(out, text, tokens, last, token),
+        None => Ok(()),
     }
 }
