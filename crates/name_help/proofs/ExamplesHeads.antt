@@ -1,4 +1,4 @@
--- What is told of words in the head of a macro, worked out on paper.
+-- What is told of words in the head of a macro, worked out on paper: small texts, since each is computed.
 use Rattle.std.proofs.Common.{◌≡◌, List, [], ◌∷◌, ◌++◌, refl, pos}
 use Rattle.std.specs.Prelude.{ℕ, ◌+◌, codes, replicate, Some, None}
 use Rattle.std.specs.Fmt.{digits}

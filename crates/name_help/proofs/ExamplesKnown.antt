@@ -79,7 +79,20 @@ not_meant : near_known (codes "FORTURN=END") ended ended [] (codes "TRUN") ≡ N
 unfolding begins_assign ends_assign exchanged is_turned leads opens_block
 not_meant = refl
 
+-- nor is one that is known, and far from the word
+abbrev begun_turn : List Token
+begun_turn = word 0 3 ∷ word 3 7 ∷ symbol 61 7 ∷ []
+
+far : near_known (codes "FORTURN=") begun_turn begun_turn [] (codes "SIZE") ≡ None
+unfolding begins_assign ends_assign exchanged is_turned leads
+far = refl
+
 -- ---- constants and parameters
+
+-- N= alone declares neither
+undeclared : constants (codes "N=") (letter 0 ∷ symbol 61 1 ∷ []) ++ variables (codes "N=") (letter 0 ∷ symbol 61 1 ∷ []) ≡ []
+unfolding is_turned leads
+undeclared = refl
 
 -- CONST N=CONST: has one constant, and MACRO M{K=N,L=} the parameters K and L
 declared : constants (codes "CONSTN=CONST:") (word 0 5 ∷ letter 5 ∷ symbol 61 6 ∷ word 7 12 ∷ symbol 58 12 ∷ []) ≡
