@@ -1,5 +1,6 @@
 -- The name of a number, or of a macro, that a word nearly is.
 use Rattle.std.specs.Prelude.{ℕ, Bool, false, ◌&&◌, List, [], ◌∷◌, map, codes, Option, Some, None, if◌then◌else◌}
+use Rattle.std.specs.Str.{bytes_eq}
 use Rattle.scald_lex.specs.declared.token.Token.{Token}
 use Rattle.help_text.specs.Assign.{begins_assign, braces, ends_assign}
 use Rattle.help_text.specs.Near.{is_near, near}
@@ -22,7 +23,7 @@ abbrev pub same_led : List ℕ → List ℕ → List ℕ → Bool → List Token
 same_led text leader word led [] = None
 same_led text leader word led (t ∷ ts) =
     if led && near 0 word (spelled text t) then Some t
-    else same_led text leader word (leads text leader t) ts
+    else same_led text leader word (bytes_eq (spelled text t) leader) ts
 
 abbrev pub same_after : List ℕ → List ℕ → List ℕ → List Token → Option Token
 same_after text leader word tokens = same_led text leader word false tokens

@@ -6,7 +6,7 @@ ghost use Rattle.name_help.specs.NearName.{meant_lines, near_after, near_constan
 use crate::turn::{leads, near_variable};
 use crate::unknown::{after_head, before_last};
 use help_text::{Part, add_line, begins_assign, braces, ends_assign, is_near, near, spelled};
-use scald_base::{Bytes, NoMemory};
+use scald_base::{Bytes, NoMemory, same_bytes};
 use scald_lex::Token;
 
 /// The first name after a token of the text `leader` that a word nearly is.
@@ -35,7 +35,7 @@ pub fn same_after(text: &[u8], tokens: &[Token], leader: &[u8], word: &[u8]) -> 
         if is_led && near(0, word, spelled(text, *token)) {
             return Some(*token);
         }
-        is_led = leads(text, leader, *token);
+        is_led = same_bytes(spelled(text, *token), leader);
         rest = others;
     }
     None
