@@ -77,7 +77,6 @@ used end = word 0 1 ∷ symbol 58 2 ∷ word 4 end ∷ []
 
 asked : kind_lines (codes "u : BUFF") (used 8) (used 8) ≡
     codes "    'BUFF' is none: is BUF meant?\n"
-unfolding exchanged leads
 asked = refl
 
 -- a kind or a macro with other letters comes before all that it nearly is: mux4 is nearly MUX2, and and3 nearly AND
