@@ -23,7 +23,8 @@ slash name = if name.global then codes "/" else codes ""
 unfoldable pub net_slip_line : NetSlip → List ℕ
 net_slip_line s = line (
     codes "scald: " ∷ place_text s.place ∷ codes ": nothing drives \"" ∷ slash s.name ∷ s.name.base
-    ∷ codes "\", and it has no assertion: is \"" ∷ slash s.other ∷ s.other.base ∷ codes "\" meant?" ∷ [])
+    ∷ codes "\", and it has no assertion: is \"" ∷ slash s.other ∷ s.other.base
+    ∷ codes "\" meant?" ∷ [])
 
 unfoldable pub undriven_line : Undriven → List ℕ
 undriven_line u = line (
@@ -42,10 +43,12 @@ more_line count =
     if nat_le count 8 then [] else line (codes "    and " ∷ decimal (count - 8) ∷ codes " more" ∷ [])
 
 abbrev pub lines_of : List ℕ → List Finding → List ℕ
-lines_of text findings = flat_map (finding_lines text) (take 8 findings) ++ more_line (length findings)
+lines_of text findings =
+    flat_map (finding_lines text) (take 8 findings) ++ more_line (length findings)
 
 -- nothing of a text that is refused, nor of a long one
 pub data IsTold (text : List ℕ) : List ℕ → Type 0 where
   too_long : 262144 < length text → IsTold text []
   undrawn : (r : Refusal) → IsRefusal text r → IsTold text []
-  drawn : length text ≤ 262144 → (d : Drawing) → TextDraws text d → IsTold text (lines_of text (findings_of d))
+  drawn : length text ≤ 262144 → (d : Drawing) → TextDraws text d →
+      IsTold text (lines_of text (findings_of d))

@@ -2,17 +2,17 @@
 use Rattle.std.specs.Prelude.{ℕ, Bool, false, List, [], ◌∷◌, ◌++◌, Option, Some, None, if◌then◌else◌}
 use Rattle.std.specs.List.{flat_map, list_any}
 use Rattle.scald_base.specs.declared.refusal.Place.{Place}
-use Rattle.drawing_tree.specs.declared.drawing.CaseStmt.{CaseStmt}
-use Rattle.drawing_tree.specs.Tree.{Drawing, Formal, Macro, Statement}
+use Rattle.drawing_tree.specs.Tree.{Drawing, Formal, Macro}
 use Rattle.formal_help.specs.Body.{written_in_all, written_of}
 use Rattle.formal_help.specs.Names.{Spot, given_in, is_named, outputs, reads}
 use Rattle.formal_help.specs.Finding.{Finding, to_output}
-use Rattle.formal_help.specs.Within.{Names, Within, found_at}
+use Rattle.formal_help.specs.Within.{Text, Within, found_at}
 
 -- ---- macros that drive their inputs
 
 abbrev pub are_outputs : List Formal → List Spot → Bool
-are_outputs formals spots = list_any (λ (f : Formal). list_any (is_named false f.base) spots) formals
+are_outputs formals spots =
+    list_any (λ (f : Formal). list_any (is_named false f.base) spots) formals
 
 abbrev pub drives_input : Macro → Bool
 drives_input m = are_outputs m.ins (outputs (written_of m.body))
@@ -45,41 +45,48 @@ findings_from w before (spot ∷ rest) =
     found_first before spot (found_at w spot) ++ findings_from w (before ++ spot ∷ []) rest
 
 abbrev pub findings_within : Within → List Finding
-findings_within w = findings_from w [] w.own.reads
+findings_within w = findings_from w [] w.reads
 
 -- ---- macros and the drawing
 
-abbrev pub names_of : Bool → List CaseStmt → List Statement → Names
-names_of both_ways cases statements =
-    record { reads = reads statements; given = given_in both_ways cases statements }
-
-abbrev pub macro_within : Macro → Names → Names → Within
-macro_within m own text =
-    record { name = m.name; ins = m.ins; outs = m.outs; own = own; text = text }
-
-abbrev pub macro_findings : Macro → Names → Names → List Finding
-macro_findings m own text = undriven_outputs m own.given ++ findings_within (macro_within m own text)
-
-abbrev pub findings_in : Bool → Names → Macro → List Finding
-findings_in both_ways text m = macro_findings m (names_of both_ways [] (written_of m.body)) text
-
--- A case sets nets of the drawing itself, and globals.
-abbrev pub drawing_within : Bool → Names → Drawing → Within
-drawing_within both_ways text d = record {
-  name = d.name;
-  ins = [];
-  outs = [];
-  own = names_of both_ways d.cases (written_of d.body);
+abbrev pub macro_within : Text → Macro → Within
+macro_within text m = record {
+  name = m.name;
+  ins = m.ins;
+  outs = m.outs;
+  reads = reads (written_of m.body);
+  given = given_in text.both_ways [] (written_of m.body);
   text = text;
 }
 
-abbrev pub findings_in_drawing : Bool → Names → Drawing → List Finding
-findings_in_drawing both_ways text d = findings_within (drawing_within both_ways text d)
+abbrev pub macro_findings : Macro → Within → List Finding
+macro_findings m w = undriven_outputs m w.given ++ findings_within w
 
-abbrev pub findings_with : Bool → Names → Drawing → List Finding
-findings_with both_ways text d =
-    flat_map (findings_in both_ways text) d.macros ++ findings_in_drawing both_ways text d
+abbrev pub findings_in : Text → Macro → List Finding
+findings_in text m = macro_findings m (macro_within text m)
+
+-- A case sets nets of the drawing itself, and globals.
+abbrev pub drawing_within : Text → Drawing → Within
+drawing_within text d = record {
+  name = d.name;
+  ins = [];
+  outs = [];
+  reads = reads (written_of d.body);
+  given = given_in text.both_ways d.cases (written_of d.body);
+  text = text;
+}
+
+abbrev pub findings_in_drawing : Text → Drawing → List Finding
+findings_in_drawing text d = findings_within (drawing_within text d)
+
+abbrev pub findings_with : Text → Drawing → List Finding
+findings_with text d = flat_map (findings_in text) d.macros ++ findings_in_drawing text d
+
+abbrev pub text_of : Drawing → Text
+text_of d = record {
+  both_ways = drives_inputs d;
+  given = given_in (drives_inputs d) d.cases (written_in_all d);
+}
 
 abbrev pub findings_of : Drawing → List Finding
-findings_of d =
-    findings_with (drives_inputs d) (names_of (drives_inputs d) d.cases (written_in_all d)) d
+findings_of d = findings_with (text_of d) d

@@ -1,8 +1,10 @@
 -- The names of nets in a body, each with its place.
-use Rattle.std.specs.Prelude.{ℕ, ◌&&◌, Bool, not, List, [], ◌∷◌, ◌++◌, map, Option, Some, None, if◌then◌else◌}
-use Rattle.std.specs.List.{filter_map, flat_map}
+use Rattle.std.specs.Prelude.{ℕ, ◌&&◌, ◌||◌, Bool, false, true, not, List, [], ◌∷◌, ◌++◌, map, Option, Some, None, if◌then◌else◌}
+use Rattle.std.specs.List.{filter, filter_map, flat_map}
 use Rattle.std.specs.Str.{bytes_eq}
 use Rattle.scald_base.specs.declared.refusal.Place.{Place}
+use Rattle.scald_base.specs.declared.assertion.AssertSpec.{AssertSpec}
+use Rattle.scald_base.specs.declared.assertion.AssertSpec.TheVariants.{None as Unasserted, Precision, Clock, Stable}
 use Rattle.assertion_syntax.specs.declared.name.SignalName.{SignalName}
 use Rattle.drawing_tree.specs.declared.drawing.CaseEntry.{CaseEntry}
 use Rattle.drawing_tree.specs.declared.drawing.CaseStmt.{CaseStmt}
@@ -60,10 +62,20 @@ case_spots cases = flat_map (λ (c : CaseStmt). map entry_spot c.entries) cases
 
 -- ---- what is given
 
--- What statements drive and cases set. A macro may drive what stands in its inputs too, if it drives both ways.
-abbrev pub given_in : Bool → List CaseStmt → List Statement → List Spot
+abbrev pub asserts : AssertSpec → Bool
+asserts Unasserted = false
+asserts (Precision clock) = true
+asserts (Clock clock) = true
+asserts (Stable spans) = true
+
+-- what is asserted where it is read; or all, where a macro may drive what stands in its inputs
+abbrev pub asserted : Bool → List Spot → List Spot
+asserted both_ways spots = filter (λ (s : Spot). both_ways || asserts s.name.spec) spots
+
+-- what statements drive and cases set, and what is asserted
+unfoldable pub given_in : Bool → List CaseStmt → List Statement → List Spot
 given_in both_ways cases statements =
-    outputs statements ++ case_spots cases ++ (if both_ways then reads statements else [])
+    outputs statements ++ case_spots cases ++ asserted both_ways (reads statements)
 
 -- Both are global, or neither.
 abbrev pub same_scope : Bool → Bool → Bool

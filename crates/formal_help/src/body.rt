@@ -46,7 +46,8 @@ fn add_body<'a>(out: &mut Written<'a>, body: &'a [Stmt]) -> Result<(), NoMemory>
 /// Adds a use or a WIRE, or those under an IF or a FOR.
 #[cycle(written)]
 fn add_statement<'a>(out: &mut Written<'a>, statement: &'a Stmt) -> Result<(), NoMemory>
-    ensures { OnOk result (trees out.new ≡ trees out.old ++ written_in (statement_of statement.now)) }
+    ensures { OnOk result (trees out.new
+        ≡ trees out.old ++ written_in (statement_of statement.now)) }
 {
     match statement {
         Stmt::Use(_) | Stmt::Wire(_) => out.push(statement),

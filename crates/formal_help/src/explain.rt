@@ -91,7 +91,8 @@ fn add_undriven_line(out: &mut Bytes, undriven: Undriven) -> Result<(), NoMemory
 
 /// What is said of a finding, with the line of the text.
 fn add_finding(out: &mut Bytes, text: &[u8], finding: Finding) -> Result<(), NoMemory>
-    ensures { OnOk result (out.new ≡ out.old ++ finding_lines text.now (finding_seen finding.entry)) }
+    ensures { OnOk result (out.new
+        ≡ out.old ++ finding_lines text.now (finding_seen finding.entry)) }
 {
     let place = match finding {
         Finding::Formal(slip) => {
@@ -114,7 +115,8 @@ fn add_finding(out: &mut Bytes, text: &[u8], finding: Finding) -> Result<(), NoM
 
 /// What is said of these findings.
 fn add_findings(out: &mut Bytes, text: &[u8], findings: &[Finding]) -> Result<(), NoMemory>
-    ensures { OnOk result (out.new ≡ out.old ++ flat_map (finding_lines text.now) (seen findings.now)) }
+    ensures { OnOk result (out.new
+        ≡ out.old ++ flat_map (finding_lines text.now) (seen findings.now)) }
 {
     'findings: for finding in findings {
         add_finding(out, text, *finding)?;
@@ -158,10 +160,10 @@ fn told(alloc: Global, text: &[u8], findings: &[Finding]) -> Result<Bytes, NoMem
     Ok(out)
 }
 
-/// Of a text that draws a drawing: each output of a macro that no statement of it drives; and each name that
-/// nothing drives, that asserts nothing, and that is nearly a formal of its macro or nearly another net, with the
-/// first place where it stands. Nothing is told of a text that is refused, or of more than 262,144 bytes. The one
-/// error is that memory ran out.
+/// Of a text that draws a drawing: each output of a macro that no statement of it drives; and each
+/// name that nothing drives, that asserts nothing, and that is nearly a formal of its macro or
+/// nearly another net, with the first place where it stands. Nothing is told of a text that is
+/// refused, or of more than 262,144 bytes. The one error is that memory ran out.
 pub fn explain_slips(alloc: Global, text: &[u8]) -> Result<Bytes, NoMemory>
     requires { length text.now < 2 ^ 32 - 1 }
     ensures { IfOk result (IsTold text.now) }

@@ -5,13 +5,13 @@ ghost use Rattle.drawing_tree.specs.Tree.{drawing_of, formal_of, macro_of};
 ghost use Rattle.formal_help.specs.Names.{seen as spots, spot_seen};
 ghost use Rattle.formal_help.specs.Finding.{seen};
 ghost use Rattle.formal_help.specs.Findings.{are_outputs, drives_input, drives_inputs, findings_in, findings_in_drawing, findings_of, findings_with, findings_within, found_first, macro_findings, undriven_output, undriven_outputs};
-ghost use Rattle.formal_help.specs.Within.{found_at, names_seen, within_seen};
+ghost use Rattle.formal_help.specs.Within.{found_at, text_seen, within_seen};
 
 use crate::body::{written, written_in_all};
 use crate::finding::{Finding, Findings, Undriven};
 use crate::names::{Spot, given, outputs, reads};
 use crate::slips::is_any_named;
-use crate::within::{Names, Within, found_at};
+use crate::within::{Text, Within, found_at};
 use drawing_tree::{Drawing, Formal, MacroDef};
 use scald_base::NoMemory;
 use std::alloc::Global;
@@ -98,7 +98,8 @@ fn add_spot<'a>(
     before: &[Spot<'a>],
     spot: Spot<'a>,
 ) -> Result<(), NoMemory>
-    ensures { OnOk result (seen out.new ≡ seen out.old ++ found_first (spots before.now) (spot_seen spot.entry)
+    ensures { OnOk result (seen out.new ≡ seen out.old
+        ++ found_first (spots before.now) (spot_seen spot.entry)
         (found_at (within_seen within.entry) (spot_seen spot.entry))) }
 {
     let Some(finding) = found_at(within, spot) else {
@@ -112,9 +113,10 @@ fn add_spot<'a>(
 
 /// Adds what is found at the names of a body.
 fn add_spots<'a>(out: &mut Findings<'a>, within: Within<'a, '_>) -> Result<(), NoMemory>
-    ensures { OnOk result (seen out.new ≡ seen out.old ++ findings_within (within_seen within.entry)) }
+    ensures { OnOk result (seen out.new
+        ≡ seen out.old ++ findings_within (within_seen within.entry)) }
 {
-    let spots = within.own.reads;
+    let spots = within.reads;
     for place in 0..spots.len() {
         add_spot(out, within, &spots[..place], spots[place])?;
     }
@@ -123,100 +125,91 @@ fn add_spots<'a>(out: &mut Findings<'a>, within: Within<'a, '_>) -> Result<(), N
 
 // ---- macros and the drawing
 
-/// Adds all of a macro, by its own names and those of the text.
+/// Adds all of a macro, by what it has.
 fn add_found<'a>(
     out: &mut Findings<'a>,
     definition: &'a MacroDef,
-    own: Names<'a, '_>,
-    text: Names<'a, '_>,
+    within: Within<'a, '_>,
 ) -> Result<(), NoMemory>
     ensures { OnOk result (seen out.new ≡ seen out.old
-        ++ macro_findings (macro_of definition.now) (names_seen own.entry) (names_seen text.entry)) }
+        ++ macro_findings (macro_of definition.now) (within_seen within.entry)) }
 {
-    add_outputs(out, definition, own.given)?;
-    add_spots(
-        out,
-        Within {
-            name: definition.name.as_slice(),
-            ins: definition.ins.as_slice(),
-            outs: definition.outs.as_slice(),
-            own,
-            text,
-        },
-    )
+    add_outputs(out, definition, within.given)?;
+    add_spots(out, within)
 }
 
 /// Adds all of a macro.
 fn add_macro<'a>(
     alloc: Global,
     out: &mut Findings<'a>,
-    both_ways: bool,
-    text: Names<'a, '_>,
+    text: Text<'a, '_>,
     definition: &'a MacroDef,
 ) -> Result<(), NoMemory>
     ensures { OnOk result (seen out.new ≡ seen out.old
-        ++ findings_in both_ways (names_seen text.entry) (macro_of definition.now)) }
+        ++ findings_in (text_seen text.entry) (macro_of definition.now)) }
 {
     let written = written(alloc, definition.body.as_slice())?;
     let reads = reads(alloc, written.as_slice())?;
-    let given = given(alloc, both_ways, &[], written.as_slice())?;
-    let own = Names {
-        reads: reads.as_slice(),
-        given: given.as_slice(),
-    };
-    add_found(out, definition, own, text)
+    let given = given(alloc, text.both_ways, &[], written.as_slice())?;
+    add_found(
+        out,
+        definition,
+        Within {
+            name: definition.name.as_slice(),
+            ins: definition.ins.as_slice(),
+            outs: definition.outs.as_slice(),
+            reads: reads.as_slice(),
+            given: given.as_slice(),
+            text,
+        },
+    )
 }
 
 /// Adds all of the drawing's own statements.
 fn add_drawing<'a>(
     alloc: Global,
     out: &mut Findings<'a>,
-    both_ways: bool,
-    text: Names<'a, '_>,
+    text: Text<'a, '_>,
     drawing: &'a Drawing,
 ) -> Result<(), NoMemory>
     ensures { OnOk result (seen out.new ≡ seen out.old
-        ++ findings_in_drawing both_ways (names_seen text.entry) (drawing_of drawing.now)) }
+        ++ findings_in_drawing (text_seen text.entry) (drawing_of drawing.now)) }
 {
     let written = written(alloc, drawing.body.as_slice())?;
     let reads = reads(alloc, written.as_slice())?;
     let given = given(
         alloc,
-        both_ways,
+        text.both_ways,
         drawing.cases.as_slice(),
         written.as_slice(),
     )?;
-    let own = Names {
-        reads: reads.as_slice(),
-        given: given.as_slice(),
-    };
     add_spots(
         out,
         Within {
             name: drawing.name.as_slice(),
             ins: &[],
             outs: &[],
-            own,
+            reads: reads.as_slice(),
+            given: given.as_slice(),
             text,
         },
     )
 }
 
-/// All that is found, by the names of the text.
+/// All that is found, by what the text has.
 fn findings_with<'a>(
     alloc: Global,
-    both_ways: bool,
-    text: Names<'a, '_>,
+    text: Text<'a, '_>,
     drawing: &'a Drawing,
 ) -> Result<Findings<'a>, NoMemory>
     ensures { IfOk result (λ found. seen found
-        ≡ findings_with both_ways (names_seen text.entry) (drawing_of drawing.now)) }
+        ≡ findings_with (text_seen text.entry) (drawing_of drawing.now)) }
 {
     let mut out = Findings::new(alloc);
     'macros: for definition in drawing.macros.as_slice() {
-        add_macro(alloc, &mut out, both_ways, text, definition)?;
+        add_macro(alloc, &mut out, text, definition)?;
     }
-    add_drawing(alloc, &mut out, both_ways, text, drawing)?;
+    add_drawing(alloc, &mut out, text, drawing)?;
     Ok(out)
 }
 
@@ -226,16 +219,15 @@ pub fn findings<'a>(alloc: Global, drawing: &'a Drawing) -> Result<Findings<'a>,
 {
     let both_ways = drives_inputs(alloc, drawing)?;
     let written = written_in_all(alloc, drawing)?;
-    let reads = reads(alloc, written.as_slice())?;
     let given = given(
         alloc,
         both_ways,
         drawing.cases.as_slice(),
         written.as_slice(),
     )?;
-    let text = Names {
-        reads: reads.as_slice(),
+    let text = Text {
+        both_ways,
         given: given.as_slice(),
     };
-    findings_with(alloc, both_ways, text, drawing)
+    findings_with(alloc, text, drawing)
 }

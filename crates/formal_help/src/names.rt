@@ -3,11 +3,11 @@
 ghost use Rattle.std.specs.Prelude.{◌≡◌, ◌++◌, IfOk, OnOk, map};
 ghost use Rattle.drawing_tree.specs.Tree.{connection_of, statement_of};
 ghost use Rattle.formal_help.specs.Body.{trees};
-ghost use Rattle.formal_help.specs.Names.{case_spots, entry_spot, given_in, outputs, outputs_in, reads, reads_in, seen, spots_in, spots_of};
+ghost use Rattle.formal_help.specs.Names.{asserted, asserts, case_spots, entry_spot, given_in, outputs, outputs_in, reads, reads_in, seen, spots_in, spots_of};
 
 use assertion_syntax::SignalName;
 use drawing_tree::{CaseEntry, CaseStmt, Conn, Item, Stmt};
-use scald_base::{List, NoMemory, Place};
+use scald_base::{AssertSpec, List, NoMemory, Place};
 use std::alloc::Global;
 
 /// A name, and the place of the connection, of the WIRE or in the case in which it stands.
@@ -24,7 +24,8 @@ pub type Spots<'a> = List<Spot<'a>>;
 
 /// Adds those of a connection.
 fn add_connection<'a>(out: &mut Spots<'a>, connection: &'a Conn) -> Result<(), NoMemory>
-    ensures { OnOk result (seen out.new ≡ seen out.old ++ spots_in (connection_of connection.now)) }
+    ensures { OnOk result (seen out.new
+        ≡ seen out.old ++ spots_in (connection_of connection.now)) }
 {
     'terms: for term in connection.terms.as_slice() {
         if let Item::Named(name, _) = &term.item {
@@ -66,7 +67,8 @@ fn add_read<'a>(out: &mut Spots<'a>, statement: &'a Stmt) -> Result<(), NoMemory
 
 /// Adds what a statement drives: a use its outputs.
 fn add_output<'a>(out: &mut Spots<'a>, statement: &'a Stmt) -> Result<(), NoMemory>
-    ensures { OnOk result (seen out.new ≡ seen out.old ++ outputs_in (statement_of statement.now)) }
+    ensures { OnOk result (seen out.new
+        ≡ seen out.old ++ outputs_in (statement_of statement.now)) }
 {
     match statement {
         Stmt::Use(used) => add_connections(out, used.outs.as_slice()),
@@ -74,22 +76,14 @@ fn add_output<'a>(out: &mut Spots<'a>, statement: &'a Stmt) -> Result<(), NoMemo
     }
 }
 
-/// Adds what statements read.
-fn add_reads<'a>(out: &mut Spots<'a>, statements: &[&'a Stmt]) -> Result<(), NoMemory>
-    ensures { OnOk result (seen out.new ≡ seen out.old ++ reads (trees statements.now)) }
-{
-    'statements: for statement in statements {
-        add_read(out, *statement)?;
-    }
-    Ok(())
-}
-
 /// What statements read.
 pub fn reads<'a>(alloc: Global, statements: &[&'a Stmt]) -> Result<Spots<'a>, NoMemory>
     ensures { IfOk result (λ spots. seen spots ≡ reads (trees statements.now)) }
 {
     let mut spots = Spots::new(alloc);
-    add_reads(&mut spots, statements)?;
+    'statements: for statement in statements {
+        add_read(&mut spots, *statement)?;
+    }
     Ok(spots)
 }
 
@@ -131,7 +125,31 @@ fn add_cases<'a>(out: &mut Spots<'a>, cases: &'a [CaseStmt]) -> Result<(), NoMem
 
 // ---- what is given
 
-/// What statements drive and cases set; and also what statements read, where a macro may drive its inputs.
+/// Whether a name asserts something.
+fn asserts(spec: &AssertSpec) -> bool
+    ensures { result ≡ asserts spec.now }
+{
+    !matches!(spec, AssertSpec::None)
+}
+
+/// Adds those of these that assert something; or all, where macros drive their inputs.
+fn add_asserted<'a>(
+    out: &mut Spots<'a>,
+    both_ways: bool,
+    reads: &[Spot<'a>],
+) -> Result<(), NoMemory>
+    ensures { OnOk result (seen out.new ≡ seen out.old ++ asserted both_ways (seen reads.now)) }
+{
+    'reads: for spot in reads {
+        if both_ways || asserts(&spot.name.spec) {
+            out.push(*spot)?;
+        }
+    }
+    Ok(())
+}
+
+/// What statements drive, what cases set, and what is asserted where it is read.
+#[tactic(auto, unfolding(crate::specs::Names::given_in))]
 pub fn given<'a>(
     alloc: Global,
     both_ways: bool,
@@ -141,10 +159,9 @@ pub fn given<'a>(
     ensures { IfOk result (λ spots. seen spots
         ≡ given_in both_ways cases.now (trees statements.now)) }
 {
+    let reads = reads(alloc, statements)?;
     let mut spots = outputs(alloc, statements)?;
     add_cases(&mut spots, cases)?;
-    if both_ways {
-        add_reads(&mut spots, statements)?;
-    }
+    add_asserted(&mut spots, both_ways, reads.as_slice())?;
     Ok(spots)
 }

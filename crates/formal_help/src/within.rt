@@ -2,47 +2,45 @@
 
 ghost use Rattle.std.specs.Prelude.{◌≡◌, option_map};
 ghost use Rattle.std.specs.Option.{option_copied};
-ghost use Rattle.formal_help.specs.Names.{spot_seen};
+ghost use Rattle.formal_help.specs.Names.{seen, spot_seen};
 ghost use Rattle.formal_help.specs.Finding.{finding_seen};
-ghost use Rattle.formal_help.specs.Within.{found_at, found_near, is_given, is_known, is_some_formal, names_for, names_seen, near_net, some_near_formal, within_seen};
+ghost use Rattle.formal_help.specs.Within.{found_at, found_near, given_for, is_known, is_some_formal, some_near_formal, within_seen};
 
 use crate::finding::{Finding, NetSlip, Slip};
 use crate::names::Spot;
-use crate::slips::{is_any_asserted, is_any_named, is_formal, near_asserted, near_formal, near_given};
+use crate::slips::{is_any_named, is_formal, near_formal, near_given};
 use assertion_syntax::SignalName;
 use drawing_tree::Formal;
 
-/// The names that stand in some statements, and those that are given there.
+/// What the whole text has: whether a macro drives an input of its own, and the names that are
+/// given.
 #[derive(Clone, Copy)]
-pub struct Names<'a, 'b> {
-    pub reads: &'b [Spot<'a>],
+pub struct Text<'a, 'b> {
+    pub both_ways: bool,
     pub given: &'b [Spot<'a>],
 }
 
-/// What a body has: the name of its macro, the formals, its own names, and those of the whole text. The drawing
-/// itself has no formals.
+/// What a body has: the name of its macro and the formals, of which the drawing itself has none;
+/// the names that it reads, and those that are given there; and what the whole text has.
 #[derive(Clone, Copy)]
 pub struct Within<'a, 'b> {
     pub name: &'a [u8],
     pub ins: &'a [Formal],
     pub outs: &'a [Formal],
-    pub own: Names<'a, 'b>,
-    pub text: Names<'a, 'b>,
+    pub reads: &'b [Spot<'a>],
+    pub given: &'b [Spot<'a>],
+    pub text: Text<'a, 'b>,
 }
 
-/// The names of which one is: a global is one net in the whole text.
-fn names_for<'a, 'b>(within: Within<'a, 'b>, name: &SignalName) -> Names<'a, 'b>
-    ensures { names_seen result ≡ names_for (within_seen within.entry) name.now }
+/// The given names of which one may be: a global is one net in the whole text.
+fn given_for<'a, 'b>(within: Within<'a, 'b>, name: &SignalName) -> &'b [Spot<'a>]
+    ensures { seen result.now ≡ given_for (within_seen within.entry) name.now }
 {
-    if name.global { within.text } else { within.own }
-}
-
-/// Whether a name is given, or asserts something.
-fn is_given(names: Names, name: &SignalName) -> bool
-    ensures { result ≡ is_given (names_seen names.entry) name.now }
-{
-    let base = name.base.as_slice();
-    is_any_named(name.global, base, names.given) || is_any_asserted(name.global, base, names.reads)
+    if name.global {
+        within.text.given
+    } else {
+        within.given
+    }
 }
 
 /// Whether a local name is a formal.
@@ -53,11 +51,12 @@ fn is_some_formal(within: Within, name: &SignalName) -> bool
     !name.global && (is_formal(within.ins, base) || is_formal(within.outs, base))
 }
 
-/// Whether a name is a formal, or is given, or asserts something.
+/// Whether a name is a formal, or is given.
 fn is_known(within: Within, name: &SignalName) -> bool
     ensures { result ≡ is_known (within_seen within.entry) name.now }
 {
-    is_some_formal(within, name) || is_given(names_for(within, name), name)
+    is_some_formal(within, name)
+        || is_any_named(name.global, name.base.as_slice(), given_for(within, name))
 }
 
 /// The formal that a local name nearly is.
@@ -74,20 +73,15 @@ fn some_near_formal<'a>(within: Within<'a, '_>, name: &SignalName) -> Option<&'a
     }
 }
 
-/// The net that a name nearly is.
-fn near_net<'a>(names: Names<'a, '_>, name: &SignalName) -> Option<&'a SignalName>
-    ensures { option_copied result ≡ near_net (names_seen names.entry) name.now }
-{
-    match near_given(names.given, name) {
-        Some(other) => Some(other),
-        None => near_asserted(names.reads, name),
-    }
-}
-
 /// What is found at a name that is nearly this formal; or else, at one that is nearly another net.
-fn found_near<'a>(within: Within<'a, '_>, spot: Spot<'a>, formal: Option<&'a [u8]>) -> Option<Finding<'a>>
+fn found_near<'a>(
+    within: Within<'a, '_>,
+    spot: Spot<'a>,
+    formal: Option<&'a [u8]>,
+) -> Option<Finding<'a>>
     ensures { option_map finding_seen result
-        ≡ found_near (within_seen within.entry) (spot_seen spot.entry) (option_copied formal.entry) }
+        ≡ found_near (within_seen within.entry) (spot_seen spot.entry)
+        (option_copied formal.entry) }
 {
     if let Some(formal) = formal {
         return Some(Finding::Formal(Slip {
@@ -97,7 +91,7 @@ fn found_near<'a>(within: Within<'a, '_>, spot: Spot<'a>, formal: Option<&'a [u8
             place: spot.place,
         }));
     }
-    let other = near_net(names_for(within, spot.name), spot.name)?;
+    let other = near_given(given_for(within, spot.name), spot.name)?;
     Some(Finding::Net(NetSlip {
         name: spot.name,
         other,
@@ -107,7 +101,8 @@ fn found_near<'a>(within: Within<'a, '_>, spot: Spot<'a>, formal: Option<&'a [u8
 
 /// What is found at a name.
 pub fn found_at<'a>(within: Within<'a, '_>, spot: Spot<'a>) -> Option<Finding<'a>>
-    ensures { option_map finding_seen result ≡ found_at (within_seen within.entry) (spot_seen spot.entry) }
+    ensures { option_map finding_seen result
+        ≡ found_at (within_seen within.entry) (spot_seen spot.entry) }
 {
     if is_known(within, spot.name) {
         return None;
