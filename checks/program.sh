@@ -194,7 +194,7 @@ none() {
 }
 
 none ''
-none "'check' is none of its words" check
+none "unknown command 'check'" check
 none "'twice' cannot come after 'verify'" verify twice
 none "'faults' cannot come after 'rounds=5': it stands before rounds=N" verify rounds=5 faults
 none "'waves' cannot come after 'waves': waves or faults stands once" verify waves waves
@@ -203,8 +203,8 @@ none "'format' cannot come after 'format'" format format
 none "'waves' cannot come after 'upgrade': it stands after verify" upgrade waves
 none "'upgrade' cannot come after 'upgrade'" upgrade upgrade
 # words that are nearly one of a form
-none "'verfy' is none of its words: is verify meant?" verfy
-none "'bnech' is none of its words: is bench meant?" bnech 3
+none "unknown command 'verfy': is verify meant?" verfy
+none "unknown command 'bnech': is bench meant?" bnech 3
 none "'wave' cannot come after 'verify': is waves meant?" verify wave
 none "'Faults' cannot come after 'verify': is faults meant?" verify Faults rounds=5
 none "'round=5' cannot come after 'waves': is rounds=N meant?" verify waves round=5
@@ -212,17 +212,17 @@ none "'Faults' cannot come after 'waves'" verify waves Faults
 none "'rounds=0' cannot come after 'faults': N is 1 to 10000000, without zeros in front" verify faults rounds=0
 none "'faults' cannot come after 'waves': waves or faults stands once" verify waves faults
 # words of other forms, and files
-none "'waves' is none of its words: it stands after verify" waves
-none "'rounds=5' is none of its words: it stands after verify" rounds=5 verify
-none "'case=2' is none of its words: it stands after run T SEED" case=2
+none "unknown command 'waves': it stands after verify" waves
+none "unknown command 'rounds=5': it stands after verify" rounds=5 verify
+none "unknown command 'case=2': it stands after run T SEED" case=2
 none "'rounds=5' cannot come after 'explain': it stands after verify" explain rounds=5
 none "'faults' cannot come after '0': it stands after verify" run 6 0 faults
 none "'case=2' cannot come after 'verify': it stands after run T SEED" verify case=2
 none "'case=2' cannot come after 'waves': it stands after run T SEED" verify waves case=2
 none "'case=2' cannot come after 'rounds=5': it stands after run T SEED" verify rounds=5 case=2
 input=': a drawing is read from standard input, as in scald verify <FILE'
-none "'first.scald' is none of its words$input" first.scald
-none "'examples/first' is none of its words$input" examples/first
+none "unknown command 'first.scald'$input" first.scald
+none "unknown command 'examples/first'$input" examples/first
 none "'first.scald' cannot come after 'verify'$input" verify first.scald
 none "'first.scald' cannot come after 'faults'$input" verify faults first.scald
 none "'./first' cannot come after 'rounds=5'$input" verify rounds=5 ./first
@@ -234,46 +234,46 @@ none "'first.scald' cannot come after '1'$input" judge 1 first.scald
 none "'first.scald' cannot come after '3': bench reads no drawing" bench 3 first.scald
 none "'first.scald' cannot come after 'bench': N is 1 to 200, without zeros in front" bench first.scald
 # no word is trimmed, dropped or joined to another
-none "'' is none of its words" ''
+none "unknown command ''" ''
 none "'' cannot come after 'verify'" verify ''
-none "'' is none of its words" '' verify
+none "unknown command ''" '' verify
 none "'' cannot come after 'format'" format ''
 none "'' cannot come after 'upgrade'" upgrade ''
 none "'' cannot come after 'bench': N is 1 to 200, without zeros in front" bench ''
 none "'' cannot come after 'bench': N is 1 to 200, without zeros in front" bench '' 3
-none "' verify' is none of its words: is verify meant?" ' verify'
-none "'verify ' is none of its words: is verify meant?" 'verify '
-none "'verify waves' is none of its words" 'verify waves'
+none "unknown command ' verify': is verify meant?" ' verify'
+none "unknown command 'verify ': is verify meant?" 'verify '
+none "unknown command 'verify waves'" 'verify waves'
 none "' waves' cannot come after 'verify': is waves meant?" verify ' waves'
 none "'rounds=5 ' cannot come after 'verify': N is 1 to 10000000, without zeros in front" verify 'rounds=5 '
 none "' 3' cannot come after 'bench': N is 1 to 200, without zeros in front" bench ' 3'
 none "'3 ' cannot come after 'bench': N is 1 to 200, without zeros in front" bench '3 '
-none "'VERIFY' is none of its words: is verify meant?" VERIFY
-none "'Upgrade' is none of its words: is upgrade meant?" Upgrade
+none "unknown command 'VERIFY': is verify meant?" VERIFY
+none "unknown command 'Upgrade': is upgrade meant?" Upgrade
 # no word stands beside these
 none "'notes' cannot come after 'notes'" notes notes
 none "'faults' cannot come after 'notes': it stands after verify" notes faults
 none "'' cannot come after 'notes'" notes ''
-none "'note' is none of its words: is notes meant?" note
+none "unknown command 'note': is notes meant?" note
 none "'margins' cannot come after 'margins'" margins margins
 none "'waves' cannot come after 'margins': it stands after verify" margins waves
 none "'' cannot come after 'margins'" margins ''
-none "'Margins' is none of its words: is margins meant?" Margins
-none "'margin' is none of its words: is margins meant?" margin
+none "unknown command 'Margins': is margins meant?" Margins
+none "unknown command 'margin': is margins meant?" margin
 none "'chains' cannot come after 'chains'" chains chains
 none "'faults' cannot come after 'chains': it stands after verify" chains faults
 none "'' cannot come after 'chains'" chains ''
-none "'chain' is none of its words: is chains meant?" chain
+none "unknown command 'chain': is chains meant?" chain
 none "'explain' cannot come after 'explain'" explain explain
 none "'faults' cannot come after 'explain': it stands after verify" explain faults
 none "'' cannot come after 'explain'" explain ''
-none "'explian' is none of its words: is explain meant?" explian
+none "unknown command 'explian': is explain meant?" explian
 none "'sections' cannot come after 'sections'" sections sections
 none "'waves' cannot come after 'sections': it stands after verify" sections waves
 none "'' cannot come after 'sections'" sections ''
 none "'3' cannot come after 'sections'" sections 3
-none "'Sections' is none of its words: is sections meant?" Sections
-none "'section' is none of its words: is sections meant?" section
+none "unknown command 'Sections': is sections meant?" Sections
+none "unknown command 'section': is sections meant?" section
 none "a word is missing after 'run'" run
 none "a word is missing after '6'" run 6
 none "a word is missing after 'judge'" judge
@@ -282,7 +282,7 @@ none "'case=257' cannot come after '0': K is 1 to 256, without zeros in front" r
 none "'cases=2' cannot come after '0': is case=K meant?" run 6 0 cases=2
 none "'x' cannot come after 'case=1'" run 6 0 case=1 x
 none "'x' cannot come after '1'" judge 1 x
-none "'Judge' is none of its words: is judge meant?" Judge
+none "unknown command 'Judge': is judge meant?" Judge
 for number in '' 0 01 +1 4097 65537 4294967297; do
     none "'$number' cannot come after 'run': T is 1 to 4096, without zeros in front" run "$number" 0
 done

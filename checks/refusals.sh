@@ -157,19 +157,45 @@ macro() {
 # --- bytes and tokens
 printf -- '-- caf\351\nSCALD 1;\n' | refused '1 BadByte 1:7'
 helps '    it is byte 233'
+# a byte order mark before the text, and the same bytes further on
+printf '\357\273\277SCALD 1;\n' | refused '1 BadByte 1:1'
+helps '    it is byte 239, of a byte order mark: save the text without it'
+printf ' \357\273\277SCALD 1;\n' | refused '1 BadByte 1:2'
+helps '    it is byte 239'
 printf 'SCALD 1;\n\001' | refused '1 BadByte 2:1'
 printf 'SCALD 1;\nCLOCK 8 x 50;\nDRAWING ROW;\nb1 : BUF [0:0] ("CK' | refused '2 BadToken 4:17'
-helps '    a name ends on its own line, with a second ", and has no tab in it'
+closed='    a name ends on its own line, with a second ", and has no tab in it'
+missing='    or a quote is missing before this on its line'
+helps "$closed" "$missing"
 early '2 BadToken 4:17' 'b1 : BUF [0:0] ("C	K") -> ("X");'
+helps "$closed"
+# a quote is missing further to the left: of the quotes from the place on one has no second
+early '2 BadToken 4:35' 'b1 : AND [0:0] ("A<0>, "B") -> ("X");'
+helps "$closed" "$missing"
+early '2 BadToken 4:27' 'b1 : BUF [0:0] (A") -> ("X");'
+helps "$closed" "$missing"
 drawing_of 'b1 : BUF [0:0] ("CK' '") -> ("X");' | refused '2 BadToken 4:17'
 printf 'SCALD 1;\nCLOCK 8 x 50;\nDRAWING ROW;\nb1 : BUF [0:0] ("C\rK") -> ("X");\nEND;\n' | refused '2 BadToken 4:17'
 early '2 BadToken 4:1' "$(many 65 a) : BUF [0:0] (\"A\") -> (\"X\");"
 helps '    a word has at most 64 letters, digits and underscores'
 early '2 BadToken 4:13' 'b1 : BUF [0:9223372036854775808] ("A") -> ("X");'
 helps '    a number is at most 9223372036854775807'
+symbols='    symbols are ; : , ( ) < > [ ] { } = + - * / & ! and ->, a name stands in double quotes, and a'
+early '2 BadToken 4:28' 'b1 : BUF [0:0] ("A) -> ("X .S1-8");'
+helps "$symbols" '    comment begins with --' "$missing"
+# (a comment may have any quotes)
+early '2 BadToken 4:35' 'b1 : BUF [0:0] ("A") -> ("X" !H); ? -- 5" wide'
+helps "$symbols" '    comment begins with --'
 early '2 BadToken 4:12' 'b1 : BUF [0.5:1] ("A") -> ("X");'
-helps '    symbols are ; : , ( ) < > [ ] { } = + - * / & ! and ->, a name stands in double quotes, and a' \
-    '    comment begins with --'
+helps '    numbers are whole: a delay is so many ticks'
+early '2 BadToken 4:21' 'b1 : BUF [0:0] ("A" .S1-8) -> ("X");'
+helps '    an assertion stands in the quotes of its name, after a space, as in "A .S1-8"'
+second '2 BadToken 4:11' 'DRAWING ROW;' 'FOR I = 0 .. 3 DO' 'END;' 'END;'
+helps '    from 0 to 3 is written 0 TO 3 in a FOR, and 0:3 in a range'
+early '2 BadToken 4:17' 'b1 : BUF [0:0] (~"A") -> ("X");'
+helps '    a - before a name inverts it'
+early '2 BadToken 4:6' 'IF 1 || 0 THEN' 'END;'
+helps '    conditions are joined by + for "or", and nets by an element of the kind OR'
 early '2 BadToken 4:4' 'b1 _: BUF [0:1] ("A") -> ("X");'
 
 # --- grammar

@@ -6,27 +6,27 @@ use Rattle.refusal_help.specs.CallReason.{after_text, none_text, sets_limit, wor
 
 -- ---- the first word
 
-misspelled_command : words_line (codes "verfy" ∷ []) 0 ≡ codes "scald: 'verfy' is none of its words: is verify meant?\n"
+misspelled_command : words_line (codes "verfy" ∷ []) 0 ≡ codes "scald: unknown command 'verfy': is verify meant?\n"
 unfolding none_text
 misspelled_command = refl
 
-unknown_command : words_line (codes "check" ∷ []) 0 ≡ codes "scald: 'check' is none of its words\n"
+unknown_command : words_line (codes "check" ∷ []) 0 ≡ codes "scald: unknown command 'check'\n"
 unfolding exchanged none_text
 unknown_command = refl
 
 -- a word of `verify`, of a run, and a file
 mode_first : words_line (codes "waves" ∷ []) 0 ≡
-    codes "scald: 'waves' is none of its words: it stands after verify\n"
+    codes "scald: unknown command 'waves': it stands after verify\n"
 unfolding exchanged none_text
 mode_first = refl
 
 case_first : words_line (codes "case=1" ∷ []) 0 ≡
-    codes "scald: 'case=1' is none of its words: it stands after run T SEED\n"
+    codes "scald: unknown command 'case=1': it stands after run T SEED\n"
 unfolding exchanged none_text
 case_first = refl
 
 file_first : words_line (codes "x.sd" ∷ []) 0 ≡
-    codes "scald: 'x.sd' is none of its words: a drawing is read from standard input, as in scald verify <FILE\n"
+    codes "scald: unknown command 'x.sd': a drawing is read from standard input, as in scald verify <FILE\n"
 unfolding exchanged none_text
 file_first = refl
 

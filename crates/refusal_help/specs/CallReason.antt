@@ -88,7 +88,7 @@ reason Whole word = elsewhere word
 -- ---- the line
 
 unfoldable pub none_text : List ℕ → List ℕ
-none_text word = concat (codes "scald: " ∷ quoted word ∷ codes " is none of its words" ∷ [])
+none_text word = concat (codes "scald: unknown command " ∷ quoted word ∷ [])
 
 unfoldable pub after_text : List ℕ → List ℕ → List ℕ
 after_text last word = concat (codes "scald: " ∷ quoted word ∷ codes " cannot come after " ∷ quoted last ∷ [])

@@ -1,12 +1,11 @@
 -- What helps with a refusal, by its text.
-use Rattle.std.specs.Prelude.{ℕ, ◌-◌, ◌==◌, List, [], ◌∷◌, ◌++◌, drop, codes, decimal, Option, Some, None, if◌then◌else◌}
-use Rattle.scald_base.specs.Word.{is_digit, is_letter}
+use Rattle.std.specs.Prelude.{ℕ, Bool, ◌&&◌, ◌==◌, List, [], ◌∷◌, ◌++◌, take, codes, decimal, Option, Some, None, if◌then◌else◌}
+use Rattle.std.specs.Str.{bytes_eq}
 use Rattle.scald_base.specs.declared.refusal.Place.{Place}
 use Rattle.scald_base.specs.declared.refusal.Refusal.{Refusal}
 use Rattle.scald_base.specs.declared.refusal.RefusalKind.{RefusalKind}
 use Rattle.scald_base.specs.declared.refusal.RefusalKind.TheVariants.{BadByte, BadToken, Syntax, BadHeader, DoubleName, UnknownKind, BadName, AssertionClash, BadParameter, Overflow, BadRange, Width, PinCount, Bounds, TooDeep, TooMany, TwoDrivers, ZeroLoop, CaseNet, EdgesOverlap, ZeroDivisor, UnknownName}
 use Rattle.scald_lex.specs.declared.token.Token.{Token}
-use Rattle.help_text.specs.Shown.{source_line}
 use Rattle.help_text.specs.Statement.{before_place, from_place}
 use Rattle.help_text.specs.Text.{line}
 use Rattle.name_help.specs.Clash.{assertion_lines}
@@ -17,44 +16,39 @@ use Rattle.name_help.specs.UnknownName.{unknown_lines}
 use Rattle.statement_help.specs.UseHint.{bounds_lines, connections_lines, parameters_lines, range_lines}
 use Rattle.statement_help.specs.Width.{width_lines}
 use Rattle.refusal_help.specs.Advice.{advice}
+use Rattle.refusal_help.specs.BadToken.{line_from, token_lines}
 use Rattle.refusal_help.specs.Deep.{deep_note}
 use Rattle.refusal_help.specs.Header.{header_lines}
 use Rattle.refusal_help.specs.Many.{many_lines}
 use Rattle.refusal_help.specs.OnlyUse.{value_lines}
 use Rattle.grammar_help.specs.Syntax.{syntax_lines}
 
--- ---- bytes and tokens
+-- ---- bytes
 
 abbrev pub first_byte : List ℕ → Option ℕ
 first_byte [] = None
 first_byte (b ∷ bs) = Some b
 
 abbrev pub byte_at : List ℕ → Place → Option ℕ
-byte_at text place = first_byte (drop (place.col - 1) (source_line text place.line))
+byte_at text place = first_byte (line_from text place)
 
-abbrev pub number_line : Option ℕ → List ℕ
-number_line None = []
-number_line (Some b) = line (codes "    it is byte " ∷ decimal b ∷ [])
+-- the text begins with a byte order mark, and the place is that of its first byte
+abbrev pub is_order_mark : List ℕ → Place → Bool
+is_order_mark text place =
+    place.line == 1 && (place.col == 1 && bytes_eq (take 3 text) (239 ∷ 187 ∷ 191 ∷ []))
+
+abbrev pub order_note : Bool → List ℕ
+order_note is_mark = if is_mark then codes ", of a byte order mark: save the text without it" else []
+
+abbrev pub byte_text : List ℕ → ℕ → List ℕ
+byte_text note b = line (codes "    it is byte " ∷ decimal b ∷ note ∷ [])
+
+abbrev pub number_line : Bool → Option ℕ → List ℕ
+number_line is_mark None = []
+number_line is_mark (Some b) = byte_text (order_note is_mark) b
 
 abbrev pub byte_line : List ℕ → Place → List ℕ
-byte_line text place = number_line (byte_at text place)
-
--- why no token begins with a byte
-abbrev pub token_note : ℕ → List ℕ
-token_note b =
-    if b == 34 then codes "    a name ends on its own line, with a second \", and has no tab in it\n"
-    else if is_digit b then codes "    a number is at most 9223372036854775807\n"
-    else if is_letter b then codes "    a word has at most 64 letters, digits and underscores\n"
-    else
-    codes "    symbols are ; : , ( ) < > [ ] { } = + - * / & ! and ->, a name stands in double quotes, and a\n"
-    ++ codes "    comment begins with --\n"
-
-abbrev pub note_of : Option ℕ → List ℕ
-note_of None = []
-note_of (Some b) = token_note b
-
-abbrev pub token_lines : List ℕ → Place → List ℕ
-token_lines text place = note_of (byte_at text place)
+byte_line text place = number_line (is_order_mark text place) (byte_at text place)
 
 -- ---- nesting
 
@@ -67,7 +61,7 @@ deep_lines text tokens place = deep_note text (before_place place tokens) (from_
 -- of the tokens of the text, and those from the place on
 abbrev pub hint_of : RefusalKind → List ℕ → List Token → List Token → Place → List ℕ
 hint_of BadByte text tokens statement place = byte_line text place
-hint_of BadToken text tokens statement place = token_lines text place
+hint_of BadToken text tokens statement place = token_lines (line_from text place)
 hint_of Syntax text tokens statement place = syntax_lines text tokens place
 hint_of BadHeader text tokens statement place = header_lines text statement
 hint_of DoubleName text tokens statement place = double_lines text tokens place

@@ -9,3 +9,4 @@ pub mod Hint
 pub mod Many
 pub mod OnlyUse
 pub mod Sentence
+pub mod BadToken

@@ -17,11 +17,7 @@ fn add_none(out: &mut Bytes, word: &[u8]) -> Result<(), NoMemory>
 {
     add_parts(
         out,
-        &[
-            Part::Text(b"scald: "),
-            Part::Quoted(word),
-            Part::Text(b" is none of its words"),
-        ],
+        &[Part::Text(b"scald: unknown command "), Part::Quoted(word)],
     )
 }
 

@@ -1,17 +1,18 @@
 //! What helps with a refusal, by its text.
 
 ghost use Rattle.std.specs.Prelude.{◌≡◌, ◌++◌, OnOk};
-ghost use Rattle.refusal_help.specs.Hint.{byte_at, byte_line, deep_lines, hint, told, token_lines, token_note};
+ghost use Rattle.refusal_help.specs.Hint.{byte_at, byte_line, byte_text, deep_lines, hint, is_order_mark, order_note, told};
 
 use crate::advice::advice;
+use crate::bad_token::{add_token, line_from};
 use crate::deep::deep_note;
 use crate::header::add_header;
 use crate::many::many_note;
 use crate::only_use::add_values;
 use grammar_help::add_syntax;
-use help_text::{Part, add_line, after, before_place, from_place, source_line};
+use help_text::{Part, add_line, before_place, from_place, front};
 use name_help::{add_assertion, add_double, add_kind, add_name_lines, add_unknown};
-use scald_base::{Bytes, NoMemory, Place, Refusal, RefusalKind};
+use scald_base::{Bytes, NoMemory, Place, Refusal, RefusalKind, same_bytes};
 use scald_lex::Token;
 use statement_help::{
     add_ranges, add_use_bounds, add_use_connections, add_use_parameters, add_widths,
@@ -21,11 +22,45 @@ use statement_help::{
 fn byte_at(text: &[u8], place: Place) -> Option<u8>
     ensures { result ≡ byte_at text.now place }
 {
-    let before = place.col.saturating_sub(1) as usize;
-    match after(source_line(text, place.line), before) {
+    match line_from(text, place) {
         [byte, ..] => Some(*byte),
         [] => None,
     }
+}
+
+/// The bytes of a byte order mark, which some editors put before a text.
+const ORDER_MARK: [u8; 3] = [239, 187, 191];
+
+/// Whether a text begins with a byte order mark, and the place is that of its first byte.
+fn is_order_mark(text: &[u8], place: Place) -> bool
+    ensures { result ≡ is_order_mark text.now place }
+{
+    place.line == 1 && place.col == 1 && same_bytes(front(text, 3), &ORDER_MARK)
+}
+
+/// What is said of a byte that is the first of a byte order mark.
+fn order_note(is_mark: bool) -> &'static [u8]
+    ensures { result.now ≡ order_note is_mark }
+{
+    if is_mark {
+        b", of a byte order mark: save the text without it"
+    } else {
+        b""
+    }
+}
+
+/// Which byte it is, and this note on it.
+fn add_byte_text(out: &mut Bytes, note: &[u8], byte: u64) -> Result<(), NoMemory>
+    ensures { OnOk result (out.new ≡ out.old ++ byte_text note.now byte) }
+{
+    add_line(
+        out,
+        &[
+            Part::Text(b"    it is byte "),
+            Part::Number(byte),
+            Part::Text(note),
+        ],
+    )
 }
 
 /// Which byte stands at the place.
@@ -33,40 +68,10 @@ fn add_byte(out: &mut Bytes, text: &[u8], place: Place) -> Result<(), NoMemory>
     ensures { OnOk result (out.new ≡ out.old ++ byte_line text.now place) }
 {
     match byte_at(text, place) {
-        Some(byte) => add_line(
-            out,
-            &[
-                Part::Text(b"    it is byte "),
-                Part::Number(u64::from(byte)),
-            ],
-        ),
-        None => Ok(()),
-    }
-}
-
-/// Why no token begins with a byte.
-fn token_note(byte: u8) -> &'static [u8]
-    ensures { result.now ≡ token_note byte }
-{
-    if byte == b'"' {
-        b"    a name ends on its own line, with a second \", and has no tab in it\n"
-    } else if b'0' <= byte && byte <= b'9' {
-        b"    a number is at most 9223372036854775807\n"
-    } else if b'A' <= byte && byte <= b'Z' || b'a' <= byte && byte <= b'z' {
-        b"    a word has at most 64 letters, digits and underscores\n"
-    } else {
-        b"    symbols are ; : , ( ) < > [ ] { } = + - * / & ! and ->, a name stands in double quotes, and a
-    comment begins with --
-"
-    }
-}
-
-/// Why no token begins at the place.
-fn add_token(out: &mut Bytes, text: &[u8], place: Place) -> Result<(), NoMemory>
-    ensures { OnOk result (out.new ≡ out.old ++ token_lines text.now place) }
-{
-    match byte_at(text, place) {
-        Some(byte) => out.extend(token_note(byte)),
+        Some(byte) => {
+            let note = order_note(is_order_mark(text, place));
+            add_byte_text(out, note, u64::from(byte))
+        }
         None => Ok(()),
     }
 }
@@ -90,7 +95,7 @@ fn add_told(
     let statement = from_place(tokens, refusal.place);
     match refusal.kind {
         RefusalKind::BadByte => add_byte(out, text, refusal.place),
-        RefusalKind::BadToken => add_token(out, text, refusal.place),
+        RefusalKind::BadToken => add_token(out, line_from(text, refusal.place)),
         RefusalKind::Syntax => add_syntax(out, text, tokens, refusal.place),
         RefusalKind::BadHeader => add_header(out, text, statement),
         RefusalKind::DoubleName => add_double(out, text, tokens, refusal.place),

@@ -10,6 +10,7 @@
 
 // what is said of a refusal
 mod advice;
+mod bad_token;
 mod deep;
 mod header;
 mod hint;
