@@ -1,5 +1,5 @@
 -- Why no token begins at a place.
-use Rattle.std.specs.Prelude.{ℕ, ◌-◌, Bool, true, false, not, ◌&&◌, ◌||◌, ◌==◌, List, [], ◌∷◌, ◌++◌, drop, codes, if◌then◌else◌}
+use Rattle.std.specs.Prelude.{ℕ, ◌-◌, Bool, false, not, ◌&&◌, ◌||◌, ◌==◌, List, [], ◌∷◌, ◌++◌, drop, codes, if◌then◌else◌}
 use Rattle.scald_base.specs.Word.{is_digit, is_letter}
 use Rattle.scald_base.specs.declared.refusal.Place.{Place}
 use Rattle.help_text.specs.Shown.{source_line}
