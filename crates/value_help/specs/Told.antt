@@ -9,14 +9,14 @@ use Rattle.element_kinds.specs.Kinds.{has_output, is_change, kind_of}
 use Rattle.drawing_tree.specs.Tree.{Macro, UseStatement, WireStatement}
 use Rattle.macro_expander.specs.Outcome.{Judged}
 use Rattle.macro_expander.specs.Setting.{Setting}
-use Rattle.macro_expander.specs.Primitives.{fall_of, takes_delays, values_given, written_delay}
+use Rattle.macro_expander.specs.Primitives.{takes_delays}
 use Rattle.macro_expander.specs.Macros.{given_to, macro_of, parameters_of}
 use Rattle.value_lines.specs.Lines.{Said, first_told, or_else, told_in_use}
 use Rattle.value_lines.specs.Sites.{Site}
-use Rattle.value_lines.specs.Named.{named_in_delay, named_in_params}
+use Rattle.value_lines.specs.Named.{named_in_params}
 use Rattle.value_lines.specs.Ranges.{connection_told, formal_told, named_told}
 use Rattle.value_lines.specs.Bounds.{delays_told, limits_told, wire_bounds_told}
-use Rattle.value_lines.specs.Widths.{by_output_told, by_widest_told, pairs_told, wide_told}
+use Rattle.width_lines.specs.Widths.{by_output_told, by_widest_told, pairs_told, wide_told}
 
 -- ---- the head of the macro that is used
 
@@ -75,11 +75,7 @@ use_ranges_told setting site u = use_ranges_of (kind_of u.kind) setting site u
 -- ---- delays and limits
 
 abbrev pub plan_told : ℕ → Kind → List Binding → UseStatement → Said
-plan_told ticks kind env u =
-    or_else
-    (delays_told (written_delay env u.delay) (written_delay env (fall_of u))
-    (named_in_delay env (named_in_delay env [] u.delay) (fall_of u)))
-    (limits_told ticks kind (values_given env u.params) (named_in_params env [] u.params))
+plan_told ticks kind env u = or_else (delays_told env u) (limits_told ticks kind env u.params)
 
 -- nothing is said of the values where the kind takes no such delay, or needs one
 abbrev pub use_bounds_of : Option Kind → ℕ → List Binding → UseStatement → Said

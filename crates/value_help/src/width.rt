@@ -15,8 +15,10 @@ use macro_expander::library::Library;
 use scald_base::NoMemory;
 use scald_expr::Env;
 use std::alloc::Global;
-use value_lines::width::{by_output_told, by_widest_told, first_wide_told, pairs_told};
 use value_lines::{Said, Site};
+use width_lines::formal::pairs_told;
+use width_lines::input::{by_output_told, by_widest_told};
+use width_lines::wide::first_wide_told;
 
 /// What is told of the first connection of a use, from left to right, that is too wide.
 fn all_wide_told(alloc: Global, site: &Site, used: &UseStmt) -> Result<Said, NoMemory>

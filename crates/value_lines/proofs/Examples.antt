@@ -1,60 +1,20 @@
 -- Parts of statements, and what is told of them where they stand.
-use Rattle.std.proofs.Common.{◌≡◌, ℕ, pos, negsuc, Bool, true, false, List, [], ◌∷◌, ◌++◌, Option, Some, None, refl}
+use Rattle.std.proofs.Common.{◌≡◌, ℕ, ℤ, pos, negsuc, true, false, List, [], ◌∷◌, Option, Some, None, refl}
 use Rattle.std.specs.Prelude.{codes}
 use Rattle.std.specs.Fmt.{digits}
-use Rattle.scald_base.specs.declared.refusal.Place.{Place}
-use Rattle.scald_base.specs.declared.assertion.AssertSpec.TheVariants.{None as Unasserted}
-use Rattle.assertion_syntax.specs.declared.name.SignalName.{SignalName}
-use Rattle.scald_expr.specs.Expression.{Expression, Number, Param}
 use Rattle.scald_expr.specs.declared.environment.Binding.{Binding}
-use Rattle.drawing_tree.specs.Tree.{Range, Item, Zero, Named, Term, Connection, Formal}
-use Rattle.macro_expander.specs.Terms.{Bound}
-use Rattle.value_lines.specs.Lines.{Said, both_line, quoted, told_in_use}
-use Rattle.value_lines.specs.Sites.{Site, head_formal}
-use Rattle.value_lines.specs.Named.{named_in_terms}
+use Rattle.scald_expr.specs.declared.expr.Op.TheVariants.{Mul}
+use Rattle.scald_expr.specs.Expression.{Expression, Param, Negate, Binary}
+use Rattle.element_kinds.specs.declared.form.Check.TheVariants.{SetupHold}
+use Rattle.drawing_tree.specs.Tree.{Assignment, UseStatement}
+use Rattle.value_lines.specs.Lines.{bit_of, line, quoted, told_in_use}
+use Rattle.value_lines.specs.Passed.{pair_passed, passed_line, range_passed}
+use Rattle.value_lines.specs.Plain.{is_plain_given, is_plain_written}
+use Rattle.value_lines.specs.Sites.{head_formal}
 use Rattle.value_lines.specs.Ranges.{ends_in, is_outside, named_told, strays}
-use Rattle.value_lines.specs.Widths.{by_output_told, by_widest_told, fits, pair_told, text_of, wide_told}
-
--- ---- a body
-
-abbrev bound_to : List ℕ → ℕ → Binding
-bound_to name n = record { name = name; value = pos n }
-
-abbrev number : ℕ → Expression
-number n = Number (pos n)
-
-abbrev range : Expression → Expression → Option Range
-range first last = Some (record { first = first; last = Some last })
-
-abbrev bit : Expression → Option Range
-bit n = Some (record { first = n; last = None })
-
--- a macro with the formals `"A"<3:W>` and `"Z"`, where W is 0, in a turn of a FOR in which W is 4
-abbrev body : Site
-body = record {
-  scope = record {
-    path = [];
-    suffix = [];
-    env = bound_to (codes "W") 4 ∷ bound_to (codes "W") 0 ∷ [];
-    formals = (record { base = codes "A"; numbers = 3 ∷ 2 ∷ 1 ∷ 0 ∷ []; bits = [] })
-        ∷ (record { base = codes "Z"; numbers = 0 ∷ []; bits = [] }) ∷ [];
-  };
-  head = bound_to (codes "W") 0 ∷ [];
-  ins = (record { base = codes "A"; range = range (number 3) (Param (codes "W")) }) ∷ [];
-  outs = (record { base = codes "Z"; range = None }) ∷ [];
-}
-
-abbrev named : Bool → List ℕ → SignalName
-named global base = record { base = base; global = global; spec = Unasserted }
-
-abbrev local : List ℕ → SignalName
-local base = named false base
-
-abbrev signal : List ℕ → Option Range → Term
-signal base range = record { minus = false; item = Named (local base) range }
-
-abbrev joined : List Term → Connection
-joined terms = record { terms = terms; hold = false; place = record { line = 1; col = 1 } }
+use Rattle.value_lines.specs.Limits.{check_passed, each_passed, limit_of}
+use Rattle.value_lines.specs.Bounds.{delays_told}
+use Rattle.value_lines.proofs.Body.{bit, body, bound_to, local, named, number, range}
 
 -- ---- formals
 
@@ -66,17 +26,6 @@ global_name = refl
 
 name_of_no_formal : head_formal body (local (codes "B")) ≡ None
 name_of_no_formal = refl
-
--- ---- names
-
--- that of the turn, and that of the head
-both_values : named_in_terms body [] (signal (codes "B") (bit (Param (codes "W"))) ∷ signal (codes "A") None ∷ [])
-    ≡ bound_to (codes "W") 4 ∷ bound_to (codes "W") 0 ∷ []
-both_values = refl
-
-each_once : named_in_terms body [] (signal (codes "A") None ∷ signal (codes "A") None ∷ signal (codes "B") None ∷ [])
-    ≡ bound_to (codes "W") 0 ∷ []
-each_once = refl
 
 -- ---- bits of a formal
 
@@ -127,20 +76,24 @@ whole_formal : named_told body (local (codes "A")) None ≡ None
 unfolding quoted digits
 whole_formal = refl
 
+told_of_a_sum : named_told body (local (codes "Z")) (bit (Binary Mul (number 2) (number 2)))
+    ≡ Some (codes "    \"Z\" has bit 4 here, and the formal has bit 0 alone\n")
+unfolding quoted digits
+told_of_a_sum = refl
+
+told_of_a_bit_below : named_told body (local (codes "B")) (bit (Negate (number 1)))
+    ≡ Some (codes "    the bit of \"B\" is -1\n    -1 is less than 0, by 1\n")
+unfolding quoted bit_of digits
+told_of_a_bit_below = refl
+
 -- ---- lines
 
-nothing_in_both : both_line (codes "a") [] (codes "b") [] ≡ []
-nothing_in_both = refl
-
-one_in_the_second : both_line (codes "a") [] (codes "b") (bound_to (codes "N") 7 ∷ [])
-    ≡ codes "    a, and b, where N is 7\n"
+one_name : line (codes "a") (bound_to (codes "N") 7 ∷ []) ≡ codes "    a, where N is 7\n"
 unfolding digits
-one_in_the_second = refl
+one_name = refl
 
-one_in_the_first : both_line (codes "a") (bound_to (codes "N") 7 ∷ []) (codes "b") []
-    ≡ codes "    a, where N is 7, and b\n"
-unfolding digits
-one_in_the_first = refl
+no_name : line (codes "a") [] ≡ codes "    a\n"
+no_name = refl
 
 nothing_before_a_use : told_in_use (bound_to (codes "N") 7 ∷ []) [] ≡ []
 nothing_before_a_use = refl
@@ -148,64 +101,153 @@ nothing_before_a_use = refl
 nothing_given_at_a_use : told_in_use [] (codes "a\n") ≡ codes "a\n"
 nothing_given_at_a_use = refl
 
--- ---- widths
+-- ---- in digits alone
 
-one_bit_of_an_input : fits true 4 1 ≡ true
-one_bit_of_an_input = refl
+abbrev minus_one : Expression
+minus_one = Negate (number 1)
 
-one_bit_of_an_output : fits false 4 1 ≡ false
-one_bit_of_an_output = refl
+range_of_digits : is_plain_written (range (number 3) (number 0)) ≡ true
+range_of_digits = refl
 
-more_than_one_bit : fits true 4 3 ≡ false
-more_than_one_bit = refl
+range_with_an_operator : is_plain_written (range (number 0) minus_one) ≡ false
+range_with_an_operator = refl
 
-text_of_terms : text_of body (joined (signal (codes "B") (range (number 2) (Param (codes "W")))
-    ∷ record { minus = true; item = Zero } ∷ signal (codes "A") None ∷ signal (codes "C") (bit (Param (codes "W"))) ∷ []))
-    ≡ codes "\"B\"<2:4> & ZERO & \"A\" & \"C\"<4>"
-unfolding quoted digits
-text_of_terms = refl
+no_range : is_plain_written None ≡ true
+no_range = refl
 
-abbrev eight : Formal
-eight = record { base = codes "D"; range = range (number 0) (Param (codes "N")) }
+abbrev assigned : List ℕ → Expression → Assignment
+assigned name e = record { name = name; value = e }
 
-abbrev head : List Binding
-head = bound_to (codes "N") 7 ∷ []
+abbrev setup_alone : List Assignment
+setup_alone = assigned (codes "SETUP") (Param (codes "N")) ∷ assigned (codes "HOLD") (number 10) ∷ []
 
-told_of_a_formal : pair_told true body head (codes "FILE") eight (joined (signal (codes "A") None ∷ []))
-    ≡ Some (codes "    \"A\" has 4 bits, where W is 0, and \"D\" of FILE has 8, where N is 7\n")
-unfolding quoted digits
-told_of_a_formal = refl
+hold_in_digits : is_plain_given setup_alone (codes "HOLD") ≡ true
+hold_in_digits = refl
 
-told_of_an_output : pair_told false body head (codes "FILE") eight (joined (signal (codes "B") None ∷ []))
-    ≡ Some (codes "    \"B\" has 1 bit, and \"D\" of FILE has 8, where N is 7\n")
-unfolding quoted digits
-told_of_an_output = refl
+setup_by_a_name : is_plain_given setup_alone (codes "SETUP") ≡ false
+setup_by_a_name = refl
 
-spread_over_a_formal : pair_told true body head (codes "FILE") eight (joined (signal (codes "B") None ∷ [])) ≡ None
-unfolding quoted digits
-spread_over_a_formal = refl
+not_given : is_plain_given setup_alone (codes "HIGH") ≡ true
+not_given = refl
 
--- `"A" & "B"<0:W>`, of 9 bits, is not too wide
-nine_bits : wide_told body (joined (signal (codes "A") None ∷ signal (codes "B") (range (number 0) (Param (codes "W"))) ∷ [])) ≡ None
-unfolding quoted digits
-nine_bits = refl
+-- ---- the bound that is passed
 
-abbrev five : Connection
-five = joined (signal (codes "B") (range (number 0) (Param (codes "W"))) ∷ [])
+less_than_none : passed_line (pair_passed 4095 (negsuc 0, pos 5)) ≡ codes "    -1 is less than 0, by 1\n"
+unfolding digits
+less_than_none = refl
 
-abbrev four : Connection
-four = joined (signal (codes "A") None ∷ [])
+out_of_order : passed_line (pair_passed 4095 (pos 30, pos 20))
+    ≡ codes "    the least, 30, is more than the greatest, 20\n"
+unfolding digits
+out_of_order = refl
 
-input_and_output : by_output_told body (five ∷ four ∷ []) (five ∷ [])
-    ≡ Some (codes "    \"A\" has 4 bits, where W is 0, and the output \"B\"<0:4> has 5, where W is 4\n")
-unfolding quoted digits
-input_and_output = refl
+-- the greatest alone is below 0
+order_before_below : passed_line (pair_passed 4095 (pos 3, negsuc 1))
+    ≡ codes "    the least, 3, is more than the greatest, -2\n"
+unfolding digits
+order_before_below = refl
 
-input_and_widest : by_widest_told body (four ∷ five ∷ [])
-    ≡ Some (codes "    \"A\" has 4 bits, where W is 0, and \"B\"<0:4> has 5, where W is 4\n")
-unfolding quoted digits
-input_and_widest = refl
+one_too_long : passed_line (pair_passed 255 (pos 1, pos 256)) ≡ codes "    256 is more than 255, by 1\n"
+unfolding digits
+one_too_long = refl
 
-one_width : by_output_told body (four ∷ joined (signal (codes "Z") None ∷ []) ∷ []) (four ∷ []) ≡ None
-unfolding quoted digits
-one_width = refl
+-- out of order and too long
+order_before_length : passed_line (pair_passed 255 (pos 257, pos 256))
+    ≡ codes "    the least, 257, is more than the greatest, 256\n"
+unfolding digits
+order_before_length = refl
+
+delay_within : pair_passed 4095 (pos 0, pos 4095) ≡ None
+delay_within = refl
+
+past_the_last_bit : passed_line (range_passed (pos 0, pos 65536)) ≡ codes "    65536 is more than 65535, by 1\n"
+unfolding digits
+past_the_last_bit = refl
+
+first_below : passed_line (range_passed (negsuc 4, pos 65536)) ≡ codes "    -5 is less than 0, by 5\n"
+unfolding digits
+first_below = refl
+
+too_many_bits : passed_line (range_passed (pos 256, pos 0))
+    ≡ codes "    a range has at most 256 bits, and this one has 257\n"
+unfolding digits
+too_many_bits = refl
+
+as_many_as_may_be : range_passed (pos 65280, pos 65535) ≡ None
+as_many_as_may_be = refl
+
+-- ---- limits
+
+abbrev values : ℤ → ℤ → List Binding
+values setup hold =
+    record { name = codes "SETUP"; value = setup } ∷ record { name = codes "HOLD"; value = hold } ∷ []
+
+abbrev both_by_names : List Assignment
+both_by_names =
+    assigned (codes "SETUP") (Param (codes "N")) ∷ assigned (codes "HOLD") (Param (codes "N")) ∷ []
+
+abbrev limits_told_of : List Assignment → ℤ → ℤ → List ℕ
+limits_told_of params setup hold =
+    passed_line (check_passed 400 (Some SetupHold) (limit_of params (values setup hold)))
+
+sum_of_both : limits_told_of both_by_names (pos 300) (pos 300) ≡ codes "    600 is more than 400, by 200\n"
+unfolding digits
+sum_of_both = refl
+
+one_alone : limits_told_of both_by_names (pos 401) (pos 402) ≡ codes "    401 is more than 400, by 1\n"
+unfolding digits
+one_alone = refl
+
+below_before_past : limits_told_of both_by_names (pos 401) (negsuc 0) ≡ codes "    -1 is less than 0, by 1\n"
+unfolding digits
+below_before_past = refl
+
+-- HOLD is 401 in digits
+past_in_digits : check_passed 400 (Some SetupHold)
+    (limit_of (assigned (codes "HOLD") (number 401) ∷ []) (values (pos 0) (pos 401))) ≡ None
+past_in_digits = refl
+
+both_within : check_passed 400 (Some SetupHold) (limit_of both_by_names (values (pos 200) (pos 200))) ≡ None
+both_within = refl
+
+-- HIGH and LOW have no sum
+each_within : each_passed 400 (record { value = pos 400; is_plain = false }) (record { value = pos 400; is_plain = false })
+    ≡ None
+each_within = refl
+
+low_past : passed_line (each_passed 400 (record { value = pos 0; is_plain = true }) (record { value = pos 403; is_plain = false }))
+    ≡ codes "    403 is more than 400, by 3\n"
+unfolding digits
+low_past = refl
+
+-- ---- what is told of delays
+
+abbrev use_with : Expression × Expression → Option (Expression × Expression) → UseStatement
+use_with delay fall = record {
+  label = codes "b";
+  kind = codes "BUF";
+  delay = Some delay;
+  fall = fall;
+  params = [];
+  ins = [];
+  outs = [];
+  place = record { line = 4; col = 1 };
+}
+
+told_of_a_delay : delays_told [] (use_with (Binary Mul (number 2) (number 3), number 5) None)
+    ≡ Some (codes "    the delay is 6:5\n    the least, 6, is more than the greatest, 5\n")
+unfolding digits
+told_of_a_delay = refl
+
+delay_in_digits : delays_told [] (use_with (number 6, number 5) None) ≡ Some []
+delay_in_digits = refl
+
+-- the first delay is in digits, and its bound is not told again
+told_of_the_second : delays_told (bound_to (codes "N") 3 ∷ [])
+    (use_with (number 0, number 256) (Some (Param (codes "N"), number 2)))
+    ≡ Some (codes "    the delays are 0:256 and 3:2, where N is 3\n    the least, 3, is more than the greatest, 2\n")
+unfolding digits
+told_of_the_second = refl
+
+delay_that_is_right : delays_told [] (use_with (Negate (number 0), number 5) None) ≡ None
+delay_that_is_right = refl

@@ -1,2 +1,3 @@
+pub mod Body
 mod Examples
 pub mod Or

@@ -1,9 +1,11 @@
 -- A line that tells values.
-use Rattle.std.specs.Prelude.{ℕ, ℤ, Bool, ◌&&◌, ◌==◌, List, [], ◌∷◌, ◌++◌, length, Option, Some, None, if◌then◌else◌, codes}
+use Rattle.std.specs.Prelude.{ℕ, ℤ, Bool, ◌==◌, List, [], ◌∷◌, ◌++◌, length, Option, Some, None, if◌then◌else◌, codes}
 use Rattle.std.specs.Fmt.{decimal, signed_decimal}
 use Rattle.std.specs.List.{join_by}
 use Rattle.scald_base.specs.declared.refusal.Place.{Place}
 use Rattle.scald_expr.specs.declared.environment.Binding.{Binding}
+use Rattle.value_lines.specs.declared.passed.Passed.{Passed}
+use Rattle.value_lines.specs.Passed.{passed_line}
 
 -- what is said of something that is refused, and None of what is not
 abbrev pub Said : Type 0
@@ -26,11 +28,22 @@ value_text b = b.name ++ codes " is " ++ signed_decimal b.value
 abbrev pub values_text : List Binding → List ℕ
 values_text named = join_by value_text (codes ", ") named
 
--- What is refused, and the values of the names in it. Without a name all is in the text of the
--- drawing, and nothing is said.
+-- the values of the names in a part, where there are some
+abbrev pub where_text : List Binding → List ℕ
+where_text [] = []
+where_text (b ∷ bs) = codes ", where " ++ values_text (b ∷ bs)
+
+-- what is refused, and the values of the names in it
 abbrev pub line : List ℕ → List Binding → List ℕ
-line said [] = []
-line said (b ∷ bs) = codes "    " ++ said ++ codes ", where " ++ values_text (b ∷ bs) ++ codes "\n"
+line said named = codes "    " ++ said ++ where_text named ++ codes "\n"
+
+-- What is all written in digits stands in the text of the drawing, and nothing is said of it.
+abbrev pub unless_plain : Bool → List ℕ → List ℕ
+unless_plain plain said = if plain then [] else said
+
+-- and in a line more the bound that is passed
+abbrev pub bound_lines : List ℕ → List Binding → Option Passed → List ℕ
+bound_lines said named passed = line said named ++ passed_line passed
 
 -- `30:20`
 abbrev pub pair_text : ℤ × ℤ → List ℕ
@@ -71,23 +84,7 @@ bit_text whose number = bit_of whose ++ codes " is " ++ signed_decimal number
 abbrev pub range_text : List ℕ → Bool → ℤ × ℤ → List ℕ
 range_text whose goes ends = if goes then goes_text whose ends else bit_text whose ends.0
 
--- ---- several parts in one line
-
--- the values of the names in a part, where there are some
-abbrev pub where_text : List Binding → List ℕ
-where_text [] = []
-where_text (b ∷ bs) = codes ", where " ++ values_text (b ∷ bs)
-
--- two parts that do not fit, each with the values of its names
-abbrev pub both_text : List ℕ → List Binding → List ℕ → List Binding → List ℕ
-both_text first some second more =
-    codes "    " ++ first ++ where_text some
-    ++ codes ", and " ++ second ++ where_text more ++ codes "\n"
-
--- Without a name all is in the text of the drawing, and nothing is said.
-abbrev pub both_line : List ℕ → List Binding → List ℕ → List Binding → List ℕ
-both_line first some second more =
-    if (length some == 0) && (length more == 0) then [] else both_text first some second more
+-- ---- at a use
 
 -- what is said, and in a line more the values with which a use gives others, where there are some
 abbrev pub with_given : List ℕ → List Binding → List ℕ

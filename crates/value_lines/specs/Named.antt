@@ -7,8 +7,7 @@ use Rattle.scald_expr.specs.declared.environment.Binding.{Binding}
 use Rattle.scald_expr.specs.declared.evaluation.ExprFault.{ExprFault}
 use Rattle.scald_expr.specs.Expression.{Expression, Number, Param, Negate, Binary}
 use Rattle.scald_expr.specs.Value.{value_in}
-use Rattle.drawing_tree.specs.Tree.{Range, Item, Zero, One, Named, Term, Formal, Assignment}
-use Rattle.value_lines.specs.Sites.{Site, head_formal}
+use Rattle.drawing_tree.specs.Tree.{Range, Formal, Assignment}
 
 -- A name may have one value in a statement and another one in the head of its macro.
 abbrev pub is_binding : List ℕ → ℤ → Binding → Bool
@@ -42,19 +41,6 @@ named_in_written env told (Some r) = named_in_last env (named_in env told r.firs
 abbrev pub named_in_formal : List Binding → List Binding → Option Formal → List Binding
 named_in_formal head told None = told
 named_in_formal head told (Some f) = named_in_written head told f.range
-
--- without a range all bits of a formal are meant, and the names are those of its head
-abbrev pub named_in_item : Site → List Binding → Item → List Binding
-named_in_item site told Zero = told
-named_in_item site told One = told
-named_in_item site told (Named name None) =
-    named_in_formal site.head told (head_formal site name)
-named_in_item site told (Named name (Some r)) = named_in_written site.scope.env told (Some r)
-
-abbrev pub named_in_terms : Site → List Binding → List Term → List Binding
-named_in_terms site told [] = told
-named_in_terms site told (t ∷ more) =
-    named_in_terms site (named_in_item site told t.item) more
 
 abbrev pub named_in_both : List Binding → List Binding → Expression × Expression → List Binding
 named_in_both env told pair = named_in env (named_in env told pair.0) pair.1

@@ -1,6 +1,6 @@
 -- What is told of ranges, by the values that they have where their statement stands, and None of one
 -- that is not refused.
-use Rattle.std.specs.Prelude.{ℕ, ℤ, pos, Bool, false, ◌&&◌, ◌||◌, ◌-◌, ◌==◌, int_lt, List, ◌++◌, length, slice_get, Option, Some, None, Ok, Err, is_some, if◌then◌else◌, codes}
+use Rattle.std.specs.Prelude.{ℕ, ℤ, pos, Bool, ◌&&◌, ◌||◌, ◌-◌, ◌==◌, int_lt, List, ◌++◌, length, slice_get, Option, Some, None, Ok, Err, is_some, if◌then◌else◌, codes}
 use Rattle.std.specs.Fmt.{decimal, signed_decimal}
 use Rattle.scald_base.specs.declared.refusal.Place.{Place}
 use Rattle.assertion_syntax.specs.declared.name.SignalName.{SignalName}
@@ -9,17 +9,23 @@ use Rattle.vector_names.specs.Bits.{bits_of}
 use Rattle.drawing_tree.specs.Tree.{Range, Item, Zero, One, Named, Term, Connection, Formal}
 use Rattle.macro_expander.specs.Outcome.{Judged}
 use Rattle.macro_expander.specs.Terms.{Bound, formal_of, written_ends}
-use Rattle.value_lines.specs.Lines.{Said, first_told, formal_text, line, or_else, quoted, range_text, way_text}
+use Rattle.value_lines.specs.Lines.{Said, bound_lines, first_told, formal_text, line, or_else, quoted, range_text, unless_plain, way_text}
 use Rattle.value_lines.specs.Sites.{Site, head_formal}
 use Rattle.value_lines.specs.Named.{named_in_formal, named_in_range}
+use Rattle.value_lines.specs.Passed.{range_passed}
+use Rattle.value_lines.specs.Plain.{is_plain_formal, is_plain_range}
 
 -- ---- by itself
+
+abbrev pub ends_lines : List Binding → List ℕ → Range → ℤ × ℤ → List ℕ
+ends_lines env whose r ends =
+    bound_lines (range_text whose (is_some r.last) ends) (named_in_range env r) (range_passed ends)
 
 -- a range that goes nowhere, or too far
 abbrev pub ends_told : List Binding → List ℕ → Range → ℤ × ℤ → Said
 ends_told env whose r ends =
     if is_some (bits_of ends.0 ends.1) then None
-    else Some (line (range_text whose (is_some r.last) ends) (named_in_range env r))
+    else Some (unless_plain (is_plain_range r) (ends_lines env whose r ends))
 
 abbrev pub valued_told : List Binding → List ℕ → Option Range → Option (ℤ × ℤ) → Said
 valued_told env whose (Some r) (Some ends) = ends_told env whose r ends
@@ -80,10 +86,15 @@ stray_line site name r ends bits =
     line (stray_text (quoted name.base) (is_some r.last) ends bits)
     (named_in_formal site.head (named_in_range site.scope.env r) (head_formal site name))
 
+abbrev pub stray_lines : Site → SignalName → Range → ℤ × ℤ → ℕ × ℕ → List ℕ
+stray_lines site name r ends bits =
+    unless_plain (is_plain_range r && is_plain_formal (head_formal site name))
+    (stray_line site name r ends bits)
+
 abbrev pub unless_within : Site → SignalName → Range → ℤ × ℤ → Option (ℕ × ℕ) → Said
 unless_within site name r ends None = None
 unless_within site name r ends (Some bits) =
-    if strays bits ends then Some (stray_line site name r ends bits) else None
+    if strays bits ends then Some (stray_lines site name r ends bits) else None
 
 -- a range with bits that are none of the formal's
 abbrev pub within_told : Site → SignalName → Range → Judged (Option (ℤ × ℤ)) → List ℕ → Said

@@ -1,8 +1,9 @@
 //! Lines that tell values.
 
-ghost use Rattle.std.specs.Prelude.{◌≡◌, ◌++◌, IfOk, OnOk, Some, codes};
-ghost use Rattle.value_lines.specs.Lines.{bit_of, bit_text, both_text as spec_both_text, formal_text as spec_formal_text, goes_text, line as spec_line, pair_text, place_text, quoted as spec_quoted, range_of, range_text as spec_range_text, told_in_use as spec_told_in_use, value_text, values_text as spec_values_text, way_text, where_text};
+ghost use Rattle.std.specs.Prelude.{◌≡◌, ◌++◌, IfOk, OnOk, codes};
+ghost use Rattle.value_lines.specs.Lines.{bit_of, bit_text, bound_lines as spec_bound_lines, formal_text as spec_formal_text, goes_text, line as spec_line, pair_text, place_text, quoted as spec_quoted, range_of, range_text as spec_range_text, told_in_use as spec_told_in_use, value_text, values_text as spec_values_text, way_text, where_text};
 
+use crate::passed::{Passed, add_passed};
 use itoa::Buffer;
 use scald_base::{Bytes, NoMemory, Place};
 use scald_expr::Binding;
@@ -157,33 +158,8 @@ pub fn range_text(
     Ok(text)
 }
 
-/// The line that says this, and the values of the names in it; nothing where no name is in it.
-pub fn line(alloc: Global, said: &[u8], named: &[Binding]) -> Result<Bytes, NoMemory>
-    ensures { IfOk result (λ text. text ≡ spec_line said.now named.now) }
-{
-    let mut text = Bytes::new(alloc);
-    let [_, ..] = named else {
-        return Ok(text);
-    };
-    text.extend(b"    ")?;
-    text.extend(said)?;
-    text.extend(b", where ")?;
-    add_values(&mut text, named)?;
-    text.push(b'\n')?;
-    Ok(text)
-}
-
-/// The same of something that is refused.
-pub fn said(alloc: Global, text: &[u8], named: &[Binding]) -> Result<Said, NoMemory>
-    ensures { IfOk result (λ said. said ≡ Some (spec_line text.now named.now)) }
-{
-    Ok(Some(line(alloc, text, named)?))
-}
-
-// ---- several parts in one line
-
 /// Puts the values of the names in a part at the end, where there are some.
-fn add_where(out: &mut Bytes, named: &[Binding]) -> Result<(), NoMemory>
+pub fn add_where(out: &mut Bytes, named: &[Binding]) -> Result<(), NoMemory>
     ensures { OnOk result (out.new ≡ out.old ++ where_text named.now) }
 {
     let [_, ..] = named else {
@@ -193,7 +169,8 @@ fn add_where(out: &mut Bytes, named: &[Binding]) -> Result<(), NoMemory>
     add_values(out, named)
 }
 
-fn add_first(out: &mut Bytes, first: &[u8], some: &[Binding]) -> Result<(), NoMemory>
+/// Puts a part after the margin, and the values of the names in it.
+pub fn add_first(out: &mut Bytes, first: &[u8], some: &[Binding]) -> Result<(), NoMemory>
     ensures { OnOk result (out.new ≡ out.old ++ codes "    " ++ first.now ++ where_text some.now) }
 {
     out.extend(b"    ")?;
@@ -201,29 +178,27 @@ fn add_first(out: &mut Bytes, first: &[u8], some: &[Binding]) -> Result<(), NoMe
     add_where(out, some)
 }
 
-fn add_second(out: &mut Bytes, second: &[u8], more: &[Binding]) -> Result<(), NoMemory>
-    ensures { OnOk result (out.new
-        ≡ out.old ++ codes ", and " ++ second.now ++ where_text more.now ++ codes "\n") }
-{
-    out.extend(b", and ")?;
-    out.extend(second)?;
-    add_where(out, more)?;
-    out.extend(b"\n")
-}
-
-/// Two parts that do not fit, each with the values of its names.
-pub fn both_text(
-    alloc: Global,
-    first: &[u8],
-    some: &[Binding],
-    second: &[u8],
-    more: &[Binding],
-) -> Result<Bytes, NoMemory>
-    ensures { IfOk result (λ text. text ≡ spec_both_text first.now some.now second.now more.now) }
+/// The line that says this, and the values of the names in it.
+pub fn line(alloc: Global, said: &[u8], named: &[Binding]) -> Result<Bytes, NoMemory>
+    ensures { IfOk result (λ text. text ≡ spec_line said.now named.now) }
 {
     let mut text = Bytes::new(alloc);
-    add_first(&mut text, first, some)?;
-    add_second(&mut text, second, more)?;
+    add_first(&mut text, said, named)?;
+    text.extend(b"\n")?;
+    Ok(text)
+}
+
+/// The same, and in a line more the bound that is passed.
+pub fn bound_lines(
+    alloc: Global,
+    said: &[u8],
+    named: &[Binding],
+    passed: Option<Passed>,
+) -> Result<Bytes, NoMemory>
+    ensures { IfOk result (λ text. text ≡ spec_bound_lines said.now named.now passed) }
+{
+    let mut text = line(alloc, said, named)?;
+    add_passed(&mut text, passed)?;
     Ok(text)
 }
 

@@ -4,12 +4,10 @@ ghost use Rattle.std.specs.Prelude.{◌≡◌, [], IfOk, OnOk, map, option_map};
 ghost use Rattle.std.specs.List.{list_any};
 ghost use Rattle.std.specs.Option.{option_copied};
 ghost use Rattle.scald_expr.specs.Expression.{expression_of};
-ghost use Rattle.drawing_tree.specs.Tree.{assignment_of, both_of, formal_of, item_of, range_of, term_of, written_range_of};
-ghost use Rattle.value_lines.specs.Sites.{seen_site};
-ghost use Rattle.value_lines.specs.Named.{is_binding, named_in, named_in_both, named_in_formal, named_in_item, named_in_last, named_in_params as spec_named_in_params, named_in_range, named_in_terms, named_in_written, with_name};
+ghost use Rattle.drawing_tree.specs.Tree.{assignment_of, both_of, formal_of, range_of, written_range_of};
+ghost use Rattle.value_lines.specs.Named.{is_binding, named_in, named_in_both, named_in_formal, named_in_last, named_in_params as spec_named_in_params, named_in_range, named_in_written, with_name};
 
-use crate::site::Site;
-use drawing_tree::{Assign, Formal, Item, RangeExpr, Term, WrittenRange};
+use drawing_tree::{Assign, Formal, RangeExpr, WrittenRange};
 use scald_base::{Bytes, NoMemory};
 use scald_expr::{Binding, Env, Expr, ExprFault, eval};
 use std::alloc::Global;
@@ -98,7 +96,8 @@ pub fn named_in_range(alloc: Global, env: &Env, range: &RangeExpr) -> Result<Env
     Ok(named)
 }
 
-fn add_named_written(
+/// Tells the names of a range, where one is written.
+pub fn add_named_written(
     alloc: Global,
     told: &mut Env,
     env: &Env,
@@ -115,16 +114,6 @@ fn add_named_written(
     }
 }
 
-/// The names of the range of a formal, where names have the values of its macro's head.
-pub fn named_in_head(alloc: Global, head: &Env, range: &WrittenRange) -> Result<Env, NoMemory>
-    ensures { IfOk result (λ named.
-        named ≡ named_in_written head.now [] (written_range_of range.now)) }
-{
-    let mut named = Env::new(alloc);
-    add_named_written(alloc, &mut named, head, range)?;
-    Ok(named)
-}
-
 /// Tells the names of the range of a formal, where names have the values of its macro's head.
 pub fn add_named_formal(
     alloc: Global,
@@ -139,31 +128,6 @@ pub fn add_named_formal(
         None => Ok(()),
         Some(formal) => add_named_written(alloc, told, head, &formal.range),
     }
-}
-
-fn add_named_item(alloc: Global, told: &mut Env, site: &Site, item: &Item) -> Result<(), NoMemory>
-    ensures { OnOk result (told.new
-        ≡ named_in_item (seen_site site.now) told.old (item_of item.now)) }
-{
-    match item {
-        Item::Zero | Item::One => Ok(()),
-        Item::Named(name, range) => match range {
-            None => add_named_formal(alloc, told, site.head, site.head_formal(name)),
-            Some(_) => add_named_written(alloc, told, &site.scope.env, range),
-        },
-    }
-}
-
-/// The names of the ranges of a connection.
-pub fn named_in_connection(alloc: Global, site: &Site, terms: &[Term]) -> Result<Env, NoMemory>
-    ensures { IfOk result (λ named.
-        named ≡ named_in_terms (seen_site site.now) [] (map term_of terms.now)) }
-{
-    let mut named = Env::new(alloc);
-    'terms: for term in terms {
-        add_named_item(alloc, &mut named, site, &term.item)?;
-    }
-    Ok(named)
 }
 
 /// The names of the values that a use gives.

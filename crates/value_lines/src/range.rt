@@ -5,10 +5,12 @@ ghost use Rattle.vector_names.specs.Bits.{bits_of as spec_bits_of};
 ghost use Rattle.drawing_tree.specs.Tree.{connection_of, formal_of, item_of, range_of, term_of, written_range_of};
 ghost use Rattle.value_lines.specs.Lines.{Said, first_told as spec_first_told, quoted as spec_quoted};
 ghost use Rattle.value_lines.specs.Sites.{Site, seen_site};
-ghost use Rattle.value_lines.specs.Ranges.{connection_told, ends_in as spec_ends_in, ends_told as spec_ends_told, formal_told as spec_formal_told, goes_on_text, held_text, is_outside as spec_is_outside, item_told as spec_item_told, named_told as spec_named_told, range_told as spec_range_told, stray_line as spec_stray_line, stray_text as spec_stray_text, stray_told as spec_stray_told, term_told, unless_within};
+ghost use Rattle.value_lines.specs.Ranges.{connection_told, ends_in as spec_ends_in, ends_lines as spec_ends_lines, ends_told as spec_ends_told, formal_told as spec_formal_told, goes_on_text, held_text, is_outside as spec_is_outside, item_told as spec_item_told, named_told as spec_named_told, range_told as spec_range_told, stray_line as spec_stray_line, stray_lines as spec_stray_lines, stray_text as spec_stray_text, stray_told as spec_stray_told, term_told, unless_within};
 
-use crate::line::{Said, add_way, formal_text, line, quoted, range_text, said};
+use crate::line::{Said, add_way, bound_lines, formal_text, line, quoted, range_text};
 use crate::named::{add_named_formal, named_in_range};
+use crate::passed::range_passed;
+use crate::plain::{is_plain_formal, is_plain_range};
 use crate::site::Site;
 use assertion_syntax::SignalName;
 use drawing_tree::{Conn, Formal, Item, RangeExpr, Term, WrittenRange};
@@ -29,6 +31,22 @@ fn is_range(alloc: Global, ends: (i64, i64)) -> Result<bool, NoMemory>
     }
 }
 
+/// Where a range goes, and which bound it passes.
+fn ends_lines(
+    alloc: Global,
+    env: &Env,
+    whose: &[u8],
+    range: &RangeExpr,
+    ends: (i64, i64),
+) -> Result<Bytes, NoMemory>
+    ensures { IfOk result (λ text. text
+        ≡ spec_ends_lines env.now whose.now (range_of range.now) ends) }
+{
+    let text = range_text(alloc, whose, range.last.is_some(), ends)?;
+    let named = named_in_range(alloc, env, range)?;
+    bound_lines(alloc, text.as_slice(), named.as_slice(), range_passed(ends))
+}
+
 fn ends_told(
     alloc: Global,
     env: &Env,
@@ -41,9 +59,10 @@ fn ends_told(
     if is_range(alloc, ends)? {
         return Ok(None);
     }
-    let text = range_text(alloc, whose, range.last.is_some(), ends)?;
-    let named = named_in_range(alloc, env, range)?;
-    said(alloc, text.as_slice(), named.as_slice())
+    if is_plain_range(range) {
+        return Ok(Some(Bytes::new(alloc)));
+    }
+    Ok(Some(ends_lines(alloc, env, whose, range, ends)?))
 }
 
 /// What is told of the range of something, where one is written.
@@ -155,6 +174,24 @@ fn stray_line(
     line(alloc, text.as_slice(), named.as_slice())
 }
 
+/// The same, but nothing where the range and the formal's are written in digits alone.
+fn stray_lines(
+    alloc: Global,
+    site: &Site,
+    name: &SignalName,
+    range: &RangeExpr,
+    ends: (i64, i64),
+    bits: (u16, u16),
+) -> Result<Bytes, NoMemory>
+    ensures { IfOk result (λ text. text ≡ spec_stray_lines (seen_site site.now) name.now
+        (range_of range.now) ends bits) }
+{
+    if is_plain_range(range) && is_plain_formal(site.head_formal(name)) {
+        return Ok(Bytes::new(alloc));
+    }
+    stray_line(alloc, site, name, range, ends, bits)
+}
+
 /// What is told of a range with these ends of a formal with these bits.
 fn within_told(
     alloc: Global,
@@ -169,7 +206,7 @@ fn within_told(
 {
     match ends_in(numbers) {
         Some(bits) if is_outside(bits, ends.0) || is_outside(bits, ends.1) => {
-            Ok(Some(stray_line(alloc, site, name, range, ends, bits)?))
+            Ok(Some(stray_lines(alloc, site, name, range, ends, bits)?))
         }
         _ => Ok(None),
     }

@@ -2,8 +2,8 @@ use Rattle.std.proofs.Common.{◌≡◌, drop, map}
 use Rattle.drawing_tree.specs.Tree.{connection_of}
 use Rattle.value_lines.specs.Lines.{first_told}
 use Rattle.value_lines.specs.Sites.{seen_site}
-use Rattle.value_lines.specs.Widths.{input_told}
-use Rattle.value_lines.proofs.width.first_input_told.Given as goal
+use Rattle.width_lines.specs.Widths.{input_told}
+use Rattle.width_lines.proofs.input.first_input_told.Given as goal
 
 abbrev pub invariant-ins : goal.invariant-ins
 invariant-ins l =

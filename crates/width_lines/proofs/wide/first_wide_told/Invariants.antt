@@ -2,8 +2,8 @@ use Rattle.std.proofs.Common.{◌≡◌, drop, map}
 use Rattle.drawing_tree.specs.Tree.{connection_of}
 use Rattle.value_lines.specs.Lines.{first_told}
 use Rattle.value_lines.specs.Sites.{seen_site}
-use Rattle.value_lines.specs.Widths.{wide_told}
-use Rattle.value_lines.proofs.width.first_wide_told.Given as goal
+use Rattle.width_lines.specs.Widths.{wide_told}
+use Rattle.width_lines.proofs.wide.first_wide_told.Given as goal
 
 abbrev pub invariant-connections : goal.invariant-connections
 invariant-connections l =

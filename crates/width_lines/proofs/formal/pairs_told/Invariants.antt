@@ -1,8 +1,8 @@
 use Rattle.std.proofs.Common.{◌≡◌, length, map}
 use Rattle.drawing_tree.specs.Tree.{connection_of, formal_of}
 use Rattle.value_lines.specs.Sites.{seen_site}
-use Rattle.value_lines.specs.Widths.{pairs_told}
-use Rattle.value_lines.proofs.width.pairs_told.Given as goal
+use Rattle.width_lines.specs.Widths.{pairs_told}
+use Rattle.width_lines.proofs.formal.pairs_told.Given as goal
 
 abbrev pub decreases-formals : goal.decreases-formals
 decreases-formals l = length l.wanted

@@ -9,9 +9,11 @@ use Rattle.drawing_tree.specs.Tree.{Range, Item, Zero, One, Named, Term, Connect
 use Rattle.macro_expander.specs.Outcome.{Judged}
 use Rattle.macro_expander.specs.Terms.{written_ends}
 use Rattle.spread_names.specs.Widths.{named_width, width}
-use Rattle.value_lines.specs.Lines.{Said, both_line, first_told, line, or_else, pair_text, quoted}
+use Rattle.value_lines.specs.Lines.{Said, first_told, line, or_else, pair_text, quoted, unless_plain, where_text}
 use Rattle.value_lines.specs.Sites.{Site}
-use Rattle.value_lines.specs.Named.{named_in_terms, named_in_written}
+use Rattle.value_lines.specs.Named.{named_in_written}
+use Rattle.value_lines.specs.Plain.{is_plain_written}
+use Rattle.width_lines.specs.Names.{are_plain_terms, named_in_terms}
 
 -- ---- one connection
 
@@ -61,6 +63,12 @@ given_text site c = text_of site c ++ codes " has " ++ count_text (width site.sc
 abbrev pub wanted_text : List ℕ → ℕ → List ℕ
 wanted_text whose n = whose ++ codes " has " ++ decimal n
 
+-- two parts that do not fit, each with the values of its names
+abbrev pub both_text : List ℕ → List Binding → List ℕ → List Binding → List ℕ
+both_text first some second more =
+    codes "    " ++ first ++ where_text some
+    ++ codes ", and " ++ second ++ where_text more ++ codes "\n"
+
 -- ---- too wide
 
 abbrev pub wide_text : Site → Connection → List ℕ
@@ -69,7 +77,9 @@ wide_text site c = given_text site c ++ codes ", and a connection has at most 25
 -- of more names than it may have bits nothing is told
 abbrev pub wide_line : Site → Connection → List ℕ
 wide_line site c =
-    if nat_le (length c.terms) widest then line (wide_text site c) (names_of site c) else []
+    if nat_le (length c.terms) widest
+    then unless_plain (are_plain_terms site c.terms) (line (wide_text site c) (names_of site c))
+    else []
 
 abbrev pub wide_told : Site → Connection → Said
 wide_told site c = if nat_le (width site.scope c) widest then None else Some (wide_line site c)
@@ -91,8 +101,9 @@ of_macro name base = quoted base ++ codes " of " ++ name
 -- the connection, and the formal of the macro of that name
 abbrev pub pair_line : Site → List Binding → List ℕ → Formal → Connection → List ℕ
 pair_line site head name f c =
-    both_line (given_text site c) (names_of site c)
-    (wanted_text (of_macro name f.base) (formal_width head f)) (named_in_written head [] f.range)
+    unless_plain (are_plain_terms site c.terms && is_plain_written f.range)
+    (both_text (given_text site c) (names_of site c)
+    (wanted_text (of_macro name f.base) (formal_width head f)) (named_in_written head [] f.range))
 
 abbrev pub pair_told : Bool → Site → List Binding → List ℕ → Formal → Connection → Said
 pair_told is_input site head name f c =
@@ -111,8 +122,9 @@ pairs_told is_input site head name (f ∷ fs) (c ∷ cs) =
 -- an input, and the connection that it should be as wide as, with what that is
 abbrev pub input_line : Site → List ℕ → Connection → Connection → List ℕ
 input_line site what by c =
-    both_line (given_text site c) (names_of site c)
-    (wanted_text (what ++ text_of site by) (width site.scope by)) (names_of site by)
+    unless_plain (are_plain_terms site c.terms && are_plain_terms site by.terms)
+    (both_text (given_text site c) (names_of site c)
+    (wanted_text (what ++ text_of site by) (width site.scope by)) (names_of site by))
 
 abbrev pub input_told : Site → List ℕ → Connection → Connection → Said
 input_told site what by c =

@@ -1,8 +1,8 @@
 use Rattle.std.proofs.Common.{◌≡◌, drop, map}
 use Rattle.drawing_tree.specs.Tree.{connection_of}
 use Rattle.value_lines.specs.Sites.{seen_site}
-use Rattle.value_lines.specs.Widths.{widest_of}
-use Rattle.value_lines.proofs.width.widest_of.Given as goal
+use Rattle.width_lines.specs.Widths.{widest_of}
+use Rattle.width_lines.proofs.input.widest_of.Given as goal
 
 abbrev pub invariant-more : goal.invariant-more
 invariant-more l =

@@ -3,7 +3,7 @@ use Rattle.std.specs.List.{sum_by}
 use Rattle.drawing_tree.specs.Tree.{Term, term_of}
 use Rattle.spread_names.specs.Widths.{item_width}
 use Rattle.value_lines.specs.Sites.{seen_site}
-use Rattle.value_lines.proofs.width.width.Given as goal
+use Rattle.width_lines.proofs.width.width.Given as goal
 
 abbrev pub invariant-terms : goal.invariant-terms
 invariant-terms l =

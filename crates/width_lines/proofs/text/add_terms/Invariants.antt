@@ -2,8 +2,8 @@ use Rattle.std.proofs.Common.{◌≡◌, ◌++◌, map, drop}
 use Rattle.std.specs.Prelude.{codes}
 use Rattle.std.specs.List.{flat_map}
 use Rattle.drawing_tree.specs.Tree.{Term, term_of}
-use Rattle.value_lines.specs.Widths.{term_text, terms_text}
-use Rattle.value_lines.proofs.width.add_terms.Given as goal
+use Rattle.width_lines.specs.Widths.{term_text, terms_text}
+use Rattle.width_lines.proofs.text.add_terms.Given as goal
 
 abbrev pub invariant-more : goal.invariant-more
 invariant-more l =

@@ -1,8 +1,8 @@
 use Rattle.std.proofs.Common.{◌≡◌, [], drop, map}
 use Rattle.drawing_tree.specs.Tree.{term_of}
 use Rattle.value_lines.specs.Sites.{seen_site}
-use Rattle.value_lines.specs.Named.{named_in_terms}
-use Rattle.value_lines.proofs.named.named_in_connection.Given as goal
+use Rattle.width_lines.specs.Names.{named_in_terms}
+use Rattle.width_lines.proofs.names.named_in_connection.Given as goal
 
 abbrev pub invariant-terms : goal.invariant-terms
 invariant-terms l =
