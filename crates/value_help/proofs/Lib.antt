@@ -4,3 +4,4 @@ pub mod Walking
 pub mod Turning
 pub mod Using
 pub mod Whole
+mod ExamplesReached
