@@ -96,11 +96,13 @@ less_one name = Binary Sub (Param name) (number 1)
 
 range_of_no_bits : found (bad_range 4) (alone (given (codes "W") (number 0) ∷ []) (buffer 4 (range (number 0) (less_one (codes "W")))))
     ≡ codes "    the range of \"A\" goes from 0 to -1, where W is 0\n"
+    ++ codes "    -1 is less than 0, by 1\n"
 unfolding found found_with searching_at range_of quoted digits
 range_of_no_bits = refl
 
 bit_that_is_none : found (bad_range 4) (alone (given (codes "W") (number 0) ∷ []) (buffer 4 (bit (less_one (codes "W")))))
     ≡ codes "    the bit of \"A\" is -1, where W is 0\n"
+    ++ codes "    -1 is less than 0, by 1\n"
 unfolding found found_with searching_at bit_of quoted digits
 bit_that_is_none = refl
 
@@ -127,6 +129,7 @@ turn_of_a_for :
     found (bad_range 5) (alone [] (For (codes "i") (number 0) (number 3)
     (cons (buffer 5 (range (number 0) (Binary Sub (number 1) (Param (codes "i"))))) nil) (at 4)))
     ≡ codes "    the range of \"A\" goes from 0 to -1, where i is 2\n"
+    ++ codes "    -1 is less than 0, by 1\n"
 unfolding found found_with searching_at range_of quoted digits
 turn_of_a_for = refl
 
@@ -179,6 +182,7 @@ sliced n params input = drawn (given (codes "N") (number n) ∷ []) (slice ∷ [
 -- a formal, by the value that the use gives
 formal_of_no_bits : found (bad_range 6) (sliced 5 (given (codes "W") (Binary Sub (Param (codes "N")) (number 5)) ∷ []) None)
     ≡ codes "    the range of the formal \"A\" of SLICE at 2:3 goes from 0 to -1, where W is 0\n"
+    ++ codes "    -1 is less than 0, by 1\n"
     ++ codes "    at this use N is 5\n"
 unfolding found found_with searching_at range_of formal_text quoted given_to inside_of digits
 formal_of_no_bits = refl
@@ -186,6 +190,7 @@ formal_of_no_bits = refl
 -- in its body, by the default and by a constant
 bit_in_a_body : found (bad_range 3) (sliced 5 [] None)
     ≡ codes "    the bit of \"A\" is -1, where W is 4, N is 5\n"
+    ++ codes "    -1 is less than 0, by 1\n"
 unfolding found found_with searching_at bit_of quoted given_to inside_of digits
 bit_in_a_body = refl
 
@@ -256,11 +261,13 @@ both = Some (Param (codes "LO"), Param (codes "HI"))
 
 delay_that_falls : found (out_of_bounds 4) (alone low_and_high (use_of (codes "BUF") 4 [] both None (signal None ∷ [])))
     ≡ codes "    the delay is 30:20, where LO is 30, HI is 20\n"
+    ++ codes "    the least, 30, is more than the greatest, 20\n"
 unfolding found found_with searching_at digits
 delay_that_falls = refl
 
 two_delays : found (out_of_bounds 4) (alone low_and_high (use_of (codes "BUF") 4 [] (Some (number 1, number 2)) both (signal None ∷ [])))
     ≡ codes "    the delays are 1:2 and 30:20, where LO is 30, HI is 20\n"
+    ++ codes "    the least, 30, is more than the greatest, 20\n"
 unfolding found found_with searching_at digits
 two_delays = refl
 
@@ -268,6 +275,7 @@ limit_past_the_period :
     found (out_of_bounds 4) (alone (given (codes "T") (number 500) ∷ [])
     (use_of (codes "SETUP_HOLD_CHK") 4 (given (codes "SETUP") (Param (codes "T")) ∷ []) None None (signal None ∷ signal None ∷ [])))
     ≡ codes "    SETUP is 500, where T is 500\n"
+    ++ codes "    500 is more than 400, by 100\n"
 unfolding found found_with searching_at digits
 limit_past_the_period = refl
 
@@ -279,6 +287,7 @@ wire_that_falls :
       max = Param (codes "HI");
       place = at 4;
     }))) ≡ codes "    the bounds are 30:20, where LO is 30, HI is 20\n"
+    ++ codes "    the least, 30, is more than the greatest, 20\n"
 unfolding found found_with searching_at digits
 wire_that_falls = refl
 

@@ -1,5 +1,5 @@
 -- Which statements are reached, and which part of one is told, in small drawings that are refused.
-use Rattle.std.proofs.Common.{◌≡◌, ℕ, pos, false, List, [], ◌∷◌, Option, Some, None, refl}
+use Rattle.std.proofs.Common.{◌≡◌, ℕ, pos, false, List, [], ◌∷◌, ◌++◌, Option, Some, None, refl}
 use Rattle.std.specs.Prelude.{codes}
 use Rattle.std.specs.Fmt.{digits}
 use Rattle.scald_base.specs.Time.{Header}
@@ -89,6 +89,7 @@ two_less = use_of (codes "BUF") [] (signal (range (number 0) (w_less 2)) ∷ [])
 
 under_then : found (bad_range 4) (drawn (w_is 1) [] (If (Param (codes "W")) (cons two_less nil) no_else (at 3))) ≡
     codes "    the range of \"A\" goes from 0 to -1, where W is 1\n"
+    ++ codes "    -1 is less than 0, by 1\n"
 unfolding found found_with searching_at range_of quoted digits
 under_then = refl
 
@@ -98,6 +99,7 @@ not_under_then = refl
 
 under_else : found (bad_range 4) (drawn (w_is 0) [] (If (Param (codes "W")) nil (else_ (cons buffer nil)) (at 3))) ≡
     codes "    the range of \"A\" goes from 0 to -1, where W is 0\n"
+    ++ codes "    -1 is less than 0, by 1\n"
 unfolding found found_with searching_at range_of quoted digits
 under_else = refl
 
@@ -128,6 +130,7 @@ wire_elsewhere = refl
 
 range_of_an_output : found (bad_range 4) (drawn (w_is 0) [] (use_of (codes "BUF") [] (signal None ∷ []) (signal (range (number 0) (w_less 1)) ∷ []))) ≡
     codes "    the range of \"A\" goes from 0 to -1, where W is 0\n"
+    ++ codes "    -1 is less than 0, by 1\n"
 unfolding found found_with searching_at range_of quoted digits
 range_of_an_output = refl
 
@@ -143,7 +146,8 @@ slice = record {
 }
 
 formal_of_an_output : found (bad_range 4) (drawn (w_is 0) (slice ∷ []) (use_of (codes "SLICE") [] [] (signal None ∷ []))) ≡
-    codes "    the range of the formal \"Z\" of SLICE goes from 0 to -1, where W is 0\n"
+    codes "    the range of the formal \"Z\" of SLICE at 2:3 goes from 0 to -1, where W is 0\n"
+    ++ codes "    -1 is less than 0, by 1\n"
 unfolding found found_with searching_at range_of formal_text quoted given_to inside_of digits
 formal_of_an_output = refl
 

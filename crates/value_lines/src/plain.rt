@@ -82,7 +82,10 @@ pub fn is_plain_fall(used: &UseStmt) -> bool
 {
     match used.delay {
         None => true,
-        Some(_) => is_plain_delay(&used.fall),
+        Some(_) => match &used.fall {
+            None => true,
+            Some(pair) => is_plain_pair(pair),
+        },
     }
 }
 
