@@ -1025,16 +1025,16 @@ macro unexpanded '14 Bounds 4:1' 'MACRO M {N=1} ("A") -> ("Z");' 'b1 : BUF [N:3]
     'u1 : M {N=5} ("A") -> ("X");' 'END;'
 helps '    BUF takes a delay [a:b], 0 <= a <= b <= 4095, or two, [r:R, f:F], each at most 255' \
     "    'M' is used only at 7:1:" '    u1 : M {N=5} ("A") -> ("X");' '    ^' \
-    '    the delay is 5:3, where N is 5'
+    '    the delay is 5:3, where N is 5' '    the least, 5, is more than the greatest, 3'
 macro unexpanded '14 Bounds 4:1' 'MACRO M {N=1} ("A") -> ("Z");' 'b1 : BUF [N:3] ("A") -> ("Z");' 'END;' 'DRAWING ROW;' \
     'u1 : M {N=1} ("A") -> ("X");' 'u2 : M {N=5} ("A") -> ("Y");' 'u3 : M {N=6} ("A") -> ("V");' 'END;'
 helps '    BUF takes a delay [a:b], 0 <= a <= b <= 4095, or two, [r:R, f:F], each at most 255' \
-    '    the delay is 5:3, where N is 5' \
+    '    the delay is 5:3, where N is 5' '    the least, 5, is more than the greatest, 3' \
     '    it is reached by u2 at 8:1'
 macro unexpanded '14 Bounds 4:1' 'MACRO M {N=1} ("A") -> ("Z");' 'b1 : BUF [N:3] ("A") -> ("Z");' 'END;' 'DRAWING ROW;' \
     'u1 : M {N=1} ("A") -> ("X");' 'IF 1 THEN' 'u2 : M {N=5} ("A") -> ("Y");' 'ELSE' 'END;' 'WIRE "A" 0:1;' 'END;'
 helps '    BUF takes a delay [a:b], 0 <= a <= b <= 4095, or two, [r:R, f:F], each at most 255' \
-    '    the delay is 5:3, where N is 5' \
+    '    the delay is 5:3, where N is 5' '    the least, 5, is more than the greatest, 3' \
     '    it is reached by IF at 8:1'
 drawing '14 Bounds 4:1' 'b1 : BUF [0:0, 1:256] ("A") -> ("X");'
 helps '    BUF takes a delay [a:b], 0 <= a <= b <= 4095, or two, [r:R, f:F], each at most 255' \
@@ -1043,6 +1043,8 @@ drawing '14 Bounds 4:1' 'c1 : SETUP_HOLD_CHK {SETUP=391, HOLD=10} ("CK", "D");'
 helps '    SETUP_HOLD_CHK takes SETUP and HOLD, each once; neither is negative, and together they are at most the period' \
     '    401 is more than 400, by 1'
 drawing '14 Bounds 4:1' 'c1 : SETUP_RISE_HOLD_FALL_CHK {SETUP=0-1, HOLD=10} ("CK", "D");'
+helps '    SETUP_RISE_HOLD_FALL_CHK takes SETUP and HOLD, each once; neither is negative, and together they are at most the period' \
+    '    SETUP is -1, HOLD is 10' '    -1 is less than 0, by 1'
 drawing '14 Bounds 4:1' 'c1 : MIN_PULSE_CHK {HIGH=401} ("K");'
 drawing '14 Bounds 4:1' 'c1 : MIN_PULSE_CHK {LOW=401} ("K");'
 helps '    MIN_PULSE_CHK takes HIGH and LOW, each once; neither is negative, and each is at most the period' \
@@ -1074,11 +1076,12 @@ macro unexpanded '15 TooDeep 4:1' 'MACRO M ("A") -> ("Z");' 'x : M ("A") -> ("Z"
 helps '    at most 64 uses of macros may be inside one another, and this is one more' \
     '    it is reached by u at 7:1'
 macro unexpanded '11 BadRange 6:1' 'MACRO M {N=1} ("A"<0:N>);' 'END;' 'DRAWING ROW;' 'u : M {N=256} ("A");' 'END;'
-helps '    the range of the formal "A" of M at 3:7 goes from 0 to 256, where N is 256'
+helps '    the range of the formal "A" of M at 3:7 goes from 0 to 256, where N is 256' \
+    '    a range has at most 256 bits, and this one has 257'
 drawing '11 BadRange 4:1' 'b1 : BUF [0:0] ("A"<65536>) -> ("X");'
 helps '    bit 65536 of "A" is past the last, 65535'
 drawing '11 BadRange 4:1' 'b1 : BUF [0:0] ("A"<0-1>) -> ("X");'
-no_help
+helps '    the bit of "A" is -1' '    -1 is less than 0, by 1'
 drawing '11 BadRange 4:1' 'b1 : BUF [0:0] ("A"<0:256>) -> ("X");'
 helps '    a range has at most 256 bits, and that of "A" has 257'
 drawing '11 BadRange 4:1' 'WIRE "A"<65536> 0:0;'
@@ -1145,48 +1148,88 @@ macro unexpanded '12 Width 4:1' 'MACRO M ("A"<0:2>) -> ("Z");' 'b1 : BUF [0:0] (
 wide "$by_output" '    bits of the connections: 3 -> 1' "    'M' is used only at 7:1:" '    u : M ("A"<0:2>) -> ("X");' '    ^'
 
 # --- values where a statement is reached
+limits='    SETUP_HOLD_CHK takes SETUP and HOLD, each once; neither is negative, and together they are at most the period'
+widths='    MIN_PULSE_CHK takes HIGH and LOW, each once; neither is negative, and each is at most the period'
 delays='    BUF takes a delay [a:b], 0 <= a <= b <= 4095, or two, [r:R, f:F], each at most 255'
 # two uses, of which the second alone is refused
 expanded '11 BadRange 4:1' 'MACRO M {W=4} ("A") -> ("Z");' 'b1 : BUF [0:0] ("A") -> ("B"<0:W-1>);' 'END;' 'DRAWING ROW;' \
     'u1 : M ("X") -> ("Y");' 'u2 : M {W=0} ("X") -> ("V");' 'END;'
-helps '    the range of "B" goes from 0 to -1, where W is 0' '    it is reached by u2 at 8:1'
+helps '    the range of "B" goes from 0 to -1, where W is 0' '    -1 is less than 0, by 1' '    it is reached by u2 at 8:1'
 # a parameter that is passed on
 expanded '11 BadRange 4:1' 'MACRO M {W=4} ("A") -> ("Z");' 'b1 : BUF [0:0] ("A") -> ("B"<W>);' 'END;' 'MACRO O {N=1} ("A") -> ("Z");' \
     'u : M {W=N-2} ("A") -> ("Z");' 'END;' 'DRAWING ROW;' 'o1 : O {N=3} ("X") -> ("Y");' 'o2 : O ("X") -> ("V");' 'END;'
 helps "    'M' is used only at 7:1:" '    u : M {W=N-2} ("A") -> ("Z");' '    ^' \
-    '    the bit of "B" is -1, where W is -1' '    it is reached by o2 at 11:1'
+    '    the bit of "B" is -1, where W is -1' '    -1 is less than 0, by 1' '    it is reached by o2 at 11:1'
 # the first turn of a FOR that is refused, and each name once
 expanded '11 BadRange 6:1' 'CONST W = 4;' 'DRAWING ROW;' 'FOR I = 0 TO 3 DO' 'b1 : BUF [0:0] ("A"<W-I*W+I>) -> ("X"<I>);' 'END;' 'END;'
-helps '    the bit of "A" is -2, where W is 4, I is 2'
+helps '    the bit of "A" is -2, where W is 4, I is 2' '    -2 is less than 0, by 2'
 # the head of a macro
 expanded '11 BadRange 7:1' 'MACRO M {N=1} ("A"<0:N>);' 'END;' 'DRAWING ROW;' 'u1 : M ("X"<0:1>);' 'u2 : M {N=256} ("X");' 'END;'
-helps '    the range of the formal "A" of M at 3:7 goes from 0 to 256, where N is 256'
+helps '    the range of the formal "A" of M at 3:7 goes from 0 to 256, where N is 256' \
+    '    a range has at most 256 bits, and this one has 257'
 expanded '11 BadRange 7:1' 'MACRO M {N=1} ("A"<N>);' 'END;' 'DRAWING ROW;' 'u1 : M ("X"<0>);' 'u2 : M {N=65536} ("X");' 'END;'
-helps '    the bit of the formal "A" of M at 3:7 is 65536, where N is 65536'
+helps '    the bit of the formal "A" of M at 3:7 is 65536, where N is 65536' '    65536 is more than 65535, by 1'
 # in a macro that uses itself N is 1 at the use that is refused, and 0 in the head of what it uses
 expanded '11 BadRange 4:1' 'MACRO M {N=1} ("A"<0:N-1>);' 'u : M {N=N/2} ("A"<0:N/2-1>);' 'END;' 'DRAWING ROW;' 'u1 : M {N=2} ("X"<0:1>);' 'END;'
-helps '    the range of the formal "A" of M at 3:7 goes from 0 to -1, where N is 0' '    at this use N is 1' '    it is reached by u1 at 7:1'
+helps '    the range of the formal "A" of M at 3:7 goes from 0 to -1, where N is 0' '    -1 is less than 0, by 1' \
+    '    at this use N is 1' '    it is reached by u1 at 7:1'
 # by a constant, given at the use or in the default
 expanded '11 BadRange 8:1' 'CONST HALF = 2;' 'MACRO PART {SIZE=4} ("CK", "D"<0:SIZE-1>);' 'END;' 'DRAWING ROW;' 'p : PART ("C", "A"<0:3>);' \
     'q : PART {SIZE=HALF-2} ("C", "A");' 'END;'
-helps '    the range of the formal "D" of PART at 4:7 goes from 0 to -1, where SIZE is 0' '    at this use HALF is 2'
+helps '    the range of the formal "D" of PART at 4:7 goes from 0 to -1, where SIZE is 0' '    -1 is less than 0, by 1' \
+    '    at this use HALF is 2'
 expanded '11 BadRange 7:1' 'CONST W = 0;' 'MACRO M {N=W} ("D"<0:N-1>);' 'END;' 'DRAWING ROW;' 'u : M ("A");' 'END;'
-helps '    the range of the formal "D" of M at 4:7 goes from 0 to -1, where N is 0'
+helps '    the range of the formal "D" of M at 4:7 goes from 0 to -1, where N is 0' '    -1 is less than 0, by 1'
 expanded '11 BadRange 5:1' 'CONST N = 65536;' 'DRAWING ROW;' 'WIRE "A"<N> 0:0;' 'END;'
-helps '    the bit of "A" is 65536, where N is 65536'
+helps '    the bit of "A" is 65536, where N is 65536' '    65536 is more than 65535, by 1'
 # delays under an IF, and in one macro for two uses
 expanded '14 Bounds 6:1' 'CONST D = 30;' 'DRAWING ROW;' 'IF D THEN' 'b1 : BUF [D:20] ("A") -> ("X");' 'ELSE' \
     'b2 : BUF [0:0] ("A") -> ("X");' 'END;' 'END;'
-helps "$delays" '    the delay is 30:20, where D is 30'
+helps "$delays" '    the delay is 30:20, where D is 30' '    the least, 30, is more than the greatest, 20'
 expanded '14 Bounds 4:1' 'MACRO M {D=1, E=2} ("A") -> ("Z");' 'b1 : BUF [D:E, 2*D:E+253] ("A") -> ("Z");' 'END;' 'DRAWING ROW;' \
     'u1 : M ("X") -> ("Y");' 'u2 : M {E=3} ("X") -> ("V");' 'END;'
-helps "$delays" '    the delays are 1:3 and 2:256, where D is 1, E is 3' '    it is reached by u2 at 8:1'
+helps "$delays" '    the delays are 1:3 and 2:256, where D is 1, E is 3' '    256 is more than 255, by 1' '    it is reached by u2 at 8:1'
 # limits and the bounds of wires
 expanded '14 Bounds 5:1' 'CONST T = 391;' 'DRAWING ROW;' 'c1 : SETUP_HOLD_CHK {SETUP=T, HOLD=10} ("CK", "D");' 'END;'
 helps '    SETUP_HOLD_CHK takes SETUP and HOLD, each once; neither is negative, and together they are at most the period' \
-    '    SETUP is 391, HOLD is 10, where T is 391'
+    '    SETUP is 391, HOLD is 10, where T is 391' '    401 is more than 400, by 1'
 expanded '14 Bounds 4:1' 'MACRO M {N=2} ("A");' 'WIRE "A" N:1;' 'END;' 'DRAWING ROW;' 'u : M {N=1} ("X");' 'v : M ("Y");' 'END;'
-helps '    WIRE "A" a:b has 0 <= a <= b <= 4095' '    the bounds are 2:1, where N is 2' '    it is reached by v at 8:1'
+helps '    WIRE "A" a:b has 0 <= a <= b <= 4095' '    the bounds are 2:1, where N is 2' \
+    '    the least, 2, is more than the greatest, 1' '    it is reached by v at 8:1'
+# the bound that is passed: by a sum, by one limit alone, by the second of two delays
+expanded '14 Bounds 5:1' 'CONST N = 300;' 'DRAWING ROW;' 'c1 : SETUP_HOLD_CHK {SETUP=N, HOLD=N} ("CK", "D");' 'END;'
+helps "$limits" '    SETUP is 300, HOLD is 300, where N is 300' '    600 is more than 400, by 200'
+expanded '14 Bounds 5:1' 'CONST N = 402;' 'DRAWING ROW;' 'c1 : SETUP_HOLD_CHK {HOLD=N-1, SETUP=N} ("CK", "D");' 'END;'
+helps "$limits" '    HOLD is 401, SETUP is 402, where N is 402' '    402 is more than 400, by 2'
+expanded '14 Bounds 5:1' 'CONST N = 410;' 'DRAWING ROW;' 'c1 : MIN_PULSE_CHK {HIGH=10, LOW=N} ("K");' 'END;'
+helps "$widths" '    HIGH is 10, LOW is 410, where N is 410' '    410 is more than 400, by 10'
+expanded '14 Bounds 5:1' 'CONST N = 20;' 'DRAWING ROW;' 'b1 : BUF [1:3, 30:N] ("A") -> ("X");' 'END;'
+helps "$delays" '    the delays are 1:3 and 30:20, where N is 20' '    the least, 30, is more than the greatest, 20'
+expanded '14 Bounds 5:1' 'CONST N = 2;' 'DRAWING ROW;' 'b1 : BUF [N-3:4096] ("A") -> ("X");' 'END;'
+helps "$delays" '    the delay is -1:4096, where N is 2' '    -1 is less than 0, by 1'
+# what is written in digits alone is told once, without its value
+expanded '14 Bounds 5:1' 'CONST N = 10;' 'DRAWING ROW;' 'c1 : SETUP_HOLD_CHK {SETUP=401, HOLD=N} ("CK", "D");' 'END;'
+helps "$limits" '    401 is more than 400, by 1' '    SETUP is 401, HOLD is 10, where N is 10'
+expanded '14 Bounds 5:1' 'CONST N = 3;' 'DRAWING ROW;' 'b1 : BUF [0:256, N:2] ("A") -> ("X");' 'END;'
+helps "$delays" '    256 is more than 255, by 1' '    the delays are 0:256 and 3:2, where N is 3' \
+    '    the least, 3, is more than the greatest, 2'
+# numbers with operators and without names
+drawing '14 Bounds 4:1' 'b : BUF [2*3:5] ("A") -> ("X");'
+helps "$delays" '    the delay is 6:5' '    the least, 6, is more than the greatest, 5'
+drawing '14 Bounds 4:1' 'b : BUF [0:0, 0:4095/16+1] ("A") -> ("X");'
+helps "$delays" '    the delays are 0:0 and 0:256' '    256 is more than 255, by 1'
+drawing '14 Bounds 4:1' 'c : SETUP_HOLD_CHK {SETUP=0-1, HOLD=10} ("CK", "D");'
+helps "$limits" '    SETUP is -1, HOLD is 10' '    -1 is less than 0, by 1'
+drawing '14 Bounds 4:1' 'WIRE "A" 0:4095+1;'
+helps '    WIRE "A" a:b has 0 <= a <= b <= 4095' '    the bounds are 0:4096' '    4096 is more than 4095, by 1'
+drawing '11 BadRange 4:1' 'b : BUF [0:0] ("A"<2*128:0>) -> ("X");'
+helps '    the range of "A" goes from 256 to 0' '    a range has at most 256 bits, and this one has 257'
+macro unexpanded '11 BadRange 4:1' 'MACRO M ("A"<0:1>) -> ("Z");' 'b : BUF [0:0] ("A"<1+1>) -> ("Z");' 'END;' 'DRAWING ROW;' \
+    'u : M ("B"<0:1>) -> ("X");' 'END;'
+helps "    'M' is used only at 7:1:" '    u : M ("B"<0:1>) -> ("X");' '    ^' \
+    '    "A" has bit 2 here, and the formal has 0 to 1'
+drawing '12 Width 4:1' 'b : BUF [0:0] ("A"<0:1+1>) -> ("X"<0:3>);'
+wide "$by_output" '    bits of the connections: ? -> 4' '    "A"<0:2> has 3 bits, and the output "X"<0:3> has 4'
 # bits that are none of a formal's: a range, one bit, digits alone, a constant
 expanded '11 BadRange 4:1' 'MACRO PART {SIZE=4} ("CK", "D"<0:SIZE-1>) -> ("Q"<0:SIZE-1>);' 'r : REG [8:15] ("CK", "D"<0:SIZE>) -> ("Q");' 'END;' \
     'DRAWING ROW;' 'p : PART ("C", "A"<0:3>) -> ("B"<0:3>);' 'END;'
