@@ -13,6 +13,7 @@ use Rattle.drawing_tree.specs.Tree.{Range, Named, Connection, Use, Wire, Stateme
 use Rattle.macro_expander.specs.Macros.{given_to, inside_of}
 use Rattle.macro_expander.specs.Flat.{setting_of}
 use Rattle.value_lines.specs.Lines.{bit_of, formal_text, quoted, range_of}
+use Rattle.value_lines.specs.Passed.{order_line}
 use Rattle.value_lines.specs.Sites.{top_site}
 use Rattle.value_help.specs.Found.{Search, ends, found, found_with, goes_on, in_statements, searching_at}
 
@@ -262,13 +263,13 @@ both = Some (Param (codes "LO"), Param (codes "HI"))
 delay_that_falls : found (out_of_bounds 4) (alone low_and_high (use_of (codes "BUF") 4 [] both None (signal None ∷ [])))
     ≡ codes "    the delay is 30:20, where LO is 30, HI is 20\n"
     ++ codes "    the least, 30, is more than the greatest, 20\n"
-unfolding found found_with searching_at digits
+unfolding found found_with searching_at order_line digits
 delay_that_falls = refl
 
 two_delays : found (out_of_bounds 4) (alone low_and_high (use_of (codes "BUF") 4 [] (Some (number 1, number 2)) both (signal None ∷ [])))
     ≡ codes "    the delays are 1:2 and 30:20, where LO is 30, HI is 20\n"
     ++ codes "    the least, 30, is more than the greatest, 20\n"
-unfolding found found_with searching_at digits
+unfolding found found_with searching_at order_line digits
 two_delays = refl
 
 limit_past_the_period :
@@ -288,7 +289,7 @@ wire_that_falls :
       place = at 4;
     }))) ≡ codes "    the bounds are 30:20, where LO is 30, HI is 20\n"
     ++ codes "    the least, 30, is more than the greatest, 20\n"
-unfolding found found_with searching_at digits
+unfolding found found_with searching_at order_line digits
 wire_that_falls = refl
 
 -- a checker may have no delay, so its values are not what is wrong

@@ -1,12 +1,11 @@
 -- Where parts of statements stand whose lines are computed.
-use Rattle.std.proofs.Common.{ℕ, pos, Bool, true, false, List, [], ◌∷◌, Option, Some, None}
+use Rattle.std.proofs.Common.{ℕ, pos, Bool, false, List, [], ◌∷◌, Option, Some, None}
 use Rattle.std.specs.Prelude.{codes}
 use Rattle.scald_base.specs.declared.assertion.AssertSpec.TheVariants.{None as Unasserted}
 use Rattle.assertion_syntax.specs.declared.name.SignalName.{SignalName}
 use Rattle.scald_expr.specs.Expression.{Expression, Number, Param}
 use Rattle.scald_expr.specs.declared.environment.Binding.{Binding}
-use Rattle.drawing_tree.specs.Tree.{Range, Formal}
-use Rattle.macro_expander.specs.Terms.{Bound}
+use Rattle.drawing_tree.specs.Tree.{Range}
 use Rattle.value_lines.specs.Sites.{Site}
 
 abbrev pub bound_to : List ℕ → ℕ → Binding

@@ -8,7 +8,7 @@ use Rattle.scald_expr.specs.Expression.{Expression, Param, Negate, Binary}
 use Rattle.element_kinds.specs.declared.form.Check.TheVariants.{SetupHold}
 use Rattle.drawing_tree.specs.Tree.{Assignment, UseStatement}
 use Rattle.value_lines.specs.Lines.{bit_of, line, quoted, told_in_use}
-use Rattle.value_lines.specs.Passed.{pair_passed, passed_line, range_passed}
+use Rattle.value_lines.specs.Passed.{order_line, pair_passed, passed_line, range_passed}
 use Rattle.value_lines.specs.Plain.{is_plain_given, is_plain_written}
 use Rattle.value_lines.specs.Sites.{head_formal}
 use Rattle.value_lines.specs.Ranges.{ends_in, is_outside, named_told, strays}
@@ -138,13 +138,13 @@ less_than_none = refl
 
 out_of_order : passed_line (pair_passed 4095 (pos 30, pos 20))
     ≡ codes "    the least, 30, is more than the greatest, 20\n"
-unfolding digits
+unfolding order_line digits
 out_of_order = refl
 
 -- the greatest alone is below 0
 order_before_below : passed_line (pair_passed 4095 (pos 3, negsuc 1))
     ≡ codes "    the least, 3, is more than the greatest, -2\n"
-unfolding digits
+unfolding order_line digits
 order_before_below = refl
 
 one_too_long : passed_line (pair_passed 255 (pos 1, pos 256)) ≡ codes "    256 is more than 255, by 1\n"
@@ -154,7 +154,7 @@ one_too_long = refl
 -- out of order and too long
 order_before_length : passed_line (pair_passed 255 (pos 257, pos 256))
     ≡ codes "    the least, 257, is more than the greatest, 256\n"
-unfolding digits
+unfolding order_line digits
 order_before_length = refl
 
 delay_within : pair_passed 4095 (pos 0, pos 4095) ≡ None
@@ -236,7 +236,7 @@ use_with delay fall = record {
 
 told_of_a_delay : delays_told [] (use_with (Binary Mul (number 2) (number 3), number 5) None)
     ≡ Some (codes "    the delay is 6:5\n    the least, 6, is more than the greatest, 5\n")
-unfolding digits
+unfolding order_line digits
 told_of_a_delay = refl
 
 delay_in_digits : delays_told [] (use_with (number 6, number 5) None) ≡ Some []
@@ -246,7 +246,7 @@ delay_in_digits = refl
 told_of_the_second : delays_told (bound_to (codes "N") 3 ∷ [])
     (use_with (number 0, number 256) (Some (Param (codes "N"), number 2)))
     ≡ Some (codes "    the delays are 0:256 and 3:2, where N is 3\n    the least, 3, is more than the greatest, 2\n")
-unfolding digits
+unfolding order_line digits
 told_of_the_second = refl
 
 delay_that_is_right : delays_told [] (use_with (Negate (number 0), number 5) None) ≡ None

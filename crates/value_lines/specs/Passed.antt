@@ -1,8 +1,9 @@
 -- Which bound a value passes, and by how much.
-use Rattle.std.specs.Prelude.{ℕ, ◌+◌, ◌-◌, ℤ, pos, negsuc, int_lt, unsigned_abs, Bool, false, ◌&&◌, nat_le, List, [], ◌++◌, Option, Some, None, if◌then◌else◌, codes}
-use Rattle.std.specs.Fmt.{decimal, signed_decimal}
+use Rattle.std.specs.Prelude.{ℕ, suc, ◌+◌, ◌-◌, ℤ, pos, negsuc, int_lt, nat_le, List, [], ◌∷◌, Option, Some, None, if◌then◌else◌, codes, decimal}
+use Rattle.std.specs.Fmt.{signed_decimal}
 use Rattle.std.specs.Int.{abs_diff}
 use Rattle.std.specs.Option.{option_or}
+use Rattle.help_text.specs.Text.{line}
 use Rattle.vector_names.specs.Bits.{greatest_number, widest}
 use Rattle.value_lines.specs.declared.passed.Passed.{Passed}
 use Rattle.value_lines.specs.declared.passed.Passed.TheVariants.{Below, Over, Order, Wide}
@@ -10,42 +11,39 @@ use Rattle.value_lines.specs.declared.passed.Passed.TheVariants.{Below, Over, Or
 -- ---- in which words
 
 -- `-1 is less than 0, by 1`
-abbrev pub below_text : ℤ → List ℕ
-below_text n = signed_decimal n ++ codes " is less than 0, by " ++ decimal (unsigned_abs n)
+abbrev pub below_line : ℕ → List ℕ
+below_line by = line (codes "    -" ∷ decimal by ∷ codes " is less than 0, by " ∷ decimal by ∷ [])
 
 -- `401 is more than 400, by 1`
-abbrev pub over_text : ℕ → ℕ → List ℕ
-over_text n most =
-    decimal n ++ codes " is more than " ++ decimal most ++ codes ", by " ++ decimal (n - most)
+abbrev pub over_line : ℕ → ℕ → ℕ → List ℕ
+over_line n most by =
+    line (codes "    " ∷ decimal n ∷ codes " is more than " ∷ decimal most ∷ codes ", by " ∷ decimal by ∷ [])
 
 -- `the least, 30, is more than the greatest, 20`
-abbrev pub order_text : ℤ → ℤ → List ℕ
-order_text least greatest =
-    codes "the least, " ++ signed_decimal least ++ codes ", is more than the greatest, " ++ signed_decimal greatest
+unfoldable pub order_line : List ℕ → List ℕ → List ℕ
+order_line least greatest =
+    line (codes "    the least, " ∷ least ∷ codes ", is more than the greatest, " ∷ greatest ∷ [])
 
 -- `a range has at most 256 bits, and this one has 257`
-abbrev pub wide_text : ℕ → List ℕ
-wide_text bits = codes "a range has at most 256 bits, and this one has " ++ decimal bits
-
-abbrev pub passed_text : Passed → List ℕ
-passed_text (Below n) = below_text n
-passed_text (Over n most) = over_text n most
-passed_text (Order least greatest) = order_text least greatest
-passed_text (Wide bits) = wide_text bits
+abbrev pub wide_line : ℕ → List ℕ
+wide_line bits = line (codes "    a range has at most 256 bits, and this one has " ∷ decimal bits ∷ [])
 
 -- a line of its own, where a bound is passed
 abbrev pub passed_line : Option Passed → List ℕ
 passed_line None = []
-passed_line (Some passed) = codes "    " ++ passed_text passed ++ codes "\n"
+passed_line (Some (Below by)) = below_line by
+passed_line (Some (Over n most by)) = over_line n most by
+passed_line (Some (Order least greatest)) = order_line (signed_decimal least) (signed_decimal greatest)
+passed_line (Some (Wide bits)) = wide_line bits
 
 -- ---- one number
 
 abbrev pub below : ℤ → Option Passed
 below (pos n) = None
-below (negsuc n) = Some (Below (negsuc n))
+below (negsuc n) = Some (Below (suc n))
 
 abbrev pub over : ℕ → ℤ → Option Passed
-over most (pos n) = if nat_le n most then None else Some (Over n most)
+over most (pos n) = if nat_le n most then None else Some (Over n most (n - most))
 over most (negsuc n) = None
 
 -- ---- delays and wires

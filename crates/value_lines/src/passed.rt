@@ -1,8 +1,10 @@
 //! Which bound a value passes, and by how much.
 
 ghost use Rattle.std.specs.Prelude.{◌≡◌, ◌++◌, OnOk};
-ghost use Rattle.value_lines.specs.Passed.{below as spec_below, below_text, number_passed as spec_number_passed, order as spec_order, order_text, over as spec_over, over_text, pair_passed as spec_pair_passed, passed_line, passed_text, range_passed as spec_range_passed, wide as spec_wide, wide_text};
+ghost use Rattle.std.specs.Fmt.{signed_decimal};
+ghost use Rattle.value_lines.specs.Passed.{below as spec_below, below_line, number_passed as spec_number_passed, order as spec_order, order_line, over as spec_over, over_line, pair_passed as spec_pair_passed, passed_line, range_passed as spec_range_passed, wide as spec_wide, wide_line};
 
+use help_text::{Part, add_line};
 use itoa::Buffer;
 use scald_base::{Bytes, NoMemory};
 
@@ -15,10 +17,10 @@ const WIDEST: u64 = 256;
 /// A bound that is passed.
 #[derive(Clone, Copy)]
 pub enum Passed {
-    /// By a number that is below 0.
-    Below(i64),
-    /// By a number that is more than the most that it may be.
-    Over(u64, u16),
+    /// By a number that is so far below 0.
+    Below(u64),
+    /// By a number that is more than the most that it may be, and by how much.
+    Over(u64, u64, u64),
     /// By the least of two numbers, since the greatest is less.
     Order(i64, i64),
     /// By the bits of a range, which has too many.
@@ -27,50 +29,74 @@ pub enum Passed {
 
 // ---- in which words
 
-fn add_below(out: &mut Bytes, number: i64) -> Result<(), NoMemory>
-    ensures { OnOk result (out.new ≡ out.old ++ below_text number) }
+fn add_below(out: &mut Bytes, by: u64) -> Result<(), NoMemory>
+    ensures { OnOk result (out.new ≡ out.old ++ below_line by) }
 {
-    out.extend(Buffer::new().format(number).as_bytes())?;
-    out.extend(b" is less than 0, by ")?;
-    out.extend(Buffer::new().format(number.unsigned_abs()).as_bytes())
+    add_line(
+        out,
+        &[
+            Part::Text(b"    -"),
+            Part::Number(by),
+            Part::Text(b" is less than 0, by "),
+            Part::Number(by),
+        ],
+    )
 }
 
-fn add_over(out: &mut Bytes, number: u64, most: u16) -> Result<(), NoMemory>
-    ensures { OnOk result (out.new ≡ out.old ++ over_text number most) }
+fn add_over(out: &mut Bytes, number: u64, most: u64, by: u64) -> Result<(), NoMemory>
+    ensures { OnOk result (out.new ≡ out.old ++ over_line number most by) }
 {
-    out.extend(Buffer::new().format(number).as_bytes())?;
-    out.extend(b" is more than ")?;
-    out.extend(Buffer::new().format(most).as_bytes())?;
-    out.extend(b", by ")?;
-    let by = number.saturating_sub(u64::from(most));
-    out.extend(Buffer::new().format(by).as_bytes())
+    add_line(
+        out,
+        &[
+            Part::Text(b"    "),
+            Part::Number(number),
+            Part::Text(b" is more than "),
+            Part::Number(most),
+            Part::Text(b", by "),
+            Part::Number(by),
+        ],
+    )
+}
+
+#[tactic(auto, unfolding(crate::specs::Passed::order_line))]
+fn add_order_of<'a>(out: &mut Bytes, least: &'a [u8], greatest: &'a [u8]) -> Result<(), NoMemory>
+    ensures { OnOk result (out.new ≡ out.old ++ order_line least.now greatest.now) }
+{
+    add_line(
+        out,
+        &[
+            Part::Text(b"    the least, "),
+            Part::Text(least),
+            Part::Text(b", is more than the greatest, "),
+            Part::Text(greatest),
+        ],
+    )
 }
 
 fn add_order(out: &mut Bytes, least: i64, greatest: i64) -> Result<(), NoMemory>
-    ensures { OnOk result (out.new ≡ out.old ++ order_text least greatest) }
+    ensures { OnOk result (out.new
+        ≡ out.old ++ order_line (signed_decimal least) (signed_decimal greatest)) }
 {
-    out.extend(b"the least, ")?;
-    out.extend(Buffer::new().format(least).as_bytes())?;
-    out.extend(b", is more than the greatest, ")?;
-    out.extend(Buffer::new().format(greatest).as_bytes())
+    let mut first = Buffer::new();
+    let mut second = Buffer::new();
+    add_order_of(
+        out,
+        first.format(least).as_bytes(),
+        second.format(greatest).as_bytes(),
+    )
 }
 
 fn add_wide(out: &mut Bytes, bits: u64) -> Result<(), NoMemory>
-    ensures { OnOk result (out.new ≡ out.old ++ wide_text bits) }
+    ensures { OnOk result (out.new ≡ out.old ++ wide_line bits) }
 {
-    out.extend(b"a range has at most 256 bits, and this one has ")?;
-    out.extend(Buffer::new().format(bits).as_bytes())
-}
-
-fn add_text(out: &mut Bytes, passed: Passed) -> Result<(), NoMemory>
-    ensures { OnOk result (out.new ≡ out.old ++ passed_text passed) }
-{
-    match passed {
-        Passed::Below(number) => add_below(out, number),
-        Passed::Over(number, most) => add_over(out, number, most),
-        Passed::Order(least, greatest) => add_order(out, least, greatest),
-        Passed::Wide(bits) => add_wide(out, bits),
-    }
+    add_line(
+        out,
+        &[
+            Part::Text(b"    a range has at most 256 bits, and this one has "),
+            Part::Number(bits),
+        ],
+    )
 }
 
 /// Puts a line of its own at the end, where a bound is passed.
@@ -79,11 +105,10 @@ pub fn add_passed(out: &mut Bytes, passed: Option<Passed>) -> Result<(), NoMemor
 {
     match passed {
         None => Ok(()),
-        Some(passed) => {
-            out.extend(b"    ")?;
-            add_text(out, passed)?;
-            out.extend(b"\n")
-        }
+        Some(Passed::Below(by)) => add_below(out, by),
+        Some(Passed::Over(number, most, by)) => add_over(out, number, most, by),
+        Some(Passed::Order(least, greatest)) => add_order(out, least, greatest),
+        Some(Passed::Wide(bits)) => add_wide(out, bits),
     }
 }
 
@@ -93,7 +118,7 @@ pub fn below(number: i64) -> Option<Passed>
     ensures { result ≡ spec_below number }
 {
     if number < 0 {
-        return Some(Passed::Below(number));
+        return Some(Passed::Below(number.unsigned_abs()));
     }
     None
 }
@@ -103,7 +128,9 @@ pub fn over(most: u16, number: i64) -> Option<Passed>
     ensures { result ≡ spec_over most number }
 {
     if i64::from(most) < number {
-        return Some(Passed::Over(number as u64, most));
+        let number = number as u64;
+        let most = u64::from(most);
+        return Some(Passed::Over(number, most, number - most));
     }
     None
 }
