@@ -15,8 +15,8 @@ use macro_expander::range::written_ends;
 use scald_base::{Bytes, NoMemory};
 use scald_expr::{Binding, Env};
 use std::alloc::Global;
-use value_lines::line::{add_first, add_pair, add_quoted, add_where};
 use value_lines::Site;
+use value_lines::line::{add_first, add_pair, add_quoted, add_where};
 
 fn add_bits(out: &mut Bytes, goes: bool, ends: (i64, i64)) -> Result<(), NoMemory>
     ensures { OnOk result (out.new ≡ out.old ++ bits_text goes ends) }
@@ -83,7 +83,12 @@ fn add_count(out: &mut Bytes, count: usize) -> Result<(), NoMemory>
 }
 
 /// Puts a connection, and how many bits it has, at the end.
-pub fn add_given(out: &mut Bytes, alloc: Global, site: &Site, connection: &Conn) -> Result<(), NoMemory>
+pub fn add_given(
+    out: &mut Bytes,
+    alloc: Global,
+    site: &Site,
+    connection: &Conn,
+) -> Result<(), NoMemory>
     ensures { OnOk result (out.new ≡ out.old
         ++ spec_given_text (seen_site site.now) (connection_of connection.now)) }
 {
