@@ -3,7 +3,6 @@ use Rattle.std.proofs.Common.{◌≡◌, ◌≢◌, ℕ, suc, zero, ◌-◌, tru
 use Rattle.std.specs.Prelude.{is_some}
 use Rattle.std.specs.Result.{result_ok}
 use Rattle.scald_base.specs.declared.refusal.Refusal.{Refusal}
-use Rattle.scald_expr.specs.declared.environment.Binding.{Binding}
 use Rattle.element_kinds.specs.declared.kind.Kind.{Kind}
 use Rattle.element_kinds.specs.Kinds.{kind_of}
 use Rattle.drawing_tree.specs.Tree.{UseStatement, Macro}
