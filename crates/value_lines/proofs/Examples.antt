@@ -1,5 +1,5 @@
 -- Parts of statements, and what is told of them where they stand.
-use Rattle.std.proofs.Common.{◌≡◌, ℕ, ℤ, pos, negsuc, true, false, List, [], ◌∷◌, Option, Some, None, refl}
+use Rattle.std.proofs.Common.{◌≡◌, ℕ, ℤ, pos, negsuc, true, false, List, [], ◌∷◌, ◌++◌, Option, Some, None, refl}
 use Rattle.std.specs.Prelude.{codes}
 use Rattle.std.specs.Fmt.{digits}
 use Rattle.scald_expr.specs.declared.environment.Binding.{Binding}
@@ -18,7 +18,8 @@ use Rattle.value_lines.proofs.Body.{bit, body, bound_to, local, named, number, r
 
 -- ---- formals
 
-formal_that_is_meant : head_formal body (local (codes "Z")) ≡ Some (record { base = codes "Z"; range = None })
+formal_that_is_meant : head_formal body (local (codes "Z"))
+    ≡ Some (record { base = codes "Z"; range = None })
 formal_that_is_meant = refl
 
 global_name : head_formal body (named true (codes "Z")) ≡ None
@@ -119,7 +120,8 @@ abbrev assigned : List ℕ → Expression → Assignment
 assigned name e = record { name = name; value = e }
 
 abbrev setup_alone : List Assignment
-setup_alone = assigned (codes "SETUP") (Param (codes "N")) ∷ assigned (codes "HOLD") (number 10) ∷ []
+setup_alone =
+    assigned (codes "SETUP") (Param (codes "N")) ∷ assigned (codes "HOLD") (number 10) ∷ []
 
 hold_in_digits : is_plain_given setup_alone (codes "HOLD") ≡ true
 hold_in_digits = refl
@@ -132,7 +134,8 @@ not_given = refl
 
 -- ---- the bound that is passed
 
-less_than_none : passed_line (pair_passed 4095 (negsuc 0, pos 5)) ≡ codes "    -1 is less than 0, by 1\n"
+less_than_none : passed_line (pair_passed 4095 (negsuc 0, pos 5))
+    ≡ codes "    -1 is less than 0, by 1\n"
 unfolding digits
 less_than_none = refl
 
@@ -147,7 +150,8 @@ order_before_below : passed_line (pair_passed 4095 (pos 3, negsuc 1))
 unfolding order_line digits
 order_before_below = refl
 
-one_too_long : passed_line (pair_passed 255 (pos 1, pos 256)) ≡ codes "    256 is more than 255, by 1\n"
+one_too_long : passed_line (pair_passed 255 (pos 1, pos 256))
+    ≡ codes "    256 is more than 255, by 1\n"
 unfolding digits
 one_too_long = refl
 
@@ -160,11 +164,13 @@ order_before_length = refl
 delay_within : pair_passed 4095 (pos 0, pos 4095) ≡ None
 delay_within = refl
 
-past_the_last_bit : passed_line (range_passed (pos 0, pos 65536)) ≡ codes "    65536 is more than 65535, by 1\n"
+past_the_last_bit : passed_line (range_passed (pos 0, pos 65536))
+    ≡ codes "    65536 is more than 65535, by 1\n"
 unfolding digits
 past_the_last_bit = refl
 
-first_below : passed_line (range_passed (negsuc 4, pos 65536)) ≡ codes "    -5 is less than 0, by 5\n"
+first_below : passed_line (range_passed (negsuc 4, pos 65536))
+    ≡ codes "    -5 is less than 0, by 5\n"
 unfolding digits
 first_below = refl
 
@@ -180,7 +186,8 @@ as_many_as_may_be = refl
 
 abbrev values : ℤ → ℤ → List Binding
 values setup hold =
-    record { name = codes "SETUP"; value = setup } ∷ record { name = codes "HOLD"; value = hold } ∷ []
+    record { name = codes "SETUP"; value = setup }
+    ∷ record { name = codes "HOLD"; value = hold } ∷ []
 
 abbrev both_by_names : List Assignment
 both_by_names =
@@ -190,15 +197,18 @@ abbrev limits_told_of : List Assignment → ℤ → ℤ → List ℕ
 limits_told_of params setup hold =
     passed_line (check_passed 400 (Some SetupHold) (limit_of params (values setup hold)))
 
-sum_of_both : limits_told_of both_by_names (pos 300) (pos 300) ≡ codes "    600 is more than 400, by 200\n"
+sum_of_both : limits_told_of both_by_names (pos 300) (pos 300)
+    ≡ codes "    600 is more than 400, by 200\n"
 unfolding digits
 sum_of_both = refl
 
-one_alone : limits_told_of both_by_names (pos 401) (pos 402) ≡ codes "    401 is more than 400, by 1\n"
+one_alone : limits_told_of both_by_names (pos 401) (pos 402)
+    ≡ codes "    401 is more than 400, by 1\n"
 unfolding digits
 one_alone = refl
 
-below_before_past : limits_told_of both_by_names (pos 401) (negsuc 0) ≡ codes "    -1 is less than 0, by 1\n"
+below_before_past : limits_told_of both_by_names (pos 401) (negsuc 0)
+    ≡ codes "    -1 is less than 0, by 1\n"
 unfolding digits
 below_before_past = refl
 
@@ -207,15 +217,19 @@ past_in_digits : check_passed 400 (Some SetupHold)
     (limit_of (assigned (codes "HOLD") (number 401) ∷ []) (values (pos 0) (pos 401))) ≡ None
 past_in_digits = refl
 
-both_within : check_passed 400 (Some SetupHold) (limit_of both_by_names (values (pos 200) (pos 200))) ≡ None
+both_within :
+    check_passed 400 (Some SetupHold) (limit_of both_by_names (values (pos 200) (pos 200)))
+    ≡ None
 both_within = refl
 
 -- HIGH and LOW have no sum
-each_within : each_passed 400 (record { value = pos 400; is_plain = false }) (record { value = pos 400; is_plain = false })
+each_within : each_passed 400 (record { value = pos 400; is_plain = false })
+    (record { value = pos 400; is_plain = false })
     ≡ None
 each_within = refl
 
-low_past : passed_line (each_passed 400 (record { value = pos 0; is_plain = true }) (record { value = pos 403; is_plain = false }))
+low_past : passed_line (each_passed 400 (record { value = pos 0; is_plain = true })
+    (record { value = pos 403; is_plain = false }))
     ≡ codes "    403 is more than 400, by 3\n"
 unfolding digits
 low_past = refl
@@ -245,7 +259,8 @@ delay_in_digits = refl
 -- the first delay is in digits, and its bound is not told again
 told_of_the_second : delays_told (bound_to (codes "N") 3 ∷ [])
     (use_with (number 0, number 256) (Some (Param (codes "N"), number 2)))
-    ≡ Some (codes "    the delays are 0:256 and 3:2, where N is 3\n    the least, 3, is more than the greatest, 2\n")
+    ≡ Some (codes "    the delays are 0:256 and 3:2, where N is 3\n"
+    ++ codes "    the least, 3, is more than the greatest, 2\n")
 unfolding order_line digits
 told_of_the_second = refl
 

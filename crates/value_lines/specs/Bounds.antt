@@ -31,7 +31,8 @@ split_passed plain delay = if plain then None else pair_passed longest_split del
 abbrev pub delays_passed : UseStatement → ℤ × ℤ → Option (ℤ × ℤ) → Option Passed
 delays_passed u delay None = pair_passed longest_delay delay
 delays_passed u rise (Some fall) =
-    option_or (split_passed (is_plain_delay u.delay) rise) (split_passed (is_plain_delay (fall_of u)) fall)
+    option_or (split_passed (is_plain_delay u.delay) rise)
+    (split_passed (is_plain_delay (fall_of u)) fall)
 
 abbrev pub delays_lines : List Binding → UseStatement → ℤ × ℤ → Option (ℤ × ℤ) → List ℕ
 delays_lines env u delay fall =
@@ -39,7 +40,8 @@ delays_lines env u delay fall =
     (bound_lines (delays_text delay fall) (named_in_delays env u) (delays_passed u delay fall))
 
 -- delays that are out of their bounds
-abbrev pub unless_delays : {A : Type 0} → List Binding → UseStatement → ℤ × ℤ → Option (ℤ × ℤ) → Judged A → Said
+abbrev pub unless_delays : {A : Type 0} → List Binding → UseStatement → ℤ × ℤ → Option (ℤ × ℤ) →
+    Judged A → Said
 unless_delays env u delay fall (Ok a) = None
 unless_delays env u delay fall (Err kind) = Some (delays_lines env u delay fall)
 
@@ -60,7 +62,8 @@ delays_told env u = with_delay env u (written_delay env u.delay)
 abbrev pub limits_lines : ℕ → Kind → List Binding → List Assignment → List Binding → List ℕ
 limits_lines ticks kind env params given =
     unless_plain (are_plain_values params)
-    (bound_lines (values_text given) (named_in_params env [] params) (limits_passed ticks kind params given))
+    (bound_lines (values_text given) (named_in_params env [] params)
+    (limits_passed ticks kind params given))
 
 -- limits that are out of their bounds
 abbrev pub unless_limits : {A : Type 0} → List ℕ → Judged A → Said

@@ -27,7 +27,8 @@ past period limit = if limit.is_plain then None else over period limit.value
 -- neither is negative, and each is at most the period
 abbrev pub each_passed : ℕ → Limit → Limit → Option Passed
 each_passed period a b =
-    option_or (below a.value) (option_or (below b.value) (option_or (past period a) (past period b)))
+    option_or (below a.value) (option_or (below b.value)
+    (option_or (past period a) (past period b)))
 
 -- the sum of two that are each within the period
 abbrev pub sum_passed : ℕ → ℤ → ℤ → Option Passed

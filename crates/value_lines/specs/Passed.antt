@@ -17,7 +17,8 @@ below_line by = line (codes "    -" ∷ decimal by ∷ codes " is less than 0, b
 -- `401 is more than 400, by 1`
 abbrev pub over_line : ℕ → ℕ → ℕ → List ℕ
 over_line n most by =
-    line (codes "    " ∷ decimal n ∷ codes " is more than " ∷ decimal most ∷ codes ", by " ∷ decimal by ∷ [])
+    line (codes "    " ∷ decimal n ∷ codes " is more than " ∷ decimal most
+    ∷ codes ", by " ∷ decimal by ∷ [])
 
 -- `the least, 30, is more than the greatest, 20`
 unfoldable pub order_line : List ℕ → List ℕ → List ℕ
@@ -26,14 +27,16 @@ order_line least greatest =
 
 -- `a range has at most 256 bits, and this one has 257`
 abbrev pub wide_line : ℕ → List ℕ
-wide_line bits = line (codes "    a range has at most 256 bits, and this one has " ∷ decimal bits ∷ [])
+wide_line bits =
+    line (codes "    a range has at most 256 bits, and this one has " ∷ decimal bits ∷ [])
 
 -- a line of its own, where a bound is passed
 abbrev pub passed_line : Option Passed → List ℕ
 passed_line None = []
 passed_line (Some (Below by)) = below_line by
 passed_line (Some (Over n most by)) = over_line n most by
-passed_line (Some (Order least greatest)) = order_line (signed_decimal least) (signed_decimal greatest)
+passed_line (Some (Order least greatest)) =
+    order_line (signed_decimal least) (signed_decimal greatest)
 passed_line (Some (Wide bits)) = wide_line bits
 
 -- ---- one number

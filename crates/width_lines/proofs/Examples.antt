@@ -33,10 +33,14 @@ each_once = refl
 formal_with_a_name : are_plain_terms body (signal (codes "A") None ∷ []) ≡ false
 formal_with_a_name = refl
 
-formal_without_a_range : are_plain_terms body (signal (codes "Z") None ∷ record { minus = true; item = Zero } ∷ []) ≡ true
+formal_without_a_range :
+    are_plain_terms body (signal (codes "Z") None ∷ record { minus = true; item = Zero } ∷ [])
+    ≡ true
 formal_without_a_range = refl
 
-range_with_an_operator : are_plain_terms body (signal (codes "B") (range (number 0) (Negate (number 1))) ∷ []) ≡ false
+range_with_an_operator :
+    are_plain_terms body (signal (codes "B") (range (number 0) (Negate (number 1))) ∷ [])
+    ≡ false
 range_with_an_operator = refl
 
 -- ---- two parts
@@ -84,12 +88,16 @@ told_of_an_output : pair_told false body head (codes "FILE") eight (joined (sign
 unfolding quoted digits
 told_of_an_output = refl
 
-spread_over_a_formal : pair_told true body head (codes "FILE") eight (joined (signal (codes "B") None ∷ [])) ≡ None
+spread_over_a_formal :
+    pair_told true body head (codes "FILE") eight (joined (signal (codes "B") None ∷ []))
+    ≡ None
 unfolding quoted digits
 spread_over_a_formal = refl
 
 -- `"A" & "B"<0:W>`, of 9 bits, is not too wide
-nine_bits : wide_told body (joined (signal (codes "A") None ∷ signal (codes "B") (range (number 0) (Param (codes "W"))) ∷ [])) ≡ None
+nine_bits :
+    wide_told body (joined (signal (codes "A") None ∷ signal (codes "B") (range (number 0) (Param (codes "W"))) ∷ []))
+    ≡ None
 unfolding quoted digits
 nine_bits = refl
 
@@ -109,7 +117,8 @@ input_and_widest : by_widest_told body (four ∷ five ∷ [])
 unfolding quoted digits
 input_and_widest = refl
 
-one_width : by_output_told body (four ∷ joined (signal (codes "Z") None ∷ []) ∷ []) (four ∷ []) ≡ None
+one_width : by_output_told body (four ∷ joined (signal (codes "Z") None ∷ []) ∷ []) (four ∷ [])
+    ≡ None
 unfolding quoted digits
 one_width = refl
 
