@@ -1241,6 +1241,10 @@ helps '    "Q" has bit 4 here, and the formal has 0 to 3, where SIZE is 4' '    
 macro unexpanded '11 BadRange 4:1' 'MACRO M {N=4} ("A") -> ("Z"<N-1:0>);' 'b : BUF [0:0] ("A") -> ("Z"<4>);' 'END;' 'DRAWING ROW;' \
     'u1 : M ("X") -> ("Y"<0:3>);' 'u2 : M ("X") -> ("V"<0:3>);' 'END;'
 helps '    "Z" has bit 4 here, and the formal has 3 to 0, where N is 4' '    it is reached by u1 at 7:1'
+# (a use before it would be refused at the same place, for two drivers)
+macro unexpanded '11 BadRange 4:1' 'MACRO M {N=1} ("A"<0:1>) -> ("Z"<0:1>);' 'b : BUF [0:0] ("A"<0:N>) -> ("Z");' 'END;' 'DRAWING ROW;' \
+    'u : M ("A"<0:1>) -> ("X" & "X");' 'v : M {N=0} ("A"<0:1>) -> ("Y"<0:1>);' 'w : M {N=2} ("A"<0:1>) -> ("V"<0:1>);' 'END;'
+helps '    "A" goes from 0 to 2, and the formal has 0 to 1, where N is 2' '    it is reached by w at 9:1'
 expanded '11 BadRange 5:1' 'CONST WIDTH = 8;' 'MACRO M ("R"<0:7>);' 'WIRE "R"<0:WIDTH> 0:0;' 'END;' 'DRAWING ROW;' 'u : M ("X");' 'v : M ("Y");' 'END;'
 helps '    "R" goes from 0 to 8, and the formal has 0 to 7, where WIDTH is 8' '    it is reached by u at 8:1'
 macro unexpanded '11 BadRange 4:1' 'MACRO M {N=1} ("A") -> ("Z");' 'b : BUF [0:0] ("A"<N>) -> ("Z");' 'END;' 'DRAWING ROW;' \

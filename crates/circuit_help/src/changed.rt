@@ -107,9 +107,9 @@ fn change_for(kind: RefusalKind) -> Option<Change> {
     }
 }
 
-/// What a text draws in which the use at a place is changed, and then others for which it is refused;
-/// nothing where that is no circuit. The uses are found by these tokens, and the places of those that are
-/// changed are kept.
+/// What a text draws in which the use at a place is changed, and then others for which it is
+/// refused; nothing where that is no circuit. The uses are found by these tokens, and the places of
+/// those that are changed are kept.
 pub fn drawn_with(
     alloc: Global,
     text: &[u8],

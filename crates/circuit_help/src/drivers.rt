@@ -42,9 +42,9 @@ fn is_taken(marks: &mut [bool], target: Target) -> bool {
     }
 }
 
-/// The number of the first instance of the statement at the place that drives a constant, or a net that
-/// one before it drives, where the uses at these places are changed. What is found here is not relied
-/// on: [`add_refused`] looks whether it is so.
+/// The number of the first instance of the statement at the place that drives a constant, or a net
+/// that one before it drives, where the uses at these places are changed. What is found here is not
+/// relied on: [`add_refused`] looks whether it is so.
 fn refused_at(
     alloc: Global,
     c: &Circuit,
@@ -117,8 +117,9 @@ fn add_refused(
     }
 }
 
-/// What is told by a circuit in which the statement at the place is a checker, and the uses at these places
-/// are changed: that it drives a constant, or which instance drives before what it drives.
+/// What is told by a circuit in which the statement at the place is a checker, and the uses at
+/// these places are changed: that it drives a constant, or which instance drives before what it
+/// drives.
 fn told(alloc: Global, c: &Circuit, places: &[Place], place: Place) -> Result<Bytes, NoMemory>
     ensures { IfOk result (IsToldOf c.now places.now place []) }
 {
@@ -143,8 +144,8 @@ fn by_tokens(alloc: Global, text: &[u8], tokens: &[Token], place: Place) -> Resu
 }
 
 /// Of a text in which the output of the use at a place is a constant or driven before: what it is,
-/// and what drives it first, as far as the circuit without the use tells it. Other uses for which that
-/// text is refused are changed too. The one error is that memory ran out.
+/// and what drives it first, as far as the circuit without the use tells it. Other uses for which
+/// that text is refused are changed too. The one error is that memory ran out.
 pub fn explain_drivers(alloc: Global, text: &[u8], place: Place) -> Result<Bytes, NoMemory>
     requires { length text.now < 2 ^ 32 - 1 }
     ensures { IfOk result (IsTold text.now place) }

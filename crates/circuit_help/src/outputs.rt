@@ -1,4 +1,5 @@
-//! What instances drive in the text as it stands, by a circuit in which some of its uses are changed.
+//! What instances drive in the text as it stands, by a circuit in which some of its uses are
+//! changed.
 
 ghost use Rattle.std.specs.Prelude.{◌≡◌, IfSome, slice_get};
 ghost use Rattle.circuit_help.specs.Outputs.{IsFirst, drives, first_driving, is_changed, is_net, output_of, stood_for};

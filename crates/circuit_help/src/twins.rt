@@ -75,7 +75,8 @@ fn add_other(out: &mut Bytes, c: &Circuit, net: u32, first: &Instance) -> Result
     add_driven_by(out, c, net, first)
 }
 
-/// What is told of two instances that drive a net, the second of which is of the statement at the place.
+/// What is told of two instances that drive a net, the second of which is of the statement at the
+/// place.
 pub fn add_both(
     out: &mut Bytes,
     c: &Circuit,

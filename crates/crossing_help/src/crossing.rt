@@ -1,5 +1,5 @@
-//! What is said of sections that are joined: the global nets that cross, those that no section drives, and
-//! those that no other takes.
+//! What is said of sections that are joined: the global nets that cross, those that no section
+//! drives, and those that no other takes.
 
 ghost use Rattle.std.specs.Prelude.{◌≡◌, ◌++◌, ◌<◌, ◌≤◌, ◌-◌, ◌^◌, length, take, IfOk, OnOk};
 ghost use Rattle.std.specs.List.{flat_map};
@@ -136,9 +136,10 @@ fn all_lists(alloc: Global, sections: &[Section]) -> Result<Bytes, NoMemory>
 }
 
 /// Of a text of sections that break no rule: which global nets cross, from which section to which,
-/// which stand in some section while no section drives them, and which stand only in the section that drives
-/// them, each with what may be meant by it. Nothing is told where a section is refused by itself, where a rule is broken, and of more than 64 sections. The
-/// one error is that memory ran out.
+/// which stand in some section while no section drives them, and which stand only in the section
+/// that drives them, each with what may be meant by it. Nothing is told where a section is refused
+/// by itself, where a rule is broken, and of more than 64 sections. The one error is that memory
+/// ran out.
 pub fn list_crossings(alloc: Global, text: &[u8]) -> Result<Bytes, NoMemory>
     requires { length text.now < 2 ^ 32 - 1 }
     ensures { IfOk result (IsListed text.now) }

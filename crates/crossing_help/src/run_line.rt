@@ -136,7 +136,8 @@ fn add_near(out: &mut Bytes, near: Option<&Net>) -> Result<(), NoMemory>
     }
 }
 
-/// By a driven net of the same name, by a section that drives a local one, and by one that may be meant.
+/// By a driven net of the same name, by a section that drives a local one, and by one that may be
+/// meant.
 #[tactic(auto, unfolding(crate::specs::RunLine::hint))]
 fn add_hint(
     out: &mut Bytes,

@@ -138,8 +138,8 @@ fn is_shown(place: Place, shown: Option<Place>) -> bool {
     }
 }
 
-/// What is told of a statement of the drawing, one of these, unless it is shown: that with it the text has
-/// the refusal, and up to it it does not.
+/// What is told of a statement of the drawing, one of these, unless it is shown: that with it the
+/// text has the refusal, and up to it it does not.
 fn told(
     alloc: Global,
     text: &[u8],
@@ -172,8 +172,8 @@ fn told(
     Ok(out)
 }
 
-/// Whether the text is read again and again, where its drawing has so many statements. What has too many of
-/// something costs the most, so it is read eight times at most.
+/// Whether the text is read again and again, where its drawing has so many statements. What has too
+/// many of something costs the most, so it is read eight times at most.
 fn is_searched(kind: RefusalKind, count: usize) -> bool {
     match kind {
         RefusalKind::TooMany => count <= MOST_STATEMENTS,
@@ -182,9 +182,9 @@ fn is_searched(kind: RefusalKind, count: usize) -> bool {
 }
 
 /// Of a text that is refused at a place in a macro: the use in the drawing by which that is
-/// reached, where the text has at most 262,144 bytes, and that use is not the one that is shown. It reads
-/// the text a few times, by halves of its statements; where something is too many, only a drawing of at
-/// most 64 statements. The one error is that memory ran out.
+/// reached, where the text has at most 262,144 bytes, and that use is not the one that is shown. It
+/// reads the text a few times, by halves of its statements; where something is too many, only a
+/// drawing of at most 64 statements. The one error is that memory ran out.
 pub fn explain_reached(
     alloc: Global,
     text: &[u8],
