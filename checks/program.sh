@@ -165,7 +165,7 @@ says() {
     fi
 }
 
-forms='scald: these words are none of its forms, which are
+forms='usage:
     scald verify [waves|faults] [rounds=N] <DRAWING    whether the drawing keeps its constraints, with its waves and faults
     scald notes <DRAWING                               what the drawing does not say
     scald format <DRAWING                              the drawing in its canonical form

@@ -12,7 +12,7 @@ use Rattle.scald.specs.declared.unstarted.Unstarted.TheVariants.{NoArguments, No
 -- the forms of words
 abbrev pub forms : List ℕ
 forms =
-    codes "scald: these words are none of its forms, which are\n" ++
+    codes "usage:\n" ++
     (codes "    scald verify [waves|faults] [rounds=N] <DRAWING    whether the drawing keeps its constraints, with its waves and faults\n" ++
     (codes "    scald notes <DRAWING                               what the drawing does not say\n" ++
     (codes "    scald format <DRAWING                              the drawing in its canonical form\n" ++

@@ -31,7 +31,7 @@ const MOST_BYTES: usize = 4_194_304;
 pub fn forms() -> &'static str
     ensures { result.now ≡ forms }
 {
-    "scald: these words are none of its forms, which are
+    "usage:
     scald verify [waves|faults] [rounds=N] <DRAWING    whether the drawing keeps its constraints, with its waves and faults
     scald notes <DRAWING                               what the drawing does not say
     scald format <DRAWING                              the drawing in its canonical form
