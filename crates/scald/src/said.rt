@@ -1,5 +1,5 @@
 //! What the program says on standard error: why it ends without an answer to the drawing; and beside an answer which
-//! nets cross between sections, or which names in macros are nearly a formal.
+//! nets cross between sections, or which names may be misspelt.
 
 ghost use Rattle.std.specs.Prelude.{◌≡◌, ◌-◌, ◌^◌, ◌<◌, IfSome, length};
 ghost use Rattle.std.specs.Option.{option_copied};
@@ -263,7 +263,7 @@ fn say_together(rt: &(impl Eprint + AllocGlobal), text: Option<&[u8]>, outcome: 
     }
 }
 
-/// Says which names in macros are nearly a formal, where the text was kept.
+/// Says which names may be misspelt and which outputs nothing drives, where the text was kept.
 fn say_slips(rt: &(impl Eprint + AllocGlobal), text: Option<&[u8]>) {
     if let Some(text) = text {
         if text.len() <= MOST_BYTES {
@@ -272,8 +272,8 @@ fn say_slips(rt: &(impl Eprint + AllocGlobal), text: Option<&[u8]>) {
     }
 }
 
-/// Says why there is no answer to the drawing, where there is none, and beside a verdict which names in macros
-/// are nearly a formal.
+/// Says why there is no answer to the drawing, where there is none, and beside a verdict which names may be
+/// misspelt.
 fn say_outcome(
     rt: &(impl Eprint + AllocGlobal),
     words: &Words,
