@@ -177,6 +177,12 @@ one 'b : BUF [1:2] ("d") -> ("Q");'
 said 'another case' "$(slip 4:16 STEP d D)"
 one 'b : BUF [1:2] ("C") -> ("Q");'
 said 'another letter alone'
+one 'b : AND [1:2] ("D2", "D") -> ("Q");'
+said 'a number more than a formal'
+drawing='u : STEP ("A .S1-8", "B .S1-8") -> ("Y");'
+answers verify 0 'MACRO STEP ("I", "IM") -> ("Q");' 'b : AND [1:2] ("IN", "I") -> ("Q");' 'END;'
+said 'a formal of the same length' "$(slip 4:16 STEP IN IM)"
+unset drawing
 one 'b : BUF [1:2] ("QQ") -> ("Q");'
 said 'nearly an output' "$(slip 4:16 STEP QQ Q)"
 one 'a : BUF [1:2] ("D") -> ("DD");' "$wrong"
@@ -241,6 +247,7 @@ alone() {
 # net PLACE NAME OTHER: what is said of a name at this place that is nearly another net
 net() {
     echo "scald: $1: nothing drives \"$2\", and it has no assertion: is \"$3\" meant?"
+    echo "    if it is meant to be constant, write \"$2 .S\""
     shown "$1"
 }
 # output PLACE MACRO NAME: what is said of an output of the macro at this place
@@ -252,48 +259,77 @@ output() {
 reads() {
     echo "b : BUF [1:2] (\"$1\") -> (\"X\");"
 }
-given='r : REG [5:10] ("CK .P2-3", "D .S1-4") -> ("NOT EMPTY");'
+given='r : REG [5:10] ("RCK .P2-3", "D .S1-4") -> ("NOT EMPTY");'
 
-alone "$given" "$(reads KC)"
-said 'letters of a clock exchanged' "$(net 5:16 KC CK)"
+alone "$given" "$(reads RKC)"
+said 'letters of a clock exchanged' "$(net 5:16 RKC RCK)"
 version=1
-alone "$given" "$(reads KC)"
-said 'the same in version 1' "$(net 5:16 KC CK)"
+alone "$given" "$(reads RKC)"
+said 'the same in version 1' "$(net 5:16 RKC RCK)"
 unset version
-alone "$given" "$(reads CLK)"
-said 'a letter too many' "$(net 5:16 CLK CK)"
-alone "$given" "$(reads ck)"
-said 'another case of a net' "$(net 5:16 ck CK)"
+alone "$given" "$(reads 'NOT EMPTTY')"
+said 'a letter too many' "$(net 5:16 'NOT EMPTTY' 'NOT EMPTY')"
+alone "$given" "$(reads 'NTO EMPTY')"
+said 'letters of a name of two words exchanged' "$(net 5:16 'NTO EMPTY' 'NOT EMPTY')"
+alone "$given" "$(reads NOTEMPTY)"
+said 'a space less' "$(net 5:16 NOTEMPTY 'NOT EMPTY')"
+alone "$given" "$(reads 'NOT AMPTY')"
+said 'another letter' "$(net 5:16 'NOT AMPTY' 'NOT EMPTY')"
+alone "$given" "$(reads rck)"
+said 'another case of a net' "$(net 5:16 rck RCK)"
 alone "$given" "$(reads NOT_EMPTY)"
 said 'a line for a space' "$(net 5:16 NOT_EMPTY 'NOT EMPTY')"
-alone "$(reads KC)" "$given"
-said 'before the clock' "$(net 4:16 KC CK)"
-alone "$given" "$(reads KCC)"
+alone "$(reads RKC)" "$given"
+said 'before the clock' "$(net 4:16 RKC RCK)"
+alone "$given" "$(reads RKCC)"
 said 'two slips'
 alone "$given" "$(reads EN)"
 said 'a constant'
 alone "$given" "$(reads Y)"
 said 'a constant of one letter'
-alone "$given" "$(reads CK)"
+alone "$given" "$(reads RCK)"
 said 'the clock'
-alone "$given" "$(reads KC)" 'a : BUF [1:2] ("D") -> ("KC");'
+alone "$given" "$(reads RKC)" 'a : BUF [1:2] ("D") -> ("RKC");'
 said 'a net that is driven later'
-alone "$given" "$(reads KC)" 'IF 1 = 2 THEN' 'a : BUF [1:2] ("D") -> ("KC");' 'END;'
+alone "$given" "$(reads RKC)" 'IF 1 = 2 THEN' 'a : BUF [1:2] ("D") -> ("RKC");' 'END;'
 said 'a net that is driven in a branch that is not taken'
-alone "$given" "$(reads KC)" 'a : BUF [1:2] ("KC .S1-4") -> ("Z");'
+alone "$given" "$(reads RKC)" 'a : BUF [1:2] ("RKC .S1-4") -> ("Z");'
 said 'a net that asserts something elsewhere'
-alone "$given" "$(reads KC)" 'WIRE "KC .S1-4" 0:0;'
+alone "$given" "$(reads RKC)" 'WIRE "RKC .S1-4" 0:0;'
 said 'a net that asserts something in a WIRE'
-alone "$given" "$(reads KC)" 'a : BUF [1:2] (-"KC") -> ("Z");'
-said 'a net twice' "$(net 5:16 KC CK)"
-alone "$given" 'FOR I = 1 TO 2 DO b : BUF [1:2] ("KC"<I>) -> ("X"<I>); END;'
-said 'a net in a FOR' "$(net 5:34 KC CK)"
-alone "$given" 'a : BUF [1:2] ("EN") -> ("Z");' "$(reads EM)"
+alone "$given" "$(reads RKC)" 'a : BUF [1:2] (-"RKC") -> ("Z");'
+said 'a net twice' "$(net 5:16 RKC RCK)"
+alone "$given" 'FOR I = 1 TO 2 DO b : BUF [1:2] ("RKC"<I>) -> ("X"<I>); END;'
+said 'a net in a FOR' "$(net 5:34 RKC RCK)"
+alone "$given" 'a : BUF [1:2] ("MODE") -> ("Z");' "$(reads MDOE)"
 said 'nearly a constant'
 alone "$given" 'WIRE "NOT EMTPY" 3:8;'
 said 'a WIRE alone' "$(net 5:1 'NOT EMTPY' 'NOT EMPTY')"
 alone "$given" 'WIRE "NOT EMPTY" 3:8;'
 said 'a WIRE of a net that is driven'
+alone 'a : BUF [1:2] ("D .S1-4") -> ("CLCK");' 'b : BUF [1:2] ("D") -> ("CLOKC");' 'c : BUF [1:2] ("CLOCK") -> ("Z");'
+said 'the one of the same length' "$(net 6:16 CLOCK CLOKC)"
+alone 'a : BUF [1:2] ("D .S1-4") -> ("GCK T");' "$(reads GCK_T)"
+said 'a line for a space before the last letter' "$(net 5:16 GCK_T 'GCK T')"
+# apart NAME OTHER: nothing is said of a name beside another that is driven
+apart() {
+    alone "r : REG [5:10] (\"CK .P2-3\", \"D .S1-4\") -> (\"$2\");" "$(reads "$1")"
+    said "$1 beside $2"
+}
+apart MODE1 MODE0
+apart 'SEL B' 'SEL A'
+apart EN QN
+apart S0 S2
+apart S12 S21
+apart CKE CK1
+apart SEL SEL1
+apart MODES MODE
+apart RST REST
+apart CLK CAK
+apart KC Q
+apart 'SCAN IN' 'SCAN ON'
+apart WDATA RDATA
+apart NRESET RESET
 cases='CASE "SEL"=0;
 '
 alone "$(reads SEL)" 'a : BUF [1:2] ("D") -> ("SELL");'

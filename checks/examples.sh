@@ -2,8 +2,8 @@
 # Compares the report, the margins and, where they stand beside it, the notes, the chains and the explanations of each
 # drawing of examples/ with those that stand beside it, and the status with the last line; and in examples/sections/ the
 # reports, and that of all sections together. A drawing of examples/ whose report has faults has chains and explanations,
-# and one without notes beside it has none. Beside these answers standard error says what stands beside the drawing, or
-# nothing. And what README.md shows of the first of them is so.
+# and one without notes beside it has none. Beside these answers nothing is said on standard error. And what README.md
+# shows of the first of them is so.
 # Usage: checks/examples.sh [PROGRAM]. Where none is named and none is built it says so and ends with 0.
 . "$(dirname -- "$0")/common.sh"
 begin "${1-}"
@@ -19,14 +19,9 @@ status_of() {
     esac
 }
 
-# silent WORD: on standard error was said what stands beside the drawing, or nothing, unless the waves do not settle
+# silent WORD: nothing was said on standard error, unless the waves do not settle
 silent() {
-    [ "$status" -eq 3 ] && return
-    if [ -f "${drawing%.scald}.said" ] && [ "$1" != margins ]; then
-        cmp -s "$work/said" "${drawing%.scald}.said" || failure "$name: $1: another thing is said"
-    elif [ -s "$work/said" ]; then
-        failure "$name: $1: this is said: $(head -n 1 "$work/said")"
-    fi
+    [ "$status" -eq 3 ] || [ ! -s "$work/said" ] || failure "$name: $1: this is said: $(head -n 1 "$work/said")"
 }
 
 for drawing in "$top"/examples/*.scald "$top"/examples/sections/*.scald; do

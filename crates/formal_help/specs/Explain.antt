@@ -26,6 +26,11 @@ net_slip_line s = line (
     ∷ codes "\", and it has no assertion: is \"" ∷ slash s.other ∷ s.other.base
     ∷ codes "\" meant?" ∷ [])
 
+-- A name with .S is stable through the whole period.
+unfoldable pub constant_line : SignalName → List ℕ
+constant_line name = line (
+    codes "    if it is meant to be constant, write \"" ∷ slash name ∷ name.base ∷ codes " .S\"" ∷ [])
+
 unfoldable pub undriven_line : Undriven → List ℕ
 undriven_line u = line (
     codes "scald: " ∷ place_text u.place ∷ codes ": no statement of " ∷ u.definition
@@ -34,7 +39,7 @@ undriven_line u = line (
 -- with the line of the text, and a mark under the place
 abbrev pub finding_lines : List ℕ → Finding → List ℕ
 finding_lines text (to_formal s) = slip_line s ++ shown text s.place
-finding_lines text (to_net s) = net_slip_line s ++ shown text s.place
+finding_lines text (to_net s) = net_slip_line s ++ constant_line s.name ++ shown text s.place
 finding_lines text (to_output u) = undriven_line u ++ shown text u.place
 
 -- how many are left out, of more than 8

@@ -1,5 +1,6 @@
 pub mod Body
 pub mod Names
+pub mod Typing
 pub mod Slips
 pub mod Finding
 pub mod Within

@@ -1,5 +1,5 @@
 -- What is found at a name of a body.
-use Rattle.std.specs.Prelude.{ℕ, ◌&&◌, ◌||◌, Bool, not, List, map, Option, Some, None, option_map, if◌then◌else◌}
+use Rattle.std.specs.Prelude.{ℕ, ◌&&◌, ◌||◌, Bool, false, true, not, List, map, Option, Some, None, option_map, if◌then◌else◌}
 use Rattle.std.specs.List.{list_any}
 use Rattle.std.specs.Option.{option_or}
 use Rattle.assertion_syntax.specs.declared.name.SignalName.{SignalName}
@@ -37,11 +37,15 @@ abbrev pub is_known : Within → SignalName → Bool
 is_known w name =
     is_some_formal w name || list_any (is_named name.global name.base) (given_for w name)
 
--- the formal that a local name nearly is
+abbrev pub formal_near : Bool → Within → List ℕ → Option (List ℕ)
+formal_near same_length w base =
+    option_or (near_formal same_length w.ins base) (near_formal same_length w.outs base)
+
+-- the formal that a local name nearly is: one of its length, or else any
 abbrev pub some_near_formal : Within → SignalName → Option (List ℕ)
 some_near_formal w name =
     if name.global then None
-    else option_or (near_formal w.ins name.base) (near_formal w.outs name.base)
+    else option_or (formal_near true w name.base) (formal_near false w name.base)
 
 abbrev pub formal_found : Within → Spot → List ℕ → Finding
 formal_found w spot formal = to_formal (record {
@@ -54,11 +58,15 @@ formal_found w spot formal = to_formal (record {
 abbrev pub net_found : Spot → SignalName → Finding
 net_found spot other = to_net (record { name = spot.name; other = other; place = spot.place })
 
+-- the net that a name nearly is: one of its length, or else any
+abbrev pub near_net : List Spot → SignalName → Option SignalName
+near_net given name = option_or (near_given true given name) (near_given false given name)
+
 -- nearly this formal, or else nearly another net
 abbrev pub found_near : Within → Spot → Option (List ℕ) → Option Finding
 found_near w spot (Some formal) = Some (formal_found w spot formal)
 found_near w spot None =
-    option_map (net_found spot) (near_given (given_for w spot.name) spot.name)
+    option_map (net_found spot) (near_net (given_for w spot.name) spot.name)
 
 -- at a name that is not known
 abbrev pub found_at : Within → Spot → Option Finding

@@ -2,7 +2,7 @@
 
 ghost use Rattle.std.specs.Prelude.{◌≡◌, ◌++◌, ◌<◌, ◌-◌, ◌^◌, IfOk, OnOk, length, take};
 ghost use Rattle.std.specs.List.{flat_map};
-ghost use Rattle.formal_help.specs.Explain.{IsTold, finding_lines, lines_of, more_line, net_slip_line, slash, slip_line, undriven_line};
+ghost use Rattle.formal_help.specs.Explain.{IsTold, constant_line, finding_lines, lines_of, more_line, net_slip_line, slash, slip_line, undriven_line};
 ghost use Rattle.formal_help.specs.Finding.{finding_seen, net_slip_seen, seen, slip_seen, undriven_seen};
 
 use crate::finding::{Finding, NetSlip, Slip, Undriven};
@@ -70,6 +70,22 @@ fn add_net_slip_line(out: &mut Bytes, slip: NetSlip) -> Result<(), NoMemory>
     )
 }
 
+/// How a net is written that is meant to be constant.
+#[tactic(auto, unfolding(crate::specs::Explain::constant_line))]
+fn add_constant_line(out: &mut Bytes, name: &SignalName) -> Result<(), NoMemory>
+    ensures { OnOk result (out.new ≡ out.old ++ constant_line name.now) }
+{
+    add_line(
+        out,
+        &[
+            Part::Text(b"    if it is meant to be constant, write \""),
+            Part::Text(slash(name)),
+            Part::Text(name.base.as_slice()),
+            Part::Text(b" .S\""),
+        ],
+    )
+}
+
 /// What is said of an output that nothing drives.
 #[tactic(auto, unfolding(crate::specs::Explain::undriven_line))]
 fn add_undriven_line(out: &mut Bytes, undriven: Undriven) -> Result<(), NoMemory>
@@ -101,6 +117,7 @@ fn add_finding(out: &mut Bytes, text: &[u8], finding: Finding) -> Result<(), NoM
         }
         Finding::Net(slip) => {
             add_net_slip_line(out, slip)?;
+            add_constant_line(out, slip.name)?;
             slip.place
         }
         Finding::Output(undriven) => {

@@ -14,6 +14,7 @@ mod names;
 mod finding;
 mod findings;
 mod slips;
+mod typing;
 mod within;
 
 // what is said

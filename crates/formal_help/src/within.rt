@@ -4,7 +4,7 @@ ghost use Rattle.std.specs.Prelude.{◌≡◌, option_map};
 ghost use Rattle.std.specs.Option.{option_copied};
 ghost use Rattle.formal_help.specs.Names.{seen, spot_seen};
 ghost use Rattle.formal_help.specs.Finding.{finding_seen};
-ghost use Rattle.formal_help.specs.Within.{found_at, found_near, given_for, is_known, is_some_formal, some_near_formal, within_seen};
+ghost use Rattle.formal_help.specs.Within.{formal_near, found_at, found_near, given_for, is_known, is_some_formal, near_net, some_near_formal, within_seen};
 
 use crate::finding::{Finding, NetSlip, Slip};
 use crate::names::Spot;
@@ -59,7 +59,18 @@ fn is_known(within: Within, name: &SignalName) -> bool
         || is_any_named(name.global, name.base.as_slice(), given_for(within, name))
 }
 
-/// The formal that a local name nearly is.
+/// The first formal that a name nearly is, of its length or of any.
+fn formal_near<'a>(same_length: bool, within: Within<'a, '_>, base: &[u8]) -> Option<&'a [u8]>
+    ensures { option_copied result
+        ≡ formal_near same_length (within_seen within.entry) base.now }
+{
+    match near_formal(same_length, within.ins, base) {
+        Some(formal) => Some(formal),
+        None => near_formal(same_length, within.outs, base),
+    }
+}
+
+/// The formal that a local name nearly is: one of its length, or else any.
 fn some_near_formal<'a>(within: Within<'a, '_>, name: &SignalName) -> Option<&'a [u8]>
     ensures { option_copied result ≡ some_near_formal (within_seen within.entry) name.now }
 {
@@ -67,9 +78,19 @@ fn some_near_formal<'a>(within: Within<'a, '_>, name: &SignalName) -> Option<&'a
         return None;
     }
     let base = name.base.as_slice();
-    match near_formal(within.ins, base) {
+    match formal_near(true, within, base) {
         Some(formal) => Some(formal),
-        None => near_formal(within.outs, base),
+        None => formal_near(false, within, base),
+    }
+}
+
+/// The given net that a name nearly is: one of its length, or else any.
+fn near_net<'a>(given: &[Spot<'a>], name: &SignalName) -> Option<&'a SignalName>
+    ensures { option_copied result ≡ near_net (seen given.now) name.now }
+{
+    match near_given(true, given, name) {
+        Some(other) => Some(other),
+        None => near_given(false, given, name),
     }
 }
 
@@ -91,7 +112,7 @@ fn found_near<'a>(
             place: spot.place,
         }));
     }
-    let other = near_given(given_for(within, spot.name), spot.name)?;
+    let other = near_net(given_for(within, spot.name), spot.name)?;
     Some(Finding::Net(NetSlip {
         name: spot.name,
         other,
