@@ -1413,7 +1413,8 @@ driven_twice() {
     helps "$one_driver" \
         '    one statement drives it more than once:' \
         "        X<0> is driven at $place by $first, and then by $second" \
-        '    what a FOR drives needs an index, and each use of a macro drives nets of its own' \
+        '    what a FOR drives needs an index; each use of a macro has to drive nets of its own, and a name' \
+        '    that begins with / is the same net in all of them' \
         "$@"
 }
 macro unexpanded '17 TwoDrivers 4:1' 'MACRO M ("A") -> ("Z");' 'b1 : BUF [0:0] ("A") -> ("Z");' 'END;' 'DRAWING ROW;' \
@@ -1542,6 +1543,23 @@ helps "$slow_loop" \
     '        P<0> is driven at 5:1 by n1<0>' \
     '        Q<0> is driven at 6:1 by n2<0>' \
     '        P<0> is driven at 5:1 by n1<0>'
+
+# (of instances of one statement each may have another delay and another wire, so a loop is told only where the delay is
+# written as 0, and not through a wire that takes time)
+macro unexpanded '18 ZeroLoop 4:3' 'MACRO M ("I") -> ("O");' '  g : BUF [0:0] ("I") -> ("O");' 'END;' 'DRAWING A;' 'WIRE "Y" 2:3;' \
+    'a : M ("X") -> ("Y");' 'r : AND [0:0] ("Y", "E .S0-8") -> ("X");' 'b : M ("U") -> ("V");' \
+    's : AND [0:0] ("V", "E .S0-8") -> ("U");' 'END;'
+helps "$slow_loop" \
+    "$there_is" \
+    '        V<0> is driven at 4:3 by b/g<0>' \
+    '        U<0> is driven at 11:1 by s<0>' \
+    '        V<0> is driven at 4:3 by b/g<0>' \
+    '    it is reached by s at 11:1'
+macro unexpanded '18 ZeroLoop 4:3' 'MACRO M {P=0} ("I") -> ("O");' '  g : BUF [P:P] ("I") -> ("O");' 'END;' 'DRAWING A;' \
+    'c : M {P=1} ("E .S0-8") -> ("F");' 'a : M {P=3} ("X") -> ("Y");' 'r : AND [0:0] ("Y", "E .S0-8") -> ("X");' \
+    'b : M {P=0} ("U") -> ("V");' 's : AND [0:0] ("V", "E .S0-8") -> ("U");' 'END;'
+helps "$slow_loop" \
+    '    it is reached by s at 11:1'
 
 # --- the cases, which begin on line 6
 # cases WANT LINE ..: these lines after a drawing of one multiplexer

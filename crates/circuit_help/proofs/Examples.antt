@@ -18,11 +18,12 @@ use Rattle.circuit_help.specs.CutSet.{is_zero_loop}
 use Rattle.circuit_help.specs.Slowed.{delays, slowed_text}
 use Rattle.circuit_help.specs.declared.changed.Change.TheVariants.{Checker, Delay}
 use Rattle.circuit_help.specs.Changed.{part_of, word_of}
-use Rattle.circuit_help.specs.Made.{overwritten}
+use Rattle.circuit_help.specs.Made.{keeps_places, line_ends, overwritten}
 use Rattle.circuit_help.specs.Cases.{before_cases, case_cut, entry_bit, entry_value, has_point}
 use Rattle.circuit_help.specs.Outputs.{first_driving, output_of}
 use Rattle.circuit_help.specs.Lines.{driven_line, nets_lines}
 use Rattle.circuit_help.specs.Loops.{begins, from_net, last_net}
+use Rattle.circuit_help.specs.Written.{has_zero_delay}
 
 abbrev at : TokenKind → ℕ → ℕ → Token
 at kind start end = record { kind = kind; place = record { line = 1; col = 1 }; start = start; end = end }
@@ -38,6 +39,19 @@ checker = refl
 with_delay : overwritten (codes "b : BUF [0 : 0] (\"A\") -> (\"A\");") (word_of Delay) 8 16 ≡ codes "b : BUF [1:1]   (\"A\") -> (\"A\");"
 with_delay = refl
 
+-- a word over the end of a line moves what stands after it; and so does one that is longer than its part
+over_an_end : keeps_places (codes "b : BUF\n [0:0] (A)") (overwritten (codes "b : BUF\n [0:0] (A)") (word_of Checker) 4 14) (word_of Checker) 4 ≡ false
+over_an_end = refl
+
+longer : keeps_places (codes "b : BUF [0]") (overwritten (codes "b : BUF [0]") (word_of Delay) 8 11) (word_of Delay) 8 ≡ false
+longer = refl
+
+kept : keeps_places (codes "b : BUF [0:0]\n") (overwritten (codes "b : BUF [0:0]\n") (word_of Delay) 8 13) (word_of Delay) 8 ≡ true
+kept = refl
+
+two_lines : line_ends (codes "b\n;") ≡ false ∷ true ∷ false ∷ []
+two_lines = refl
+
 -- ---- where they are made: b : BUF [0:0] ("A") -> ("X");
 
 abbrev use_tokens : List Token
@@ -48,6 +62,28 @@ use_tokens =
 
 use_cuts : part_of Checker use_tokens ≡ Some (4, 23)
 use_cuts = refl
+
+-- [0:5], [0:5, 1:3] and [1:5, 0:3], and not [1:5] or [1:5, 2:3]
+abbrev delay_tokens : ℕ → List Token → List Token
+delay_tokens least ts = at Word 0 1 ∷ symbol 58 2 ∷ at Word 4 7 ∷ symbol 91 8 ∷ at (Number (pos least)) 9 10 ∷ symbol 58 10 ∷ at (Number (pos 5)) 11 12 ∷ ts
+
+abbrev second : ℕ → List Token
+second least = symbol 44 12 ∷ at (Number (pos least)) 14 15 ∷ symbol 58 15 ∷ at (Number (pos 3)) 16 17 ∷ symbol 93 17 ∷ []
+
+zero_least : has_zero_delay (delay_tokens 0 (symbol 93 12 ∷ [])) ≡ true
+zero_least = refl
+
+first_least : has_zero_delay (delay_tokens 0 (second 1)) ≡ true
+first_least = refl
+
+second_least : has_zero_delay (delay_tokens 1 (second 0)) ≡ true
+second_least = refl
+
+one_least : has_zero_delay (delay_tokens 1 (symbol 93 12 ∷ [])) ≡ false
+one_least = refl
+
+neither_least : has_zero_delay (delay_tokens 1 (second 2)) ≡ false
+neither_least = refl
 
 use_delay : part_of Delay use_tokens ≡ Some (8, 14)
 use_delay = refl
@@ -111,14 +147,14 @@ loop_of_nine c = refl
 
 -- ---- delays
 
-its_delay : delays use_tokens ≡ record { at = record { line = 1; col = 1 }; from = 8; to = 13 } ∷ []
+its_delay : delays use_tokens ≡ record { at = record { line = 1; col = 1 }; from = 8; to = 13; is_zero = true } ∷ []
 its_delay = refl
 
 no_delay : delays (at Word 0 1 ∷ symbol 58 2 ∷ at Word 4 17 ∷ symbol 40 18 ∷ symbol 59 24 ∷ []) ≡ []
 no_delay = refl
 
 first_slowed : slowed_text (codes "b : BUF [0 : 0] (\"A\")")
-    (record { at = record { line = 1; col = 1 }; from = 8; to = 15 } ∷ []) ≡ codes "b : BUF [1:1]   (\"A\")"
+    (record { at = record { line = 1; col = 1 }; from = 8; to = 15; is_zero = true } ∷ []) ≡ codes "b : BUF [1:1]   (\"A\")"
 first_slowed = refl
 
 none_slowed : slowed_text (codes "b : BUF [0:0]") [] ≡ codes "b : BUF [0:0]"

@@ -22,9 +22,11 @@ use Rattle.circuit_help.specs.Changed.{IsDrawnWith}
 use Rattle.circuit_help.specs.CutSet as cut
 use Rattle.circuit_help.specs.Drivers as driver
 use Rattle.circuit_help.specs.Loops as loop
+use Rattle.circuit_help.specs.Made.{line_ends}
 use Rattle.circuit_help.specs.Outputs.{IsFirst, IsOutput}
 use Rattle.circuit_help.specs.Slowed.{delays, slowed_text}
 use Rattle.circuit_help.specs.Twins.{both_lines}
+use Rattle.circuit_help.specs.Written.{has_zero_delay}
 use Rattle.circuit_help.specs.ZeroLoop as zero
 
 -- what holds of what is found
@@ -150,11 +152,12 @@ driver_explained text place tokens before seen places c bytes are is see by said
     (subst (λ (l : List ℕ). IsDrawnWith Checker tokens l place places c) is by)
     (subst (λ (l : List Place). driver.IsToldOf c l place [] bytes) see said)
 
-pub zero_explained : (text : List ℕ) (place : Place) (tokens : List Token) (before : List ℕ) (places : List Place)
-    (c : Circuit) (bytes : List ℕ) → AreTokens text tokens → before ≡ case.before_cases text tokens →
+pub zero_explained : (text : List ℕ) (place : Place) (tokens rest : List Token) (is_zero : Bool) (before : List ℕ)
+    (places : List Place) (c : Circuit) (bytes : List ℕ) → AreTokens text tokens → rest ≡ from_place place tokens →
+    is_zero ≡ has_zero_delay rest → is_zero ≡ true → before ≡ case.before_cases text tokens →
     IsDrawnWith Delay tokens before place places c → zero.IsToldOf c place bytes → zero.IsTold text place bytes
-zero_explained text place tokens before places c bytes are is by said =
-    zero.by_circuit tokens places c bytes are (subst (λ (l : List ℕ). IsDrawnWith Delay tokens l place places c) is by) said
+zero_explained text place tokens rest is_zero before places c bytes are from zero_is so is by said =
+    zero.by_circuit tokens places c bytes are (ap has_zero_delay (sym from) ∙ sym zero_is ∙ so) (subst (λ (l : List ℕ). IsDrawnWith Delay tokens l place places c) is by) said
 
 -- ---- a loop somewhere in a text
 
@@ -174,13 +177,14 @@ round_told c place net nets old new driven none is =
     (cut.by_way net nets driven)
 
 pub cut_told : (text : List ℕ) (ds front more : List Delayed) (n : ℕ) (d : Delayed) (is_there : Bool) (made : List ℕ)
-    (c : Circuit) (cases : List (List CaseValue)) (bytes : List ℕ) → slice_get ds n ≡ Some d →
+    (c : Circuit) (cases : List (List CaseValue)) (bytes : List ℕ) → slice_get ds n ≡ Some d → d.is_zero ≡ true →
     front ≡ take n ds → (is_there ≡ true → cut.IsLooping (slowed_text text front)) → is_there ≡ true →
-    more ≡ take (n + 1) ds → made ≡ slowed_text text more → DrawsCircuit made c cases →
-    cut.IsRound c d.at bytes → cut.IsToldAt text ds n bytes
-cut_told text ds front more n d is_there made c cases bytes at fore looping is_so further make drawn said =
-    cut.told d c cases bytes at
+    more ≡ take (n + 1) ds → made ≡ slowed_text text more → line_ends text ≡ line_ends made →
+    DrawsCircuit made c cases → cut.IsRound c d.at bytes → cut.IsToldAt text ds n bytes
+cut_told text ds front more n d is_there made c cases bytes at zero_is fore looping is_so further make kept drawn said =
+    cut.told d c cases bytes at zero_is
     (subst (λ (l : List Delayed). cut.IsLooping (slowed_text text l)) fore (looping is_so))
+    (kept ∙ ap line_ends (make ∙ ap (slowed_text text) further))
     (subst (λ (l : List ℕ). DrawsCircuit l c cases) (make ∙ ap (slowed_text text) further) drawn) said
 
 pub cut_explained : (text : List ℕ) (tokens seen : List Token) (found seen_found : List Delayed) (n : ℕ)

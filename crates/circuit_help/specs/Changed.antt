@@ -1,5 +1,5 @@
 -- A text in which uses are replaced, one after another, until it has a circuit.
-use Rattle.std.specs.Prelude.{◌≡◌, ℕ, List, [], ◌∷◌, ◌++◌, codes, Option, Some, None}
+use Rattle.std.specs.Prelude.{◌≡◌, ℕ, true, List, [], ◌∷◌, ◌++◌, codes, Option, Some, None}
 use Rattle.scald_base.specs.declared.refusal.Place.{Place}
 use Rattle.scald_lex.specs.declared.token.Token.{Token}
 use Rattle.flat_circuit.specs.declared.case.CaseValue.{CaseValue}
@@ -9,7 +9,7 @@ use Rattle.help_text.specs.Statement.{from_place}
 use Rattle.help_text.specs.Tokens.{after_arrow, past}
 use Rattle.circuit_help.specs.declared.changed.Change.{Change}
 use Rattle.circuit_help.specs.declared.changed.Change.TheVariants.{Checker, Delay}
-use Rattle.circuit_help.specs.Made.{overwritten}
+use Rattle.circuit_help.specs.Made.{keeps_places, overwritten}
 
 -- ---- one use
 
@@ -36,9 +36,10 @@ abbrev pub part_of : Change → List Token → Option (ℕ × ℕ)
 part_of Checker statement = checker_part statement
 part_of Delay statement = delay_part statement
 
--- the use at a place is changed so
+-- the use at a place is changed so, and no place moves by it
 pub data IsChanged (change : Change) (tokens : List Token) (text : List ℕ) (place : Place) : List ℕ → Type 0 where
   made : (from to : ℕ) → part_of change (from_place place tokens) ≡ Some (from, to) →
+      keeps_places text (overwritten text (word_of change) from to) (word_of change) from ≡ true →
       IsChanged change tokens text place (overwritten text (word_of change) from to)
 
 -- ---- one after another

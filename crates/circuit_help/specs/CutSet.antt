@@ -15,6 +15,7 @@ use Rattle.circuit_help.specs.declared.rule.Rule.TheVariants.{WithoutDelay}
 use Rattle.circuit_help.specs.declared.slowed.Delayed.{Delayed}
 use Rattle.circuit_help.specs.Lines.{nets_lines}
 use Rattle.circuit_help.specs.Loops.{from_net, is_lasso, last_net}
+use Rattle.circuit_help.specs.Made.{line_ends}
 use Rattle.circuit_help.specs.Slowed.{delays, slowed_text}
 use Rattle.circuit_help.specs.ZeroLoop.{IsDrivenAt}
 
@@ -51,12 +52,14 @@ pub data IsRound (c : Circuit) (place : Place) : List ℕ → Type 0 where
   by_way : (net : ℕ) (nets : List ℕ) → IsDrivenAt c place net →
       IsRound c place (round_lines c (WithoutDelay place) net nets)
 
--- Nothing is told, or a loop through the use with the delay of a number. The text with [1:1] in place of
--- the delays before it has a loop, and with [1:1] in place of this one too it has a circuit.
+-- Nothing is told, or a loop through the use with the delay of a number, whose least is written as 0. The text with [1:1] in place of
+-- the delays before it has a loop, and with [1:1] in place of this one too it has a circuit, with its
+-- lines where they were.
 pub data IsToldAt (text : List ℕ) (ds : List Delayed) (n : ℕ) : List ℕ → Type 0 where
   nothing : IsToldAt text ds n []
   told : (d : Delayed) (c : Circuit) (cases : List (List CaseValue)) (bytes : List ℕ) →
-      slice_get ds n ≡ Some d → IsLooping (slowed_text text (take n ds)) →
+      slice_get ds n ≡ Some d → d.is_zero ≡ true → IsLooping (slowed_text text (take n ds)) →
+      line_ends text ≡ line_ends (slowed_text text (take (n + 1) ds)) →
       DrawsCircuit (slowed_text text (take (n + 1) ds)) c cases → IsRound c d.at bytes →
       IsToldAt text ds n bytes
 

@@ -2,6 +2,7 @@ pub mod Rule
 pub mod Lines
 pub mod Loops
 pub mod Made
+pub mod Written
 pub mod Changed
 pub mod Outputs
 pub mod Twins

@@ -19,8 +19,18 @@ without_delay j (Some n) = j.delay.min == 0 && n.wire.min == 0
 abbrev pub has_no_delay : Circuit → Instance → ℕ → Bool
 has_no_delay c j net = without_delay j (slice_get c.nets net)
 
+abbrev pub is_free : Option Net → Bool
+is_free None = false
+is_free (Some n) = n.wire.min == 0
+
+-- the net's wire may take no time
+abbrev pub has_free_wire : Circuit → ℕ → Bool
+has_free_wire c net = is_free (slice_get c.nets net)
+
 -- A loop may go along the pin at a place of the element that drives a net: the element listens to
--- it; or it has no delay, or its statement is the one that is looked at.
+-- it; or it has no delay, or its statement is the one that is looked at and the net's wire may take no
+-- time.
 abbrev pub may_pass : Circuit → Rule → Instance → ℕ → ℕ → Bool
 may_pass c Listening j net place = listens j.kind place
-may_pass c (WithoutDelay here) j net place = is_at j.place here || has_no_delay c j net
+may_pass c (WithoutDelay here) j net place =
+    (is_at j.place here && has_free_wire c net) || has_no_delay c j net

@@ -1,10 +1,10 @@
 -- A text in which the first delays are those of [1:1].
 use Rattle.std.specs.Prelude.{ℕ, ◌-◌, List, [], ◌∷◌, ◌++◌, map, take, drop, codes, Option, Some, None, if◌then◌else◌}
-use Rattle.scald_base.specs.declared.refusal.Place.{Place}
 use Rattle.scald_lex.specs.declared.token.Token.{Token}
 use Rattle.help_text.specs.Tokens.{is_symbol}
 use Rattle.circuit_help.specs.declared.slowed.Delayed.{Delayed}
 use Rattle.circuit_help.specs.Made.{blank}
+use Rattle.circuit_help.specs.Written.{has_zero_delay}
 
 -- ---- the delays of a text
 
@@ -13,9 +13,14 @@ abbrev pub end_of : List Token → Option ℕ
 end_of [] = None
 end_of (t ∷ ts) = if is_symbol 93 t.kind then Some t.end else end_of ts
 
-abbrev pub with_end : Place → Token → Option ℕ → List Delayed → List Delayed
-with_end at bracket None others = others
-with_end at bracket (Some to) others = record { at = at; from = bracket.start; to = to } ∷ others
+abbrev pub with_end : Token → Token → List Token → Option ℕ → List Delayed → List Delayed
+with_end label bracket statement None others = others
+with_end label bracket statement (Some to) others = record {
+  at = label.place;
+  from = bracket.start;
+  to = to;
+  is_zero = has_zero_delay statement;
+} ∷ others
 
 -- the delay of a use, which has its bracket after its label, a colon and its kind
 abbrev pub delay_of : Token → List Token → List Delayed → List Delayed
@@ -23,7 +28,9 @@ delay_of label [] others = others
 delay_of label (t ∷ []) others = others
 delay_of label (t ∷ u ∷ []) others = others
 delay_of label (t ∷ u ∷ bracket ∷ ts) others =
-    if is_symbol 91 bracket.kind then with_end label.place bracket (end_of (t ∷ u ∷ bracket ∷ ts)) others else others
+    if is_symbol 91 bracket.kind
+    then with_end label bracket (label ∷ t ∷ u ∷ bracket ∷ ts) (end_of (t ∷ u ∷ bracket ∷ ts)) others
+    else others
 
 abbrev pub delays : List Token → List Delayed
 delays [] = []

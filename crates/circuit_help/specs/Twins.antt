@@ -14,7 +14,7 @@ abbrev pub head : List ℕ
 head = codes "    one statement drives it more than once:\n"
 
 abbrev pub advice : List ℕ
-advice = codes "    what a FOR drives needs an index, and each use of a macro drives nets of its own\n"
+advice = codes "    what a FOR drives needs an index; each use of a macro has to drive nets of its own, and a name\n    that begins with / is the same net in all of them\n"
 
 unfoldable pub twin_line : Circuit → ℕ → Instance → Instance → List ℕ
 twin_line c net first second = line (

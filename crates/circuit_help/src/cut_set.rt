@@ -6,6 +6,7 @@
 
 ghost use Rattle.std.specs.Prelude.{◌≡◌, ◌++◌, ◌+◌, ◌<◌, ◌≤◌, ◌-◌, ◌^◌, length, slice_get, take, true, IfOk, IfSome, OnOk};
 ghost use Rattle.circuit_help.specs.CutSet.{IsLooping, IsRound, IsTold, IsToldAt, loop_head, is_zero_loop, loop_of, round_lines};
+ghost use Rattle.circuit_help.specs.Made.{line_ends};
 ghost use Rattle.circuit_help.specs.Slowed.{slowed_text};
 ghost use Rattle.circuit_help.specs.ZeroLoop.{IsDrivenAt};
 
@@ -56,6 +57,7 @@ fn is_looping(alloc: Global, text: &[u8]) -> Result<bool, NoMemory>
 /// The text with [1:1] in place of these delays, where no place moves by it.
 fn made_of(alloc: Global, text: &[u8], delays: &[Delayed]) -> Result<Option<Bytes>, NoMemory>
     ensures made { IfOk result (λ made. IfSome made (λ bytes. bytes ≡ slowed_text text.now delays.now)) }
+    ensures kept { IfOk result (λ made. IfSome made (λ bytes. line_ends text.now ≡ line_ends bytes)) }
     ensures short { IfOk result (λ made. IfSome made (λ bytes. length bytes ≤ 262144)) }
 {
     let made = slowed(alloc, text, delays)?;
@@ -195,7 +197,7 @@ fn told(alloc: Global, text: &[u8], delays: &[Delayed], number: usize) -> Result
     let Some(delay) = delay_at(delays, number) else {
         return Ok(Bytes::new(alloc));
     };
-    if number >= delays.len() {
+    if number >= delays.len() || !delay.is_zero {
         return Ok(Bytes::new(alloc));
     }
     let is_there = is_looping_with(alloc, text, first_delays(delays, number))?;

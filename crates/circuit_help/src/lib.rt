@@ -19,6 +19,7 @@ mod rule;
 mod search;
 mod slowed;
 mod twins;
+mod written;
 mod zero_loop;
 
 pub use cases::explain_case;

@@ -1,7 +1,8 @@
 //! Texts that are made of another, with a word in place of a part.
 
 ghost use Rattle.std.specs.Prelude.{◌≡◌, ◌++◌, map, IfOk, OnOk};
-ghost use Rattle.circuit_help.specs.Made.{blank, overwritten};
+ghost use Rattle.std.specs.List.{list_any};
+ghost use Rattle.circuit_help.specs.Made.{blank, is_end, keeps_places, overwritten};
 
 use help_text::{after, front};
 use scald_base::{Bytes, NoMemory};
@@ -44,9 +45,18 @@ pub fn overwritten(
     Ok(made)
 }
 
+/// Whether a line ends in these bytes.
+fn has_line_end(bytes: &[u8]) -> bool
+    ensures { result ≡ list_any is_end bytes.now }
+{
+    bytes.iter().any(|byte| *byte == b'\n')
+}
+
 /// Whether no place moves in a text that is made so: it is as long as the other, and the word
 /// stands for no end of a line.
-pub fn keeps_places(text: &[u8], made: &[u8], word: &[u8], from: u32) -> bool {
-    let part = front(after(text, from as usize), word.len());
-    made.len() == text.len() && !part.iter().any(|byte| *byte == b'\n')
+pub fn keeps_places(text: &[u8], made: &[u8], word: &[u8], from: u32) -> bool
+    ensures { result ≡ keeps_places text.now made.now word.now from }
+{
+    let moves = has_line_end(front(after(text, from as usize), word.len()));
+    made.len() == text.len() && !moves
 }

@@ -1,21 +1,24 @@
 //! Texts that are made of another, in which the first delays are those of [1:1].
 
-ghost use Rattle.std.specs.Prelude.{◌≡◌, ◌++◌, drop, take, IfOk, OnOk};
+ghost use Rattle.std.specs.Prelude.{◌≡◌, ◌++◌, drop, take, true, IfOk, OnOk};
+ghost use Rattle.circuit_help.specs.Made.{line_ends};
 ghost use Rattle.circuit_help.specs.Slowed.{delays, end_of, slowed_from, slowed_text};
 
 use crate::made::add_blanks;
+use crate::written::has_zero_delay;
 use help_text::{after, front, is_symbol};
 use scald_base::{Bytes, List, NoMemory, Place};
 use scald_lex::Token;
 use std::alloc::Global;
 
 /// The delay of a use: where the use stands, where its delay begins, and where what follows it does, in
-/// bytes of the text.
+/// bytes of the text; and whether its least is written as 0.
 #[derive(Clone, Copy)]
 pub struct Delayed {
     pub at: Place,
     pub from: u32,
     pub to: u32,
+    pub is_zero: bool,
 }
 
 /// The word that stands in place of a delay.
@@ -50,6 +53,7 @@ pub fn delays(alloc: Global, tokens: &[Token]) -> Result<List<Delayed>, NoMemory
                         at: label.place,
                         from: bracket.start,
                         to,
+                        is_zero: has_zero_delay(rest),
                     })?;
                 }
             }
@@ -90,7 +94,9 @@ pub fn slowed(alloc: Global, text: &[u8], delays: &[Delayed]) -> Result<Bytes, N
 }
 
 /// Whether two texts have their lines of the same lengths.
-pub fn same_lines(text: &[u8], made: &[u8]) -> bool {
+pub fn same_lines(text: &[u8], made: &[u8]) -> bool
+    ensures { result ≡ true → line_ends text.now ≡ line_ends made.now }
+{
     let mut rest = made;
     'bytes: for byte in text {
         let [other, others @ ..] = rest else {

@@ -20,7 +20,7 @@ fn head() -> &'static [u8]
 fn advice() -> &'static [u8]
     ensures { result.now ≡ advice }
 {
-    b"    what a FOR drives needs an index, and each use of a macro drives nets of its own\n"
+    b"    what a FOR drives needs an index; each use of a macro has to drive nets of its own, and a name\n    that begins with / is the same net in all of them\n"
 }
 
 /// The net, and both instances.

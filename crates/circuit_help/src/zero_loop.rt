@@ -11,7 +11,9 @@ use crate::cut_set::explain_cut;
 use crate::loops::add_way;
 use crate::rule::{Rule, is_at};
 use crate::search::way_back;
+use crate::written::has_zero_delay;
 use flat_circuit::Circuit;
+use help_text::from_place;
 use scald_base::{Bytes, List, NoMemory, Place, Stop};
 use scald_lex::{Token, tokens};
 use std::alloc::Global;
@@ -52,6 +54,9 @@ fn by_tokens(alloc: Global, text: &[u8], tokens: &[Token], place: Place) -> Resu
     requires { AreTokens text.now tokens.now }
     ensures { IfOk result (IsTold text.now place) }
 {
+    if !has_zero_delay(from_place(tokens, place)) {
+        return Ok(Bytes::new(alloc));
+    }
     let before = before_cases(text, tokens);
     let mut places = List::new(alloc);
     match drawn_with(alloc, before, tokens, place, Change::Delay, &mut places)? {

@@ -1,6 +1,8 @@
-use Rattle.std.proofs.Common.{◌≡◌, ◌∙◌, ℕ, List, sym}
+use Rattle.std.proofs.Common.{◌≡◌, ◌∙◌, ℕ, List, ap, sym}
+use Rattle.std.proofs.lemmas.Bool.{not-false}
 use Rattle.std.proofs.lemmas.Result.{IfOk-weaker}
 use Rattle.circuit_help.specs.CutSet.{IsRound, IsToldAt}
+use Rattle.circuit_help.specs.Made.{line_ends}
 use Rattle.circuit_help.specs.Slowed.{slowed_text}
 use Rattle.circuit_help.proofs.Told.{cut_told, cut_untold_at, found_holds}
 use Rattle.circuit_help.proofs.cut_set.told.Goals as goal
@@ -33,8 +35,10 @@ returns-in-Ok c =
     IfOk-weaker c.told_at.result (IsRound drawn.circuit delay.at) (IsToldAt text ds n)
     (λ bytes said. cut_told text ds c.first_delays.result.now c.first_delays-2.result.now n delay
     c.in_ok-is_there.is_there c.as_slice.result.now drawn.circuit drawn.cases bytes
-    (sym c.delay_at.ensures ∙ c.in-Some.is) c.first_delays.ensures c.in_ok-is_there.ensures c.if-not-is_there.false
-    c.first_delays-2.ensures
+    (sym c.delay_at.ensures ∙ c.in-Some.is) (not-false delay.is_zero c.if-not-delay.false) c.first_delays.ensures
+    c.in_ok-is_there.ensures c.if-not-is_there.false c.first_delays-2.ensures
     (c.as_slice.ensures ∙ found_holds (List ℕ) (λ made. made ≡ slowed_text text c.first_delays-2.result.now)
-    c.in_ok-made.field-0 c.in-Some-2.made c.in_ok-made.ensures.made c.in-Some-2.is) c.in-Ok.ensures.drawn said)
+    c.in_ok-made.field-0 c.in-Some-2.made c.in_ok-made.ensures.made c.in-Some-2.is)
+    (found_holds (List ℕ) (λ made. line_ends text ≡ line_ends made) c.in_ok-made.field-0 c.in-Some-2.made
+    c.in_ok-made.ensures.kept c.in-Some-2.is ∙ ap line_ends (sym c.as_slice.ensures)) c.in-Ok.ensures.drawn said)
     c.told_at.ensures
