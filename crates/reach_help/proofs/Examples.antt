@@ -1,10 +1,12 @@
--- Texts that are cut, and the statements of a drawing, worked out on paper.
-use Rattle.std.proofs.Common.{◌≡◌, ℕ, ◌+◌, List, [], ◌∷◌, ◌++◌, refl}
-use Rattle.std.specs.Prelude.{codes}
+-- Texts that are cut, places, and the statements of a drawing, worked out on paper.
+use Rattle.std.proofs.Common.{◌≡◌, ℕ, ◌+◌, true, false, List, [], ◌∷◌, ◌++◌, refl}
+use Rattle.std.specs.Prelude.{Some, None, codes}
+use Rattle.scald_base.specs.declared.refusal.Place.{Place}
 use Rattle.scald_lex.specs.declared.token.Token.{Token}
 use Rattle.scald_lex.specs.declared.token.TokenKind.{TokenKind}
 use Rattle.scald_lex.specs.declared.token.TokenKind.TheVariants.{Word, Symbol}
-use Rattle.reach_help.specs.Reached.{cut_text}
+use Rattle.reach_help.specs.declared.statements.Statement.{Statement}
+use Rattle.reach_help.specs.Reached.{cut_text, is_in_macro, is_shown}
 use Rattle.reach_help.specs.Statements.{depth_after, ends_body, ends_statement, statements_of}
 
 abbrev at : TokenKind → ℕ → ℕ → Token
@@ -17,6 +19,49 @@ symbol b start = at (Symbol b) start (start + 1)
 
 before_use : cut_text (codes "DRAWING D; u : M (); END;") 10 ≡ codes "DRAWING D;END;"
 before_use = refl
+
+-- ---- the statement that is shown
+
+abbrev place : ℕ → ℕ → Place
+place l c = record { line = l; col = c }
+
+same_place : is_shown (place 8 1) (Some (place 8 1)) ≡ true
+same_place = refl
+
+other_column : is_shown (place 8 1) (Some (place 8 12)) ≡ false
+other_column = refl
+
+other_line : is_shown (place 8 1) (Some (place 9 1)) ≡ false
+other_line = refl
+
+none_shown : is_shown (place 8 1) None ≡ false
+none_shown = refl
+
+-- ---- a place in a macro: the drawing has a statement at 5:3 and one at 6:1
+
+abbrev begun : Place → Statement
+begun p = record { first = record { kind = Word; place = p; start = 0; end = 1 }; end = 9 }
+
+abbrev of_drawing : List Statement
+of_drawing = begun (place 5 3) ∷ begun (place 6 1) ∷ []
+
+on_an_earlier_line : is_in_macro (place 3 7) of_drawing ≡ true
+on_an_earlier_line = refl
+
+left_on_its_line : is_in_macro (place 5 2) of_drawing ≡ true
+left_on_its_line = refl
+
+at_the_first : is_in_macro (place 5 3) of_drawing ≡ false
+at_the_first = refl
+
+in_the_first : is_in_macro (place 5 12) of_drawing ≡ false
+in_the_first = refl
+
+left_on_a_later_line : is_in_macro (place 6 1) of_drawing ≡ false
+left_on_a_later_line = refl
+
+no_statement : is_in_macro (place 3 7) [] ≡ false
+no_statement = refl
 
 -- ---- statements of the drawing: a:M(); and an IF with one in it
 

@@ -1,7 +1,7 @@
 //! By which statement of the drawing a place in a macro is reached.
 
 ghost use Rattle.std.specs.Prelude.{◌≡◌, ◌++◌, ◌<◌, ◌≤◌, ◌-◌, ◌^◌, length, slice_get, IfOk, OnOk};
-ghost use Rattle.reach_help.specs.Reached.{IsRefusedSo, IsTold, IsToldOf, Says, cut_text, is_at, is_same, reached_line};
+ghost use Rattle.reach_help.specs.Reached.{IsRefusedSo, IsTold, IsToldOf, Says, cut_text, is_at, is_in_macro, is_same, is_shown, reached_line};
 
 use crate::statements::{Statement, statements};
 use drawn_circuit::laws::{refused_text_draws_nothing, text_has_one_refusal};
@@ -96,7 +96,9 @@ fn searched(
 }
 
 /// Whether a place stands before the statements of the drawing.
-fn is_in_macro(place: Place, found: &[Statement]) -> bool {
+fn is_in_macro(place: Place, found: &[Statement]) -> bool
+    ensures { result ≡ is_in_macro place found.now }
+{
     match found {
         [first, ..] => {
             let other = first.first.place;
@@ -131,7 +133,9 @@ fn statement_at(found: &[Statement], number: usize) -> Option<Statement>
 }
 
 /// Whether a place is the one that is shown.
-fn is_shown(place: Place, shown: Option<Place>) -> bool {
+fn is_shown(place: Place, shown: Option<Place>) -> bool
+    ensures { result ≡ is_shown place shown }
+{
     match shown {
         Some(other) => is_at(place, other),
         None => false,
@@ -149,7 +153,7 @@ fn told(
     shown: Option<Place>,
 ) -> Result<Bytes, NoMemory>
     requires { length text.now ≤ 262144 }
-    ensures { IfOk result (IsToldOf text.now found.now wanted) }
+    ensures { IfOk result (IsToldOf text.now found.now wanted shown) }
 {
     let Some(statement) = statement_at(found, number) else {
         return Ok(Bytes::new(alloc));
@@ -192,7 +196,7 @@ pub fn explain_reached(
     shown: Option<Place>,
 ) -> Result<Bytes, NoMemory>
     requires { length text.now < 2 ^ 32 - 1 }
-    ensures { IfOk result (IsTold text.now refusal) }
+    ensures { IfOk result (IsTold text.now refusal shown) }
 {
     if text.len() > MOST_BYTES {
         return Ok(Bytes::new(alloc));
