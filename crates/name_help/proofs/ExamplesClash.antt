@@ -5,7 +5,7 @@ use Rattle.std.specs.Fmt.{digits}
 use Rattle.scald_lex.specs.declared.token.Token.{Token}
 use Rattle.scald_lex.specs.declared.token.TokenKind.{TokenKind}
 use Rattle.scald_lex.specs.declared.token.TokenKind.TheVariants.{Word, Name, Symbol}
-use Rattle.name_help.specs.Clash.{assertion_lines, assertion_note, clash_line, clash_lines, clashes, kept_clash, opens_block, other_clash}
+use Rattle.name_help.specs.Clash.{assertion_lines, assertion_note, clash_line, clash_lines, clashes, joint, kept_clash, opens_block, other_clash}
 
 -- a token of a text on one line
 abbrev at : TokenKind → ℕ → ℕ → Token
@@ -28,7 +28,7 @@ apart = at Name 0 9 ∷ symbol 59 9 ∷ at Name 10 19 ∷ []
 
 other_assertion : clash_lines (codes "\"A .S0-4\"\"A .S0-5\"") two two (at Name 9 18 ∷ []) ≡
     codes "    here it is \"A .S0-5\", and \"A .S0-4\" at 1:1\n"
-unfolding clash_line clashes digits opens_block other_clash
+unfolding clash_line clashes digits joint opens_block other_clash
 other_assertion = refl
 
 same_assertion : clash_lines (codes "\"A .S0-4\"\"A .S0-4\"") two two (at Name 9 18 ∷ []) ≡ []
@@ -52,7 +52,7 @@ later_assertion = refl
 first_assertion : clash_lines (codes "\"A .S0-4\"\"A .S0-3\"\"A .S0-5\"")
     three three (at Name 18 27 ∷ []) ≡
     codes "    here it is \"A .S0-5\", and \"A .S0-4\" at 1:1\n"
-unfolding clash_line clashes digits opens_block other_clash
+unfolding clash_line clashes digits joint opens_block other_clash
 first_assertion = refl
 
 next_statement : clash_lines (codes "\"A .S0-4\";\"A .S0-5\"") apart apart
@@ -65,7 +65,7 @@ in_the_drawing : assertion_lines (codes "MACRO \"A .S0-4\"DRAWING \"A .S0-3\"\"A
     (at Word 0 5 ∷ at Name 6 15 ∷ at Word 15 22 ∷ at Name 23 32 ∷ at Name 32 41 ∷ []) (record { line = 1; col = 33 }) ≡
     codes "    give the assertion once, or spell it the same each time; a formal has that of the outer net\n"
     ++ codes "    here it is \"A .S0-5\", and \"A .S0-3\" at 1:24\n"
-unfolding assertion_note clash_line clashes digits opens_block other_clash
+unfolding assertion_note clash_line clashes digits joint opens_block other_clash
 in_the_drawing = refl
 
 -- the first stands in an IF that has ended: nobody knows here whether it is read
@@ -74,16 +74,16 @@ ended = at Word 0 2 ∷ at Name 2 9 ∷ at Word 9 12 ∷ at Name 12 19 ∷ at Na
 
 after_block : clash_lines (codes "IF\"A .S1\"END\"A .S2\"\"A .S3\"") ended ended (at Name 19 26 ∷ []) ≡
     codes "    here it is \"A .S3\", and \"A .S2\" at 1:13\n"
-unfolding clash_line clashes digits opens_block other_clash
+unfolding clash_line clashes digits joint opens_block other_clash
 after_block = refl
 
--- it is told where it is the only one
+-- it is told as what may be read where it is the only one
 abbrev only : List Token
 only = at Word 0 2 ∷ at Name 2 9 ∷ at Word 9 12 ∷ at Name 12 19 ∷ []
 
 in_block : clash_lines (codes "IF\"A .S1\"END\"A .S3\"") only only (at Name 12 19 ∷ []) ≡
-    codes "    here it is \"A .S3\", and \"A .S1\" at 1:3\n"
-unfolding clash_line clashes digits opens_block other_clash
+    codes "    here it is \"A .S3\", and perhaps \"A .S1\" at 1:3\n"
+unfolding clash_line clashes digits joint opens_block other_clash
 in_block = refl
 
 -- an IF between them has ended, and the clash stands before it
@@ -139,10 +139,10 @@ past_a_word : kept_clash (codes "IF\"A .S1\"uK=END\"A .S3\"") other (record { li
 unfolding clashes opens_block
 past_a_word = refl
 
--- a global has its assertion in all macros, also in those that come later
+-- a global has its assertion in all macros that are used, also in those that come later
 global : clash_lines (codes "\"/A .S1\"\"/A .S2\"") (at Name 0 8 ∷ at Name 8 16 ∷ []) (at Name 0 8 ∷ []) (at Name 0 8 ∷ []) ≡
-    codes "    here it is \"/A .S1\", and \"/A .S2\" at 1:9\n"
-unfolding clash_line clashes digits opens_block other_clash
+    codes "    here it is \"/A .S1\", and perhaps \"/A .S2\" at 1:9\n"
+unfolding clash_line clashes digits joint opens_block other_clash
 global = refl
 
 local : clash_lines (codes "\"A .S10\"\"A .S20\"") (at Name 0 8 ∷ at Name 8 16 ∷ []) (at Name 0 8 ∷ []) (at Name 0 8 ∷ []) ≡ []

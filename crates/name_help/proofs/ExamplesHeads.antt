@@ -1,6 +1,6 @@
 -- What is told of words in the head of a macro, worked out on paper: small texts, since each is computed.
 use Rattle.std.proofs.Common.{◌≡◌, List, [], ◌∷◌, ◌++◌, refl, pos}
-use Rattle.std.specs.Prelude.{ℕ, ◌+◌, codes, replicate, Some, None}
+use Rattle.std.specs.Prelude.{ℕ, ◌+◌, codes, replicate, take, Some, None}
 use Rattle.std.specs.Fmt.{digits}
 use Rattle.scald_lex.specs.declared.token.Token.{Token}
 use Rattle.scald_lex.specs.declared.token.TokenKind.{TokenKind}
@@ -56,6 +56,11 @@ in_default = refl
 in_given : strange_default (text (codes "D")) (head_on 0) (statement 17) (name_on 0) ≡ None
 unfolding begins_assign ends_assign is_strange is_value
 in_given = refl
+
+-- the head cut behind the word, which may be the name of a parameter
+in_cut : strange_default (text (codes "N")) (head_on 0) (statement 17) (take 9 (name_on 0)) ≡ None
+unfolding begins_assign ends_assign is_strange is_value
+in_cut = refl
 
 -- the same after CONST N=1;
 in_constant : strange_default (codes "CONST N=1;" ++ text (codes "N")) (constant (head_on 10)) (statement 27) (name_on 10) ≡ None

@@ -6,8 +6,9 @@ use Rattle.scald_base.specs.declared.refusal.Place.{Place}
 use Rattle.scald_lex.specs.declared.token.Token.{Token}
 use Rattle.scald_lex.specs.declared.token.TokenKind.{TokenKind}
 use Rattle.scald_lex.specs.declared.token.TokenKind.TheVariants.{Word, Number, Name, Symbol}
+use Rattle.help_text.specs.Assign.{begins_assign}
 use Rattle.help_text.specs.Near.{exchanged}
-use Rattle.name_help.specs.Double.{double_lines, is_before, is_declared}
+use Rattle.name_help.specs.Double.{begins_statement, double_lines, first_before, is_after, is_before, is_declared}
 use Rattle.name_help.specs.KindName.{drawn_as, kind_lines, near_use}
 use Rattle.name_help.specs.Turn.{leads}
 
@@ -30,8 +31,9 @@ on col = record { line = 1; col = col }
 -- ---- how other languages call a kind
 
 inverted_outputs : map drawn_as (codes "NAND" ∷ codes "nor" ∷ codes "Xnor" ∷ []) ≡
-    Some (codes "AND with a - before its output") ∷ Some (codes "OR with a - before its output")
-    ∷ Some (codes "XOR with a - before its output") ∷ []
+    Some (codes "AND with a - before its output; if it has two delays, exchange them")
+    ∷ Some (codes "OR with a - before its output; if it has two delays, exchange them")
+    ∷ Some (codes "XOR with a - before its output; if it has two delays, exchange them") ∷ []
 inverted_outputs = refl
 
 inverted_inputs : map drawn_as (codes "INV" ∷ codes "NOT" ∷ []) ≡
@@ -100,7 +102,7 @@ before_usual = refl
 
 -- NAND is nearly AND too
 drawn : kind_lines (codes "u : NAND") (used 8) (used 8) ≡
-    codes "    'NAND' is drawn as AND with a - before its output\n"
+    codes "    'NAND' is drawn as AND with a - before its output; if it has two delays, exchange them\n"
 unfolding exchanged leads
 drawn = refl
 
@@ -143,14 +145,49 @@ bodies =
 
 two_labels : double_lines (codes "MACRO M u:DRAWING D v:u;u:v;u:") bodies (on 29) ≡
     codes "    'u' stands first at 1:25\n"
-unfolding digits is_before
+unfolding begins_statement digits is_after is_before
 two_labels = refl
+
+-- before a colon also in a delay, ;g:B[a:a];a:B;a:B; and in a range, ;"X"<a:0>;a:
+abbrev delayed : List Token
+delayed =
+    symbol 59 0 ∷ word 1 2 ∷ symbol 58 2 ∷ word 3 4 ∷ symbol 91 4 ∷ word 5 6 ∷ symbol 58 6 ∷ word 7 8 ∷ symbol 93 8
+    ∷ symbol 59 9 ∷ word 10 11 ∷ symbol 58 11 ∷ word 12 13 ∷ symbol 59 13 ∷ word 14 15 ∷ symbol 58 15 ∷ []
+
+after_delay : first_before (codes ";g:B[a:a];a:B;a:") (codes "a") (codes ":") None delayed ≡ Some (word 10 11)
+unfolding begins_statement is_after is_before
+after_delay = refl
+
+after_range : first_before (codes ";\"X\"<a:0>;a:") (codes "a") (codes ":") None
+    (symbol 59 0 ∷ at Name 1 4 ∷ symbol 60 4 ∷ word 5 6 ∷ symbol 58 6 ∷ number 7 ∷ symbol 62 8 ∷ symbol 59 9
+    ∷ word 10 11 ∷ symbol 58 11 ∷ []) ≡ Some (word 10 11)
+unfolding begins_statement is_after is_before
+after_range = refl
+
+-- in two delays, [b:b,a:a], a comma is before it
+in_two_delays : first_before (codes "[b:b,a:a]") (codes "a") (codes ":") None
+    (symbol 91 0 ∷ word 1 2 ∷ symbol 58 2 ∷ word 3 4 ∷ symbol 44 4 ∷ word 5 6 ∷ symbol 58 6 ∷ word 7 8 ∷ symbol 93 8 ∷ []) ≡
+    None
+unfolding begins_statement is_after is_before
+in_two_delays = refl
+
+statements : map begins_statement (codes ";" ∷ codes "THEN" ∷ codes "ELSE" ∷ codes "DO" ∷ codes "[" ∷ codes "END" ∷ []) ≡
+    true ∷ true ∷ true ∷ true ∷ false ∷ false ∷ []
+unfolding begins_statement
+statements = refl
+
+-- an `=` in a default compares: {b=(a=1),a=
+compared : first_before (codes "{b=(a=1),a=") (codes "a") (codes "=") None
+    (symbol 123 0 ∷ word 1 2 ∷ symbol 61 2 ∷ symbol 40 3 ∷ word 4 5 ∷ symbol 61 5 ∷ number 6 ∷ symbol 41 7 ∷ symbol 44 8
+    ∷ word 9 10 ∷ symbol 61 10 ∷ []) ≡ Some (word 9 10)
+unfolding begins_assign is_after is_before
+compared = refl
 
 -- a parameter stands before a `=`, a formal before anything
 two_parameters : double_lines (codes "MACRO M {K=1,K=1}")
     (word 0 5 ∷ word 6 7 ∷ symbol 123 8 ∷ word 9 10 ∷ symbol 61 10 ∷ number 11 ∷ symbol 44 12 ∷ word 13 14 ∷ symbol 61 14
     ∷ number 15 ∷ symbol 125 16 ∷ []) (on 14) ≡ codes "    'K' stands first at 1:10\n"
-unfolding digits is_before
+unfolding begins_assign digits is_after is_before
 two_parameters = refl
 
 two_formals : double_lines (codes "MACRO M (\"A\",\"A\")")

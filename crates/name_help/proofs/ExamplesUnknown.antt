@@ -53,6 +53,11 @@ no_name : unknown_lines (codes "DRAWING D;IF 1 THEN")
 unfolding around_note begins_assign ends_assign ends_values is_known is_value leads turned_after
 no_name = refl
 
+-- a word that no token follows may be the name of a parameter that is given: A,P=
+values : map (is_value (codes "A,P=") None (word 0 1)) ((symbol 44 1 ∷ []) ∷ [] ∷ []) ≡ true ∷ false ∷ []
+unfolding is_value
+values = refl
+
 -- edges are told of one refusal alone
 edges_that_meet : map is_overlap (EdgesOverlap ∷ Syntax ∷ []) ≡ true ∷ false ∷ []
 edges_that_meet = refl

@@ -1,5 +1,5 @@
 -- Where a signal has another assertion than in a statement.
-use Rattle.std.specs.Prelude.{ℕ, ◌+◌, ◌-◌, ◌^◌, min, Bool, false, not, ◌&&◌, ◌||◌, ◌==◌, nat_lt, List, [], ◌∷◌, map, length, take, codes, Option, Some, None, if◌then◌else◌, ◌++◌}
+use Rattle.std.specs.Prelude.{ℕ, ◌+◌, ◌-◌, ◌^◌, min, Bool, true, false, not, ◌&&◌, ◌||◌, ◌==◌, nat_lt, List, [], ◌∷◌, map, length, take, codes, Option, Some, None, if◌then◌else◌, ◌++◌}
 use Rattle.std.specs.List.{prefix_len}
 use Rattle.std.specs.Str.{bytes_eq}
 use Rattle.scald_base.specs.declared.refusal.Place.{Place}
@@ -39,9 +39,13 @@ first_clash text name [] = None
 first_clash text name (t ∷ ts) =
     if clashes name (name_bytes text t) then Some t else first_clash text name ts
 
-unfoldable pub clash_line : List ℕ → List ℕ → Place → List ℕ
-clash_line name other place = line (
-    codes "    here it is " ∷ map printable name ∷ codes ", and " ∷ map printable other ∷ codes " at "
+-- the other may not be read
+unfoldable pub joint : Bool → List ℕ
+joint is_read = if is_read then codes ", and " else codes ", and perhaps "
+
+unfoldable pub clash_line : List ℕ → List ℕ → Place → Bool → List ℕ
+clash_line name other place is_read = line (
+    codes "    here it is " ∷ map printable name ∷ joint is_read ∷ map printable other ∷ codes " at "
     ∷ place_text place ∷ [])
 
 -- ---- what is read wherever the token at the place is read: no IF or FOR that has ended holds it, and no THEN before
@@ -99,33 +103,42 @@ before_it t (Some other) = if nat_lt other.start t.start then Some other else No
 
 -- one that is read with the token, or else the first: of a global that of the text, and else that of the macro or
 -- the drawing where it stands before the token
-abbrev pub clash_or : List ℕ → List Token → List Token → Token → Option Token → Option Token
-clash_or text all tokens t (Some other) = Some other
-clash_or text all tokens t None =
+abbrev pub first_other : List ℕ → List Token → List Token → Token → Option Token
+first_other text all tokens t =
     if is_global (name_bytes text t) then first_clash text (name_bytes text t) all
     else before_it t (first_clash text (name_bytes text t) tokens)
 
-unfoldable pub other_clash : List ℕ → List Token → List Token → Token → Option Token
+-- The Bool says whether it is read: the first may stand in a branch that is not taken, or in a macro
+-- that is not used.
+abbrev pub not_read : Option Token → Option (Token × Bool)
+not_read None = None
+not_read (Some other) = Some (other, false)
+
+abbrev pub clash_or : List ℕ → List Token → List Token → Token → Option Token → Option (Token × Bool)
+clash_or text all tokens t (Some other) = Some (other, true)
+clash_or text all tokens t None = not_read (first_other text all tokens t)
+
+unfoldable pub other_clash : List ℕ → List Token → List Token → Token → Option (Token × Bool)
 other_clash text all tokens t =
     if is_asserted (name_bytes text t)
     then clash_or text all tokens t (kept_clash text (name_bytes text t) t.place None 0 tokens)
     else None
 
-abbrev pub pair_or : Token → Option Token → Option (Token × Token) → Option (Token × Token)
+abbrev pub pair_or : Token → Option (Token × Bool) → Option (Token × (Token × Bool)) → Option (Token × (Token × Bool))
 pair_or t (Some other) rest = Some (t, other)
 pair_or t None rest = rest
 
 -- the first signal of a statement that has another assertion, and where it has, by all tokens of the text and those of
 -- the macro or the drawing
-abbrev pub first_pair : List ℕ → List Token → List Token → List Token → Option (Token × Token)
+abbrev pub first_pair : List ℕ → List Token → List Token → List Token → Option (Token × (Token × Bool))
 first_pair text all tokens [] = None
 first_pair text all tokens (t ∷ ts) =
     if is_symbol 59 t.kind then None
     else pair_or t (other_clash text all tokens t) (first_pair text all tokens ts)
 
-abbrev pub pair_line : List ℕ → Option (Token × Token) → List ℕ
+abbrev pub pair_line : List ℕ → Option (Token × (Token × Bool)) → List ℕ
 pair_line text None = []
-pair_line text (Some pair) = clash_line (spelled text pair.0) (spelled text pair.1) pair.1.place
+pair_line text (Some pair) = clash_line (spelled text pair.0) (spelled text pair.1.0) pair.1.0.place pair.1.1
 
 abbrev pub clash_lines : List ℕ → List Token → List Token → List Token → List ℕ
 clash_lines text all tokens statement = pair_line text (first_pair text all tokens statement)

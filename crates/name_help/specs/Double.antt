@@ -3,6 +3,7 @@ use Rattle.std.specs.Prelude.{ℕ, Bool, false, ◌&&◌, ◌||◌, ◌==◌, Li
 use Rattle.std.specs.Str.{bytes_eq}
 use Rattle.scald_base.specs.declared.refusal.Place.{Place}
 use Rattle.scald_lex.specs.declared.token.Token.{Token}
+use Rattle.help_text.specs.Assign.{begins_assign}
 use Rattle.help_text.specs.Head.{from_head}
 use Rattle.help_text.specs.Statement.{before_place, first_of, from_after, from_place, is_at, spelled}
 use Rattle.help_text.specs.Text.{line, place_text, quoted}
@@ -21,23 +22,37 @@ abbrev pub is_name : List ℕ → Bool
 is_name [] = false
 is_name (b ∷ bs) = b == 34
 
--- A label stands before a colon, a parameter before a `=`. Formals are names, and stand before any.
-unfoldable pub is_before : List ℕ → List ℕ → List ℕ → List Token → Bool
-is_before text word follower [] = false
-is_before text word follower (t ∷ ts) = is_name word || bytes_eq (spelled text t) follower
+-- a statement begins after this token
+unfoldable pub begins_statement : List ℕ → Bool
+begins_statement word =
+    (bytes_eq word (codes ";") || bytes_eq word (codes "THEN"))
+    || (bytes_eq word (codes "ELSE") || bytes_eq word (codes "DO"))
 
--- the first token of the text `word` before one of the text `follower`
-abbrev pub first_before : List ℕ → List ℕ → List ℕ → List Token → Option Token
-first_before text word follower [] = None
-first_before text word follower (t ∷ ts) =
-    if bytes_eq (spelled text t) word && is_before text word follower ts then Some t
-    else first_before text word follower ts
+-- A label begins a statement, and a parameter follows a brace or a comma.
+unfoldable pub is_after : List ℕ → List ℕ → Option Token → Bool
+is_after text follower None = false
+is_after text follower (Some last) =
+    if bytes_eq follower (codes ":") then begins_statement (spelled text last) else begins_assign last.kind
+
+-- A label stands before a colon, a parameter before a `=`. Formals are names, and stand anywhere.
+unfoldable pub is_before : List ℕ → List ℕ → List ℕ → Option Token → List Token → Bool
+is_before text word follower last [] = false
+is_before text word follower last (t ∷ ts) =
+    is_name word || (bytes_eq (spelled text t) follower && is_after text follower last)
+
+-- The first token of the text `word` that is declared before one of the text `follower`. This token
+-- stands before them all.
+abbrev pub first_before : List ℕ → List ℕ → List ℕ → Option Token → List Token → Option Token
+first_before text word follower last [] = None
+first_before text word follower last (t ∷ ts) =
+    if bytes_eq (spelled text t) word && is_before text word follower last ts then Some t
+    else first_before text word follower (Some t) ts
 
 -- ---- where a name is taken
 
 abbrev pub taken_here : List ℕ → List Token → Place → Token → Token → Option Token
 taken_here text tokens place t u =
-    first_before text (spelled text t) (spelled text u) (from_head text place tokens tokens)
+    first_before text (spelled text t) (spelled text u) None (from_head text place tokens tokens)
 
 abbrev pub taken_by : List ℕ → List Token → Place → Token → Token → Option Token → Option Token
 taken_by text tokens place t u None = taken_here text tokens place t u

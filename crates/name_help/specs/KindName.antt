@@ -34,9 +34,9 @@ near_macro text word tokens = near_after text (codes "MACRO") word tokens
 -- how what is no kind here is drawn, by its usual name
 abbrev pub drawn_as : List ℕ → Option (List ℕ)
 drawn_as word =
-    if near 0 word (codes "NAND") then Some (codes "AND with a - before its output")
-    else if near 0 word (codes "NOR") then Some (codes "OR with a - before its output")
-    else if near 0 word (codes "XNOR") then Some (codes "XOR with a - before its output")
+    if near 0 word (codes "NAND") then Some (codes "AND with a - before its output; if it has two delays, exchange them")
+    else if near 0 word (codes "NOR") then Some (codes "OR with a - before its output; if it has two delays, exchange them")
+    else if near 0 word (codes "XNOR") then Some (codes "XOR with a - before its output; if it has two delays, exchange them")
     else if near 0 word (codes "INV") || near 0 word (codes "NOT") then
     Some (codes "BUF with a - before its input")
     else if near 0 word (codes "DFF") || near 0 word (codes "FF") then Some (codes "REG")

@@ -50,7 +50,7 @@ given_in statement = braces (after_group 91 93 (after_kind statement))
 abbrev pub strange_default : List ℕ → List Token → List Token → List Token → Option (Token × Token)
 strange_default text tokens statement [] = None
 strange_default text tokens statement (name ∷ ts) =
-    default_from text tokens (take 256 (given_in statement)) name None (take 256 (braces ts))
+    default_from text tokens (given_in statement) name None (take 256 (braces ts))
 
 -- the same of the ranges of its formals, by the tokens from its word MACRO on
 abbrev pub strange_range : List ℕ → List Token → List Token → Option Token

@@ -34,10 +34,12 @@ abbrev pub names_value : Option Token → List Token → Bool
 names_value None ts = false
 names_value (Some last) ts = is_symbol 33 last.kind || (begins_assign last.kind && gives_value ts)
 
+-- A word that no token follows is that of a list that is cut: what it names is not known.
 unfoldable pub is_value : List ℕ → Option Token → Token → List Token → Bool
-is_value text last t ts =
+is_value text last t [] = false
+is_value text last t (u ∷ ts) =
     is_word t.kind && (is_absent (reserved_word (spelled text t))
-    && (not (bytes_eq (spelled text t) (codes "TO")) && not (names_value last ts)))
+    && (not (bytes_eq (spelled text t) (codes "TO")) && not (names_value last (u ∷ ts))))
 
 -- ---- the words that are known
 

@@ -2,7 +2,7 @@
 
 ghost use Rattle.std.specs.Prelude.{◌≡◌, ◌++◌, None, OnOk};
 ghost use Rattle.std.specs.List.{prefix_len};
-ghost use Rattle.name_help.specs.Clash.{assertion_lines, assertion_note, before_it, before_point, clash_line, clash_lines, clash_or, clashes, first_clash, first_pair, found_after, inside_after, is_asserted, is_base, is_end, is_for, is_global, kept_clash, leaves, name_bytes, open_after, opens_block, other_clash};
+ghost use Rattle.name_help.specs.Clash.{assertion_lines, assertion_note, before_it, before_point, clash_line, clash_lines, clash_or, clashes, first_clash, first_other, first_pair, found_after, inside_after, is_asserted, is_base, is_end, is_for, is_global, joint, kept_clash, leaves, name_bytes, not_read, open_after, opens_block, other_clash};
 
 use help_text::{
     Part, add_line, first_tokens, from_head, from_place, front, is_at, is_symbol, spelled,
@@ -199,33 +199,54 @@ fn before_it(token: Token, other: Option<Token>) -> Option<Token>
     }
 }
 
-/// What is found, or else the first name of the same signal with another assertion: of a global in
-/// all tokens, and else in these before the token.
+/// The first name of the same signal with another assertion: of a global in all tokens, and else in
+/// these before the token.
+fn first_other(text: &[u8], all: &[Token], tokens: &[Token], token: Token) -> Option<Token>
+    ensures { result ≡ first_other text.now all.now tokens.now token }
+{
+    let name = name_bytes(text, token);
+    if is_global(name) {
+        first_clash(text, all, name)
+    } else {
+        before_it(token, first_clash(text, tokens, name))
+    }
+}
+
+/// Another token, of which nobody knows whether it is read.
+fn not_read(other: Option<Token>) -> Option<(Token, bool)>
+    ensures { result ≡ not_read other }
+{
+    match other {
+        Some(other) => Some((other, false)),
+        None => None,
+    }
+}
+
+/// What is found, which is read, or else the first, which may not be.
 fn clash_or(
     text: &[u8],
     all: &[Token],
     tokens: &[Token],
     token: Token,
     found: Option<Token>,
-) -> Option<Token>
+) -> Option<(Token, bool)>
     ensures { result ≡ clash_or text.now all.now tokens.now token found }
 {
     match found {
-        Some(other) => Some(other),
-        None => {
-            let name = name_bytes(text, token);
-            if is_global(name) {
-                first_clash(text, all, name)
-            } else {
-                before_it(token, first_clash(text, tokens, name))
-            }
-        }
+        Some(other) => Some((other, true)),
+        None => not_read(first_other(text, all, tokens, token)),
     }
 }
 
-/// A name of the signal of a token with another assertion, where the token has one.
+/// A name of the signal of a token with another assertion, where the token has one, and whether it
+/// is read.
 #[tactic(auto, unfolding(crate::specs::Clash::other_clash))]
-fn other_clash(text: &[u8], all: &[Token], tokens: &[Token], token: Token) -> Option<Token>
+fn other_clash(
+    text: &[u8],
+    all: &[Token],
+    tokens: &[Token],
+    token: Token,
+) -> Option<(Token, bool)>
     ensures { result ≡ other_clash text.now all.now tokens.now token }
 {
     let name = name_bytes(text, token);
@@ -248,7 +269,7 @@ fn first_pair(
     all: &[Token],
     tokens: &[Token],
     statement: &[Token],
-) -> Option<(Token, Token)>
+) -> Option<(Token, (Token, bool))>
     ensures { result ≡ first_pair text.now all.now tokens.now statement.now }
 {
     let mut rest = statement;
@@ -264,6 +285,14 @@ fn first_pair(
     None
 }
 
+/// What stands before another assertion.
+#[tactic(auto, unfolding(crate::specs::Clash::joint))]
+fn joint(is_read: bool) -> &'static [u8]
+    ensures { result.now ≡ joint is_read }
+{
+    if is_read { b", and " } else { b", and perhaps " }
+}
+
 /// A signal's name, and where it has another assertion.
 #[tactic(auto, unfolding(crate::specs::Clash::clash_line))]
 fn add_clash<'a>(
@@ -271,15 +300,16 @@ fn add_clash<'a>(
     name: &'a [u8],
     other: &'a [u8],
     place: Place,
+    is_read: bool,
 ) -> Result<(), NoMemory>
-    ensures { OnOk result (out.new ≡ out.old ++ clash_line name.now other.now place) }
+    ensures { OnOk result (out.new ≡ out.old ++ clash_line name.now other.now place is_read) }
 {
     add_line(
         out,
         &[
             Part::Text(b"    here it is "),
             Part::Shown(name),
-            Part::Text(b", and "),
+            Part::Text(joint(is_read)),
             Part::Shown(other),
             Part::Text(b" at "),
             Part::Place(place),
@@ -298,9 +328,13 @@ fn add_clashes(
     ensures { OnOk result (out.new ≡ out.old ++ clash_lines text.now all.now tokens.now statement.now) }
 {
     match first_pair(text, all, tokens, statement) {
-        Some((token, other)) => {
-            add_clash(out, spelled(text, token), spelled(text, other), other.place)
-        }
+        Some((token, (other, is_read))) => add_clash(
+            out,
+            spelled(text, token),
+            spelled(text, other),
+            other.place,
+            is_read,
+        ),
         None => Ok(()),
     }
 }

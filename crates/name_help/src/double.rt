@@ -1,10 +1,10 @@
 //! Where a name that is taken stands first.
 
-ghost use Rattle.std.specs.Prelude.{◌≡◌, ◌++◌, OnOk};
-ghost use Rattle.name_help.specs.Double.{double_lines, first_after, first_before, is_before, is_declared, is_name, taken_at};
+ghost use Rattle.std.specs.Prelude.{◌≡◌, ◌++◌, None, OnOk};
+ghost use Rattle.name_help.specs.Double.{begins_statement, double_lines, first_after, first_before, is_after, is_before, is_declared, is_name, taken_at};
 
 use help_text::{
-    Part, add_line, before_place, first_of, from_after, from_head, from_place, is_at, spelled,
+    Part, add_line, before_place, begins_assign, first_of, from_after, from_head, from_place, is_at, spelled,
 };
 use scald_base::{Bytes, NoMemory, Place, same_bytes};
 use scald_lex::Token;
@@ -30,27 +30,67 @@ fn is_name(word: &[u8]) -> bool
     matches!(word, [b'"', ..])
 }
 
-/// Whether tokens begin with one of that text, or with any where the word is a name in quotes.
+/// Whether a statement begins after a word.
+#[tactic(auto, unfolding(crate::specs::Double::begins_statement))]
+fn begins_statement(word: &[u8]) -> bool
+    ensures { result ≡ begins_statement word.now }
+{
+    same_bytes(word, b";")
+        || same_bytes(word, b"THEN")
+        || same_bytes(word, b"ELSE")
+        || same_bytes(word, b"DO")
+}
+
+/// Whether a label, before a colon, or a parameter may stand after a token.
+#[tactic(auto, unfolding(crate::specs::Double::is_after))]
+fn is_after(text: &[u8], last: Option<Token>, follower: &[u8]) -> bool
+    ensures { result ≡ is_after text.now follower.now last }
+{
+    match last {
+        None => false,
+        Some(last) => {
+            if same_bytes(follower, b":") {
+                begins_statement(spelled(text, last))
+            } else {
+                begins_assign(last)
+            }
+        }
+    }
+}
+
+/// Whether a word between these is declared there: a label or a parameter before this follower, or
+/// a name in quotes.
 #[tactic(auto, unfolding(crate::specs::Double::is_before))]
-fn is_before(text: &[u8], tokens: &[Token], word: &[u8], follower: &[u8]) -> bool
-    ensures { result ≡ is_before text.now word.now follower.now tokens.now }
+fn is_before(
+    text: &[u8],
+    last: Option<Token>,
+    tokens: &[Token],
+    word: &[u8],
+    follower: &[u8],
+) -> bool
+    ensures { result ≡ is_before text.now word.now follower.now last tokens.now }
 {
     match tokens {
-        [token, ..] => is_name(word) || same_bytes(spelled(text, *token), follower),
+        [token, ..] => {
+            is_name(word)
+                || same_bytes(spelled(text, *token), follower) && is_after(text, last, follower)
+        }
         [] => false,
     }
 }
 
-/// The first token of this text before one of that text, or before any where the text is a name in
-/// quotes.
+/// The first token of this text that is declared before one of that text.
 fn first_before(text: &[u8], tokens: &[Token], word: &[u8], follower: &[u8]) -> Option<Token>
-    ensures { result ≡ first_before text.now word.now follower.now tokens.now }
+    ensures { result ≡ first_before text.now word.now follower.now None tokens.now }
 {
+    let mut last = None;
     let mut rest = tokens;
     'tokens: while let [token, others @ ..] = rest {
-        if same_bytes(spelled(text, *token), word) && is_before(text, others, word, follower) {
+        let is_same = same_bytes(spelled(text, *token), word);
+        if is_same && is_before(text, last, others, word, follower) {
             return Some(*token);
         }
+        last = Some(*token);
         rest = others;
     }
     None

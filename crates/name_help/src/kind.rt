@@ -54,11 +54,11 @@ fn drawn_as(word: &[u8]) -> Option<&'static [u8]>
     ensures { option_copied result ≡ drawn_as word.now }
 {
     if near(0, word, b"NAND") {
-        Some(b"AND with a - before its output")
+        Some(b"AND with a - before its output; if it has two delays, exchange them")
     } else if near(0, word, b"NOR") {
-        Some(b"OR with a - before its output")
+        Some(b"OR with a - before its output; if it has two delays, exchange them")
     } else if near(0, word, b"XNOR") {
-        Some(b"XOR with a - before its output")
+        Some(b"XOR with a - before its output; if it has two delays, exchange them")
     } else if near(0, word, b"INV") || near(0, word, b"NOT") {
         Some(b"BUF with a - before its input")
     } else if near(0, word, b"DFF") || near(0, word, b"FF") {

@@ -91,7 +91,7 @@ fn strange_default(
         [name, rest @ ..] => default_among(
             text,
             tokens,
-            first_tokens(given_in(statement)),
+            given_in(statement),
             *name,
             first_tokens(braces(rest)),
         ),

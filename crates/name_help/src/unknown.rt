@@ -54,13 +54,15 @@ pub fn names_value(last: Option<Token>, rest: &[Token]) -> bool
     }
 }
 
-/// Whether a token between these is a word that stands for a number.
+/// Whether a token between these is a word that stands for a number. One that no token follows is
+/// that of a list that is cut: what it names is not known.
 #[tactic(auto, unfolding(crate::specs::Unknown::is_value))]
 pub fn is_value(text: &[u8], last: Option<Token>, token: Token, rest: &[Token]) -> bool
     ensures { result ≡ is_value text.now last token rest.now }
 {
     let word = spelled(text, token);
-    is_word(token)
+    !rest.is_empty()
+        && is_word(token)
         && reserved_word(word).is_none()
         && !same_bytes(word, b"TO")
         && !names_value(last, rest)

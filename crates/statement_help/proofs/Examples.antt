@@ -1,6 +1,6 @@
 -- What is told of the numbers, connections, parameters and bits of statements, worked out on paper.
 use Rattle.std.proofs.Common.{◌≡◌, List, [], ◌∷◌, refl, pos}
-use Rattle.std.specs.Prelude.{ℕ, ◌+◌, codes, Some}
+use Rattle.std.specs.Prelude.{ℕ, ◌+◌, codes, map, take, Some}
 use Rattle.std.specs.Fmt.{digits}
 use Rattle.scald_lex.specs.declared.token.Token.{Token}
 use Rattle.scald_lex.specs.declared.token.TokenKind.{TokenKind}
@@ -143,6 +143,15 @@ connections =
 widths : bits_line (codes "bits: ") [] [] connections ≡ codes "bits: 3, ? -> 1\n"
 unfolding bits_line bits_with bits_word digits separates separator
 widths = refl
+
+-- cut before its `;`, and behind a comma: nothing is told of what may have more bits
+abbrev cut : ℕ → List ℕ
+cut count = bits_line (codes "bits: ") [] [] (take count connections)
+
+cut_lists : map cut (0 ∷ 7 ∷ 8 ∷ 17 ∷ []) ≡
+    codes "bits: ...\n" ∷ codes "bits: ...\n" ∷ codes "bits: 3, ...\n" ∷ codes "bits: 3, ? -> ...\n" ∷ []
+unfolding bits_line bits_with bits_word digits separates separator
+cut_lists = refl
 
 -- ---- ranges, in a macro with the formal "A"<1:2> and in none
 

@@ -1,6 +1,6 @@
 -- How wide connections have to be, and which does not fit, worked out on paper.
 use Rattle.std.proofs.Common.{◌≡◌, List, [], ◌∷◌, refl, pos, false}
-use Rattle.std.specs.Prelude.{ℕ, ◌+◌, codes, Some, None}
+use Rattle.std.specs.Prelude.{ℕ, ◌+◌, codes, take, Some, None}
 use Rattle.std.specs.Fmt.{digits}
 use Rattle.scald_lex.specs.declared.token.Token.{Token}
 use Rattle.scald_lex.specs.declared.token.TokenKind.{TokenKind}
@@ -56,6 +56,24 @@ wide_input = refl
 one_output : misfit_from [] [] (lists 1 1) false (Some 0) (lists 1 0) ≡ Some (at Name 10 13, (2, 1))
 unfolding bits_with separates
 one_output = refl
+
+-- cut before the `;`: the last connection may have more bits, and the one before it has its own
+wide_output : misfit_from [] [] (lists 1 1) false (Some 0) (lists 1 2) ≡ Some (at Name 10 13, (2, 3))
+unfolding bits_with separates
+wide_output = refl
+
+cut_output : misfit_from [] [] (lists 1 1) false (Some 0) (take 13 (lists 1 2)) ≡ None
+unfolding bits_with separates
+cut_output = refl
+
+whole_input : misfit_from [] [] (lists 1 1) false (Some 0) (take 7 (lists 2 1)) ≡ Some (at Name 0 3, (2, 3))
+unfolding bits_with separates
+whole_input = refl
+
+-- the formals cut behind a name, whose range is not among them
+cut_formal : misfit_from [] [] (take 8 (lists 1 1)) false (Some 0) (lists 1 2) ≡ None
+unfolding bits_with separates
+cut_formal = refl
 
 -- the second of two inputs, "A","B"; as formals, which have one bit each
 second_input : misfit_from [] [] (at Name 0 3 ∷ symbol 44 3 ∷ at Name 4 7 ∷ symbol 59 7 ∷ []) false (Some 0)

@@ -99,9 +99,10 @@ unfoldable pub bits_with : List ℕ → List Token → Option ℕ → Token → 
 bits_with text head bits t ts =
     if is_term text t then together bits (term_bits text head t ts) else bits
 
--- the bits of each connection, after so many of the first
+-- The bits of each connection, after so many of the first. Where no `;` ends them the list is cut,
+-- and its last connection may have more bits.
 abbrev pub bits_text : List ℕ → List Token → Option ℕ → List Token → List ℕ
-bits_text text head bits [] = bits_word bits
+bits_text text head bits [] = codes "..."
 bits_text text head bits (t ∷ ts) =
     if is_symbol 59 t.kind then bits_word bits
     else if separates t.kind then

@@ -61,10 +61,15 @@ misfit_by is_output bits t None = None
 misfit_by is_output bits t (Some width) =
     if bits == width || (not is_output && bits == 1) then None else Some (t, (width, bits))
 
+-- by what follows a formal's name: where nothing does, the list is cut
+abbrev pub formal_bits : List Token → Option ℕ
+formal_bits [] = None
+formal_bits (t ∷ ts) = range_bits (t ∷ ts)
+
 abbrev pub misfit_with : Bool → ℕ → List Token → Option (Token × (ℕ × ℕ))
 misfit_with is_output bits [] = None
 misfit_with is_output bits (t ∷ ts) =
-    if bits == 0 then None else misfit_by is_output bits t (range_bits ts)
+    if bits == 0 then None else misfit_by is_output bits t (formal_bits ts)
 
 -- The formal's name, its width and that of a connection of so many bits, where they do not fit.
 -- What has no bits is no connection.
@@ -82,10 +87,11 @@ misfit_or (Some found) rest = Some found
 misfit_or None rest = rest
 
 -- The first that does not fit, among the connections that begin with these tokens, the first of
--- which has so many bits before them.
+-- which has so many bits before them. Where no `;` ends them the list is cut, and its last connection
+-- may have more bits.
 abbrev pub misfit_from : List ℕ → List Token → List Token → Bool → Option ℕ → List Token →
     Option (Token × (ℕ × ℕ))
-misfit_from text head formals is_output bits [] = misfit is_output bits formals
+misfit_from text head formals is_output bits [] = None
 misfit_from text head formals is_output bits (t ∷ ts) =
     if is_symbol 59 t.kind then misfit is_output bits formals
     else if separates t.kind then misfit_or (misfit is_output bits formals)

@@ -188,7 +188,8 @@ pub fn bits_with(
     }
 }
 
-/// The bits of each connection.
+/// The bits of each connection. Where no `;` ends them the list is cut, and its last connection may
+/// have more bits.
 fn add_bits(
     out: &mut Bytes,
     text: &[u8],
@@ -212,7 +213,7 @@ fn add_bits(
         }
         rest = others;
     }
-    add_word(out, bits)
+    out.extend(b"...")
 }
 
 /// The bits of the first connections in the macro with this head, after these words.

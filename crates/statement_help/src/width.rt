@@ -1,7 +1,7 @@
 //! How wide the connections of a use have to be, and which connection of a macro's use is not.
 
 ghost use Rattle.std.specs.Prelude.{◌≡◌, ◌++◌, OnOk, Some, false};
-ghost use Rattle.statement_help.specs.Width.{bit_note, connections_bits, fit_lines, formals_line, found_line, from_name, is_arrow, is_name, misfit, misfit_by, misfit_from, misfit_in, misfit_line, misfit_with, next_formals, rule, width_lines, widths_of};
+ghost use Rattle.statement_help.specs.Width.{bit_note, connections_bits, fit_lines, formal_bits, formals_line, found_line, from_name, is_arrow, is_name, misfit, misfit_by, misfit_from, misfit_in, misfit_line, misfit_with, next_formals, rule, width_lines, widths_of};
 
 use crate::bits::{add_bits_line, bits_with, range_bits, separates};
 use crate::use_hint::{after_name, head_of_use, kind_of_use};
@@ -115,13 +115,23 @@ fn misfit_by(
     }
 }
 
+/// How many bits a formal has, by what follows its name: where nothing does, the list is cut.
+fn formal_bits(rest: &[Token]) -> Option<u64>
+    ensures { result ≡ formal_bits rest.now }
+{
+    match rest {
+        [_, ..] => range_bits(rest),
+        [] => None,
+    }
+}
+
 /// The same of the formal that tokens begin with. What has no bits is no connection.
 fn misfit_with(is_output: bool, bits: u64, formals: &[Token]) -> Option<(Token, (u64, u64))>
     ensures { result ≡ misfit_with is_output bits formals.now }
 {
     match formals {
         [formal, rest @ ..] if bits != 0 => {
-            misfit_by(is_output, bits, *formal, range_bits(rest))
+            misfit_by(is_output, bits, *formal, formal_bits(rest))
         }
         _ => None,
     }
@@ -148,7 +158,7 @@ fn next_formals(bits: Option<u64>, formals: &[Token]) -> &[Token]
 }
 
 /// The first formal whose connection does not fit, with both widths: of a use in the macro with
-/// this head.
+/// this head. Where no `;` ends the connections the list is cut, and the last may have more bits.
 fn first_misfit(
     text: &[u8],
     head: &[Token],
@@ -177,7 +187,7 @@ fn first_misfit(
         }
         rest = others;
     }
-    misfit(is_output, bits, formals)
+    None
 }
 
 /// The same of a use of the macro whose head goes on with these tokens after its name.
