@@ -63,6 +63,11 @@ many() {
     awk -v count="$1" -v text="$2" 'BEGIN { for (i = 0; i < count; i++) printf "%s", text }'
 }
 
+# numbered COUNT BEFORE AFTER: the numbers from 1 on, each between BEFORE and AFTER
+numbered() {
+    awk -v count="$1" -v before="$2" -v after="$3" 'BEGIN { for (i = 1; i <= count; i++) printf "%s%d%s", before, i, after }'
+}
+
 # ranges COUNT BEFORE AFTER: statements labelled l0, l1 .., each with the next 256 bits between BEFORE and AFTER
 ranges() {
     awk -v count="$1" -v before="$2" -v after="$3" 'BEGIN {

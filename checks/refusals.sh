@@ -741,6 +741,14 @@ macro refused '5 DoubleName 3:15' 'MACRO M {N=1, N=2} ();' 'END;' 'DRAWING ROW;'
 helps "    'N' stands first at 3:10"
 macro refused '5 DoubleName 3:19' 'MACRO M ("A") -> ("A");' 'END;' 'DRAWING ROW;' 'END;'
 helps "    '\"A\"' stands first at 3:10"
+# a word before a colon is no label in a delay or a range, nor one before an = a parameter in a default
+second '5 DoubleName 7:1' 'CONST a = 1;' 'DRAWING ROW;' 'g : BUF [a:a, a:a] ("A"<a:0>) -> ("X");' 'a : BUF [0:0] ("A") -> ("Y");' \
+    'a : BUF [0:0] ("B") -> ("Z");' 'END;'
+helps "    'a' stands first at 6:1"
+early '5 DoubleName 4:61' 'IF 1 THEN a : BUF [0:0] ("A") -> ("X"); END; IF 1 THEN ELSE a : BUF [0:0] ("B") -> ("Y"); END;'
+helps "    'a' stands first at 4:11"
+macro refused '5 DoubleName 3:24' 'MACRO M {b=(a=1), a=1, a=2} ();' 'END;' 'DRAWING ROW;' 'END;'
+helps "    'a' stands first at 3:19"
 
 # --- version 2
 early '3 Syntax 4:5' 'FOR I = 0 TO 1 DO' 'END;'
@@ -865,11 +873,11 @@ drawn() {
     helps "    '$1' is drawn as $2"
 }
 for name in nand NAND; do
-    drawn "$name" 'AND with a - before its output'
+    drawn "$name" 'AND with a - before its output; if it has two delays, exchange them'
 done
-drawn NOR 'OR with a - before its output'
+drawn NOR 'OR with a - before its output; if it has two delays, exchange them'
 for name in xnor XNOR; do
-    drawn "$name" 'XOR with a - before its output'
+    drawn "$name" 'XOR with a - before its output; if it has two delays, exchange them'
 done
 for name in INV not NOT; do
     drawn "$name" 'BUF with a - before its input'
@@ -969,6 +977,18 @@ helps "    a formal's range names 'K' at 3:29, which is neither a constant nor a
     '    MACRO M {N=4, D=N*5} ("A"<0:K-N>) -> ("Z");' '                                ^'
 expanded '22 UnknownName 6:1' 'MACRO M {N=P} ("A") -> ("Z");' 'END;' 'DRAWING ROW;' 'u : M {N=Q} ("A") -> ("X");' 'END;'
 unknown '    no name is known here' "    'Q' is none of these"
+# of a list that goes on behind 256 tokens the last word may be the name of a parameter that is given
+many_given="A=1+1, $(numbered 63 P '=1, ')"
+expanded '22 UnknownName 6:1' "MACRO M {${many_given}B=1} (\"A\") -> (\"Z\");" 'END;' 'DRAWING ROW;' \
+    "u : M {${many_given}B=ZZ} (\"A\") -> (\"X\");" 'END;'
+unknown
+expanded '22 UnknownName 6:1' "MACRO M {${many_given}B=ZZ} (\"A\") -> (\"Z\");" 'END;' 'DRAWING ROW;' 'u : M ("A") -> ("X");' 'END;'
+unknown
+# and a default may be given there
+many_given=$(numbered 64 P '=1, ')
+expanded '22 UnknownName 6:1' "MACRO M {B=QQ, ${many_given}C=1} (\"A\") -> (\"Z\");" 'END;' 'DRAWING ROW;' \
+    "u : M {${many_given}B=1, C=ZZ} (\"A\") -> (\"X\");" 'END;'
+unknown
 # the name that is nearly written: a constant before the statement, a parameter, a variable before it
 macro unexpanded '22 UnknownName 4:1' 'MACRO M {TMAX=1} ("A") -> ("Z");' 'b1 : BUF [0:TMAXX] ("A") -> ("Z");' 'END;' 'DRAWING ROW;' \
     'u : M ("A") -> ("X");' 'END;'
@@ -1104,15 +1124,15 @@ drawing '8 AssertionClash 8:1' 'IF 0 THEN' 'b0 : BUF [0:0] ("A .S1-5") -> ("V");
     'b2 : BUF [0:0] ("A .S1-3") -> ("Y");'
 clash '    here it is "A .S1-3", and "A .S1-2" at 7:17'
 drawing '8 AssertionClash 7:1' 'IF 1 THEN' 'b0 : BUF [0:0] ("A .S1-5") -> ("V");' 'END;' 'b1 : BUF [0:0] ("A .S1-3") -> ("X");'
-clash '    here it is "A .S1-3", and "A .S1-5" at 5:17'
+clash '    here it is "A .S1-3", and perhaps "A .S1-5" at 5:17'
 # a global is one net in all macros
 macro unexpanded '8 AssertionClash 8:1' 'MACRO M ("A") -> ("Z");' 'r1 : REG [0:0] ("/CK .P0-4", "A") -> ("Z");' 'END;' \
     'DRAWING ROW;' 'u : M ("A") -> ("X");' 'r2 : REG [0:0] ("/CK .P0-5", "B") -> ("Y");' 'END;'
-clash '    here it is "/CK .P0-5", and "/CK .P0-4" at 4:17'
+clash '    here it is "/CK .P0-5", and perhaps "/CK .P0-4" at 4:17'
 macro unexpanded '8 AssertionClash 4:1' 'MACRO M ("A") -> ("Z");' 'b1 : BUF [0:0] ("/G .S1-2") -> ("Z");' 'END;' \
     'MACRO N ("A") -> ("Z");' 'b1 : BUF [0:0] ("/G .S1-4") -> ("Z");' 'END;' 'DRAWING ROW;' 'u : N ("A") -> ("X");' \
     'v : M ("A") -> ("Y");' 'END;'
-clash '    here it is "/G .S1-2", and "/G .S1-4" at 7:17' '    it is reached by v at 11:1'
+clash '    here it is "/G .S1-2", and perhaps "/G .S1-4" at 7:17' '    it is reached by v at 11:1'
 macro unexpanded '8 AssertionClash 4:1' 'MACRO M ("A") -> ("Z");' 'b1 : BUF [0:0] ("A .S") -> ("Z");' 'END;' 'DRAWING ROW;' \
     'u : M ("A") -> ("X");' 'END;'
 drawing '12 Width 4:1' 'c1 : MIN_PULSE_CHK ("A"<0:255> & "B");'
@@ -1146,6 +1166,11 @@ wide "$by_formal" '    bits of the connections: 8, 1 -> 8' '    bits of the form
 macro unexpanded '12 Width 4:1' 'MACRO M ("A"<0:2>) -> ("Z");' 'b1 : BUF [0:0] ("A") -> ("Z");' 'END;' 'DRAWING ROW;' \
     'u : M ("A"<0:2>) -> ("X");' 'END;'
 wide "$by_output" '    bits of the connections: 3 -> 1' "    'M' is used only at 7:1:" '    u : M ("A"<0:2>) -> ("X");' '    ^'
+
+# of lists that go on behind 256 tokens the rest is not looked at: neither the last connection nor its formal is judged
+macro unexpanded '12 Width 6:1' "MACRO M ($(numbered 124 '"F' '", ')\"G\"<0:3>, \"H\"<0:3>) -> (\"Z\");" 'END;' 'DRAWING ROW;' \
+    "u : M ($(many 124 '"A", ')\"B\"<0:1> & \"B\"<0:1>, \"C\"<0:2>) -> (\"X\");" 'END;'
+wide "$by_formal" "    bits of the connections: $(many 124 '1, ')..." "    bits of the formals: $(many 124 '1, ')4, ..."
 
 # --- values where a statement is reached
 limits='    SETUP_HOLD_CHK takes SETUP and HOLD, each once; neither is negative, and together they are at most the period'
