@@ -1,6 +1,6 @@
 -- What is told of a name in an expression that means nothing there, worked out on paper.
 use Rattle.std.proofs.Common.{◌≡◌, List, [], ◌∷◌, ◌++◌, map, refl, true, false, pos}
-use Rattle.std.specs.Prelude.{ℕ, ◌+◌, codes}
+use Rattle.std.specs.Prelude.{ℕ, ◌+◌, codes, None}
 use Rattle.scald_base.specs.declared.refusal.Place.{Place}
 use Rattle.scald_base.specs.declared.refusal.RefusalKind.TheVariants.{EdgesOverlap, Syntax}
 use Rattle.scald_lex.specs.declared.token.Token.{Token}
