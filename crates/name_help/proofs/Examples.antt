@@ -1,5 +1,5 @@
 -- What is told of names and of words that are not known, worked out on paper.
-use Rattle.std.proofs.Common.{◌≡◌, true, false, List, [], ◌∷◌, ◌++◌, map, refl, pos}
+use Rattle.std.proofs.Common.{◌≡◌, true, false, List, [], ◌∷◌, map, refl, pos}
 use Rattle.std.specs.Prelude.{ℕ, ◌+◌, Bool, codes, replicate, Some, None}
 use Rattle.std.specs.Fmt.{digits}
 use Rattle.scald_lex.specs.declared.token.Token.{Token}

@@ -1,11 +1,10 @@
 -- Which names are known in a statement, and what is told of one that is not, worked out on paper.
 use Rattle.std.proofs.Common.{◌≡◌, true, false, List, [], ◌∷◌, ◌++◌, map, refl, pos}
-use Rattle.std.specs.Prelude.{ℕ, ◌+◌, Bool, codes, replicate, Some, None}
+use Rattle.std.specs.Prelude.{ℕ, ◌+◌, codes, replicate, None}
 use Rattle.std.specs.Fmt.{digits}
 use Rattle.std.specs.List.{concat}
 use Rattle.scald_base.specs.declared.refusal.Place.{Place}
 use Rattle.scald_lex.specs.declared.token.Token.{Token}
-use Rattle.scald_lex.specs.declared.token.TokenKind.{TokenKind}
 use Rattle.scald_lex.specs.declared.token.TokenKind.TheVariants.{Word, Number, Symbol}
 use Rattle.help_text.specs.Assign.{begins_assign, ends_assign}
 use Rattle.help_text.specs.Near.{exchanged}

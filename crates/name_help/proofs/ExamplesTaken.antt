@@ -1,6 +1,6 @@
 -- What is told of words that name no kind, and of names that are taken, worked out on paper.
 use Rattle.std.proofs.Common.{◌≡◌, true, false, List, [], ◌∷◌, ◌++◌, map, refl, pos}
-use Rattle.std.specs.Prelude.{ℕ, ◌+◌, codes, Option, Some, None}
+use Rattle.std.specs.Prelude.{ℕ, ◌+◌, codes, Some, None}
 use Rattle.std.specs.Fmt.{digits}
 use Rattle.scald_base.specs.declared.refusal.Place.{Place}
 use Rattle.scald_lex.specs.declared.token.Token.{Token}

@@ -1,5 +1,5 @@
 -- What is told of a name in an expression that means nothing there, worked out on paper.
-use Rattle.std.proofs.Common.{◌≡◌, List, [], ◌∷◌, ◌++◌, map, refl, true, false, pos}
+use Rattle.std.proofs.Common.{◌≡◌, [], ◌∷◌, ◌++◌, map, refl, true, false, pos}
 use Rattle.std.specs.Prelude.{ℕ, ◌+◌, codes, None}
 use Rattle.scald_base.specs.declared.refusal.Place.{Place}
 use Rattle.scald_base.specs.declared.refusal.RefusalKind.TheVariants.{EdgesOverlap, Syntax}

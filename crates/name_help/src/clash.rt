@@ -241,12 +241,7 @@ fn clash_or(
 /// A name of the signal of a token with another assertion, where the token has one, and whether it
 /// is read.
 #[tactic(auto, unfolding(crate::specs::Clash::other_clash))]
-fn other_clash(
-    text: &[u8],
-    all: &[Token],
-    tokens: &[Token],
-    token: Token,
-) -> Option<(Token, bool)>
+fn other_clash(text: &[u8], all: &[Token], tokens: &[Token], token: Token) -> Option<(Token, bool)>
     ensures { result ≡ other_clash text.now all.now tokens.now token }
 {
     let name = name_bytes(text, token);
@@ -290,7 +285,11 @@ fn first_pair(
 fn joint(is_read: bool) -> &'static [u8]
     ensures { result.now ≡ joint is_read }
 {
-    if is_read { b", and " } else { b", and perhaps " }
+    if is_read {
+        b", and "
+    } else {
+        b", and perhaps "
+    }
 }
 
 /// A signal's name, and where it has another assertion.

@@ -4,7 +4,8 @@ ghost use Rattle.std.specs.Prelude.{◌≡◌, ◌++◌, None, OnOk};
 ghost use Rattle.name_help.specs.Double.{begins_statement, double_lines, first_after, first_before, is_after, is_before, is_declared, is_name, taken_at};
 
 use help_text::{
-    Part, add_line, before_place, begins_assign, first_of, from_after, from_head, from_place, is_at, spelled,
+    Part, add_line, before_place, begins_assign, first_of, from_after, from_head, from_place,
+    is_at, spelled,
 };
 use scald_base::{Bytes, NoMemory, Place, same_bytes};
 use scald_lex::Token;
