@@ -65,19 +65,24 @@ no_word : map (λ (k : TokenKind). meant_keyword (codes "ENDD") (token k 1 1 0 4
     (Number (pos 1) ∷ Name ∷ kinds.Arrow ∷ Symbol 59 ∷ kinds.End ∷ []) ≡ None ∷ None ∷ None ∷ None ∷ None ∷ []
 no_word = refl
 
-noted : word_lines (codes "note\n") (codes "clock") None (word 0 5) ≡ codes "note\n"
+noted : word_lines (codes "note\n") (codes "clock") [] None (word 0 5) ≡ codes "note\n"
 noted = refl
 
-not_noted : word_lines [] (codes "clock") None (word 0 5) ≡ codes "    is CLOCK meant?\n"
+not_noted : word_lines [] (codes "clock") [] None (word 0 5) ≡ codes "    is CLOCK meant?\n"
 not_noted = refl
 
 -- of the word before too, unless it is a label
-both_words : word_lines [] (codes "macr drawin") (Some (word 0 4)) (word 5 11) ≡
+word_before : word_lines [] (codes "macr then") (word 0 4 ∷ word 5 9 ∷ []) (Some (word 0 4)) (word 5 9) ≡
+    codes "    is MACRO meant?\n"
+unfolding exchanged
+word_before = refl
+
+both_words : word_lines [] (codes "macr drawin") [] (Some (word 0 4)) (word 5 11) ≡
     codes "    is DRAWING meant?\n    is MACRO meant?\n"
 unfolding exchanged
 both_words = refl
 
-label : meant_before (codes "clock:") (Some (word 0 5)) (symbol 58 5) ≡ []
+label : meant_before (codes "clock:") [] (Some (word 0 5)) (symbol 58 5) ≡ []
 label = refl
 
 -- ---- a reserved word where a name of the drawing's own would stand

@@ -1,16 +1,15 @@
 -- How what other languages write so is written here.
-use Rattle.std.specs.Prelude.{ℕ, Bool, true, false, not, ◌&&◌, ◌||◌, ◌==◌, List, [], ◌∷◌, codes, Option, Some, None, if◌then◌else◌}
-use Rattle.std.specs.Str.{bytes_eq}
-use Rattle.scald_base.specs.declared.refusal.Place.{Place}
+use Rattle.std.specs.Prelude.{ℕ, Bool, true, false, ◌&&◌, ◌||◌, ◌==◌, List, [], ◌∷◌, codes, Option, Some, None, if◌then◌else◌}
 use Rattle.scald_lex.specs.declared.token.TokenKind.{TokenKind}
 use Rattle.scald_lex.specs.declared.token.TokenKind.TheVariants.{Name}
 use Rattle.scald_lex.specs.declared.token.Token.{Token}
 use Rattle.help_text.specs.Near.{near}
-use Rattle.help_text.specs.Statement.{first_of, is_at, spelled}
+use Rattle.help_text.specs.Statement.{first_of, spelled}
 use Rattle.help_text.specs.Tokens.{is_symbol}
 use Rattle.grammar_help.specs.Belongs.{ends_before}
 use Rattle.grammar_help.specs.Operator.{inverts_name, is_named_end, operator_note}
 use Rattle.grammar_help.specs.OtherWord.{end_note, first_note, words_note}
+use Rattle.grammar_help.specs.Standing.{in_condition}
 
 -- ---- two tokens side by side
 
@@ -29,19 +28,7 @@ abbrev pub inverts : Option Token → Option Token → Bool
 inverts (Some t) (Some u) = is_symbol 33 t.kind && is_name u.kind
 inverts t u = false
 
--- ---- the condition of an IF
-
--- an IF and what comes after it, up to its THEN or a `;`
-abbrev pub goes_on : List ℕ → Bool → Token → Bool
-goes_on text inside t =
-    bytes_eq (spelled text t) (codes "IF")
-    || (inside && not (bytes_eq (spelled text t) (codes "THEN") || is_symbol 59 t.kind))
-
--- the place is in a condition, where the third argument says whether the first token is
-abbrev pub in_condition : List ℕ → Place → Bool → List Token → Bool
-in_condition text place inside [] = inside
-in_condition text place inside (t ∷ ts) =
-    if is_at place t then inside else in_condition text place (goes_on text inside t) ts
+-- ---- conditions and braces
 
 unfoldable pub joins : List ℕ → Token → Bool
 joins text t =
@@ -72,8 +59,8 @@ foreign_note text tokens before t ts =
     if opens_comment before (Some t) || opens_comment (Some t) (first_of ts) then comment_note
     else if inverts before (Some t) || (inverts (Some t) (first_of ts) || inverts_name text before t (first_of ts))
     then invert_note
-    else if joins text t && in_condition text t.place false tokens then join_note
+    else if joins text t && in_condition text t.place tokens then join_note
     else if is_named_end text before t || is_block_brace text before t then end_note
     else
-    first_note (operator_note text (in_condition text t.place false tokens) before t (first_of ts))
+    first_note (operator_note text (in_condition text t.place tokens) before t (first_of ts))
     (words_note text tokens before t ts)

@@ -1,9 +1,9 @@
 -- A label that is missing, or that stands after its kind.
-use Rattle.std.specs.Prelude.{ℕ, Bool, false, not, ◌&&◌, ◌||◌, List, [], ◌∷◌, codes, Option, Some, None, if◌then◌else◌}
+use Rattle.std.specs.Prelude.{ℕ, Bool, false, not, ◌&&◌, ◌||◌, List, [], ◌∷◌, codes, Option, Some, None, is_some, if◌then◌else◌}
 use Rattle.scald_lex.specs.declared.token.TokenKind.{TokenKind}
 use Rattle.scald_lex.specs.declared.token.Token.{Token}
 use Rattle.help_text.specs.Keyword.{near_keyword}
-use Rattle.help_text.specs.Statement.{before_place, spelled}
+use Rattle.help_text.specs.Statement.{before_place, first_of, from_after, spelled}
 use Rattle.help_text.specs.Text.{line}
 use Rattle.help_text.specs.Tokens.{is_symbol}
 use Rattle.grammar_help.specs.Belongs.{is_free, is_own}
@@ -27,13 +27,21 @@ lacks_label text tokens (Some last) t =
 abbrev pub lacking_note : List ℕ → List Token → Option Token → Token → List ℕ
 lacking_note text tokens before t = if lacks_label text tokens before t then label_note else []
 
--- a word that may be a label
-abbrev pub may_label : List ℕ → Token → Bool
-may_label text t = is_own text t && not (is_kind text t)
+-- a word that comes after a MACRO of the text
+abbrev pub is_macro : List ℕ → List Token → Token → Bool
+is_macro text tokens t = is_some (first_of (from_after text (codes "MACRO") (spelled text t) tokens))
 
--- one after a kind that begins a statement: of two kinds the first may be the label
+-- what a use is of
+abbrev pub is_used : List ℕ → List Token → Token → Bool
+is_used text tokens t = is_kind text t || is_macro text tokens t
+
+-- a word that may be a label
+abbrev pub may_label : List ℕ → List Token → Token → Bool
+may_label text tokens t = is_own text t && not (is_used text tokens t)
+
+-- one after a kind or a macro that begins a statement: of two the first may be the label
 abbrev pub turned_label : List ℕ → List Token → Token → Token → Bool
-turned_label text tokens last t = may_label text t && (is_kind text last && begins_use text tokens last)
+turned_label text tokens last t = may_label text tokens t && (is_used text tokens last && begins_use text tokens last)
 
 abbrev pub label_text : List ℕ → List ℕ → List ℕ
 label_text kind label = line (codes "    the label comes first: " ∷ label ∷ codes " : " ∷ kind ∷ [])

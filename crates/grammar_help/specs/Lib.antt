@@ -11,4 +11,5 @@ pub mod OtherWord
 pub mod Brackets
 pub mod Label
 pub mod Hidden
+pub mod Standing
 pub mod Settled

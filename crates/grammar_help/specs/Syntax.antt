@@ -20,6 +20,7 @@ use Rattle.grammar_help.specs.Label.{label_line, lacking_note}
 use Rattle.grammar_help.specs.OtherWord.{first_note}
 use Rattle.grammar_help.specs.Reserved.{reserved_at, reserved_line}
 use Rattle.grammar_help.specs.Shifted.{shifted_lines}
+use Rattle.grammar_help.specs.Standing.{standing}
 use Rattle.grammar_help.specs.Unended.{asks_ended, ended_line, open_lines}
 use Rattle.grammar_help.specs.Version.{is_later, said_version, version_lines}
 use Rattle.grammar_help.specs.Wanted.{space_line, wanted_note}
@@ -71,20 +72,21 @@ abbrev pub keyword_line : Option Keyword → List ℕ
 keyword_line None = []
 keyword_line (Some keyword) = line (codes "    is " ∷ word_of keyword ∷ codes " meant?" ∷ [])
 
-abbrev pub meant_line : List ℕ → Token → List ℕ
-meant_line text t = keyword_line (meant_keyword text t)
+-- only one that may stand there
+abbrev pub meant_line : List ℕ → List Token → Token → List ℕ
+meant_line text tokens t = keyword_line (standing text tokens t (meant_keyword text t))
 
 -- ---- all of it
 
 -- The word before may be meant for another where no colon makes it a label.
-abbrev pub meant_before : List ℕ → Option Token → Token → List ℕ
-meant_before text None t = []
-meant_before text (Some last) t = if is_symbol 58 t.kind then [] else meant_line text last
+abbrev pub meant_before : List ℕ → List Token → Option Token → Token → List ℕ
+meant_before text tokens None t = []
+meant_before text tokens (Some last) t = if is_symbol 58 t.kind then [] else meant_line text tokens last
 
 -- a note, or else which word may be meant
-abbrev pub word_lines : List ℕ → List ℕ → Option Token → Token → List ℕ
-word_lines [] text before t = meant_line text t ++ meant_before text before t
-word_lines (b ∷ bs) text before t = b ∷ bs
+abbrev pub word_lines : List ℕ → List ℕ → List Token → Option Token → Token → List ℕ
+word_lines [] text tokens before t = meant_line text tokens t ++ meant_before text tokens before t
+word_lines (b ∷ bs) text tokens before t = b ∷ bs
 
 -- how what stands there is written here: what a comment hides is looked at first
 abbrev pub written_note : List ℕ → List Token → Option Token → Token → List Token → List ℕ
@@ -116,7 +118,7 @@ abbrev pub lines_at : List ℕ → List Token → Option ℕ → Option Token �
 lines_at text tokens said before [] = []
 lines_at text tokens said before (t ∷ ts) =
     follow_line text before t
-    ++ (word_lines (note_at text tokens before t ts) text before t
+    ++ (word_lines (note_at text tokens before t ts) text tokens before t
     ++ (space_line text tokens t
     ++ (label_line text tokens before t
     ++ (reserved_line (reserved_at text before t ts)

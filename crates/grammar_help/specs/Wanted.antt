@@ -8,7 +8,8 @@ use Rattle.help_text.specs.Statement.{before_place, is_at, spelled}
 use Rattle.help_text.specs.Text.{line, quoted}
 use Rattle.help_text.specs.Tokens.{is_symbol}
 use Rattle.grammar_help.specs.Belongs.{is_own}
-use Rattle.grammar_help.specs.Operator.{is_name_token}
+use Rattle.grammar_help.specs.Operator.{holds_name, holds_word, is_name_token}
+use Rattle.grammar_help.specs.Standing.{is_within, opens_connection}
 
 -- ---- SCALD n ; CLOCK u x
 
@@ -57,14 +58,13 @@ wants_mark text tokens before t =
 
 -- ---- a name
 
+abbrev pub is_case : List ℕ → Option Token → Bool
+is_case text None = false
+is_case text (Some t) = bytes_eq (spelled text t) (codes "CASE")
+
 -- a net's name may come after the token
 abbrev pub opens_name : List ℕ → Option Token → Bool
-opens_name text None = false
-opens_name text (Some last) =
-    is_symbol 40 last.kind
-    || (is_symbol 44 last.kind
-    || (is_symbol 38 last.kind
-    || (is_symbol 45 last.kind || bytes_eq (spelled text last) (codes "CASE"))))
+opens_name text before = opens_connection before || is_case text before
 
 abbrev pub is_constant : List ℕ → Bool
 is_constant word = is_near word (codes "ZERO") || is_near word (codes "ONE")
@@ -72,6 +72,30 @@ is_constant word = is_near word (codes "ZERO") || is_near word (codes "ONE")
 -- A word of the drawing's own that may not stand there. In an expression it may, so a name is wanted, ZERO or ONE.
 abbrev pub wants_name : List ℕ → Option Token → Token → Bool
 wants_name text before t = opens_name text before && (is_own text t && not (is_constant (spelled text t)))
+
+-- ---- a constant
+
+-- a formal of a MACRO, an output, or what a CASE sets: a net, and no constant
+abbrev pub is_net : List ℕ → List Token → Option Token → Token → Bool
+is_net text tokens before t =
+    is_case text before
+    || (is_within text (codes "MACRO") (codes ";") t.place false tokens
+    || is_within text (codes "->") (codes ";") t.place false tokens)
+
+-- what other drawings call a constant
+abbrev pub is_high : List ℕ → Token → Bool
+is_high text t = holds_word text (codes "VCC") (Some t) || holds_word text (codes "VDD") (Some t)
+
+abbrev pub is_low : List ℕ → Token → Bool
+is_low text t = holds_word text (codes "GND") (Some t) || holds_word text (codes "VSS") (Some t)
+
+-- ---- the first number of a range
+
+-- a : comes right after the < of a range
+abbrev pub lacks_number : List Token → Option Token → Token → Bool
+lacks_number tokens None t = false
+lacks_number tokens (Some last) t =
+    is_symbol 58 t.kind && (is_symbol 60 last.kind && holds_name (before_place last.place tokens))
 
 -- ---- what is said
 
@@ -84,10 +108,28 @@ mark_note = codes "    is H meant?\n"
 unfoldable pub name_note : List ℕ
 name_note = codes "    a net's name stands in double quotes\n"
 
+unfoldable pub one_note : List ℕ
+one_note = codes "    a constant 1 is ONE\n"
+
+unfoldable pub zero_note : List ℕ
+zero_note = codes "    a constant 0 is ZERO\n"
+
+unfoldable pub number_note : List ℕ
+number_note = codes "    is a number missing before ':'?\n"
+
+-- of a word where a name may stand
+abbrev pub unquoted_note : List ℕ → List Token → Option Token → Token → List ℕ
+unquoted_note text tokens before t =
+    if is_net text tokens before t then name_note
+    else if is_high text t then one_note
+    else if is_low text t then zero_note
+    else name_note
+
 -- of a token and the one before it
 abbrev pub wanted_note : List ℕ → List Token → Option Token → Token → List ℕ
 wanted_note text tokens before t =
     if wants_times text tokens t then times_note
     else if wants_mark text tokens before t then mark_note
-    else if wants_name text before t then name_note
+    else if wants_name text before t then unquoted_note text tokens before t
+    else if lacks_number tokens before t then number_note
     else []

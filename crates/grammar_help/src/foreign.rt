@@ -1,13 +1,13 @@
 //! How what other languages write so is written here.
 
-ghost use Rattle.std.specs.Prelude.{◌≡◌, false};
-ghost use Rattle.grammar_help.specs.Foreign.{comment_note, foreign_note, goes_on, in_condition, inverts, invert_note, is_block_brace, is_name, join_note, joins, opens_comment};
+ghost use Rattle.std.specs.Prelude.{◌≡◌};
+ghost use Rattle.grammar_help.specs.Foreign.{comment_note, foreign_note, inverts, invert_note, is_block_brace, is_name, join_note, joins, opens_comment};
 
 use crate::belongs::ends_before;
 use crate::operator::{inverts_name, is_named_end, operator_note};
 use crate::other_word::{end_note, first_note, words_note};
-use help_text::{first_of, is_at, is_symbol, near, spelled};
-use scald_base::{Place, same_bytes};
+use crate::standing::in_condition;
+use help_text::{first_of, is_symbol, near, spelled};
 use scald_lex::{Token, TokenKind};
 
 /// Whether these tokens are a `/` and right after it a `/` or a `*`.
@@ -43,30 +43,6 @@ fn inverts(first: Option<Token>, second: Option<Token>) -> bool
         return false;
     };
     is_symbol(first, b'!') && is_name(second)
-}
-
-/// Whether a condition goes on after a token, or begins with it, where it stands inside one or not.
-fn goes_on(text: &[u8], is_inside: bool, token: Token) -> bool
-    ensures { result ≡ goes_on text.now is_inside token }
-{
-    let word = spelled(text, token);
-    same_bytes(word, b"IF") || is_inside && !(same_bytes(word, b"THEN") || is_symbol(token, b';'))
-}
-
-/// Whether a place is in the condition of an IF.
-fn in_condition(text: &[u8], tokens: &[Token], place: Place) -> bool
-    ensures { result ≡ in_condition text.now place false tokens.now }
-{
-    let mut is_inside = false;
-    let mut rest = tokens;
-    'tokens: while let [token, others @ ..] = rest {
-        if is_at(*token, place) {
-            return is_inside;
-        }
-        is_inside = goes_on(text, is_inside, *token);
-        rest = others;
-    }
-    is_inside
 }
 
 /// Whether a token joins conditions in other languages.

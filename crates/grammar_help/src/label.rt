@@ -1,11 +1,13 @@
 //! A label that is missing, or that stands after its kind.
 
 ghost use Rattle.std.specs.Prelude.{◌≡◌, ◌++◌, OnOk};
-ghost use Rattle.grammar_help.specs.Label.{begins_use, label_after, label_line, label_text, lacking_note, lacks_label, may_label, opens_part, turned_label};
+ghost use Rattle.grammar_help.specs.Label.{begins_use, is_macro, is_used, label_after, label_line, label_text, lacking_note, lacks_label, may_label, opens_part, turned_label};
 
 use crate::belongs::is_own;
 use crate::other_word::{is_kind, label_note, starts};
-use help_text::{Part, add_line, before_place, is_symbol, near_keyword, spelled};
+use help_text::{
+    Part, add_line, before_place, first_of, from_after, is_symbol, near_keyword, spelled,
+};
 use scald_base::{Bytes, NoMemory};
 use scald_lex::Token;
 
@@ -54,18 +56,32 @@ pub fn lacking_note(
     }
 }
 
-/// Whether a token is a word that may be a label.
-fn may_label(text: &[u8], token: Token) -> bool
-    ensures { result ≡ may_label text.now token }
+/// Whether a token is the word of a macro of the text.
+fn is_macro(text: &[u8], tokens: &[Token], token: Token) -> bool
+    ensures { result ≡ is_macro text.now tokens.now token }
 {
-    is_own(text, token) && !is_kind(text, token)
+    first_of(from_after(text, tokens, b"MACRO", spelled(text, token))).is_some()
 }
 
-/// Whether a label stands after a kind that a statement begins with.
+/// Whether a token is the word of a kind or of a macro.
+fn is_used(text: &[u8], tokens: &[Token], token: Token) -> bool
+    ensures { result ≡ is_used text.now tokens.now token }
+{
+    is_kind(text, token) || is_macro(text, tokens, token)
+}
+
+/// Whether a token is a word that may be a label.
+fn may_label(text: &[u8], tokens: &[Token], token: Token) -> bool
+    ensures { result ≡ may_label text.now tokens.now token }
+{
+    is_own(text, token) && !is_used(text, tokens, token)
+}
+
+/// Whether a label stands after a kind or a macro that a statement begins with.
 pub fn turned_label(text: &[u8], tokens: &[Token], last: Token, token: Token) -> bool
     ensures { result ≡ turned_label text.now tokens.now last token }
 {
-    may_label(text, token) && is_kind(text, last) && begins_use(text, tokens, last)
+    may_label(text, tokens, token) && is_used(text, tokens, last) && begins_use(text, tokens, last)
 }
 
 /// In which order a kind and a label stand.

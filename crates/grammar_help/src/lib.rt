@@ -5,9 +5,10 @@
 //! (`specs/Version`), how what other languages write so is written here (`specs/Foreign`,
 //! `specs/Operator`, `specs/OtherWord`), which brackets are meant (`specs/Brackets`), what a comment
 //! hides (`specs/Hidden`), where a label is missing (`specs/Label`), what is wanted where one thing
-//! alone may stand (`specs/Wanted`), where the statement belongs (`specs/Belongs`), and what has no
-//! END yet and what an END ends (`specs/Unended`, `specs/Shifted`). `refusal_help` calls it for a
-//! Syntax. [`is_settled`] says whether that leaves no question of what is missing (`specs/Settled`).
+//! alone may stand (`specs/Wanted`, `specs/Standing`), where the statement belongs
+//! (`specs/Belongs`), and what has no END yet and what an END ends (`specs/Unended`,
+//! `specs/Shifted`). `refusal_help` calls it for a Syntax. [`is_settled`] says whether that leaves no question of what is missing or one too many
+//! (`specs/Settled`).
 #![tactic(auto)]
 
 mod belongs;
@@ -20,6 +21,7 @@ mod other_word;
 mod reserved;
 mod settled;
 mod shifted;
+mod standing;
 mod syntax;
 mod unended;
 mod version;

@@ -1,15 +1,16 @@
-//! Whether what is told of a token says already what is wrong before it.
+//! Whether what is told of a token says already what is wrong there.
 
 ghost use Rattle.std.specs.Prelude.{◌≡◌};
 ghost use Rattle.grammar_help.specs.Settled.{is_settled};
 
 use crate::hidden::hides_arrow;
 use crate::label::turned_label;
+use crate::wanted::lacks_number;
 use help_text::after;
 use scald_lex::Token;
 
-/// Whether nothing is asked to be missing before a token, after this one: a comment hides an arrow
-/// there, or a label comes after its kind.
+/// Whether nothing is asked to be missing before a token, after this one, nor the token to be one
+/// too many: a comment hides an arrow there, a label comes after its kind, or a number is missing.
 pub fn is_settled(text: &[u8], tokens: &[Token], before: Option<Token>, token: Token) -> bool
     ensures { result ≡ is_settled text.now tokens.now before token }
 {
@@ -18,6 +19,7 @@ pub fn is_settled(text: &[u8], tokens: &[Token], before: Option<Token>, token: T
         Some(last) => {
             hides_arrow(last, after(text, last.end as usize))
                 || turned_label(text, tokens, last, token)
+                || lacks_number(tokens, before, token)
         }
     }
 }

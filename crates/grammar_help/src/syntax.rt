@@ -13,6 +13,7 @@ use crate::label::{add_label, lacking_note};
 use crate::other_word::first_note;
 use crate::reserved::add_reserved;
 use crate::shifted::add_shifted;
+use crate::standing::standing;
 use crate::unended::{add_ended, add_open, asks_ended};
 use crate::version::{add_versions, is_later, said_version};
 use crate::wanted::{add_space, wanted_note};
@@ -77,11 +78,16 @@ fn meant_keyword(text: &[u8], token: Token) -> Option<Keyword>
     }
 }
 
-/// Which word of the language may be meant.
-fn add_meant(out: &mut Bytes, text: &[u8], token: Token) -> Result<(), NoMemory>
-    ensures { OnOk result (out.new ≡ out.old ++ meant_line text.now token) }
+/// Which word of the language may be meant, of those that may stand there.
+fn add_meant(
+    out: &mut Bytes,
+    text: &[u8],
+    tokens: &[Token],
+    token: Token,
+) -> Result<(), NoMemory>
+    ensures { OnOk result (out.new ≡ out.old ++ meant_line text.now tokens.now token) }
 {
-    match meant_keyword(text, token) {
+    match standing(text, tokens, token, meant_keyword(text, token)) {
         Some(keyword) => add_line(
             out,
             &[
@@ -98,13 +104,14 @@ fn add_meant(out: &mut Bytes, text: &[u8], token: Token) -> Result<(), NoMemory>
 fn add_meant_before(
     out: &mut Bytes,
     text: &[u8],
+    tokens: &[Token],
     before: Option<Token>,
     token: Token,
 ) -> Result<(), NoMemory>
-    ensures { OnOk result (out.new ≡ out.old ++ meant_before text.now before token) }
+    ensures { OnOk result (out.new ≡ out.old ++ meant_before text.now tokens.now before token) }
 {
     match before {
-        Some(last) if !is_symbol(token, b':') => add_meant(out, text, last),
+        Some(last) if !is_symbol(token, b':') => add_meant(out, text, tokens, last),
         _ => Ok(()),
     }
 }
@@ -114,15 +121,16 @@ fn add_words(
     out: &mut Bytes,
     note: &[u8],
     text: &[u8],
+    tokens: &[Token],
     before: Option<Token>,
     token: Token,
 ) -> Result<(), NoMemory>
-    ensures { OnOk result (out.new ≡ out.old ++ word_lines note.now text.now before token) }
+    ensures { OnOk result (out.new ≡ out.old ++ word_lines note.now text.now tokens.now before token) }
 {
     match note {
         [] => {
-            add_meant(out, text, token)?;
-            add_meant_before(out, text, before, token)
+            add_meant(out, text, tokens, token)?;
+            add_meant_before(out, text, tokens, before, token)
         }
         [_, ..] => out.extend(note),
     }
@@ -214,7 +222,7 @@ pub fn add_syntax(
     let before = before_place(tokens, place);
     add_follow(out, text, before, *token)?;
     let note = note_at(text, tokens, before, *token, others);
-    add_words(out, note, text, before, *token)?;
+    add_words(out, note, text, tokens, before, *token)?;
     add_space(out, text, tokens, *token)?;
     add_label(out, text, tokens, before, *token)?;
     add_reserved(out, text, before, *token, others)?;

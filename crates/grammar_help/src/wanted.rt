@@ -1,10 +1,11 @@
 //! What is wanted where one thing alone may stand: the x of CLOCK, the H of a mark, or a net's name.
 
 ghost use Rattle.std.specs.Prelude.{◌≡◌, ◌++◌, OnOk};
-ghost use Rattle.grammar_help.specs.Wanted.{begins_mark, ends_term, is_constant, is_sixth, joins_number, mark_note, name_note, opens_name, space_line, space_text, times_note, wanted_note, wants_mark, wants_name, wants_times};
+ghost use Rattle.grammar_help.specs.Wanted.{begins_mark, ends_term, is_case, is_constant, is_high, is_low, is_net, is_sixth, joins_number, lacks_number, mark_note, name_note, unquoted_note, number_note, one_note, opens_name, space_line, space_text, times_note, wanted_note, wants_mark, wants_name, wants_times, zero_note};
 
 use crate::belongs::is_own;
-use crate::operator::is_name_token;
+use crate::operator::{holds_name, holds_word, is_name_token};
+use crate::standing::{is_within, opens_connection};
 use help_text::{Part, add_line, before_place, is_at, is_near, is_symbol, spelled};
 use scald_base::{Bytes, NoMemory, same_bytes};
 use scald_lex::Token;
@@ -100,20 +101,21 @@ fn wants_mark(text: &[u8], tokens: &[Token], before: Option<Token>, token: Token
     same_bytes(spelled(text, token), b"h") && begins_mark(text, tokens, before)
 }
 
+/// Whether a token is the word CASE.
+fn is_case(text: &[u8], token: Option<Token>) -> bool
+    ensures { result ≡ is_case text.now token }
+{
+    match token {
+        None => false,
+        Some(token) => same_bytes(spelled(text, token), b"CASE"),
+    }
+}
+
 /// Whether a net's name may come after a token.
 fn opens_name(text: &[u8], before: Option<Token>) -> bool
     ensures { result ≡ opens_name text.now before }
 {
-    match before {
-        None => false,
-        Some(last) => {
-            is_symbol(last, b'(')
-                || is_symbol(last, b',')
-                || is_symbol(last, b'&')
-                || is_symbol(last, b'-')
-                || same_bytes(spelled(text, last), b"CASE")
-        }
-    }
+    opens_connection(before) || is_case(text, before)
 }
 
 /// Whether a word is nearly that of a constant.
@@ -128,6 +130,43 @@ fn wants_name(text: &[u8], before: Option<Token>, token: Token) -> bool
     ensures { result ≡ wants_name text.now before token }
 {
     opens_name(text, before) && is_own(text, token) && !is_constant(spelled(text, token))
+}
+
+/// Whether a token stands for a formal of a MACRO, an output, or what a CASE sets.
+fn is_net(text: &[u8], tokens: &[Token], before: Option<Token>, token: Token) -> bool
+    ensures { result ≡ is_net text.now tokens.now before token }
+{
+    is_case(text, before)
+        || is_within(text, b"MACRO", b";", tokens, token.place)
+        || is_within(text, b"->", b";", tokens, token.place)
+}
+
+/// Whether other drawings call a constant 1 so.
+fn is_high(text: &[u8], token: Token) -> bool
+    ensures { result ≡ is_high text.now token }
+{
+    holds_word(text, b"VCC", Some(token)) || holds_word(text, b"VDD", Some(token))
+}
+
+/// Whether other drawings call a constant 0 so.
+fn is_low(text: &[u8], token: Token) -> bool
+    ensures { result ≡ is_low text.now token }
+{
+    holds_word(text, b"GND", Some(token)) || holds_word(text, b"VSS", Some(token))
+}
+
+/// Whether a `:` comes right after the `<` of a range.
+pub fn lacks_number(tokens: &[Token], before: Option<Token>, token: Token) -> bool
+    ensures { result ≡ lacks_number tokens.now before token }
+{
+    match before {
+        None => false,
+        Some(last) => {
+            is_symbol(token, b':')
+                && is_symbol(last, b'<')
+                && holds_name(before_place(tokens, last.place))
+        }
+    }
 }
 
 /// That an x is meant.
@@ -154,6 +193,50 @@ fn name_note() -> &'static [u8]
     b"    a net's name stands in double quotes\n"
 }
 
+/// How a constant 1 is written.
+#[tactic(auto, unfolding(crate::specs::Wanted::one_note))]
+fn one_note() -> &'static [u8]
+    ensures { result.now ≡ one_note }
+{
+    b"    a constant 1 is ONE\n"
+}
+
+/// How a constant 0 is written.
+#[tactic(auto, unfolding(crate::specs::Wanted::zero_note))]
+fn zero_note() -> &'static [u8]
+    ensures { result.now ≡ zero_note }
+{
+    b"    a constant 0 is ZERO\n"
+}
+
+/// The question whether the first number of a range is missing.
+#[tactic(auto, unfolding(crate::specs::Wanted::number_note))]
+fn number_note() -> &'static [u8]
+    ensures { result.now ≡ number_note }
+{
+    b"    is a number missing before ':'?\n"
+}
+
+/// What is wanted of a word where a name may stand.
+fn unquoted_note(
+    text: &[u8],
+    tokens: &[Token],
+    before: Option<Token>,
+    token: Token,
+) -> &'static [u8]
+    ensures { result.now ≡ unquoted_note text.now tokens.now before token }
+{
+    if is_net(text, tokens, before, token) {
+        name_note()
+    } else if is_high(text, token) {
+        one_note()
+    } else if is_low(text, token) {
+        zero_note()
+    } else {
+        name_note()
+    }
+}
+
 /// What is wanted where a token may not stand, after the one before it.
 pub fn wanted_note(
     text: &[u8],
@@ -168,7 +251,9 @@ pub fn wanted_note(
     } else if wants_mark(text, tokens, before, token) {
         mark_note()
     } else if wants_name(text, before, token) {
-        name_note()
+        unquoted_note(text, tokens, before, token)
+    } else if lacks_number(tokens, before, token) {
+        number_note()
     } else {
         b""
     }
