@@ -276,6 +276,16 @@ early '3 Syntax 4:7' 'IF 1 == 1 THEN' 'END;'
 helps "    '=' cannot stand here, after '='" \
     '    what may stand here: word number ( -' \
     "    is '=' one too many here?"
+# (with a < or a > in place of the : the condition would be another)
+second '3 Syntax 4:6' 'DRAWING ROW;' 'IF 1 := 1 THEN' 'END;' 'END;'
+helps "    ':' cannot stand here, after '1'" \
+    '    what may stand here: THEN < > = + - * / !' \
+    "    is ':' one too many here?"
+# (without the : the range would be one bit)
+early '3 Syntax 4:21' 'b1 : BUF [0:0] ("A"<:3>) -> ("X"<0:3>);'
+helps "    ':' cannot stand here, after '<'" \
+    "    is a number missing before ':'?" \
+    '    what may stand here: word number ( -'
 # (with an arrow in its place, or without it, the statement would say something else)
 early '3 Syntax 4:26' 'a : AND [1:2] ("CK", "D" -> "Q");'
 helps "    '->' cannot stand here, after '\"D\"'" \
@@ -389,6 +399,17 @@ second '3 Syntax 5:6' 'DRAWING ROW;' 'IF 1 THEN' 'ELES b2 : BUF [0:0] ("A") -> (
 helps "    'b2' cannot stand here, after 'ELES'" \
     '    is ELSE meant?' \
     '    what may stand here: :'
+# (a label that is nearly one, where none may stand)
+for word in and or do end case; do
+    early '3 Syntax 5:1' 'b1 : BUF [0:0] ("A") -> ("X")' "$word : BUF [0:0] (\"X\") -> (\"Y\");"
+    helps "    '$word' cannot stand here, after ')'" \
+        '    what may stand here: ;' \
+        '    is ; missing here?'
+done
+second '3 Syntax 5:1' 'DRAWING ROW;' 'FOR I = 0 TO 1' 'end : BUF [0:0] ("A") -> ("X"<I>);' 'END;' 'END;'
+helps "    'end' cannot stand here, after '1'" \
+    '    what may stand here: DO + - * /' \
+    '    is DO missing here?'
 for word in ELSIF ELSEIF elif; do
     second "3 Syntax 5:$((${#word} + 2))" 'DRAWING ROW;' 'IF 1 THEN' "$word 0 THEN" 'END;' 'END;'
     helps "    '0' cannot stand here, after '$word'" \
@@ -520,6 +541,15 @@ second '3 Syntax 4:5' 'DRAWING ROW;' 'AND REG [8:15] ("CK", "D") -> ("Q");' 'END
 helps "    'REG' cannot stand here, after 'AND'" \
     '    what may stand here: :' \
     '    is : missing here?'
+# (the same of a macro)
+second '3 Syntax 6:6' 'MACRO BANK ("A") -> ("Z");' 'END;' 'DRAWING ROW;' 'BANK in ("A") -> ("X");' 'END;'
+helps "    'in' cannot stand here, after 'BANK'" \
+    '    the label comes first: in : BANK' \
+    '    what may stand here: :'
+second '3 Syntax 6:5' 'MACRO BANK ("A") -> ("Z");' 'END;' 'DRAWING ROW;' 'BUF BANK ("A") -> ("X");' 'END;'
+helps "    'BANK' cannot stand here, after 'BUF'" \
+    '    what may stand here: :' \
+    '    is : missing here?'
 second '3 Syntax 4:5' 'DRAWING ROW;' 'FOR (I = 0; I < 4; I = I + 1) DO' 'END;' 'END;'
 helps "    '(' cannot stand here, after 'FOR'" \
     '    a FOR counts upwards, by one: FOR I = 0 TO N - 1 DO' \
@@ -574,6 +604,17 @@ early '3 Syntax 4:17' 'b1 : BUF [0:0] (A) -> ("X");'
 helps "    'A' cannot stand here, after '('" "$quotes" '    what may stand here: "name" ZERO ONE ) -'
 early '3 Syntax 4:26' 'b1 : BUF [0:0] ("A") -> (X);'
 helps "    'X' cannot stand here, after '('" "$quotes" '    what may stand here: "name" ZERO ONE -'
+early '3 Syntax 4:17' 'b1 : BUF [0:0] (VCC) -> ("X");'
+helps "    'VCC' cannot stand here, after '('" \
+    '    a constant 1 is ONE' \
+    '    what may stand here: "name" ZERO ONE ) -'
+early '3 Syntax 4:22' 'a1 : AND [0:0] ("A", gnd) -> ("X");'
+helps "    'gnd' cannot stand here, after ','" \
+    '    a constant 0 is ZERO' \
+    '    what may stand here: "name" ZERO ONE -'
+# (not of an output)
+early '3 Syntax 4:26' 'b1 : BUF [0:0] ("A") -> (VDD);'
+helps "    'VDD' cannot stand here, after '('" "$quotes" '    what may stand here: "name" ZERO ONE -'
 second '3 Syntax 5:6' 'DRAWING ROW;' 'END;' 'CASE SEL=1;'
 helps "    'SEL' cannot stand here, after 'CASE'" "$quotes" '    what may stand here: "name"'
 early '3 Syntax 4:17' 'b1 : BUF [0:0] (Zero) -> ("X");'

@@ -79,12 +79,7 @@ fn meant_keyword(text: &[u8], token: Token) -> Option<Keyword>
 }
 
 /// Which word of the language may be meant, of those that may stand there.
-fn add_meant(
-    out: &mut Bytes,
-    text: &[u8],
-    tokens: &[Token],
-    token: Token,
-) -> Result<(), NoMemory>
+fn add_meant(out: &mut Bytes, text: &[u8], tokens: &[Token], token: Token) -> Result<(), NoMemory>
     ensures { OnOk result (out.new ≡ out.old ++ meant_line text.now tokens.now token) }
 {
     match standing(text, tokens, token, meant_keyword(text, token)) {

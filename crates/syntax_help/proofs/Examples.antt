@@ -1,7 +1,7 @@
 -- The tokens that are tried are one of each kind that the grammar tells apart; texts with them, and
 -- what is said, worked out on paper.
 use Rattle.std.proofs.Common.{◌≡◌, ℕ, Bool, ◌+◌, true, false, List, [], ◌∷◌, ◌++◌, map, refl, pos}
-use Rattle.std.specs.Prelude.{codes, Some, None}
+use Rattle.std.specs.Prelude.{codes, Option, Some, None}
 use Rattle.std.specs.List.{filter, flat_map}
 use Rattle.scald_base.specs.declared.refusal.Place.{Place}
 use Rattle.scald_base.specs.declared.refusal.RefusalKind.TheVariants.{BadName, Syntax}
@@ -14,7 +14,7 @@ use Rattle.drawing_grammar.specs.declared.terminal.Terminal.TheVariants as gramm
 use Rattle.syntax_help.specs.declared.sample.Sample.TheVariants.{Word, Number, Name, Scald, Clock, Wire, Pskew, Cskew, Macro, Drawing, Case, If, Then, Else, End, Zero, One, Const, To, Do, Ticks, Hazard, Arrow, Semicolon, Colon, Comma, OpenParenthesis, CloseParenthesis, Less, Greater, OpenBracket, CloseBracket, OpenBrace, CloseBrace, Equals, Plus, Minus, Star, Slash, Ampersand, Exclamation}
 use Rattle.syntax_help.specs.Sample.{is_word, samples, spelling}
 use Rattle.syntax_help.specs.Missing.{end_of, is_asked, is_late, mended}
-use Rattle.syntax_help.specs.Offered.{is_operator, may_be_spare}
+use Rattle.syntax_help.specs.Offered.{is_operator, may_be_spare, meant_for}
 use Rattle.syntax_help.specs.Told.{asked_line, expected_line, meant_end, meant_line, missing_end, missing_line, sample_text, spare_lines, stand_lines}
 use Rattle.syntax_help.specs.Trial.{is_syntax_at, next_line, trial}
 
@@ -280,6 +280,16 @@ after_end = refl
 
 before_outputs : stand_lines (codes "\"D\" -> \"Q\"") (token_of kind.Arrow 4 6) [] (Comma ∷ Ampersand ∷ []) ≡ []
 before_outputs = refl
+
+-- what stands for the : of := is none of these, and of another : they stay
+assigned : map (λ (next : Option Token). meant_for (token_of (kind.Symbol 58) 2 3) next (Less ∷ Greater ∷ []))
+    (Some (token_of (kind.Symbol 61) 3 4) ∷ Some (token_of (kind.Number (pos 1)) 3 4) ∷ None ∷ []) ≡
+    [] ∷ (Less ∷ Greater ∷ []) ∷ (Less ∷ Greater ∷ []) ∷ []
+assigned = refl
+
+-- nor is an = before an = such a sign
+compared : meant_for (token_of (kind.Symbol 61) 2 3) (Some (token_of (kind.Symbol 61) 3 4)) (Less ∷ []) ≡ Less ∷ []
+compared = refl
 
 -- the second sign of <>, and a bracket
 other_than : stand_lines (codes "I <> 2") (token_of (kind.Symbol 62) 3 4) [] (Equals ∷ []) ≡ []

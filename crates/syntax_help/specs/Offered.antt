@@ -1,6 +1,6 @@
 -- Which tokens may be meant otherwise, or may be one too many. A mend that is offered is not to turn the
 -- statement into one that says something else.
-use Rattle.std.specs.Prelude.{ℕ, ◌-◌, Bool, true, false, not, ◌&&◌, ◌||◌, ◌==◌, List, ◌∷◌, codes, Option, Some, None, is_some}
+use Rattle.std.specs.Prelude.{ℕ, ◌-◌, Bool, true, false, not, ◌&&◌, ◌||◌, ◌==◌, List, [], ◌∷◌, codes, Option, Some, None, is_some, if◌then◌else◌}
 use Rattle.std.specs.List.{slice_get}
 use Rattle.scald_lex.specs.declared.token.Token.{Token}
 use Rattle.scald_lex.specs.declared.token.TokenKind.{TokenKind}
@@ -8,6 +8,7 @@ use Rattle.scald_lex.specs.declared.token.TokenKind.TheVariants.{Arrow, Symbol}
 use Rattle.help_text.specs.Keyword.{reserved_word}
 use Rattle.help_text.specs.Near.{near}
 use Rattle.help_text.specs.Statement.{spelled}
+use Rattle.help_text.specs.Tokens.{is_symbol}
 use Rattle.syntax_help.specs.declared.sample.Sample.{Sample}
 use Rattle.syntax_help.specs.declared.sample.Sample.TheVariants.{Less}
 
@@ -75,6 +76,15 @@ is_operand kind = true
 -- a word that means what it says: a reserved one, or one that counts down, as a FOR cannot
 abbrev pub is_settled_word : List ℕ → Bool
 is_settled_word word = is_some (reserved_word word) || near 0 word (codes "DOWNTO")
+
+-- the : of :=, which other languages write for =
+abbrev pub assigns : Token → Option Token → Bool
+assigns t None = false
+assigns t (Some next) = is_symbol 58 t.kind && is_symbol 61 next.kind
+
+-- those that may be meant in place of a token, before the next one
+abbrev pub meant_for : Token → Option Token → List Sample → List Sample
+meant_for t next meant = if assigns t next then [] else meant
 
 abbrev pub begins_with_less : List Sample → Bool
 begins_with_less (Less ∷ ss) = true

@@ -1,5 +1,5 @@
 -- What is said of the tokens that may stand at a place.
-use Rattle.std.specs.Prelude.{◌≡◌, ℕ, Bool, true, false, List, [], ◌∷◌, ◌++◌, take, codes, Option, if◌then◌else◌}
+use Rattle.std.specs.Prelude.{◌≡◌, ℕ, Bool, true, false, not, ◌&&◌, List, [], ◌∷◌, ◌++◌, take, codes, Option, if◌then◌else◌}
 use Rattle.std.specs.List.{concat, flat_map, list_any}
 use Rattle.scald_base.specs.declared.refusal.Place.{Place}
 use Rattle.scald_base.specs.declared.refusal.Refusal.{Refusal}
@@ -7,14 +7,14 @@ use Rattle.scald_lex.specs.declared.token.Token.{Token}
 use Rattle.scald_lex.specs.declared.token.TokenKind.{TokenKind}
 use Rattle.scald_lex.specs.Tokens.{AreTokens, IsRefused}
 use Rattle.grammar_help.specs.Settled.{is_settled}
-use Rattle.help_text.specs.Statement.{before_place, from_place, spelled}
+use Rattle.help_text.specs.Statement.{before_place, first_of, from_place, spelled}
 use Rattle.help_text.specs.Text.{quoted}
 use Rattle.help_text.specs.Tokens.{is_symbol}
 use Rattle.syntax_help.specs.declared.sample.Sample.{Sample}
 use Rattle.syntax_help.specs.declared.sample.Sample.TheVariants.{CloseParenthesis, Plus}
 use Rattle.syntax_help.specs.Expected.{AreChosen, IsListed, Says}
 use Rattle.syntax_help.specs.Missing.{GoesOn, Mends, end_of, is_late}
-use Rattle.syntax_help.specs.Offered.{byte_before, may_be_meant, may_be_spare}
+use Rattle.syntax_help.specs.Offered.{byte_before, may_be_meant, may_be_spare, meant_for}
 use Rattle.syntax_help.specs.Sample.{called, samples}
 
 abbrev pub sample_text : Sample → List ℕ
@@ -92,7 +92,8 @@ spare_lines spare before kind token missing meant = []
 
 -- The tokens that may stand after the front of a text, which ends at the place, and with which of
 -- them before the token that stands there, or in place of it, the statement goes on; or whether it
--- goes on without the token. The token comes first of these, and it may be settled that none is missing before it.
+-- goes on without the token. The token comes first of these, and it may be settled that none is missing before it,
+-- and that it is not one too many.
 pub record IsToldAfter (settled : Bool) (text front : List ℕ) (place : Place) (t : Token) (ts : List Token) (bytes : List ℕ) : Type 0 where
   pub found : List Sample
   pub expected : AreChosen (IsListed front place) samples found
@@ -103,8 +104,8 @@ pub record IsToldAfter (settled : Bool) (text front : List ℕ) (place : Place) 
   pub spare : Bool
   pub leaves : Says (GoesOn text front [] t.end (end_of ts)) spare
   pub are : bytes ≡ expected_line found ++ asked_line settled found missing
-      ++ stand_lines text t missing meant
-      ++ spare_lines spare (byte_before text t) t.kind (spelled text t) missing meant
+      ++ stand_lines text t missing (meant_for t (first_of ts) meant)
+      ++ spare_lines (not settled && spare) (byte_before text t) t.kind (spelled text t) missing (meant_for t (first_of ts) meant)
 
 -- of a token and those after it
 abbrev pub IsToldUnless : Bool → Bool → List ℕ → Place → Token → List Token → List ℕ → Type 0

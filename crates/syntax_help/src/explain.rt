@@ -9,10 +9,10 @@ ghost use Rattle.syntax_help.specs.Told.{IsTold, IsToldAfter, IsToldOf, IsToldUn
 
 use crate::expected::expected;
 use crate::missing::{end_from, end_of, goes_on, is_late, mending};
-use crate::offered::{byte_before, may_be_meant, may_be_spare};
+use crate::offered::{byte_before, may_be_meant, may_be_spare, meant_for};
 use crate::sample::Sample;
 use grammar_help::is_settled;
-use help_text::{Part, add_parts, before_place, from_place, front, is_symbol, spelled};
+use help_text::{Part, add_parts, before_place, first_of, from_place, front, is_symbol, spelled};
 use scald_base::{Bytes, NoMemory, Place, Stop};
 use scald_lex::{Token, tokens};
 use std::alloc::Global;
@@ -255,7 +255,8 @@ fn add_spare(
 
 /// What is said of the tokens that may stand after the front of a text, which ends at this place,
 /// and of those with which the statement goes on, before the token that comes first of these or in
-/// place of it, or of the statement without it. It may be settled that none is missing before it.
+/// place of it, or of the statement without it. It may be settled that none is missing before it,
+/// and that it is not one too many.
 fn told(
     alloc: Global,
     is_settled: bool,
@@ -278,15 +279,10 @@ fn told(
     let mut out = Bytes::new(alloc);
     add_expected(&mut out, found.as_slice())?;
     add_asked(&mut out, is_settled, found.as_slice(), missing.as_slice())?;
-    add_stand(&mut out, text, token, missing.as_slice(), meant.as_slice())?;
-    add_spare(
-        &mut out,
-        text,
-        token,
-        spare,
-        missing.as_slice(),
-        meant.as_slice(),
-    )?;
+    let meant = meant_for(token, first_of(others), meant.as_slice());
+    add_stand(&mut out, text, token, missing.as_slice(), meant)?;
+    let spare = !is_settled && spare;
+    add_spare(&mut out, text, token, spare, missing.as_slice(), meant)?;
     Ok(out)
 }
 

@@ -1,10 +1,10 @@
 //! Which tokens may be meant otherwise, or may be one too many.
 
 ghost use Rattle.std.specs.Prelude.{◌≡◌};
-ghost use Rattle.syntax_help.specs.Offered.{begins_with_less, byte_before, goes_on_operator, inverts, is_after_equals, is_after_operator, is_arrow, is_brace, is_left_out, is_one_of_two, is_operand, is_operator, is_settled_word, may_be_meant, may_be_spare};
+ghost use Rattle.syntax_help.specs.Offered.{assigns, begins_with_less, byte_before, goes_on_operator, inverts, is_after_equals, is_after_operator, is_arrow, is_brace, is_left_out, is_one_of_two, is_operand, is_operator, is_settled_word, may_be_meant, may_be_spare, meant_for};
 
 use crate::sample::Sample;
-use help_text::{near, reserved_word, spelled};
+use help_text::{is_symbol, near, reserved_word, spelled};
 use scald_lex::{Token, TokenKind};
 
 // ---- operators
@@ -125,6 +125,23 @@ fn is_settled_word(word: &[u8]) -> bool
     ensures { result ≡ is_settled_word word.now }
 {
     reserved_word(word).is_some() || near(0, word, b"DOWNTO")
+}
+
+/// Whether a token and the next one are the `:=` that other languages write for `=`.
+fn assigns(token: Token, next: Option<Token>) -> bool
+    ensures { result ≡ assigns token next }
+{
+    match next {
+        Some(next) => is_symbol(token, b':') && is_symbol(next, b'='),
+        None => false,
+    }
+}
+
+/// Those of these that may be meant in place of a token, before the next one.
+pub fn meant_for(token: Token, next: Option<Token>, meant: &[Sample]) -> &[Sample]
+    ensures { result.now ≡ meant_for token next meant.now }
+{
+    if assigns(token, next) { &[] } else { meant }
 }
 
 /// Whether the first of these is a `<`.
