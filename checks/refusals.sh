@@ -1743,8 +1743,8 @@ said "$(of 2 7 'the net /DONE<0> does not assert here what it asserts in section
     '    in section 1 it stands at 4:17, line 4 of the text:' \
     "    $slipping" \
     '                    ^' \
-    '    give it the same assertion in each section where it stands' \
-    '    section 1 has /DOEN with this assertion: is /DONE meant?'
+    '    section 1 has /DOEN with this assertion: is /DONE meant?' \
+    '    give it the same assertion in each section where it stands'
 sections 10 "$driving" "$slipping$end"
 said "$(of 2 7 'the net /DONE<0> does not assert here what it asserts in section 1')" \
     '    here it stands at 4:17, line 10 of the text:' \
@@ -1753,8 +1753,8 @@ said "$(of 2 7 'the net /DONE<0> does not assert here what it asserts in section
     '    in section 1 it stands at 4:32, line 4 of the text:' \
     "    $driving" \
     '                                   ^' \
-    '    give it the same assertion in each section where it stands' \
-    '    section 2 has /DOEN with this assertion: is /DONE meant?'
+    '    section 2 has /DOEN with this assertion: is /DONE meant?' \
+    '    give it the same assertion in each section where it stands'
 # (it stands in both)
 both='b1 : AND [1:2] ("D .S1-8", "/DOEN .S2-8") -> ("/DONE .S2-8");'
 sections 10 "$slipping" "$both$end"
@@ -1766,6 +1766,25 @@ said "$(of 2 7 'the net /DONE<0> does not assert here what it asserts in section
     "    $slipping" \
     '                    ^' \
     '    give it the same assertion in each section where it stands'
+# (the / is forgotten, or the one letter after it is doubled; another letter is another net)
+driving='b1 : BUF [1:2] ("D .S1-8") -> ("/N .S2-8");'
+# short SECOND NAME: the second section takes /N, and this name with its assertion
+short() {
+    sections 10 "$driving" "$1$end"
+    said "$(of 2 7 'the net /N<0> does not assert here what it asserts in section 1')" \
+        '    here it stands at 4:17, line 10 of the text:' \
+        "    $1" \
+        '                    ^' \
+        '    in section 1 it stands at 4:32, line 4 of the text:' \
+        "    $driving" \
+        '                                   ^' \
+        ${2:+"    section 2 has $2 with this assertion: is /N meant?"} \
+        '    give it the same assertion in each section where it stands'
+}
+short 'b1 : AND [1:2] ("/N", "N .S2-8") -> ("X");' N
+short 'b1 : AND [1:2] ("/N", "/NN .S2-8") -> ("X");' /NN
+short 'b1 : AND [1:2] ("/N", "/M .S2-8") -> ("X");' ''
+short 'b1 : AND [1:2] ("/N", "N .S3-8") -> ("X");' ''
 sections 10 "$first" "b2 : BUF [1:2] (\"E .S1-8\") -> (\"/Q .S2-8\");$end"
 said "$(of 2 7 'the net /Q<0> is driven here, and in section 1')" \
     '    here it is driven at 4:1, line 10 of the text:' \

@@ -147,8 +147,29 @@ two_edits : is_nearly (codes "/DOES") (codes "/DONE") ≡ false
 unfolding exchanged
 two_edits = refl
 
-not_global : is_nearly (codes "DOEN") (codes "/DONE") ≡ false
-not_global = refl
+letters_of_two : is_nearly (codes "/NN") (codes "/N") ≡ true
+letters_of_two = refl
+
+other_case : is_nearly (codes "/n") (codes "/N") ≡ true
+other_case = refl
+
+other_letter : is_nearly (codes "/M") (codes "/N") ≡ false
+unfolding exchanged
+other_letter = refl
+
+without_slash : is_nearly (codes "N") (codes "/N") ≡ true
+without_slash = refl
+
+other_local : is_nearly (codes "DOEN") (codes "/DONE") ≡ false
+other_local = refl
+
+local_slip : slip_in (with_nets (asserted "/N" ∷ [])) (asserted "/N")
+    (with_nets (record (asserted "/N") { spec = Unasserted } ∷ asserted "N" ∷ [])) ≡ Some (asserted "N")
+local_slip = refl
+
+local_in_both : slip_in (with_nets (asserted "/N" ∷ asserted "N" ∷ [])) (asserted "/N")
+    (with_nets (asserted "N" ∷ [])) ≡ None
+local_in_both = refl
 
 its_line : slip_line 0 (asserted "/DONE") (Some (asserted "/DOEN"))
     ≡ codes "    section 1 has /DOEN with this assertion: is /DONE meant?\n"

@@ -17,7 +17,7 @@ use Rattle.section_help.specs.Broken.{IsAt, IsTold, IsToldOf, IsToldOfHeader, Is
 use Rattle.section_help.specs.Found.{IsFound, first_word}
 use Rattle.section_help.specs.Part.{text_at}
 use Rattle.section_help.specs.Read.{IsUndrawn}
-use Rattle.section_help.specs.Slip.{slip_lines}
+use Rattle.section_help.specs.Slip.{remedy_lines}
 use Rattle.section_help.specs.Words.{end_lines, header_lines, header_word, other_lines, other_site, own_lines, own_site, top_lines}
 use Rattle.section_help.proofs.Reading.{drawn_sections, few_sections, many_sections, undrawn_sections}
 
@@ -55,11 +55,11 @@ module _ (texts : List (List ℕ)) (sections : List Section) (b : Broken) where
         IsAt (text_at (index_of b) texts) (slice_get sections (index_of b)) net (own_site b.rule) own →
         IsAt (text_at o texts) (slice_get sections o) net (other_site b.rule) place → old ≡ [] →
         mid ≡ old ++ own_lines texts b net o own → most ≡ mid ++ other_lines texts b.rule o place →
-        new ≡ most ++ slip_lines b.rule net k o sections → IsToldOfNet texts sections b net new
+        new ≡ most ++ remedy_lines b.rule net k o sections → IsToldOfNet texts sections b net new
     net_told k o own place old mid most new k_is o_is here there none first second third =
         let front : ℕ → List ℕ = λ n. own_lines texts b net n own in
         let middle : ℕ → List ℕ = λ n. other_lines texts b.rule n place in
-        let end : ℕ → ℕ → List ℕ = λ m n. slip_lines b.rule net m n sections in
+        let end : ℕ → ℕ → List ℕ = λ m n. remedy_lines b.rule net m n sections in
         let two : most ≡ front o ++ middle o =
         second ∙ ap (λ (l : List ℕ). l ++ middle o) (put old mid (front o) none first) in
         let whole : new ≡ front o ++ (middle o ++ end k o) =

@@ -17,7 +17,7 @@ use Rattle.section_help.specs.Beside.{beside, driver_place}
 use Rattle.section_help.specs.Found.{IsFound, first_word, named_place}
 use Rattle.section_help.specs.Part.{text_at}
 use Rattle.section_help.specs.Read.{IsUndrawn}
-use Rattle.section_help.specs.Slip.{slip_lines}
+use Rattle.section_help.specs.Slip.{remedy_lines}
 use Rattle.section_help.specs.Words.{header_lines, header_word, other_lines, other_site, own_lines, own_site}
 
 -- Where a net stands in a section, or where it is driven.
@@ -54,7 +54,7 @@ pub data IsToldOfNet (texts : List (List ℕ)) (sections : List Section) (b : Br
       IsToldOfNet texts sections b net
       (own_lines texts b net (beside b.rule net sections) own
       ++ (other_lines texts b.rule (beside b.rule net sections) place
-      ++ slip_lines b.rule net (index_of b) (beside b.rule net sections) sections))
+      ++ remedy_lines b.rule net (index_of b) (beside b.rule net sections) sections))
 
 pub data IsToldOf (texts : List (List ℕ)) (sections : List Section) (b : Broken) : List ℕ → Type 0 where
   of_header : (bytes : List ℕ) → is_of_net b.rule ≡ false → IsToldOfHeader texts sections b bytes → IsToldOf texts sections b bytes

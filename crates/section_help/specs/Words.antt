@@ -116,4 +116,4 @@ unfoldable pub other_lead : Site → ℕ → List ℕ
 other_lead site other = concat (codes "    in section " ∷ decimal (other + 1) ∷ lead site ∷ [])
 
 unfoldable pub other_lines : List (List ℕ) → Rule → ℕ → Option Place → List ℕ
-other_lines texts rule other place = other_lead (other_site rule) other ++ (site_lines other texts place ++ advice rule)
+other_lines texts rule other place = other_lead (other_site rule) other ++ site_lines other texts place

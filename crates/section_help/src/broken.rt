@@ -11,7 +11,7 @@ use crate::beside::{beside, driver_place};
 use crate::found::{find_name, find_word};
 use crate::part::{add_begin, add_site, text_at};
 use crate::read::{Unread, read_sections};
-use crate::slip::add_slip;
+use crate::slip::add_remedy;
 use crate::words::{
     Site, add_differences, add_lead, add_sentence, advice, header_sentence, header_word, lead,
     other_site, own_site,
@@ -109,7 +109,7 @@ fn add_own(
     add_site(out, text, pieces, section, own)
 }
 
-/// What is told of it in the other section, and what to do.
+/// What is told of it in the other section.
 #[tactic(auto, unfolding(crate::specs::Words::other_lines))]
 fn add_other(
     out: &mut Bytes,
@@ -126,8 +126,7 @@ fn add_other(
         ++ other_lines (map (piece_of text.now) pieces.now) rule other place) }
 {
     add_lead(out, other_site(rule), other)?;
-    add_site(out, text, pieces, other, place)?;
-    out.extend(advice(rule))
+    add_site(out, text, pieces, other, place)
 }
 
 // ---- the rule that is broken
@@ -196,7 +195,7 @@ fn told_net(
     let mut out = Bytes::new(alloc);
     add_own(&mut out, text, pieces, broken, net, other, own)?;
     add_other(&mut out, text, pieces, rule, other, place)?;
-    add_slip(&mut out, rule, net, section, other, sections)?;
+    add_remedy(&mut out, rule, net, section, other, sections)?;
     Ok(out)
 }
 
