@@ -472,6 +472,14 @@ second '3 Syntax 4:11' 'DRAWING ROW;' 'FOR I = 3 DOWNTO 0 DO' 'END;' 'END;'
 helps "    'DOWNTO' cannot stand here, after '3'" \
     '    a FOR counts upwards, by one: FOR I = 0 TO N - 1 DO' \
     '    what may stand here: TO + - * /'
+# (in a range they stand for its colon)
+between='    a range is written <W-1:0>'
+early '3 Syntax 4:23' 'b1 : BUF [0:0] ("A"<3 downto 0>) -> ("X");'
+helps "    'downto' cannot stand here, after '3'" "$between" '    what may stand here: : > + - * /'
+early '3 Syntax 4:23' 'b1 : BUF [0:0] ("A"<0 to 3>) -> ("X");'
+helps "    'to' cannot stand here, after '0'" "$between" \
+    '    what may stand here: : > + - * /' \
+    "    is : meant in place of 'to'?"
 early '3 Syntax 4:15' 'b1 : BUF [0:2**3] ("A") -> ("X");'
 helps "    '*' cannot stand here, after '*'" \
     '    there is no power: A * A is the square of A' \
@@ -515,6 +523,10 @@ word 4:6 '(' SYNC "$labelled" 'SYNC ("A") -> ("X");'
 nets='    a net needs no declaration: its name in double quotes is enough'
 word 4:5 Q reg "$nets" 'reg Q;'
 word 4:8 '"A"' SIGNAL "$nets" 'SIGNAL "A";'
+word 4:5 Q tri "$nets" 'tri Q;'
+word 4:6 c0 wire "$nets" 'wire c0;'
+# (a WIRE has a name)
+word 4:6 '"A"' wire '    is WIRE meant?' 'wire "A" 3:8;'
 begun='    IF, FOR, MACRO and DRAWING have no BEGIN or GENERATE, and end with END;'
 word 5:1 b1 BEGIN "$begun" 'BEGIN' 'b1 : BUF [0:0] ("A") -> ("X");'
 word 5:1 END generate "$begun" 'generate'
@@ -585,6 +597,13 @@ bracket 4:14 = min "$delays" ': + - * /' 'b1 : BUF [min=20, max=60] ("A") -> ("X
 parameters='    parameters stand in { }, as in {N=8}'
 bracket 4:20 HIGH '(' "$parameters" '"name" ZERO ONE ) -' 'w : MIN_PULSE_CHK (HIGH=70, LOW=120) ("A");'
 bracket 4:26 = SETUP "$parameters" ': + - * /' 'c : SETUP_HOLD_CHK [SETUP=25, HOLD=5] ("CK", "D");'
+# (a name without a value, or a value without a name)
+given='    a parameter has a name and a value, as in {SETUP=20, HOLD=5}'
+early '3 Syntax 4:24' 'c : SETUP_HOLD_CHK {TSU, TH} ("CK", "D");'
+helps "    ',' cannot stand here, after 'TSU'" "$given" \
+    '    what may stand here: =' \
+    "    is = meant in place of ','?"
+bracket 4:33 '}' TH "$given" = 'c : SETUP_HOLD_CHK {SETUP=25, TH} ("CK", "D");'
 connections='    connections stand in ( )'
 bracket 4:16 '[' ']' "$connections" '( {' 'b1 : BUF [0:0] ["A"] -> ("X");'
 bracket 4:25 '"X"' '->' "$connections" '(' 'b1 : BUF [0:0] ("A") -> "X";'

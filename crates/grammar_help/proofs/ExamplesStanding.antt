@@ -1,5 +1,5 @@
--- Where a word of the language may stand, labels after a macro, constants of other drawings and a range that lacks
--- a number, worked out on paper.
+-- Where a word of the language may stand, labels after a macro, constants of other drawings, ranges of other
+-- languages or without a number, and parameters without a value, worked out on paper.
 use Rattle.std.proofs.Common.{◌≡◌, ℕ, Bool, List, [], ◌∷◌, ◌++◌, map, refl, ◌+◌, true, false, length, pos}
 use Rattle.std.specs.Prelude.{codes, Option, Some, None}
 use Rattle.scald_lex.specs.declared.token.Token.{Token}
@@ -8,11 +8,14 @@ use Rattle.scald_lex.specs.declared.token.TokenKind.TheVariants.{Word, Number, N
 use Rattle.help_text.specs.Near.{exchanged}
 use Rattle.help_text.specs.declared.keyword.Keyword.{Keyword}
 use Rattle.help_text.specs.declared.keyword.Keyword.TheVariants.{Scald, Clock, Wire, Pskew, Cskew, Macro, Drawing, Case, If, Then, Else, End, Zero, One, Const, For, To, Do}
+use Rattle.grammar_help.specs.Foreign.{bounds_note, foreign_note, joins}
 use Rattle.grammar_help.specs.Label.{label_line}
+use Rattle.grammar_help.specs.Operator.{down_note}
+use Rattle.grammar_help.specs.OtherWord.{other_word}
 use Rattle.grammar_help.specs.Settled.{is_settled}
 use Rattle.grammar_help.specs.Standing.{may_stand, standing}
 use Rattle.grammar_help.specs.Syntax.{meant_line}
-use Rattle.grammar_help.specs.Wanted.{name_note, number_note, one_note, wanted_note, zero_note}
+use Rattle.grammar_help.specs.Wanted.{name_note, number_note, one_note, value_note, wanted_note, zero_note}
 
 -- a token of a text on one line
 abbrev at : TokenKind → ℕ → ℕ → Token
@@ -155,3 +158,55 @@ nothing_before = refl
 settled_range : map (λ (k : TokenKind). is_settled (codes "\"N\"<:") (at k 0 3 ∷ symbol 60 3 ∷ symbol 58 4 ∷ []) (Some (symbol 60 3)) (symbol 58 4)) (Name ∷ Word ∷ []) ≡
     true ∷ false ∷ []
 settled_range = refl
+
+-- ---- a word between the bounds of a range
+
+abbrev spanned : List ℕ → List ℕ
+spanned text = foreign_note text (at Name 0 3 ∷ symbol 60 3 ∷ at (Number (pos 3)) 4 5 ∷ at Word 6 12 ∷ []) (Some (at (Number (pos 3)) 4 5)) (at Word 6 12) []
+
+spans : map spanned (codes "\"N\"<3 downto" ∷ codes "\"N\"<3 DownTo" ∷ codes "\"N\"<3 uptown" ∷ []) ≡
+    codes "    a range is written <W-1:0>\n" ∷ codes "    a range is written <W-1:0>\n" ∷ [] ∷ []
+unfolding bounds_note exchanged joins other_word
+spans = refl
+
+-- after the range, and where the < compares
+after_range : foreign_note (codes "<>TO") (symbol 60 0 ∷ symbol 62 1 ∷ at Word 2 4 ∷ []) (Some (symbol 62 1)) (at Word 2 4) [] ≡ []
+unfolding joins other_word
+after_range = refl
+
+in_range_to : foreign_note (codes "<3to") (symbol 60 0 ∷ at (Number (pos 3)) 1 2 ∷ at Word 2 4 ∷ []) (Some (at (Number (pos 3)) 1 2)) (at Word 2 4) [] ≡
+    codes "    a range is written <W-1:0>\n"
+unfolding bounds_note joins other_word
+in_range_to = refl
+
+abbrev compared : List ℕ → List ℕ
+compared text = foreign_note text (at Word 0 3 ∷ symbol 60 3 ∷ at (Number (pos 3)) 4 5 ∷ at Word 6 12 ∷ []) (Some (at (Number (pos 3)) 4 5)) (at Word 6 12) []
+
+comparisons : map compared (codes "FOR<3 DOWNTO" ∷ codes "FOR<3 uptown" ∷ []) ≡
+    codes "    a FOR counts upwards, by one: FOR I = 0 TO N - 1 DO\n" ∷ [] ∷ []
+unfolding down_note joins other_word
+comparisons = refl
+
+-- ---- a parameter without a value
+
+-- between these symbols
+abbrev alone : ℕ → ℕ → List ℕ → List ℕ
+alone opening closing text = wanted_note text
+    (symbol opening 0 ∷ at Word 1 4 ∷ symbol closing 4 ∷ []) (Some (at Word 1 4)) (symbol closing 4)
+
+values : map (λ (pair : ℕ × ℕ). alone pair.0 pair.1 (codes "?TSU?")) ((123, 44) ∷ (44, 125) ∷ []) ≡
+    codes "    a parameter has a name and a value, as in {SETUP=20, HOLD=5}\n"
+    ∷ codes "    a parameter has a name and a value, as in {SETUP=20, HOLD=5}\n" ∷ []
+unfolding value_note
+values = refl
+
+-- after an =, before one, in parentheses, and of a word of the language
+valued : map (λ (pair : ℕ × ℕ). alone pair.0 pair.1 (codes "?TSU?")) ((61, 44) ∷ (123, 61) ∷ (40, 44) ∷ []) ≡ [] ∷ [] ∷ [] ∷ []
+valued = refl
+
+constant : alone 44 125 (codes ",ONE}") ≡ []
+constant = refl
+
+settled_value : map (λ (b : ℕ). is_settled (codes "?TSU}") (symbol b 0 ∷ at Word 1 4 ∷ symbol 125 4 ∷ []) (Some (at Word 1 4)) (symbol 125 4)) (123 ∷ 61 ∷ []) ≡
+    true ∷ false ∷ []
+settled_value = refl

@@ -33,13 +33,13 @@ unfolding other_word
 ends_and_elses = refl
 
 all_words : flat_map (λ (w : OtherWord). word_of w ++ codes " ") other_words ≡
-    codes "ENDIF ENDFOR ENDMACRO ENDMODULE ENDGENERATE NEXT ELSIF ELSEIF ELIF BEGIN GENERATE SIGNAL REG LOGIC "
+    codes "ENDIF ENDFOR ENDMACRO ENDMODULE ENDGENERATE NEXT ELSIF ELSEIF ELIF BEGIN GENERATE SIGNAL REG LOGIC TRI "
     ++ codes "INPUT OUTPUT ASSIGN ALWAYS PROCESS MODULE ENTITY COMPONENT WHEN SWITCH "
 all_words = refl
 
 all_notes : map note_of other_words ≡
     end_note ∷ end_note ∷ end_note ∷ end_note ∷ end_note ∷ end_note ∷ else_note ∷ else_note ∷ else_note ∷ body_note ∷ body_note
-    ∷ net_note ∷ net_note ∷ net_note ∷ net_note ∷ net_note ∷ label_note ∷ label_note ∷ label_note ∷ macro_note ∷ macro_note
+    ∷ net_note ∷ net_note ∷ net_note ∷ net_note ∷ net_note ∷ net_note ∷ label_note ∷ label_note ∷ label_note ∷ macro_note ∷ macro_note
     ∷ macro_note ∷ when_note ∷ when_note ∷ []
 all_notes = refl
 
@@ -66,6 +66,25 @@ declaration : words_note (codes ";reg Q;") declared (Some (at Word 1 4)) (at Wor
     codes "    a net needs no declaration: its name in double quotes is enough\n"
 unfolding net_note other_word
 declaration = refl
+
+-- of wire in other letters than WIRE, where a word comes after it that is no kind
+abbrev wired : ℕ → TokenKind → List ℕ → List ℕ
+wired b kind text =
+    words_note text (symbol b 0 ∷ at Word 1 5 ∷ at kind 6 9 ∷ []) (Some (at Word 1 5)) (at kind 6 9) []
+
+wires : map (wired 59 Word) (codes ";wire net" ∷ codes ";Wire net" ∷ codes ";WIRE net" ∷ codes ";wire BUF" ∷ []) ≡
+    codes "    a net needs no declaration: its name in double quotes is enough\n"
+    ∷ codes "    a net needs no declaration: its name in double quotes is enough\n" ∷ [] ∷ [] ∷ []
+unfolding net_note other_word
+wires = refl
+
+wire_inside : wired 44 Word (codes ",wire net") ≡ []
+unfolding other_word
+wire_inside = refl
+
+wire_of_name : wired 59 Name (codes ";wire \"N\"") ≡ []
+unfolding other_word
+wire_of_name = refl
 
 -- no word inside a statement, none before its kind, and none before its colon
 inside_statement : words_note (codes ",reg Q;") (symbol 44 0 ∷ at Word 1 4 ∷ at Word 5 6 ∷ []) (Some (at Word 1 4)) (at Word 5 6) [] ≡ []

@@ -7,9 +7,9 @@ use Rattle.help_text.specs.Near.{near}
 use Rattle.help_text.specs.Statement.{first_of, spelled}
 use Rattle.help_text.specs.Tokens.{is_symbol}
 use Rattle.grammar_help.specs.Belongs.{ends_before}
-use Rattle.grammar_help.specs.Operator.{inverts_name, is_named_end, operator_note}
+use Rattle.grammar_help.specs.Operator.{holds_word, inverts_name, is_named_end, operator_note}
 use Rattle.grammar_help.specs.OtherWord.{end_note, first_note, words_note}
-use Rattle.grammar_help.specs.Standing.{in_condition}
+use Rattle.grammar_help.specs.Standing.{in_condition, in_range}
 
 -- ---- two tokens side by side
 
@@ -28,12 +28,18 @@ abbrev pub inverts : Option Token → Option Token → Bool
 inverts (Some t) (Some u) = is_symbol 33 t.kind && is_name u.kind
 inverts t u = false
 
--- ---- conditions and braces
+-- ---- conditions, ranges and braces
 
 unfoldable pub joins : List ℕ → Token → Bool
 joins text t =
     is_symbol 38 t.kind
     || (near 0 (spelled text t) (codes "AND") || near 0 (spelled text t) (codes "OR"))
+
+-- a word between the bounds of a range
+abbrev pub joins_bounds : List ℕ → List Token → Token → Bool
+joins_bounds text tokens t =
+    (holds_word text (codes "DOWNTO") (Some t) || holds_word text (codes "TO") (Some t))
+    && in_range text t.place tokens
 
 -- a brace where a statement may stand
 abbrev pub is_block_brace : List ℕ → Option Token → Token → Bool
@@ -53,6 +59,9 @@ unfoldable pub join_note : List ℕ
 join_note =
     codes "    conditions are joined by * and +: (A = 1) * (B = 2) holds where both do, (A = 1) + (B = 2) where one does\n"
 
+unfoldable pub bounds_note : List ℕ
+bounds_note = codes "    a range is written <W-1:0>\n"
+
 -- of a token, the one before it and those after it
 abbrev pub foreign_note : List ℕ → List Token → Option Token → Token → List Token → List ℕ
 foreign_note text tokens before t ts =
@@ -60,6 +69,7 @@ foreign_note text tokens before t ts =
     else if inverts before (Some t) || (inverts (Some t) (first_of ts) || inverts_name text before t (first_of ts))
     then invert_note
     else if joins text t && in_condition text t.place tokens then join_note
+    else if joins_bounds text tokens t then bounds_note
     else if is_named_end text before t || is_block_brace text before t then end_note
     else
     first_note (operator_note text (in_condition text t.place tokens) before t (first_of ts))

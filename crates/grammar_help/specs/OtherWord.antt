@@ -1,5 +1,5 @@
 -- Words of other languages that a statement begins with, and how what they say is written here.
-use Rattle.std.specs.Prelude.{ℕ, Bool, true, false, ◌&&◌, List, [], ◌∷◌, codes, Option, Some, None, if◌then◌else◌}
+use Rattle.std.specs.Prelude.{ℕ, Bool, true, false, not, ◌&&◌, List, [], ◌∷◌, codes, Option, Some, None, if◌then◌else◌}
 use Rattle.std.specs.List.{find, list_any}
 use Rattle.std.specs.Str.{bytes_eq}
 use Rattle.scald_lex.specs.declared.token.Token.{Token}
@@ -10,7 +10,7 @@ use Rattle.help_text.specs.Tokens.{is_word}
 use Rattle.grammar_help.specs.Belongs.{ends_before}
 use Rattle.grammar_help.specs.Reserved.{gives}
 use Rattle.grammar_help.specs.declared.other_word.OtherWord.{OtherWord}
-use Rattle.grammar_help.specs.declared.other_word.OtherWord.TheVariants.{EndIf, EndFor, EndMacro, EndModule, EndGenerate, Next, Elsif, Elseif, Elif, Begin, Generate, Signal, Reg, Logic, Input, Output, Assign, Always, Process, Module, Entity, Component, When, Switch}
+use Rattle.grammar_help.specs.declared.other_word.OtherWord.TheVariants.{EndIf, EndFor, EndMacro, EndModule, EndGenerate, Next, Elsif, Elseif, Elif, Begin, Generate, Signal, Reg, Logic, Tri, Input, Output, Assign, Always, Process, Module, Entity, Component, When, Switch}
 
 -- ---- the words
 
@@ -29,6 +29,7 @@ word_of Generate = codes "GENERATE"
 word_of Signal = codes "SIGNAL"
 word_of Reg = codes "REG"
 word_of Logic = codes "LOGIC"
+word_of Tri = codes "TRI"
 word_of Input = codes "INPUT"
 word_of Output = codes "OUTPUT"
 word_of Assign = codes "ASSIGN"
@@ -43,7 +44,7 @@ word_of Switch = codes "SWITCH"
 abbrev pub other_words : List OtherWord
 other_words =
     EndIf ∷ EndFor ∷ EndMacro ∷ EndModule ∷ EndGenerate ∷ Next ∷ Elsif ∷ Elseif ∷ Elif ∷ Begin ∷ Generate
-    ∷ Signal ∷ Reg ∷ Logic ∷ Input ∷ Output ∷ Assign ∷ Always ∷ Process ∷ Module ∷ Entity ∷ Component
+    ∷ Signal ∷ Reg ∷ Logic ∷ Tri ∷ Input ∷ Output ∷ Assign ∷ Always ∷ Process ∷ Module ∷ Entity ∷ Component
     ∷ When ∷ Switch ∷ []
 
 -- letters of either case are one
@@ -91,6 +92,7 @@ note_of Generate = body_note
 note_of Signal = net_note
 note_of Reg = net_note
 note_of Logic = net_note
+note_of Tri = net_note
 note_of Input = net_note
 note_of Output = net_note
 note_of Assign = label_note
@@ -131,11 +133,22 @@ first_note (b ∷ bs) other = b ∷ bs
 abbrev pub is_kind : List ℕ → Token → Bool
 is_kind text t = list_any (bytes_eq (spelled text t)) kind_names
 
+-- WIRE in other letters
+abbrev pub is_wire : List ℕ → Bool
+is_wire word = near 0 word (codes "WIRE") && not (bytes_eq word (codes "WIRE"))
+
+-- a statement begins with it, and a word comes after it: the WIRE of this language has a name or a delay there
+abbrev pub declares_net : List ℕ → List Token → Token → Token → Bool
+declares_net text tokens last t =
+    is_word t.kind && (is_wire (spelled text last) && starts text (before_place last.place tokens))
+
 -- of the word before the token, which is no label before its kind
 abbrev pub before_note : List ℕ → List Token → Option Token → Token → List ℕ
 before_note text tokens None t = []
 before_note text tokens (Some last) t =
-    if is_kind text t then [] else word_note text (before_place last.place tokens) last
+    if is_kind text t then []
+    else if declares_net text tokens last t then net_note
+    else word_note text (before_place last.place tokens) last
 
 -- of the token, which is no label before its colon
 abbrev pub token_note : List ℕ → Option Token → Token → List Token → List ℕ

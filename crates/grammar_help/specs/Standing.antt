@@ -31,6 +31,12 @@ in_condition text place tokens = is_within text (codes "IF") (codes "THEN") plac
 abbrev pub in_count : List ℕ → Place → List Token → Bool
 in_count text place tokens = is_within text (codes "FOR") (codes "DO") place false tokens
 
+-- between a < and its >: those of a condition and of a FOR compare
+abbrev pub in_range : List ℕ → Place → List Token → Bool
+in_range text place tokens =
+    is_within text (codes "<") (codes ">") place false tokens
+    && not (in_condition text place tokens || in_count text place tokens)
+
 -- a connection begins after the token, or after its -
 abbrev pub opens_connection : Option Token → Bool
 opens_connection before =

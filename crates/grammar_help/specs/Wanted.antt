@@ -1,4 +1,5 @@
--- What is wanted where one thing alone may stand: the x of CLOCK, the H of a mark, or a net's name.
+-- What is wanted where one thing alone may stand: the x of CLOCK, the H of a mark, a net's name, or the = of a
+-- parameter.
 use Rattle.std.specs.Prelude.{ℕ, Bool, false, not, ◌&&◌, ◌||◌, ◌==◌, List, [], ◌∷◌, codes, Option, Some, None, if◌then◌else◌}
 use Rattle.std.specs.Str.{bytes_eq}
 use Rattle.scald_base.specs.Word.{is_digit}
@@ -8,7 +9,7 @@ use Rattle.help_text.specs.Statement.{before_place, is_at, spelled}
 use Rattle.help_text.specs.Text.{line, quoted}
 use Rattle.help_text.specs.Tokens.{is_symbol}
 use Rattle.grammar_help.specs.Belongs.{is_own}
-use Rattle.grammar_help.specs.Operator.{holds_name, holds_word, is_name_token}
+use Rattle.grammar_help.specs.Operator.{holds_name, holds_symbol, holds_word, is_name_token}
 use Rattle.grammar_help.specs.Standing.{is_within, opens_connection}
 
 -- ---- SCALD n ; CLOCK u x
@@ -97,6 +98,19 @@ lacks_number tokens None t = false
 lacks_number tokens (Some last) t =
     is_symbol 58 t.kind && (is_symbol 60 last.kind && holds_name (before_place last.place tokens))
 
+-- ---- a parameter
+
+-- a parameter begins after the token: after a comma, one of the drawing's own words stands only there
+abbrev pub opens_parameter : Option Token → Bool
+opens_parameter before = holds_symbol 123 before || holds_symbol 44 before
+
+-- one word is all that there is of a parameter
+abbrev pub lacks_value : List ℕ → List Token → Option Token → Token → Bool
+lacks_value text tokens None t = false
+lacks_value text tokens (Some last) t =
+    (is_symbol 44 t.kind || is_symbol 125 t.kind)
+    && (is_own text last && opens_parameter (before_place last.place tokens))
+
 -- ---- what is said
 
 unfoldable pub times_note : List ℕ
@@ -117,6 +131,9 @@ zero_note = codes "    a constant 0 is ZERO\n"
 unfoldable pub number_note : List ℕ
 number_note = codes "    is a number missing before ':'?\n"
 
+unfoldable pub value_note : List ℕ
+value_note = codes "    a parameter has a name and a value, as in {SETUP=20, HOLD=5}\n"
+
 -- of a word where a name may stand
 abbrev pub unquoted_note : List ℕ → List Token → Option Token → Token → List ℕ
 unquoted_note text tokens before t =
@@ -132,4 +149,5 @@ wanted_note text tokens before t =
     else if wants_mark text tokens before t then mark_note
     else if wants_name text before t then unquoted_note text tokens before t
     else if lacks_number tokens before t then number_note
+    else if lacks_value text tokens before t then value_note
     else []

@@ -1,12 +1,12 @@
 //! How what other languages write so is written here.
 
 ghost use Rattle.std.specs.Prelude.{◌≡◌};
-ghost use Rattle.grammar_help.specs.Foreign.{comment_note, foreign_note, inverts, invert_note, is_block_brace, is_name, join_note, joins, opens_comment};
+ghost use Rattle.grammar_help.specs.Foreign.{bounds_note, comment_note, foreign_note, inverts, invert_note, is_block_brace, is_name, join_note, joins, joins_bounds, opens_comment};
 
 use crate::belongs::ends_before;
-use crate::operator::{inverts_name, is_named_end, operator_note};
+use crate::operator::{holds_word, inverts_name, is_named_end, operator_note};
 use crate::other_word::{end_note, first_note, words_note};
-use crate::standing::in_condition;
+use crate::standing::{in_condition, in_range};
 use help_text::{first_of, is_symbol, near, spelled};
 use scald_lex::{Token, TokenKind};
 
@@ -54,6 +54,14 @@ fn joins(text: &[u8], token: Token) -> bool
     is_symbol(token, b'&') || near(0, word, b"AND") || near(0, word, b"OR")
 }
 
+/// Whether a token is a word between the bounds of a range.
+fn joins_bounds(text: &[u8], tokens: &[Token], token: Token) -> bool
+    ensures { result ≡ joins_bounds text.now tokens.now token }
+{
+    (holds_word(text, b"DOWNTO", Some(token)) || holds_word(text, b"TO", Some(token)))
+        && in_range(text, tokens, token.place)
+}
+
 /// Whether a brace stands where a statement may.
 fn is_block_brace(text: &[u8], before: Option<Token>, token: Token) -> bool
     ensures { result ≡ is_block_brace text.now before token }
@@ -90,6 +98,14 @@ fn join_note() -> &'static [u8]
     b"    conditions are joined by * and +: (A = 1) * (B = 2) holds where both do, (A = 1) + (B = 2) where one does\n"
 }
 
+/// How a range is written.
+#[tactic(auto, unfolding(crate::specs::Foreign::bounds_note))]
+fn bounds_note() -> &'static [u8]
+    ensures { result.now ≡ bounds_note }
+{
+    b"    a range is written <W-1:0>\n"
+}
+
 /// How what stands at a token is written here, where other languages write it so: by the token
 /// before it and those after it.
 pub fn foreign_note(
@@ -111,6 +127,8 @@ pub fn foreign_note(
         invert_note()
     } else if joins(text, token) && in_condition(text, tokens, token.place) {
         join_note()
+    } else if joins_bounds(text, tokens, token) {
+        bounds_note()
     } else if is_named_end(text, before, token) || is_block_brace(text, before, token) {
         end_note()
     } else {

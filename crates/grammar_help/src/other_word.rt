@@ -2,12 +2,13 @@
 
 ghost use Rattle.std.specs.Prelude.{◌≡◌};
 ghost use Rattle.std.specs.List.{find};
-ghost use Rattle.grammar_help.specs.OtherWord.{before_note, body_note, else_note, end_note, first_note, is_kind, is_same, label_note, macro_note, net_note, note_by, note_of, other_word, starts, token_note, when_note, word_note, word_of, words_note};
+ghost use Rattle.grammar_help.specs.OtherWord.{before_note, body_note, declares_net, else_note, end_note, first_note, is_kind, is_same, is_wire, label_note, macro_note, net_note, note_by, note_of, other_word, starts, token_note, when_note, word_note, word_of, words_note};
 
 use crate::belongs::ends_before;
 use crate::reserved::gives;
 use element_kinds::is_kind_name;
 use help_text::{before_place, is_word, near, spelled};
+use scald_base::same_bytes;
 use scald_lex::Token;
 
 /// A word that another language has, in letters of either case.
@@ -27,6 +28,7 @@ pub enum OtherWord {
     Signal,
     Reg,
     Logic,
+    Tri,
     Input,
     Output,
     Assign,
@@ -40,7 +42,7 @@ pub enum OtherWord {
 }
 
 /// All of them.
-const OTHER_WORDS: [OtherWord; 24] = [
+const OTHER_WORDS: [OtherWord; 25] = [
     OtherWord::EndIf,
     OtherWord::EndFor,
     OtherWord::EndMacro,
@@ -55,6 +57,7 @@ const OTHER_WORDS: [OtherWord; 24] = [
     OtherWord::Signal,
     OtherWord::Reg,
     OtherWord::Logic,
+    OtherWord::Tri,
     OtherWord::Input,
     OtherWord::Output,
     OtherWord::Assign,
@@ -87,6 +90,7 @@ impl OtherWord {
             OtherWord::Signal => b"SIGNAL",
             OtherWord::Reg => b"REG",
             OtherWord::Logic => b"LOGIC",
+            OtherWord::Tri => b"TRI",
             OtherWord::Input => b"INPUT",
             OtherWord::Output => b"OUTPUT",
             OtherWord::Assign => b"ASSIGN",
@@ -116,6 +120,7 @@ impl OtherWord {
             OtherWord::Signal
             | OtherWord::Reg
             | OtherWord::Logic
+            | OtherWord::Tri
             | OtherWord::Input
             | OtherWord::Output => net_note(),
             OtherWord::Assign | OtherWord::Always | OtherWord::Process => label_note(),
@@ -249,13 +254,31 @@ pub fn is_kind(text: &[u8], token: Token) -> bool
     is_kind_name(spelled(text, token))
 }
 
+/// Whether a word is WIRE in other letters.
+fn is_wire(word: &[u8]) -> bool
+    ensures { result ≡ is_wire word.now }
+{
+    near(0, word, b"WIRE") && !same_bytes(word, b"WIRE")
+}
+
+/// Whether a statement begins with it, and this token is a word after it.
+fn declares_net(text: &[u8], tokens: &[Token], last: Token, token: Token) -> bool
+    ensures { result ≡ declares_net text.now tokens.now last token }
+{
+    is_word(token) && is_wire(spelled(text, last)) && starts(text, before_place(tokens, last.place))
+}
+
 /// What is said of the word before a token, where it is no label before its kind.
 fn before_note(text: &[u8], tokens: &[Token], before: Option<Token>, token: Token) -> &'static [u8]
     ensures { result.now ≡ before_note text.now tokens.now before token }
 {
     match before {
         Some(last) if !is_kind(text, token) => {
-            word_note(text, before_place(tokens, last.place), last)
+            if declares_net(text, tokens, last, token) {
+                net_note()
+            } else {
+                word_note(text, before_place(tokens, last.place), last)
+            }
         }
         _ => b"",
     }

@@ -1,7 +1,7 @@
 //! Where a word of the language may stand, as far as the tokens before it tell.
 
 ghost use Rattle.std.specs.Prelude.{◌≡◌, false};
-ghost use Rattle.grammar_help.specs.Standing.{goes_on, in_condition, in_count, is_within, may_stand, opens_connection, standing};
+ghost use Rattle.grammar_help.specs.Standing.{goes_on, in_condition, in_count, in_range, is_within, may_stand, opens_connection, standing};
 
 use crate::operator::holds_symbol;
 use crate::other_word::starts;
@@ -46,6 +46,14 @@ fn in_count(text: &[u8], tokens: &[Token], place: Place) -> bool
     ensures { result ≡ in_count text.now place tokens.now }
 {
     is_within(text, b"FOR", b"DO", tokens, place)
+}
+
+/// Whether a place is between the `<` and the `>` of a range.
+pub fn in_range(text: &[u8], tokens: &[Token], place: Place) -> bool
+    ensures { result ≡ in_range text.now place tokens.now }
+{
+    is_within(text, b"<", b">", tokens, place)
+        && !(in_condition(text, tokens, place) || in_count(text, tokens, place))
 }
 
 /// Whether a connection begins after a token, or after its `-`.

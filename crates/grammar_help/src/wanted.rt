@@ -1,10 +1,11 @@
-//! What is wanted where one thing alone may stand: the x of CLOCK, the H of a mark, or a net's name.
+//! What is wanted where one thing alone may stand: the x of CLOCK, the H of a mark, a net's
+//! name, or the = of a parameter.
 
 ghost use Rattle.std.specs.Prelude.{◌≡◌, ◌++◌, OnOk};
-ghost use Rattle.grammar_help.specs.Wanted.{begins_mark, ends_term, is_case, is_constant, is_high, is_low, is_net, is_sixth, joins_number, lacks_number, mark_note, name_note, unquoted_note, number_note, one_note, opens_name, space_line, space_text, times_note, wanted_note, wants_mark, wants_name, wants_times, zero_note};
+ghost use Rattle.grammar_help.specs.Wanted.{begins_mark, ends_term, is_case, is_constant, is_high, is_low, is_net, is_sixth, joins_number, lacks_number, lacks_value, mark_note, name_note, unquoted_note, number_note, one_note, opens_name, opens_parameter, space_line, space_text, times_note, value_note, wanted_note, wants_mark, wants_name, wants_times, zero_note};
 
 use crate::belongs::is_own;
-use crate::operator::{holds_name, holds_word, is_name_token};
+use crate::operator::{holds_name, holds_symbol, holds_word, is_name_token};
 use crate::standing::{is_within, opens_connection};
 use help_text::{Part, add_line, before_place, is_at, is_near, is_symbol, spelled};
 use scald_base::{Bytes, NoMemory, same_bytes};
@@ -169,6 +170,27 @@ pub fn lacks_number(tokens: &[Token], before: Option<Token>, token: Token) -> bo
     }
 }
 
+/// Whether a parameter begins after a token.
+fn opens_parameter(before: Option<Token>) -> bool
+    ensures { result ≡ opens_parameter before }
+{
+    holds_symbol(b'{', before) || holds_symbol(b',', before)
+}
+
+/// Whether one word is all that there is of a parameter.
+pub fn lacks_value(text: &[u8], tokens: &[Token], before: Option<Token>, token: Token) -> bool
+    ensures { result ≡ lacks_value text.now tokens.now before token }
+{
+    match before {
+        None => false,
+        Some(last) => {
+            (is_symbol(token, b',') || is_symbol(token, b'}'))
+                && is_own(text, last)
+                && opens_parameter(before_place(tokens, last.place))
+        }
+    }
+}
+
 /// That an x is meant.
 #[tactic(auto, unfolding(crate::specs::Wanted::times_note))]
 fn times_note() -> &'static [u8]
@@ -217,6 +239,14 @@ fn number_note() -> &'static [u8]
     b"    is a number missing before ':'?\n"
 }
 
+/// What a parameter has.
+#[tactic(auto, unfolding(crate::specs::Wanted::value_note))]
+fn value_note() -> &'static [u8]
+    ensures { result.now ≡ value_note }
+{
+    b"    a parameter has a name and a value, as in {SETUP=20, HOLD=5}\n"
+}
+
 /// What is wanted of a word where a name may stand.
 fn unquoted_note(
     text: &[u8],
@@ -254,6 +284,8 @@ pub fn wanted_note(
         unquoted_note(text, tokens, before, token)
     } else if lacks_number(tokens, before, token) {
         number_note()
+    } else if lacks_value(text, tokens, before, token) {
+        value_note()
     } else {
         b""
     }
