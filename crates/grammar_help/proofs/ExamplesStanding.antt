@@ -1,7 +1,7 @@
 -- Where a word of the language may stand, labels after a macro, constants of other drawings, ranges of other
 -- languages or without a number, and parameters without a value, worked out on paper.
-use Rattle.std.proofs.Common.{◌≡◌, ℕ, Bool, List, [], ◌∷◌, ◌++◌, map, refl, ◌+◌, true, false, length, pos}
-use Rattle.std.specs.Prelude.{codes, Option, Some, None}
+use Rattle.std.proofs.Common.{◌≡◌, ℕ, Bool, List, [], ◌∷◌, map, refl, ◌+◌, true, false, pos}
+use Rattle.std.specs.Prelude.{codes, Some, None}
 use Rattle.scald_lex.specs.declared.token.Token.{Token}
 use Rattle.scald_lex.specs.declared.token.TokenKind.{TokenKind}
 use Rattle.scald_lex.specs.declared.token.TokenKind.TheVariants.{Word, Number, Name, Arrow, Symbol}
