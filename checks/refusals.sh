@@ -599,10 +599,7 @@ bracket 4:20 HIGH '(' "$parameters" '"name" ZERO ONE ) -' 'w : MIN_PULSE_CHK (HI
 bracket 4:26 = SETUP "$parameters" ': + - * /' 'c : SETUP_HOLD_CHK [SETUP=25, HOLD=5] ("CK", "D");'
 # (a name without a value, or a value without a name)
 given='    a parameter has a name and a value, as in {SETUP=20, HOLD=5}'
-early '3 Syntax 4:24' 'c : SETUP_HOLD_CHK {TSU, TH} ("CK", "D");'
-helps "    ',' cannot stand here, after 'TSU'" "$given" \
-    '    what may stand here: =' \
-    "    is = meant in place of ','?"
+bracket 4:24 , TSU "$given" = 'c : SETUP_HOLD_CHK {TSU, TH} ("CK", "D");'
 bracket 4:33 '}' TH "$given" = 'c : SETUP_HOLD_CHK {SETUP=25, TH} ("CK", "D");'
 connections='    connections stand in ( )'
 bracket 4:16 '[' ']' "$connections" '( {' 'b1 : BUF [0:0] ["A"] -> ("X");'

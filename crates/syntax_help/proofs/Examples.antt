@@ -282,14 +282,19 @@ before_outputs : stand_lines (codes "\"D\" -> \"Q\"") (token_of kind.Arrow 4 6) 
 before_outputs = refl
 
 -- what stands for the : of := is none of these, and of another : they stay
-assigned : map (λ (next : Option Token). meant_for (token_of (kind.Symbol 58) 2 3) next (Less ∷ Greater ∷ []))
+assigned : map (λ (next : Option Token). meant_for false (token_of (kind.Symbol 58) 2 3) next (Less ∷ Greater ∷ []))
     (Some (token_of (kind.Symbol 61) 3 4) ∷ Some (token_of (kind.Number (pos 1)) 3 4) ∷ None ∷ []) ≡
     [] ∷ (Less ∷ Greater ∷ []) ∷ (Less ∷ Greater ∷ []) ∷ []
 assigned = refl
 
 -- nor is an = before an = such a sign
-compared : meant_for (token_of (kind.Symbol 61) 2 3) (Some (token_of (kind.Symbol 61) 3 4)) (Less ∷ []) ≡ Less ∷ []
+compared : meant_for false (token_of (kind.Symbol 61) 2 3) (Some (token_of (kind.Symbol 61) 3 4)) (Less ∷ []) ≡ Less ∷ []
 compared = refl
+
+-- nor is anything else meant where it is settled what is wrong
+settled_meant : map (λ (b : Bool). meant_for b (token_of (kind.Symbol 44) 4 5) None (Equals ∷ [])) (false ∷ true ∷ []) ≡
+    (Equals ∷ []) ∷ [] ∷ []
+settled_meant = refl
 
 -- the second sign of <>, and a bracket
 other_than : stand_lines (codes "I <> 2") (token_of (kind.Symbol 62) 3 4) [] (Equals ∷ []) ≡ []

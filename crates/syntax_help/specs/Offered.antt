@@ -82,9 +82,9 @@ abbrev pub assigns : Token → Option Token → Bool
 assigns t None = false
 assigns t (Some next) = is_symbol 58 t.kind && is_symbol 61 next.kind
 
--- those that may be meant in place of a token, before the next one
-abbrev pub meant_for : Token → Option Token → List Sample → List Sample
-meant_for t next meant = if assigns t next then [] else meant
+-- those that may be meant in place of a token, before the next one: none where it is settled what is wrong there
+abbrev pub meant_for : Bool → Token → Option Token → List Sample → List Sample
+meant_for settled t next meant = if settled || assigns t next then [] else meant
 
 abbrev pub begins_with_less : List Sample → Bool
 begins_with_less (Less ∷ ss) = true

@@ -93,7 +93,7 @@ spare_lines spare before kind token missing meant = []
 -- The tokens that may stand after the front of a text, which ends at the place, and with which of
 -- them before the token that stands there, or in place of it, the statement goes on; or whether it
 -- goes on without the token. The token comes first of these, and it may be settled that none is missing before it,
--- and that it is not one too many.
+-- and that it is not one too many or meant for another.
 pub record IsToldAfter (settled : Bool) (text front : List ℕ) (place : Place) (t : Token) (ts : List Token) (bytes : List ℕ) : Type 0 where
   pub found : List Sample
   pub expected : AreChosen (IsListed front place) samples found
@@ -104,8 +104,8 @@ pub record IsToldAfter (settled : Bool) (text front : List ℕ) (place : Place) 
   pub spare : Bool
   pub leaves : Says (GoesOn text front [] t.end (end_of ts)) spare
   pub are : bytes ≡ expected_line found ++ asked_line settled found missing
-      ++ stand_lines text t missing (meant_for t (first_of ts) meant)
-      ++ spare_lines (not settled && spare) (byte_before text t) t.kind (spelled text t) missing (meant_for t (first_of ts) meant)
+      ++ stand_lines text t missing (meant_for settled t (first_of ts) meant)
+      ++ spare_lines (not settled && spare) (byte_before text t) t.kind (spelled text t) missing (meant_for settled t (first_of ts) meant)
 
 -- of a token and those after it
 abbrev pub IsToldUnless : Bool → Bool → List ℕ → Place → Token → List Token → List ℕ → Type 0

@@ -256,7 +256,7 @@ fn add_spare(
 /// What is said of the tokens that may stand after the front of a text, which ends at this place,
 /// and of those with which the statement goes on, before the token that comes first of these or in
 /// place of it, or of the statement without it. It may be settled that none is missing before it,
-/// and that it is not one too many.
+/// and that it is not one too many or meant for another.
 fn told(
     alloc: Global,
     is_settled: bool,
@@ -279,7 +279,7 @@ fn told(
     let mut out = Bytes::new(alloc);
     add_expected(&mut out, found.as_slice())?;
     add_asked(&mut out, is_settled, found.as_slice(), missing.as_slice())?;
-    let meant = meant_for(token, first_of(others), meant.as_slice());
+    let meant = meant_for(is_settled, token, first_of(others), meant.as_slice());
     add_stand(&mut out, text, token, missing.as_slice(), meant)?;
     let spare = !is_settled && spare;
     add_spare(&mut out, text, token, spare, missing.as_slice(), meant)?;

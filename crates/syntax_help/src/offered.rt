@@ -137,11 +137,16 @@ fn assigns(token: Token, next: Option<Token>) -> bool
     }
 }
 
-/// Those of these that may be meant in place of a token, before the next one.
-pub fn meant_for(token: Token, next: Option<Token>, meant: &[Sample]) -> &[Sample]
-    ensures { result.now ≡ meant_for token next meant.now }
+/// Those of these that may be meant in place of a token, before the next one: none where it is
+/// settled what is wrong there.
+pub fn meant_for(is_settled: bool, token: Token, next: Option<Token>, meant: &[Sample]) -> &[Sample]
+    ensures { result.now ≡ meant_for is_settled token next meant.now }
 {
-    if assigns(token, next) { &[] } else { meant }
+    if is_settled || assigns(token, next) {
+        &[]
+    } else {
+        meant
+    }
 }
 
 /// Whether the first of these is a `<`.
