@@ -394,7 +394,7 @@ says "a net after a loop that does not settle" 3 \
     'scald: the net that is named still changes after the rounds that rounds=N allows
     it comes from a loop, each net of which comes from the next:
         X<0> is driven at 5:1 by loop<0>
-        X<0> is driven at 5:1 by loop<0>' "$status"
+        its own output is one of its inputs' "$status"
 
 drawing_of 'b1 : BUF [1:1] ("CK .P2-3") -> ("X");' 'b2 : BUF [1:1] ("X") -> ("Y");' |
     "$program" verify faults rounds=1 >"$work/answer" 2>"$work/said"

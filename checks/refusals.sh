@@ -1607,7 +1607,12 @@ helps "$slow_loop" \
     '        D<0> is driven at 7:1 by b4<0>' \
     '        C<0> is driven at 6:1 by b3<0>' \
     '        and so on'
+# (an element on its own output)
 drawing '18 ZeroLoop 4:1' 'r1 : REG [0:0] ("CK .P2-3", "Q") -> ("Q");'
+helps "$slow_loop" \
+    '    it is in a loop, each net of which comes from the next:' \
+    '        Q<0> is driven at 4:1 by r1<0>' \
+    '        its own output is one of its inputs'
 drawing '18 ZeroLoop 4:1' 'b1 : BUF [0:5, 3:3] ("X") -> ("X");'
 drawing '18 ZeroLoop 4:1' 'b1 : BUF [3:3, 0:5] ("X") -> ("X");'
 drawing '18 ZeroLoop 4:1' 'b1 : BUF [0:1, 2:3] ("Y") -> ("X");' 'a1 : AND [2:3, 0:1] ("CK .P2-3", "X") -> ("Y");'
@@ -1618,7 +1623,7 @@ there_is='    there is a loop whose least delay is 0, each net of which comes fr
 helps "$slow_loop" \
     "$there_is" \
     '        X<0> is driven at 5:1 by x1<0>' \
-    '        X<0> is driven at 5:1 by x1<0>'
+    '        its own output is one of its inputs'
 drawing '18 ZeroLoop 4:1' 'b1 : BUF [3:5] ("P") -> ("O");' 'n1 : OR [0:2] ("S", "Q") -> (-"P");' 'n2 : OR [0:3] ("R", "P") -> (-"Q");'
 helps "$slow_loop" \
     "$there_is" \

@@ -137,6 +137,14 @@ no_round = refl
 abbrev eight : List ℕ
 eight = 0 ∷ 1 ∷ 2 ∷ 3 ∷ 4 ∷ 5 ∷ 6 ∷ 7 ∷ []
 
+loop_of_one : (c : Circuit) →
+    nets_lines c (5 ∷ 5 ∷ [])
+    ≡ flat_map (driven_line c) (5 ∷ []) ++ codes "        its own output is one of its inputs\n"
+loop_of_one c = refl
+
+loop_of_two : (c : Circuit) → nets_lines c (5 ∷ 6 ∷ 5 ∷ []) ≡ flat_map (driven_line c) (5 ∷ 6 ∷ 5 ∷ [])
+loop_of_two c = refl
+
 loop_of_eight : (c : Circuit) →
     nets_lines c (eight ++ 0 ∷ []) ≡ flat_map (driven_line c) (eight ++ 0 ∷ [])
 loop_of_eight c = refl

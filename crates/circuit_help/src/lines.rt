@@ -64,10 +64,14 @@ fn add_each(out: &mut Bytes, c: &Circuit, nets: &[u32]) -> Result<(), NoMemory>
 }
 
 /// These nets, the last of which is that at which their loop begins again; or the first of them, where
-/// the loop has more.
+/// the loop has more. Of a loop of one net, that its driver has its own output as an input.
 pub fn add_nets(out: &mut Bytes, c: &Circuit, nets: &[u32]) -> Result<(), NoMemory>
     ensures { OnOk result (out.new ≡ out.old ++ nets_lines c.now nets.now) }
 {
+    if nets.len() == 2 {
+        add_each(out, c, &nets[..1])?;
+        return out.extend(b"        its own output is one of its inputs\n");
+    }
     if nets.len() <= MOST_NAMED + 1 {
         return add_each(out, c, nets);
     }
