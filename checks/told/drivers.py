@@ -21,7 +21,7 @@ DRAWING D;""".split("\n")
 NETS = ["A", "B", "C", "/G", "/H"]
 RANGES = ["<0:1>", "<1:2>", "<2:3>"]
 DRIVEN = re.compile(r"^ +\S+ is driven at (\d+):(\d+) by (\S+?)(?:, and then by (\S+))?$", re.M)
-REACHED = re.compile(r"^ +it is reached by \w+ at (\d+):\d+$", re.M)
+REACHED = re.compile(r"^ +it is reached by (\w+) at (\d+):(\d+)$", re.M)
 
 
 def make_statement(random, label):
@@ -46,13 +46,13 @@ def make(random):
 
 
 def read(said):
-    """What drives the net before, and then, each with its place; and the line of the statement that reaches the second."""
+    """What drives the net before, and then, and the statement that reaches the second, each with its place."""
     drivers = []
     for line, column, first, then in DRIVEN.findall(said):
         place = Place(int(line), int(column))
         drivers += [(place, path) for path in (first, then) if path]
-    reached = REACHED.search(said)
-    return (drivers, reached and int(reached[1])) if drivers or reached else None
+    reached = [(Place(int(line), int(column)), word) for word, line, column in REACHED.findall(said)]
+    return (drivers, reached) if drivers or reached else None
 
 
 def judge_reached(drawing, label, ask):
@@ -73,7 +73,10 @@ def judge(drawing, answer, told, ask):
         label = path.split("/")[-1].split("#")[0].split("<")[0]
         if not rest_at(drawing.text, place).startswith(f"{label} : "):
             return f"{path} does not stand at {place}"
-    second = drawing.label_at(reached or answer.place.line)
+    for place, word in reached:
+        if drawing.label_at(place.line) is None or not rest_at(drawing.text, place).startswith(f"{word} "):
+            return f"{word} does not stand at {place}"
+    second = drawing.label_at((reached[0][0] if reached else answer.place).line)
     if second is None:
         # A macro has it, and which use leads there is not told.
         return None

@@ -46,7 +46,8 @@ def judge(drawing, _answer, loop, ask):
     """Each net comes from the next one, and the statements of the loop alone have a loop without delay too."""
     statements = {each.label: each for each in drawing.statements}
     for net, place, path in loop:
-        if statements[label_of(path)].output != net:
+        statement = statements.get(label_of(path))
+        if statement is None or statement.output != net:
             return f"{path} does not drive {net}"
         last_label = path.split("/")[-1].split("<")[0]
         if not rest_at(drawing.text, place).startswith(f"{last_label} : "):
