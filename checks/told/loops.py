@@ -8,6 +8,7 @@ MACRO = ['MACRO M {P=0} ("I") -> ("O");', '  g : BUF [P:P] ("I") -> ("O");', "EN
 DELAYS = ["0:0", "0:0", "0:3", "1:1"]
 WIRES = ["0:0", "0:2", "2:3"]
 SHARE_WIRED = 0.25
+OWN = "its own output is one of its inputs"
 DRIVEN = re.compile(r"^ +(\S+)<\d+> is driven at (\d+):(\d+) by (\S+)$", re.M)
 
 
@@ -37,8 +38,13 @@ def make(random):
 
 
 def read(said):
-    """The nets of the loop that is told whole, each with its place and what drives it; the first comes again as the last."""
+    """The nets of the loop that is told whole, each with its place and what drives it; the first comes again as the last.
+
+    A loop of one net has a line of its own in place of the last.
+    """
     loop = [(net, Place(int(line), int(column)), path) for net, line, column, path in DRIVEN.findall(said)]
+    if loop and OWN in said:
+        loop.append(loop[0])
     return loop if loop and "and so on" not in said else None
 
 
