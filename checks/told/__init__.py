@@ -7,7 +7,8 @@ taken from the definitions in crates/*/specs: a line of help that agrees with it
     loops      the loop that is told, alone, is a loop without delay too
     drivers    the driver that is told and the refused statement, alone, drive one net twice too
     widths     bits of connections and formals, and the formal that does not fit
-    values     numbers of ranges and delays, by the values of parameters, constants and a variable
+    values     numbers of ranges and delays, by the values of parameters, constants and a variable; its drawings are
+               those of expressions
     clashes    both places of two assertions, alone, clash too
     doubles    where the first of two equal names stands, and that both, alone, are refused too
 
