@@ -5,7 +5,7 @@ use Rattle.scald_base.specs.Time.{period}
 use Rattle.flat_circuit.specs.declared.case.CaseValue.{CaseValue}
 use Rattle.flat_circuit.specs.Instances.{outputs}
 use Rattle.flat_circuit.specs.Circuit.{Circuit, IsCircuit}
-use Rattle.net_waves.specs.Waves.{Waves}
+use Rattle.fixpoint_engine.specs.Waves.{Waves}
 use Rattle.fixpoint_engine.specs.declared.rounds.EngineEnd.{EngineEnd}
 use Rattle.fixpoint_engine.specs.declared.rounds.EngineEnd.TheVariants.{NoMemory}
 use Rattle.fixpoint_engine.specs.Rounds.{round}

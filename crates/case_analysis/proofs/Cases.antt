@@ -18,10 +18,10 @@ use Rattle.flat_circuit.specs.Circuit.{Circuit}
 use Rattle.flat_circuit.specs.Run.{Run, net_signal}
 use Rattle.pin_waves.specs.Interface.{constant_wave}
 use Rattle.pin_waves.proofs.CodeSlots.{Permits_constant}
-use Rattle.class_table.specs.Alike.{value_after, value_in}
-use Rattle.net_waves.specs.Waves.{Waves, waves_of, FitWaves}
-use Rattle.net_waves.specs.Interface.{PermitRun}
-use Rattle.net_waves.proofs.WavesOf.{set_at}
+use Rattle.flat_circuit.specs.Alike.{value_after, value_in}
+use Rattle.fixpoint_engine.specs.Waves.{Waves, waves_of, FitWaves}
+use Rattle.fixpoint_engine.specs.Interface.{PermitRun}
+use Rattle.fixpoint_engine.proofs.WavesOf.{set_at}
 use Rattle.fixpoint_engine.specs.Reach.{reach}
 use Rattle.fixpoint_engine.specs.Start.{is_driven}
 use Rattle.fixpoint_engine.specs.Settled.{KeepRuns}

@@ -9,9 +9,9 @@ use Rattle.flat_circuit.specs.declared.case.CaseValue.{CaseValue}
 use Rattle.flat_circuit.specs.declared.instance.Pin.{Pin}
 use Rattle.flat_circuit.specs.declared.instance.Instance.{Instance}
 use Rattle.flat_circuit.specs.Circuit.{Circuit, driver, driver_at, instance_in}
-use Rattle.class_table.specs.Alike.{value_in}
-use Rattle.wave_table.specs.Same.{same_wave_decides}
-use Rattle.net_waves.specs.Waves.{Waves}
+use Rattle.flat_circuit.specs.Alike.{value_in}
+use Rattle.fixpoint_engine.specs.Same.{same_wave_decides}
+use Rattle.fixpoint_engine.specs.Waves.{Waves}
 use Rattle.fixpoint_engine.specs.Rounds.{AreSame, evaluated, next, round, wave_from}
 use Rattle.fixpoint_engine.specs.Start.{base_start, is_driven}
 use Rattle.fixpoint_engine.specs.Work.{differs, hears_from, hears_in, is_on_any}

@@ -14,9 +14,9 @@ use Rattle.flat_circuit.specs.declared.net.Net.{Net}
 use Rattle.flat_circuit.specs.Circuit.{Circuit}
 use Rattle.flat_circuit.specs.Run.{Run, net_signal}
 use Rattle.pin_waves.proofs.Tests.{bits}
-use Rattle.net_waves.specs.Waves.{Waves}
-use Rattle.net_waves.proofs.Tables.{run_of}
-use Rattle.net_waves.proofs.ExamplesInterface.{bounds, net, element, on, circuit, clock, stable}
+use Rattle.fixpoint_engine.specs.Waves.{Waves}
+use Rattle.fixpoint_engine.proofs.Tables.{run_of}
+use Rattle.fixpoint_engine.proofs.ExamplesInterface.{bounds, net, element, on, circuit, clock, stable}
 use Rattle.case_analysis.specs.Case.{IsInCase, case_start, case_active}
 use Rattle.case_analysis.specs.Listed.{is_free, AreOnce, none, one_more, IsListed}
 use Rattle.case_analysis.specs.Tick.{tick}

@@ -7,8 +7,8 @@ use Rattle.skew_algebra.specs.Wave.{Wave}
 use Rattle.skew_algebra.specs.Permits.{Permits}
 use Rattle.flat_circuit.specs.Circuit.{Circuit, IsCircuit}
 use Rattle.flat_circuit.specs.Run.{net_signal}
-use Rattle.net_waves.specs.Waves.{Waves}
-use Rattle.net_waves.specs.Interface.{PermitRun}
+use Rattle.fixpoint_engine.specs.Waves.{Waves}
+use Rattle.fixpoint_engine.specs.Interface.{PermitRun}
 use Rattle.fixpoint_engine.specs.Reach.{reach}
 use Rattle.fixpoint_engine.specs.Start.{base_start, is_driven}
 use Rattle.fixpoint_engine.specs.Settled.{KeepRuns}

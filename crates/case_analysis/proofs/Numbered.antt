@@ -11,10 +11,10 @@ use Rattle.skew_algebra.specs.Wave.{Wave, skewed}
 use Rattle.flat_circuit.specs.declared.net.Net.{Net}
 use Rattle.flat_circuit.specs.Circuit.{Circuit}
 use Rattle.pin_waves.specs.Interface.{interface_wave}
-use Rattle.wave_table.specs.Table.{AreKnown, Grows, IsNumber, wave_at, waves_at}
-use Rattle.wave_table.proofs.Growing.{grows_none}
-use Rattle.wave_table.proofs.ByNumber.{known_more, number_reads, waves_more}
-use Rattle.net_waves.specs.Waves.{waves_of}
+use Rattle.fixpoint_engine.specs.Table.{AreKnown, Grows, IsNumber, wave_at, waves_at}
+use Rattle.fixpoint_engine.proofs.Growing.{grows_none}
+use Rattle.fixpoint_engine.proofs.TableByNumber.{known_more, number_reads, waves_more}
+use Rattle.fixpoint_engine.specs.Waves.{waves_of}
 use Rattle.fixpoint_engine.specs.Settled.{marked_in}
 use Rattle.fixpoint_engine.specs.Start.{base_start, start_in, unknown_wave}
 use Rattle.fixpoint_engine.proofs.Added.{known_number, read_number}

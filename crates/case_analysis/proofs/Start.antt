@@ -22,9 +22,9 @@ use Rattle.flat_circuit.specs.Run.{Run, net_signal}
 use Rattle.pin_waves.specs.Meets.{Meets}
 use Rattle.pin_waves.specs.Interface.{interface_wave}
 use Rattle.pin_waves.proofs.Asserted.{length_interface, Permits_interface}
-use Rattle.net_waves.specs.Waves.{Waves, waves_of, FitWaves}
-use Rattle.net_waves.specs.Interface.{MeetsInterface, PermitRun}
-use Rattle.net_waves.proofs.WavesOf.{wave_found}
+use Rattle.fixpoint_engine.specs.Waves.{Waves, waves_of, FitWaves}
+use Rattle.fixpoint_engine.specs.Interface.{MeetsInterface, PermitRun}
+use Rattle.fixpoint_engine.proofs.WavesOf.{wave_found}
 use Rattle.fixpoint_engine.specs.Start.{unknown_wave, start_in, base_start}
 use Rattle.case_analysis.specs.Base.{AreAssertedAlike}
 

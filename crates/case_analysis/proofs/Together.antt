@@ -17,9 +17,9 @@ use Rattle.flat_circuit.specs.declared.net.Net.{Net}
 use Rattle.element_kinds.specs.Kinds.{listens}
 use Rattle.flat_circuit.specs.Instances.{PinExists, TargetExists, out_of}
 use Rattle.flat_circuit.specs.Circuit.{Circuit, IsCircuit, driver_at, driver_in, driver, instance_in}
-use Rattle.class_table.specs.Alike.{class_of, TargetsAlike, PinsAlike, DriversAlike, value_after, value_in}
-use Rattle.class_table.specs.Stable.{IsStable}
-use Rattle.net_waves.specs.Waves.{Waves}
+use Rattle.flat_circuit.specs.Alike.{class_of, TargetsAlike, PinsAlike, DriversAlike, value_after, value_in}
+use Rattle.flat_circuit.specs.Stable.{IsStable}
+use Rattle.fixpoint_engine.specs.Waves.{Waves}
 use Rattle.fixpoint_engine.specs.Rounds.{round}
 use Rattle.fixpoint_engine.specs.Start.{base_start, is_driven, start_in}
 use Rattle.fixpoint_engine.specs.Work.{hears_from, hears_in, is_on_any}

@@ -8,9 +8,9 @@ use Rattle.flat_circuit.specs.declared.case.CaseValue.{CaseValue}
 use Rattle.flat_circuit.specs.Circuit.{Circuit}
 use Rattle.flat_circuit.specs.Run.{Run, IsRun, net_signal}
 use Rattle.pin_waves.specs.Interface.{constant_wave}
-use Rattle.class_table.specs.Alike.{value_in}
-use Rattle.net_waves.specs.Waves.{Waves}
-use Rattle.net_waves.specs.Interface.{MeetsInterface, PermitRun}
+use Rattle.flat_circuit.specs.Alike.{value_in}
+use Rattle.fixpoint_engine.specs.Waves.{Waves}
+use Rattle.fixpoint_engine.specs.Interface.{MeetsInterface, PermitRun}
 use Rattle.fixpoint_engine.specs.declared.rounds.EngineEnd.{EngineEnd}
 use Rattle.fixpoint_engine.specs.declared.rounds.EngineEnd.TheVariants.{Unsettled, NoMemory}
 use Rattle.fixpoint_engine.specs.Rounds.{round}

@@ -3,8 +3,8 @@
 ghost use Rattle.std.specs.Prelude.{◌≡◌, ◌≤◌, ◌+◌, ℕ, ◌<◌, IfErr, IfOk, MatchBool, MatchResult, length, map};
 ghost use Rattle.std.specs.List.{range_with_len};
 ghost use Rattle.flat_circuit.specs.Instances.{outputs};
-ghost use Rattle.wave_table.specs.Table.{AreKnown, Grows, IsNumber, waves_at};
-ghost use Rattle.net_waves.specs.Waves.{FitWaves, waves_of};
+ghost use Rattle.fixpoint_engine.specs.Table.{AreKnown, Grows, IsNumber, waves_at};
+ghost use Rattle.fixpoint_engine.specs.Waves.{FitWaves, waves_of};
 ghost use Rattle.fixpoint_engine.specs.End.{EndsFor};
 ghost use Rattle.fixpoint_engine.specs.Loops.{HasNoLoop};
 ghost use Rattle.fixpoint_engine.specs.Settled.{marked_in};
@@ -13,7 +13,7 @@ ghost use Rattle.fixpoint_engine.specs.Work.{work_to};
 ghost use Rattle.case_analysis.specs.Base.{AreAssertedAlike, IsBase, PermitInputs, base_round};
 
 use crate::parts::{instance_of, net_of};
-use fixpoint_engine::{EngineEnd, NetSet, Settled, Store, settle};
+use fixpoint_engine::{EngineEnd, NetSet, Numbers, Settled, Store, settle};
 use flat_circuit::{Circuit, Net, is_same_assertion};
 use pin_waves::interface_wave;
 use scald_base::{AssertSpec, Header, List, NoMemory};
@@ -21,7 +21,6 @@ use skew_algebra::Skewed;
 use std::alloc::Global;
 use step_values::Value;
 use wave_core::CyclicWave;
-use wave_table::Numbers;
 
 /// The wave of a net of which nothing is known.
 pub fn unknown_wave<W: CyclicWave<Item = Value>>(

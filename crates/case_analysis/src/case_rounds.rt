@@ -4,8 +4,8 @@ ghost use Rattle.std.specs.Prelude.{◌≡◌, ◌≤◌, ◌+◌, ◌<◌, ℕ,
 ghost use Rattle.flat_circuit.specs.Instances.{outputs};
 ghost use Rattle.step_values.specs.declared.value.Value.{Value as OfValues};
 ghost use Rattle.skew_algebra.specs.Wave.{Wave};
-ghost use Rattle.wave_table.specs.Table.{AreKnown, Grows, IsNumber, waves_at};
-ghost use Rattle.net_waves.specs.Waves.{FitWaves, waves_of};
+ghost use Rattle.fixpoint_engine.specs.Table.{AreKnown, Grows, IsNumber, waves_at};
+ghost use Rattle.fixpoint_engine.specs.Waves.{FitWaves, waves_of};
 ghost use Rattle.fixpoint_engine.specs.End.{EndsFor};
 ghost use Rattle.fixpoint_engine.specs.Loops.{HasNoLoop};
 ghost use Rattle.fixpoint_engine.specs.Settled.{marked_in};
@@ -17,13 +17,12 @@ ghost use Rattle.case_analysis.specs.Case.{EndsInCone, HasCone, IsCase, IsCone, 
 use crate::base_rounds::unknown_wave;
 use crate::cones::cone;
 use crate::parts::net_of;
-use fixpoint_engine::{EngineEnd, NetSet, Settled, Store, constant_numbers, settle};
+use fixpoint_engine::{EngineEnd, NetSet, Numbers, Settled, Store, constant_numbers, settle};
 use flat_circuit::{Case, Circuit};
 use scald_base::{List, NoMemory};
 use std::alloc::Global;
 use step_values::Value;
 use wave_core::CyclicWave;
-use wave_table::Numbers;
 
 /// The numbers of the waves of all nets before those of the case are set: nothing is known of a net that the case
 /// reaches, and each other net is as it was.

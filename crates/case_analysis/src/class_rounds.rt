@@ -2,9 +2,9 @@
 
 ghost use Rattle.std.specs.Prelude.{◌≡◌, ◌<◌, ◌≤◌, ◌+◌, ℕ, Bool, IfErr, IfOk, MatchResult, length};
 ghost use Rattle.flat_circuit.specs.Instances.{outputs};
-ghost use Rattle.class_table.specs.Stable.{IsStable};
-ghost use Rattle.wave_table.specs.Table.{AreKnown, Grows, waves_at};
-ghost use Rattle.net_waves.specs.Waves.{FitWaves, waves_of};
+ghost use Rattle.flat_circuit.specs.Stable.{IsStable};
+ghost use Rattle.fixpoint_engine.specs.Table.{AreKnown, Grows, waves_at};
+ghost use Rattle.fixpoint_engine.specs.Waves.{FitWaves, waves_of};
 ghost use Rattle.fixpoint_engine.specs.Classes.{class_work_to};
 ghost use Rattle.fixpoint_engine.specs.End.{EndsFor};
 ghost use Rattle.fixpoint_engine.specs.Loops.{HasNoLoop};
@@ -17,15 +17,14 @@ use crate::case_rounds::driven_in;
 use crate::cones::cone;
 use crate::parts::case_at;
 use crate::{base_rounds, case_rounds};
-use class_table::ClassMap;
 use fixpoint_engine::{EngineEnd, Settled, Store, settle_classes};
-use flat_circuit::{CaseList, Circuit};
+use flat_circuit::{CaseList, Circuit, ClassMap};
 use std::alloc::Global;
 use step_values::Value;
 use wave_core::CyclicWave;
 
 /// The base, as `base` gives it, over classes of nets that are indistinguishable, even by the
-/// cases: one number of a class for each net, of which `class_table::stable` is true. `evals` counts each
+/// cases: one number of a class for each net, of which `flat_circuit::stable` is true. `evals` counts each
 /// class once in a round. `Unsettled` and `NoMemory` come as they do of `base`.
 pub fn base_classes<W: CyclicWave<Item = Value>>(
     alloc: Global,
@@ -58,7 +57,7 @@ pub fn base_classes<W: CyclicWave<Item = Value>>(
 
 /// The settled waves of the case with this number from 0, as `case_waves` gives them, over classes
 /// of nets that are indistinguishable, even by the cases: one number of a class for each net, of
-/// which `class_table::stable` is true. `evals` counts each class once in a round. `Unsettled` and
+/// which `flat_circuit::stable` is true. `evals` counts each class once in a round. `Unsettled` and
 /// `NoMemory` come as they do of `case_waves`.
 pub fn case_classes<W: CyclicWave<Item = Value>>(
     alloc: Global,

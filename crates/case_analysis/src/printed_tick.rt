@@ -1,7 +1,7 @@
 //! The printed tick.
 
 ghost use Rattle.std.specs.Prelude.{◌≡◌, ◌+◌, ◌≤◌};
-ghost use Rattle.net_waves.specs.Waves.{target_wire};
+ghost use Rattle.fixpoint_engine.specs.Waves.{target_wire};
 ghost use Rattle.fixpoint_engine.specs.Reach.{farthest, greatest_delay, greatest_wire, reach};
 ghost use Rattle.case_analysis.specs.Tick.{tick};
 

@@ -4,10 +4,10 @@ use Rattle.std.specs.Fmt.{signed_decimal}
 use Rattle.std.specs.List.{join_by, flat_map}
 use Rattle.scald_base.specs.Time.{Header}
 use Rattle.scald_lex.specs.declared.token.TokenKind.TheVariants.{Number, Arrow, Symbol, End}
-use Rattle.scald_expr.specs.declared.expr.Op.{Op}
-use Rattle.scald_expr.specs.declared.expr.Op.TheVariants.{Add, Sub, Mul, Div, Eq, Ne, Lt, Le, Gt, Ge}
-use Rattle.scald_expr.specs.Expression.{Expression, Param, Negate, Binary}
-use Rattle.scald_expr.specs.Expression as e
+use Rattle.drawing_tree.specs.declared.expr.Op.{Op}
+use Rattle.drawing_tree.specs.declared.expr.Op.TheVariants.{Add, Sub, Mul, Div, Eq, Ne, Lt, Le, Gt, Ge}
+use Rattle.drawing_tree.specs.Expression.{Expression, Param, Negate, Binary}
+use Rattle.drawing_tree.specs.Expression as e
 use Rattle.assertion_syntax.specs.declared.name.SignalName.{SignalName}
 use Rattle.assertion_syntax.specs.Name.{name_text}
 use Rattle.drawing_tree.specs.declared.drawing.CaseEntry.{CaseEntry}

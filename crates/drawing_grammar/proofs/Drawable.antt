@@ -3,7 +3,7 @@ use Rattle.std.specs.Prelude.{◌≡◌, ◌≤◌, ◌<◌, ◌^◌, ℤ, pos, 
 use Rattle.std.specs.List.{AllByRecursion}
 use Rattle.scald_base.specs.Time.{IsHeader}
 use Rattle.scald_lex.specs.Piece.{greatest_number}
-use Rattle.scald_expr.specs.Expression.{Expression, Number, Param, Negate, Binary}
+use Rattle.drawing_tree.specs.Expression.{Expression, Number, Param, Negate, Binary}
 use Rattle.assertion_syntax.specs.Name.{IsName, IsBase}
 use Rattle.drawing_tree.specs.declared.drawing.CaseEntry.{CaseEntry}
 use Rattle.drawing_tree.specs.declared.drawing.CaseStmt.{CaseStmt}

@@ -2,8 +2,8 @@
 -- beyond it.
 use Rattle.std.proofs.Common.{◌≡◌, ℕ, zero, suc, Bool, true, false, List, [], ◌∷◌, map, nat_le, refl, arith}
 use Rattle.std.specs.Prelude.{codes}
-use Rattle.scald_expr.specs.declared.expr.Op.TheVariants.{Add, Sub, Mul, Div, Eq, Lt}
-use Rattle.scald_expr.specs.Expression.{Expression, Param, Negate, Binary}
+use Rattle.drawing_tree.specs.declared.expr.Op.TheVariants.{Add, Sub, Mul, Div, Eq, Lt}
+use Rattle.drawing_tree.specs.Expression.{Expression, Param, Negate, Binary}
 use Rattle.drawing_grammar.specs.CanonicalDraws.{IsShallow, IsShallowTest}
 use Rattle.drawing_grammar.specs.Lexeme.{Lexeme, word_terminal, symbol_terminal}
 use Rattle.drawing_grammar.specs.Grammar.{Need, fresh, group, Sum, Expr}

@@ -3,8 +3,8 @@
 use Rattle.std.proofs.Common.{◌≡◌, ℕ, suc, List, [], ◌∷◌, ◌++◌, Option, Some, None, refl}
 use Rattle.std.specs.Prelude.{codes}
 use Rattle.scald_base.specs.declared.refusal.RefusalKind.TheVariants.{Syntax}
-use Rattle.scald_expr.specs.declared.expr.Op.TheVariants.{Add}
-use Rattle.scald_expr.specs.Expression.{Expression, Param, Binary}
+use Rattle.drawing_tree.specs.declared.expr.Op.TheVariants.{Add}
+use Rattle.drawing_tree.specs.Expression.{Expression, Param, Binary}
 use Rattle.drawing_grammar.specs.Lexeme.{Lexeme, word_terminal, symbol_terminal}
 use Rattle.drawing_grammar.specs.Grammar.{Need, part, Delay}
 use Rattle.drawing_grammar.specs.Machine.{Verdict, Complete, Refused, refusal, verdict}

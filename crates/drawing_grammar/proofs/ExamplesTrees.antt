@@ -3,8 +3,8 @@
 use Rattle.std.proofs.Common.{◌≡◌, ℕ, true, false, List, [], ◌∷◌, ◌++◌, map, Some, None, pos, refl}
 use Rattle.std.specs.Prelude.{codes, option_map}
 use Rattle.scald_lex.specs.Piece.{word_at, number_at, name_behind, dash_before, piece_at}
-use Rattle.scald_expr.specs.declared.expr.Op.TheVariants.{Sub, Mul, Div, Le, Gt}
-use Rattle.scald_expr.specs.Expression.{Negate, Binary}
+use Rattle.drawing_tree.specs.declared.expr.Op.TheVariants.{Sub, Mul, Div, Le, Gt}
+use Rattle.drawing_tree.specs.Expression.{Negate, Binary}
 use Rattle.drawing_tree.specs.Tree.{Zero, One, Named, Connection, Use, Wire, If, nil, cons, no_else, else_}
 use Rattle.drawing_grammar.specs.Lexeme.{word_terminal, symbol_terminal}
 use Rattle.drawing_grammar.specs.Machine.{verdict}

@@ -12,8 +12,8 @@ use Rattle.scald_lex.specs.declared.token.TokenKind.TheVariants.{End}
 use Rattle.scald_lex.specs.Piece.{word_at, number_at, piece_at}
 use Rattle.scald_lex.specs.Place.{place_behind}
 use Rattle.scald_lex.specs.Tokens.{size}
-use Rattle.scald_expr.specs.declared.expr.Op.TheVariants.{Add}
-use Rattle.scald_expr.specs.Expression.{Expression, Number, Param, Binary}
+use Rattle.drawing_tree.specs.declared.expr.Op.TheVariants.{Add}
+use Rattle.drawing_tree.specs.Expression.{Expression, Number, Param, Binary}
 use Rattle.drawing_tree.specs.Tree.{Statement, Use, For, Statements, nil, cons}
 use Rattle.drawing_grammar.specs.declared.declared.Kind.{Kind}
 use Rattle.drawing_grammar.specs.declared.declared.Kind.TheVariants.{Constant, Macro, Parameter, Label}

@@ -7,7 +7,7 @@ use Rattle.std.proofs.lemmas.List.Elements.{All-from_recursion}
 use Rattle.scald_base.specs.Time.{Header, IsHeader}
 use Rattle.scald_lex.specs.declared.token.Token as lex
 use Rattle.scald_lex.specs.Tokens.{AreTokens}
-use Rattle.scald_expr.specs.Expression.{Expression, Number, Param, Negate, Binary}
+use Rattle.drawing_tree.specs.Expression.{Expression, Number, Param, Negate, Binary}
 use Rattle.assertion_syntax.specs.declared.name.SignalName.{SignalName}
 use Rattle.assertion_syntax.specs.Name.{IsName}
 use Rattle.drawing_tree.specs.declared.drawing.CaseEntry.{CaseEntry}

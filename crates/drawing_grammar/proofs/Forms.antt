@@ -2,10 +2,10 @@
 -- them.
 use Rattle.std.proofs.Common.{◌≡◌, ℕ, suc, Bool, true, false, List, ◌++◌, pos, negsuc, refl, sym, ap, subst, append_assoc}
 use Rattle.std.specs.Prelude.{◌||◌, max, ℤ}
-use Rattle.scald_expr.specs.declared.expr.Op as op_type
-use Rattle.scald_expr.specs.declared.expr.Op.TheVariants as op
-use Rattle.scald_expr.specs.Expression.{Expression}
-use Rattle.scald_expr.specs.Expression as e
+use Rattle.drawing_tree.specs.declared.expr.Op as op_type
+use Rattle.drawing_tree.specs.declared.expr.Op.TheVariants as op
+use Rattle.drawing_tree.specs.Expression.{Expression}
+use Rattle.drawing_tree.specs.Expression as e
 use Rattle.drawing_tree.specs.ExpressionText.{left_enclosed, right_enclosed, minus_enclosed, is_comparison, is_sum, is_product}
 use Rattle.drawing_tree.specs.WellFormed.{IsFreeWord}
 use Rattle.drawing_grammar.specs.Nesting.{enclosed_nesting, nesting}

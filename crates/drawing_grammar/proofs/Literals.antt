@@ -10,8 +10,8 @@ use Rattle.scald_lex.specs.declared.token.TokenKind.TheVariants.{Word, Arrow}
 use Rattle.scald_base.specs.Word.{begins_word}
 use Rattle.scald_lex.specs.Bytes.{is_allowed}
 use Rattle.scald_lex.specs.Piece.{word_at, dash_before, piece_at}
-use Rattle.scald_expr.specs.declared.expr.Op.{Op}
-use Rattle.scald_expr.specs.declared.expr.Op.TheVariants.{Add, Sub, Mul, Div, Eq, Ne, Lt, Le, Gt, Ge}
+use Rattle.drawing_tree.specs.declared.expr.Op.{Op}
+use Rattle.drawing_tree.specs.declared.expr.Op.TheVariants.{Add, Sub, Mul, Div, Eq, Ne, Lt, Le, Gt, Ge}
 use Rattle.drawing_tree.specs.ExpressionText.{op_text}
 use Rattle.drawing_grammar.proofs.Cutting.{Bare, Cuts, bares, Lexes, lexes_on, Spells, Closes, before}
 use Rattle.drawing_grammar.proofs.Leaves.{word_spells}

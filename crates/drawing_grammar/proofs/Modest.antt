@@ -3,10 +3,10 @@ use Rattle.std.proofs.Common.{◌≡◌, ℕ, suc, ◌+◌, ◌≤◌, List, [],
 use Rattle.std.specs.Prelude.{IfSome, ⊤}
 use Rattle.std.specs.List.{AllByRecursion}
 use Rattle.std.proofs.lemmas.Option.{same_Some}
-use Rattle.scald_expr.specs.Expression.{Expression}
-use Rattle.scald_expr.specs.Expression as e
-use Rattle.scald_expr.specs.declared.expr.Op.{Op}
-use Rattle.scald_expr.specs.declared.expr.Op.TheVariants as op
+use Rattle.drawing_tree.specs.Expression.{Expression}
+use Rattle.drawing_tree.specs.Expression as e
+use Rattle.drawing_tree.specs.declared.expr.Op.{Op}
+use Rattle.drawing_tree.specs.declared.expr.Op.TheVariants as op
 use Rattle.drawing_tree.specs.Tree as tree
 use Rattle.drawing_grammar.specs.Nesting.{operators}
 use Rattle.drawing_grammar.specs.declared.edition.Edition.{Edition}

@@ -1,7 +1,7 @@
 -- Bounds and ranges of a canonical text that is read are shallow.
 use Rattle.std.proofs.Common.{◌≡◌, List, ◌∷◌, ◌++◌, Option, Some, None, refl, subst, arith, append_assoc}
 use Rattle.std.specs.Prelude.{IfSome}
-use Rattle.scald_expr.specs.Expression.{Expression}
+use Rattle.drawing_tree.specs.Expression.{Expression}
 use Rattle.drawing_tree.specs.Tree as tree
 use Rattle.drawing_grammar.specs.declared.terminal.Terminal.TheVariants as token
 use Rattle.drawing_grammar.specs.CanonicalDraws.{IsShallow, IsShallowRange}

@@ -1,10 +1,10 @@
 -- The phrase of a comparison: two sums with an operator between them.
 use Rattle.std.proofs.Common.{◌≡◌, ℕ, suc, ◌+◌, ◌≤◌, false, List, ◌∷◌, ◌++◌, refl, ap, subst, ◌∙◌, arith}
 use Rattle.std.specs.Prelude.{max}
-use Rattle.scald_expr.specs.declared.expr.Op.{Op}
-use Rattle.scald_expr.specs.declared.expr.Op.TheVariants as op
-use Rattle.scald_expr.specs.Expression.{Expression}
-use Rattle.scald_expr.specs.Expression as e
+use Rattle.drawing_tree.specs.declared.expr.Op.{Op}
+use Rattle.drawing_tree.specs.declared.expr.Op.TheVariants as op
+use Rattle.drawing_tree.specs.Expression.{Expression}
+use Rattle.drawing_tree.specs.Expression as e
 use Rattle.drawing_grammar.specs.Nesting.{operators}
 use Rattle.drawing_grammar.specs.declared.terminal.Terminal.TheVariants.{Equals}
 use Rattle.drawing_grammar.specs.Lexeme.{Lexeme, terminal, symbol_terminal}

@@ -1,5 +1,5 @@
 -- Each canonical expression has a phrase at each level of the grammar.
-use Rattle.scald_expr.specs.Expression.{Expression}
+use Rattle.drawing_tree.specs.Expression.{Expression}
 use Rattle.drawing_grammar.proofs.Drawable.{IsDrawn}
 use Rattle.drawing_grammar.proofs.Forms.{Forms, all_forms}
 use Rattle.drawing_grammar.proofs.Levels.{Levels}

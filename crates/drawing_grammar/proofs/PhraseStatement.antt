@@ -2,7 +2,7 @@
 use Rattle.std.proofs.Common.{◌≡◌, ℕ, suc, ◌+◌, ◌≤◌, List, [], ◌∷◌, ◌++◌, refl, sym, ap, subst, ◌∙◌, arith, append_assoc}
 use Rattle.std.specs.Prelude.{codes, IfSome, ⊤}
 use Rattle.scald_base.specs.declared.refusal.Place.{Place}
-use Rattle.scald_expr.specs.Expression.{Expression}
+use Rattle.drawing_tree.specs.Expression.{Expression}
 use Rattle.assertion_syntax.specs.Name.{IsName, name_text}
 use Rattle.drawing_tree.specs.Tree as tree
 use Rattle.drawing_tree.specs.WellFormed.{IsFreeWord}

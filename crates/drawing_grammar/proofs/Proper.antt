@@ -3,7 +3,7 @@ use Rattle.std.proofs.Common.{◌≡◌, ℕ, ◌<◌, ◌^◌, suc, List, [], �
 use Rattle.std.specs.Prelude.{IfSome, ⊤}
 use Rattle.std.specs.List.{AllByRecursion}
 use Rattle.std.proofs.lemmas.Option.{same_Some}
-use Rattle.scald_expr.specs.Expression.{Expression}
+use Rattle.drawing_tree.specs.Expression.{Expression}
 use Rattle.assertion_syntax.specs.declared.name.SignalName.{SignalName}
 use Rattle.assertion_syntax.specs.Name.{IsName}
 use Rattle.drawing_tree.specs.Tree as tree

@@ -5,10 +5,10 @@ use Rattle.std.specs.List.{AllByRecursion, flat_map, join_by}
 use Rattle.std.proofs.lemmas.List.{append-nil}
 use Rattle.scald_base.specs.Time.{Header}
 use Rattle.scald_base.specs.Fitting.{Fits}
-use Rattle.scald_expr.specs.declared.expr.Op.{Op}
-use Rattle.scald_expr.specs.declared.expr.Op.TheVariants as op
-use Rattle.scald_expr.specs.Expression.{Expression}
-use Rattle.scald_expr.specs.Expression as e
+use Rattle.drawing_tree.specs.declared.expr.Op.{Op}
+use Rattle.drawing_tree.specs.declared.expr.Op.TheVariants as op
+use Rattle.drawing_tree.specs.Expression.{Expression}
+use Rattle.drawing_tree.specs.Expression as e
 use Rattle.assertion_syntax.specs.declared.name.SignalName.{SignalName}
 use Rattle.assertion_syntax.specs.Name.{IsBase, IsTextOf, name_text}
 use Rattle.drawing_tree.specs.declared.drawing.CaseEntry.{CaseEntry}

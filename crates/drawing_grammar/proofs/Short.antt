@@ -2,7 +2,7 @@
 use Rattle.std.proofs.Common.{ℕ, suc, List, [], ◌∷◌, Option, Some, None}
 use Rattle.std.specs.Prelude.{IfSome}
 use Rattle.std.specs.List.{AllByRecursion}
-use Rattle.scald_expr.specs.Expression.{Expression}
+use Rattle.drawing_tree.specs.Expression.{Expression}
 use Rattle.drawing_tree.specs.Tree as tree
 use Rattle.drawing_grammar.specs.declared.edition.Edition.{Edition}
 use Rattle.drawing_grammar.specs.Sketch.{Sketch}

@@ -6,9 +6,9 @@ use Rattle.std.proofs.lemmas.Bool.Decides.{nat_tests}
 use Rattle.std.proofs.lemmas.Bool.{and_parts}
 use Rattle.scald_base.specs.Word.{is_letter, is_digit, is_word_byte, IsWord}
 use Rattle.scald_lex.specs.Piece.{greatest_number}
-use Rattle.scald_expr.specs.declared.expr.Op.{Op}
-use Rattle.scald_expr.specs.declared.expr.Op.TheVariants.{Add, Sub, Mul, Div, Eq, Ne, Lt, Le, Gt, Ge}
-use Rattle.scald_expr.specs.Expression.{Expression, Number, Param, Negate, Binary}
+use Rattle.drawing_tree.specs.declared.expr.Op.{Op}
+use Rattle.drawing_tree.specs.declared.expr.Op.TheVariants.{Add, Sub, Mul, Div, Eq, Ne, Lt, Le, Gt, Ge}
+use Rattle.drawing_tree.specs.Expression.{Expression, Number, Param, Negate, Binary}
 use Rattle.drawing_tree.specs.ExpressionText.{adds, multiplies, compares, is_comparison, left_enclosed, right_enclosed, minus_enclosed, enclosed, op_text, condition_text, sum_text}
 use Rattle.drawing_tree.specs.Canonical.{bounds_text}
 use Rattle.drawing_grammar.proofs.Cutting.{Bare, breaks, Spells, closed, before, then_closed}

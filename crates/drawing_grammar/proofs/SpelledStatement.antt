@@ -6,7 +6,7 @@ use Rattle.std.proofs.lemmas.List.{append-nil}
 use Rattle.drawing_tree.specs.Tree.{Connection, UseStatement, WireStatement, Statement, Use, Wire, If, For, Statements, nil, cons, Otherwise, no_else, else_}
 use Rattle.drawing_tree.specs.ExpressionText.{condition_text, sum_text}
 use Rattle.drawing_tree.specs.Canonical.{bracketed, signal_text, bounds_text, assignment_text, connection_text, inputs_text, outputs_text, params_text, delay_text, use_head, use_text, wire_text, line, for_text, deeper, statement_lines, statements_lines, else_lines, body_lines}
-use Rattle.scald_expr.specs.Expression.{Expression}
+use Rattle.drawing_tree.specs.Expression.{Expression}
 use Rattle.drawing_tree.specs.WellFormed.{IsFreeWord}
 use Rattle.drawing_grammar.specs.declared.edition.Edition.{Edition}
 use Rattle.drawing_grammar.proofs.Cutting.{Bare, breaks, Spells, Closes, closed, nothing_closes, before, before_closed, then_, then_closed}

@@ -3,7 +3,7 @@ use Rattle.std.specs.Prelude.{ℕ, ◌≤◌, List, IfSome, ⊤}
 use Rattle.std.specs.List.{AllByRecursion}
 use Rattle.scald_lex.specs.declared.token.Token.{Token}
 use Rattle.scald_lex.specs.Tokens.{AreTokens}
-use Rattle.scald_expr.specs.Expression.{Expression}
+use Rattle.drawing_tree.specs.Expression.{Expression}
 use Rattle.drawing_tree.specs.Tree as tree
 use Rattle.drawing_grammar.specs.Nesting.{nesting, sum_nesting}
 use Rattle.drawing_tree.specs.Places.{SameButPlaces}

@@ -4,10 +4,10 @@ use Rattle.scald_base.specs.declared.refusal.Place.{Place}
 use Rattle.scald_base.specs.declared.assertion.AssertSpec.TheVariants.{None as Unasserted}
 use Rattle.assertion_syntax.specs.declared.name.SignalName.{SignalName}
 use Rattle.assertion_syntax.specs.Reading.{name_at, either}
-use Rattle.scald_expr.specs.declared.expr.Op.{Op}
-use Rattle.scald_expr.specs.declared.expr.Op.TheVariants as op
-use Rattle.scald_expr.specs.Expression.{Expression}
-use Rattle.scald_expr.specs.Expression as e
+use Rattle.drawing_tree.specs.declared.expr.Op.{Op}
+use Rattle.drawing_tree.specs.declared.expr.Op.TheVariants as op
+use Rattle.drawing_tree.specs.Expression.{Expression}
+use Rattle.drawing_tree.specs.Expression as e
 use Rattle.drawing_tree.specs.declared.drawing.CaseEntry.{CaseEntry}
 use Rattle.drawing_tree.specs.declared.drawing.CaseStmt.{CaseStmt}
 use Rattle.drawing_tree.specs.Tree as tree

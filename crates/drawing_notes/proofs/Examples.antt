@@ -5,10 +5,10 @@ use Rattle.std.proofs.Common.{refl}
 use Rattle.scald_base.specs.declared.outcome.Outcome.TheVariants.{Clean, Faulty}
 use Rattle.element_kinds.specs.declared.kind.Kind.TheVariants.{SetupHold}
 use Rattle.listing.specs.Head.{period_line}
-use Rattle.circuit_notes.specs.Idle.{idle_line}
-use Rattle.circuit_notes.specs.Paths.{Ways}
-use Rattle.circuit_notes.proofs.Examples.{three, instance, on}
-use Rattle.wave_notes.specs.Unclocked.{unclocked_line}
+use Rattle.drawing_notes.specs.Idle.{idle_line}
+use Rattle.drawing_notes.specs.Paths.{Ways}
+use Rattle.drawing_notes.proofs.ExamplesCircuit.{three, instance, on}
+use Rattle.drawing_notes.specs.Unclocked.{unclocked_line}
 use Rattle.drawing_notes.specs.Report.{count_line, notes_told}
 
 -- nothing leads to anything

@@ -10,22 +10,22 @@ use Rattle.fixpoint_engine.specs.Start.{default_limit}
 use Rattle.case_analysis.specs.Base.{base_round}
 use Rattle.drawing_tree.specs.Tree.{Drawing}
 use Rattle.drawing_grammar.proofs.TextLaws.{one_drawing}
-use Rattle.drawn_circuit.specs.Drawn.{DrawsCircuit}
-use Rattle.drawn_circuit.proofs.OneText.{not_refused, one_refusal, text_draws_one_circuit}
+use Rattle.timing_analysis.specs.Drawn.{DrawsCircuit}
+use Rattle.timing_analysis.proofs.OneText.{not_refused, one_refusal, text_draws_one_circuit}
 use Rattle.listing.specs.Answer.{unsettled_line}
 use Rattle.timing_analysis.specs.Case.{Case, AreAtRest, listed_cases}
 use Rattle.timing_analysis.specs.Ended.{StopsEarly}
 use Rattle.program_call.specs.Program.{IsLawful}
 use Rattle.program_call.proofs.Answering.{end_of_ended}
-use Rattle.timing_reply.specs.declared.words.Request.{Request}
-use Rattle.timing_reply.specs.Answer as answer
-use Rattle.timing_reply.specs.Answer.{Telling, Evaluated}
-use Rattle.timing_reply.proofs.Ending.{concluded_early}
-use Rattle.timing_reply.proofs.Judgement.{one_evaluated}
-use Rattle.timing_reply.proofs.Speaking.{verdict_speaks}
-use Rattle.circuit_notes.specs.Paths.{Ways, AreWays}
-use Rattle.circuit_notes.proofs.OneWay.{one_way}
-use Rattle.spread_names.specs.Spreads.{spreads}
+use Rattle.program_call.specs.declared.words.Request.{Request}
+use Rattle.program_call.specs.Answer as answer
+use Rattle.program_call.specs.Answer.{Telling, Evaluated}
+use Rattle.program_call.proofs.Ending.{concluded_early}
+use Rattle.program_call.proofs.Judgement.{one_evaluated}
+use Rattle.program_call.proofs.Speaking.{verdict_speaks}
+use Rattle.drawing_notes.specs.Paths.{Ways, AreWays}
+use Rattle.drawing_notes.proofs.OneWay.{one_way}
+use Rattle.drawing_notes.specs.Spreads.{spreads}
 use Rattle.drawing_notes.specs.Answer.{Noted, refused, noted, unsettled, notes_program}
 use Rattle.drawing_notes.specs.Report.{notes, notes_told}
 

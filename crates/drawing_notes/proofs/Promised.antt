@@ -2,9 +2,9 @@
 use Rattle.std.proofs.Common.{◌≡◌, true, List, ℕ, length, refl, arith, Option}
 use Rattle.scald_base.specs.declared.outcome.Outcome.{Outcome}
 use Rattle.fixpoint_engine.specs.Start.{default_limit}
-use Rattle.timing_reply.specs.Promise.{SettlesLoopless, Writes, may_count}
-use Rattle.timing_reply.proofs.Outcomes.{never_stops, verdict_counts, verdict_settles}
-use Rattle.spread_names.specs.Spreads.{spreads}
+use Rattle.program_call.specs.Promise.{SettlesLoopless, Writes, may_count}
+use Rattle.program_call.proofs.Outcomes.{never_stops, verdict_counts, verdict_settles}
+use Rattle.drawing_notes.specs.Spreads.{spreads}
 use Rattle.drawing_notes.specs.Answer.{Noted, refused, noted, unsettled}
 use Rattle.drawing_notes.specs.Promise.{WritesNotes}
 use Rattle.drawing_notes.specs.Report.{notes}

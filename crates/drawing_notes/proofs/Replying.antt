@@ -10,13 +10,13 @@ use Rattle.fixpoint_engine.specs.Start.{default_limit}
 use Rattle.case_analysis.specs.Base.{base_round}
 use Rattle.drawing_tree.specs.Tree.{Drawing}
 use Rattle.drawing_grammar.specs.CanonicalDraws.{TextDraws}
-use Rattle.drawn_circuit.specs.Drawn.{DrawsAs}
+use Rattle.timing_analysis.specs.Drawn.{DrawsAs}
 use Rattle.listing.specs.Answer.{unsettled_line}
 use Rattle.timing_analysis.specs.Case.{listed_cases}
 use Rattle.timing_analysis.specs.Ended.{StopsEarly}
-use Rattle.timing_reply.specs.Teller.{IsTold}
-use Rattle.spread_names.specs.declared.spread.Spread.{Spread}
-use Rattle.spread_names.specs.Spreads.{spreads}
+use Rattle.program_call.specs.Teller.{IsTold}
+use Rattle.drawing_notes.specs.declared.spread.Spread.{Spread}
+use Rattle.drawing_notes.specs.Spreads.{spreads}
 use Rattle.drawing_notes.specs.Answer.{Noted, noted, unsettled}
 use Rattle.drawing_notes.specs.Noted.{IsNoted}
 use Rattle.drawing_notes.specs.Report.{notes_told}

@@ -6,26 +6,26 @@ use Rattle.program_call.specs.declared.reply.Reply.{Reply}
 use Rattle.flat_circuit.specs.Circuit.{Circuit}
 use Rattle.timing_analysis.specs.Case.{Case}
 use Rattle.listing.specs.Head.{period_line}
-use Rattle.timing_reply.specs.Answer.{verdict_of}
-use Rattle.circuit_notes.specs.declared.launched.Arrival.{Arrival}
-use Rattle.circuit_notes.specs.Arrivals.{arrival_at}
-use Rattle.circuit_notes.specs.Idle.{idle}
-use Rattle.circuit_notes.specs.Late.{late}
-use Rattle.circuit_notes.specs.Loops.{loops}
-use Rattle.circuit_notes.specs.Parts.{together}
-use Rattle.circuit_notes.specs.Paths.{TellsArrivals, TellsLaunches, TellsLoops, is_looped}
-use Rattle.circuit_notes.specs.Told.{Told, Adds}
-use Rattle.circuit_notes.specs.Unchecked.{unchecked}
-use Rattle.circuit_notes.specs.Unread.{unread}
-use Rattle.circuit_notes.proofs.Adding.{adds_both}
-use Rattle.circuit_notes.proofs.Deciding.{launched_in, launched_tells}
-use Rattle.spread_names.specs.declared.spread.Spread.{Spread}
-use Rattle.wave_notes.specs.declared.cases.SoFar.{SoFar}
-use Rattle.wave_notes.specs.Common.{common, greatest_skew, skew_at}
-use Rattle.wave_notes.specs.SoFar.{HoldsOf}
-use Rattle.wave_notes.specs.Spread.{spread}
-use Rattle.wave_notes.specs.Unclocked.{unclocked}
-use Rattle.wave_notes.specs.Unknown.{unknown}
+use Rattle.program_call.specs.Answer.{verdict_of}
+use Rattle.drawing_notes.specs.declared.launched.Arrival.{Arrival}
+use Rattle.drawing_notes.specs.Arrivals.{arrival_at}
+use Rattle.drawing_notes.specs.Idle.{idle}
+use Rattle.drawing_notes.specs.Late.{late}
+use Rattle.drawing_notes.specs.Loops.{loops}
+use Rattle.drawing_notes.specs.Parts.{together}
+use Rattle.drawing_notes.specs.Paths.{TellsArrivals, TellsLaunches, TellsLoops, is_looped}
+use Rattle.drawing_notes.specs.Told.{Told, Adds}
+use Rattle.drawing_notes.specs.Unchecked.{unchecked}
+use Rattle.drawing_notes.specs.Unread.{unread}
+use Rattle.drawing_notes.proofs.Adding.{adds_both}
+use Rattle.drawing_notes.proofs.Deciding.{launched_in, launched_tells}
+use Rattle.drawing_notes.specs.declared.spread.Spread.{Spread}
+use Rattle.drawing_notes.specs.declared.cases.SoFar.{SoFar}
+use Rattle.drawing_notes.specs.Common.{common, greatest_skew, skew_at}
+use Rattle.drawing_notes.specs.SoFar.{HoldsOf}
+use Rattle.drawing_notes.specs.Spread.{spread}
+use Rattle.drawing_notes.specs.Unclocked.{unclocked}
+use Rattle.drawing_notes.specs.Unknown.{unknown}
 use Rattle.drawing_notes.specs.Noted.{AddsPaths, IsReport}
 use Rattle.drawing_notes.specs.Report.{count_line, notes, single_notes}
 

@@ -1,5 +1,5 @@
 -- What the program of notes means.
-use Rattle.std.specs.Prelude.{ℕ, List}
+use Rattle.std.specs.Prelude.{ℕ, List, codes}
 use Rattle.scald_base.specs.declared.refusal.Refusal.{Refusal}
 use Rattle.scald_base.specs.declared.outcome.Outcome.{Outcome}
 use Rattle.scald_base.specs.declared.outcome.Outcome.TheVariants.{Refused, Unsettled}
@@ -8,15 +8,15 @@ use Rattle.flat_circuit.specs.Circuit.{Circuit}
 use Rattle.fixpoint_engine.specs.Rounds.{RestsAt}
 use Rattle.fixpoint_engine.specs.Start.{default_limit}
 use Rattle.case_analysis.specs.Base.{base_round}
-use Rattle.drawn_circuit.specs.Drawn.{DrawsCircuit, IsTextRefused}
+use Rattle.timing_analysis.specs.Drawn.{DrawsCircuit, IsTextRefused}
 use Rattle.listing.specs.Answer.{refusal_line, unsettled_line}
 use Rattle.timing_analysis.specs.Case.{Case, AreAtRest, listed_cases}
 use Rattle.timing_analysis.specs.Ended.{StopsEarly}
 use Rattle.program_call.specs.Program.{Meaning}
-use Rattle.timing_reply.specs.declared.words.Request.{Request}
-use Rattle.timing_reply.specs.Program.{wordless}
-use Rattle.circuit_notes.specs.Paths.{Ways, AreWays}
-use Rattle.spread_names.specs.Spreads.{spreads}
+use Rattle.program_call.specs.declared.words.Request.{Request}
+use Rattle.program_call.specs.Wordless.{wordless}
+use Rattle.drawing_notes.specs.Paths.{Ways, AreWays}
+use Rattle.drawing_notes.specs.Spreads.{spreads}
 use Rattle.drawing_notes.specs.Report.{notes_told}
 
 -- Why a text is refused; or, of the circuit that it draws, with its own limit of rounds: the notes on it, on its cases at rest
@@ -33,6 +33,9 @@ pub data Noted (text : List ℕ) : Outcome → List ℕ → Type 0 where
       (place : ℕ) → StopsEarly c values (default_limit c) place →
       Noted text (Unsettled place (default_limit c)) (unsettled_line c place (default_limit c))
 
--- It has no words.
+-- the word that asks for it
+abbrev pub own_word : List ℕ
+own_word = codes "notes"
+
 abbrev pub notes_program : Meaning Request Outcome
-notes_program = wordless Noted
+notes_program = wordless own_word Noted

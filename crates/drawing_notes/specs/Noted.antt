@@ -6,12 +6,12 @@ use Rattle.flat_circuit.specs.Circuit.{Circuit}
 use Rattle.fixpoint_engine.specs.Rounds.{RestsAt}
 use Rattle.case_analysis.specs.Base.{base_round}
 use Rattle.timing_analysis.specs.Case.{Case, Listed}
-use Rattle.timing_reply.specs.Teller.{IsTold}
-use Rattle.circuit_notes.specs.Paths.{Ways, AreWays}
-use Rattle.circuit_notes.specs.Told.{Told, Adds}
-use Rattle.spread_names.specs.declared.spread.Spread.{Spread}
-use Rattle.wave_notes.specs.declared.cases.SoFar.{SoFar}
-use Rattle.wave_notes.specs.SoFar.{HoldsOf}
+use Rattle.program_call.specs.Teller.{IsTold}
+use Rattle.drawing_notes.specs.Paths.{Ways, AreWays}
+use Rattle.drawing_notes.specs.Told.{Told, Adds}
+use Rattle.drawing_notes.specs.declared.spread.Spread.{Spread}
+use Rattle.drawing_notes.specs.declared.cases.SoFar.{SoFar}
+use Rattle.drawing_notes.specs.SoFar.{HoldsOf}
 use Rattle.drawing_notes.specs.Report.{notes_told, path_notes}
 
 -- The notes on paths follow those that were there, by what leads to what and by what the cases tell.

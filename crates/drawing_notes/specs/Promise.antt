@@ -6,11 +6,11 @@ use Rattle.flat_circuit.specs.Circuit.{Circuit}
 use Rattle.fixpoint_engine.specs.Rounds.{RestsAt}
 use Rattle.fixpoint_engine.specs.Start.{default_limit}
 use Rattle.case_analysis.specs.Base.{base_round}
-use Rattle.drawn_circuit.specs.Drawn.{DrawsCircuit}
+use Rattle.timing_analysis.specs.Drawn.{DrawsCircuit}
 use Rattle.timing_analysis.specs.Case.{Case, AreAtRest, listed_cases}
-use Rattle.timing_reply.specs.Promise.{Writes}
-use Rattle.circuit_notes.specs.Paths.{Ways, AreWays}
-use Rattle.spread_names.specs.Spreads.{spreads}
+use Rattle.program_call.specs.Promise.{Writes}
+use Rattle.drawing_notes.specs.Paths.{Ways, AreWays}
+use Rattle.drawing_notes.specs.Spreads.{spreads}
 use Rattle.drawing_notes.specs.Report.{notes_told}
 
 -- Where the text draws a circuit whose base and cases settle within its own limit of rounds, the outcome is that of its

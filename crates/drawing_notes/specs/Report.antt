@@ -5,18 +5,18 @@ use Rattle.flat_circuit.specs.Circuit.{Circuit}
 use Rattle.timing_analysis.specs.Case.{Case}
 use Rattle.listing.specs.Head.{period_line}
 use Rattle.listing.specs.Text.{line}
-use Rattle.timing_reply.specs.Answer.{Telling, verdict_of}
-use Rattle.circuit_notes.specs.Paths.{Ways}
-use Rattle.circuit_notes.specs.Idle.{idle}
-use Rattle.circuit_notes.specs.Unchecked.{unchecked}
-use Rattle.circuit_notes.specs.Unread.{unread}
-use Rattle.circuit_notes.specs.Late.{late}
-use Rattle.circuit_notes.specs.Loops.{loops}
-use Rattle.spread_names.specs.declared.spread.Spread.{Spread}
-use Rattle.wave_notes.specs.Unclocked.{unclocked}
-use Rattle.wave_notes.specs.Spread.{spread}
-use Rattle.wave_notes.specs.Unknown.{unknown}
-use Rattle.wave_notes.specs.Common.{common, greatest_skew}
+use Rattle.program_call.specs.Answer.{Telling, verdict_of}
+use Rattle.drawing_notes.specs.Paths.{Ways}
+use Rattle.drawing_notes.specs.Idle.{idle}
+use Rattle.drawing_notes.specs.Unchecked.{unchecked}
+use Rattle.drawing_notes.specs.Unread.{unread}
+use Rattle.drawing_notes.specs.Late.{late}
+use Rattle.drawing_notes.specs.Loops.{loops}
+use Rattle.drawing_notes.specs.declared.spread.Spread.{Spread}
+use Rattle.drawing_notes.specs.Unclocked.{unclocked}
+use Rattle.drawing_notes.specs.Spread.{spread}
+use Rattle.drawing_notes.specs.Unknown.{unknown}
+use Rattle.drawing_notes.specs.Common.{common, greatest_skew}
 
 -- on instances, nets and names, each by itself
 abbrev pub single_notes : List Spread → Circuit → List Case → List (List ℕ)

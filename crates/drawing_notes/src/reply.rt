@@ -7,26 +7,22 @@ ghost use Rattle.timing_analysis.specs.Case.{listed_cases, numbered};
 ghost use Rattle.timing_analysis.specs.Ended.{EndsCases, EndsEarly};
 ghost use Rattle.timing_analysis.specs.Rested.{IsBaseIn};
 ghost use Rattle.timing_analysis.specs.Subject.{IsSubject};
-ghost use Rattle.timing_reply.specs.Teller.{HasTold};
-ghost use Rattle.spread_names.specs.Spreads.{spreads as spec_spreads};
-ghost use Rattle.wave_notes.specs.SoFar.{HoldsOf};
+ghost use Rattle.program_call.specs.Teller.{HasTold};
+ghost use Rattle.drawing_notes.specs.Spreads.{spreads as spec_spreads};
+ghost use Rattle.drawing_notes.specs.SoFar.{HoldsOf};
 ghost use Rattle.drawing_notes.specs.Answer.{Noted};
 ghost use Rattle.drawing_notes.specs.Noted.{IsNoted};
 
 use crate::report::report;
+use crate::{SoFar, Spread, spreads};
 use case_analysis::default_limit;
-use drawn_circuit::{read_circuit, read_text};
-use fixpoint_engine::EngineEnd;
-use net_waves::Waves;
-use program_call::Reply;
+use fixpoint_engine::{EngineEnd, Waves};
+use program_call::{Reply, ended, refused};
 use run_wave::RunWave;
 use scald_base::{NoMemory, Outcome, Stop};
-use spread_names::{Spread, spreads};
 use std::alloc::Global;
 use step_values::Value;
-use timing_analysis::{Rested, Subject};
-use timing_reply::{ended, refused};
-use wave_notes::SoFar;
+use timing_analysis::{Rested, Subject, read_circuit, read_text};
 
 /// The notes on the drawing of a text of fewer than 4,294,967,295 bytes; or why the text is refused, or
 /// which net does not settle within the circuit's own limit of rounds.

@@ -2,24 +2,22 @@
 
 ghost use Rattle.std.specs.Prelude.{◌≡◌, ◌++◌, List, OnOk, IfOk, length};
 ghost use Rattle.timing_analysis.specs.Case.{Case};
-ghost use Rattle.circuit_notes.specs.Parts.{AreInside, together};
-ghost use Rattle.circuit_notes.specs.Paths.{TellsLoops};
-ghost use Rattle.circuit_notes.specs.Told.{Adds};
-ghost use Rattle.wave_notes.specs.SoFar.{HoldsOf};
+ghost use Rattle.drawing_notes.specs.Parts.{AreInside, together};
+ghost use Rattle.drawing_notes.specs.Paths.{TellsLoops};
+ghost use Rattle.drawing_notes.specs.Told.{Adds};
+ghost use Rattle.drawing_notes.specs.SoFar.{HoldsOf};
 ghost use Rattle.drawing_notes.specs.Noted.{AddsPaths, IsReport};
 ghost use Rattle.drawing_notes.specs.Report.{count_line, single_notes};
 
-use circuit_notes::{
-    Notes, Part, add_idle, add_late, add_loops, add_unchecked, add_unread, arrivals, parts,
+use crate::{
+    Notes, Part, SoFar, Spread, add_common, add_idle, add_late, add_loops, add_spread,
+    add_unchecked, add_unclocked, add_unread, arrivals, parts,
 };
 use flat_circuit::Circuit;
 use listing::{Piece, add_line, write_period};
-use program_call::Reply;
+use program_call::{Reply, verdict};
 use scald_base::{Bytes, NoMemory, Outcome};
-use spread_names::Spread;
 use std::alloc::Global;
-use timing_reply::verdict;
-use wave_notes::{SoFar, add_common, add_spread, add_unclocked};
 
 /// The most notes that are counted.
 const MOST_NOTES: usize = 4_294_967_295;

@@ -1,7 +1,7 @@
 -- A number that is all of a sum.
 use Rattle.std.proofs.Common.{◌≡◌, ◌≢◌, List, ◌∷◌, None, refl}
 use Rattle.scald_lex.specs.declared.token.Token as lex
-use Rattle.scald_expr.specs.Expression.{Number}
+use Rattle.drawing_tree.specs.Expression.{Number}
 use Rattle.drawing_grammar.specs.declared.terminal.Terminal.TheVariants as is
 use Rattle.drawing_reader.specs.declared.cursor.Cursor.{Cursor}
 use Rattle.drawing_grammar.specs.Lexeme.{kind_number}

@@ -1,7 +1,7 @@
 -- What reading an operator says of the tokens: none stands there, or an operand is needed next.
 use Rattle.std.specs.Prelude.{ℕ, List, ◌∷◌, Option, Some, None, Result, Ok, Err}
 use Rattle.scald_base.specs.declared.refusal.Stop.{Stop}
-use Rattle.scald_expr.specs.declared.expr.Op.{Op}
+use Rattle.drawing_tree.specs.declared.expr.Op.{Op}
 use Rattle.drawing_reader.specs.declared.cursor.Cursor.{Cursor}
 use Rattle.drawing_grammar.specs.Grammar.{Need, part, group, Unary, Factors, Terms, Comparison, Product, Sum}
 use Rattle.drawing_grammar.specs.Sketch.{binary}

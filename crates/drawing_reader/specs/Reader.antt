@@ -11,8 +11,8 @@ use Rattle.drawing_tree.specs.declared.statement.Stmt.{Stmt}
 use Rattle.drawing_tree.specs.Tree.{written_range_of, assignment_of, both_of, written_fall_of, connection_of, statements_of}
 use Rattle.drawing_grammar.specs.declared.terminal.Keyword.TheVariants.{By, To, Do}
 use Rattle.drawing_grammar.specs.declared.edition.Edition.{Edition}
-use Rattle.scald_expr.specs.declared.expr.Expr.{Expr}
-use Rattle.scald_expr.specs.Expression.{expression_of}
+use Rattle.drawing_tree.specs.declared.expr.Expr.{Expr}
+use Rattle.drawing_tree.specs.Expression.{expression_of}
 use Rattle.drawing_grammar.specs.declared.terminal.Terminal.TheVariants.{Clock, Drawing, End, Word, Number, Name, Semicolon, Equals, OpenParenthesis, CloseParenthesis, EndOfText}
 use Rattle.drawing_reader.specs.declared.statement.Details.{Details}
 use Rattle.drawing_reader.specs.declared.cursor.Cursor.{Cursor}

@@ -1,7 +1,7 @@
 //! Reads ranges and connections.
 
 ghost use Rattle.std.specs.Prelude.{◌≡◌, ◌≤◌, ◌<◌, List, ◌∷◌, map, length, is_some, option_map, true, IfOk};
-ghost use Rattle.scald_expr.specs.Expression.{expression_of};
+ghost use Rattle.drawing_tree.specs.Expression.{expression_of};
 ghost use Rattle.drawing_tree.specs.Tree.{written_range_of, item_of, term_of, connection_of};
 ghost use Rattle.drawing_grammar.specs.Grammar.{Need, part, group, Range, RangeEnd, Term as TermPart, Atom, Hold, Conn as ConnGroup, SomeConns, Conns as ConnsGroup, Outputs};
 ghost use Rattle.drawing_grammar.specs.Machine.{Gives, choice};
@@ -12,9 +12,8 @@ use crate::cursor::{Cursor, text_of};
 use crate::signal::signal;
 use assertion_syntax::SignalName;
 use drawing_grammar::{Keyword, Terminal};
-use drawing_tree::{Conn, Conns, Item, RangeExpr, Term, Terms, WrittenRange};
+use drawing_tree::{Conn, Conns, Expr, Item, RangeExpr, Term, Terms, WrittenRange};
 use scald_base::{NoMemory, Place, RefusalKind, Stop};
-use scald_expr::Expr;
 use std::alloc::Global;
 
 /// The same in memory of its own.

@@ -1,8 +1,8 @@
 //! Reads expressions. Each function is told how many parentheses and minus signs are open.
 
 ghost use Rattle.std.specs.Prelude.{◌≡◌, ◌≢◌, ◌≤◌, ◌<◌, ℕ, suc, List, ◌∷◌, length, IfOk, OnOk, IfErr, IfSome, IfNone, IsFalse, Some, None};
-ghost use Rattle.scald_expr.specs.Expression.{expression_of};
-ghost use Rattle.scald_expr.specs.Expression as Expression;
+ghost use Rattle.drawing_tree.specs.Expression.{expression_of};
+ghost use Rattle.drawing_tree.specs.Expression as Expression;
 ghost use Rattle.drawing_grammar.specs.declared.terminal.Terminal.TheVariants.{EndOfText};
 ghost use Rattle.drawing_grammar.specs.Lexeme.{kind_number};
 ghost use Rattle.drawing_grammar.specs.Grammar.{Need, mark, part, group, fresh, own_sum, Unary, Factors, Terms, OrEqual, Product, Sum, Expr as Whole};
@@ -14,8 +14,8 @@ ghost use Rattle.drawing_reader.specs.Operators.{FactorAt, TermAt, ComparisonAt}
 
 use crate::cursor::{Cursor, text_of};
 use drawing_grammar::Terminal;
+use drawing_tree::{Expr, Op};
 use scald_base::{Bytes, NoMemory, RefusalKind, Stop};
-use scald_expr::{Expr, Op};
 use scald_lex::{Token, TokenKind};
 use std::alloc::Global;
 

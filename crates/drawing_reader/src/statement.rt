@@ -1,7 +1,7 @@
 //! Reads statements of a version of the language, where so many IFs and FORs are open.
 
 ghost use Rattle.std.specs.Prelude.{◌≡◌, ◌≢◌, ◌≤◌, ◌<◌, true, false, ℕ, List, [], ◌∷◌, ◌++◌, map, length, OnOk, option_map, Some, None};
-ghost use Rattle.scald_expr.specs.Expression.{expression_of};
+ghost use Rattle.drawing_tree.specs.Expression.{expression_of};
 ghost use Rattle.drawing_tree.specs.Tree as tree;
 ghost use Rattle.drawing_tree.specs.Tree.{assignment_of, both_of, written_fall_of, connection_of, use_of, wire_of, statement_of, statements_of, else_of};
 ghost use Rattle.drawing_grammar.specs.Grammar.{Need, fresh, mark, part, group, own_sum, Expr as Whole, Assign as AssignPart, Assigns as AssignsGroup, Parameters, Conns as ConnsGroup, Outputs, Delay as DelayPart, Fall as FallPart, Statement as StatementPart, Statements as StatementsGroup, Otherwise as OtherwisePart};
@@ -16,10 +16,9 @@ use crate::connection::boxed;
 use crate::cursor::Cursor;
 use drawing_grammar::{Edition, Keyword, Terminal};
 use drawing_tree::{
-    Assign, Assigns, Conns, ForStmt, IfStmt, Places, Stmt, Stmts, UseStmt, WireStmt,
+    Assign, Assigns, Conns, Expr, ForStmt, IfStmt, Places, Stmt, Stmts, UseStmt, WireStmt,
 };
 use scald_base::{Bytes, NoMemory, Place, RefusalKind, Stop};
-use scald_expr::Expr;
 use std::alloc::Global;
 
 fn put(all: &mut Stmts, next: Stmt) -> Result<(), NoMemory>

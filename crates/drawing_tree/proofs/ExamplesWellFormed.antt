@@ -9,7 +9,7 @@ use Rattle.scald_base.specs.Time.{Header}
 use Rattle.scald_base.specs.Word.{is_reserved}
 use Rattle.scald_base.specs.declared.refusal.Place.{Place}
 use Rattle.scald_base.specs.declared.assertion.AssertSpec.TheVariants.{Stable}
-use Rattle.scald_expr.specs.Expression.{Param, Negate}
+use Rattle.drawing_tree.specs.Expression.{Param, Negate}
 use Rattle.drawing_tree.specs.declared.drawing.CaseEntry.{CaseEntry}
 use Rattle.drawing_tree.specs.declared.drawing.CaseStmt.{CaseStmt}
 use Rattle.drawing_tree.specs.Tree.{Connection, Assignment, Statement, Use, If, For, nil, cons, else_, Formal, Macro, Drawing}

@@ -2,8 +2,8 @@
 use Rattle.std.proofs.Common.{◌≡◌, Option, Some, None, sym, ap, ◌∙◌}
 use Rattle.std.specs.Global.{Vec}
 use Rattle.scald_base.specs.declared.refusal.Place.{Place}
-use Rattle.scald_expr.specs.Expression.{expression_of}
-use Rattle.scald_expr.specs.declared.expr.Expr.{Expr}
+use Rattle.drawing_tree.specs.Expression.{expression_of}
+use Rattle.drawing_tree.specs.declared.expr.Expr.{Expr}
 use Rattle.drawing_tree.specs.declared.statement.UseStmt.{UseStmt}
 use Rattle.drawing_tree.specs.declared.statement.WireStmt.{WireStmt}
 use Rattle.drawing_tree.specs.declared.statement.IfStmt.{IfStmt}

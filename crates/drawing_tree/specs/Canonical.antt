@@ -2,7 +2,7 @@
 use Rattle.std.specs.Prelude.{ℕ, Bool, List, [], ◌∷◌, ◌++◌, codes, decimal, Option, Some, None, if◌then◌else◌}
 use Rattle.std.specs.List.{join_by, flat_map}
 use Rattle.scald_base.specs.Time.{Header}
-use Rattle.scald_expr.specs.Expression.{Expression}
+use Rattle.drawing_tree.specs.Expression.{Expression}
 use Rattle.assertion_syntax.specs.declared.name.SignalName.{SignalName}
 use Rattle.assertion_syntax.specs.Name.{name_text}
 use Rattle.drawing_tree.specs.declared.drawing.CaseEntry.{CaseEntry}

@@ -1,9 +1,9 @@
 -- How an expression is written: one space on each side of an operator, and parentheses only where they are asked for.
 use Rattle.std.specs.Prelude.{ℕ, Bool, true, false, ◌&&◌, ◌||◌, List, ◌++◌, codes, if◌then◌else◌}
 use Rattle.std.specs.Fmt.{signed_decimal}
-use Rattle.scald_expr.specs.declared.expr.Op.{Op}
-use Rattle.scald_expr.specs.declared.expr.Op.TheVariants.{Add, Sub, Mul, Div, Eq, Ne, Lt, Le, Gt, Ge}
-use Rattle.scald_expr.specs.Expression.{Expression, Number, Param, Negate, Binary}
+use Rattle.drawing_tree.specs.declared.expr.Op.{Op}
+use Rattle.drawing_tree.specs.declared.expr.Op.TheVariants.{Add, Sub, Mul, Div, Eq, Ne, Lt, Le, Gt, Ge}
+use Rattle.drawing_tree.specs.Expression.{Expression, Number, Param, Negate, Binary}
 
 -- ---- kinds of operators and of expressions
 

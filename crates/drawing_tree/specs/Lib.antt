@@ -1,3 +1,5 @@
+pub mod Expression
+pub mod Value
 pub mod Tree
 pub mod Places
 pub mod ExpressionText

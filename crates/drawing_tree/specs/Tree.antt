@@ -3,8 +3,8 @@ use Rattle.std.specs.Prelude.{ℕ, Bool, List, [], ◌∷◌, map, Option, Some,
 use Rattle.std.specs.Global.{Vec, Box}
 use Rattle.scald_base.specs.Time.{Header}
 use Rattle.scald_base.specs.declared.refusal.Place.{Place}
-use Rattle.scald_expr.specs.Expression.{Expression, expression_of}
-use Rattle.scald_expr.specs.declared.expr.Expr.{Expr}
+use Rattle.drawing_tree.specs.Expression.{Expression, expression_of}
+use Rattle.drawing_tree.specs.declared.expr.Expr.{Expr}
 use Rattle.assertion_syntax.specs.declared.name.SignalName.{SignalName}
 use Rattle.drawing_tree.specs.declared.connection.RangeExpr.{RangeExpr}
 use Rattle.drawing_tree.specs.declared.connection.Item as written

@@ -6,7 +6,7 @@ use Rattle.scald_base.specs.Time.{Header, IsHeader}
 use Rattle.scald_base.specs.Fitting.{Fits}
 use Rattle.scald_base.specs.Word.{IsWord, is_reserved}
 use Rattle.element_kinds.specs.Kinds.{kind_names}
-use Rattle.scald_expr.specs.Expression.{Expression, Number, Param, Negate, Binary}
+use Rattle.drawing_tree.specs.Expression.{Expression, Number, Param, Negate, Binary}
 use Rattle.assertion_syntax.specs.declared.name.SignalName.{SignalName}
 use Rattle.assertion_syntax.specs.Name.{IsName, IsBase}
 use Rattle.drawing_tree.specs.declared.drawing.CaseEntry.{CaseEntry}

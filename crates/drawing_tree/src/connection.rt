@@ -1,8 +1,8 @@
 //! What a use is connected to.
 
+use crate::Expr;
 use assertion_syntax::SignalName;
 use scald_base::{List, Place};
-use scald_expr::Expr;
 
 /// The bits of a net that are meant: from the first to the last, or the first alone.
 #[derive(Drop, PartialEq, Eq, Debug)]

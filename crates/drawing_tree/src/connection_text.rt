@@ -2,17 +2,17 @@
 
 ghost use Rattle.std.specs.Prelude.{◌≡◌, ◌++◌, IsTrue, OnOk, option_map, map, codes};
 ghost use Rattle.std.specs.List.{join_by};
-ghost use Rattle.scald_expr.specs.Expression.{expression_of};
+ghost use Rattle.drawing_tree.specs.Expression.{expression_of};
 ghost use Rattle.assertion_syntax.specs.Name.{name_text};
 ghost use Rattle.drawing_tree.specs.Tree.{written_range_of, item_of, term_of, connection_of};
 ghost use Rattle.drawing_tree.specs.Canonical.{quoted, bounds_text, last_text, range_text, signal_text, item_text, term_text, connection_text};
 
+use crate::Expr;
 use crate::connection::{Conn, Item, Term, WrittenRange};
 use crate::expression_text::add_sum;
 use crate::printed::{Printed, add_joined};
 use assertion_syntax::{SignalName, write_name};
 use scald_base::{AssertSpec, Bytes, NoMemory};
-use scald_expr::Expr;
 use std::alloc::Global;
 
 /// Puts the least and the greatest of something at the end.

@@ -1,12 +1,12 @@
 //! Writes expressions.
 
 ghost use Rattle.std.specs.Prelude.{◌≡◌, ◌++◌, OnOk};
-ghost use Rattle.scald_expr.specs.Expression.{expression_of};
+ghost use Rattle.drawing_tree.specs.Expression.{expression_of};
 ghost use Rattle.drawing_tree.specs.ExpressionText.{adds, multiplies, compares, is_sum, is_product, is_comparison, is_minus, left_enclosed, right_enclosed, minus_enclosed, enclosed, op_text, condition_text, sum_text};
 
+use crate::{Expr, Op};
 use itoa::Buffer;
 use scald_base::{Bytes, NoMemory};
-use scald_expr::{Expr, Op};
 
 fn adds(op: Op) -> bool
     ensures { result ≡ adds op }

@@ -1,9 +1,9 @@
 //! Statements.
 
+use crate::Expr;
 use crate::connection::{Conns, WrittenRange};
 use assertion_syntax::SignalName;
 use scald_base::{Bytes, List, Place};
-use scald_expr::Expr;
 
 /// A parameter or a constant, and its value.
 #[derive(Drop, PartialEq, Eq, Debug)]

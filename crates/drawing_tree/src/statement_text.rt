@@ -1,18 +1,18 @@
 //! Writes statements.
 
 ghost use Rattle.std.specs.Prelude.{◌≡◌, ◌++◌, OnOk, IfOk, option_map, map, codes};
-ghost use Rattle.scald_expr.specs.Expression.{expression_of};
+ghost use Rattle.drawing_tree.specs.Expression.{expression_of};
 ghost use Rattle.drawing_tree.specs.Tree.{assignment_of, connection_of, both_of, written_fall_of, use_of, wire_of, statement_of, statements_of, if_of, for_of};
 ghost use Rattle.drawing_tree.specs.ExpressionText.{condition_text};
 ghost use Rattle.drawing_tree.specs.Canonical.{for_text, assignment_text, params_text, fall_text, delay_text, connection_text, inputs_text, outputs_text, use_head, use_text, wire_text, line, deeper, statement_lines, statements_lines};
 
+use crate::Expr;
 use crate::connection::Conn;
 use crate::connection_text::{add_bounds, add_signal};
 use crate::expression_text::{add_condition, add_sum};
 use crate::printed::{Printed, add_bracketed, add_bracketed_if_some};
 use crate::statement::{Assign, ForStmt, IfStmt, Stmt, UseStmt, WireStmt};
 use scald_base::{Bytes, NoMemory};
-use scald_expr::Expr;
 use std::alloc::Global;
 
 impl Printed for Assign {

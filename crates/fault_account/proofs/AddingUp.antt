@@ -11,7 +11,7 @@ use Rattle.flat_circuit.specs.declared.fault.Fault.TheVariants.{Assertion, Hazar
 use Rattle.flat_circuit.specs.declared.instance.Pin.{Pin}
 use Rattle.flat_circuit.specs.declared.net.Net.{Net}
 use Rattle.flat_circuit.specs.Circuit.{Circuit, wire_at}
-use Rattle.net_waves.specs.Waves.{Waves, target_wire}
+use Rattle.fixpoint_engine.specs.Waves.{Waves, target_wire}
 use Rattle.fault_chain.specs.declared.chain.Link.{Link}
 use Rattle.fault_chain.specs.declared.chain.Chain.{Chain}
 use Rattle.fault_chain.specs.declared.chain.End.TheVariants.{Level}

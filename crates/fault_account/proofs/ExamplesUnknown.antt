@@ -15,7 +15,7 @@ use Rattle.flat_circuit.specs.declared.instance.Instance.{Instance}
 use Rattle.flat_circuit.specs.declared.instance.Pin.{Pin}
 use Rattle.flat_circuit.specs.declared.net.Net.{Net}
 use Rattle.flat_circuit.specs.Circuit.{Circuit}
-use Rattle.net_waves.specs.Waves.{Waves, waves_of}
+use Rattle.fixpoint_engine.specs.Waves.{Waves, waves_of}
 use Rattle.fault_chain.specs.declared.chain.Link.{Link}
 use Rattle.fault_account.specs.Unknown.{met_loop, unknown_of, unknown_through}
 

@@ -20,7 +20,7 @@ use Rattle.flat_circuit.specs.Kind.{pin_counts}
 use Rattle.flat_circuit.specs.Instances.{PinExists, TargetExists}
 use Rattle.flat_circuit.specs.Circuit.{Circuit, IsCircuit, driver, wire_at}
 use Rattle.flat_circuit.proofs.Numbered.{fits_of}
-use Rattle.net_waves.specs.Waves.{Waves}
+use Rattle.fixpoint_engine.specs.Waves.{Waves}
 use Rattle.fault_chain.specs.declared.chain.Link.{Link}
 use Rattle.fault_chain.specs.declared.chain.End.TheVariants.{Level, Repeat}
 use Rattle.fault_chain.specs.declared.chain.Chain.{Chain}

@@ -14,7 +14,7 @@ use Rattle.flat_circuit.specs.declared.instance.Instance.{Instance}
 use Rattle.flat_circuit.specs.Circuit.{Circuit, driver}
 use Rattle.gate_eval.specs.Hold.{first_some}
 use Rattle.storage_eval.specs.Storage.{listening}
-use Rattle.net_waves.specs.Waves.{Waves}
+use Rattle.fixpoint_engine.specs.Waves.{Waves}
 use Rattle.fault_chain.specs.declared.chain.Link.{Link}
 use Rattle.fault_chain.specs.Chain.{link_back}
 use Rattle.fault_account.specs.GoingRound.{AllLead, GoesRound, LoopsGoRound, hears, is_on, leads}

@@ -5,7 +5,7 @@ use Rattle.std.specs.List.{list_any}
 use Rattle.std.specs.Option.{option_map}
 use Rattle.step_values.specs.Steps.{is_unknown}
 use Rattle.flat_circuit.specs.Circuit.{Circuit, driver}
-use Rattle.net_waves.specs.Waves.{Waves}
+use Rattle.fixpoint_engine.specs.Waves.{Waves}
 use Rattle.fault_chain.specs.declared.chain.Link.{Link}
 use Rattle.fault_account.specs.Loops.{from_least, least_net, since, until}
 use Rattle.fault_account.specs.Unknown.{loop_from, met_loop, unknown_before, unknown_loop, unknown_of, up_to}

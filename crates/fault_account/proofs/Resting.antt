@@ -21,9 +21,9 @@ use Rattle.pin_waves.specs.Interface.{wide_wave}
 use Rattle.gate_eval.specs.Hold.{disturber, hazard}
 use Rattle.gate_eval.specs.Instance.{wave_of_pin}
 use Rattle.gate_eval.specs.Meeting.{folds_in, period_of}
-use Rattle.net_waves.specs.Waves.{Waves, marked_pin, pin_waves}
-use Rattle.net_waves.proofs.Fits.{AreLong}
-use Rattle.net_waves.proofs.OnePeriod.{period_of_pins}
+use Rattle.fixpoint_engine.specs.Waves.{Waves, marked_pin, pin_waves}
+use Rattle.fixpoint_engine.proofs.Fits.{AreLong}
+use Rattle.fixpoint_engine.proofs.OnePeriod.{period_of_pins}
 use Rattle.point_check.specs.Assertion.{assertion_fault, exceeds, fault_in, first_excess, is_held}
 use Rattle.point_check.specs.Faults.{fault_by, fault_if_held, fault_of, fault_of_net, hazard_at, instance_fault, net_fault, point_faults}
 use Rattle.pulse_check.specs.Faults.{faults_by, faults_of as widths_of, instance_faults, limited_fault as limited_width, listed, pin_of, width_faults}

@@ -8,7 +8,7 @@ use Rattle.flat_circuit.specs.declared.fault.Fault.{Fault}
 use Rattle.flat_circuit.specs.Circuit.{Circuit}
 use Rattle.gate_eval.specs.Hold.{first_some}
 use Rattle.gate_eval.proofs.Found.{first_some_at, first_some_nowhere}
-use Rattle.net_waves.specs.Waves.{Waves}
+use Rattle.fixpoint_engine.specs.Waves.{Waves}
 use Rattle.margin_report.specs.declared.margin.Parameter.{Parameter}
 use Rattle.margin_report.specs.declared.margin.Parameter.TheVariants.{Setup, Hold, High, Low}
 use Rattle.margin_report.specs.Margin.{IsAskedBy, fault_with, written}

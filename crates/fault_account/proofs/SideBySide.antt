@@ -6,7 +6,7 @@ use Rattle.scald_base.proofs.Back.{back_zero, mod_small}
 use Rattle.step_values.specs.Steps.{is_quiet}
 use Rattle.flat_circuit.specs.declared.fault.PointKind.{PointKind}
 use Rattle.flat_circuit.specs.Circuit.{Circuit}
-use Rattle.net_waves.specs.Waves.{Waves}
+use Rattle.fixpoint_engine.specs.Waves.{Waves}
 use Rattle.point_check.specs.Window.{Folds}
 use Rattle.fault_account.specs.Account.{earlier_of, more_of, would_do}
 use Rattle.fault_account.specs.Around.{passing, passing_after, passing_before}

@@ -5,7 +5,7 @@ use Rattle.step_values.specs.declared.value.Value.{Value}
 use Rattle.step_values.specs.Cell.{same, values}
 use Rattle.skew_algebra.specs.Wave.{fold}
 use Rattle.flat_circuit.specs.Circuit.{Circuit}
-use Rattle.net_waves.specs.Waves.{Waves}
+use Rattle.fixpoint_engine.specs.Waves.{Waves}
 use Rattle.point_check.specs.Assertion.{exceeds}
 use Rattle.fault_account.specs.declared.account.Side.{Side}
 use Rattle.fault_account.specs.Around.{run_after, run_before}

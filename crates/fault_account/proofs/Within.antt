@@ -10,7 +10,7 @@ use Rattle.step_values.specs.Cell.{values}
 use Rattle.skew_algebra.specs.Wave.{Wave, fold}
 use Rattle.element_kinds.specs.declared.kind.Kind.{Kind}
 use Rattle.flat_circuit.specs.Circuit.{Circuit}
-use Rattle.net_waves.specs.Pins.{read}
+use Rattle.fixpoint_engine.specs.Pins.{read}
 use Rattle.point_check.specs.declared.window.Window.{Window}
 use Rattle.point_check.specs.Point.{checker_fault, edge_fault, window_of}
 use Rattle.point_check.specs.Window.{Folds, fault_at, first_mover, window_fault}

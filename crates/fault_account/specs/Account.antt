@@ -18,7 +18,7 @@ use Rattle.flat_circuit.specs.declared.instance.Instance.{Instance}
 use Rattle.flat_circuit.specs.declared.net.Net.{Net}
 use Rattle.flat_circuit.specs.Circuit.{Circuit}
 use Rattle.pin_waves.specs.Interface.{wide_wave}
-use Rattle.net_waves.specs.Waves.{Waves, marked_pin}
+use Rattle.fixpoint_engine.specs.Waves.{Waves, marked_pin}
 use Rattle.point_check.specs.Window.{Folds}
 use Rattle.point_check.specs.Assertion.{exceeds}
 use Rattle.fault_account.specs.declared.account.Asked.{Asked}

@@ -9,7 +9,7 @@ use Rattle.flat_circuit.specs.declared.fault.Fault.TheVariants.{Point, Width, Ha
 use Rattle.flat_circuit.specs.declared.instance.Instance.{Instance}
 use Rattle.flat_circuit.specs.Circuit.{Circuit}
 use Rattle.gate_eval.specs.Hold.{first_some}
-use Rattle.net_waves.specs.Waves.{Waves}
+use Rattle.fixpoint_engine.specs.Waves.{Waves}
 use Rattle.margin_report.specs.declared.margin.Parameter.{Parameter}
 use Rattle.margin_report.specs.declared.margin.Parameter.TheVariants as parameter
 use Rattle.margin_report.specs.Margin.{fault_with, written}

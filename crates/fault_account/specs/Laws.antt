@@ -9,7 +9,7 @@ use Rattle.flat_circuit.specs.declared.fault.Fault.{Fault}
 use Rattle.flat_circuit.specs.declared.fault.PointKind.{PointKind}
 use Rattle.point_check.specs.Window.{Folds}
 use Rattle.flat_circuit.specs.Circuit.{Circuit, IsCircuit, driver, wire_at}
-use Rattle.net_waves.specs.Waves.{Waves}
+use Rattle.fixpoint_engine.specs.Waves.{Waves}
 use Rattle.timing_analysis.specs.Case.{Case, IsAtRest, faults}
 use Rattle.margin_report.specs.Margin.{fault_with}
 use Rattle.fault_account.specs.declared.account.Asked.{Asked}

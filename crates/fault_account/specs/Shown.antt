@@ -6,7 +6,7 @@ use Rattle.step_values.specs.declared.value.Value.TheVariants.{U}
 use Rattle.step_values.specs.Cell.{values}
 use Rattle.skew_algebra.specs.Wave.{Wave, fold}
 use Rattle.flat_circuit.specs.Circuit.{Circuit}
-use Rattle.net_waves.specs.Waves.{Waves, pin_wave}
+use Rattle.fixpoint_engine.specs.Waves.{Waves, pin_wave}
 use Rattle.point_check.specs.Window.{Folds}
 use Rattle.fault_chain.specs.Chain.{pin_of}
 

@@ -5,7 +5,7 @@ use Rattle.scald_base.specs.Time.{Bounds, period}
 use Rattle.flat_circuit.specs.declared.fault.Fault.TheVariants.{Hazard, Assertion}
 use Rattle.flat_circuit.specs.declared.instance.Pin.{Pin}
 use Rattle.flat_circuit.specs.Circuit.{Circuit}
-use Rattle.net_waves.specs.Waves.{Waves, target_wire}
+use Rattle.fixpoint_engine.specs.Waves.{Waves, target_wire}
 use Rattle.fault_chain.specs.declared.chain.Link.{Link}
 use Rattle.fault_chain.specs.declared.chain.Chain.{Chain}
 use Rattle.fault_chain.specs.Chain.{chain_of, pin_of}

@@ -12,7 +12,7 @@ use Rattle.flat_circuit.specs.declared.instance.Instance.{Instance}
 use Rattle.flat_circuit.specs.Circuit.{Circuit, wire_at, driver}
 use Rattle.gate_eval.specs.Hold.{first_some}
 use Rattle.storage_eval.specs.Storage.{listening}
-use Rattle.net_waves.specs.Waves.{Waves}
+use Rattle.fixpoint_engine.specs.Waves.{Waves}
 use Rattle.fixpoint_engine.specs.Settled.{marked_in}
 use Rattle.fault_chain.specs.declared.chain.Link.{Link}
 use Rattle.fault_chain.specs.Chain.{link_back, then_late}

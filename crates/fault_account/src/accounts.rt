@@ -5,7 +5,7 @@
 ghost use Rattle.std.specs.Prelude.{◌≡◌, ◌<◌, ◌≤◌, IfOk, IfSome, false, length, replicate};
 ghost use Rattle.std.specs.Option.{option_copied};
 ghost use Rattle.scald_base.specs.Time.{period};
-ghost use Rattle.net_waves.specs.Waves.{FitWaves, marked_pin as marked, waves_of};
+ghost use Rattle.fixpoint_engine.specs.Waves.{FitWaves, marked_pin as marked, waves_of};
 ghost use Rattle.fault_account.specs.Sides.{IsSide};
 ghost use Rattle.fault_account.specs.Account.{IsAccount, IsWithin, account_with as account_told, mark_account, marked_in, pulse_account};
 
@@ -14,9 +14,8 @@ use crate::asserted::net_of;
 use crate::edges::edge_of;
 use crate::shown::{shown, shown_in};
 use crate::sides::pin_side;
-use fixpoint_engine::NetSet;
+use fixpoint_engine::{NetSet, Waves};
 use flat_circuit::{Circuit, Fault, Instance};
-use net_waves::Waves;
 use scald_base::NoMemory;
 use std::alloc::Global;
 use step_values::Value;

@@ -3,15 +3,15 @@
 ghost use Rattle.std.specs.Prelude.{◌≡◌, ◌≤◌, IfOk, IfSome, slice_get, true};
 ghost use Rattle.scald_base.specs.Time.{period};
 ghost use Rattle.flat_circuit.specs.Instances.{InstanceFits};
-ghost use Rattle.net_waves.specs.Waves.{FitWaves, waves_of};
+ghost use Rattle.fixpoint_engine.specs.Waves.{FitWaves, waves_of};
 ghost use Rattle.margin_report.specs.Margin.{AreWithin, fault_with, written as written_of};
 ghost use Rattle.fault_account.specs.Asked.{asked_of as asked, instance_of as instance_with, is_asked as asks, least_fault as least_with, never_fits as never, parameter_of as parameter_with, shortness as short_by, told_fault as told};
 
 use crate::account::Asked;
 use element_kinds::Kind;
+use fixpoint_engine::Waves;
 use flat_circuit::{Circuit, Fault, Instance, PointKind};
 use margin_report::Parameter;
-use net_waves::Waves;
 use point_check::point_fault;
 use pulse_check::width_fault;
 use scald_base::NoMemory;

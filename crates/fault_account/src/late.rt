@@ -13,8 +13,8 @@ ghost use Rattle.fault_account.specs.Late.{arrival as arrival_of, arrives as arr
 use crate::account::Side;
 use crate::slots::slot_back;
 use fault_chain::Link;
+use fixpoint_engine::wire_behind;
 use flat_circuit::{Circuit, Target};
-use net_waves::wire_behind;
 use scald_base::Delay;
 
 /// The least number of ticks, from `least` on, from one slot of a period to another.

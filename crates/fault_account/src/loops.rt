@@ -5,8 +5,8 @@ ghost use Rattle.fault_account.specs.Loops.{from_least as told_from_least, least
 
 use crate::account::Nets;
 use crate::late::delay_to;
+use fixpoint_engine::wire_behind;
 use flat_circuit::{Circuit, Target};
-use net_waves::wire_behind;
 use scald_base::NoMemory;
 use std::alloc::Global;
 

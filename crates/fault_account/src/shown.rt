@@ -3,14 +3,14 @@
 ghost use Rattle.std.specs.Prelude.{◌≡◌, ◌+◌, ◌-◌, ◌<◌, ◌≤◌, IfOk, IfSome, length, not};
 ghost use Rattle.scald_base.specs.Time.{period};
 ghost use Rattle.step_values.specs.Steps.{is_quiet};
-ghost use Rattle.net_waves.specs.Waves.{FitWaves, waves_of};
+ghost use Rattle.fixpoint_engine.specs.Waves.{FitWaves, waves_of};
 ghost use Rattle.fault_account.specs.Around.{passing_after as are_after, passing_before as are_before};
 ghost use Rattle.fault_account.specs.Marks.{AreMarks};
 ghost use Rattle.fault_account.specs.Shown.{folded, shown_wave};
 
 use crate::around::passing_round;
+use fixpoint_engine::{Waves, pin_wave};
 use flat_circuit::Circuit;
-use net_waves::{Waves, pin_wave};
 use scald_base::NoMemory;
 use skew_algebra::Skewed;
 use std::alloc::Global;

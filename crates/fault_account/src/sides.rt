@@ -4,15 +4,14 @@
 
 ghost use Rattle.std.specs.Prelude.{◌≡◌, IfOk, false, length, replicate};
 ghost use Rattle.fault_chain.specs.Chain.{chain_of as chain_of_fault};
-ghost use Rattle.net_waves.specs.Waves.{FitWaves, waves_of};
+ghost use Rattle.fixpoint_engine.specs.Waves.{FitWaves, waves_of};
 ghost use Rattle.fault_account.specs.Sides.{IsSide, net_side as side_of_net, pin_side as side_of_pin, side_of as side_with};
 
 use crate::account::Side;
 use crate::unknown::unknown_of;
 use fault_chain::chain_of;
-use fixpoint_engine::NetSet;
+use fixpoint_engine::{NetSet, Waves, wire_behind};
 use flat_circuit::{Circuit, Fault};
-use net_waves::{Waves, wire_behind};
 use scald_base::{Delay, NoMemory};
 use std::alloc::Global;
 use step_values::Value;

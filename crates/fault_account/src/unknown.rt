@@ -5,16 +5,15 @@ ghost use Rattle.std.specs.List.{All};
 ghost use Rattle.flat_circuit.specs.Instances.{InstanceFits, TargetExists};
 ghost use Rattle.gate_eval.specs.Hold.{first_some};
 ghost use Rattle.fault_chain.specs.Chain.{link_back};
-ghost use Rattle.net_waves.specs.Waves.{FitWaves, waves_of};
+ghost use Rattle.fixpoint_engine.specs.Waves.{FitWaves, waves_of};
 ghost use Rattle.fault_account.specs.Unknown.{unknown_back as back_where_unknown, unknown_before as before_where_unknown, met_loop, unknown_loop as loop_of, unknown_of as unknown_in, HasPassed, loop_in, up_to, unknown_through as through_where_unknown};
 
 use crate::account::Nets;
 use crate::loops::from_least;
 use crate::slots::slot_back;
 use fault_chain::Link;
-use fixpoint_engine::NetSet;
+use fixpoint_engine::{NetSet, Waves, wire_behind};
 use flat_circuit::{Circuit, Instance, Target};
-use net_waves::{Waves, wire_behind};
 use scald_base::{Delay, NoMemory};
 use std::alloc::Global;
 use step_values::Value;

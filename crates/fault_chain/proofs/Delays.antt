@@ -11,7 +11,7 @@ use Rattle.scald_base.specs.declared.refusal.Place.{Place}
 use Rattle.scald_base.specs.declared.refusal.RefusalKind.{RefusalKind}
 use Rattle.scald_base.specs.declared.refusal.RefusalKind.TheVariants.{AssertionClash, Bounds as BoundsKind, BadParameter, PinCount, TooMany, Width}
 use Rattle.assertion_syntax.specs.declared.name.SignalName.{SignalName}
-use Rattle.scald_expr.specs.declared.environment.Binding.{Binding}
+use Rattle.drawing_tree.specs.declared.environment.Binding.{Binding}
 use Rattle.element_kinds.specs.declared.kind.Kind.{Kind}
 use Rattle.element_kinds.specs.Kinds.{kind_of}
 use Rattle.flat_circuit.specs.declared.instance.Instance.{Instance}

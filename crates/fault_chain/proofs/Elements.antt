@@ -16,9 +16,9 @@ use Rattle.gate_eval.specs.Quiet.{AreFitting, IsQuietAt, IsQuietBefore}
 use Rattle.gate_eval.proofs.QuietGates.{gates_are_quiet, splits_are_quiet}
 use Rattle.storage_eval.specs.Storage.{listening}
 use Rattle.storage_eval.proofs.Quiet.{storage_is_quiet}
-use Rattle.net_waves.specs.Waves.{Waves, marked_pin, pin_waves}
-use Rattle.net_waves.proofs.Fits.{AreLong}
-use Rattle.net_waves.proofs.OnePeriod.{length_pins, period_of_pins, pins_have_one_period}
+use Rattle.fixpoint_engine.specs.Waves.{Waves, marked_pin, pin_waves}
+use Rattle.fixpoint_engine.proofs.Fits.{AreLong}
+use Rattle.fixpoint_engine.proofs.OnePeriod.{length_pins, period_of_pins, pins_have_one_period}
 use Rattle.fixpoint_engine.specs.Value.{instance_wave, made_by, turned_wave}
 use Rattle.fixpoint_engine.proofs.Hearing.{listening_all}
 use Rattle.fixpoint_engine.proofs.Made.{length_turned, made_long, made_mark}

@@ -11,7 +11,7 @@ use Rattle.std.proofs.lemmas.List.Elements.{All-append, All-cons, All-nil}
 use Rattle.std.proofs.lemmas.List.Folds.{list_any-append}
 use Rattle.flat_circuit.specs.declared.instance.Instance.{Instance}
 use Rattle.flat_circuit.specs.Circuit.{Circuit, driver}
-use Rattle.net_waves.specs.Waves.{Waves}
+use Rattle.fixpoint_engine.specs.Waves.{Waves}
 use Rattle.fixpoint_engine.specs.Settled.{marked_in}
 use Rattle.fixpoint_engine.proofs.Waiting.{marked_set, unmarked}
 use Rattle.fault_chain.specs.declared.chain.Link.{Link}

@@ -13,8 +13,8 @@ use Rattle.step_values.specs.Cell.{values}
 use Rattle.skew_algebra.specs.Wave.{fold}
 use Rattle.flat_circuit.specs.declared.instance.Instance.{Instance}
 use Rattle.flat_circuit.specs.Circuit.{Circuit, IsCircuit, driver}
-use Rattle.net_waves.specs.Waves.{Waves}
-use Rattle.net_waves.proofs.Fits.{AreLong}
+use Rattle.fixpoint_engine.specs.Waves.{Waves}
+use Rattle.fixpoint_engine.proofs.Fits.{AreLong}
 use Rattle.fixpoint_engine.specs.Rounds.{evaluated, wave_from}
 use Rattle.fixpoint_engine.proofs.Drivers.{driver_fits, driver_makes}
 use Rattle.fixpoint_engine.proofs.Listening.{same_order}

@@ -7,9 +7,9 @@ use Rattle.step_values.specs.declared.value.Value.TheVariants.{Zero, One}
 use Rattle.skew_algebra.specs.Wave.{Wave}
 use Rattle.flat_circuit.specs.declared.case.CaseValue.{CaseValue}
 use Rattle.flat_circuit.specs.Circuit.{Circuit, IsCircuit}
-use Rattle.class_table.specs.Alike.{value_in}
-use Rattle.net_waves.specs.Waves.{Waves}
-use Rattle.net_waves.proofs.Fits.{AreLong}
+use Rattle.flat_circuit.specs.Alike.{value_in}
+use Rattle.fixpoint_engine.specs.Waves.{Waves}
+use Rattle.fixpoint_engine.proofs.Fits.{AreLong}
 use Rattle.fixpoint_engine.specs.Start.{base_start, is_driven}
 use Rattle.fixpoint_engine.proofs.Sound.{round_long}
 use Rattle.case_analysis.specs.Base.{base_round}

@@ -21,7 +21,7 @@ use Rattle.gate_eval.specs.Hold.{first_some}
 use Rattle.gate_eval.proofs.Found.{first_some_beyond}
 use Rattle.gate_eval.proofs.Quiet.{quiet_fold}
 use Rattle.storage_eval.specs.Storage.{listening_from}
-use Rattle.net_waves.specs.Waves.{Waves}
+use Rattle.fixpoint_engine.specs.Waves.{Waves}
 use Rattle.fault_chain.specs.declared.chain.Link.{Link}
 use Rattle.fault_chain.specs.Chain.{first_back, link_back, mover_back, through, through_first}
 

@@ -19,7 +19,7 @@ use Rattle.flat_circuit.specs.Circuit.{Circuit, wire_at, driver}
 use Rattle.flat_circuit.specs.Instances.{PinExists, TargetExists}
 use Rattle.gate_eval.specs.Hold.{first_some}
 use Rattle.storage_eval.specs.Storage.{listening_from}
-use Rattle.net_waves.specs.Waves.{Waves}
+use Rattle.fixpoint_engine.specs.Waves.{Waves}
 use Rattle.fault_chain.specs.declared.chain.Link.{Link}
 use Rattle.fault_chain.specs.declared.chain.End.TheVariants.{Repeat}
 use Rattle.fault_chain.specs.declared.chain.Chain.{Chain}

@@ -29,8 +29,8 @@ use Rattle.gate_eval.proofs.Quiet.{late_is_quiet, quiet_fold, quiet_normal, quie
 use Rattle.storage_eval.specs.Storage.{listening_from}
 use Rattle.pin_waves.specs.Interface.{constant_wave}
 use Rattle.pin_waves.proofs.Pins.{length_moved}
-use Rattle.net_waves.specs.Waves.{Waves, pin_wave, target_wave, target_wire}
-use Rattle.net_waves.proofs.Fits.{AreLong, long_target}
+use Rattle.fixpoint_engine.specs.Waves.{Waves, pin_wave, target_wave, target_wire}
+use Rattle.fixpoint_engine.proofs.Fits.{AreLong, long_target}
 use Rattle.fixpoint_engine.specs.Value.{turned_wave}
 use Rattle.fixpoint_engine.proofs.Made.{length_turned}
 use Rattle.fault_chain.specs.declared.chain.Link.{Link}

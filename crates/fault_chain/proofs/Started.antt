@@ -19,8 +19,8 @@ use Rattle.flat_circuit.specs.declared.instance.Instance.{Instance}
 use Rattle.flat_circuit.specs.Circuit.{Circuit}
 use Rattle.flat_circuit.specs.Instances.{InstanceFits, PinExists}
 use Rattle.flat_circuit.specs.Kind.{pin_counts}
-use Rattle.net_waves.specs.Waves.{Waves, pin_wave, pin_waves}
-use Rattle.net_waves.proofs.Fits.{AreLong}
+use Rattle.fixpoint_engine.specs.Waves.{Waves, pin_wave, pin_waves}
+use Rattle.fixpoint_engine.proofs.Fits.{AreLong}
 use Rattle.gate_eval.specs.Instance.{wave_of_pin}
 use Rattle.fault_chain.specs.declared.chain.Link.{Link}
 use Rattle.fault_chain.specs.Chain.{at_pin, link_at_pin, pin_of, through}

@@ -30,10 +30,10 @@ use Rattle.gate_eval.specs.Hold.{disturber, hazard, is_closed, mover_beside, mov
 use Rattle.gate_eval.specs.Instance.{wave_of_pin}
 use Rattle.gate_eval.specs.Meeting.{folds_in, period_of}
 use Rattle.gate_eval.proofs.Chosen.{some_pins}
-use Rattle.net_waves.specs.Waves.{Waves, marked_pin, pin_waves}
-use Rattle.net_waves.specs.Pins.{read}
-use Rattle.net_waves.proofs.Fits.{AreLong}
-use Rattle.net_waves.proofs.OnePeriod.{length_pins}
+use Rattle.fixpoint_engine.specs.Waves.{Waves, marked_pin, pin_waves}
+use Rattle.fixpoint_engine.specs.Pins.{read}
+use Rattle.fixpoint_engine.proofs.Fits.{AreLong}
+use Rattle.fixpoint_engine.proofs.OnePeriod.{length_pins}
 use Rattle.fixpoint_engine.specs.Rounds.{evaluated}
 use Rattle.case_analysis.proofs.Evaluated.{rest_is_evaluated}
 use Rattle.point_check.specs.declared.window.Window.{Window}

@@ -12,10 +12,10 @@ use Rattle.flat_circuit.specs.declared.split.Split.{Split}
 use Rattle.flat_circuit.specs.declared.fault.Fault.{Fault}
 use Rattle.flat_circuit.specs.declared.fault.Fault.TheVariants.{Point, Width, Hazard, Assertion}
 use Rattle.flat_circuit.specs.Circuit.{Circuit, IsCircuit, driver}
-use Rattle.net_waves.specs.Waves.{Waves}
+use Rattle.fixpoint_engine.specs.Waves.{Waves}
 use Rattle.fixpoint_engine.specs.Rounds.{RestsAt}
 use Rattle.case_analysis.specs.Base.{IsBase, base_round}
-use Rattle.drawn_circuit.specs.Drawn.{DrawsCircuit}
+use Rattle.timing_analysis.specs.Drawn.{DrawsCircuit}
 use Rattle.timing_analysis.specs.Case.{Case, IsAtRest, AreAtRest, faults, listed_cases}
 use Rattle.fault_chain.specs.declared.chain.Link.{Link}
 use Rattle.fault_chain.specs.declared.chain.End.{End}

@@ -4,7 +4,7 @@ use Rattle.std.specs.List.{flat_map}
 use Rattle.step_values.specs.Steps.{letter_of}
 use Rattle.flat_circuit.specs.declared.fault.Fault.{Fault}
 use Rattle.flat_circuit.specs.Circuit.{Circuit}
-use Rattle.net_waves.specs.Waves.{Waves}
+use Rattle.fixpoint_engine.specs.Waves.{Waves}
 use Rattle.listing.specs.Text.{line}
 use Rattle.listing.specs.Head.{period_line}
 use Rattle.listing.specs.Names.{net_text}

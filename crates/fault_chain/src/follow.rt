@@ -2,15 +2,14 @@
 
 ghost use Rattle.std.specs.Prelude.{◌≡◌, ◌<◌, [], IfOk, IfSome, false, length, replicate};
 ghost use Rattle.std.specs.List.{All};
-ghost use Rattle.net_waves.specs.Waves.{FitWaves, waves_of};
+ghost use Rattle.fixpoint_engine.specs.Waves.{FitWaves, waves_of};
 ghost use Rattle.fault_chain.specs.Chain.{chain_from, chain_of as chain_of_fault, first_link as first_of};
 ghost use Rattle.fault_chain.specs.Met.{HasMet};
 
 use crate::chain::{Chain, End, Link, Links};
 use crate::link::{link_at_net, link_at_pin, next_link};
-use fixpoint_engine::NetSet;
+use fixpoint_engine::{NetSet, Waves};
 use flat_circuit::{Circuit, Fault};
-use net_waves::Waves;
 use scald_base::NoMemory;
 use std::alloc::Global;
 use step_values::Value;

@@ -3,12 +3,12 @@
 ghost use Rattle.std.specs.Prelude.{◌≡◌, ◌<◌, ◌≤◌, IfSome, length};
 ghost use Rattle.scald_base.specs.Clock.{back};
 ghost use Rattle.flat_circuit.specs.Instances.{InstanceFits, TargetExists};
-ghost use Rattle.net_waves.specs.Waves.{FitWaves, waves_of};
+ghost use Rattle.fixpoint_engine.specs.Waves.{FitWaves, waves_of};
 ghost use Rattle.fault_chain.specs.Chain.{first_back, link_at_net, link_at_pin, link_back, next_link, through};
 
 use crate::chain::Link;
+use fixpoint_engine::Waves;
 use flat_circuit::{Circuit, Instance, Target};
-use net_waves::Waves;
 use scald_base::Delay;
 use step_values::Value;
 use wave_core::{Cell, CyclicWave};

@@ -2,22 +2,20 @@
 
 ghost use Rattle.std.specs.Prelude.{◌≡◌, ◌++◌, OnOk};
 ghost use Rattle.std.specs.List.{flat_map};
-ghost use Rattle.net_waves.specs.Waves.{FitWaves, waves_of};
+ghost use Rattle.fixpoint_engine.specs.Waves.{FitWaves, waves_of};
 ghost use Rattle.fault_chain.specs.Report.{explained};
 
 use crate::follow::chain_of;
 use crate::lines::{add_chain, add_fault, add_number};
-use fixpoint_engine::NetSet;
+use fixpoint_engine::{NetSet, Waves};
 use flat_circuit::{Circuit, Fault};
 use listing::{end_report, write_period};
-use net_waves::Waves;
-use program_call::Reply;
+use program_call::{Reply, Teller, verdict};
 use run_wave::RunWave;
 use scald_base::{Bytes, NoMemory, Outcome};
 use std::alloc::Global;
 use step_values::Value;
 use timing_analysis::CaseAtRest;
-use timing_reply::{Teller, verdict};
 use wave_core::CyclicWave;
 
 /// The lines of the cases so far, and how many faults they have.

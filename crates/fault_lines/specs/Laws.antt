@@ -4,7 +4,7 @@ use Rattle.scald_base.specs.Time.{IsHeader, period}
 use Rattle.flat_circuit.specs.declared.fault.PointKind.{PointKind}
 use Rattle.flat_circuit.specs.declared.fault.PointKind.TheVariants.{Setup, High, Hold}
 use Rattle.flat_circuit.specs.Circuit.{Circuit}
-use Rattle.net_waves.specs.Waves.{Waves}
+use Rattle.fixpoint_engine.specs.Waves.{Waves}
 use Rattle.fault_account.specs.declared.account.Asked.{Asked}
 use Rattle.fault_account.specs.declared.account.AtEdge.{AtEdge}
 use Rattle.fault_account.specs.declared.account.Side.{Side}

@@ -20,9 +20,9 @@ use fault_words::{
     Told, does_piece, driver_text, net_name, nets_text, text, tick_text, ticks_text, wire_text,
     word,
 };
+use fixpoint_engine::wire_behind;
 use flat_circuit::{Circuit, Target};
 use listing::{Piece, add_line};
-use net_waves::wire_behind;
 use scald_base::{Bytes, Delay, NoMemory};
 use std::alloc::Global;
 

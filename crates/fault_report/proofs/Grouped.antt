@@ -6,7 +6,7 @@ use Rattle.std.proofs.lemmas.List.Elements.{All-cons, All-head, All-nil, All-tai
 use Rattle.flat_circuit.specs.declared.fault.Fault.{Fault}
 use Rattle.flat_circuit.specs.Circuit.{Circuit}
 use Rattle.drawing_tree.specs.Tree.{Drawing}
-use Rattle.net_waves.specs.Waves.{Waves}
+use Rattle.fixpoint_engine.specs.Waves.{Waves}
 use Rattle.text_groups.specs.Group.{Group}
 use Rattle.text_groups.specs.Whole.{AreWhole, all_of}
 use Rattle.text_groups.proofs.Grouping.{gathered_whole}

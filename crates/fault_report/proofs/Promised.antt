@@ -2,10 +2,10 @@
 use Rattle.std.proofs.Common.{◌≡◌, ℕ, true, List, refl, Option, None}
 use Rattle.scald_base.specs.declared.outcome.Outcome.{Outcome}
 use Rattle.timing_analysis.specs.Case.{fault_count}
-use Rattle.timing_reply.specs.Answer as timing
-use Rattle.timing_reply.specs.Answer.{rested}
-use Rattle.timing_reply.specs.Promise.{SettlesLoopless, Writes, may_count}
-use Rattle.timing_reply.proofs.Outcomes.{evaluated_has, evaluated_settles, verdict_counts, verdict_settles}
+use Rattle.program_call.specs.Answer as timing
+use Rattle.program_call.specs.Answer.{rested}
+use Rattle.program_call.specs.Promise.{SettlesLoopless, Writes, may_count}
+use Rattle.program_call.proofs.Outcomes.{evaluated_has, evaluated_settles, verdict_counts, verdict_settles}
 use Rattle.fault_report.specs.Answer as answer
 use Rattle.fault_report.specs.Answer.{IsExplained}
 use Rattle.fault_report.specs.Promise.{WritesExplanations}

@@ -10,19 +10,19 @@ use Rattle.flat_circuit.specs.Circuit.{Circuit}
 use Rattle.drawing_tree.specs.Tree.{Drawing}
 use Rattle.drawing_grammar.specs.CanonicalDraws.{TextDraws}
 use Rattle.drawing_grammar.proofs.TextLaws.{one_drawing}
-use Rattle.drawn_circuit.specs.Drawn.{DrawsCircuit, IsTextRefused}
+use Rattle.timing_analysis.specs.Drawn.{DrawsCircuit, IsTextRefused}
 use Rattle.fixpoint_engine.specs.Start.{default_limit}
 use Rattle.listing.specs.Answer.{refusal_line}
 use Rattle.program_call.specs.declared.reply.Reply.{Reply}
 use Rattle.program_call.specs.Program.{IsLawful}
 use Rattle.program_call.proofs.Answering.{end_of_ended}
 use Rattle.timing_analysis.specs.Case.{fault_count}
-use Rattle.timing_reply.specs.declared.words.Request.{Request}
-use Rattle.timing_reply.specs.Answer as timing
-use Rattle.timing_reply.specs.Answer.{Concluded, Telling}
-use Rattle.timing_reply.proofs.Judgement.{one_evaluated}
-use Rattle.timing_reply.proofs.Replies.{reply_has}
-use Rattle.timing_reply.proofs.Speaking.{evaluated_speaks, verdict_speaks}
+use Rattle.program_call.specs.declared.words.Request.{Request}
+use Rattle.program_call.specs.Answer as timing
+use Rattle.program_call.specs.Answer.{Concluded, Telling}
+use Rattle.program_call.proofs.Judgement.{one_evaluated}
+use Rattle.program_call.proofs.Replies.{reply_has}
+use Rattle.program_call.proofs.Speaking.{evaluated_speaks, verdict_speaks}
 use Rattle.fault_report.specs.Answer as answer
 use Rattle.fault_report.specs.Answer.{IsExplained, explained, explainer, judged}
 

@@ -14,12 +14,12 @@ use Rattle.flat_circuit.specs.declared.fault.Fault.{Fault}
 use Rattle.flat_circuit.specs.Circuit.{Circuit, IsCircuit}
 use Rattle.drawing_tree.specs.Tree.{Drawing}
 use Rattle.listing.specs.Head.{period_line}
-use Rattle.net_waves.specs.Waves.{waves_of}
+use Rattle.fixpoint_engine.specs.Waves.{waves_of}
 use Rattle.program_call.specs.declared.reply.Reply.{Reply}
 use Rattle.timing_analysis.specs.Case.{Case, Listed, fault_count, faults, faults_of}
 use Rattle.timing_analysis.specs.Rested.{IsCaseAtRest, settled_case}
-use Rattle.timing_reply.specs.Teller.{HasTold, IsTold}
-use Rattle.timing_reply.proofs.Telling.{told_done}
+use Rattle.program_call.specs.Teller.{HasTold, IsTold}
+use Rattle.program_call.proofs.Telling.{told_done}
 use Rattle.text_groups.specs.Group.{Group, gathered}
 use Rattle.fault_account.specs.Laws.{AreWithin, FaultsAreWithin}
 use Rattle.fault_report.specs.declared.explanations.Explanations.{Explanations}

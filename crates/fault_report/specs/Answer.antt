@@ -1,19 +1,19 @@
 -- What is answered on a text whose faults are explained.
-use Rattle.std.specs.Prelude.{ℕ, List}
+use Rattle.std.specs.Prelude.{ℕ, List, codes}
 use Rattle.scald_base.specs.declared.refusal.Refusal.{Refusal}
 use Rattle.scald_base.specs.declared.outcome.Outcome.{Outcome}
 use Rattle.scald_base.specs.declared.outcome.Outcome.TheVariants.{Refused}
 use Rattle.flat_circuit.specs.declared.case.CaseValue.{CaseValue}
 use Rattle.flat_circuit.specs.Circuit.{Circuit}
 use Rattle.drawing_tree.specs.Tree.{Drawing}
-use Rattle.drawn_circuit.specs.Drawn.{DrawsCircuit, IsTextRefused}
+use Rattle.timing_analysis.specs.Drawn.{DrawsCircuit, IsTextRefused}
 use Rattle.fixpoint_engine.specs.Start.{default_limit}
 use Rattle.listing.specs.Answer.{refusal_line}
 use Rattle.program_call.specs.Program.{Meaning}
 use Rattle.timing_analysis.specs.Case.{fault_count}
-use Rattle.timing_reply.specs.declared.words.Request.{Request}
-use Rattle.timing_reply.specs.Answer.{Concluded, Telling, verdict_of}
-use Rattle.timing_reply.specs.Program.{wordless}
+use Rattle.program_call.specs.declared.words.Request.{Request}
+use Rattle.program_call.specs.Answer.{Concluded, Telling, verdict_of}
+use Rattle.program_call.specs.Wordless.{wordless}
 use Rattle.fault_report.specs.Report.{explanations}
 
 -- the faults by their causes, as the drawing has them, and how many there are
@@ -27,6 +27,9 @@ pub data IsExplained (text : List ℕ) : Outcome → List ℕ → Type 0 where
   judged : (c : Circuit) (values : List (List CaseValue)) (o : Outcome) (bytes : List ℕ) (draws : DrawsCircuit text c values) →
       Concluded (explained draws.drawing) c values (default_limit c) o bytes → IsExplained text o bytes
 
--- it has no words
+-- the word that asks for it
+abbrev pub own_word : List ℕ
+own_word = codes "explain"
+
 abbrev pub explainer : Meaning Request Outcome
-explainer = wordless IsExplained
+explainer = wordless own_word IsExplained

@@ -2,7 +2,7 @@
 use Rattle.std.specs.Prelude.{ℕ, ◌≤◌, nat_lt, Bool, IfSome, List, [], ◌∷◌, ◌++◌, length, map, codes, decimal, Option, if◌then◌else◌}
 use Rattle.flat_circuit.specs.declared.fault.Fault.{Fault}
 use Rattle.flat_circuit.specs.Circuit.{Circuit}
-use Rattle.net_waves.specs.Waves.{Waves}
+use Rattle.fixpoint_engine.specs.Waves.{Waves}
 use Rattle.drawing_tree.specs.Tree.{Drawing}
 use Rattle.timing_analysis.specs.Case.{faults_of}
 use Rattle.listing.specs.Text.{line}

@@ -6,10 +6,10 @@ use Rattle.flat_circuit.specs.Circuit.{Circuit}
 use Rattle.fixpoint_engine.specs.Rounds.{RestsAt}
 use Rattle.fixpoint_engine.specs.Start.{default_limit}
 use Rattle.case_analysis.specs.Base.{base_round}
-use Rattle.drawn_circuit.specs.Drawn.{DrawsCircuit}
+use Rattle.timing_analysis.specs.Drawn.{DrawsCircuit}
 use Rattle.timing_analysis.specs.Case.{Case, AreAtRest, fault_count, listed_cases}
-use Rattle.timing_reply.specs.Answer.{verdict_of}
-use Rattle.timing_reply.specs.Promise.{Writes}
+use Rattle.program_call.specs.Answer.{verdict_of}
+use Rattle.program_call.specs.Promise.{Writes}
 use Rattle.fault_report.specs.Report.{explanations}
 
 -- Where the text draws a circuit whose base and cases settle within its own limit of rounds, the outcome is that of its

@@ -3,7 +3,7 @@ use Rattle.std.specs.Prelude.{◌≡◌, ℕ, ◌*◌, ◌≤◌, List, ◌++◌
 use Rattle.std.specs.List.{flat_map}
 use Rattle.flat_circuit.specs.declared.fault.Fault.{Fault}
 use Rattle.flat_circuit.specs.Circuit.{Circuit}
-use Rattle.net_waves.specs.Waves.{Waves}
+use Rattle.fixpoint_engine.specs.Waves.{Waves}
 use Rattle.drawing_tree.specs.Tree.{Drawing}
 use Rattle.listing.specs.Head.{period_line}
 use Rattle.listing.specs.End.{last_line}

@@ -3,15 +3,15 @@
 ghost use Rattle.std.specs.Prelude.{◌≡◌, ◌≤◌, ◌∷◌, ℕ, [], IfErr, IfOk, OnOk, length};
 ghost use Rattle.std.specs.List.{All};
 ghost use Rattle.drawing_tree.specs.Tree.{drawing_of};
-ghost use Rattle.wave_table.specs.Table.{AreKnown, waves_at};
-ghost use Rattle.net_waves.specs.Waves.{FitWaves, waves_of};
+ghost use Rattle.fixpoint_engine.specs.Table.{AreKnown, waves_at};
+ghost use Rattle.fixpoint_engine.specs.Waves.{FitWaves, waves_of};
 ghost use Rattle.fixpoint_engine.specs.Rounds.{RestsAt};
 ghost use Rattle.case_analysis.specs.Base.{base_round};
 ghost use Rattle.timing_analysis.specs.Case.{Listed, faults_of, listed_cases, numbered};
 ghost use Rattle.timing_analysis.specs.Ended.{EndsCases, EndsEarly};
 ghost use Rattle.timing_analysis.specs.Rested.{IsBaseIn, IsCaseIn};
 ghost use Rattle.timing_analysis.specs.Subject.{IsSubject};
-ghost use Rattle.timing_reply.specs.Teller.{HasTold, IsTold};
+ghost use Rattle.program_call.specs.Teller.{HasTold, IsTold};
 ghost use Rattle.fault_account.specs.Laws.{AreWithin};
 ghost use Rattle.fault_report.specs.Answer.{explained};
 ghost use Rattle.fault_report.specs.Report.{HasExplained};
@@ -19,16 +19,14 @@ ghost use Rattle.fault_report.specs.Report.{HasExplained};
 use crate::explanations::Explanations;
 use drawing_tree::Drawing;
 use fault_account::laws::faults_are_within;
-use fixpoint_engine::{EngineEnd, Store};
+use fixpoint_engine::{EngineEnd, Store, Waves};
 use flat_circuit::Circuit;
-use net_waves::Waves;
-use program_call::Reply;
+use program_call::{Reply, Told};
 use run_wave::RunWave;
 use scald_base::{NoMemory, Outcome};
 use std::alloc::Global;
 use step_values::Value;
 use timing_analysis::{CaseAtRest, Rested, Subject};
-use timing_reply::Told;
 
 /// What is told of a circuit and its cases, or the end of the base or of the first case that never settles
 /// within so many rounds.

@@ -4,7 +4,7 @@ ghost use Rattle.std.specs.Prelude.{◌≡◌, ◌++◌, ◌∷◌, ◌+◌, ◌
 ghost use Rattle.std.specs.List.{All};
 ghost use Rattle.flat_circuit.specs.Circuit.{Circuit as Flat};
 ghost use Rattle.drawing_tree.specs.Tree.{Drawing as Drawn, drawing_of};
-ghost use Rattle.net_waves.specs.Waves.{FitWaves, waves_of};
+ghost use Rattle.fixpoint_engine.specs.Waves.{FitWaves, waves_of};
 ghost use Rattle.fixpoint_engine.specs.Settled.{marked_in};
 ghost use Rattle.timing_analysis.specs.Case.{Case, Listed, faults_of};
 ghost use Rattle.timing_analysis.specs.Rested.{settled_case};
@@ -25,18 +25,16 @@ use crate::table::{add_table, row_text};
 use drawing_tree::Drawing;
 use fault_words::{Naming, Told};
 // a set of numbers: of nets, and of instances
-use fixpoint_engine::{NetSet, NetSet as InstanceSet};
+use fixpoint_engine::{NetSet, NetSet as InstanceSet, Waves};
 use flat_circuit::{Circuit, Fault};
 use listing::{Piece, add_line, end_report, write_period};
-use net_waves::Waves;
-use program_call::Reply;
+use program_call::{Reply, verdict};
 use run_wave::RunWave;
 use scald_base::{Bytes, NoMemory, Outcome};
 use std::alloc::Global;
 use step_values::Value;
 use text_groups::Groups;
 use timing_analysis::CaseAtRest;
-use timing_reply::verdict;
 use wave_core::CyclicWave;
 
 /// The lines of the cases so far, their rows with the numbers of the cases of each, and how many faults

@@ -3,7 +3,7 @@
 ghost use Rattle.std.specs.Prelude.{◌≡◌, ◌++◌, IfOk, OnOk, false, length, replicate};
 ghost use Rattle.std.specs.List.{All};
 ghost use Rattle.drawing_tree.specs.Tree.{drawing_of};
-ghost use Rattle.net_waves.specs.Waves.{FitWaves, waves_of};
+ghost use Rattle.fixpoint_engine.specs.Waves.{FitWaves, waves_of};
 ghost use Rattle.fixpoint_engine.specs.Settled.{marked_in};
 ghost use Rattle.timing_analysis.specs.Case.{faults_of};
 ghost use Rattle.fault_account.specs.Account.{IsAccount, account_of};
@@ -19,9 +19,8 @@ use fault_account::{Account, Asked, account_with, asked_of, told_fault};
 use fault_lines::add_account;
 use fault_words::{Naming, Told};
 // a set of numbers: of nets, and of instances
-use fixpoint_engine::{NetSet, NetSet as InstanceSet};
+use fixpoint_engine::{NetSet, NetSet as InstanceSet, Waves};
 use flat_circuit::{Circuit, Fault};
-use net_waves::Waves;
 use scald_base::{Bytes, NoMemory};
 use std::alloc::Global;
 use step_values::Value;

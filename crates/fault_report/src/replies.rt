@@ -1,18 +1,16 @@
 //! From a text to the reply that explains its faults.
 
 ghost use Rattle.std.specs.Prelude.{◌≡◌, ◌-◌, ◌^◌, ◌<◌, IfOk, length};
-ghost use Rattle.drawn_circuit.specs.Drawn.{DrawsCircuit};
+ghost use Rattle.timing_analysis.specs.Drawn.{DrawsCircuit};
 ghost use Rattle.timing_analysis.specs.Subject.{IsSubject};
 ghost use Rattle.fault_report.specs.Answer.{IsExplained};
 
 use crate::cases::told_of;
 use case_analysis::default_limit;
-use drawn_circuit::{read_circuit, read_text};
-use program_call::Reply;
+use program_call::{Reply, ended, refused};
 use scald_base::{NoMemory, Outcome, Stop};
 use std::alloc::Global;
-use timing_analysis::Subject;
-use timing_reply::{ended, refused};
+use timing_analysis::{Subject, read_circuit, read_text};
 
 /// The reply to a text of fewer than 4,294,967,295 bytes: its faults by their causes, after at most as many
 /// rounds of the base and of each case as the circuit's own limit has; or why the text is refused, or which net

@@ -7,10 +7,10 @@ use Rattle.step_values.specs.declared.value.Value.{Value}
 use Rattle.skew_algebra.specs.Wave.{Wave, skewed}
 use Rattle.flat_circuit.specs.declared.instance.Instance.{Instance}
 use Rattle.flat_circuit.specs.Circuit.{Circuit, driver}
-use Rattle.wave_table.specs.Table.{AreDistinct, AreKnown, Grows, IsNumber, wave_at, waves_at}
-use Rattle.wave_table.proofs.Growing.{below_still, same_wave_at}
-use Rattle.wave_table.proofs.ByNumber.{number_below, number_reads, one_number}
-use Rattle.net_waves.specs.Waves.{Waves, waves_of}
+use Rattle.fixpoint_engine.specs.Table.{AreDistinct, AreKnown, Grows, IsNumber, wave_at, waves_at}
+use Rattle.fixpoint_engine.proofs.Growing.{below_still, same_wave_at}
+use Rattle.fixpoint_engine.proofs.TableByNumber.{number_below, number_reads, one_number}
+use Rattle.fixpoint_engine.specs.Waves.{Waves, waves_of}
 use Rattle.fixpoint_engine.specs.Rounds.{evaluated, wave_from}
 use Rattle.fixpoint_engine.specs.Worklist.{Change, changes_of}
 use Rattle.fixpoint_engine.proofs.Changing.{change_added, nothing_added}

@@ -6,9 +6,9 @@ use Rattle.std.proofs.lemmas.Bool.{cases_lt, eqb-true, eqb-false, lt-ltb}
 use Rattle.std.proofs.lemmas.List.Elements.{All-head, All-tail}
 use Rattle.std.proofs.lemmas.List.FromFn.{fill_by_all, length-range_with_len, get_or-range_with_len, length-map-range_with_len, get_or-map-range_with_len}
 use Rattle.flat_circuit.specs.Circuit.{Circuit}
-use Rattle.class_table.specs.Alike.{class_of}
-use Rattle.net_waves.specs.Waves.{Waves}
-use Rattle.net_waves.proofs.Marks.{count_marks}
+use Rattle.flat_circuit.specs.Alike.{class_of}
+use Rattle.fixpoint_engine.specs.Waves.{Waves}
+use Rattle.fixpoint_engine.proofs.Marks.{count_marks}
 use Rattle.fixpoint_engine.specs.Rounds.{round}
 use Rattle.fixpoint_engine.specs.Settled.{marked_in, FitActive}
 use Rattle.fixpoint_engine.specs.Work.{is_due, work_to}

@@ -10,7 +10,7 @@ use Rattle.flat_circuit.specs.declared.split.Split.{Split}
 use Rattle.element_kinds.specs.Equation.{pins_before, IsAsked}
 use Rattle.flat_circuit.specs.Run.{Within, DelayFits, WiresFit}
 use Rattle.flat_circuit.specs.Split.{either_delay, IsSplitAsked}
-use Rattle.net_waves.proofs.Permitted.{wire_within}
+use Rattle.fixpoint_engine.proofs.Permitted.{wire_within}
 use Rattle.element_kinds.specs.Kinds.{has_output}
 use Rattle.fixpoint_engine.specs.Reach.{greatest_wire}
 

@@ -9,9 +9,9 @@ use Rattle.std.proofs.Math.ListN.{set}
 use Rattle.step_values.specs.declared.value.Value.{Value}
 use Rattle.skew_algebra.specs.Wave.{Wave}
 use Rattle.flat_circuit.specs.Circuit.{Circuit}
-use Rattle.wave_table.specs.Same.{same_wave}
-use Rattle.wave_table.proofs.ByNumber.{next_item}
-use Rattle.net_waves.specs.Waves.{Waves, waves_of}
+use Rattle.fixpoint_engine.specs.Same.{same_wave}
+use Rattle.fixpoint_engine.proofs.TableByNumber.{next_item}
+use Rattle.fixpoint_engine.specs.Waves.{Waves, waves_of}
 use Rattle.fixpoint_engine.specs.Rounds.{evaluated}
 use Rattle.fixpoint_engine.specs.Worklist.{Change, changes_of, changed, among}
 use Rattle.fixpoint_engine.proofs.Same.{same_wave_is, same_wave_self}

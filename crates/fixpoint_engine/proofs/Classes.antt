@@ -18,10 +18,10 @@ use Rattle.flat_circuit.specs.Instances.{PinExists, TargetExists}
 use Rattle.flat_circuit.specs.Circuit.{Circuit, IsCircuit, wire_in, wire_at, driver_in, driver_at, instance_in, driver}
 use Rattle.pin_waves.specs.Interface.{constant_wave}
 use Rattle.pin_waves.specs.Pin.{pin_wave as wave_behind}
-use Rattle.class_table.specs.Alike.{class_of, TargetsAlike, PinsAlike, InstancesAlike, DriversAlike, instance_of}
-use Rattle.class_table.specs.Stable.{IsStable}
-use Rattle.wave_table.specs.Same.{same_wave}
-use Rattle.net_waves.specs.Waves.{Waves, target_wave, target_wire, pin_wave, marked_pin}
+use Rattle.flat_circuit.specs.Alike.{class_of, TargetsAlike, PinsAlike, InstancesAlike, DriversAlike, instance_of}
+use Rattle.flat_circuit.specs.Stable.{IsStable}
+use Rattle.fixpoint_engine.specs.Same.{same_wave}
+use Rattle.fixpoint_engine.specs.Waves.{Waves, target_wave, target_wire, pin_wave, marked_pin}
 use Rattle.flat_circuit.proofs.Numbered.{fits_of}
 use Rattle.fixpoint_engine.specs.Value.{made_by, turned_wave, instance_wave}
 use Rattle.fixpoint_engine.specs.Rounds.{wave_from, evaluated, next, round}

@@ -9,9 +9,9 @@ use Rattle.std.proofs.lemmas.List.Folds.{Any-from_list_any, list_any-from_Any}
 use Rattle.step_values.specs.declared.value.Value.{Value}
 use Rattle.skew_algebra.specs.Wave.{Wave}
 use Rattle.flat_circuit.specs.Circuit.{Circuit, driver}
-use Rattle.wave_table.specs.Same.{same_wave}
-use Rattle.net_waves.specs.Waves.{Waves}
-use Rattle.net_waves.proofs.Marks.{count_marks}
+use Rattle.fixpoint_engine.specs.Same.{same_wave}
+use Rattle.fixpoint_engine.specs.Waves.{Waves}
+use Rattle.fixpoint_engine.proofs.Marks.{count_marks}
 use Rattle.fixpoint_engine.specs.Rounds.{evaluated, round}
 use Rattle.fixpoint_engine.specs.Work.{differs, hears_in, is_due}
 use Rattle.fixpoint_engine.specs.Settled.{marked_in}

@@ -8,8 +8,8 @@ use Rattle.step_values.specs.declared.value.Value.TheVariants.{S, C}
 use Rattle.skew_algebra.specs.Wave.{Wave, skewed}
 use Rattle.flat_circuit.specs.declared.net.Net.{Net}
 use Rattle.flat_circuit.specs.Circuit.{Circuit}
-use Rattle.class_table.specs.Alike.{class_of}
-use Rattle.wave_table.specs.Same.{same_wave}
+use Rattle.flat_circuit.specs.Alike.{class_of}
+use Rattle.fixpoint_engine.specs.Same.{same_wave}
 use Rattle.fixpoint_engine.specs.Settled.{marked_in}
 use Rattle.fixpoint_engine.specs.Work.{is_due}
 use Rattle.fixpoint_engine.specs.Classes.{HaveOneWave, AreTogether, GoTogether, is_first, due_classes, class_work_to}

@@ -13,7 +13,7 @@ use Rattle.flat_circuit.specs.declared.instance.Instance.{Instance}
 use Rattle.flat_circuit.specs.declared.net.Net.{Net}
 use Rattle.flat_circuit.specs.declared.split.Split.{Split}
 use Rattle.flat_circuit.specs.Split.{either_delay}
-use Rattle.net_waves.proofs.ExamplesInterface.{bounds, net, element, on, circuit, small}
+use Rattle.fixpoint_engine.proofs.ExamplesInterface.{bounds, net, element, on, circuit, small}
 use Rattle.fixpoint_engine.specs.Rounds.{RestsAt, IsUnsettled}
 use Rattle.fixpoint_engine.specs.Start.{base_start, is_driven}
 use Rattle.fixpoint_engine.specs.Reach.{reach, greatest_delay}

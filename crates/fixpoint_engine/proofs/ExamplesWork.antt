@@ -13,9 +13,9 @@ use Rattle.flat_circuit.specs.declared.instance.Pin.{Pin}
 use Rattle.flat_circuit.specs.declared.instance.Instance.{Instance}
 use Rattle.flat_circuit.specs.declared.net.Net.{Net}
 use Rattle.flat_circuit.specs.Circuit.{Circuit}
-use Rattle.wave_table.specs.Same.{same_wave}
-use Rattle.net_waves.specs.Waves.{Waves}
-use Rattle.net_waves.specs.SameWaves.{IsSameAt}
+use Rattle.fixpoint_engine.specs.Same.{same_wave}
+use Rattle.fixpoint_engine.specs.Waves.{Waves}
+use Rattle.fixpoint_engine.specs.SameWaves.{IsSameAt}
 use Rattle.fixpoint_engine.specs.declared.rounds.EngineEnd.TheVariants.{Unsettled, NoMemory}
 use Rattle.fixpoint_engine.specs.Work.{differs, hears_in, is_due, due_count, work_to}
 use Rattle.fixpoint_engine.specs.Worklist.{among, changed, output_net, drives_in}

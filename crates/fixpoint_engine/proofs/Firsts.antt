@@ -13,9 +13,9 @@ use Rattle.flat_circuit.specs.declared.instance.Pin.{Pin}
 use Rattle.flat_circuit.specs.declared.instance.Instance.{Instance}
 use Rattle.flat_circuit.specs.Instances.{PinExists, TargetExists}
 use Rattle.flat_circuit.specs.Circuit.{Circuit, IsCircuit, driver}
-use Rattle.class_table.specs.Alike.{class_of}
-use Rattle.wave_table.specs.Same.{same_wave}
-use Rattle.net_waves.specs.Waves.{Waves}
+use Rattle.flat_circuit.specs.Alike.{class_of}
+use Rattle.fixpoint_engine.specs.Same.{same_wave}
+use Rattle.fixpoint_engine.specs.Waves.{Waves}
 use Rattle.fixpoint_engine.specs.Rounds.{evaluated, round}
 use Rattle.fixpoint_engine.specs.Work.{is_due, is_on_any, hears_from, hears_in}
 use Rattle.fixpoint_engine.specs.Worklist.{Queue, IsQueue, Change, among, changes_of}

@@ -17,8 +17,8 @@ use Rattle.flat_circuit.specs.Circuit.{Circuit, driver}
 use Rattle.storage_eval.specs.Storage.{listening_from}
 use Rattle.storage_eval.proofs.Dependence.{storage_wave_listening}
 use Rattle.pin_waves.specs.Pin.{pin_wave as wave_behind}
-use Rattle.wave_table.specs.Same.{same_wave}
-use Rattle.net_waves.specs.Waves.{Waves, target_wave, target_wire, pin_wave, marked_pin}
+use Rattle.fixpoint_engine.specs.Same.{same_wave}
+use Rattle.fixpoint_engine.specs.Waves.{Waves, target_wave, target_wire, pin_wave, marked_pin}
 use Rattle.fixpoint_engine.specs.Value.{made_by, turned_wave, instance_wave}
 use Rattle.fixpoint_engine.specs.Rounds.{wave_from, evaluated, next}
 use Rattle.fixpoint_engine.specs.Work.{differs, is_on_any, hears_from, hears_in}

@@ -17,12 +17,12 @@ use Rattle.skew_algebra.specs.Permits.{Permits}
 use Rattle.flat_circuit.specs.declared.case.CaseValue.{CaseValue}
 use Rattle.flat_circuit.specs.Circuit.{Circuit, IsCircuit, driver}
 use Rattle.flat_circuit.specs.Run.{net_signal}
-use Rattle.class_table.specs.Alike.{class_of}
-use Rattle.class_table.specs.Stable.{IsStable}
-use Rattle.wave_table.specs.Same.{same_wave}
-use Rattle.net_waves.specs.Waves.{Waves, waves_of, FitWaves}
-use Rattle.net_waves.proofs.Fits.{AreLong}
-use Rattle.net_waves.proofs.WavesOf.{set_at}
+use Rattle.flat_circuit.specs.Alike.{class_of}
+use Rattle.flat_circuit.specs.Stable.{IsStable}
+use Rattle.fixpoint_engine.specs.Same.{same_wave}
+use Rattle.fixpoint_engine.specs.Waves.{Waves, waves_of, FitWaves}
+use Rattle.fixpoint_engine.proofs.Fits.{AreLong}
+use Rattle.fixpoint_engine.proofs.WavesOf.{set_at}
 use Rattle.fixpoint_engine.specs.declared.rounds.EngineEnd.{EngineEnd}
 use Rattle.fixpoint_engine.specs.Reach.{reach}
 use Rattle.fixpoint_engine.specs.Rounds.{evaluated, round, AreSame}

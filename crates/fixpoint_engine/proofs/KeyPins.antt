@@ -6,9 +6,9 @@ use Rattle.step_values.specs.declared.value.Value.{Value}
 use Rattle.skew_algebra.specs.Wave.{Wave}
 use Rattle.flat_circuit.specs.declared.split.Split.{Split}
 use Rattle.pin_waves.specs.Interface.{constant_wave}
-use Rattle.wave_table.specs.Table.{AreKnown, IsNumber}
-use Rattle.wave_table.proofs.Growing.{grows_none}
-use Rattle.wave_table.proofs.ByNumber.{known_more}
+use Rattle.fixpoint_engine.specs.Table.{AreKnown, IsNumber}
+use Rattle.fixpoint_engine.proofs.Growing.{grows_none}
+use Rattle.fixpoint_engine.proofs.TableByNumber.{known_more}
 use Rattle.fixpoint_engine.specs.declared.key.Constants.{Constants}
 use Rattle.fixpoint_engine.specs.Key.{AreConstants}
 

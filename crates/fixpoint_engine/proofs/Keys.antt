@@ -9,10 +9,10 @@ use Rattle.skew_algebra.specs.Wave.{Wave, normal}
 use Rattle.flat_circuit.specs.declared.instance.Instance.{Instance}
 use Rattle.flat_circuit.specs.declared.instance.Pin.{Pin}
 use Rattle.flat_circuit.specs.Circuit.{Circuit}
-use Rattle.wave_table.specs.Table.{wave_at, waves_at}
-use Rattle.wave_table.specs.Evaluation.{value_of}
-use Rattle.net_waves.specs.Waves.{Waves, FitWaves, marked_pin}
-use Rattle.net_waves.proofs.Marks.{position_marks}
+use Rattle.fixpoint_engine.specs.Table.{wave_at, waves_at}
+use Rattle.fixpoint_engine.specs.Evaluation.{value_of}
+use Rattle.fixpoint_engine.specs.Waves.{Waves, FitWaves, marked_pin}
+use Rattle.fixpoint_engine.proofs.Marks.{position_marks}
 use Rattle.fixpoint_engine.specs.declared.key.KeyPin.{KeyPin}
 use Rattle.fixpoint_engine.specs.declared.key.Key.{Key}
 use Rattle.fixpoint_engine.specs.Key.{IsKeyOf, key_makes, key_reads, shown_by}

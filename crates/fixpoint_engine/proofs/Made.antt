@@ -33,9 +33,9 @@ use Rattle.gate_eval.proofs.SplitSound.{split_sound}
 use Rattle.gate_eval.specs.Change.{change_wave}
 use Rattle.storage_eval.proofs.Sounds.{storage_sound}
 use Rattle.storage_eval.proofs.Dependence.{length_storage_wave}
-use Rattle.net_waves.specs.Waves.{Waves, pin_waves, marked_pin}
-use Rattle.net_waves.proofs.Fits.{AreLong, normal_fits}
-use Rattle.net_waves.proofs.OnePeriod.{length_pins, period_of_pins, pins_fit_period}
+use Rattle.fixpoint_engine.specs.Waves.{Waves, pin_waves, marked_pin}
+use Rattle.fixpoint_engine.proofs.Fits.{AreLong, normal_fits}
+use Rattle.fixpoint_engine.proofs.OnePeriod.{length_pins, period_of_pins, pins_fit_period}
 use Rattle.fixpoint_engine.specs.Value.{gate_late, made_by, turned_wave, instance_wave}
 
 -- ---- the period

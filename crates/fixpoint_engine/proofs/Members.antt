@@ -14,8 +14,8 @@ use Rattle.std.proofs.lemmas.List.Folds.{Any-from_list_any, list_any-append}
 use Rattle.step_values.specs.declared.value.Value.{Value}
 use Rattle.skew_algebra.specs.Wave.{Wave}
 use Rattle.vector_names.proofs.Ranges.{range_more}
-use Rattle.class_table.specs.Alike.{class_of}
-use Rattle.net_waves.specs.Waves.{Waves}
+use Rattle.flat_circuit.specs.Alike.{class_of}
+use Rattle.fixpoint_engine.specs.Waves.{Waves}
 use Rattle.fixpoint_engine.specs.Worklist.{Change, among, changed}
 use Rattle.fixpoint_engine.specs.Classes.{is_first}
 use Rattle.fixpoint_engine.specs.Members.{is_with, AreFirsts, AreLasts, last_below, members_below, for_class, for_classes, leads_in}

@@ -12,7 +12,7 @@ use Rattle.skew_algebra.proofs.Cells.{equal_at, same_list}
 use Rattle.skew_algebra.proofs.Normal.{normal_steady, normal_moving}
 use Rattle.flat_circuit.specs.declared.instance.Instance.{Instance}
 use Rattle.flat_circuit.specs.Circuit.{Circuit}
-use Rattle.net_waves.specs.Waves.{Waves, pin_waves, marked_pin}
+use Rattle.fixpoint_engine.specs.Waves.{Waves, pin_waves, marked_pin}
 use Rattle.fixpoint_engine.specs.Value.{made_by, turned_wave, instance_wave}
 
 join_same : (f : ℕ → Value) (v : Value) (n : ℕ) → ((i : ℕ) → i ≤ n → f i ≡ v) → join_to values f n ≡ v

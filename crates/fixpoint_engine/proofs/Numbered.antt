@@ -5,8 +5,8 @@ use Rattle.scald_base.specs.Time.{Header}
 use Rattle.step_values.specs.declared.value.Value.{Value}
 use Rattle.skew_algebra.specs.Wave.{Wave}
 use Rattle.pin_waves.specs.Interface.{constant_wave}
-use Rattle.wave_table.specs.Table.{AreKnown, Grows, wave_at}
-use Rattle.wave_table.proofs.Growing.{same_number, same_wave_at}
+use Rattle.fixpoint_engine.specs.Table.{AreKnown, Grows, wave_at}
+use Rattle.fixpoint_engine.proofs.Growing.{same_number, same_wave_at}
 use Rattle.fixpoint_engine.specs.declared.key.Constants.{Constants}
 use Rattle.fixpoint_engine.specs.Key.{AreConstants}
 use Rattle.fixpoint_engine.specs.Worklist.{Change}

@@ -1,7 +1,7 @@
 -- Rounds one after the other: what is not due stays, and how rounds come to rest or do not.
 use Rattle.std.proofs.Common.{◌≡◌, ℕ, zero, suc, ◌<◌, ◌≤◌, Bool, true, false, ◌&&◌, cond, refl, sym, ◌∙◌, arith, below_more}
 use Rattle.flat_circuit.specs.Circuit.{Circuit, driver}
-use Rattle.net_waves.specs.Waves.{Waves}
+use Rattle.fixpoint_engine.specs.Waves.{Waves}
 use Rattle.fixpoint_engine.specs.Rounds.{evaluated, next, round, AreSame, DiffersFirst, IsUnsettled}
 use Rattle.fixpoint_engine.specs.Work.{differs, hears_in, is_due}
 use Rattle.fixpoint_engine.specs.Settled.{AreAtRest}

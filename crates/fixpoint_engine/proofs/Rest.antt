@@ -24,8 +24,8 @@ use Rattle.element_kinds.specs.Kinds.{has_output, listens}
 use Rattle.flat_circuit.specs.Instances.{InstanceFits, outputs, out_at}
 use Rattle.flat_circuit.specs.Loop.{Reaches, By_one, And_then}
 use Rattle.flat_circuit.specs.Circuit.{Circuit, IsCircuit, driver_at, driver, instance_in}
-use Rattle.wave_table.specs.Same.{same_wave}
-use Rattle.net_waves.specs.Waves.{Waves}
+use Rattle.fixpoint_engine.specs.Same.{same_wave}
+use Rattle.fixpoint_engine.specs.Waves.{Waves}
 use Rattle.fixpoint_engine.specs.declared.rounds.EngineEnd.{EngineEnd}
 use Rattle.fixpoint_engine.specs.declared.rounds.EngineEnd.TheVariants.{Unsettled, NoMemory}
 use Rattle.fixpoint_engine.specs.Rounds.{wave_from, round, AreSame, RestsAt}

@@ -13,7 +13,7 @@ use Rattle.element_kinds.specs.declared.kind.Kind.{Kind}
 use Rattle.element_kinds.specs.Kinds.{listens}
 use Rattle.flat_circuit.specs.declared.instance.Pin.{Pin}
 use Rattle.flat_circuit.specs.Circuit.{Circuit, driver}
-use Rattle.class_table.specs.Alike.{class_of}
+use Rattle.flat_circuit.specs.Alike.{class_of}
 use Rattle.fixpoint_engine.specs.Classes.{is_first}
 use Rattle.fixpoint_engine.specs.Members.{leads_in}
 use Rattle.fixpoint_engine.specs.Work.{is_on_any, hears_from, hears_in}

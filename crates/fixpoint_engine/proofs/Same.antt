@@ -2,7 +2,7 @@
 use Rattle.std.proofs.Common.{◌≡◌, true, refl}
 use Rattle.step_values.specs.declared.value.Value.{Value}
 use Rattle.skew_algebra.specs.Wave.{Wave}
-use Rattle.wave_table.specs.Same.{same_wave, same_wave_decides}
+use Rattle.fixpoint_engine.specs.Same.{same_wave, same_wave_decides}
 
 pub same_wave_is : (w v : Wave Value) → same_wave w v ≡ true → w ≡ v
 same_wave_is w v = (same_wave_decides w v).0

@@ -22,10 +22,10 @@ use Rattle.flat_circuit.specs.Circuit.{Circuit, IsCircuit, driver_at, instance_i
 use Rattle.flat_circuit.specs.Run.{Choice, Run, IsRun, DelaysFit, Obeys, IsRunAt, net_signal, pin_signals, out_signal, WiresFit}
 use Rattle.flat_circuit.specs.Split.{either_delay, two_delays}
 use Rattle.gate_eval.specs.Permitted.{AllPermit}
-use Rattle.net_waves.specs.Waves.{Waves, pin_wave, pin_waves, marked_pin}
-use Rattle.net_waves.specs.Interface.{PermitFront, PermitRun}
-use Rattle.net_waves.proofs.Fits.{AreLong}
-use Rattle.net_waves.proofs.Permitted.{pin_permits_front}
+use Rattle.fixpoint_engine.specs.Waves.{Waves, pin_wave, pin_waves, marked_pin}
+use Rattle.fixpoint_engine.specs.Interface.{PermitFront, PermitRun}
+use Rattle.fixpoint_engine.proofs.Fits.{AreLong}
+use Rattle.fixpoint_engine.proofs.Permitted.{pin_permits_front}
 use Rattle.flat_circuit.proofs.Numbered.{fits_of}
 use Rattle.fixpoint_engine.specs.Value.{made_by, turned_wave, instance_wave}
 use Rattle.fixpoint_engine.specs.Rounds.{wave_from, evaluated, next, round}

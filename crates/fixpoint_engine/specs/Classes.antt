@@ -2,8 +2,8 @@
 use Rattle.std.specs.Prelude.{◌≡◌, ℕ, zero, suc, ◌+◌, ◌<◌, ◌≤◌, Bool, false, not, ◌&&◌, ◌==◌, List, length, count_by}
 use Rattle.std.specs.List.{list_any, range_with_len}
 use Rattle.flat_circuit.specs.Circuit.{Circuit}
-use Rattle.class_table.specs.Alike.{class_of}
-use Rattle.net_waves.specs.Waves.{Waves}
+use Rattle.flat_circuit.specs.Alike.{class_of}
+use Rattle.fixpoint_engine.specs.Waves.{Waves}
 use Rattle.fixpoint_engine.specs.Rounds.{round}
 use Rattle.fixpoint_engine.specs.Work.{is_due}
 

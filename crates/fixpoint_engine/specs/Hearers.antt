@@ -1,7 +1,7 @@
 -- Which nets hear a class: those that stand for their classes and whose drivers listen to a net of it.
 use Rattle.std.specs.Prelude.{◌≡◌, ℕ, ◌==◌, true, false, Bool, ◌&&◌, List, [], length, slice_index_or, Option, Some, None}
 use Rattle.flat_circuit.specs.Circuit.{Circuit, driver}
-use Rattle.class_table.specs.Alike.{class_of}
+use Rattle.flat_circuit.specs.Alike.{class_of}
 use Rattle.fixpoint_engine.specs.Members.{leads_in}
 use Rattle.fixpoint_engine.specs.Work.{hears_in}
 use Rattle.fixpoint_engine.specs.Worklist.{among}

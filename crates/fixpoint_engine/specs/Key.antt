@@ -12,8 +12,8 @@ use Rattle.flat_circuit.specs.declared.split.Split.{Split}
 use Rattle.flat_circuit.specs.Circuit.{Circuit}
 use Rattle.pin_waves.specs.Interface.{constant_wave}
 use Rattle.pin_waves.specs.Pin.{pin_wave as wave_behind}
-use Rattle.wave_table.specs.Table.{AreKnown, IsNumber, wave_at}
-use Rattle.net_waves.specs.Waves.{Waves, pin_waves}
+use Rattle.fixpoint_engine.specs.Table.{AreKnown, IsNumber, wave_at}
+use Rattle.fixpoint_engine.specs.Waves.{Waves, pin_waves}
 use Rattle.fixpoint_engine.specs.declared.key.Constants.{Constants}
 use Rattle.fixpoint_engine.specs.declared.key.KeyPin.{KeyPin}
 use Rattle.fixpoint_engine.specs.declared.key.Key.{Key}

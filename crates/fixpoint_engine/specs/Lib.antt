@@ -1,3 +1,11 @@
+pub mod Waves
+pub mod Pins
+pub mod SameWaves
+pub mod Interface
+pub mod Feed
+pub mod Same
+pub mod Table
+pub mod Evaluation
 pub mod Value
 pub mod Key
 pub mod SameKey

@@ -6,7 +6,7 @@ use Rattle.flat_circuit.specs.declared.instance.Instance.{Instance}
 use Rattle.flat_circuit.specs.declared.net.Net.{Net}
 use Rattle.element_kinds.specs.Kinds.{has_output}
 use Rattle.flat_circuit.specs.Circuit.{Circuit}
-use Rattle.net_waves.specs.Waves.{target_wire}
+use Rattle.fixpoint_engine.specs.Waves.{target_wire}
 
 -- the most that a wire to one of the pins takes
 abbrev pub greatest_wire : List Net → List Pin → ℕ

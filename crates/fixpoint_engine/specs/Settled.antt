@@ -2,8 +2,8 @@
 use Rattle.std.specs.Prelude.{◌≡◌, ℕ, ◌+◌, ◌*◌, ◌≤◌, Bool, true, false, List, slice_index_or, is_some}
 use Rattle.flat_circuit.specs.Circuit.{Circuit, driver_at}
 use Rattle.flat_circuit.specs.Run.{Run, IsRun}
-use Rattle.net_waves.specs.Waves.{Waves}
-use Rattle.net_waves.specs.Interface.{PermitRun}
+use Rattle.fixpoint_engine.specs.Waves.{Waves}
+use Rattle.fixpoint_engine.specs.Interface.{PermitRun}
 use Rattle.fixpoint_engine.specs.Rounds.{round, RestsAt, AreSame}
 use Rattle.fixpoint_engine.specs.Reach.{reach}
 

@@ -9,7 +9,7 @@ use Rattle.flat_circuit.specs.declared.net.Net.{Net}
 use Rattle.flat_circuit.specs.Instances.{outputs}
 use Rattle.flat_circuit.specs.Circuit.{Circuit, driver_at}
 use Rattle.pin_waves.specs.Interface.{interface_wave}
-use Rattle.net_waves.specs.Waves.{Waves}
+use Rattle.fixpoint_engine.specs.Waves.{Waves}
 
 -- nothing is known in any slot
 abbrev pub unknown_wave : Header → Wave Value

@@ -15,7 +15,7 @@ use Rattle.flat_circuit.specs.Circuit.{Circuit}
 use Rattle.gate_eval.specs.Instance.{gate_wave}
 use Rattle.gate_eval.specs.Split.{split_wave}
 use Rattle.storage_eval.specs.Instance.{storage_wave}
-use Rattle.net_waves.specs.Waves.{Waves, pin_waves, marked_pin}
+use Rattle.fixpoint_engine.specs.Waves.{Waves, pin_waves, marked_pin}
 
 -- what a gate makes, late by its one delay or by its two
 abbrev pub gate_late : Kind → List (Wave Value) → Option ℕ → Bounds → Option Split → Wave Value

@@ -8,8 +8,8 @@ use Rattle.flat_circuit.specs.declared.instance.Pin.{Pin}
 use Rattle.flat_circuit.specs.declared.instance.Instance.{Instance}
 use Rattle.element_kinds.specs.Kinds.{listens}
 use Rattle.flat_circuit.specs.Circuit.{Circuit, driver}
-use Rattle.wave_table.specs.Same.{same_wave}
-use Rattle.net_waves.specs.Waves.{Waves}
+use Rattle.fixpoint_engine.specs.Same.{same_wave}
+use Rattle.fixpoint_engine.specs.Waves.{Waves}
 
 -- the net's waves in two rounds differ
 abbrev pub differs : Waves → Waves → ℕ → Bool

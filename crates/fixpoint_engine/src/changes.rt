@@ -4,12 +4,13 @@ ghost use Rattle.std.specs.Prelude.{◌≡◌, ◌<◌, ◌++◌, ◌∷◌, [],
 ghost use Rattle.std.specs.List.{All};
 ghost use Rattle.step_values.specs.declared.value.Value.{Value as OfValues};
 ghost use Rattle.skew_algebra.specs.Wave.{Wave};
-ghost use Rattle.wave_table.specs.Table.{AreKnown, Grows, wave_at, waves_at};
-ghost use Rattle.net_waves.specs.Waves.{FitWaves, waves_of};
+ghost use Rattle.fixpoint_engine.specs.Table.{AreKnown, Grows, wave_at, waves_at};
+ghost use Rattle.fixpoint_engine.specs.Waves.{FitWaves, waves_of};
 ghost use Rattle.fixpoint_engine.specs.Key.{AreConstants};
 ghost use Rattle.fixpoint_engine.specs.Members.{for_class, for_classes, leads_in};
 ghost use Rattle.fixpoint_engine.specs.Worklist.{changed, changes_of};
 
+use crate::Numbers;
 use crate::class_nets::ClassNets;
 use crate::key::{Constants, Store};
 use crate::value::evaluated;
@@ -18,7 +19,6 @@ use scald_base::NoMemory;
 use std::alloc::Global;
 use step_values::Value;
 use wave_core::CyclicWave;
-use wave_table::Numbers;
 
 /// A net whose wave changes, and the number of the wave that it is to have.
 #[derive(Clone, Copy, Drop)]

@@ -5,15 +5,15 @@ ghost use Rattle.std.specs.List.{All};
 ghost use Rattle.std.specs.Option.{option_copied};
 ghost use Rattle.step_values.specs.declared.value.Value.{Value as OfValues};
 ghost use Rattle.skew_algebra.specs.Wave.{Wave};
-ghost use Rattle.wave_table.specs.Table.{AreKnown, wave_at, waves_at};
+ghost use Rattle.fixpoint_engine.specs.Table.{AreKnown, wave_at, waves_at};
 ghost use Rattle.fixpoint_engine.specs.Members.{for_all, for_class, for_classes, leads_in};
 ghost use Rattle.fixpoint_engine.specs.Worklist.{changed};
 
+use crate::Numbers;
 use crate::changes::{Change, apply, apply_classes};
 use crate::class_nets::ClassNets;
 use scald_base::NoMemory;
 use std::alloc::Global;
-use wave_table::Numbers;
 
 /// The change of a net, for each net of its class, however its number is read.
 fn add_class(made: &mut Vec<Change>, classes: &ClassNets, change: Change) -> Result<(), NoMemory>

@@ -2,12 +2,12 @@
 
 ghost use Rattle.std.specs.Prelude.{◌≡◌, ◌<◌, IfOk, Some, length, true};
 ghost use Rattle.std.specs.Option.{option_copied};
-ghost use Rattle.class_table.specs.Alike.{class_of};
+ghost use Rattle.flat_circuit.specs.Alike.{class_of};
 ghost use Rattle.fixpoint_engine.specs.Members.{is_evaluated, last_below, leads_in};
 
 use crate::last_nets::LastNets;
 use crate::net_set::NetSet;
-use class_table::ClassMap;
+use flat_circuit::ClassMap;
 use scald_base::NoMemory;
 use std::alloc::Global;
 use std::marker::Model;

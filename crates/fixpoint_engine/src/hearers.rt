@@ -4,7 +4,7 @@ ghost use Rattle.std.specs.Prelude.{◌≡◌, ◌<◌, ◌==◌, ◌&&◌, ◌|
 ghost use Rattle.std.specs.List.{All, range_with_len};
 ghost use Rattle.element_kinds.specs.Kinds.{listens};
 ghost use Rattle.flat_circuit.specs.Instances.{PinExists, TargetExists};
-ghost use Rattle.class_table.specs.Alike.{class_of};
+ghost use Rattle.flat_circuit.specs.Alike.{class_of};
 ghost use Rattle.fixpoint_engine.specs.Members.{leads_in};
 ghost use Rattle.fixpoint_engine.specs.Work.{hears_from, is_on_any};
 ghost use Rattle.fixpoint_engine.specs.Worklist.{among};

@@ -5,20 +5,19 @@ ghost use Rattle.std.specs.List.{All};
 ghost use Rattle.step_values.specs.declared.value.Value.{Value as OfValues};
 ghost use Rattle.skew_algebra.specs.Wave.{Wave};
 ghost use Rattle.flat_circuit.specs.Instances.{PinExists, TargetExists};
-ghost use Rattle.wave_table.specs.Table.{AreKnown, Grows, wave_at, waves_at};
-ghost use Rattle.net_waves.specs.Waves.{pin_wave as wave_shown, target_wave, waves_of};
+ghost use Rattle.fixpoint_engine.specs.Table.{AreKnown, Grows, wave_at, waves_at};
+ghost use Rattle.fixpoint_engine.specs.Waves.{pin_wave as wave_shown, target_wave, waves_of};
 ghost use Rattle.fixpoint_engine.specs.Key.{AreConstants, IsKeyOf, pin_word, shown_by};
 
+use crate::{Evaluated, Evaluations, wire_behind};
 use element_kinds::Kind;
 use flat_circuit::{Circuit, Instance, Pin, Target};
-use net_waves::wire_behind;
 use pin_waves::constant_wave;
 use scald_base::{Delay, Header, List, NoMemory};
 use std::alloc::Global;
 use std::hash::{Hash, Hasher};
 use step_values::Value;
 use wave_core::CyclicWave;
-use wave_table::{Evaluated, Evaluations};
 
 /// A pin of an element: the number of the wave of what it is on, the bounds of the wire that leads from there, in
 /// ticks, whether it shows the complement, and whether it is marked `!H`.

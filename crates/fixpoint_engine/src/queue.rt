@@ -6,7 +6,7 @@ ghost use Rattle.std.specs.Option.{option_copied};
 ghost use Rattle.flat_circuit.specs.Instances.{out_at};
 ghost use Rattle.flat_circuit.specs.Circuit.{driver};
 ghost use Rattle.fixpoint_engine.specs.Settled.{FitActive, marked_in};
-ghost use Rattle.class_table.specs.Alike.{class_of};
+ghost use Rattle.flat_circuit.specs.Alike.{class_of};
 ghost use Rattle.fixpoint_engine.specs.Hearers.{AreHearers};
 ghost use Rattle.fixpoint_engine.specs.Members.{is_evaluated, is_with, is_with_any, leads_in};
 ghost use Rattle.fixpoint_engine.specs.Work.{hears_in};

@@ -3,10 +3,10 @@
 ghost use Rattle.std.specs.Prelude.{◌≡◌, ◌+◌, ◌<◌, ◌≤◌, ℕ, IfErr, IfOk, IfSome, MatchOption, false, length, map, take};
 ghost use Rattle.std.specs.List.{All};
 ghost use Rattle.std.specs.Option.{option_copied};
-ghost use Rattle.class_table.specs.Stable.{IsStable};
+ghost use Rattle.flat_circuit.specs.Stable.{IsStable};
 ghost use Rattle.flat_circuit.specs.Name.{net_at};
-ghost use Rattle.wave_table.specs.Table.{AreKnown, Grows, waves_at};
-ghost use Rattle.net_waves.specs.Waves.{FitWaves, waves_of};
+ghost use Rattle.fixpoint_engine.specs.Table.{AreKnown, Grows, waves_at};
+ghost use Rattle.fixpoint_engine.specs.Waves.{FitWaves, waves_of};
 ghost use Rattle.fixpoint_engine.specs.Key.{AreConstants};
 ghost use Rattle.fixpoint_engine.specs.Rounds.{round};
 ghost use Rattle.fixpoint_engine.specs.Settled.{AreAtRest, FitActive, KeepRuns, marked_in};
@@ -24,13 +24,12 @@ use crate::hearers::Hearers;
 use crate::key::{Constants, Store, constant_numbers};
 use crate::net_set::NetSet;
 use crate::queue::Queue;
-use class_table::ClassMap;
-use flat_circuit::{CaseList, Circuit};
+use crate::{Numbers, copied};
+use flat_circuit::{CaseList, Circuit, ClassMap};
 use scald_base::NoMemory;
 use std::alloc::Global;
 use step_values::Value;
 use wave_core::CyclicWave;
-use wave_table::{Numbers, copied};
 
 /// Settled rounds.
 #[derive(Drop)]

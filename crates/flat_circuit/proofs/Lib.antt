@@ -1,3 +1,11 @@
+mod Lists
+mod Alike
+mod Pairs
+mod Values
+mod ExamplesClasses
+pub mod FewNodes
+pub mod Nodes
+pub mod OrderWalk
 pub mod Moved
 pub mod MovedSplits
 pub mod Parts

@@ -1,3 +1,8 @@
+pub mod Alike
+pub mod Stable
+pub mod Table
+pub mod Node
+pub mod Sorted
 pub mod Assertion
 pub mod Few
 pub mod Text

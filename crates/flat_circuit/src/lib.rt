@@ -5,33 +5,58 @@
 //! `Circuit` by its methods. `specs/Circuit` says what holds of each circuit, `specs/Builder` what a
 //! builder makes of each call, `specs/Run` what a run of a circuit is, by the equations of
 //! `element_kinds`, and `specs/Split` what a gate with two delays does in it.
+//!
+//! `classes` numbers the nets so that indistinguishable ones, as most bits of a bus are, have one
+//! number; whoever uses these numbers asks `stable` first, which is exact (`specs/Alike`,
+//! `specs/Stable`). `sorted` puts the nodes of a graph without loops into an order in which each
+//! follows those that lead to it (`specs/Node`, `specs/Sorted`).
 #![tactic(auto)]
 
+// its parts
 mod assertion;
 mod assertions;
-mod builder;
 mod case;
-mod circuit;
-mod drivers;
 mod fault;
 mod few;
-mod finish;
 mod instance;
-mod laws;
 mod net;
+mod split;
+mod text;
+
+// how one is made
+mod builder;
+mod drivers;
+mod finish;
 mod net_table;
 mod order;
 mod passages;
-mod readers;
 mod search;
-mod split;
-mod text;
+
+// how it is read
+mod circuit;
+mod laws;
+mod readers;
+
+// nets that are indistinguishable
+mod case_values;
+mod class_map;
+mod feeds;
+mod key;
+mod likeness;
+mod numbers;
+mod partition;
+mod stability;
+
+// orders of nodes
+mod node;
+mod order_search;
 
 pub use assertion::Assertion;
 pub use assertions::is_same_assertion;
 pub use builder::Builder;
 pub use case::{Case, CaseList, CaseValue};
 pub use circuit::Circuit;
+pub use class_map::ClassMap;
 pub use element_kinds::Kind;
 pub use fault::{Fault, Faults, PointKind, append_faults};
 pub use few::Few;
@@ -40,6 +65,10 @@ pub use laws::{
     fronts_are_runs, later_parts_are_runs, runs_go_by_instances, unnamed_bits_are_free,
 };
 pub use net::Net;
+pub use node::Node;
+pub use order_search::sorted;
+pub use partition::classes;
 pub use split::{Split, equal_delays_are_one, every_tick_counts, rise_mirrors_fall};
+pub use stability::stable;
 pub use text::Text;
 pub use vector_names::Target;

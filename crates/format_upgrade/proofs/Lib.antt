@@ -1,4 +1,5 @@
 mod Examples
+mod ExamplesSame
 pub mod Ordered
 pub mod Sights
 pub mod Exchange

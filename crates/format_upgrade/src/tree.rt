@@ -2,13 +2,12 @@
 //! the same is the tree: what all parts hold.
 
 ghost use Rattle.std.specs.Prelude.{◌≡◌, IfOk, Option, map, option_map};
-ghost use Rattle.scald_expr.specs.Expression.{Expression, expression_of};
+ghost use Rattle.drawing_tree.specs.Expression.{Expression, expression_of};
 ghost use Rattle.drawing_tree.specs.Tree as tree;
 
 use crate::copy::{Copied, bytes};
-use drawing_tree::{Assign, Conn, Formal, Item, RangeExpr, Term, WireStmt};
+use drawing_tree::{Assign, Conn, Expr, Formal, Item, RangeExpr, Term, WireStmt};
 use scald_base::{List, NoMemory};
-use scald_expr::Expr;
 use std::alloc::Global;
 
 /// What can be copied part by part.

@@ -12,11 +12,10 @@ ghost use Rattle.format_upgrade.specs.Order.{in_order_statement, in_order_statem
 use crate::copy::bytes;
 use crate::tree::{Tree, trees};
 use drawing_tree::{
-    Assigns, Conn, Conns, ForStmt, IfStmt, MacroDef, MacroDefs, Stmt, Stmts, UseStmt,
+    Assigns, Conn, Conns, Expr, ForStmt, IfStmt, MacroDef, MacroDefs, Stmt, Stmts, UseStmt,
 };
 use element_kinds::{Kind, kind_named};
 use scald_base::{Bytes, List, NoMemory};
-use scald_expr::Expr;
 use std::alloc::Global;
 
 /// The order in which a copy has the selects of MUX4 and MUX8.

@@ -20,7 +20,7 @@ use Rattle.flat_circuit.specs.declared.fault.PointKind.TheVariants.{Setup, High,
 use Rattle.flat_circuit.specs.declared.fault.Fault.{Fault}
 use Rattle.flat_circuit.specs.declared.fault.Fault.TheVariants.{Point, Width, Hazard, Assertion}
 use Rattle.flat_circuit.specs.Circuit.{Circuit}
-use Rattle.net_waves.specs.Waves.{waves_of}
+use Rattle.fixpoint_engine.specs.Waves.{waves_of}
 use Rattle.listing.specs.declared.case.Mode.TheVariants.{Full, Waves, Faults}
 use Rattle.listing.specs.Head.{head, period_line, counts_line, stable_line}
 use Rattle.listing.specs.Wave.{wave_line}

@@ -6,8 +6,8 @@ use Rattle.skew_algebra.specs.Wave.{Wave, skewed}
 use Rattle.flat_circuit.specs.Circuit.{Circuit, net_name, net_names}
 use Rattle.flat_circuit.specs.Name.{IsNameOrder, net_at}
 use Rattle.flat_circuit.proofs.Names.{order_in}
-use Rattle.net_waves.specs.Waves.{waves_of}
-use Rattle.net_waves.proofs.WavesOf.{wave_found}
+use Rattle.fixpoint_engine.specs.Waves.{waves_of}
+use Rattle.fixpoint_engine.proofs.WavesOf.{wave_found}
 use Rattle.listing.specs.Text.{line}
 use Rattle.listing.specs.Names.{net_text}
 use Rattle.listing.specs.Run.{runs_text}

@@ -1,15 +1,15 @@
 //! The lines of one case.
 
 ghost use Rattle.std.specs.Prelude.{◌≡◌, ◌++◌, OnErr, OnOk};
-ghost use Rattle.net_waves.specs.Waves.{FitWaves, waves_of};
+ghost use Rattle.fixpoint_engine.specs.Waves.{FitWaves, waves_of};
 ghost use Rattle.listing.specs.Case.{case_line, case_lines, shown_faults, shown_waves, shows_faults, shows_waves};
 ghost use Rattle.listing.specs.Text.{HasPart};
 
 use crate::fault::add_faults;
 use crate::piece::{Piece, add_line};
 use crate::wave::add_waves;
+use fixpoint_engine::Waves;
 use flat_circuit::{Circuit, Fault, Faults};
-use net_waves::Waves;
 use scald_base::{Bytes, NoMemory};
 use step_values::Value;
 use wave_core::CyclicWave;

@@ -1,15 +1,15 @@
 //! The lines of waves.
 
 ghost use Rattle.std.specs.Prelude.{◌≡◌, ◌++◌, ◌<◌, length, OnErr, OnOk};
-ghost use Rattle.net_waves.specs.Waves.{FitWaves, waves_of};
+ghost use Rattle.fixpoint_engine.specs.Waves.{FitWaves, waves_of};
 ghost use Rattle.listing.specs.Wave.{wave_line, wave_lines};
 ghost use Rattle.listing.specs.Text.{HasPart};
 
 use crate::names::{net_at, net_piece};
 use crate::piece::{Piece, add_line, add_pieces};
 use crate::run::add_runs;
+use fixpoint_engine::Waves;
 use flat_circuit::Circuit;
-use net_waves::Waves;
 use scald_base::{Bytes, NoMemory};
 use step_values::Value;
 use wave_core::CyclicWave;

@@ -8,7 +8,7 @@ use Rattle.std.proofs.lemmas.Bool.{cases_lt}
 use Rattle.std.proofs.lemmas.List.Elements.{All-head, All-tail, All-push, All-nil, All-cons, All-replicate}
 use Rattle.scald_base.specs.declared.refusal.RefusalKind.TheVariants.{Width}
 use Rattle.scald_base.specs.declared.refusal.Stop.{Stop}
-use Rattle.scald_expr.specs.declared.environment.Binding.{Binding}
+use Rattle.drawing_tree.specs.declared.environment.Binding.{Binding}
 use Rattle.vector_names.specs.declared.bits.BitRef.{BitRef}
 use Rattle.vector_names.specs.Bits.{spread}
 use Rattle.flat_circuit.specs.Name.{Name}

@@ -7,8 +7,8 @@ use Rattle.scald_base.specs.declared.refusal.RefusalKind.TheVariants.{TooDeep, W
 use Rattle.scald_base.specs.declared.assertion.AssertSpec.{AssertSpec}
 use Rattle.scald_base.specs.declared.assertion.AssertSpec.TheVariants.{None as Unasserted, Precision, Stable}
 use Rattle.assertion_syntax.specs.declared.name.SignalName.{SignalName}
-use Rattle.scald_expr.specs.Expression.{Expression, Number, Param, Binary}
-use Rattle.scald_expr.specs.declared.expr.Op.TheVariants.{Sub, Div}
+use Rattle.drawing_tree.specs.Expression.{Expression, Number, Param, Binary}
+use Rattle.drawing_tree.specs.declared.expr.Op.TheVariants.{Sub, Div}
 use Rattle.element_kinds.specs.declared.kind.Kind.TheVariants.{SetupHold}
 use Rattle.drawing_tree.specs.Tree.{Range, Named, Term, Connection, Use, Statement, Statements, nil, cons, Formal, Macro, Drawing}
 use Rattle.macro_expander.specs.Named.{On, NamedInstance}

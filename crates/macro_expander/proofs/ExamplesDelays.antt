@@ -4,8 +4,8 @@ use Rattle.std.specs.Prelude.{codes, replicate, ◌++◌}
 use Rattle.scald_base.specs.Time.{Header}
 use Rattle.scald_base.specs.declared.refusal.Place.{Place}
 use Rattle.scald_base.specs.declared.refusal.RefusalKind.TheVariants.{BadParameter, Bounds, PinCount, UnknownName, ZeroDivisor}
-use Rattle.scald_expr.specs.Expression.{Expression, Number, Param, Binary}
-use Rattle.scald_expr.specs.declared.expr.Op.TheVariants.{Sub, Div}
+use Rattle.drawing_tree.specs.Expression.{Expression, Number, Param, Binary}
+use Rattle.drawing_tree.specs.declared.expr.Op.TheVariants.{Sub, Div}
 use Rattle.element_kinds.specs.declared.kind.Kind.{Kind}
 use Rattle.element_kinds.specs.declared.kind.Kind.TheVariants.{Buf, Chg, Reg, MinPulse}
 use Rattle.element_kinds.specs.Kinds.{kinds}

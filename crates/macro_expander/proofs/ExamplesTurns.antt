@@ -6,9 +6,9 @@ use Rattle.scald_base.specs.Time.{Header}
 use Rattle.scald_base.specs.declared.refusal.Place.{Place}
 use Rattle.scald_base.specs.declared.refusal.RefusalKind.TheVariants.{UnknownName, ZeroDivisor}
 use Rattle.scald_base.specs.declared.assertion.AssertSpec.TheVariants.{None as Unasserted}
-use Rattle.scald_expr.specs.Expression.{Expression, Number, Param, Negate, Binary}
-use Rattle.scald_expr.specs.declared.environment.Binding.{Binding}
-use Rattle.scald_expr.specs.declared.expr.Op.TheVariants.{Add, Div}
+use Rattle.drawing_tree.specs.Expression.{Expression, Number, Param, Negate, Binary}
+use Rattle.drawing_tree.specs.declared.environment.Binding.{Binding}
+use Rattle.drawing_tree.specs.declared.expr.Op.TheVariants.{Add, Div}
 use Rattle.element_kinds.specs.declared.kind.Kind.TheVariants.{Buf, Mux2, Mux4, Mux8}
 use Rattle.drawing_tree.specs.Tree.{Named, Connection, Assignment, Use, Statement, For, Statements, nil, cons, Macro, Drawing}
 use Rattle.macro_expander.specs.Named.{On, NamedInstance}

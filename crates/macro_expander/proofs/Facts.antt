@@ -9,8 +9,8 @@ use Rattle.std.proofs.lemmas.List.Elements.{All-head, All-tail, All-nil, All-con
 use Rattle.scald_base.specs.Time.{Header, period}
 use Rattle.scald_base.specs.declared.refusal.RefusalKind.{RefusalKind}
 use Rattle.scald_base.specs.declared.refusal.RefusalKind.TheVariants.{BadParameter, Bounds, PinCount}
-use Rattle.scald_expr.specs.declared.environment.Binding.{Binding}
-use Rattle.scald_expr.specs.Expression.{Expression}
+use Rattle.drawing_tree.specs.declared.environment.Binding.{Binding}
+use Rattle.drawing_tree.specs.Expression.{Expression}
 use Rattle.vector_names.specs.declared.bits.BitRef.{BitRef}
 use Rattle.element_kinds.specs.declared.kind.Kind.{Kind}
 use Rattle.element_kinds.specs.declared.kind.Kind.TheVariants.{Chg}

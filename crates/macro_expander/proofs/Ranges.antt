@@ -7,7 +7,7 @@ use Rattle.std.proofs.lemmas.List.{get_or-reverse, length-reverse}
 use Rattle.std.proofs.lemmas.List.FromFn.{get_or-range_with_len, length-range_with_len}
 use Rattle.std.proofs.lemmas.List.Elements.{All-nil, All-cons, All-push, All-head, All-tail}
 use Rattle.scald_base.specs.declared.refusal.RefusalKind.TheVariants.{BadRange}
-use Rattle.scald_expr.specs.declared.environment.Binding.{Binding}
+use Rattle.drawing_tree.specs.declared.environment.Binding.{Binding}
 use Rattle.vector_names.specs.declared.bits.BitRef.{BitRef}
 use Rattle.vector_names.specs.Bits.{widest, from_to, bit_number, bits_of, range_of}
 use Rattle.drawing_tree.specs.Tree.{Formal, Macro}

@@ -10,7 +10,7 @@ use Rattle.scald_base.specs.declared.refusal.RefusalKind.{RefusalKind}
 use Rattle.scald_base.specs.declared.refusal.RefusalKind.TheVariants.{AssertionClash, TooMany, TwoDrivers, ZeroLoop, Width}
 use Rattle.scald_base.specs.declared.refusal.Stop.TheVariants.{Refused}
 use Rattle.assertion_syntax.specs.declared.name.SignalName.{SignalName}
-use Rattle.scald_expr.specs.declared.environment.Binding.{Binding}
+use Rattle.drawing_tree.specs.declared.environment.Binding.{Binding}
 use Rattle.flat_circuit.specs.Name.{Name}
 use Rattle.flat_circuit.specs.Instances.{most_bits}
 use Rattle.flat_circuit.specs.Builder.{Built, StandsAt, IsFirst, IsRuleBroken, has_name}

@@ -5,7 +5,7 @@ use Rattle.std.proofs.lemmas.List.Elements.{All-head, All-tail}
 use Rattle.scald_base.specs.Time.{Header}
 use Rattle.scald_base.specs.declared.refusal.RefusalKind.TheVariants.{TooDeep}
 use Rattle.scald_base.specs.declared.refusal.Stop.{Stop}
-use Rattle.scald_expr.specs.declared.environment.Binding.{Binding}
+use Rattle.drawing_tree.specs.declared.environment.Binding.{Binding}
 use Rattle.element_kinds.specs.declared.kind.Kind.{Kind}
 use Rattle.element_kinds.specs.Kinds.{kind_of}
 use Rattle.drawing_tree.specs.declared.statement.Stmt.{Stmt}

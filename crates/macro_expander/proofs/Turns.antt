@@ -5,7 +5,7 @@ use Rattle.std.proofs.lemmas.List.{append-nil}
 use borrow.Author.Differences.{up, down}
 use Rattle.scald_base.specs.declared.refusal.Place.{Place}
 use Rattle.scald_base.specs.declared.refusal.Stop.{Stop}
-use Rattle.scald_expr.specs.Expression.{expression_of}
+use Rattle.drawing_tree.specs.Expression.{expression_of}
 use Rattle.flat_circuit.specs.Name.{Name}
 use Rattle.drawing_tree.specs.declared.statement.ForStmt.{ForStmt}
 use Rattle.drawing_tree.specs.Tree.{Statement, Use, Wire, If, For, Macro, statements_of, for_of}

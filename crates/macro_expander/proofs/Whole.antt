@@ -18,7 +18,7 @@ use Rattle.macro_expander.specs.declared.library.Library.{Library}
 use Rattle.macro_expander.specs.declared.scope.Scope as numbered_scope
 use Rattle.macro_expander.specs.Outcome.{Outcome, Gives}
 use Rattle.macro_expander.specs.Fitting.{ItemFits, TermFits, ConnectionFits, UseFits, StatementFits, StatementsFit, OtherwiseFits, MacroFits, DrawingFits}
-use Rattle.scald_expr.specs.declared.environment.Binding.{Binding}
+use Rattle.drawing_tree.specs.declared.environment.Binding.{Binding}
 use Rattle.macro_expander.specs.Named.{State}
 use Rattle.macro_expander.specs.Flat.{flat, const_values, nothing_yet, deepest}
 use Rattle.macro_expander.specs.Library.{HoldsMacros, IsLibrary}

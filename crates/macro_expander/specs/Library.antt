@@ -2,7 +2,7 @@
 use Rattle.std.specs.Prelude.{◌≡◌, ℕ, List, map}
 use Rattle.std.specs.List.{All}
 use Rattle.scald_base.specs.Time.{Header, period}
-use Rattle.scald_expr.specs.declared.environment.Binding.{Binding}
+use Rattle.drawing_tree.specs.declared.environment.Binding.{Binding}
 use Rattle.drawing_tree.specs.declared.drawing.MacroDef.{MacroDef}
 use Rattle.drawing_tree.specs.Tree.{Macro, macro_of}
 use Rattle.macro_expander.specs.declared.library.Library.{Library}

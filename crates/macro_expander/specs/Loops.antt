@@ -2,8 +2,8 @@
 use Rattle.std.specs.Prelude.{ℕ, zero, suc, List, [], ◌∷◌, ◌++◌, codes, Ok, ℤ, pos, negsuc, ◌+ℤ◌, ◌-ℤ◌}
 use Rattle.std.specs.Fmt.{signed_decimal}
 use Rattle.scald_base.specs.declared.refusal.Place.{Place}
-use Rattle.scald_expr.specs.declared.environment.Binding.{Binding}
-use Rattle.scald_expr.specs.Expression.{Expression}
+use Rattle.drawing_tree.specs.declared.environment.Binding.{Binding}
+use Rattle.drawing_tree.specs.Expression.{Expression}
 use Rattle.macro_expander.specs.Named.{State}
 use Rattle.macro_expander.specs.Outcome.{Outcome, Judged, judging, judged, each}
 use Rattle.macro_expander.specs.Terms.{Scope, valued}

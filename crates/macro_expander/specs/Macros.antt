@@ -4,7 +4,7 @@ use Rattle.std.specs.List.{find, list_any, zip}
 use Rattle.std.specs.Option.{option_map}
 use Rattle.std.specs.Str.{bytes_eq}
 use Rattle.scald_base.specs.declared.refusal.RefusalKind.TheVariants.{BadParameter, Bounds, PinCount, Width}
-use Rattle.scald_expr.specs.declared.environment.Binding.{Binding}
+use Rattle.drawing_tree.specs.declared.environment.Binding.{Binding}
 use Rattle.drawing_tree.specs.Tree.{Assignment, Formal, Macro, UseStatement}
 use Rattle.macro_expander.specs.declared.formal.Shape.{Shape}
 use Rattle.macro_expander.specs.declared.formal.Inside.{Inside}

@@ -4,7 +4,7 @@ use Rattle.std.specs.List.{find}
 use Rattle.std.specs.Map.{lookup}
 use Rattle.std.specs.Str.{bytes_eq}
 use Rattle.std.specs.Global.{Vec}
-use Rattle.scald_expr.specs.declared.environment.Binding.{Binding}
+use Rattle.drawing_tree.specs.declared.environment.Binding.{Binding}
 use Rattle.drawing_tree.specs.declared.statement.Assign.{Assign}
 use Rattle.macro_expander.specs.declared.scope.Bound.{Bound}
 use Rattle.macro_expander.specs.Terms.{bit_at_place}

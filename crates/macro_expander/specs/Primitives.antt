@@ -6,8 +6,8 @@ use Rattle.std.specs.Str.{bytes_eq}
 use Rattle.scald_base.specs.Time.{Bounds as DelayBounds}
 use Rattle.scald_base.specs.declared.refusal.RefusalKind.{RefusalKind}
 use Rattle.scald_base.specs.declared.refusal.RefusalKind.TheVariants.{BadParameter, Bounds, PinCount, TooMany, Width}
-use Rattle.scald_expr.specs.declared.environment.Binding.{Binding}
-use Rattle.scald_expr.specs.Expression.{Expression}
+use Rattle.drawing_tree.specs.declared.environment.Binding.{Binding}
+use Rattle.drawing_tree.specs.Expression.{Expression}
 use Rattle.element_kinds.specs.declared.kind.Kind.{Kind}
 use Rattle.element_kinds.specs.declared.form.Check.{Check}
 use Rattle.element_kinds.specs.declared.form.Check.TheVariants.{SetupHold as AboutRise, RiseFall as RiseToFall, MinPulse as Widths}

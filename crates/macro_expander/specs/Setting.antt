@@ -1,6 +1,6 @@
 -- What every body of a drawing is expanded with.
 use Rattle.std.specs.Prelude.{ℕ, List}
-use Rattle.scald_expr.specs.declared.environment.Binding.{Binding}
+use Rattle.drawing_tree.specs.declared.environment.Binding.{Binding}
 use Rattle.drawing_tree.specs.Tree.{Macro}
 
 -- the version of the language, the ticks of the period, the constants with their values, and the

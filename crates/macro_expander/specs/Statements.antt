@@ -4,8 +4,8 @@ use Rattle.scald_base.specs.declared.refusal.Place.{Place}
 use Rattle.scald_base.specs.declared.refusal.RefusalKind.TheVariants.{TooMany}
 use Rattle.scald_base.specs.declared.refusal.Stop.{Stop}
 use Rattle.scald_base.specs.declared.refusal.Stop.TheVariants.{Refused}
-use Rattle.scald_expr.specs.Expression.{expression_of}
-use Rattle.scald_expr.specs.declared.environment.Binding.{Binding}
+use Rattle.drawing_tree.specs.Expression.{expression_of}
+use Rattle.drawing_tree.specs.declared.environment.Binding.{Binding}
 use Rattle.drawing_tree.specs.declared.statement.IfStmt.{IfStmt}
 use Rattle.drawing_tree.specs.declared.statement.ForStmt.{ForStmt}
 use Rattle.drawing_tree.specs.declared.statement.Stmt.{Stmt}

@@ -8,11 +8,11 @@ use Rattle.scald_base.specs.declared.refusal.Place.{Place}
 use Rattle.scald_base.specs.declared.refusal.RefusalKind.{RefusalKind}
 use Rattle.scald_base.specs.declared.refusal.RefusalKind.TheVariants.{AssertionClash, BadRange, Overflow as OverflowKind, TooMany, UnknownName, Width, ZeroDivisor as ZeroDivisorKind}
 use Rattle.assertion_syntax.specs.declared.name.SignalName.{SignalName}
-use Rattle.scald_expr.specs.declared.environment.Binding.{Binding}
-use Rattle.scald_expr.specs.declared.evaluation.ExprFault.{ExprFault}
-use Rattle.scald_expr.specs.declared.evaluation.ExprFault.TheVariants.{Unknown, Overflow, ZeroDivisor}
-use Rattle.scald_expr.specs.Expression.{Expression}
-use Rattle.scald_expr.specs.Value.{value}
+use Rattle.drawing_tree.specs.declared.environment.Binding.{Binding}
+use Rattle.drawing_tree.specs.declared.evaluation.ExprFault.{ExprFault}
+use Rattle.drawing_tree.specs.declared.evaluation.ExprFault.TheVariants.{Unknown, Overflow, ZeroDivisor}
+use Rattle.drawing_tree.specs.Expression.{Expression}
+use Rattle.drawing_tree.specs.Value.{value}
 use Rattle.vector_names.specs.Bits.{bits_of, widest}
 use Rattle.drawing_tree.specs.Tree.{Range, Item, Zero, One, Named, Term, Connection, UseStatement}
 use Rattle.flat_circuit.specs.Name.{Name}

@@ -6,9 +6,8 @@ ghost use Rattle.macro_expander.specs.Constants.{ConstsAt};
 
 use crate::parameter::assigned;
 use crate::turn::add_bindings;
-use drawing_tree::{Assigns, Places};
+use drawing_tree::{Assigns, Env, Places};
 use scald_base::{List, NoMemory, Stop};
-use scald_expr::Env;
 use std::alloc::Global;
 
 /// The constants with their values, each evaluated with those before it; or the refusal of the

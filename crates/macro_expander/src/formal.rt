@@ -12,10 +12,9 @@ use crate::places::{Called, FEW, led, named, places};
 use crate::primitive::marks;
 use crate::range::{at, numbers, value, written_ends};
 use crate::turn::add_bindings;
-use drawing_tree::{Assign, Assigns, Defaults, Formal, Formals, MacroDef, UseStmt};
+use drawing_tree::{Assign, Assigns, Binding, Defaults, Env, Formal, Formals, MacroDef, UseStmt};
 use indexmap::IndexMap;
 use scald_base::{Bytes, List, NoMemory, Place, RefusalKind, Stop};
-use scald_expr::{Binding, Env};
 use std::alloc::Global;
 use vector_names::Indices;
 

@@ -7,10 +7,9 @@ ghost use Rattle.macro_expander.specs.Macros.{macro_of as first_called};
 ghost use Rattle.macro_expander.specs.Library.{LeadToMacros, HoldsMacros, macros_in};
 
 use crate::places::{Called, named, places};
-use drawing_tree::{MacroDef, MacroDefs};
+use drawing_tree::{Env, MacroDef, MacroDefs};
 use indexmap::IndexMap;
 use scald_base::NoMemory;
-use scald_expr::Env;
 use std::alloc::Global;
 
 /// The macros of a drawing, to be found by their names, and what else its bodies are expanded with.

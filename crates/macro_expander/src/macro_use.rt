@@ -14,9 +14,8 @@ use crate::expansion::Expansion;
 use crate::formal::{Inside, Shape, inside_of};
 use crate::list::{Row, copied};
 use crate::scope::{Bound, Formals, Scope};
-use drawing_tree::{MacroDef, UseStmt};
+use drawing_tree::{Env, MacroDef, UseStmt};
 use scald_base::{Bytes, NoMemory, Place, RefusalKind, Stop};
-use scald_expr::Env;
 use std::alloc::Global;
 use vector_names::{Bits, VectorFault, spread};
 

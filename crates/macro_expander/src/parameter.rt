@@ -9,9 +9,8 @@ ghost use Rattle.macro_expander.specs.Steps.{JudgedAt};
 
 use crate::places::Called;
 use crate::range::{at, value};
-use drawing_tree::{Assign, Assigns};
+use drawing_tree::{Assign, Assigns, Binding, Env};
 use scald_base::{Bytes, List, Place, Stop};
-use scald_expr::{Binding, Env};
 use std::alloc::Global;
 
 impl Called for Assign {

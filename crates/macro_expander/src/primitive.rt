@@ -10,11 +10,10 @@ ghost use Rattle.macro_expander.specs.Steps.{JudgedAt};
 
 use crate::parameter::{comes_again, value_given, values_given};
 use crate::range::{at, value};
-use drawing_tree::{Assigns, Conns, UseStmt};
+use drawing_tree::{Assigns, Conns, Env, Expr, UseStmt};
 use element_kinds::{Check, Kind, kind_named};
 use flat_circuit::Split;
 use scald_base::{Delay, RefusalKind, Stop, same_bytes};
-use scald_expr::{Env, Expr};
 use std::alloc::Global;
 
 /// The delays of a primitive's bits and a checker's limits, in ticks.

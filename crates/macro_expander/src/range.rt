@@ -2,14 +2,13 @@
 
 ghost use Rattle.std.specs.Prelude.{◌≡◌, Ok};
 ghost use Rattle.std.specs.Option.{option_map};
-ghost use Rattle.scald_expr.specs.Expression.{expression_of};
+ghost use Rattle.drawing_tree.specs.Expression.{expression_of};
 ghost use Rattle.drawing_tree.specs.Tree.{range_of, written_range_of};
 ghost use Rattle.macro_expander.specs.Terms.{valued, last_of, ends_of, written_ends as spec_written_ends, numbers_of, kind_of_fault as spec_kind};
 ghost use Rattle.macro_expander.specs.Steps.{JudgedAt};
 
-use drawing_tree::{RangeExpr, WrittenRange};
+use drawing_tree::{Env, Expr, ExprFault, RangeExpr, WrittenRange, eval};
 use scald_base::{List, Place, RefusalKind, Stop};
-use scald_expr::{Env, Expr, ExprFault, eval};
 use std::alloc::Global;
 use vector_names::{Indices, VectorFault, bits_of};
 

@@ -18,9 +18,8 @@ use crate::range::{at, value};
 use crate::scope::Scope;
 use crate::turn::{in_turn, loop_ends, turn_to};
 use crate::wire::wire_bounds;
-use drawing_tree::{ForStmt, IfStmt, MacroDef, Stmt, UseStmt};
+use drawing_tree::{Env, ForStmt, IfStmt, MacroDef, Stmt, UseStmt};
 use scald_base::{Place, RefusalKind, Stop};
-use scald_expr::Env;
 use std::alloc::Global;
 
 /// The most statements that may be reached.

@@ -6,10 +6,9 @@ ghost use Rattle.macro_expander.specs.Statements.{AreEnds, IsTurn, turned_scope}
 
 use crate::range::{at, value};
 use crate::scope::Scope;
-use drawing_tree::ForStmt;
+use drawing_tree::{Binding, Env, ForStmt};
 use itoa::Buffer;
 use scald_base::{Bytes, List, NoMemory, Stop};
-use scald_expr::{Binding, Env};
 use std::alloc::Global;
 
 /// The first and the last value of a FOR, both evaluated in the scope around it, or the refusal of

@@ -19,7 +19,7 @@ use Rattle.flat_circuit.specs.declared.net.Net.{Net}
 use Rattle.flat_circuit.specs.declared.fault.PointKind.TheVariants.{Setup as Before, Hold as After}
 use Rattle.flat_circuit.specs.declared.fault.Fault.TheVariants.{Point, Width}
 use Rattle.flat_circuit.specs.Circuit.{Circuit}
-use Rattle.net_waves.specs.Waves.{waves_of}
+use Rattle.fixpoint_engine.specs.Waves.{waves_of}
 use Rattle.point_check.specs.Faults.{instance_fault}
 use Rattle.point_check.specs.Point.{checker_fault}
 use Rattle.pulse_check.specs.Faults.{instance_faults, width_fault}

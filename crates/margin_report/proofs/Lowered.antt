@@ -7,7 +7,7 @@ use Rattle.scald_base.specs.Time.{period}
 use Rattle.flat_circuit.specs.declared.instance.Instance.{Instance}
 use Rattle.flat_circuit.specs.declared.fault.Fault.{Fault}
 use Rattle.flat_circuit.specs.Circuit.{Circuit}
-use Rattle.net_waves.specs.Waves.{Waves}
+use Rattle.fixpoint_engine.specs.Waves.{Waves}
 use Rattle.timing_analysis.specs.Case.{Case}
 use Rattle.margin_report.specs.declared.margin.Parameter.{Parameter}
 use Rattle.margin_report.specs.declared.margin.Margin.{Margin}

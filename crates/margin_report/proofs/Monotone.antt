@@ -5,7 +5,7 @@ use Rattle.scald_base.specs.Time.{period}
 use Rattle.flat_circuit.specs.declared.instance.Instance.{Instance}
 use Rattle.flat_circuit.specs.declared.fault.Fault.{Fault}
 use Rattle.flat_circuit.specs.Circuit.{Circuit}
-use Rattle.net_waves.specs.Waves.{Waves}
+use Rattle.fixpoint_engine.specs.Waves.{Waves}
 use Rattle.point_check.proofs.Longer.{longer_times_keep_faults}
 use Rattle.pulse_check.proofs.Greater.{greater_widths_keep_faults}
 use Rattle.timing_analysis.specs.Case.{Case}

@@ -1,10 +1,10 @@
 -- What the answer to a text says of the outcome of the call, and of what was written.
 use Rattle.std.proofs.Common.{◌≡◌, ℕ, true, List, refl, Option, None}
 use Rattle.scald_base.specs.declared.outcome.Outcome.{Outcome}
-use Rattle.timing_reply.specs.Answer as answer
-use Rattle.timing_reply.specs.Answer.{Evaluated, rested}
-use Rattle.timing_reply.specs.Promise.{SettlesLoopless, Writes}
-use Rattle.timing_reply.proofs.Outcomes.{evaluated_has, evaluated_settles}
+use Rattle.program_call.specs.Answer as answer
+use Rattle.program_call.specs.Answer.{Evaluated, rested}
+use Rattle.program_call.specs.Promise.{SettlesLoopless, Writes}
+use Rattle.program_call.proofs.Outcomes.{evaluated_has, evaluated_settles}
 use Rattle.margin_report.specs.Answer.{margins_told}
 use Rattle.margin_report.specs.Promise.{WritesMargins, may_answer}
 

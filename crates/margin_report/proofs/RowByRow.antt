@@ -17,7 +17,7 @@ use Rattle.flat_circuit.specs.declared.instance.Instance.{Instance}
 use Rattle.flat_circuit.specs.Kind.{LimitsFit, LimitsFitCheck}
 use Rattle.flat_circuit.specs.Instances.{InstanceFits}
 use Rattle.flat_circuit.specs.Circuit.{Circuit, IsCircuit}
-use Rattle.net_waves.specs.Waves.{Waves}
+use Rattle.fixpoint_engine.specs.Waves.{Waves}
 use Rattle.point_check.proofs.Gathered.{points_limits}
 use Rattle.timing_analysis.specs.Case.{Case}
 use Rattle.margin_report.specs.declared.margin.Parameter.{Parameter}

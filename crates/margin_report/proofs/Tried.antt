@@ -11,8 +11,8 @@ use Rattle.element_kinds.specs.Kinds.{checks_points, checks_pulses, may_be_marke
 use Rattle.flat_circuit.specs.declared.instance.Instance.{Instance}
 use Rattle.flat_circuit.specs.declared.fault.Fault.{Fault}
 use Rattle.flat_circuit.specs.Circuit.{Circuit}
-use Rattle.net_waves.specs.Waves.{Waves}
-use Rattle.net_waves.specs.Pins.{read}
+use Rattle.fixpoint_engine.specs.Waves.{Waves}
+use Rattle.fixpoint_engine.specs.Pins.{read}
 use Rattle.point_check.specs.Faults as point
 use Rattle.point_check.specs.Faults.{fault_by, fault_of, instance_fault}
 use Rattle.pulse_check.specs.Pulse.{first_narrow}

@@ -9,7 +9,7 @@ use Rattle.scald_base.specs.Time.{period}
 use Rattle.flat_circuit.specs.declared.instance.Instance.{Instance}
 use Rattle.flat_circuit.specs.declared.fault.Fault.{Fault}
 use Rattle.flat_circuit.specs.Circuit.{Circuit}
-use Rattle.net_waves.specs.Waves.{Waves}
+use Rattle.fixpoint_engine.specs.Waves.{Waves}
 use Rattle.point_check.specs.Faults.{limited_fault as point_fault}
 use Rattle.pulse_check.specs.Faults.{limited_fault as width_fault}
 use Rattle.timing_analysis.specs.Case.{Case}

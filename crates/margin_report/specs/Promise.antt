@@ -7,9 +7,9 @@ use Rattle.flat_circuit.specs.Circuit.{Circuit}
 use Rattle.fixpoint_engine.specs.Rounds.{RestsAt}
 use Rattle.fixpoint_engine.specs.Start.{default_limit}
 use Rattle.case_analysis.specs.Base.{base_round}
-use Rattle.drawn_circuit.specs.Drawn.{DrawsCircuit}
+use Rattle.timing_analysis.specs.Drawn.{DrawsCircuit}
 use Rattle.timing_analysis.specs.Case.{Case, AreAtRest, listed_cases}
-use Rattle.timing_reply.specs.Promise.{Writes}
+use Rattle.program_call.specs.Promise.{Writes}
 use Rattle.margin_report.specs.Report.{margin_lines, rows}
 
 -- The outcomes that speak of a text: its margins are written, it is refused, or its waves do not settle.

@@ -3,7 +3,7 @@ use Rattle.std.specs.Prelude.{◌≡◌, ℕ, true, false, List, filter, slice_g
 use Rattle.flat_circuit.specs.declared.instance.Instance.{Instance}
 use Rattle.flat_circuit.specs.declared.fault.Fault.{Fault}
 use Rattle.flat_circuit.specs.Circuit.{Circuit}
-use Rattle.net_waves.specs.Waves.{Waves}
+use Rattle.fixpoint_engine.specs.Waves.{Waves}
 use Rattle.point_check.specs.Faults.{instance_fault}
 use Rattle.pulse_check.specs.Faults.{instance_faults, listed}
 use Rattle.pulse_check.specs.Sound.{is_of_pulse}

@@ -1,31 +1,37 @@
 //! The whole call: words and bytes in, bytes and an outcome out.
 
-ghost use Rattle.std.specs.Prelude.{◌≡◌, ◌≢◌, ℕ, List, ◌<◌, ◌≤◌, length, true, false, Err, IfSome, ◌⊎◌};
-ghost use Rattle.std.specs.Io.KnownBytes.{IsAtEnd};
-ghost use Rattle.scald_base.specs.Device.{Rose, ReadsFront, ReadsPast};
-ghost use Rattle.program_call.specs.Program.{AreTold, IsAnswered, IsCutShort, asks, has_read, is_silent, speaks};
-ghost use Rattle.timing_reply.specs.Program.{most_bytes, no_words};
-ghost use Rattle.timing_reply.specs.Promise.{SettlesLoopless};
+ghost use Rattle.std.specs.Prelude.{◌≡◌, ℕ, List, ◌≤◌, length, true, IfSome};
+ghost use Rattle.scald_base.specs.Device.{Rose};
+ghost use Rattle.program_call.specs.Call.{IsCall, devices, nothing_more};
+ghost use Rattle.program_call.specs.Program.{AreTold, asks, speaks};
+ghost use Rattle.program_call.specs.Wordless.{most_bytes};
+ghost use Rattle.program_call.specs.Promise.{SettlesLoopless};
 ghost use Rattle.margin_report.specs.Answer.{margins};
 ghost use Rattle.margin_report.specs.Laws.{FittingIsMonotone, MarginsAreTrue};
 ghost use Rattle.margin_report.specs.Promise.{WritesMargins, may_answer};
 ghost use Rattle.margin_report.specs.Tried.{TriedAsWritten};
 
 use crate::teller::Margins;
-use program_call::{Reply, main_call};
+use program_call::{Replier, Reply, Wordless, main_call, reply_to};
 use scald_base::{NoMemory, Outcome, Sink, Source, Words};
 use std::alloc::Global;
-use timing_reply::{Replier, Wordless, reply_to};
 
 /// The program of margins.
 pub struct MarginProgram;
 
 impl Replier for MarginProgram {
     ghost use Rattle.std.specs.Prelude.{None};
-    ghost use Rattle.timing_reply.specs.Answer.{Evaluated};
+    ghost use Rattle.program_call.specs.Answer.{Evaluated};
     ghost use Rattle.margin_report.specs.Answer.{margins_told};
+    ghost use Rattle.margin_report.specs.Answer.{own_word};
+
+    ghost word = { own_word };
 
     ghost replied = { Evaluated margins_told None };
+
+    fn name() -> &'static [u8] {
+        b"margins".as_slice()
+    }
 
     fn reply(alloc: Global, text: &[u8]) -> Result<Reply<Outcome>, NoMemory> {
         reply_to::<Margins>(alloc, text)
@@ -35,70 +41,29 @@ impl Replier for MarginProgram {
 }
 
 /// Reads a drawing and writes by how much more each of its checkers may ask for: a line for each
-/// parameter of each bit of a checker, in the order of expansion. It has no words.
+/// parameter of each bit of a checker, in the order of expansion. Its name alone asks for it.
 ///
 /// `Done` comes where the drawing is accepted and its waves settle, whether there are faults or not. Why a
 /// drawing is refused, or which net does not settle, is written as `verify` has it. All of the answer is
 /// made before the first byte of it is written.
-///
-/// What the clauses say of bytes holds as far as the devices tell: of those that are left to read where the
-/// source tells them, of those that were taken where the sink does.
 pub fn margin_main<S: Source, K: Sink>(
     alloc: Global,
     words: &Words,
     source: &mut S,
     sink: &mut K,
 ) -> Outcome
-    // Words are unrecognised. Nothing is read for them, and nothing is written where the outcome is silent.
-    ensures bad_words { (i : ℕ) → no_words words.now ≡ Err i → result ≡ Outcome.BadWords i }
-    ensures bad_words_only { (i : ℕ) → result ≡ Outcome.BadWords i → no_words words.now ≡ Err i }
-    ensures unread { asks margins words.now ≡ false → source.new ≡ source.old }
-    ensures unwritten { is_silent margins result ≡ true → sink.new ≡ sink.old }
+    // What every main call promises: of its words, of its devices, and of the bytes that it writes.
+    ensures call { IsCall margins nothing_more words.now result
+        (devices S.left S.faults K.taken K.faults) source.old source.new sink.old sink.new }
 
-    // Told bytes and no fault of a device that is used: the margins of the drawing, or why it has none,
-    // with exactly their bytes, or no memory.
-    ensures whole { (text : List ℕ) → AreTold margins words.now (S.left source.old) text →
-        (asks margins words.now ≡ true → ¬ Rose (S.faults source.old) (S.faults source.new)) →
-        ¬ Rose (K.faults sink.old) (K.faults sink.new) →
-        (result ≡ Outcome.NoMemory)
-        ⊎ IsAnswered margins words.now text result (K.taken sink.old) (K.taken sink.new) }
-
-    // The same where the text draws a circuit that settles with its cases: done, with the lines of its margins.
+    // If the source tells its bytes and no device fails, a text whose circuit and cases settle gets its margins.
     ensures finished { IfSome (S.left source.old) (λ text. asks margins words.now ≡ true →
         length text ≤ most_bytes → ¬ Rose (S.faults source.old) (S.faults source.new) →
         ¬ Rose (K.faults sink.old) (K.faults sink.new) →
         WritesMargins text result (K.taken sink.old) (K.taken sink.new)) }
 
-    // Whatever the devices did, an outcome that speaks of the text comes only where it is the text's own,
-    // all of the text was read, and all of the answer was written, where the sink tells what it took.
-    ensures truthful { (text : List ℕ) →
-        AreTold margins words.now (S.left source.old) text → speaks margins result ≡ true →
-        IsAnswered margins words.now text result (K.taken sink.old) (K.taken sink.new) }
-    ensures front { ReadsFront (S.left source.old) (S.left source.new) most_bytes }
-    ensures to_end { IfSome (S.left source.old) (λ text. asks margins words.now ≡ true →
-        speaks margins result ≡ true → IsAtEnd (S.left source.new)) }
-
-    // No fault of a device is hidden.
-    ensures source_steady { result ≢ Outcome.ReadFault → S.faults source.new ≡ S.faults source.old }
-    ensures sink_steady { result ≢ Outcome.WriteFault → K.faults sink.new ≡ K.faults sink.old }
-
-    // Which outcomes speak of a text, whichever it is, and why the others come. A sink that tells what it took
-    // has a front of the answer's bytes after a failed write, and a source that tells its bytes had one past the
-    // limit where the text is too long.
+    // Which outcomes speak of a text, whichever it is. Waves without loops settle.
     ensures given { speaks margins result ≡ true → may_answer result ≡ true }
-    ensures read_first { has_read margins result ≡ true → asks margins words.now ≡ true }
-    ensures read_fault { result ≡ Outcome.ReadFault → Rose (S.faults source.old) (S.faults source.new) }
-    ensures write_fault { result ≡ Outcome.WriteFault → Rose (K.faults sink.old) (K.faults sink.new) }
-    ensures cut_short { (text : List ℕ) →
-        AreTold margins words.now (S.left source.old) text → result ≡ Outcome.WriteFault →
-        IsCutShort margins words.now text (K.taken sink.old) (K.taken sink.new) }
-    ensures too_long { result ≡ Outcome.TooLong →
-        ReadsPast (S.left source.old) (S.left source.new) most_bytes }
-    ensures long_text { IfSome (S.left source.old) (λ text. asks margins words.now ≡ true →
-        most_bytes < length text → ¬ Rose (S.faults source.old) (S.faults source.new) →
-        (result ≡ Outcome.NoMemory) ⊎ (result ≡ Outcome.TooLong)) }
-
-    // Waves without loops settle.
     ensures loopless { (text : List ℕ) → AreTold margins words.now (S.left source.old) text →
         SettlesLoopless text result }
 
@@ -108,5 +73,5 @@ pub fn margin_main<S: Source, K: Sink>(
     ensures monotone { FittingIsMonotone }
     ensures margins_true { MarginsAreTrue }
 {
-    main_call::<Wordless<MarginProgram>, S, K>(alloc, words, source, sink)
+    main_call::<Wordless<MarginProgram>, S, K>(alloc, words, source, sink, &mut 0)
 }

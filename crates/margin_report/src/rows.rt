@@ -3,7 +3,7 @@
 ghost use Rattle.std.specs.Prelude.{◌≡◌, ◌<◌, ◌++◌, ◌∷◌, [], List, IfOk, OnOk, Some, length, slice_get};
 ghost use Rattle.std.specs.List.{All};
 ghost use Rattle.flat_circuit.specs.Instances.{InstanceFits};
-ghost use Rattle.net_waves.specs.Waves.{FitWaves, waves_of};
+ghost use Rattle.fixpoint_engine.specs.Waves.{FitWaves, waves_of};
 ghost use Rattle.scald_base.specs.Time.{period};
 ghost use Rattle.timing_analysis.specs.Case.{Case};
 ghost use Rattle.margin_report.specs.Margin.{AreWithin, IsAskedBy, IsBelow, margin as margin_over, parameters_in, spare as most_more};
@@ -12,8 +12,8 @@ ghost use Rattle.margin_report.specs.Report.{IsRow, rows as rows_over, rows_in};
 use crate::margin::{Margin, Parameter};
 use crate::search::{fault_with, spare, stop_before};
 use element_kinds::Check;
+use fixpoint_engine::Waves;
 use flat_circuit::{Circuit, Instance};
-use net_waves::Waves;
 use scald_base::{List, NoMemory};
 use std::alloc::Global;
 use step_values::Value;

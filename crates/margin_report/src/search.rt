@@ -2,12 +2,12 @@
 
 ghost use Rattle.std.specs.Prelude.{◌≡◌, ◌+◌, ◌<◌, ◌≤◌, None, Some, IfOk, slice_get};
 ghost use Rattle.scald_base.specs.Time.{period};
-ghost use Rattle.net_waves.specs.Waves.{FitWaves, waves_of};
+ghost use Rattle.fixpoint_engine.specs.Waves.{FitWaves, waves_of};
 ghost use Rattle.margin_report.specs.Margin.{AreWithin, IsAskedBy, StopsAt, fault_with as fault_in, spare, written};
 
 use crate::margin::Parameter;
+use fixpoint_engine::Waves;
 use flat_circuit::{Circuit, Fault, Instance};
-use net_waves::Waves;
 use point_check::point_fault;
 use pulse_check::width_fault;
 use scald_base::NoMemory;

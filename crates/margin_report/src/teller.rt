@@ -2,16 +2,15 @@
 
 use crate::lines::{add_count, add_rows};
 use crate::rows::{Rows, lower, unbounded};
+use fixpoint_engine::Waves;
 use flat_circuit::Circuit;
 use listing::write_period;
-use net_waves::Waves;
-use program_call::Reply;
+use program_call::{Reply, Teller};
 use run_wave::RunWave;
 use scald_base::{Bytes, NoMemory, Outcome};
 use std::alloc::Global;
 use step_values::Value;
 use timing_analysis::CaseAtRest;
-use timing_reply::Teller;
 
 /// The version of the drawing, and the margins over the cases so far.
 #[derive(Drop)]

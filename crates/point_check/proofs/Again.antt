@@ -13,7 +13,7 @@ use Rattle.flat_circuit.specs.declared.fault.Fault.{Fault}
 use Rattle.flat_circuit.specs.Circuit.{Circuit}
 use Rattle.gate_eval.specs.Hold.{first_some}
 use Rattle.pin_waves.specs.Pin.{pin_wave as wave_behind}
-use Rattle.net_waves.specs.Waves.{Waves, FitWaves, waves_of, target_wave, target_wire, pin_wave}
+use Rattle.fixpoint_engine.specs.Waves.{Waves, FitWaves, waves_of, target_wave, target_wire, pin_wave}
 use Rattle.point_check.specs.declared.window.Window.{Window}
 use Rattle.point_check.specs.Window.{Folds, first_mover, fault_at, window_fault}
 use Rattle.point_check.specs.Point.{window_of, edge_fault, checker_fault}

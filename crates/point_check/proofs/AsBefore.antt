@@ -10,9 +10,9 @@ use Rattle.flat_circuit.specs.declared.net.Net.{Net}
 use Rattle.flat_circuit.specs.Circuit.{Circuit}
 use Rattle.gate_eval.specs.Hold.{hazard}
 use Rattle.gate_eval.specs.Instance.{wave_of_pin}
-use Rattle.net_waves.specs.Waves.{Waves, pin_wave, pin_waves, marked_pin}
-use Rattle.net_waves.specs.SameWaves.{IsSameAt}
-use Rattle.net_waves.proofs.SameWaves.{same_pins}
+use Rattle.fixpoint_engine.specs.Waves.{Waves, pin_wave, pin_waves, marked_pin}
+use Rattle.fixpoint_engine.specs.SameWaves.{IsSameAt}
+use Rattle.fixpoint_engine.proofs.SameWaves.{same_pins}
 use Rattle.point_check.specs.Point.{checker_fault}
 use Rattle.point_check.specs.Assertion.{is_held, assertion_fault}
 use Rattle.point_check.specs.Faults.{hazard_at, fault_by, fault_by_kind, fault_of, instance_fault, fault_if_held, fault_of_net, net_fault}

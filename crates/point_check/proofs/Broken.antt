@@ -15,8 +15,8 @@ use Rattle.flat_circuit.specs.Circuit.{Circuit}
 use Rattle.flat_circuit.specs.Run.{Run, Choice, IsRun}
 use Rattle.flat_circuit.proofs.RunTables.{bounds, header, on, element, checker, bits, late}
 use Rattle.flat_circuit.proofs.RunTest.{run_tells}
-use Rattle.net_waves.specs.Interface.{MeetsInterface}
-use Rattle.net_waves.proofs.Tables.{inputs_is}
+use Rattle.fixpoint_engine.specs.Interface.{MeetsInterface}
+use Rattle.fixpoint_engine.proofs.Tables.{inputs_is}
 use Rattle.point_check.specs.Break.{BreaksInstance, BreaksNet}
 use Rattle.point_check.proofs.Literal.{holding, high_to, has_mark, found, net_breaks}
 

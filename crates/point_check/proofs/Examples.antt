@@ -14,7 +14,7 @@ use Rattle.element_kinds.specs.declared.kind.Kind.TheVariants.{SetupHold, RiseFa
 use Rattle.flat_circuit.specs.declared.fault.PointKind.TheVariants.{Setup, High, Hold}
 use Rattle.flat_circuit.specs.declared.fault.Fault.{Fault}
 use Rattle.flat_circuit.specs.declared.fault.Fault.TheVariants.{Point, Width, Hazard, Assertion}
-use Rattle.net_waves.specs.Pins.{read}
+use Rattle.fixpoint_engine.specs.Pins.{read}
 use Rattle.point_check.specs.Point.{high_window, checker_fault}
 use Rattle.point_check.specs.Assertion.{assertion_fault}
 use Rattle.point_check.specs.Faults.{is_of_instance, is_of_net}

@@ -7,7 +7,7 @@ use Rattle.flat_circuit.specs.declared.instance.Pin.{Pin}
 use Rattle.flat_circuit.specs.declared.instance.Instance.{Instance}
 use Rattle.flat_circuit.specs.Run.{Run}
 use Rattle.flat_circuit.proofs.RunTables.{on, not_on, bits}
-use Rattle.net_waves.proofs.WrittenRuns.{element, run_of}
+use Rattle.fixpoint_engine.proofs.WrittenRuns.{element, run_of}
 use Rattle.point_check.proofs.Literal.{holding, Breaks, broken, unbroken, has_mark, found, no_mark, none_marked}
 
 -- a gate of these pins

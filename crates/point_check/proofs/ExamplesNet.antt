@@ -14,7 +14,7 @@ use Rattle.flat_circuit.specs.declared.net.Net.{Net}
 use Rattle.flat_circuit.specs.Circuit.{Circuit}
 use Rattle.flat_circuit.specs.Run.{Run}
 use Rattle.flat_circuit.proofs.RunTables.{bits, bounds}
-use Rattle.net_waves.proofs.WrittenRuns.{run_of}
+use Rattle.fixpoint_engine.proofs.WrittenRuns.{run_of}
 use Rattle.point_check.specs.Break.{BreaksNet}
 use Rattle.point_check.proofs.Literal.{found, net_breaks, no_net, no_driver, no_assertion, no_such_net}
 

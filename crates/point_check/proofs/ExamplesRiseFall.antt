@@ -8,7 +8,7 @@ use Rattle.flat_circuit.specs.declared.instance.Instance.{Instance}
 use Rattle.flat_circuit.specs.Run.{Run}
 use Rattle.flat_circuit.proofs.RunTables.{on, bits}
 use Rattle.gate_eval.proofs.PermitExamples.{signal}
-use Rattle.net_waves.proofs.WrittenRuns.{element, run_of}
+use Rattle.fixpoint_engine.proofs.WrittenRuns.{element, run_of}
 use Rattle.point_check.specs.Break.{IsHighTo}
 use Rattle.point_check.proofs.Literal.{Breaks, broken, unbroken, high_to, found, no_rise_fall, no_fall}
 

@@ -7,7 +7,7 @@ use Rattle.flat_circuit.specs.declared.instance.Pin.{Pin}
 use Rattle.flat_circuit.specs.declared.instance.Instance.{Instance}
 use Rattle.flat_circuit.specs.Run.{Run}
 use Rattle.flat_circuit.proofs.RunTables.{on, not_on, bits}
-use Rattle.net_waves.proofs.WrittenRuns.{element, alone, run_of}
+use Rattle.fixpoint_engine.proofs.WrittenRuns.{element, alone, run_of}
 use Rattle.point_check.specs.Break.{BreaksInstance}
 use Rattle.point_check.proofs.Literal.{Breaks, broken, unbroken, found, no_setup_hold, nowhere}
 

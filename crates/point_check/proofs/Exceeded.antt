@@ -15,8 +15,8 @@ use Rattle.skew_algebra.specs.Wave.{Wave, fold, folded, cell_at}
 use Rattle.pin_waves.specs.Interface.{wide_wave}
 use Rattle.flat_circuit.specs.declared.fault.Fault.TheVariants.{Assertion}
 use Rattle.gate_eval.proofs.Found.{first_some_at, first_some_nowhere}
-use Rattle.net_waves.specs.Pins.{read}
-use Rattle.net_waves.proofs.ReadSlots.{read_at, same_read, read_folded, length_folded}
+use Rattle.fixpoint_engine.specs.Pins.{read}
+use Rattle.fixpoint_engine.proofs.ReadSlots.{read_at, same_read, read_folded, length_folded}
 use Rattle.point_check.specs.Window.{Folds}
 use Rattle.point_check.specs.Assertion.{exceeds, first_excess, fault_in, assertion_fault}
 

@@ -21,9 +21,9 @@ use Rattle.flat_circuit.specs.declared.fault.Fault.{Fault}
 use Rattle.flat_circuit.specs.Kind.{LimitsFit}
 use Rattle.flat_circuit.specs.Circuit.{Circuit, IsCircuit}
 use Rattle.gate_eval.specs.Hold.{hazard}
-use Rattle.net_waves.specs.Waves.{Waves, pin_waves, marked_pin, FitWaves, waves_of}
-use Rattle.net_waves.specs.Pins.{read}
-use Rattle.net_waves.proofs.ReadSlots.{read_folded, length_folded}
+use Rattle.fixpoint_engine.specs.Waves.{Waves, pin_waves, marked_pin, FitWaves, waves_of}
+use Rattle.fixpoint_engine.specs.Pins.{read}
+use Rattle.fixpoint_engine.proofs.ReadSlots.{read_folded, length_folded}
 use Rattle.point_check.specs.Point.{first_fault, checker_fault}
 use Rattle.point_check.specs.Assertion.{is_held}
 use Rattle.point_check.specs.Faults.{hazard_at, mark_fault, fault_by_kind, fault_of, instance_fault, fault_if_held, fault_of_net, net_fault}

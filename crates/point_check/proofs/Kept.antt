@@ -29,10 +29,10 @@ use Rattle.gate_eval.specs.Instance.{wave_of_pin}
 use Rattle.gate_eval.specs.Hold.{closed_bit, hazard}
 use Rattle.gate_eval.proofs.Fitting.{fold_mod}
 use Rattle.gate_eval.proofs.Held.{map_none}
-use Rattle.net_waves.specs.Waves.{Waves, pin_wave, pin_waves, marked_pin}
-use Rattle.net_waves.specs.Pins.{wire_to, pin_at, StepsFrom, PinsPermit, PinsPermitAt}
+use Rattle.fixpoint_engine.specs.Waves.{Waves, pin_wave, pin_waves, marked_pin}
+use Rattle.fixpoint_engine.specs.Pins.{wire_to, pin_at, StepsFrom, PinsPermit, PinsPermitAt}
 use Rattle.flat_circuit.proofs.Numbered.{fits_of}
-use Rattle.net_waves.proofs.Fits.{AreLong, long_pin, long_pin_at}
+use Rattle.fixpoint_engine.proofs.Fits.{AreLong, long_pin, long_pin_at}
 use Rattle.point_check.specs.Point.{checker_fault}
 use Rattle.point_check.specs.Assertion.{is_held}
 use Rattle.point_check.specs.Faults.{hazard_at, mark_fault, fault_by_kind, fault_of, instance_fault, fault_if_held, fault_of_net, net_fault, point_faults, is_of_instance, is_of_net}

@@ -15,8 +15,8 @@ use Rattle.flat_circuit.specs.Circuit.{Circuit}
 use Rattle.flat_circuit.specs.Run.{Run, Choice, net_signal}
 use Rattle.flat_circuit.proofs.RunTables.{late}
 use Rattle.pin_waves.proofs.Tests.{implies, implies_is, all_below, each_passes}
-use Rattle.net_waves.specs.Pins.{pin_at}
-use Rattle.net_waves.proofs.WrittenRuns.{alone, run_of, only, only_at}
+use Rattle.fixpoint_engine.specs.Pins.{pin_at}
+use Rattle.fixpoint_engine.proofs.WrittenRuns.{alone, run_of, only, only_at}
 use Rattle.point_check.specs.Break.{Rises, Changes, IsHighTo, IsSetupHoldBreak, BreaksSetupHold, IsRiseFallBreak, BreaksRiseFall, HasMark, IsMarkBreak, BreaksMark, BreaksKind, BreaksInstance, Asserts, wide_at, IsNetBreak, BreaksNet}
 
 -- ---- steps

@@ -13,7 +13,7 @@ use Rattle.flat_circuit.specs.Circuit.{Circuit}
 use Rattle.gate_eval.specs.Instance.{MarkIsAt, MarkFits}
 use Rattle.gate_eval.proofs.Chosen.{mark_fits}
 use Rattle.gate_eval.proofs.Found.{hazard_unmarked}
-use Rattle.net_waves.specs.Waves.{Waves, pin_waves, marked_pin}
+use Rattle.fixpoint_engine.specs.Waves.{Waves, pin_waves, marked_pin}
 use Rattle.point_check.specs.Faults.{hazard_at, fault_by, fault_of, instance_fault}
 
 -- ---- only kinds that may be marked have a mark

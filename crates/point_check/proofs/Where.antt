@@ -12,8 +12,8 @@ use Rattle.step_values.specs.Cell.{values}
 use Rattle.wave_core.specs.Slots.{earlier}
 use Rattle.skew_algebra.proofs.Moves.{earlier_mod}
 use Rattle.element_kinds.specs.declared.kind.Kind.{Kind}
-use Rattle.net_waves.specs.Pins.{read}
-use Rattle.net_waves.proofs.ReadSlots.{below_run}
+use Rattle.fixpoint_engine.specs.Pins.{read}
+use Rattle.fixpoint_engine.proofs.ReadSlots.{below_run}
 use Rattle.point_check.specs.declared.window.Window.{Window}
 use Rattle.point_check.specs.Window.{Folds, places, slot_at, mover_at, first_mover}
 use Rattle.point_check.specs.Next.{IsNextEdge}

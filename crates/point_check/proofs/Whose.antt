@@ -21,7 +21,7 @@ use Rattle.flat_circuit.specs.declared.net.Net.{Net}
 use Rattle.flat_circuit.specs.declared.fault.Fault.{Fault}
 use Rattle.flat_circuit.specs.Circuit.{Circuit, IsCircuit, net_name, net_names}
 use Rattle.gate_eval.specs.Hold.{first_some, hazard}
-use Rattle.net_waves.specs.Waves.{Waves, pin_waves, marked_pin}
+use Rattle.fixpoint_engine.specs.Waves.{Waves, pin_waves, marked_pin}
 use Rattle.point_check.specs.declared.window.Window.{Window}
 use Rattle.point_check.specs.Window.{Folds, first_mover, fault_at, window_fault}
 use Rattle.point_check.specs.Point.{window_of, edge_fault, checker_fault}

@@ -15,7 +15,7 @@ use Rattle.flat_circuit.specs.declared.net.Net.{Net}
 use Rattle.element_kinds.specs.Kinds.{closes_of, marks_by, greatest_marks}
 use Rattle.flat_circuit.specs.Kind.{PinsFit}
 use Rattle.flat_circuit.specs.Builder.{is_asserted}
-use Rattle.net_waves.specs.Waves.{marked_pin}
+use Rattle.fixpoint_engine.specs.Waves.{marked_pin}
 use Rattle.point_check.specs.Assertion.{is_held}
 use Rattle.point_check.specs.Break.{HasMark, Asserts}
 

@@ -8,7 +8,7 @@ use Rattle.flat_circuit.specs.declared.fault.Fault.{Fault}
 use Rattle.flat_circuit.specs.declared.fault.Fault.TheVariants.{Point, Width, Hazard, Assertion}
 use Rattle.flat_circuit.specs.Circuit.{Circuit}
 use Rattle.pin_waves.specs.Pin.{pin_wave as wave_behind}
-use Rattle.net_waves.specs.Waves.{Waves, pin_wave}
+use Rattle.fixpoint_engine.specs.Waves.{Waves, pin_wave}
 
 -- A wave of the circuit's period, after this wire and complemented or not, is what a pin shows.
 pub record Shows (c : Circuit) (ws : Waves) (wave : Wave Value) (wire : Bounds) (inverted : Bool)

@@ -21,7 +21,7 @@ use Rattle.flat_circuit.specs.declared.net.Net.{Net}
 use Rattle.flat_circuit.specs.Circuit.{Circuit}
 use Rattle.flat_circuit.specs.Run.{Run, Choice, net_signal}
 use Rattle.pin_waves.specs.Interface.{wide_wave}
-use Rattle.net_waves.specs.Pins.{pin_at, StepsFrom}
+use Rattle.fixpoint_engine.specs.Pins.{pin_at, StepsFrom}
 
 -- ---- steps of a signal
 

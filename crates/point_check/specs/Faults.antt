@@ -12,7 +12,7 @@ use Rattle.flat_circuit.specs.declared.fault.Fault.TheVariants.{Point, Width, Ha
 use Rattle.flat_circuit.specs.Circuit.{Circuit}
 use Rattle.gate_eval.specs.Instance.{wave_of_pin}
 use Rattle.gate_eval.specs.Hold.{hazard}
-use Rattle.net_waves.specs.Waves.{Waves, pin_waves, marked_pin}
+use Rattle.fixpoint_engine.specs.Waves.{Waves, pin_waves, marked_pin}
 use Rattle.point_check.specs.Point.{checker_fault}
 use Rattle.point_check.specs.Assertion.{is_held, assertion_fault}
 

@@ -4,7 +4,7 @@ use Rattle.std.specs.List.{range_with_len}
 use Rattle.step_values.specs.declared.value.Value.{Value}
 use Rattle.skew_algebra.specs.Wave.{Wave}
 use Rattle.flat_circuit.specs.Circuit.{Circuit}
-use Rattle.net_waves.specs.Waves.{FitWaves, waves_of, Waves}
+use Rattle.fixpoint_engine.specs.Waves.{FitWaves, waves_of, Waves}
 use Rattle.point_check.specs.declared.known.PointFaults.{PointFaults}
 use Rattle.point_check.specs.Faults.{instance_fault, net_fault}
 

@@ -3,7 +3,7 @@ use Rattle.std.specs.Prelude.{◌≡◌, ℕ, ◌≤◌, None}
 use Rattle.scald_base.specs.Time.{period}
 use Rattle.flat_circuit.specs.declared.instance.Instance.{Instance}
 use Rattle.flat_circuit.specs.Circuit.{Circuit}
-use Rattle.net_waves.specs.Waves.{Waves}
+use Rattle.fixpoint_engine.specs.Waves.{Waves}
 use Rattle.point_check.specs.Faults.{limited_fault}
 
 -- No fault goes where a setup or a hold time is longer: where there is none with the longer times, there is none.

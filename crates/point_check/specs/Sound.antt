@@ -6,8 +6,8 @@ use Rattle.skew_algebra.specs.Permits.{Permits}
 use Rattle.flat_circuit.specs.declared.fault.Fault.{Fault}
 use Rattle.flat_circuit.specs.Circuit.{Circuit}
 use Rattle.flat_circuit.specs.Run.{Run, net_signal}
-use Rattle.net_waves.specs.Waves.{Waves}
-use Rattle.net_waves.specs.Pins.{PinsPermitAt}
+use Rattle.fixpoint_engine.specs.Waves.{Waves}
+use Rattle.fixpoint_engine.specs.Pins.{PinsPermitAt}
 use Rattle.point_check.specs.Faults.{is_of_instance, is_of_net}
 use Rattle.point_check.specs.Break.{BreaksInstance, BreaksNet}
 

@@ -4,7 +4,7 @@ ghost use Rattle.std.specs.Prelude.{◌≡◌, ◌<◌, ◌&&◌, not, IfOk, IfS
 ghost use Rattle.step_values.specs.Steps.{has};
 ghost use Rattle.scald_base.specs.Time.{period};
 ghost use Rattle.scald_base.specs.Fitting.{Fits};
-ghost use Rattle.net_waves.specs.Pins.{read};
+ghost use Rattle.fixpoint_engine.specs.Pins.{read};
 ghost use Rattle.point_check.specs.Assertion.{assertion_fault as fault_of_assertion, exceeds as exceeds_wide, first_excess as excess, is_held as held};
 
 use flat_circuit::{Fault, Net};

@@ -3,14 +3,14 @@
 ghost use Rattle.std.specs.Prelude.{◌≡◌, ◌<◌, ◌↔◌, IsTrue, IfSome, Some, length, slice_get};
 ghost use Rattle.std.specs.List.{All};
 ghost use Rattle.flat_circuit.specs.Instances.{PinExists};
-ghost use Rattle.net_waves.specs.Waves.{FitWaves, waves_of};
-ghost use Rattle.net_waves.specs.SameWaves.{IsSameAt};
+ghost use Rattle.fixpoint_engine.specs.Waves.{FitWaves, waves_of};
+ghost use Rattle.fixpoint_engine.specs.SameWaves.{IsSameAt};
 ghost use Rattle.point_check.specs.Faults.{instance_fault as fault_of_instance, net_fault as fault_of_net};
 ghost use Rattle.point_check.specs.Known.{AreChecked};
 
 use crate::known::PointFaults;
+use fixpoint_engine::{Waves, has_one_wave, has_one_wave_at};
 use flat_circuit::{Circuit, Fault, Instance, Pin};
-use net_waves::{Waves, has_one_wave, has_one_wave_at};
 use step_values::Value;
 use wave_core::CyclicWave;
 

@@ -3,7 +3,7 @@
 ghost use Rattle.std.specs.Prelude.{◌≡◌, ◌+◌, ◌≤◌, IfOk, length, slice_get, true};
 ghost use Rattle.scald_base.specs.Time.{period};
 ghost use Rattle.flat_circuit.specs.Instances.{InstanceFits, PinExists};
-ghost use Rattle.net_waves.specs.Waves.{FitWaves, waves_of, pin_wave as wave_shown};
+ghost use Rattle.fixpoint_engine.specs.Waves.{FitWaves, waves_of, pin_wave as wave_shown};
 ghost use Rattle.point_check.specs.Point.{checker_fault as fault_of_checker};
 ghost use Rattle.element_kinds.specs.Kinds.{checks_points};
 ghost use Rattle.point_check.specs.Faults.{IsPointChecker, limited_fault as fault_with, limited_fault_at};
@@ -12,8 +12,8 @@ use crate::edges::first_fault;
 use crate::folds::LastFold;
 use crate::last_check::Constraint;
 use crate::recent::Recent;
+use fixpoint_engine::{Waves, pin_wave};
 use flat_circuit::{Circuit, Fault, Instance, Pin};
-use net_waves::{Waves, pin_wave};
 use scald_base::NoMemory;
 use skew_algebra::Skewed;
 use std::alloc::Global;

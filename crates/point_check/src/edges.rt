@@ -1,7 +1,7 @@
 //! What an input does about the edges of a clock.
 
 ghost use Rattle.std.specs.Prelude.{◌≡◌, ◌+◌, ◌*◌, ◌^◌, ◌<◌, ◌≤◌, IfSome, length};
-ghost use Rattle.net_waves.specs.Pins.{read};
+ghost use Rattle.fixpoint_engine.specs.Pins.{read};
 ghost use Rattle.point_check.specs.Window.{kind_at as kind_of_place, slot_at as slot_of_place, window_fault as fault_of_window};
 ghost use Rattle.point_check.specs.Point.{edge_fault as fault_of_edge, falls_somewhere as falls, first_fault as fault_of_edges, first_low as low_after, high_window as window_of_rise, last_fall as fall_before, window_by as window_by_check, window_of as window_by_kind, all_round as window_all_round};
 ghost use Rattle.point_check.specs.Folds.{WindowFits};

@@ -2,14 +2,14 @@
 
 ghost use Rattle.std.specs.Prelude.{◌≡◌, IfOk, length, map};
 ghost use Rattle.std.specs.List.{range_with_len};
-ghost use Rattle.net_waves.specs.Waves.{FitWaves, waves_of};
+ghost use Rattle.fixpoint_engine.specs.Waves.{FitWaves, waves_of};
 ghost use Rattle.point_check.specs.Faults.{instance_fault as fault_of_instance, net_fault as fault_of_net};
 ghost use Rattle.point_check.specs.Known.{AreKnown};
 
 use crate::check::{instance_fault, net_fault};
 use crate::recent::Recent;
+use fixpoint_engine::Waves;
 use flat_circuit::{Circuit, Fault};
-use net_waves::Waves;
 use scald_base::{List, NoMemory};
 use std::alloc::Global;
 use step_values::Value;

@@ -6,12 +6,12 @@ ghost use Rattle.std.specs.Option.{option_map};
 ghost use Rattle.scald_base.specs.Time.{period};
 ghost use Rattle.flat_circuit.specs.Instances.{PinExists};
 ghost use Rattle.pin_waves.specs.Pin.{pin_wave as wave_behind};
-ghost use Rattle.net_waves.specs.Waves.{FitWaves, waves_of, pin_wave as wave_shown};
+ghost use Rattle.fixpoint_engine.specs.Waves.{FitWaves, waves_of, pin_wave as wave_shown};
 ghost use Rattle.point_check.specs.Point.{checker_fault as fault_of_checker};
 ghost use Rattle.point_check.specs.Again.{Shows, of_instance as fault_for};
 
+use fixpoint_engine::{Waves, wire_behind};
 use flat_circuit::{Circuit, Fault, Kind, Pin, Target};
-use net_waves::{Waves, wire_behind};
 use scald_base::{Delay, NoMemory};
 use skew_algebra::Skewed;
 use std::alloc::Global;

@@ -2,12 +2,12 @@
 
 ghost use Rattle.std.specs.Prelude.{◌≡◌, IfOk, length};
 ghost use Rattle.flat_circuit.specs.Instances.{InstanceFits};
-ghost use Rattle.net_waves.specs.Waves.{marked_pin as marked, FitWaves, waves_of};
+ghost use Rattle.fixpoint_engine.specs.Waves.{marked_pin as marked, FitWaves, waves_of};
 ghost use Rattle.point_check.specs.Faults.{mark_fault as fault_of_mark};
 
+use fixpoint_engine::{Waves, waves_at_pins};
 use flat_circuit::{Circuit, Fault, Instance};
 use gate_eval::hold_fault;
-use net_waves::{Waves, waves_at_pins};
 use scald_base::NoMemory;
 use std::alloc::Global;
 use step_values::Value;

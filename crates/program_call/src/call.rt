@@ -1,9 +1,9 @@
 //! The main call of a program: words and bytes in, bytes and an outcome out.
 
-ghost use Rattle.std.specs.Prelude.{◌≡◌, ◌≢◌, ℕ, ◌≤◌, ◌<◌, List, length, true, false, Ok, Err, IfOk, IfErr, IsErr, IsErrOf, IfSome, ◌⊎◌};
-ghost use Rattle.std.specs.Io.KnownBytes.{IsAtEnd};
+ghost use Rattle.std.specs.Prelude.{◌≡◌, ◌≢◌, ℕ, ◌≤◌, length, true, false, Ok, Err, IfOk, IfErr, IsErr, IsErrOf};
 ghost use Rattle.scald_base.specs.Device.{Rose, ReadsAll, ReadsFront, ReadsPast};
-ghost use Rattle.program_call.specs.Program.{AreTold, IsAnswered, IsCutShort, IsPartReplied, IsReplied, asks, ends_reading, ends_silent, has_read, is_silent, most_for, outcome_of, speaks};
+ghost use Rattle.program_call.specs.Call.{IsCall, devices};
+ghost use Rattle.program_call.specs.Program.{IsPartReplied, IsReplied, asks, ends_reading, ends_silent, most_for, outcome_of};
 
 use crate::program::Program;
 use scald_base::{Bytes, CallEnd, ReadEnd, Sink, Source, Words, read_all, write_all};
@@ -15,66 +15,19 @@ use std::alloc::Global;
 /// the most that the program reads, or to its first fault. All of the answer is made before the first
 /// byte of it is written.
 ///
-/// What the clauses say of bytes holds as far as the devices tell: of those that are left to read where
-/// the source tells them, of those that were taken where the sink does.
+/// `undriven` becomes what the program sets it to (`Program::reply`).
 pub fn main_call<P: Program, S: Source, K: Sink>(
     alloc: Global,
     words: &Words,
     source: &mut S,
     sink: &mut K,
+    undriven: &mut u32,
 ) -> P::Outcome
-    // Unrecognised words have their own answer. Nothing is read for them, nor for a form that does not
-    // read, and nothing is written where the outcome is silent.
-    ensures bad_words { (i : ℕ) → P.meaning.command_of words.now ≡ Err i →
-        result ≡ P.meaning.ended (CallEnd.BadWords i) }
-    ensures bad_words_only { (i : ℕ) → result ≡ P.meaning.ended (CallEnd.BadWords i) →
-        P.meaning.command_of words.now ≡ Err i }
-    ensures unread { asks P.meaning words.now ≡ false → source.new ≡ source.old }
-    ensures unwritten { is_silent P.meaning result ≡ true → sink.new ≡ sink.old }
-
-    // Told bytes and no fault of a device that is used: the answer that the words and the bytes have,
-    // with exactly its bytes, or no memory.
-    ensures whole { (text : List ℕ) → AreTold P.meaning words.now (S.left source.old) text →
-        (asks P.meaning words.now ≡ true → ¬ Rose (S.faults source.old) (S.faults source.new)) →
-        ¬ Rose (K.faults sink.old) (K.faults sink.new) →
-        (result ≡ P.meaning.ended CallEnd.NoMemory)
-        ⊎ IsAnswered P.meaning words.now text result (K.taken sink.old) (K.taken sink.new) }
-
-    // Whatever the devices did, an outcome that speaks of the text comes only where it is the text's
-    // own, all of the text was read, and all of the answer was written, where the sink tells what it
-    // took. Of what a source tells no more than one byte past the limit is read.
-    ensures truthful { (text : List ℕ) →
-        AreTold P.meaning words.now (S.left source.old) text → speaks P.meaning result ≡ true →
-        IsAnswered P.meaning words.now text result (K.taken sink.old) (K.taken sink.new) }
-    ensures front { ReadsFront (S.left source.old) (S.left source.new) (most_for P.meaning words.now) }
-    ensures to_end { IfSome (S.left source.old) (λ text. asks P.meaning words.now ≡ true →
-        speaks P.meaning result ≡ true → IsAtEnd (S.left source.new)) }
-
-    // No fault of a device is hidden.
-    ensures source_steady { result ≢ P.meaning.ended CallEnd.ReadFault → S.faults source.new ≡ S.faults source.old }
-    ensures sink_steady { result ≢ P.meaning.ended CallEnd.WriteFault → K.faults sink.new ≡ K.faults sink.old }
-
-    // Of which text an outcome speaks, and what is promised of it. Why the others come: a sink that
-    // tells what it took has a front of the answer's bytes after a failed write, and a source that
-    // tells its bytes had one past the limit where the text is too long.
-    ensures replied { speaks P.meaning result ≡ true →
-        IsReplied P.meaning P.promised words.now (S.left source.old) (S.left source.new) result
-        (K.taken sink.old) (K.taken sink.new) }
-    ensures read_first { has_read P.meaning result ≡ true → asks P.meaning words.now ≡ true }
-    ensures read_fault { result ≡ P.meaning.ended CallEnd.ReadFault → Rose (S.faults source.old) (S.faults source.new) }
-    ensures write_fault { result ≡ P.meaning.ended CallEnd.WriteFault → Rose (K.faults sink.old) (K.faults sink.new) }
-    ensures cut_short { (text : List ℕ) →
-        AreTold P.meaning words.now (S.left source.old) text → result ≡ P.meaning.ended CallEnd.WriteFault →
-        IsCutShort P.meaning words.now text (K.taken sink.old) (K.taken sink.new) }
-    ensures too_long { result ≡ P.meaning.ended CallEnd.TooLong →
-        ReadsPast (S.left source.old) (S.left source.new) (most_for P.meaning words.now) }
-    ensures long_text { IfSome (S.left source.old) (λ text. asks P.meaning words.now ≡ true →
-        most_for P.meaning words.now < length text →
-        ¬ Rose (S.faults source.old) (S.faults source.new) →
-        (result ≡ P.meaning.ended CallEnd.NoMemory) ⊎ (result ≡ P.meaning.ended CallEnd.TooLong)) }
+    ensures { IsCall P.meaning P.promised words.now result
+        (devices S.left S.faults K.taken K.faults) source.old source.new sink.old sink.new }
 {
     P::laws();
-    outcome::<P>(replied::<P, S, K>(alloc, words, source, sink))
+    outcome::<P>(replied::<P, S, K>(alloc, words, source, sink, undriven))
 }
 
 /// The outcome of a call, which replies or has an end.
@@ -93,6 +46,7 @@ fn replied<P: Program, S: Source, K: Sink>(
     words: &Words,
     source: &mut S,
     sink: &mut K,
+    undriven: &mut u32,
 ) -> Result<P::Outcome, CallEnd>
     ensures bad_words { (i : ℕ) → P.meaning.command_of words.now ≡ Err i → result ≡ Err (CallEnd.BadWords i) }
     ensures bad_words_only { (i : ℕ) → result ≡ Err (CallEnd.BadWords i) → P.meaning.command_of words.now ≡ Err i }
@@ -123,7 +77,7 @@ fn replied<P: Program, S: Source, K: Sink>(
         Err(ReadEnd::ReadFault) => return Err(CallEnd::ReadFault),
         Err(ReadEnd::NoMemory) => return Err(CallEnd::NoMemory),
     };
-    let reply = match P::reply(alloc, command, text.as_slice()) {
+    let reply = match P::reply(alloc, command, text.as_slice(), undriven) {
         Ok(reply) => reply,
         Err(_) => return Err(CallEnd::NoMemory),
     };

@@ -40,11 +40,14 @@ pub trait Program {
         ensures is { result ≡ meaning.most_bytes (Ok command) }
         ensures bounded { result < 2 ^ 32 - 1 };
 
-    /// The reply to a text, which is empty where the source is not read.
+    /// The reply to a text, which is empty where the source is not read. A program that verifies
+    /// sets `undriven` to how many nets of the circuit nothing determines: neither a driver nor an
+    /// assertion nor a case. Nothing is promised of that number.
     fn reply(
         alloc: Global,
         command: Self::Command,
         text: &[u8],
+        undriven: &mut u32,
     ) -> Result<Reply<Self::Outcome>, NoMemory>
         requires within { within command }
         requires short { length text.now ≤ meaning.most_bytes (Ok command) }

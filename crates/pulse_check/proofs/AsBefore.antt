@@ -8,9 +8,9 @@ use Rattle.flat_circuit.specs.declared.instance.Instance.{Instance}
 use Rattle.flat_circuit.specs.Kind.{PinsFit}
 use Rattle.flat_circuit.specs.Circuit.{Circuit}
 use Rattle.gate_eval.specs.Instance.{wave_of_pin}
-use Rattle.net_waves.specs.Waves.{Waves, pin_wave}
-use Rattle.net_waves.specs.SameWaves.{IsSameAt}
-use Rattle.net_waves.proofs.SameWaves.{same_pin}
+use Rattle.fixpoint_engine.specs.Waves.{Waves, pin_wave}
+use Rattle.fixpoint_engine.specs.SameWaves.{IsSameAt}
+use Rattle.fixpoint_engine.proofs.SameWaves.{same_pin}
 use Rattle.element_kinds.specs.Kinds.{checks_pulses}
 use Rattle.pulse_check.specs.Faults.{pin_of, listed, width_fault, faults_by_kind, faults_of, instance_faults}
 use Rattle.pulse_check.proofs.Gathered.{a_pin}

@@ -12,9 +12,9 @@ use Rattle.flat_circuit.specs.Circuit.{Circuit}
 use Rattle.flat_circuit.specs.Run.{Run, IsRun}
 use Rattle.flat_circuit.proofs.RunTables.{bounds, header, on, bits, late}
 use Rattle.flat_circuit.proofs.RunTest.{run_tells}
-use Rattle.net_waves.specs.Interface.{MeetsInterface}
-use Rattle.net_waves.proofs.Tables.{inputs_is}
-use Rattle.net_waves.proofs.WrittenRuns.{element, run_of}
+use Rattle.fixpoint_engine.specs.Interface.{MeetsInterface}
+use Rattle.fixpoint_engine.proofs.Tables.{inputs_is}
+use Rattle.fixpoint_engine.proofs.WrittenRuns.{element, run_of}
 use Rattle.pulse_check.specs.Break.{BreaksPulse}
 use Rattle.pulse_check.proofs.Literal.{found}
 

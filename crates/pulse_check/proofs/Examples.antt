@@ -14,7 +14,7 @@ use Rattle.element_kinds.specs.declared.kind.Kind.TheVariants.{MinPulse}
 use Rattle.flat_circuit.specs.declared.net.Net.{Net}
 use Rattle.flat_circuit.specs.Circuit.{Circuit}
 use Rattle.flat_circuit.proofs.RunTables.{on}
-use Rattle.net_waves.proofs.WrittenRuns.{alone, element}
+use Rattle.fixpoint_engine.proofs.WrittenRuns.{alone, element}
 use Rattle.pulse_check.specs.Faults.{width_fault, instance_faults}
 use Rattle.pulse_check.specs.Sound.{is_of_pulse}
 

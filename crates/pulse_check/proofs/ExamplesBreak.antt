@@ -7,7 +7,7 @@ use Rattle.flat_circuit.specs.declared.instance.Instance.{Instance}
 use Rattle.flat_circuit.specs.Run.{Run}
 use Rattle.flat_circuit.proofs.RunTables.{on, not_on, bits}
 use Rattle.gate_eval.proofs.PermitExamples.{signal}
-use Rattle.net_waves.proofs.WrittenRuns.{alone, element, run_of}
+use Rattle.fixpoint_engine.proofs.WrittenRuns.{alone, element, run_of}
 use Rattle.pulse_check.specs.Break.{IsPulse, BreaksPulse}
 use Rattle.pulse_check.proofs.Literal.{Breaks, broken, unbroken, found, pulse_to, no_pulse, no_width, no_step, nowhere}
 

@@ -17,9 +17,9 @@ use Rattle.flat_circuit.specs.declared.fault.Fault.TheVariants.{Width}
 use Rattle.flat_circuit.specs.Kind.{PinsFit}
 use Rattle.flat_circuit.specs.Instances.{InstanceFits, PinExists}
 use Rattle.flat_circuit.specs.Circuit.{Circuit}
-use Rattle.net_waves.specs.Waves.{Waves, pin_wave}
-use Rattle.net_waves.specs.Pins.{read}
-use Rattle.net_waves.proofs.Fits.{AreLong, long_pin}
+use Rattle.fixpoint_engine.specs.Waves.{Waves, pin_wave}
+use Rattle.fixpoint_engine.specs.Pins.{read}
+use Rattle.fixpoint_engine.proofs.Fits.{AreLong, long_pin}
 use Rattle.pulse_check.specs.Pulse.{first_narrow}
 use Rattle.element_kinds.specs.Kinds.{checks_pulses}
 use Rattle.pulse_check.specs.Faults.{fault_at, width_fault, faults_by, faults_by_kind, faults_of, instance_faults}

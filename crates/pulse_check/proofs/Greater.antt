@@ -5,7 +5,7 @@ use Rattle.step_values.specs.declared.value.Value.{Value}
 use Rattle.skew_algebra.specs.Wave.{Wave}
 use Rattle.gate_eval.proofs.Found.{first_some_beyond, first_some_nowhere}
 use Rattle.gate_eval.proofs.Held.{first_some_none, map_none}
-use Rattle.net_waves.specs.Pins.{read}
+use Rattle.fixpoint_engine.specs.Pins.{read}
 use Rattle.pulse_check.specs.Pulse.{Slots, may_begin, may_be_wide, least_width, narrow_at, first_narrow}
 use Rattle.pulse_check.specs.Faults.{fault_at, width_fault}
 use Rattle.pulse_check.specs.Laws.{GreaterWidthsKeepFaults}

@@ -25,10 +25,10 @@ use Rattle.flat_circuit.specs.Circuit.{Circuit, IsCircuit}
 use Rattle.flat_circuit.specs.Run.{Run, Choice}
 use Rattle.gate_eval.specs.Instance.{wave_of_pin}
 use Rattle.gate_eval.proofs.Held.{first_some_none, map_none}
-use Rattle.net_waves.specs.Waves.{Waves, pin_waves}
-use Rattle.net_waves.specs.Pins.{wire_to, pin_at, PinsPermit, PinsPermitAt, read}
+use Rattle.fixpoint_engine.specs.Waves.{Waves, pin_waves}
+use Rattle.fixpoint_engine.specs.Pins.{wire_to, pin_at, PinsPermit, PinsPermitAt, read}
 use Rattle.flat_circuit.proofs.Numbered.{fits_of}
-use Rattle.net_waves.proofs.Fits.{AreLong, long_pin_at}
+use Rattle.fixpoint_engine.proofs.Fits.{AreLong, long_pin_at}
 use Rattle.pulse_check.specs.Pulse.{may_begin, may_end, may_last, least_width, narrow_at, first_narrow}
 use Rattle.pulse_check.specs.Faults.{faults_by_kind, instance_faults, width_faults}
 use Rattle.pulse_check.specs.Break.{IsPulse, limit_of, BreaksWidth, BreaksKind, BreaksPulse}

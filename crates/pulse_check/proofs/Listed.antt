@@ -12,8 +12,8 @@ use Rattle.element_kinds.specs.declared.kind.Kind.TheVariants.{MinPulse}
 use Rattle.flat_circuit.specs.declared.instance.Instance.{Instance}
 use Rattle.flat_circuit.specs.declared.fault.Fault.{Fault}
 use Rattle.flat_circuit.specs.Circuit.{Circuit}
-use Rattle.net_waves.specs.Waves.{Waves}
-use Rattle.net_waves.specs.Pins.{read}
+use Rattle.fixpoint_engine.specs.Waves.{Waves}
+use Rattle.fixpoint_engine.specs.Pins.{read}
 use Rattle.pulse_check.specs.Pulse.{first_narrow}
 use Rattle.pulse_check.specs.Break.{limit_of}
 use Rattle.pulse_check.specs.Faults.{fault_at, width_fault, limited_fault, listed, faults_by_kind, faults_of, instance_faults, width_faults}

@@ -7,8 +7,8 @@ use Rattle.flat_circuit.specs.Circuit.{Circuit}
 use Rattle.flat_circuit.specs.Run.{Run, Choice}
 use Rattle.flat_circuit.proofs.RunTables.{late}
 use Rattle.pin_waves.proofs.Tests.{same_bit, same_bit_is, same_bit_from, implies, implies_is, all_below, each_passes}
-use Rattle.net_waves.specs.Pins.{pin_at}
-use Rattle.net_waves.proofs.WrittenRuns.{alone, run_of, only, only_at}
+use Rattle.fixpoint_engine.specs.Pins.{pin_at}
+use Rattle.fixpoint_engine.proofs.WrittenRuns.{alone, run_of, only, only_at}
 use Rattle.pulse_check.specs.Break.{IsPulse, IsWidthBreak, BreaksWidth, BreaksKind, BreaksPulse}
 
 -- ---- steps

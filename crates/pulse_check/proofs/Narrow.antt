@@ -4,7 +4,7 @@ use Rattle.std.specs.Option.{option_map}
 use Rattle.std.proofs.lemmas.Bool.{cases_lt, cases_eq, and_from, and_left, and_right}
 use Rattle.step_values.specs.declared.value.Value.{Value}
 use Rattle.gate_eval.proofs.Found.{first_some_from, first_some_beyond}
-use Rattle.net_waves.proofs.ReadSlots.{below_run}
+use Rattle.fixpoint_engine.proofs.ReadSlots.{below_run}
 use Rattle.pulse_check.specs.Next.{IsNextStart}
 use Rattle.pulse_check.specs.Pulse.{Slots, may_begin, may_end, may_last, lasts_for, may_be_wide, least_width, narrow_at, first_narrow}
 

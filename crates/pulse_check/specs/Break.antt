@@ -7,7 +7,7 @@ use Rattle.element_kinds.specs.Kinds.{checks_pulses}
 use Rattle.flat_circuit.specs.declared.instance.Instance.{Instance}
 use Rattle.flat_circuit.specs.Circuit.{Circuit}
 use Rattle.flat_circuit.specs.Run.{Run, Choice}
-use Rattle.net_waves.specs.Pins.{StepsFrom, pin_at}
+use Rattle.fixpoint_engine.specs.Pins.{StepsFrom, pin_at}
 
 -- the signal steps to the level at one tick and next from it at the other
 pub record IsPulse (x : Signal) (level : Bool) (start end : ℕ) : Type 0 where

@@ -12,8 +12,8 @@ use Rattle.flat_circuit.specs.declared.fault.Fault.{Fault}
 use Rattle.flat_circuit.specs.declared.fault.Fault.TheVariants.{Width}
 use Rattle.flat_circuit.specs.Circuit.{Circuit}
 use Rattle.gate_eval.specs.Instance.{wave_of_pin}
-use Rattle.net_waves.specs.Waves.{Waves, pin_waves}
-use Rattle.net_waves.specs.Pins.{read}
+use Rattle.fixpoint_engine.specs.Waves.{Waves, pin_waves}
+use Rattle.fixpoint_engine.specs.Pins.{read}
 use Rattle.pulse_check.specs.Pulse.{first_narrow}
 
 abbrev pub fault_at : ℕ → Bool → ℕ × ℕ → Fault

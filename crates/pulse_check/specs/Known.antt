@@ -5,7 +5,7 @@ use Rattle.step_values.specs.declared.value.Value.{Value}
 use Rattle.skew_algebra.specs.Wave.{Wave}
 use Rattle.flat_circuit.specs.declared.fault.Fault.{Fault}
 use Rattle.flat_circuit.specs.Circuit.{Circuit}
-use Rattle.net_waves.specs.Waves.{FitWaves, waves_of}
+use Rattle.fixpoint_engine.specs.Waves.{FitWaves, waves_of}
 use Rattle.pulse_check.specs.Faults.{instance_faults}
 
 -- waves of all nets, and the faults of each instance in them, by its number

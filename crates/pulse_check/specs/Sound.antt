@@ -5,8 +5,8 @@ use Rattle.flat_circuit.specs.declared.fault.Fault.{Fault}
 use Rattle.flat_circuit.specs.declared.fault.Fault.TheVariants.{Point, Width, Hazard, Assertion}
 use Rattle.flat_circuit.specs.Circuit.{Circuit}
 use Rattle.flat_circuit.specs.Run.{Run}
-use Rattle.net_waves.specs.Waves.{Waves}
-use Rattle.net_waves.specs.Pins.{PinsPermitAt}
+use Rattle.fixpoint_engine.specs.Waves.{Waves}
+use Rattle.fixpoint_engine.specs.Pins.{PinsPermitAt}
 use Rattle.pulse_check.specs.Break.{BreaksPulse}
 
 abbrev pub same_level : Bool → Bool → Bool

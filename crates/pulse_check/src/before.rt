@@ -2,14 +2,14 @@
 
 ghost use Rattle.std.specs.Prelude.{◌≡◌, IsTrue, IfSome, Some, length, slice_get, true};
 ghost use Rattle.flat_circuit.specs.Instances.{InstanceFits};
-ghost use Rattle.net_waves.specs.Waves.{FitWaves, waves_of};
+ghost use Rattle.fixpoint_engine.specs.Waves.{FitWaves, waves_of};
 ghost use Rattle.element_kinds.specs.Kinds.{checks_pulses};
 ghost use Rattle.pulse_check.specs.Faults.{instance_faults, pin_of};
 ghost use Rattle.pulse_check.specs.Known.{AreChecked};
 
 use crate::known::PulseFaults;
+use fixpoint_engine::{Waves, has_one_wave_at};
 use flat_circuit::{Circuit, Faults, Instance};
-use net_waves::{Waves, has_one_wave_at};
 use step_values::Value;
 use wave_core::CyclicWave;
 

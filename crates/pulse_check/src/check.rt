@@ -2,7 +2,7 @@
 
 ghost use Rattle.std.specs.Prelude.{◌≡◌, ◌++◌, IfOk, IfSome, OnOk, length, map};
 ghost use Rattle.std.specs.List.{range_with_len};
-ghost use Rattle.net_waves.specs.Waves.{FitWaves, waves_of};
+ghost use Rattle.fixpoint_engine.specs.Waves.{FitWaves, waves_of};
 ghost use Rattle.pulse_check.specs.Faults.{instance_faults, width_faults};
 ghost use Rattle.pulse_check.specs.Known.{AreChecked};
 ghost use Rattle.pulse_check.specs.Sound.{KeepsWidths};
@@ -10,8 +10,8 @@ ghost use Rattle.pulse_check.specs.Sound.{KeepsWidths};
 use crate::before::{Before, faults_before};
 use crate::checker::add_checker_faults;
 use crate::known::PulseFaults;
+use fixpoint_engine::Waves;
 use flat_circuit::{Circuit, Faults, append_faults};
-use net_waves::Waves;
 use scald_base::NoMemory;
 use std::alloc::Global;
 use step_values::Value;

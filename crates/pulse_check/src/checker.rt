@@ -3,13 +3,13 @@
 ghost use Rattle.std.specs.Prelude.{◌≡◌, ◌≤◌, ◌++◌, IfOk, OnOk, length, slice_get, true};
 ghost use Rattle.scald_base.specs.Time.{period};
 ghost use Rattle.flat_circuit.specs.Instances.{InstanceFits};
-ghost use Rattle.net_waves.specs.Waves.{FitWaves, waves_of};
+ghost use Rattle.fixpoint_engine.specs.Waves.{FitWaves, waves_of};
 ghost use Rattle.element_kinds.specs.Kinds.{checks_pulses};
 ghost use Rattle.pulse_check.specs.Faults.{IsPulseChecker, faults_by_kind, limited_fault_at, pin_of, width_fault as fault_of_wave};
 
 use crate::pulse::first_narrow;
+use fixpoint_engine::{Waves, pin_wave};
 use flat_circuit::{Circuit, Fault, Faults, Instance};
-use net_waves::{Waves, pin_wave};
 use scald_base::NoMemory;
 use skew_algebra::Skewed;
 use std::alloc::Global;

@@ -2,12 +2,12 @@
 
 ghost use Rattle.std.specs.Prelude.{◌≡◌, IfOk, length, map};
 ghost use Rattle.std.specs.List.{range_with_len};
-ghost use Rattle.net_waves.specs.Waves.{FitWaves, waves_of};
+ghost use Rattle.fixpoint_engine.specs.Waves.{FitWaves, waves_of};
 ghost use Rattle.pulse_check.specs.Faults.{instance_faults};
 
 use crate::check::add_faults;
+use fixpoint_engine::Waves;
 use flat_circuit::{Circuit, Faults};
-use net_waves::Waves;
 use scald_base::{List, NoMemory};
 use std::alloc::Global;
 use step_values::Value;

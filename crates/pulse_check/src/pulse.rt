@@ -1,7 +1,7 @@
 //! How narrow the pulses of a wave may be.
 
 ghost use Rattle.std.specs.Prelude.{◌≡◌, ◌<◌, ◌≤◌, length};
-ghost use Rattle.net_waves.specs.Pins.{read};
+ghost use Rattle.fixpoint_engine.specs.Pins.{read};
 ghost use Rattle.pulse_check.specs.Pulse.{first_narrow as narrow_pulse, least_width as least_width_of, may_begin as begins, may_end as ends, may_last as lasts, narrow_at as narrow_in};
 ghost use Rattle.pulse_check.specs.Next.{IsNextStart};
 

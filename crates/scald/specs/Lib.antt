@@ -1,3 +1,2 @@
 pub mod Said
 pub mod Named
-pub mod Traced

@@ -1,15 +1,28 @@
--- Which main call the first word names, and the status of its answer.
+-- Which main call the first word names, what its answer is, and the status of that.
 use Rattle.std.specs.Prelude.{ℕ, List, [], ◌∷◌, codes, if◌then◌else◌}
 use Rattle.std.specs.Str.{bytes_eq}
+use Rattle.program_call.specs.Call.{Devices, IsCall, nothing_more}
+use Rattle.scald_base.specs.declared.outcome.Outcome.{Outcome}
 use Rattle.scald_base.specs.Outcome.{status_of as outcome_status}
+use Rattle.scald_tool.specs.Answer.{verifier}
+use Rattle.scald_tool.specs.Kept.{IsPromised}
+use Rattle.drawing_notes.specs.Answer.{notes_program}
+use Rattle.margin_report.specs.Answer.{margins}
+use Rattle.fault_chain.specs.Answer.{chains}
+use Rattle.fault_report.specs.Answer.{explainer}
+use Rattle.section_compose.specs.Answer.{composer}
+use Rattle.section_compose.specs.Promise.{IsPromised as IsPromisedJoined}
+use Rattle.section_compose.specs.declared.outcome.SectionsOutcome.{SectionsOutcome}
 use Rattle.section_compose.specs.Outcome.{status_of as sections_status}
+use Rattle.trace_tool.specs.Simulator.{simulator}
+use Rattle.trace_tool.specs.declared.outcome.TraceOutcome.{TraceOutcome}
 use Rattle.trace_tool.specs.Outcome.{status_of as trace_status}
 use Rattle.scald.specs.declared.named.Answer.{Answer}
 use Rattle.scald.specs.declared.named.Answer.TheVariants as answer
 use Rattle.scald.specs.declared.named.Call.{Call}
 use Rattle.scald.specs.declared.named.Call.TheVariants.{Tool, Notes, Margins, Chains, Explanations, Sections, Simulator}
 
--- that of the verifier where it names no other, or there is none
+-- that of the verifier if it names no other, or there is none
 abbrev pub call_of : List (List ℕ) → Call
 call_of [] = Tool
 call_of (first ∷ others) =
@@ -21,6 +34,35 @@ call_of (first ∷ others) =
     else (if bytes_eq first (codes "run") then Simulator
     else (if bytes_eq first (codes "judge") then Simulator
     else Tool))))))
+
+-- ---- the answer
+
+abbrev pub of_drawing : (Outcome → Type 0) → Answer → Type 0
+of_drawing Is (answer.Drawing o) = Is o
+of_drawing Is (answer.Sections o) = ⊥
+of_drawing Is (answer.Run o) = ⊥
+
+abbrev pub of_sections : (SectionsOutcome → Type 0) → Answer → Type 0
+of_sections Is (answer.Drawing o) = ⊥
+of_sections Is (answer.Sections o) = Is o
+of_sections Is (answer.Run o) = ⊥
+
+abbrev pub of_run : (TraceOutcome → Type 0) → Answer → Type 0
+of_run Is (answer.Drawing o) = ⊥
+of_run Is (answer.Sections o) = ⊥
+of_run Is (answer.Run o) = Is o
+
+-- The answer is that of a main call to all words, with what it did to its devices.
+abbrev pub IsAnswerOf : {S K : Type 0} → Call → List (List ℕ) → Answer → Devices S K → S → S → K → K → Type 0
+IsAnswerOf Tool words a d s s' k k' = of_drawing (λ o. IsCall verifier IsPromised words o d s s' k k') a
+IsAnswerOf Notes words a d s s' k k' = of_drawing (λ o. IsCall notes_program nothing_more words o d s s' k k') a
+IsAnswerOf Margins words a d s s' k k' = of_drawing (λ o. IsCall margins nothing_more words o d s s' k k') a
+IsAnswerOf Chains words a d s s' k k' = of_drawing (λ o. IsCall chains nothing_more words o d s s' k k') a
+IsAnswerOf Explanations words a d s s' k k' = of_drawing (λ o. IsCall explainer nothing_more words o d s s' k k') a
+IsAnswerOf Sections words a d s s' k k' = of_sections (λ o. IsCall composer IsPromisedJoined words o d s s' k k') a
+IsAnswerOf Simulator words a d s s' k k' = of_run (λ o. IsCall simulator nothing_more words o d s s' k k') a
+
+-- ---- the status
 
 abbrev pub status_of : Answer → ℕ
 status_of (answer.Drawing o) = outcome_status o

@@ -19,10 +19,10 @@ mod said;
 mod traced;
 mod unstarted;
 
+use diagnostics::KeptSource;
 use named::{Answer, answer_to};
-use refusal_help::KeptSource;
-use said::{say, say_answer};
-use scald_base::{StdSink, StdSource};
+use said::{say, say_answer, say_undriven};
+use scald_base::{Outcome, StdSink, StdSource};
 use scald_tool::{Words, words_of};
 use std::io::Eprint;
 use std::process::ExitCode;
@@ -43,16 +43,21 @@ fn end_unstarted(rt: &impl Eprint, cause: Unstarted) -> ExitCode
     ExitCode::from(cause.status())
 }
 
-/// Says why there is no answer, where there is none, and gives the status of its outcome.
+/// Says why there is no answer, if there is none, or else how many nets nothing determines, and gives the
+/// status of the outcome.
 fn end(
     rt: &(impl Eprint + AllocGlobal),
     words: &Words,
     text: Option<&[u8]>,
     answer: &Answer,
+    undriven: u32,
 ) -> ExitCode
     ensures { exit_status result ≡ status_of answer.now }
 {
     say_answer(rt, words, text, answer);
+    if let Answer::Drawing(Outcome::Clean | Outcome::Faulty(_)) = answer {
+        say_undriven(rt, undriven);
+    }
     ExitCode::from(answer.status())
 }
 
@@ -63,6 +68,7 @@ fn main(rt: HostRuntime) -> ExitCode {
     };
     let mut source = KeptSource::new(rt.alloc(), StdSource::new(rt.reader()));
     let mut sink = StdSink::new(io::writer(&rt));
-    let answer = answer_to(rt.alloc(), &words, &mut source, &mut sink);
-    end(&rt, &words, source.kept(), &answer)
+    let mut undriven = 0;
+    let answer = answer_to(rt.alloc(), &words, &mut source, &mut sink, &mut undriven);
+    end(&rt, &words, source.kept(), &answer, undriven)
 }

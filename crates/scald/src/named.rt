@@ -1,13 +1,17 @@
 //! The main call that the first word names.
 
-ghost use Rattle.std.specs.Prelude.{◌≡◌};
-ghost use Rattle.scald.specs.Named.{call_of, status_of};
+ghost use Rattle.std.specs.Prelude.{◌≡◌, ℕ, List, IfSome, true};
+ghost use Rattle.program_call.specs.Call.{devices};
+ghost use Rattle.scald.specs.Named.{IsAnswerOf, call_of, status_of};
+ghost use Rattle.scald_tool.specs.Promise.{has_report};
+ghost use Rattle.section_compose.specs.Promise.{NeverBreaksJoined};
+ghost use Rattle.timing_analysis.specs.Promise.{FaultlessNeverBreaks, NeverBreaks};
 
 use drawing_notes::notes_main;
 use fault_chain::chain_main;
 use fault_report::explain_main;
 use margin_report::margin_main;
-use scald_base::{List, Outcome, Sink, Source, Words};
+use scald_base::{Outcome, Sink, Source, Words};
 use scald_tool::{status, tool_main};
 use section_compose::{SectionsOutcome, sections_main, sections_status};
 use std::alloc::Global;
@@ -15,8 +19,8 @@ use trace_tool::{TraceOutcome, trace_main, trace_status};
 
 /// A main call.
 #[derive(Clone, Copy, PartialEq, Eq, Debug)]
-enum Call {
-    /// That of the verifier, by all words.
+pub enum Call {
+    /// That of the verifier.
     Tool,
     /// That of the notes.
     Notes,
@@ -28,7 +32,7 @@ enum Call {
     Explanations,
     /// That of sections.
     Sections,
-    /// That of the simulator, by all words.
+    /// That of the simulator.
     Simulator,
 }
 
@@ -53,7 +57,7 @@ impl Answer {
     }
 }
 
-/// The main call that the first word names, or that of the verifier where it names none or there is none.
+/// The main call that the first word names, or that of the verifier if it names none or there is none.
 fn call_of(words: &Words) -> Call
     ensures { result ≡ call_of words.now }
 {
@@ -79,100 +83,35 @@ fn call_of(words: &Words) -> Call
     }
 }
 
-/// The outcome of the verifier, by all words.
-fn tool<S: Source, K: Sink>(alloc: Global, words: &Words, source: &mut S, sink: &mut K) -> Outcome {
-    tool_main(alloc, words, source, sink)
-}
-
-/// The outcome of the notes. No word may follow theirs, so where one does, it is wrong.
-fn notes<S: Source, K: Sink>(
-    alloc: Global,
-    words: &Words,
-    source: &mut S,
-    sink: &mut K,
-) -> Outcome {
-    if words.len() > 1 {
-        return Outcome::BadWords(1);
-    }
-    notes_main(alloc, &List::new(alloc), source, sink)
-}
-
-/// The outcome of the margins. No word may follow theirs.
-fn margins<S: Source, K: Sink>(
-    alloc: Global,
-    words: &Words,
-    source: &mut S,
-    sink: &mut K,
-) -> Outcome {
-    if words.len() > 1 {
-        return Outcome::BadWords(1);
-    }
-    margin_main(alloc, &List::new(alloc), source, sink)
-}
-
-/// The outcome of the chains. No word may follow theirs.
-fn chains<S: Source, K: Sink>(
-    alloc: Global,
-    words: &Words,
-    source: &mut S,
-    sink: &mut K,
-) -> Outcome {
-    if words.len() > 1 {
-        return Outcome::BadWords(1);
-    }
-    chain_main(alloc, &List::new(alloc), source, sink)
-}
-
-/// The outcome of the explanations. No word may follow theirs.
-fn explanations<S: Source, K: Sink>(
-    alloc: Global,
-    words: &Words,
-    source: &mut S,
-    sink: &mut K,
-) -> Outcome {
-    if words.len() > 1 {
-        return Outcome::BadWords(1);
-    }
-    explain_main(alloc, &List::new(alloc), source, sink)
-}
-
-/// The outcome of sections. No word may follow theirs; words are counted after it.
-fn sections<S: Source, K: Sink>(
-    alloc: Global,
-    words: &Words,
-    source: &mut S,
-    sink: &mut K,
-) -> SectionsOutcome {
-    if words.len() > 1 {
-        return SectionsOutcome::BadWords(0);
-    }
-    sections_main(alloc, &List::new(alloc), source, sink)
-}
-
-/// The outcome of the simulator, by all words.
-fn simulator<S: Source, K: Sink>(
-    alloc: Global,
-    words: &Words,
-    source: &mut S,
-    sink: &mut K,
-) -> TraceOutcome {
-    trace_main(alloc, words, source, sink)
-}
-
-/// What the main call answers that the first word names.
+/// The answer of the main call that the first word names, to all words. `undriven` is as `tool_main` sets it.
 pub fn answer_to<S: Source, K: Sink>(
     alloc: Global,
     words: &Words,
     source: &mut S,
     sink: &mut K,
-) -> Answer {
+    undriven: &mut u32,
+) -> Answer
+    ensures call { IsAnswerOf (call_of words.now) words.now result
+        (devices S.left S.faults K.taken K.faults) source.old source.new sink.old sink.new }
+
+    // No fault, no break: in every run of the circuit that the text draws, from the printed tick on.
+    ensures clean { IfSome (S.left source.old) (λ text. call_of words.now ≡ Call.Tool →
+        result ≡ Answer.Drawing Outcome.Clean → NeverBreaks text) }
+    ensures faultless { IfSome (S.left source.old) (λ text. (o : Outcome) →
+        call_of words.now ≡ Call.Tool → result ≡ Answer.Drawing o → has_report o ≡ true →
+        FaultlessNeverBreaks text) }
+
+    // The same of the whole that sections make.
+    ensures joined { IfSome (S.left source.old) (λ text. call_of words.now ≡ Call.Sections →
+        result ≡ Answer.Sections SectionsOutcome.Clean → NeverBreaksJoined text) }
+{
     match call_of(words) {
-        Call::Tool => Answer::Drawing(tool(alloc, words, source, sink)),
-        Call::Notes => Answer::Drawing(notes(alloc, words, source, sink)),
-        Call::Margins => Answer::Drawing(margins(alloc, words, source, sink)),
-        Call::Chains => Answer::Drawing(chains(alloc, words, source, sink)),
-        Call::Explanations => Answer::Drawing(explanations(alloc, words, source, sink)),
-        Call::Sections => Answer::Sections(sections(alloc, words, source, sink)),
-        Call::Simulator => Answer::Run(simulator(alloc, words, source, sink)),
+        Call::Tool => Answer::Drawing(tool_main(alloc, words, source, sink, undriven)),
+        Call::Notes => Answer::Drawing(notes_main(alloc, words, source, sink)),
+        Call::Margins => Answer::Drawing(margin_main(alloc, words, source, sink)),
+        Call::Chains => Answer::Drawing(chain_main(alloc, words, source, sink)),
+        Call::Explanations => Answer::Drawing(explain_main(alloc, words, source, sink)),
+        Call::Sections => Answer::Sections(sections_main(alloc, words, source, sink)),
+        Call::Simulator => Answer::Run(trace_main(alloc, words, source, sink)),
     }
 }

@@ -1,71 +1,55 @@
 //! What the program says on standard error where the simulator ends without an answer.
 
-ghost use Rattle.std.specs.Prelude.{◌≡◌, IfOk};
-ghost use Rattle.std.specs.Option.{option_copied};
-ghost use Rattle.scald.specs.Traced.{cases_line, why_of_trace, wrong_line};
-
-use crate::said::{forms, no_memory, say, say_lines, say_refusal, unread, unwritten};
-use listing::{Piece, add_line};
-use refusal_help::explain_words;
-use scald_base::{Bytes, NoMemory};
-use scald_tool::Words;
+use crate::said::{FORMS, NO_MEMORY, UNREAD, UNWRITTEN, say, say_lines, say_refusal};
+use diagnostics::{Lines, Part, explain_words};
+use scald_base::Words;
 use std::alloc::Global;
 use std::io::Eprint;
-use trace_text::split_trace;
-use trace_tool::TraceOutcome;
+use trace_tool::{TraceOutcome, split_trace};
 
 /// Why an outcome is no answer, or None where there is nothing to say that has no number.
-fn why(outcome: &TraceOutcome) -> Option<&'static str>
-    ensures { option_copied result ≡ why_of_trace outcome.now }
-{
+fn why(outcome: &TraceOutcome) -> Option<&'static str> {
     match outcome {
-        TraceOutcome::Done => None,
-        TraceOutcome::Broken => None,
-        TraceOutcome::Refused(_) => None,
-        TraceOutcome::NotRun => None,
-        TraceOutcome::BadWords(_) => Some(forms()),
+        TraceOutcome::BadWords(_) => Some(FORMS),
         TraceOutcome::TooLong => Some(
             "scald: the drawing has more than 4194304 bytes, or with a trace more than 16777216",
         ),
-        TraceOutcome::ReadFault => Some(unread()),
-        TraceOutcome::WriteFault => Some(unwritten()),
-        TraceOutcome::NoMemory => Some(no_memory()),
-        TraceOutcome::BadTrace(_) => None,
-        TraceOutcome::NoCase(_) => None,
+        TraceOutcome::ReadFault => Some(UNREAD),
+        TraceOutcome::WriteFault => Some(UNWRITTEN),
+        TraceOutcome::NoMemory => Some(NO_MEMORY),
         TraceOutcome::TooBig => Some("scald: the trace would have more than 4000000 bits"),
+        TraceOutcome::Done
+        | TraceOutcome::Broken
+        | TraceOutcome::Refused(_)
+        | TraceOutcome::NotRun
+        | TraceOutcome::BadTrace(_)
+        | TraceOutcome::NoCase(_) => None,
     }
 }
 
 /// Which line of a trace is wrong, from 1, or that none ends it where the number is 0.
-fn explain_line(alloc: Global, number: u32) -> Result<Bytes, NoMemory>
-    ensures { IfOk result (λ bytes. bytes ≡ wrong_line number) }
-{
-    let mut out = Bytes::new(alloc);
+fn explain_line(alloc: Global, number: u32) -> Lines {
+    let mut out = Lines::new(alloc);
     if number == 0 {
-        let end = Piece::Text(b"scald: no line END TRACE ends the trace");
-        add_line(&mut out, &[end])?;
+        out.line(&[Part::Text(b"scald: no line END TRACE ends the trace")]);
     } else {
-        let pieces = [
-            Piece::Text(b"scald: line "),
-            Piece::Number(u64::from(number)),
-            Piece::Text(b" is not what stands there in a trace of the drawing"),
-        ];
-        add_line(&mut out, &pieces)?;
+        out.line(&[
+            Part::Text(b"scald: line "),
+            Part::Number(u64::from(number)),
+            Part::Text(b" is not what stands there in a trace of the drawing"),
+        ]);
     }
-    Ok(out)
+    out
 }
 
 /// How many cases there are.
-fn explain_cases(alloc: Global, count: u32) -> Result<Bytes, NoMemory>
-    ensures { IfOk result (λ bytes. bytes ≡ cases_line count) }
-{
-    let mut out = Bytes::new(alloc);
-    let pieces = [
-        Piece::Text(b"scald: the drawing has no such case: it has "),
-        Piece::Number(u64::from(count)),
-    ];
-    add_line(&mut out, &pieces)?;
-    Ok(out)
+fn explain_cases(alloc: Global, count: u32) -> Lines {
+    let mut out = Lines::new(alloc);
+    out.line(&[
+        Part::Text(b"scald: the drawing has no such case: it has "),
+        Part::Number(u64::from(count)),
+    ]);
+    out
 }
 
 /// The drawing in a text: what follows the trace where a trace is judged, and else all of it.
@@ -91,15 +75,15 @@ pub fn say_trace(
 ) {
     match outcome {
         TraceOutcome::BadWords(number) => {
-            say_lines(rt, explain_words(rt.alloc(), words, *number));
+            say_lines(rt, &explain_words(rt.alloc(), words, *number));
         }
         TraceOutcome::Refused(refusal) => {
             if let Some(text) = text {
                 say_refusal(rt, Some(drawing_of(words, text)), *refusal);
             }
         }
-        TraceOutcome::BadTrace(number) => say_lines(rt, explain_line(rt.alloc(), *number)),
-        TraceOutcome::NoCase(count) => say_lines(rt, explain_cases(rt.alloc(), *count)),
+        TraceOutcome::BadTrace(number) => say_lines(rt, &explain_line(rt.alloc(), *number)),
+        TraceOutcome::NoCase(count) => say_lines(rt, &explain_cases(rt.alloc(), *count)),
         _ => {}
     }
     if let Some(why) = why(outcome) {

@@ -3,9 +3,9 @@
 ghost use Rattle.std.specs.Prelude.{◌≡◌, ◌≢◌};
 ghost use Rattle.std.specs.IoError.{error_kind};
 ghost use Rattle.std.specs.declared.io.ErrorKind.TheVariants.{OutOfMemory};
-ghost use Rattle.scald.specs.Said.{unstarted_status, unstarted_why};
+ghost use Rattle.scald.specs.Said.{unstarted_status};
 
-use crate::said::no_memory;
+use crate::said::NO_MEMORY;
 use scald_base::NoMemory;
 use std::io;
 
@@ -30,12 +30,10 @@ impl Unstarted {
     }
 
     /// The line that says so on standard error.
-    pub fn why(self) -> &'static str
-        ensures { result.now ≡ unstarted_why self }
-    {
+    pub fn why(self) -> &'static str {
         match self {
             Unstarted::NoArguments => "scald: the system gives no arguments, or not as text",
-            Unstarted::NoMemory => no_memory(),
+            Unstarted::NoMemory => NO_MEMORY,
         }
     }
 }

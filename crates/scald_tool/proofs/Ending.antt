@@ -13,7 +13,7 @@ use Rattle.timing_analysis.specs.Case.{fault_count, listed_cases}
 use Rattle.scald_base.specs.declared.outcome.Outcome.{Outcome}
 use Rattle.scald_base.specs.declared.outcome.Outcome.TheVariants.{Done}
 use Rattle.program_call.specs.declared.reply.Reply.{Reply}
-use Rattle.timing_reply.specs.Answer.{Concluded, rested}
+use Rattle.program_call.specs.Answer.{Concluded, rested}
 use Rattle.scald_tool.specs.Report.{faults_in}
 use Rattle.scald_tool.specs.Reported.{IsReported}
 use Rattle.scald_tool.specs.Answer.{measured}

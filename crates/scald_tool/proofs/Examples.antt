@@ -13,7 +13,7 @@ use Rattle.program_call.specs.Program.{by_source, by_words}
 use Rattle.scald_tool.specs.declared.words.Command.{Command}
 use Rattle.scald_tool.specs.declared.words.Command.TheVariants.{Verify, Format, Upgrade, Bench}
 use Rattle.scald_tool.specs.Words.{are_reading, command_of, reads}
-use Rattle.timing_reply.specs.Answer.{limit_for, verdict_of}
+use Rattle.program_call.specs.Answer.{limit_for, verdict_of}
 use Rattle.scald_tool.specs.Answer.{most_bytes}
 use Rattle.scald_base.specs.Outcome.{status_of}
 use Rattle.scald_tool.specs.Report.{faults_in}

@@ -10,8 +10,8 @@ use Rattle.scald_base.specs.declared.outcome.Outcome.{Outcome}
 use Rattle.scald_base.specs.declared.outcome.Outcome.TheVariants.{Clean, Faulty, Done, NoMemory}
 use Rattle.scald_tool.specs.declared.words.Command.{Command}
 use Rattle.timing_analysis.specs.Case.{fault_count}
-use Rattle.timing_reply.specs.Answer as evaluation
-use Rattle.timing_reply.specs.Answer.{Telling, Evaluated, verdict_of}
+use Rattle.program_call.specs.Answer as evaluation
+use Rattle.program_call.specs.Answer.{Telling, Evaluated, verdict_of}
 use Rattle.scald_tool.specs.Answer as answer
 use Rattle.scald_tool.specs.Answer.{Replied, measured, reported}
 use Rattle.scald_tool.specs.Promise.{IsAnswered}

@@ -9,7 +9,7 @@ use Rattle.scald_base.specs.declared.outcome.Outcome.TheVariants.{Clean, Faulty,
 use Rattle.program_call.specs.declared.reply.Reply.{Reply}
 use Rattle.scald_tool.specs.declared.words.Command.{Command}
 use Rattle.scald_tool.specs.declared.words.Command.TheVariants.{Verify, Format, Upgrade, Bench}
-use Rattle.drawn_circuit.specs.Drawn.{IsLoopless}
+use Rattle.timing_analysis.specs.Drawn.{IsLoopless}
 use Rattle.scald_tool.specs.Promise.{asks_verify, has_report, may_give, unlimited}
 
 pub gives_by : (command form : Command) (made : Result (Reply Outcome) OutOfMemory) → command ≡ form →

@@ -9,7 +9,7 @@ use Rattle.scald_tool.specs.declared.words.Command.{Command}
 use Rattle.scald_tool.specs.declared.words.Command.TheVariants.{Verify, Format, Upgrade, Bench}
 use Rattle.scald_tool.specs.Answer as answer
 use Rattle.scald_tool.specs.Answer.{measured, reported, Formatted, Upgrades, Replied}
-use Rattle.timing_reply.proofs.Judgement.{one_evaluated}
+use Rattle.program_call.proofs.Judgement.{one_evaluated}
 
 one_formatted : (text : List ℕ) (o o' : Outcome) (bytes bytes' : List ℕ) → Formatted text o bytes → Formatted text o' bytes' → (o ≡ o') × (bytes ≡ bytes')
 one_formatted text _ _ _ _ (answer.undrawn r is) (answer.undrawn s is') = let same : r ≡ s = one_cause text r s is is' in (rw same refl, rw same refl)

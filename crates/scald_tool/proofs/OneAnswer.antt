@@ -10,7 +10,7 @@ use Rattle.scald_tool.specs.Words.{reads}
 use Rattle.timing_analysis.specs.Case.{fault_count}
 use Rattle.scald_tool.specs.Answer as answer
 use Rattle.scald_tool.specs.Answer.{Replied, measured, reported, verifier}
-use Rattle.timing_reply.proofs.Speaking.{evaluated_speaks, verdict_speaks}
+use Rattle.program_call.proofs.Speaking.{evaluated_speaks, verdict_speaks}
 use Rattle.scald_tool.specs.Laws.{OneAnswer}
 use Rattle.scald_tool.proofs.Judgement.{one_reply}
 

@@ -6,17 +6,17 @@ use Rattle.flat_circuit.specs.declared.case.CaseValue.{CaseValue}
 use Rattle.flat_circuit.specs.Circuit.{Circuit}
 use Rattle.listing.specs.declared.case.Mode.{Mode}
 use Rattle.scald_base.specs.declared.outcome.Outcome.{Outcome}
-use Rattle.drawn_circuit.specs.Drawn.{DrawsCircuit}
+use Rattle.timing_analysis.specs.Drawn.{DrawsCircuit}
 use Rattle.timing_analysis.specs.Case.{Case, listed_cases}
-use Rattle.timing_reply.specs.Answer as answer
-use Rattle.timing_reply.specs.Answer.{limit_for, rested, unsettled, case_unsettled}
+use Rattle.program_call.specs.Answer as answer
+use Rattle.program_call.specs.Answer.{limit_for, rested, unsettled, case_unsettled}
 use Rattle.scald_tool.specs.Answer.{Judged, Verified}
 use Rattle.scald_tool.specs.Report.{report}
 use Rattle.timing_analysis.specs.Promise.{IsKept, IsSafe, IsUnbroken}
 use Rattle.scald_tool.specs.Promise.{has_report}
 use Rattle.scald_tool.specs.Laws.{ReportsArePromised}
 use Rattle.timing_analysis.proofs.OneRest.{rest_in_one_way}
-use Rattle.drawn_circuit.proofs.OneText.{text_draws_one_circuit}
+use Rattle.timing_analysis.proofs.OneText.{text_draws_one_circuit}
 
 -- The report on a circuit is that of the base and the cases at rest, whatever is said to hold of these.
 judged_report : (mode : Mode) (version : ℕ) (c : Circuit) (values : List (List CaseValue)) (limit limit' : ℕ) (o : Outcome)

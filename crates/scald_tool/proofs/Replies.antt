@@ -12,7 +12,7 @@ use Rattle.flat_circuit.specs.declared.case.CaseValue.{CaseValue}
 use Rattle.flat_circuit.specs.Circuit.{Circuit}
 use Rattle.fixpoint_engine.specs.Rounds.{RestsAt}
 use Rattle.case_analysis.specs.Base.{base_round}
-use Rattle.drawn_circuit.specs.Drawn.{DrawsAs}
+use Rattle.timing_analysis.specs.Drawn.{DrawsAs}
 use Rattle.listing.specs.declared.case.Mode.{Mode}
 use Rattle.listing.specs.Answer.{refusal_line}
 use Rattle.timing_analysis.specs.Case.{listed_cases, fault_count}
@@ -24,7 +24,7 @@ use Rattle.program_call.specs.declared.reply.Reply.{Reply}
 use Rattle.scald_tool.specs.declared.words.Command.{Command}
 use Rattle.scald_tool.specs.declared.words.Command.TheVariants.{Verify, Format, Upgrade, Bench}
 use Rattle.scald_tool.specs.Answer as answer
-use Rattle.timing_reply.specs.Answer.{limit_for, rested, judged, verdict_of}
+use Rattle.program_call.specs.Answer.{limit_for, rested, judged, verdict_of}
 use Rattle.scald_tool.specs.Answer.{Judged, Verified, Benched, Formatted, Upgrades, Replied}
 use Rattle.scald_tool.specs.Reported.{IsReported}
 use Rattle.scald_tool.proofs.Verdict.{verdict_clean}

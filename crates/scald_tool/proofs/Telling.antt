@@ -11,7 +11,7 @@ use Rattle.step_values.specs.declared.value.Value.{Value}
 use Rattle.skew_algebra.specs.Wave.{Wave}
 use Rattle.flat_circuit.specs.declared.fault.Fault.{Fault}
 use Rattle.flat_circuit.specs.Circuit.{Circuit}
-use Rattle.net_waves.specs.Waves.{waves_of}
+use Rattle.fixpoint_engine.specs.Waves.{waves_of}
 use Rattle.listing.specs.declared.case.Mode.{Mode}
 use Rattle.listing.specs.Head.{head}
 use Rattle.listing.specs.Case.{case_lines}
@@ -22,7 +22,7 @@ use Rattle.timing_analysis.specs.Rested.{IsCaseAtRest, settled_case}
 use Rattle.timing_analysis.proofs.Cases.{none_at_rest, one_more_at_rest}
 use Rattle.scald_base.specs.declared.outcome.Outcome.{Outcome}
 use Rattle.program_call.specs.declared.reply.Reply.{Reply}
-use Rattle.timing_reply.specs.Answer.{verdict_of}
+use Rattle.program_call.specs.Answer.{verdict_of}
 use Rattle.scald_tool.specs.Report.{case_text}
 use Rattle.scald_tool.specs.Reported.{IsReported}
 

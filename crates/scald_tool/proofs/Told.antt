@@ -10,7 +10,7 @@ use Rattle.program_call.proofs.Answering.{read_whole, told_all}
 use Rattle.scald_tool.specs.declared.words.Command.{Command}
 use Rattle.scald_tool.specs.declared.words.Command.TheVariants.{Verify, Format, Upgrade, Bench}
 use Rattle.scald_tool.specs.Words.{command_of, reads}
-use Rattle.drawn_circuit.specs.Drawn.{IsLoopless}
+use Rattle.timing_analysis.specs.Drawn.{IsLoopless}
 use Rattle.scald_tool.specs.Answer.{most_bytes, verifier}
 use Rattle.timing_analysis.specs.Promise.{FaultlessNeverBreaks, NeverBreaks}
 use Rattle.scald_tool.specs.Promise.{AreTold, RestsWithoutLoops, has_report, may_give, may_answer, speaks, unlimited}

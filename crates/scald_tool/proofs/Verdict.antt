@@ -6,7 +6,7 @@ use Rattle.listing.specs.declared.case.Mode.{Mode}
 use Rattle.scald_base.specs.declared.outcome.Outcome.{Outcome}
 use Rattle.scald_base.specs.declared.outcome.Outcome.TheVariants.{Clean, Faulty, Unsettled}
 use Rattle.scald_tool.specs.declared.words.Command.TheVariants.{Verify}
-use Rattle.timing_reply.specs.Answer.{verdict_of}
+use Rattle.program_call.specs.Answer.{verdict_of}
 use Rattle.scald_tool.specs.Report.{faults_in}
 use Rattle.scald_tool.specs.Promise.{may_give}
 

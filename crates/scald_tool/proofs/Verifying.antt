@@ -6,7 +6,7 @@ use Rattle.scald_base.specs.declared.outcome.Outcome.TheVariants.{NoMemory}
 use Rattle.scald_tool.specs.declared.words.Command.TheVariants.{Verify}
 use Rattle.scald_tool.specs.Answer.{Verified, reported}
 use Rattle.scald_tool.specs.Promise.{IsVerified, may_give}
-use Rattle.timing_reply.proofs.Judgement.{one_evaluated}
+use Rattle.program_call.proofs.Judgement.{one_evaluated}
 
 pub put_behind : (mode : Mode) (rounds : Option ℕ) (text : List ℕ) (o : Outcome) (bytes piece before after : List ℕ) → Verified mode rounds text o bytes → piece ≡ bytes → after ≡ before ++ piece →
     IsVerified mode rounds text o before after

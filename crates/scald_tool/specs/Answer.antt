@@ -22,7 +22,7 @@ use Rattle.scald_tool.specs.declared.words.Command.TheVariants.{Verify, Format, 
 use Rattle.scald_tool.specs.Words.{command_of, reads}
 use Rattle.drawing_grammar.specs.Refused.{IsRefusal}
 use Rattle.timing_analysis.specs.Case.{fault_count}
-use Rattle.timing_reply.specs.Answer.{Telling, Concluded, Evaluated, verdict_of}
+use Rattle.program_call.specs.Answer.{Telling, Concluded, Evaluated, verdict_of}
 use Rattle.scald_tool.specs.Report.{report}
 
 -- the most bytes that are read

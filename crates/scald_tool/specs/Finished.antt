@@ -13,9 +13,9 @@ use Rattle.scald_base.specs.declared.outcome.Outcome.TheVariants.{Clean, Faulty,
 use Rattle.scald_tool.specs.declared.words.Command.{Command}
 use Rattle.scald_tool.specs.declared.words.Command.TheVariants.{Verify, Format, Upgrade, Bench}
 use Rattle.scald_tool.specs.Words.{command_of, reads}
-use Rattle.drawn_circuit.specs.Drawn.{DrawsCircuit}
+use Rattle.timing_analysis.specs.Drawn.{DrawsCircuit}
 use Rattle.timing_analysis.specs.Case.{Case, AreAtRest, listed_cases}
-use Rattle.timing_reply.specs.Answer.{limit_for}
+use Rattle.program_call.specs.Answer.{limit_for}
 use Rattle.scald_tool.specs.Answer.{most_bytes}
 use Rattle.scald_tool.specs.Promise.{IsAnswered}
 

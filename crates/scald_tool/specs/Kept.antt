@@ -3,7 +3,7 @@ use Rattle.std.specs.Prelude.{◌≡◌, ◌≢◌, ℕ, true, List, Some}
 use Rattle.scald_base.specs.declared.outcome.Outcome.{Outcome}
 use Rattle.scald_base.specs.declared.outcome.Outcome.TheVariants.{Clean, Unsettled}
 use Rattle.scald_tool.specs.declared.words.Command.{Command}
-use Rattle.drawn_circuit.specs.Drawn.{IsLoopless}
+use Rattle.timing_analysis.specs.Drawn.{IsLoopless}
 use Rattle.timing_analysis.specs.Promise.{FaultlessNeverBreaks, NeverBreaks}
 use Rattle.scald_tool.specs.Promise.{has_report, may_give, unlimited}
 

@@ -8,7 +8,7 @@ use Rattle.scald_base.specs.declared.outcome.Outcome.TheVariants.{Clean, Faulty,
 use Rattle.scald_tool.specs.declared.words.Command.{Command}
 use Rattle.scald_tool.specs.declared.words.Command.TheVariants.{Verify, Format, Upgrade, Bench}
 use Rattle.scald_tool.specs.Words.{command_of}
-use Rattle.drawn_circuit.specs.Drawn.{IsLoopless}
+use Rattle.timing_analysis.specs.Drawn.{IsLoopless}
 use Rattle.scald_tool.specs.Answer.{Verified, verifier}
 
 -- ---- the answer
@@ -21,10 +21,6 @@ AreTold = program.AreTold verifier
 -- The outcome is the one that the words and the text have, and the sink took exactly its bytes.
 abbrev pub IsAnswered : List (List ℕ) → List ℕ → Outcome → Option (List ℕ) → Option (List ℕ) → Type 0
 IsAnswered = program.IsAnswered verifier
-
--- The sink took a front of the bytes of the answer that the words and the text have.
-abbrev pub IsCutShort : List (List ℕ) → List ℕ → Option (List ℕ) → Option (List ℕ) → Type 0
-IsCutShort = program.IsCutShort verifier
 
 -- The outcome is the one that `verify` has for the text, in this mode and with this limit, and what was there is followed by
 -- exactly its bytes.

@@ -6,7 +6,7 @@ use Rattle.listing.specs.declared.case.Mode.{Mode}
 use Rattle.timing_analysis.specs.Case.{Listed, Case, AreAtRest, fault_count}
 use Rattle.timing_analysis.specs.Promise.{IsKept}
 use Rattle.scald_base.specs.declared.outcome.Outcome.{Outcome}
-use Rattle.timing_reply.specs.Answer.{verdict_of}
+use Rattle.program_call.specs.Answer.{verdict_of}
 use Rattle.scald_tool.specs.Report.{report}
 
 -- The cases have settled, what has no fault in one is not broken there, and the outcome and the bytes are

@@ -1,7 +1,7 @@
 //! What is answered to a form of words and a text.
 
 ghost use Rattle.std.specs.Prelude.{◌≡◌, ◌≢◌, ◌-◌, ◌^◌, ◌<◌, ℕ, List, Some, true, IfOk, length};
-ghost use Rattle.drawn_circuit.specs.Drawn.{IsLoopless};
+ghost use Rattle.timing_analysis.specs.Drawn.{IsLoopless};
 ghost use Rattle.timing_analysis.specs.Promise.{FaultlessNeverBreaks, NeverBreaks};
 ghost use Rattle.scald_tool.specs.Answer.{Replied};
 ghost use Rattle.scald_tool.specs.Promise.{has_report, may_give, unlimited};
@@ -18,8 +18,13 @@ use scald_base::{NoMemory, Outcome};
 use std::alloc::Global;
 use step_values::Value;
 
-/// The answer to a text, which `bench` does not look at.
-pub fn answer(alloc: Global, command: Command, text: &[u8]) -> Result<Reply<Outcome>, NoMemory>
+/// The answer to a text, which `bench` does not look at. `verify` sets `undriven` as [`verify`] says.
+pub fn answer(
+    alloc: Global,
+    command: Command,
+    text: &[u8],
+    undriven: &mut u32,
+) -> Result<Reply<Outcome>, NoMemory>
     requires short { length text.now < 2 ^ 32 - 1 }
     requires within { IsWithin command }
     ensures is { IfOk result (λ reply. Replied command text.now reply.outcome reply.bytes) }
@@ -30,7 +35,9 @@ pub fn answer(alloc: Global, command: Command, text: &[u8]) -> Result<Reply<Outc
         text.now ≡ Some evaluated → IsLoopless evaluated → reply.outcome ≢ Outcome.Unsettled place round) }
 {
     match command {
-        Command::Verify { mode, rounds } => verify::<RunWave<Value>>(alloc, text, mode, rounds),
+        Command::Verify { mode, rounds } => {
+            verify::<RunWave<Value>>(alloc, text, mode, rounds, undriven)
+        }
         Command::Format => format(alloc, text),
         Command::Upgrade => upgrade_text(alloc, text),
         Command::Bench(sections) => bench(alloc, sections),

@@ -8,11 +8,10 @@ ghost use Rattle.scald_tool.specs.Promise.{may_give};
 
 use crate::words::Command;
 use drawing_tree::{Drawing, print_drawing};
-use drawn_circuit::read_text;
-use program_call::Reply;
+use program_call::{Reply, refused};
 use scald_base::{NoMemory, Outcome, Stop};
 use std::alloc::Global;
-use timing_reply::refused;
+use timing_analysis::read_text;
 
 /// The canonical text of a drawing, or the line of its refusal.
 pub fn format(alloc: Global, text: &[u8]) -> Result<Reply<Outcome>, NoMemory>

@@ -41,5 +41,5 @@ pub fn answers_over_sure_devices(
     ensures finished { AsksWell words.now source.old →
         (result ≡ Outcome.NoMemory) ⊎ IsFinished words.now source.old result None None }
 {
-    tool_main(alloc, words, source, sink)
+    tool_main(alloc, words, source, sink, &mut 0)
 }

@@ -14,6 +14,7 @@ mod words;
 mod bench;
 mod format;
 mod report;
+mod undriven;
 mod upgrade;
 mod verified;
 mod verify;

@@ -1,21 +1,20 @@
 //! A report while it is written, case by case.
 
 ghost use Rattle.std.specs.Prelude.{◌≡◌, ◌+◌, ◌++◌, ◌≤◌, ◌<◌, ◌^◌, IfOk, OnOk, length};
-ghost use Rattle.net_waves.specs.Waves.{FitWaves, waves_of};
+ghost use Rattle.fixpoint_engine.specs.Waves.{FitWaves, waves_of};
 ghost use Rattle.listing.specs.Head.{head};
 ghost use Rattle.listing.specs.Case.{case_lines};
 ghost use Rattle.listing.specs.End.{last_line};
-ghost use Rattle.timing_reply.specs.Answer.{verdict_of};
+ghost use Rattle.program_call.specs.Answer.{verdict_of};
 
+use fixpoint_engine::Waves;
 use flat_circuit::Circuit;
 use listing::{CaseHead, Mode, begin_report, end_report, write_case};
-use net_waves::Waves;
-use program_call::Reply;
+use program_call::{Reply, verdict};
 use scald_base::{Bytes, NoMemory, Outcome};
 use std::alloc::Global;
 use step_values::Value;
 use timing_analysis::CaseAtRest;
-use timing_reply::verdict;
 use wave_core::CyclicWave;
 
 /// The lines of a report so far, and how many faults the cases in it have.

@@ -8,12 +8,11 @@ ghost use Rattle.scald_tool.specs.Promise.{may_give};
 
 use crate::words::Command;
 use drawing_tree::Drawing;
-use drawn_circuit::read_text;
 use format_upgrade::upgrade;
-use program_call::Reply;
+use program_call::{Reply, refused};
 use scald_base::{NoMemory, Outcome, Stop};
 use std::alloc::Global;
-use timing_reply::refused;
+use timing_analysis::read_text;
 
 /// The upgraded text of a drawing, or the line of its refusal.
 pub fn upgrade_text(alloc: Global, text: &[u8]) -> Result<Reply<Outcome>, NoMemory>

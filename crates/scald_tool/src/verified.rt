@@ -1,7 +1,7 @@
 //! The report on a text that lies in memory, whichever way its waves are kept.
 
 ghost use Rattle.std.specs.Prelude.{◌≡◌, ◌≢◌, ◌-◌, ◌^◌, ◌<◌, ◌≤◌, ◌⊎◌, ℕ, true, None, IfSome, length};
-ghost use Rattle.drawn_circuit.specs.Drawn.{IsLoopless};
+ghost use Rattle.timing_analysis.specs.Drawn.{IsLoopless};
 ghost use Rattle.timing_analysis.specs.Promise.{FaultlessNeverBreaks, NeverBreaks};
 ghost use Rattle.scald_tool.specs.Promise.{IsVerified, has_report, may_give};
 
@@ -36,7 +36,7 @@ pub fn verify_text<W: CyclicWave<Item = Value>>(
     ensures loopless { (place round : ℕ) → rounds ≡ None →
         IsLoopless text.now → result ≢ Outcome.Unsettled place round }
 {
-    let reply = match verify::<W>(alloc, text, mode, rounds) {
+    let reply = match verify::<W>(alloc, text, mode, rounds, &mut 0) {
         Ok(reply) => reply,
         Err(_) => return Outcome::NoMemory,
     };

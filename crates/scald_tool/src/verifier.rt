@@ -39,8 +39,13 @@ impl Program for Verifier {
         MOST_BYTES
     }
 
-    fn reply(alloc: Global, command: Command, text: &[u8]) -> Result<Reply<Outcome>, NoMemory> {
-        answer(alloc, command, text)
+    fn reply(
+        alloc: Global,
+        command: Command,
+        text: &[u8],
+        undriven: &mut u32,
+    ) -> Result<Reply<Outcome>, NoMemory> {
+        answer(alloc, command, text, undriven)
     }
 
     fn ended(end: CallEnd) -> Outcome {

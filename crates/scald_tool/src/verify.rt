@@ -5,40 +5,40 @@ ghost use Rattle.flat_circuit.specs.Instances.{outputs};
 ghost use Rattle.fixpoint_engine.specs.Loops.{HasNoLoop};
 ghost use Rattle.fixpoint_engine.specs.Rounds.{RestsAt};
 ghost use Rattle.case_analysis.specs.Base.{base_round};
-ghost use Rattle.drawn_circuit.specs.Drawn.{IsLoopless};
+ghost use Rattle.timing_analysis.specs.Drawn.{IsLoopless};
 ghost use Rattle.timing_analysis.specs.Case.{listed_cases, numbered};
 ghost use Rattle.timing_analysis.specs.Ended.{EndsCases, EndsEarly};
 ghost use Rattle.timing_analysis.specs.Promise.{FaultlessNeverBreaks, NeverBreaks};
 ghost use Rattle.timing_analysis.specs.Rested.{IsBaseIn};
 ghost use Rattle.timing_analysis.specs.Subject.{IsSubject};
-ghost use Rattle.timing_reply.specs.Answer.{limit_for};
+ghost use Rattle.program_call.specs.Answer.{limit_for};
 ghost use Rattle.scald_tool.specs.Answer.{Verified};
 ghost use Rattle.scald_tool.specs.Promise.{has_report, may_give};
 ghost use Rattle.scald_tool.specs.Reported.{IsReported};
 
 use crate::report::Report;
+use crate::undriven::count_undriven;
 use crate::words::Command;
 use case_analysis::default_limit;
-use drawn_circuit::read_circuit;
-use fixpoint_engine::EngineEnd;
+use fixpoint_engine::{EngineEnd, Waves};
 use flat_circuit::Circuit;
 use listing::Mode;
-use net_waves::Waves;
-use program_call::Reply;
+use program_call::{Reply, ended, refused};
 use scald_base::{NoMemory, Outcome, Stop};
 use std::alloc::Global;
 use step_values::Value;
-use timing_analysis::{Rested, Subject};
-use timing_reply::{ended, refused};
+use timing_analysis::{Rested, Subject, read_circuit};
 use wave_core::CyclicWave;
 
 /// The answer to a text: the report that the mode asks for, after at most so many rounds of the base and
 /// of each case where the number is given; or why the text is refused, or which net does not settle.
+/// `undriven` is set to how many nets nothing determines, where the text is accepted.
 pub fn verify<W: CyclicWave<Item = Value>>(
     alloc: Global,
     text: &[u8],
     mode: Mode,
     rounds: Option<u32>,
+    undriven: &mut u32,
 ) -> Result<Reply<Outcome>, NoMemory>
     requires short { length text.now < 2 ^ 32 - 1 }
     requires few { IfSome rounds (λ limit. limit ≤ 10000000) }
@@ -52,6 +52,9 @@ pub fn verify<W: CyclicWave<Item = Value>>(
     match read_circuit(alloc, text) {
         Ok(drawn) => {
             let subject = Subject::new(alloc, drawn)?;
+            if let Ok(count) = count_undriven(alloc, &subject.circuit, &subject.cases) {
+                *undriven = count;
+            }
             let limit = limit_for(&subject.circuit, rounds);
             match report_cases::<W>(alloc, &subject, mode, limit) {
                 Ok(reported) => Ok(reported.reply),

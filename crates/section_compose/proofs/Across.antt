@@ -24,13 +24,13 @@ use Rattle.flat_circuit.specs.Run.{Run, net_signal}
 use Rattle.pin_waves.specs.Interface.{interface_wave, wide_wave}
 use Rattle.pin_waves.specs.Meets.{Meets}
 use Rattle.pin_waves.proofs.Asserted.{length_interface}
-use Rattle.net_waves.specs.Interface.{PermitFront}
-use Rattle.net_waves.proofs.Fits.{AreLong}
+use Rattle.fixpoint_engine.specs.Interface.{PermitFront}
+use Rattle.fixpoint_engine.proofs.Fits.{AreLong}
 use Rattle.fixpoint_engine.specs.Start.{start_in}
 use Rattle.case_analysis.proofs.Start.{Permits_started, start_long}
 use Rattle.point_check.specs.Break.{KeepsAssertion}
 use Rattle.section_compose.specs.Evaluated.{across, comes_in, section_start, start_with, wave_across, wave_in}
-use Rattle.section_rules.specs.Globals.{crosses_into}
+use Rattle.section_compose.specs.Globals.{crosses_into}
 
 pub length_wide : (h : Header) (a : AssertSpec) → length (wide_wave h a) ≡ period h
 length_wide h a = length_slots (length (interface_wave h a).cells) (fold values (interface_wave h a)) ∙ length_interface h a

@@ -15,9 +15,9 @@ use Rattle.flat_circuit.specs.declared.net.Net.{Net}
 use Rattle.flat_circuit.specs.Builder.{is_asserted}
 use Rattle.flat_circuit.specs.Circuit.{Circuit, IsCircuit, driver_at, driver_in}
 use Rattle.flat_circuit.specs.Run.{Run, IsRun, net_signal}
-use Rattle.net_waves.specs.Interface.{PermitFront}
-use Rattle.net_waves.specs.Waves.{Waves}
-use Rattle.net_waves.proofs.Fits.{AreLong}
+use Rattle.fixpoint_engine.specs.Interface.{PermitFront}
+use Rattle.fixpoint_engine.specs.Waves.{Waves}
+use Rattle.fixpoint_engine.proofs.Fits.{AreLong}
 use Rattle.fixpoint_engine.specs.Reach.{reach}
 use Rattle.fixpoint_engine.specs.Rounds.{evaluated, next, round}
 use Rattle.fixpoint_engine.specs.Start.{is_driven}

@@ -7,13 +7,13 @@ use Rattle.std.proofs.lemmas.Option.{slice_get-map, slice_get_read, slice_get_wi
 use Rattle.std.specs.List.{AllZip}
 use Rattle.scald_base.specs.declared.refusal.Refusal.{Refusal}
 use Rattle.flat_circuit.specs.Circuit.{Circuit}
-use Rattle.section_rules.specs.declared.rules.Broken.{Broken}
-use Rattle.section_rules.specs.declared.section.Section.{Section}
-use Rattle.section_rules.specs.Broken.{IsOfSection}
-use Rattle.section_rules.specs.Cut.{sections_of}
-use Rattle.section_rules.specs.Drawn.{DrawsSection}
-use Rattle.section_rules.specs.Rule.{is_of_net}
-use Rattle.section_rules.specs.Rules.{circuits}
+use Rattle.section_compose.specs.declared.rules.Broken.{Broken}
+use Rattle.section_compose.specs.declared.section.Section.{Section}
+use Rattle.section_compose.specs.Broken.{IsOfSection}
+use Rattle.section_compose.specs.Cut.{sections_of}
+use Rattle.section_compose.specs.Drawn.{DrawsSection}
+use Rattle.section_compose.specs.Rule.{is_of_net}
+use Rattle.section_compose.specs.Rules.{circuits}
 use Rattle.section_compose.specs.declared.answer.End.TheVariants as end
 use Rattle.section_compose.specs.declared.outcome.SectionsOutcome.{SectionsOutcome}
 use Rattle.section_compose.specs.declared.outcome.SectionsOutcome.TheVariants.{BadCount, Refused, Unsettled}

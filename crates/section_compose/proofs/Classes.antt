@@ -8,8 +8,8 @@ use Rattle.skew_algebra.specs.Wave.{Wave}
 use Rattle.flat_circuit.specs.declared.case.CaseValue.{CaseValue}
 use Rattle.flat_circuit.specs.declared.net.Net.{Net}
 use Rattle.flat_circuit.specs.Circuit.{Circuit, IsCircuit}
-use Rattle.class_table.specs.Alike.{value_in}
-use Rattle.class_table.specs.Stable.{IsStable}
+use Rattle.flat_circuit.specs.Alike.{value_in}
+use Rattle.flat_circuit.specs.Stable.{IsStable}
 use Rattle.fixpoint_engine.specs.Classes.{HaveOneWave}
 use Rattle.fixpoint_engine.specs.Start.{base_start}
 use Rattle.fixpoint_engine.proofs.Classes.{net_of}

@@ -9,7 +9,7 @@ use Rattle.step_values.specs.Cell.{values}
 use Rattle.skew_algebra.specs.Wave.{cell_at}
 use Rattle.pin_waves.specs.Interface.{wide_wave}
 use Rattle.point_check.specs.Break.{KeepsAssertion, wide_at}
-use Rattle.section_rules.specs.Joined.{SameClocks}
+use Rattle.section_compose.specs.Joined.{SameClocks}
 
 abbrev header : ℕ → ℕ → Bounds → ℕ × ℕ → ℕ × ℕ → Header
 header units ticks wire pskew cskew =

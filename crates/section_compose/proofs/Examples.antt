@@ -23,11 +23,11 @@ use Rattle.flat_circuit.proofs.RunTables.{bounds, checker, element, late, on}
 use Rattle.flat_circuit.proofs.RunTest.{run_tells}
 use Rattle.pin_waves.specs.Interface.{wide_wave}
 use Rattle.pin_waves.specs.Meets.{Meets}
-use Rattle.net_waves.specs.Interface.{MeetsInterface}
+use Rattle.fixpoint_engine.specs.Interface.{MeetsInterface}
 use Rattle.point_check.specs.Break.{KeepsAssertion, wide_at}
-use Rattle.net_waves.proofs.Tables.{inputs_is}
-use Rattle.section_rules.specs.Globals.{crosses}
-use Rattle.section_rules.specs.OneNet.{IsNetOf}
+use Rattle.fixpoint_engine.proofs.Tables.{inputs_is}
+use Rattle.section_compose.specs.Globals.{crosses}
+use Rattle.section_compose.specs.OneNet.{IsNetOf}
 use Rattle.section_compose.specs.Whole.{CrossingsKeep, IsRunOfWhole, bits_of}
 
 -- ---- two sections

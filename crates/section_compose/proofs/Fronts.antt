@@ -8,8 +8,8 @@ use Rattle.flat_circuit.specs.Circuit.{Circuit}
 use Rattle.fixpoint_engine.specs.Start.{default_limit}
 use Rattle.listing.specs.Answer.{unsettled_line}
 use Rattle.listing.specs.End.{last_line}
-use Rattle.section_rules.specs.declared.section.Section.{Section}
-use Rattle.section_rules.specs.Rules.{circuits, first_broken}
+use Rattle.section_compose.specs.declared.section.Section.{Section}
+use Rattle.section_compose.specs.Rules.{circuits, first_broken}
 use Rattle.section_compose.specs.declared.outcome.SectionsOutcome.{SectionsOutcome}
 use Rattle.section_compose.specs.declared.outcome.SectionsOutcome.TheVariants.{Unsettled}
 use Rattle.section_compose.specs.Answer as answer

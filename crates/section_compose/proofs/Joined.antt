@@ -9,9 +9,9 @@ use Rattle.flat_circuit.specs.declared.net.Net.{Net}
 use Rattle.flat_circuit.specs.Circuit.{Circuit, IsCircuit}
 use Rattle.flat_circuit.specs.Run.{Run, IsRun, net_signal}
 use Rattle.pin_waves.proofs.MeetsLaws.{front}
-use Rattle.net_waves.specs.Interface.{PermitRun}
-use Rattle.net_waves.specs.Waves.{Waves}
-use Rattle.net_waves.proofs.Fits.{AreLong}
+use Rattle.fixpoint_engine.specs.Interface.{PermitRun}
+use Rattle.fixpoint_engine.specs.Waves.{Waves}
+use Rattle.fixpoint_engine.proofs.Fits.{AreLong}
 use Rattle.fixpoint_engine.specs.Reach.{reach}
 use Rattle.point_check.specs.Faults.{point_faults}
 use Rattle.point_check.specs.Sound.{KeepsConstraints}
@@ -22,9 +22,9 @@ use Rattle.timing_analysis.specs.Case.{faults_of}
 use Rattle.timing_analysis.specs.Promise.{Breaks, by_instance, by_pulse, by_net}
 use Rattle.timing_analysis.proofs.Reached.{all_pins_permit, no_instance_breaks, no_net_breaks}
 use Rattle.section_compose.specs.Evaluated.{tick_of}
-use Rattle.section_rules.specs.Globals.{crosses, is_driven}
-use Rattle.section_rules.specs.Joined.{AreJoined, IsDrivenBy}
-use Rattle.section_rules.specs.OneNet.{AreOneNet, IsNetOf}
+use Rattle.section_compose.specs.Globals.{crosses, is_driven}
+use Rattle.section_compose.specs.Joined.{AreJoined, IsDrivenBy}
+use Rattle.section_compose.specs.OneNet.{AreOneNet, IsNetOf}
 use Rattle.section_compose.specs.Whole.{CrossingsKeep, IsRunOfWhole, KeepsOn, NeverBreaksWhole, bits_of}
 use Rattle.section_compose.proofs.Across.{InputsKeep}
 use Rattle.section_compose.proofs.Ahead.{rest_long, rest_permits, step_ahead}

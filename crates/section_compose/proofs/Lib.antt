@@ -1,3 +1,10 @@
+pub mod Lists
+pub mod Cuts
+pub mod Named
+pub mod Alike
+pub mod Kept
+pub mod Walks
+pub mod Within
 pub mod Clocks
 pub mod Across
 pub mod Started

@@ -12,29 +12,29 @@ use Rattle.flat_circuit.specs.Circuit.{Circuit}
 use Rattle.flat_circuit.proofs.Names.{below}
 use Rattle.macro_expander.specs.Stands.{IsCircuitOf}
 use Rattle.fixpoint_engine.specs.Start.{default_limit}
-use Rattle.drawn_circuit.specs.Drawn as drawn
-use Rattle.drawn_circuit.specs.Drawn.{IsTextRefused}
-use Rattle.drawn_circuit.proofs.OneCircuit.{one_circuit}
-use Rattle.drawn_circuit.proofs.OneText.{no_stop, one_refusal}
+use Rattle.timing_analysis.specs.Drawn as drawn
+use Rattle.timing_analysis.specs.Drawn.{IsTextRefused}
+use Rattle.timing_analysis.proofs.OneCircuit.{one_circuit}
+use Rattle.timing_analysis.proofs.OneText.{no_stop, one_refusal}
 use Rattle.program_call.specs.Program.{IsLawful}
 use Rattle.timing_analysis.proofs.OneRest.{one_place, one_rest, same_waves}
 use Rattle.section_compose.specs.declared.outcome.SectionsOutcome.{SectionsOutcome}
 use Rattle.section_compose.specs.declared.outcome.SectionsOutcome.TheVariants.{Clean, Faulty, Refused, Unsettled, BadSection}
 use Rattle.section_compose.specs.declared.program.Command.{Command}
 use Rattle.section_compose.specs.declared.program.Command.TheVariants.{Compose}
-use Rattle.section_rules.specs.declared.rules.Broken.{Broken}
-use Rattle.section_rules.specs.declared.section.Section.{Section}
+use Rattle.section_compose.specs.declared.rules.Broken.{Broken}
+use Rattle.section_compose.specs.declared.section.Section.{Section}
 use Rattle.section_compose.specs.Answer as answer
 use Rattle.section_compose.specs.Answer.{AreEnough, Concluded, Joined, RefusesFirst, Replied, composer, reads}
-use Rattle.section_rules.specs.Cut.{sections_of}
+use Rattle.section_compose.specs.Cut.{sections_of}
 use Rattle.section_compose.specs.Evaluated.{AreSettled, IsAtRest, NeverSettles, Rest, StopsAt, all_faults, section_round}
 use Rattle.section_compose.specs.Lines.{broken_line, refused_lines, report, unsettled_lines}
 use Rattle.section_compose.specs.Outcome.{end_of, ended, verdict_of}
 use Rattle.section_compose.proofs.Fronts.{settled_at}
-use Rattle.section_rules.specs.Drawn as section
-use Rattle.section_rules.specs.Drawn.{DrawsSection, IsSectionRefused, is_listed}
-use Rattle.section_rules.specs.Rule.{number_of}
-use Rattle.section_rules.specs.Rules.{circuits}
+use Rattle.section_compose.specs.Drawn as section
+use Rattle.section_compose.specs.Drawn.{DrawsSection, IsSectionRefused, is_listed}
+use Rattle.section_compose.specs.Rule.{number_of}
+use Rattle.section_compose.specs.Rules.{circuits}
 
 -- ---- one section
 

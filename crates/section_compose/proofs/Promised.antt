@@ -8,17 +8,17 @@ use Rattle.scald_base.specs.Time.{period}
 use Rattle.flat_circuit.specs.Circuit.{Circuit, IsCircuit}
 use Rattle.section_compose.specs.declared.outcome.SectionsOutcome.{SectionsOutcome}
 use Rattle.section_compose.specs.declared.outcome.SectionsOutcome.TheVariants.{Clean, Faulty}
-use Rattle.section_rules.specs.declared.section.Section.{Section}
+use Rattle.section_compose.specs.declared.section.Section.{Section}
 use Rattle.section_compose.specs.Answer.{Concluded, HasSections, broken, unsettled, settled}
 use Rattle.section_compose.specs.Evaluated.{Rest, AreSettled, all_faults, greatest_tick}
 use Rattle.section_compose.specs.Outcome.{verdict_of}
 use Rattle.section_compose.specs.Promise.{NeverBreaksJoined}
 use Rattle.section_compose.specs.Reading.{AreTimed}
-use Rattle.section_rules.specs.Drawn.{DrawsSection}
-use Rattle.section_rules.specs.Rules.{circuits, first_broken}
+use Rattle.section_compose.specs.Drawn.{DrawsSection}
+use Rattle.section_compose.specs.Rules.{circuits, first_broken}
 use Rattle.section_compose.proofs.Facts.{each_rests}
 use Rattle.section_compose.proofs.Joined.{never_breaks}
-use Rattle.section_rules.proofs.Kept.{rules_hold}
+use Rattle.section_compose.proofs.Kept.{rules_hold}
 
 drawn_are : (texts : List (List ℕ)) (sections : List Section) → AllZip DrawsSection texts sections →
     (s : ℕ) (c : Circuit) → slice_get (circuits sections) s ≡ Some c → IsCircuit c

@@ -6,10 +6,10 @@ use Rattle.std.specs.List.{AllZip}
 use Rattle.std.proofs.lemmas.List.{map_push, take_all, take_more}
 use Rattle.std.proofs.lemmas.Option.{slice_get-map, slice_get_read}
 use Rattle.scald_base.specs.declared.refusal.Refusal.{Refusal}
-use Rattle.section_rules.specs.declared.cut.Piece.{Piece}
-use Rattle.section_rules.specs.declared.section.Section.{Section}
-use Rattle.section_rules.specs.Drawn.{DrawsSection, IsSectionRefused}
-use Rattle.section_rules.specs.Pieces.{piece_of}
+use Rattle.section_compose.specs.declared.cut.Piece.{Piece}
+use Rattle.section_compose.specs.declared.section.Section.{Section}
+use Rattle.section_compose.specs.Drawn.{DrawsSection, IsSectionRefused}
+use Rattle.section_compose.specs.Pieces.{piece_of}
 use Rattle.section_compose.specs.declared.answer.End.TheVariants as end
 use Rattle.section_compose.specs.Answer.{RefusesFirst}
 use Rattle.section_compose.specs.Reading.{IsRefusedIn}

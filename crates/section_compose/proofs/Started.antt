@@ -9,11 +9,11 @@ use Rattle.step_values.specs.declared.value.Value.{Value}
 use Rattle.skew_algebra.specs.Wave.{Wave}
 use Rattle.flat_circuit.specs.declared.case.CaseValue.{CaseValue}
 use Rattle.flat_circuit.specs.Circuit.{Circuit}
-use Rattle.wave_table.specs.Table.{AreKnown, Grows, IsNumber, wave_at, waves_at}
-use Rattle.wave_table.proofs.Growing.{known_still, same_waves}
-use Rattle.wave_table.proofs.ByNumber.{number_below, number_reads}
-use Rattle.net_waves.specs.Waves.{FitWaves, waves_of}
-use Rattle.net_waves.proofs.WavesOf.{set_at}
+use Rattle.fixpoint_engine.specs.Table.{AreKnown, Grows, IsNumber, wave_at, waves_at}
+use Rattle.fixpoint_engine.proofs.Growing.{known_still, same_waves}
+use Rattle.fixpoint_engine.proofs.TableByNumber.{number_below, number_reads}
+use Rattle.fixpoint_engine.specs.Waves.{FitWaves, waves_of}
+use Rattle.fixpoint_engine.proofs.WavesOf.{set_at}
 use Rattle.fixpoint_engine.specs.Start.{base_start}
 use Rattle.fixpoint_engine.proofs.Added.{known_set}
 use Rattle.case_analysis.specs.Case.{NetsExist, is_set}

@@ -1,6 +1,7 @@
 -- What is answered to the bytes of several drawings.
 use Rattle.std.specs.Prelude.{◌≡◌, ◌⊎◌, ℕ, ◌+◌, ◌-◌, ◌<◌, ◌≤◌, Bool, true, List}
-use Rattle.std.specs.Prelude.{[], ◌∷◌, length, slice_get, Some, None, Result, Ok, Err}
+use Rattle.std.specs.Prelude.{[], ◌∷◌, length, slice_get, codes, if◌then◌else◌, Some, None, Result, Ok, Err}
+use Rattle.std.specs.Str.{bytes_eq}
 use Rattle.std.specs.List.{AllZip}
 use Rattle.scald_base.specs.declared.refusal.Refusal.{Refusal}
 use Rattle.flat_circuit.specs.Circuit.{Circuit}
@@ -10,22 +11,27 @@ use Rattle.section_compose.specs.declared.outcome.SectionsOutcome.{SectionsOutco
 use Rattle.section_compose.specs.declared.outcome.SectionsOutcome.TheVariants.{Refused, Unsettled, BadCount, BadSection}
 use Rattle.section_compose.specs.declared.program.Command.{Command}
 use Rattle.section_compose.specs.declared.program.Command.TheVariants.{Compose}
-use Rattle.section_rules.specs.declared.rules.Broken.{Broken}
-use Rattle.section_rules.specs.declared.section.Section.{Section}
-use Rattle.section_rules.specs.Cut.{sections_of}
-use Rattle.section_rules.specs.Drawn.{DrawsSection, IsSectionRefused}
+use Rattle.section_compose.specs.declared.rules.Broken.{Broken}
+use Rattle.section_compose.specs.declared.section.Section.{Section}
+use Rattle.section_compose.specs.Cut.{sections_of}
+use Rattle.section_compose.specs.Drawn.{DrawsSection, IsSectionRefused}
 use Rattle.section_compose.specs.Evaluated.{Rest, AreSettled, StopsAt, all_faults}
 use Rattle.section_compose.specs.Lines.{broken_line, refused_lines, unsettled_lines, report}
 use Rattle.section_compose.specs.Outcome.{ended, end_of, verdict_of}
-use Rattle.section_rules.specs.Rule.{number_of}
-use Rattle.section_rules.specs.Rules.{circuits, first_broken}
+use Rattle.section_compose.specs.Rule.{number_of}
+use Rattle.section_compose.specs.Rules.{circuits, first_broken}
 
 -- ---- words
 
--- there are none
+-- any word after the name is one too many
+abbrev pub no_more : List (List ℕ) → Result Command ℕ
+no_more [] = Ok Compose
+no_more (word ∷ words) = Err 1
+
+-- the first word is the name
 abbrev pub command_of : List (List ℕ) → Result Command ℕ
-command_of [] = Ok Compose
-command_of (word ∷ words) = Err 0
+command_of [] = Err 0
+command_of (word ∷ words) = if bytes_eq word (codes "sections") then no_more words else Err 0
 
 abbrev pub reads : Command → Bool
 reads Compose = true

@@ -9,14 +9,14 @@ use Rattle.flat_circuit.specs.declared.fault.Fault.{Fault}
 use Rattle.flat_circuit.specs.declared.net.Net.{Net}
 use Rattle.flat_circuit.specs.Circuit.{Circuit}
 use Rattle.pin_waves.specs.Interface.{wide_wave}
-use Rattle.net_waves.specs.Waves.{Waves}
+use Rattle.fixpoint_engine.specs.Waves.{Waves}
 use Rattle.fixpoint_engine.specs.Reach.{reach}
 use Rattle.fixpoint_engine.specs.Rounds.{IsUnsettled, round}
 use Rattle.fixpoint_engine.specs.Settled.{AreAtRest}
 use Rattle.fixpoint_engine.specs.Start.{base_start, default_limit, is_driven}
 use Rattle.case_analysis.specs.Tick.{tick}
 use Rattle.timing_analysis.specs.Case.{faults_of}
-use Rattle.section_rules.specs.Globals.{crosses_into}
+use Rattle.section_compose.specs.Globals.{crosses_into}
 
 -- ---- its rounds
 

@@ -1,3 +1,14 @@
+pub mod Broken
+pub mod Cut
+pub mod Drawn
+pub mod Globals
+pub mod Joined
+pub mod OneNet
+pub mod Pieces
+pub mod Rule
+pub mod Rules
+pub mod Same
+pub mod Tests
 pub mod Answer
 pub mod Evaluated
 pub mod Lines

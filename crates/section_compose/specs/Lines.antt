@@ -11,11 +11,11 @@ use Rattle.listing.specs.End.{last_line}
 use Rattle.listing.specs.Head.{head}
 use Rattle.listing.specs.Names.{net_text}
 use Rattle.listing.specs.Text.{line}
-use Rattle.section_rules.specs.declared.rules.Rule.{Rule}
-use Rattle.section_rules.specs.declared.section.Section.{Section}
+use Rattle.section_compose.specs.declared.rules.Rule.{Rule}
+use Rattle.section_compose.specs.declared.section.Section.{Section}
 use Rattle.section_compose.specs.Evaluated.{Rest, all_faults, faults_in, greatest_tick, tick_of}
-use Rattle.section_rules.specs.Rule.{is_of_net, name_of, number_of}
-use Rattle.section_rules.specs.Rules.{circuits}
+use Rattle.section_compose.specs.Rule.{is_of_net, name_of, number_of}
+use Rattle.section_compose.specs.Rules.{circuits}
 
 -- ---- rules
 

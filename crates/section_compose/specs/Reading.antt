@@ -4,7 +4,7 @@ use Rattle.std.specs.List.{All}
 use Rattle.scald_base.specs.Time.{period}
 use Rattle.section_compose.specs.declared.answer.End.{End}
 use Rattle.section_compose.specs.declared.answer.End.TheVariants.{Refused, NoMemory}
-use Rattle.section_rules.specs.declared.section.Section.{Section}
+use Rattle.section_compose.specs.declared.section.Section.{Section}
 use Rattle.section_compose.specs.Answer.{RefusesFirst}
 
 -- The first of these texts that is refused, counted from 1; or memory ran out.

@@ -6,8 +6,8 @@ use Rattle.flat_circuit.specs.Run.{Run, IsRun, net_signal}
 use Rattle.pin_waves.specs.Meets.{Meets}
 use Rattle.point_check.specs.Break.{KeepsAssertion}
 use Rattle.timing_analysis.specs.Promise.{Breaks}
-use Rattle.section_rules.specs.Globals.{crosses, crosses_into}
-use Rattle.section_rules.specs.OneNet.{AreOneNet, IsNetOf}
+use Rattle.section_compose.specs.Globals.{crosses, crosses_into}
+use Rattle.section_compose.specs.OneNet.{AreOneNet, IsNetOf}
 
 -- ---- its runs
 

@@ -2,11 +2,11 @@
 
 ghost use Rattle.std.specs.Prelude.{◌≡◌, ◌⊎◌, ◌-◌, ◌^◌, ◌<◌, ◌≤◌, [], true, None, Some, IfErr, IfOk, MatchBool, length, map, slice_get};
 ghost use Rattle.std.specs.List.{All, AllZip};
-ghost use Rattle.section_rules.specs.Broken.{IsOfSection};
-ghost use Rattle.section_rules.specs.Drawn.{DrawsSection};
-ghost use Rattle.section_rules.specs.Pieces.{Lies, piece_of};
-ghost use Rattle.section_rules.specs.Rule.{is_of_net};
-ghost use Rattle.section_rules.specs.Rules.{circuits, first_broken};
+ghost use Rattle.section_compose.specs.Broken.{IsOfSection};
+ghost use Rattle.section_compose.specs.Drawn.{DrawsSection};
+ghost use Rattle.section_compose.specs.Pieces.{Lies, piece_of};
+ghost use Rattle.section_compose.specs.Rule.{is_of_net};
+ghost use Rattle.section_compose.specs.Rules.{circuits, first_broken};
 ghost use Rattle.section_compose.specs.Answer.{AreEnough, Concluded, Joined};
 ghost use Rattle.section_compose.specs.Promise.{NeverBreaksJoined};
 ghost use Rattle.section_compose.specs.Reading.{AreTimed, IsRefusedIn};
@@ -14,12 +14,12 @@ ghost use Rattle.section_compose.specs.Reading.{AreTimed, IsRefusedIn};
 use crate::evaluated::section_at_rest;
 use crate::outcome::SectionsOutcome;
 use crate::report::{Report, bad_section, refused, unsettled};
+use crate::{Broken, Piece, Section, first_broken, read_section, sections_of};
 use fixpoint_engine::EngineEnd;
 use flat_circuit::Circuit;
 use program_call::Reply;
 use run_wave::RunWave;
 use scald_base::{Bytes, List, NoMemory, Refusal, Stop};
-use section_rules::{Broken, Piece, Section, first_broken, read_section, sections_of};
 use std::alloc::Global;
 use step_values::Value;
 

@@ -1,8 +1,8 @@
 //! A section at rest, evaluated by itself.
 
 ghost use Rattle.std.specs.Prelude.{◌≡◌, ◌<◌, ◌≤◌, ◌++◌, ◌∷◌, ℕ, [], true, false, if◌then◌else◌, IfErr, IfOk, OnOk, length};
-ghost use Rattle.wave_table.specs.Table.{AreKnown, Grows, IsNumber, waves_at};
-ghost use Rattle.net_waves.specs.Waves.{FitWaves, waves_of};
+ghost use Rattle.fixpoint_engine.specs.Table.{AreKnown, Grows, IsNumber, waves_at};
+ghost use Rattle.fixpoint_engine.specs.Waves.{FitWaves, waves_of};
 ghost use Rattle.case_analysis.specs.Case.{NetsExist, is_set};
 ghost use Rattle.fixpoint_engine.specs.End.{EndsFor};
 ghost use Rattle.fixpoint_engine.specs.Rounds.{round};
@@ -10,22 +10,19 @@ ghost use Rattle.fixpoint_engine.specs.Settled.{AreAtRest};
 ghost use Rattle.fixpoint_engine.specs.Start.{default_limit, is_driven};
 ghost use Rattle.section_compose.specs.Evaluated.{IsAtRest, across, faults_in, section_round, start_with, tick_of, wave_across};
 ghost use Rattle.section_compose.specs.Settled.{IsCase, rest_in};
-ghost use Rattle.section_rules.specs.Rules.{circuits};
+ghost use Rattle.section_compose.specs.Rules.{circuits};
 
+use crate::{Section, crosses_into};
 use case_analysis::{default_limit, driven_nets, reach, start_numbers, tick};
-use class_table::{classes, stable};
-use fixpoint_engine::{EngineEnd, Settled, Store, settle, settle_classes};
-use flat_circuit::{Case, CaseList, CaseValue, Circuit, Faults};
-use net_waves::Waves;
+use fixpoint_engine::{EngineEnd, Numbers, Settled, Store, Waves, settle, settle_classes};
+use flat_circuit::{Case, CaseList, CaseValue, Circuit, Faults, classes, stable};
 use pin_waves::wide_wave;
 use scald_base::{AssertSpec, Header, List, NoMemory};
-use section_rules::{Section, crosses_into};
 use skew_algebra::Skewed;
 use std::alloc::Global;
 use step_values::Value;
 use timing_analysis::faults;
 use wave_core::CyclicWave;
-use wave_table::Numbers;
 
 /// A section at rest.
 #[derive(Drop)]

@@ -1,12 +1,12 @@
 //! The composer of sections as a program: what its main call reads and answers.
 
 ghost use Rattle.std.specs.Prelude.{◌≡◌};
-ghost use Rattle.section_compose.specs.Answer.{command_of};
+ghost use Rattle.section_compose.specs.Answer.{command_of, no_more};
 
 use crate::answer::answer;
 use crate::outcome::SectionsOutcome;
 use program_call::{Program, Reply};
-use scald_base::{CallEnd, NoMemory, Words};
+use scald_base::{Bytes, CallEnd, NoMemory, Words};
 use std::alloc::Global;
 
 /// The most bytes of a text, with all of its sections.
@@ -19,14 +19,31 @@ pub enum Command {
     Compose,
 }
 
-/// What the words ask for. There are none; where there are some, `Err` is the number of the first.
-fn read_words(words: &Words) -> Result<Command, u32>
-    ensures { result ≡ command_of words.now }
+// What the words after the name ask for: there should be none.
+fn no_more(words: &[Bytes]) -> Result<Command, u32>
+    ensures { result ≡ no_more words.now }
 {
     if words.is_empty() {
         Ok(Command::Compose)
     } else {
-        Err(0)
+        Err(1)
+    }
+}
+
+/// What the words ask for. `Err` is 0 where the first word is not the name or there is none, and 1 where a
+/// word follows it.
+fn read_words(words: &Words) -> Result<Command, u32>
+    ensures { result ≡ command_of words.now }
+{
+    match words.as_slice() {
+        [] => Err(0),
+        [first, others @ ..] => {
+            if first.as_slice() == b"sections".as_slice() {
+                no_more(others)
+            } else {
+                Err(0)
+            }
+        }
     }
 }
 
@@ -63,6 +80,7 @@ impl Program for Composer {
         alloc: Global,
         command: Command,
         text: &[u8],
+        _undriven: &mut u32,
     ) -> Result<Reply<SectionsOutcome>, NoMemory> {
         match command {
             Command::Compose => answer(alloc, text),

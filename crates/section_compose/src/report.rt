@@ -2,27 +2,27 @@
 
 ghost use Rattle.std.specs.Prelude.{◌≡◌, ◌++◌, ◌+◌, ◌^◌, ◌<◌, ◌≤◌, [], false, true, IfOk, OnOk, length, max};
 ghost use Rattle.flat_circuit.specs.Circuit.{Circuit as Whole};
-ghost use Rattle.wave_table.specs.Table.{AreKnown, waves_at};
-ghost use Rattle.net_waves.specs.Waves.{FitWaves};
+ghost use Rattle.fixpoint_engine.specs.Table.{AreKnown, waves_at};
+ghost use Rattle.fixpoint_engine.specs.Waves.{FitWaves};
 ghost use Rattle.listing.specs.Answer.{unsettled_line};
 ghost use Rattle.listing.specs.End.{last_line};
 ghost use Rattle.section_compose.specs.Evaluated.{faults_in, tick_of};
 ghost use Rattle.section_compose.specs.Lines.{broken_line, refused_lines, section_line, section_lines, sections_line};
 ghost use Rattle.section_compose.specs.Outcome.{verdict_of};
-ghost use Rattle.section_rules.specs.Rule.{is_of_net, number_of};
+ghost use Rattle.section_compose.specs.Rule.{is_of_net, number_of};
 ghost use Rattle.section_compose.specs.Settled.{rest_in};
 
 use crate::evaluated::SectionAtRest;
 use crate::outcome::SectionsOutcome;
+use crate::{Broken, Rule, Section};
+use fixpoint_engine::Waves;
 use flat_circuit::Circuit;
 use listing::{
     CaseHead, Mode, Piece, add_line, begin_report, end_report, net_piece, write_case,
     write_refusal, write_unsettled,
 };
-use net_waves::Waves;
 use program_call::Reply;
 use scald_base::{Bytes, NoMemory, Refusal};
-use section_rules::{Broken, Rule, Section};
 use std::alloc::Global;
 use std::cmp::max;
 use step_values::Value;

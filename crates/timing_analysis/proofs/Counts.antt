@@ -11,7 +11,7 @@ use Rattle.element_kinds.specs.declared.kind.Kind.TheVariants.{MinPulse}
 use Rattle.flat_circuit.specs.declared.instance.Instance.{Instance}
 use Rattle.flat_circuit.specs.Circuit.{Circuit, IsCircuit, net_name, net_names}
 use Rattle.flat_circuit.proofs.Counts.{length_few}
-use Rattle.net_waves.specs.Waves.{Waves}
+use Rattle.fixpoint_engine.specs.Waves.{Waves}
 use Rattle.point_check.specs.Faults.{instance_fault, net_fault, point_faults}
 use Rattle.pulse_check.specs.Faults.{listed, limited_fault, faults_by_kind, faults_of, instance_faults, width_faults}
 use Rattle.timing_analysis.specs.Case as all_faults

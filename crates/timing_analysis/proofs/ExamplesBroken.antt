@@ -5,8 +5,8 @@ use Rattle.std.proofs.Common.{ℕ, true, false, [], refl}
 use Rattle.std.proofs.lemmas.List.Elements.{All-nil}
 use Rattle.flat_circuit.specs.Circuit.{Circuit}
 use Rattle.flat_circuit.specs.Run.{Run, IsRun}
-use Rattle.net_waves.specs.Waves.{Waves}
-use Rattle.net_waves.specs.Interface.{MeetsInterface}
+use Rattle.fixpoint_engine.specs.Waves.{Waves}
+use Rattle.fixpoint_engine.specs.Interface.{MeetsInterface}
 use Rattle.fixpoint_engine.specs.Reach.{reach}
 use Rattle.case_analysis.specs.Tick.{tick}
 use Rattle.point_check.proofs.Broken.{circuit, run, is_run, meets, breaks_setup_hold, breaks_rise_fall, breaks_mark, breaks_net}

@@ -8,8 +8,8 @@ use Rattle.std.proofs.lemmas.List.Folds.{list_any-append}
 use Rattle.scald_base.specs.Time.{Header, period}
 use Rattle.flat_circuit.specs.declared.fault.Fault.{Fault}
 use Rattle.flat_circuit.specs.Circuit.{Circuit, IsCircuit}
-use Rattle.net_waves.specs.Waves.{Waves}
-use Rattle.net_waves.proofs.Fits.{AreLong}
+use Rattle.fixpoint_engine.specs.Waves.{Waves}
+use Rattle.fixpoint_engine.proofs.Fits.{AreLong}
 use Rattle.fixpoint_engine.specs.Reach.{reach}
 use Rattle.flat_circuit.specs.declared.case.CaseValue.{CaseValue}
 use Rattle.case_analysis.specs.Case.{PermitCase}

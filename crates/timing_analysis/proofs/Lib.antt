@@ -1,3 +1,8 @@
+pub mod OneOrder
+pub mod OneCircuit
+pub mod OneText
+pub mod Placed
+pub mod Reading
 pub mod Counts
 pub mod Reached
 pub mod OneRest
@@ -5,7 +10,7 @@ pub mod Headline
 pub mod Rest
 pub mod Cases
 pub mod Ends
-pub mod Drawn
+pub mod DrawnText
 mod Examples
 mod Unbroken
 mod ExamplesBroken

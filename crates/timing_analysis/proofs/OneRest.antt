@@ -4,7 +4,7 @@ use Rattle.std.specs.List.{All}
 use Rattle.std.proofs.lemmas.List.Elements.{All-head, All-tail}
 use Rattle.flat_circuit.specs.Circuit.{Circuit}
 use Rattle.flat_circuit.proofs.Names.{below}
-use Rattle.net_waves.specs.Waves.{Waves}
+use Rattle.fixpoint_engine.specs.Waves.{Waves}
 use Rattle.fixpoint_engine.specs.Rounds.{RestsAt, AreSame, DiffersFirst}
 use Rattle.case_analysis.specs.Base.{base_round}
 use Rattle.case_analysis.specs.Case.{IsCone, case_round}

@@ -18,12 +18,12 @@ use Rattle.flat_circuit.specs.Circuit.{Circuit, IsCircuit}
 use Rattle.element_kinds.specs.Equation.{nth_signal}
 use Rattle.flat_circuit.specs.Run.{Run, IsRun, net_signal, pin_signals, WiresFit}
 use Rattle.gate_eval.specs.Instance.{wave_of_pin}
-use Rattle.net_waves.specs.Waves.{Waves, pin_wave}
-use Rattle.net_waves.specs.Interface.{PermitRun}
-use Rattle.net_waves.specs.Pins.{PinsPermitAt}
+use Rattle.fixpoint_engine.specs.Waves.{Waves, pin_wave}
+use Rattle.fixpoint_engine.specs.Interface.{PermitRun}
+use Rattle.fixpoint_engine.specs.Pins.{PinsPermitAt}
 use Rattle.flat_circuit.proofs.Numbered.{fits_of}
-use Rattle.net_waves.proofs.Permitted.{pin_permits}
-use Rattle.net_waves.proofs.Fits.{AreLong}
+use Rattle.fixpoint_engine.proofs.Permitted.{pin_permits}
+use Rattle.fixpoint_engine.proofs.Fits.{AreLong}
 use Rattle.fixpoint_engine.specs.Reach.{greatest_wire, farthest, reach}
 use Rattle.point_check.specs.Faults.{is_of_instance, is_of_net}
 use Rattle.point_check.specs.Break.{BreaksInstance, BreaksNet}

@@ -4,9 +4,9 @@ use Rattle.step_values.specs.declared.value.Value.{Value}
 use Rattle.skew_algebra.specs.Wave.{Wave}
 use Rattle.flat_circuit.specs.declared.fault.Fault.{Fault}
 use Rattle.flat_circuit.specs.Circuit.{Circuit}
-use Rattle.wave_table.specs.Table.{AreKnown, Grows, waves_at}
-use Rattle.wave_table.proofs.Growing.{known_still, same_waves}
-use Rattle.net_waves.specs.Waves.{Waves}
+use Rattle.fixpoint_engine.specs.Table.{AreKnown, Grows, waves_at}
+use Rattle.fixpoint_engine.proofs.Growing.{known_still, same_waves}
+use Rattle.fixpoint_engine.specs.Waves.{Waves}
 use Rattle.fixpoint_engine.specs.declared.rounds.EngineEnd.{EngineEnd}
 use Rattle.case_analysis.specs.Base.{IsBase}
 use Rattle.timing_analysis.specs.declared.case_faults.KnownFaults.{KnownFaults}

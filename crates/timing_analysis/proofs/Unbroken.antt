@@ -8,7 +8,7 @@ use Rattle.flat_circuit.specs.declared.case.CaseValue.{CaseValue}
 use Rattle.flat_circuit.specs.declared.instance.Instance.{Instance}
 use Rattle.flat_circuit.specs.Circuit.{Circuit, driver}
 use Rattle.flat_circuit.specs.Run.{Run}
-use Rattle.net_waves.specs.Waves.{Waves}
+use Rattle.fixpoint_engine.specs.Waves.{Waves}
 use Rattle.fixpoint_engine.specs.Reach.{reach}
 use Rattle.fixpoint_engine.specs.Rounds.{RestsAt, next, round, wave_from}
 use Rattle.fixpoint_engine.specs.Start.{base_start, is_driven}
@@ -17,11 +17,11 @@ use Rattle.case_analysis.specs.Case.{IsInCase, case_active, case_round, case_sta
 use Rattle.case_analysis.specs.Tick.{tick}
 use Rattle.pulse_check.specs.Break.{BreaksPulse}
 use Rattle.pulse_check.proofs.Broken.{breaks_high, breaks_low, circuit, is_run, meets, run}
-use Rattle.drawn_circuit.specs.Drawn.{DrawsCircuit}
+use Rattle.timing_analysis.specs.Drawn.{DrawsCircuit}
 use Rattle.timing_analysis.specs.Case.{Case, IsAtRest, Listed, listed_cases, printed_tick}
 use Rattle.timing_analysis.specs.Promise.{Breaks, by_instance, by_pulse, by_net, IsSafe, IsUnbroken, NeverBreaks}
 use Rattle.timing_analysis.proofs.OneRest.{one_rest}
-use Rattle.drawn_circuit.proofs.OneText.{text_draws_one_circuit}
+use Rattle.timing_analysis.proofs.OneText.{text_draws_one_circuit}
 
 -- ---- a circuit that is broken from its printed tick on, which is 1
 

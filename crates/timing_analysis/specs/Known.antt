@@ -2,7 +2,7 @@
 use Rattle.std.specs.Prelude.{◌≡◌, length, map}
 use Rattle.std.specs.List.{range_with_len}
 use Rattle.flat_circuit.specs.Circuit.{Circuit}
-use Rattle.net_waves.specs.Waves.{Waves}
+use Rattle.fixpoint_engine.specs.Waves.{Waves}
 use Rattle.point_check.specs.Known.{AreKnown}
 use Rattle.pulse_check.specs.Faults.{instance_faults}
 use Rattle.timing_analysis.specs.declared.case_faults.KnownFaults.{KnownFaults}

@@ -1,3 +1,5 @@
+pub mod Drawn
+pub mod CircuitLaws
 pub mod Subject
 pub mod Case
 pub mod Known

@@ -4,8 +4,8 @@ use Rattle.step_values.specs.declared.value.Value.{Value}
 use Rattle.skew_algebra.specs.Wave.{Wave}
 use Rattle.flat_circuit.specs.declared.fault.Fault.{Fault}
 use Rattle.flat_circuit.specs.Circuit.{Circuit}
-use Rattle.wave_table.specs.Table.{AreKnown, waves_at}
-use Rattle.net_waves.specs.Waves.{FitWaves, waves_of}
+use Rattle.fixpoint_engine.specs.Table.{AreKnown, waves_at}
+use Rattle.fixpoint_engine.specs.Waves.{FitWaves, waves_of}
 use Rattle.case_analysis.specs.Base.{IsBase, PermitInputs}
 use Rattle.timing_analysis.specs.declared.case_faults.KnownFaults.{KnownFaults}
 use Rattle.timing_analysis.specs.Known.{IsKnown}

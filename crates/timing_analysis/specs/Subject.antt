@@ -3,7 +3,7 @@ use Rattle.std.specs.Prelude.{◌≡◌, ℕ, ◌≤◌, List, length, Option, S
 use Rattle.std.specs.List.{All}
 use Rattle.flat_circuit.specs.declared.case.CaseValue.{CaseValue}
 use Rattle.flat_circuit.specs.Circuit.{Circuit}
-use Rattle.class_table.specs.Stable.{IsStable}
+use Rattle.flat_circuit.specs.Stable.{IsStable}
 use Rattle.fixpoint_engine.specs.Reach.{reach}
 use Rattle.case_analysis.specs.Case.{NetsExist}
 use Rattle.timing_analysis.specs.declared.subject.Subject.{Subject}

@@ -1,7 +1,7 @@
 //! The faults of a case.
 
 ghost use Rattle.std.specs.Prelude.{◌≡◌, ◌+◌, ◌++◌, ◌≤◌, ℕ, List, IfOk, OnOk, length};
-ghost use Rattle.net_waves.specs.Waves.{FitWaves, waves_of};
+ghost use Rattle.fixpoint_engine.specs.Waves.{FitWaves, waves_of};
 ghost use Rattle.fixpoint_engine.specs.Reach.{reach};
 ghost use Rattle.flat_circuit.specs.declared.case.CaseValue.{CaseValue};
 ghost use Rattle.case_analysis.specs.Case.{PermitCase};
@@ -10,8 +10,8 @@ ghost use Rattle.timing_analysis.specs.Case.{faults_of};
 ghost use Rattle.timing_analysis.specs.Known.{IsKnown};
 ghost use Rattle.timing_analysis.specs.Promise.{KeepsFaultless};
 
+use fixpoint_engine::Waves;
 use flat_circuit::{Circuit, Faults, append_faults};
-use net_waves::Waves;
 use point_check::{PointFaults, check_points, check_points_again, known_points};
 use pulse_check::{PulseFaults, check_pulses, check_pulses_again, known_pulses};
 use scald_base::NoMemory;

@@ -4,8 +4,8 @@ ghost use Rattle.std.specs.Prelude.{◌≡◌, ◌≢◌, ◌≤◌, ◌<◌, �
 ghost use Rattle.flat_circuit.specs.Instances.{outputs};
 ghost use Rattle.flat_circuit.specs.declared.case.CaseValue.{CaseValue};
 ghost use Rattle.flat_circuit.specs.Circuit.{Circuit as Flat};
-ghost use Rattle.wave_table.specs.Table.{AreKnown, waves_at};
-ghost use Rattle.net_waves.specs.Waves.{FitWaves, waves_of};
+ghost use Rattle.fixpoint_engine.specs.Table.{AreKnown, waves_at};
+ghost use Rattle.fixpoint_engine.specs.Waves.{FitWaves, waves_of};
 ghost use Rattle.fixpoint_engine.specs.End.{EndsFor};
 ghost use Rattle.fixpoint_engine.specs.Loops.{HasNoLoop};
 ghost use Rattle.fixpoint_engine.specs.Reach.{reach};
@@ -22,14 +22,12 @@ ghost use Rattle.timing_analysis.specs.Subject.{IsSubject};
 use crate::case_faults::{KnownFaults, faults, faults_again, known_faults};
 use crate::subject::Subject;
 use case_analysis::tick;
-use fixpoint_engine::{EngineEnd, Settled, Store};
+use fixpoint_engine::{EngineEnd, Numbers, Settled, Store, Waves};
 use flat_circuit::{Circuit, Faults};
-use net_waves::Waves;
 use scald_base::NoMemory;
 use std::alloc::Global;
 use step_values::Value;
 use wave_core::CyclicWave;
-use wave_table::Numbers;
 
 /// The base of a circuit at rest, with which each case begins.
 #[derive(Drop)]

@@ -4,19 +4,18 @@
 ghost use Rattle.std.specs.Prelude.{◌≡◌, ◌≤◌, ◌<◌, ◌+◌, ℕ, Bool, IfErr, IfOk, MatchResult, length};
 ghost use Rattle.std.specs.List.{All};
 ghost use Rattle.flat_circuit.specs.Instances.{outputs};
-ghost use Rattle.wave_table.specs.Table.{AreKnown, Grows, waves_at};
-ghost use Rattle.net_waves.specs.Waves.{FitWaves, waves_of};
+ghost use Rattle.fixpoint_engine.specs.Table.{AreKnown, Grows, waves_at};
+ghost use Rattle.fixpoint_engine.specs.Waves.{FitWaves, waves_of};
 ghost use Rattle.fixpoint_engine.specs.End.{EndsFor};
 ghost use Rattle.fixpoint_engine.specs.Loops.{HasNoLoop};
 ghost use Rattle.case_analysis.specs.Base.{IsBase, PermitInputs, base_round};
 ghost use Rattle.case_analysis.specs.Case.{EndsInCone, HasCone, IsCase, IsCone, NetsExist, PermitCase, case_at, case_round};
 ghost use Rattle.timing_analysis.specs.Subject.{AreClasses, IsSubject};
 
+use crate::Drawn;
 use case_analysis::{base, base_classes, case_at, case_classes, case_waves, reach};
-use class_table::{ClassMap, classes, stable};
-use drawn_circuit::Drawn;
 use fixpoint_engine::{EngineEnd, Settled, Store};
-use flat_circuit::{CaseList, Circuit};
+use flat_circuit::{CaseList, Circuit, ClassMap, classes, stable};
 use scald_base::NoMemory;
 use std::alloc::Global;
 use step_values::Value;

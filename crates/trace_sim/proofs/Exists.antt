@@ -10,10 +10,10 @@ use Rattle.std.proofs.lemmas.Map.Keys.{IsDistinct-from_apart}
 use Rattle.std.proofs.lemmas.Map.Steps.{length-le_from_distinct_below}
 use Rattle.flat_circuit.specs.Circuit.{Circuit, IsCircuit}
 use Rattle.flat_circuit.specs.Loop.{By_one, And_then}
-use Rattle.node_order.specs.Node.{Feeds, Leads, AreLoopless}
-use Rattle.node_order.specs.Sorted.{StandsBefore, IsPlaced, IsSorted}
-use Rattle.node_order.proofs.Nodes.{reaches_map}
-use Rattle.node_order.proofs.Walk.{before_more, length_more, placed_more}
+use Rattle.flat_circuit.specs.Node.{Feeds, Leads, AreLoopless}
+use Rattle.flat_circuit.specs.Sorted.{StandsBefore, IsPlaced, IsSorted}
+use Rattle.flat_circuit.proofs.Nodes.{reaches_map}
+use Rattle.flat_circuit.proofs.OrderWalk.{before_more, length_more, placed_more}
 use Rattle.trace_sim.specs.Order.{IsEvaluationOrder, feeders_in}
 use Rattle.trace_sim.specs.Choice.{choices_of}
 use Rattle.trace_sim.specs.Laws.{RunsExist}

@@ -1,3 +1,13 @@
+pub mod Bits
+pub mod Each
+pub mod OnePick
+pub mod DrawPlaces
+pub mod Regions
+pub mod Moved
+pub mod Keeping
+pub mod Inputs
+pub mod ExamplesDraw
+pub mod ExamplesInput
 pub mod PinByPin
 pub mod Shown
 pub mod Held

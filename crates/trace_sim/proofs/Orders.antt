@@ -14,10 +14,10 @@ use Rattle.flat_circuit.specs.Instances.{out_at, pins_at, least_delay_at}
 use Rattle.flat_circuit.specs.Circuit.{Circuit, IsCircuit, wire_at, driver_at}
 use Rattle.flat_circuit.specs.Loop.{PassesOn, Reaches, By_one, And_then}
 use Rattle.flat_circuit.proofs.Driven.{get_none}
-use Rattle.node_order.specs.declared.node.Node.{Node}
-use Rattle.node_order.specs.Node.{Feeds, AreLoopless, AreInRange, feeders_of, node_feeders}
-use Rattle.node_order.specs.Sorted.{IsSorted}
-use Rattle.node_order.proofs.Nodes.{feeders_are, feeds_as, nodes_long, reaches_map, sorted_as}
+use Rattle.flat_circuit.specs.declared.node.Node.{Node}
+use Rattle.flat_circuit.specs.Node.{Feeds, AreLoopless, AreInRange, feeders_of, node_feeders}
+use Rattle.flat_circuit.specs.Sorted.{IsSorted}
+use Rattle.flat_circuit.proofs.Nodes.{feeders_are, feeds_as, nodes_long, reaches_map, sorted_as}
 use Rattle.trace_sim.specs.Order.{ReadsAtOnce, IsEvaluationOrder, at_once_driver, at_once_list, feeders_in}
 
 -- ---- round a loop of readers each passes on at once

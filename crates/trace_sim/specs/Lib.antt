@@ -1,3 +1,7 @@
+pub mod Draw
+pub mod Drawn
+pub mod Input
+pub mod DrawLaws
 pub mod Choice
 pub mod Simulated
 pub mod Laws

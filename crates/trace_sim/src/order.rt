@@ -2,11 +2,10 @@
 
 ghost use Rattle.std.specs.Prelude.{◌≡◌, ◌<◌, ◌++◌, length, map, option_to_list, IfOk, OnOk};
 ghost use Rattle.std.specs.List.{range_with_len};
-ghost use Rattle.node_order.specs.Node.{node_feeders};
+ghost use Rattle.flat_circuit.specs.Node.{node_feeders};
 ghost use Rattle.trace_sim.specs.Order.{IsEvaluationOrder, feeders_in, at_once_driver, at_once_list};
 
-use flat_circuit::{Circuit, Pin, Target};
-use node_order::{Node, sorted};
+use flat_circuit::{Circuit, Node, Pin, Target, sorted};
 use scald_base::NoMemory;
 use std::alloc::Global;
 

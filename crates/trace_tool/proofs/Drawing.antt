@@ -8,19 +8,19 @@ use Rattle.scald_base.specs.declared.assertion.AssertSpec.TheVariants.{None as U
 use Rattle.flat_circuit.specs.declared.case.CaseValue.{CaseValue}
 use Rattle.flat_circuit.specs.declared.net.Net.{Net}
 use Rattle.flat_circuit.specs.Circuit.{Circuit, IsCircuit, driver_in}
-use Rattle.class_table.specs.Alike.{value_after, value_in}
+use Rattle.flat_circuit.specs.Alike.{value_after, value_in}
 use Rattle.macro_expander.specs.Cases.{is_clock}
-use Rattle.net_waves.specs.Interface.{MeetsInterface}
+use Rattle.fixpoint_engine.specs.Interface.{MeetsInterface}
 use Rattle.case_analysis.specs.Case.{IsInCase, is_set}
 use Rattle.case_analysis.specs.Listed.{AreOnce, IsListed, is_free, one_more}
 use Rattle.case_analysis.proofs.Together.{set_is}
 use Rattle.trace_sim.specs.declared.choice.Choice.{Choice}
 use Rattle.trace_sim.specs.Choice.{Bits, ChoiceFits, choices_of}
 use Rattle.trace_sim.specs.Simulated.{IsSimulated, bit_of, run_of}
-use Rattle.drawn_run.specs.Input.{IsDrawn}
-use Rattle.drawn_run.specs.Laws.{MayRest, SetsNoClock}
-use Rattle.drawn_run.proofs.Inputs.{cases_hold, inputs_meet}
-use Rattle.drawn_run.proofs.Keeping.{same_bits}
+use Rattle.trace_sim.specs.Input.{IsDrawn}
+use Rattle.trace_sim.specs.DrawLaws.{MayRest, SetsNoClock}
+use Rattle.trace_sim.proofs.Inputs.{cases_hold, inputs_meet}
+use Rattle.trace_sim.proofs.Keeping.{same_bits}
 use Rattle.trace_tool.specs.Ran.{IsDrawnRun}
 
 -- ---- nets that a case may set

@@ -14,19 +14,19 @@ use Rattle.flat_circuit.specs.declared.instance.Instance.{Instance}
 use Rattle.flat_circuit.specs.Split.{two_delays}
 use Rattle.flat_circuit.specs.Circuit.{Circuit}
 use Rattle.flat_circuit.specs.Run.{DelayFitsForm, DelaysFit, IsRun, Run}
-use Rattle.net_waves.specs.Interface.{MeetsInterface}
+use Rattle.fixpoint_engine.specs.Interface.{MeetsInterface}
 use Rattle.listing.specs.Answer.{refusal_line}
-use Rattle.drawn_circuit.specs.Drawn.{DrawsCircuit, IsTextRefused}
-use Rattle.run_judge.specs.declared.element.Element.{Element}
-use Rattle.run_judge.specs.Break.{BreaksFirst, BreaksNever}
-use Rattle.run_judge.specs.Interface.{StraysFirst}
+use Rattle.timing_analysis.specs.Drawn.{DrawsCircuit, IsTextRefused}
+use Rattle.trace_tool.specs.declared.element.Element.{Element}
+use Rattle.trace_tool.specs.Break.{BreaksFirst, BreaksNever}
+use Rattle.trace_tool.specs.Interface.{StraysFirst}
 use Rattle.trace_sim.specs.declared.choice.Choice.{Choice}
 use Rattle.trace_sim.specs.Choice.{Bits, IsOneDelay, IsOneDelayForm, PickFits, all_chosen, chosen}
 use Rattle.trace_sim.specs.Simulated.{run_of}
 use Rattle.trace_sim.specs.Failure.{ArePicks, FailsFirst}
-use Rattle.trace_text.specs.declared.trace.Trace.{Trace}
-use Rattle.trace_text.specs.Trace.{pick_at, text_of_lines, wires_at}
-use Rattle.trace_text.specs.Reading.{HasNoTrace, HasTrace, IsEnded, IsReadAs, IsTrace, IsWrongLine}
+use Rattle.trace_tool.specs.declared.trace.Trace.{Trace}
+use Rattle.trace_tool.specs.Trace.{pick_at, text_of_lines, wires_at}
+use Rattle.trace_tool.specs.Reading.{HasNoTrace, HasTrace, IsEnded, IsReadAs, IsTrace, IsWrongLine}
 use Rattle.trace_tool.specs.declared.outcome.TraceOutcome.{TraceOutcome}
 use Rattle.trace_tool.specs.declared.outcome.TraceOutcome.TheVariants.{BadTrace, NotRun, Refused}
 use Rattle.trace_tool.specs.Judged as judged

@@ -5,7 +5,7 @@ use Rattle.scald_base.specs.declared.call_end.CallEnd.TheVariants.{BadWords, Too
 use Rattle.flat_circuit.specs.declared.case.CaseValue.{CaseValue}
 use Rattle.flat_circuit.specs.Circuit.{Circuit}
 use Rattle.flat_circuit.specs.Run.{Run as AnyRun}
-use Rattle.run_judge.specs.declared.element.Element.{Element}
+use Rattle.trace_tool.specs.declared.element.Element.{Element}
 use Rattle.program_call.specs.Program.{IsLawful}
 use Rattle.trace_tool.specs.declared.words.Command.{Command}
 use Rattle.trace_tool.specs.declared.words.Command.TheVariants.{Run, Judge}

@@ -4,11 +4,11 @@ use Rattle.scald_base.specs.declared.refusal.Refusal.{Refusal}
 use Rattle.flat_circuit.specs.declared.case.CaseValue.{CaseValue}
 use Rattle.flat_circuit.specs.Circuit.{Circuit, IsCircuit}
 use Rattle.listing.specs.Answer.{refusal_line}
-use Rattle.drawn_circuit.specs.Drawn.{DrawsCircuit, IsTextRefused}
-use Rattle.drawn_circuit.proofs.OneText.{not_refused, one_refusal, text_draws_one_circuit}
-use Rattle.trace_text.specs.declared.trace.Trace.{Trace}
-use Rattle.trace_text.specs.Reading.{HasTrace}
-use Rattle.trace_text.proofs.OneText.{lines_say_trace}
+use Rattle.timing_analysis.specs.Drawn.{DrawsCircuit, IsTextRefused}
+use Rattle.timing_analysis.proofs.OneText.{not_refused, one_refusal, text_draws_one_circuit}
+use Rattle.trace_tool.specs.declared.trace.Trace.{Trace}
+use Rattle.trace_tool.specs.Reading.{HasTrace}
+use Rattle.trace_tool.proofs.OneText.{lines_say_trace}
 use Rattle.trace_tool.specs.declared.outcome.TraceOutcome.{TraceOutcome}
 use Rattle.trace_tool.specs.declared.outcome.TraceOutcome.TheVariants.{BadTrace, Refused}
 use Rattle.trace_tool.specs.Judged as judged

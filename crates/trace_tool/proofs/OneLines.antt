@@ -9,15 +9,15 @@ use Rattle.std.proofs.lemmas.Option.{get_or_from_slice_get, slice_get-get_or, sl
 use Rattle.std.proofs.Math.Seq.{drop-append_seam}
 use Rattle.flat_circuit.specs.declared.instance.Instance.{Instance}
 use Rattle.flat_circuit.specs.Circuit.{Circuit, IsCircuit}
-use Rattle.trace_text.specs.declared.trace.Trace.{Trace}
-use Rattle.trace_text.specs.declared.line.Line.{Line}
-use Rattle.trace_text.specs.declared.line.Line.TheVariants.{Head, Delays, Bits, End}
-use Rattle.trace_text.specs.Trace.{end_line, line_order, line_text, pick_at, text_of_lines, trace_lines, wires_at}
-use Rattle.trace_text.specs.Reading.{HasFirst, HasTrace, IsLine, IsReadAs, IsRight, IsTrace, IsWithin, IsWrongLine, PickIsFit}
-use Rattle.trace_text.specs.Scan.{lines_of}
-use Rattle.trace_text.specs.Taking.{IsLineOf}
-use Rattle.trace_text.proofs.Cutting.{each_byte, lines_cut}
-use Rattle.trace_text.proofs.Distinct.{line_is_of, place_of}
+use Rattle.trace_tool.specs.declared.trace.Trace.{Trace}
+use Rattle.trace_tool.specs.declared.line.Line.{Line}
+use Rattle.trace_tool.specs.declared.line.Line.TheVariants.{Head, Delays, Bits, End}
+use Rattle.trace_tool.specs.Trace.{end_line, line_order, line_text, pick_at, text_of_lines, trace_lines, wires_at}
+use Rattle.trace_tool.specs.Reading.{HasFirst, HasTrace, IsLine, IsReadAs, IsRight, IsTrace, IsWithin, IsWrongLine, PickIsFit}
+use Rattle.trace_tool.specs.Scan.{lines_of}
+use Rattle.trace_tool.specs.Taking.{IsLineOf}
+use Rattle.trace_tool.proofs.Cutting.{each_byte, lines_cut}
+use Rattle.trace_tool.proofs.Distinct.{line_is_of, place_of}
 
 -- ---- where a trace ends
 

@@ -6,14 +6,14 @@ use Rattle.scald_base.specs.declared.refusal.Refusal.{Refusal}
 use Rattle.flat_circuit.specs.declared.case.CaseValue.{CaseValue}
 use Rattle.flat_circuit.specs.Circuit.{Circuit, IsCircuit}
 use Rattle.listing.specs.Answer.{refusal_line}
-use Rattle.drawn_circuit.proofs.OneText.{not_refused, one_refusal, text_draws_one_circuit}
+use Rattle.timing_analysis.proofs.OneText.{not_refused, one_refusal, text_draws_one_circuit}
 use Rattle.trace_sim.specs.declared.choice.Choice.{Choice}
 use Rattle.trace_sim.specs.Choice.{Bits}
 use Rattle.trace_sim.specs.Simulated.{IsSimulated}
 use Rattle.trace_sim.proofs.One.{choices_have_one_run}
-use Rattle.drawn_run.proofs.Inputs.{one_drawn}
-use Rattle.trace_text.specs.declared.trace.Trace.{Trace}
-use Rattle.trace_text.specs.Trace.{trace_text}
+use Rattle.trace_sim.proofs.Inputs.{one_drawn}
+use Rattle.trace_tool.specs.declared.trace.Trace.{Trace}
+use Rattle.trace_tool.specs.Trace.{trace_text}
 use Rattle.trace_tool.specs.declared.outcome.TraceOutcome.{TraceOutcome}
 use Rattle.trace_tool.specs.declared.outcome.TraceOutcome.TheVariants.{Refused}
 use Rattle.trace_tool.specs.Ran as ran

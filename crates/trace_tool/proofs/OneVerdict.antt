@@ -4,9 +4,9 @@ use Rattle.flat_circuit.specs.Circuit.{Circuit}
 use Rattle.flat_circuit.specs.Run.{IsRun, Run}
 use Rattle.trace_sim.specs.Failure.{FailsFirst}
 use Rattle.trace_sim.proofs.Failing.{not_obeyed, one_failure}
-use Rattle.run_judge.specs.declared.element.Element.{Element}
-use Rattle.run_judge.proofs.One as one
-use Rattle.run_judge.proofs.One.{not_met, not_unbroken, one_break}
+use Rattle.trace_tool.specs.declared.element.Element.{Element}
+use Rattle.trace_tool.proofs.One as one
+use Rattle.trace_tool.proofs.One.{not_met, not_unbroken, one_break}
 use Rattle.trace_tool.specs.declared.outcome.TraceOutcome.{TraceOutcome}
 use Rattle.trace_tool.specs.Judged as judged
 use Rattle.trace_tool.specs.Judged.{IsBreak, IsStray, Verdict, break_line, inputs_line, not_a_run_line, outcome_of, run_line}

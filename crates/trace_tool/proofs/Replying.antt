@@ -9,9 +9,9 @@ use Rattle.flat_circuit.specs.declared.case.CaseValue.{CaseValue}
 use Rattle.flat_circuit.specs.Circuit.{Circuit}
 use Rattle.case_analysis.specs.Listed.{IsListed, is_free, none}
 use Rattle.listing.specs.Answer.{refusal_line}
-use Rattle.drawn_circuit.specs.Drawn.{DrawsCircuit, IsTextRefused}
-use Rattle.trace_text.specs.declared.trace.Trace.{Trace}
-use Rattle.trace_text.specs.Trace.{trace_text}
+use Rattle.timing_analysis.specs.Drawn.{DrawsCircuit, IsTextRefused}
+use Rattle.trace_tool.specs.declared.trace.Trace.{Trace}
+use Rattle.trace_tool.specs.Trace.{trace_text}
 use Rattle.trace_tool.specs.declared.outcome.TraceOutcome.{TraceOutcome}
 use Rattle.trace_tool.specs.declared.outcome.TraceOutcome.TheVariants.{Done, NoCase, Refused, TooBig}
 use Rattle.trace_tool.specs.Ran as ran

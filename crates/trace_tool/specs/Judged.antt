@@ -6,20 +6,20 @@ use Rattle.flat_circuit.specs.declared.case.CaseValue.{CaseValue}
 use Rattle.flat_circuit.specs.Name.{net_at}
 use Rattle.flat_circuit.specs.Circuit.{Circuit}
 use Rattle.flat_circuit.specs.Run.{IsRun, Run}
-use Rattle.net_waves.specs.Interface.{MeetsInterface}
+use Rattle.fixpoint_engine.specs.Interface.{MeetsInterface}
 use Rattle.listing.specs.Answer.{refusal_line}
 use Rattle.listing.specs.Names.{instance_text, net_text}
 use Rattle.listing.specs.Text.{line}
-use Rattle.drawn_circuit.specs.Drawn.{DrawsCircuit, IsTextRefused}
+use Rattle.timing_analysis.specs.Drawn.{DrawsCircuit, IsTextRefused}
 use Rattle.trace_sim.specs.Choice.{all_chosen}
 use Rattle.trace_sim.specs.Failure.{FailsFirst}
 use Rattle.trace_sim.specs.Simulated.{run_of}
-use Rattle.trace_text.specs.declared.trace.Trace.{Trace}
-use Rattle.trace_text.specs.Reading.{HasNoTrace, HasTrace, IsReadAs, IsWrongLine}
-use Rattle.run_judge.specs.declared.element.Element.{Element}
-use Rattle.run_judge.specs.declared.element.Element.TheVariants.{Instance as OfInstance, Net as OfNet}
-use Rattle.run_judge.specs.Break.{BreaksFirst, BreaksNever}
-use Rattle.run_judge.specs.Interface.{StraysFirst}
+use Rattle.trace_tool.specs.declared.trace.Trace.{Trace}
+use Rattle.trace_tool.specs.Reading.{HasNoTrace, HasTrace, IsReadAs, IsWrongLine}
+use Rattle.trace_tool.specs.declared.element.Element.{Element}
+use Rattle.trace_tool.specs.declared.element.Element.TheVariants.{Instance as OfInstance, Net as OfNet}
+use Rattle.trace_tool.specs.Break.{BreaksFirst, BreaksNever}
+use Rattle.trace_tool.specs.Interface.{StraysFirst}
 use Rattle.trace_tool.specs.declared.outcome.TraceOutcome.{TraceOutcome}
 use Rattle.trace_tool.specs.declared.outcome.TraceOutcome.TheVariants.{BadTrace, Broken, Done, NotRun, Refused}
 

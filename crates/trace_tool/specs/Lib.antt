@@ -1,3 +1,11 @@
+pub mod Break
+pub mod Interface
+pub mod Pass
+pub mod Trace
+pub mod Reading
+pub mod Scan
+pub mod Taking
+pub mod Laws
 pub mod Outcome
 pub mod Words
 pub mod Ran

@@ -4,16 +4,16 @@ use Rattle.scald_base.specs.declared.refusal.Refusal.{Refusal}
 use Rattle.flat_circuit.specs.declared.case.CaseValue.{CaseValue}
 use Rattle.flat_circuit.specs.Circuit.{Circuit}
 use Rattle.flat_circuit.specs.Run.{IsRun, Run}
-use Rattle.net_waves.specs.Interface.{MeetsInterface}
+use Rattle.fixpoint_engine.specs.Interface.{MeetsInterface}
 use Rattle.case_analysis.specs.Case.{IsInCase}
 use Rattle.listing.specs.Answer.{refusal_line}
-use Rattle.drawn_circuit.specs.Drawn.{DrawsCircuit, IsTextRefused}
+use Rattle.timing_analysis.specs.Drawn.{DrawsCircuit, IsTextRefused}
 use Rattle.trace_sim.specs.declared.choice.Choice.{Choice}
 use Rattle.trace_sim.specs.Choice.{ChoiceFits, choices_of}
 use Rattle.trace_sim.specs.Simulated.{IsSimulated, run_of}
-use Rattle.drawn_run.specs.Input.{IsDrawn}
-use Rattle.trace_text.specs.declared.trace.Trace.{Trace}
-use Rattle.trace_text.specs.Trace.{trace_text}
+use Rattle.trace_sim.specs.Input.{IsDrawn}
+use Rattle.trace_tool.specs.declared.trace.Trace.{Trace}
+use Rattle.trace_tool.specs.Trace.{trace_text}
 use Rattle.trace_tool.specs.declared.outcome.TraceOutcome.{TraceOutcome}
 use Rattle.trace_tool.specs.declared.outcome.TraceOutcome.TheVariants.{Done, NoCase, Refused, TooBig}
 

@@ -7,14 +7,13 @@ ghost use Rattle.trace_tool.specs.Ran.{IsTraced, Ran, RanIn, RanOn};
 
 use crate::outcome::TraceOutcome;
 use crate::replies::{refused, silent};
-use drawn_circuit::read_circuit;
-use drawn_run::draw;
+use crate::{Trace, write_trace};
 use flat_circuit::{Case, CaseList, Circuit};
 use program_call::Reply;
 use scald_base::{Bytes, NoMemory, Stop};
 use std::alloc::Global;
-use trace_sim::simulate;
-use trace_text::{Trace, write_trace};
+use timing_analysis::read_circuit;
+use trace_sim::{draw, simulate};
 
 /// The most bits of a trace.
 const MOST_BITS: u64 = 4_000_000;

@@ -4,21 +4,20 @@ ghost use Rattle.std.specs.Prelude.{◌≡◌, ◌-◌, ◌^◌, ◌<◌, IfOk, 
 ghost use Rattle.flat_circuit.specs.Run.{IsRun};
 ghost use Rattle.trace_sim.specs.Choice.{AreTraces, choices_of};
 ghost use Rattle.trace_sim.specs.Simulated.{run_of};
-ghost use Rattle.trace_text.specs.Reading.{IsEnded, IsTrace};
-ghost use Rattle.trace_text.specs.Scan.{lines_of};
+ghost use Rattle.trace_tool.specs.Reading.{IsEnded, IsTrace};
+ghost use Rattle.trace_tool.specs.Scan.{lines_of};
 ghost use Rattle.trace_tool.specs.Judged.{Judged, JudgedOn, Verdict, run_in};
 
 use crate::outcome::TraceOutcome;
 use crate::replies::{refused, silent};
 use crate::verdict::{add_break, add_inputs, add_no_run, add_run, outcome_of};
-use drawn_circuit::read_circuit;
+use crate::{Trace, TraceFault, first_break, first_stray, read_trace, split_trace};
 use flat_circuit::Circuit;
 use program_call::Reply;
-use run_judge::{first_break, first_stray};
 use scald_base::{Bytes, NoMemory, Stop};
 use std::alloc::Global;
+use timing_analysis::read_circuit;
 use trace_sim::{Choice, Levels, Traces, first_failure};
-use trace_text::{Trace, TraceFault, read_trace, split_trace};
 
 /// What is to be said of the trace with which a text begins, with breaks from a tick on: whether it is a
 /// run of the circuit that the rest of the text draws, whether its inputs keep their assertions, and what

@@ -1,20 +1,43 @@
 //! The simulator: runs of a drawing's circuit, made and judged.
 //!
 //! `run T SEED` draws a run of so many ticks by the words of a generator that is seeded so, in a case
-//! where `case=K` follows; `judge F` says whether a trace is a run, and what breaks in it from tick F on.
-//! The program calls [`trace_main`], the main call of `program_call` for the program [`Simulator`]
-//! (`specs/Simulator`), and ends with the [`trace_status`] of its [`TraceOutcome`]. What [`run`] replies to
-//! a text says `specs/Ran`, and what [`judge`] does `specs/Judged`.
+//! where `case=K` follows; `judge F` says whether a trace is a run, and what breaks in it from tick F
+//! on. The program calls [`trace_main`], the main call of `program_call` for [`Simulator`]
+//! (`specs/Simulator`); `specs/Ran` says what `run` replies, and `specs/Judged` what `judge` does.
+//!
+//! `specs/Trace` says what the lines of a trace are, and `specs/Reading` which is the first that is
+//! wrong; that they say every bit is a law in [`laws`]. [`first_stray`] finds the first net that
+//! nothing drives and that does not keep its assertion (`specs/Interface`), and [`first_break`] what
+//! is broken first from a tick on (`specs/Break`), in one pass for each element (`specs/Pass`).
 #![tactic(auto)]
+
+// the text of a trace
+pub mod laws;
+mod line;
+mod read;
+mod scan;
+mod split;
+mod take;
+mod trace;
+mod write;
+
+// inputs and breaks of a run
+mod assertion;
+mod element;
+mod first;
+mod interface;
+mod mark;
+mod pulse;
+mod step;
+mod stray;
+mod window;
 
 // words and outcomes
 mod outcome;
 mod words;
 
-// runs that are drawn
+// runs that are drawn, and traces that are judged
 mod drawn;
-
-// traces that are judged
 mod judged;
 mod verdict;
 
@@ -25,7 +48,14 @@ mod simulator;
 
 pub use call::trace_main;
 pub use drawn::run;
+pub use element::Element;
+pub use first::first_break;
 pub use judged::judge;
 pub use outcome::{TraceOutcome, trace_status};
 pub use simulator::Simulator;
+pub use split::split_trace;
+pub use stray::first_stray;
+pub use take::read_trace;
+pub use trace::{Trace, TraceFault};
 pub use words::{Command, read_words};
+pub use write::write_trace;

@@ -48,6 +48,7 @@ impl Program for Simulator {
         alloc: Global,
         command: Command,
         text: &[u8],
+        _undriven: &mut u32,
     ) -> Result<Reply<TraceOutcome>, NoMemory> {
         match command {
             Command::Run { ticks, seed, case } => run(alloc, text, ticks, seed, case),

@@ -8,10 +8,10 @@ ghost use Rattle.listing.specs.Names.{net_text};
 ghost use Rattle.listing.specs.Piece.{piece_text};
 ghost use Rattle.trace_tool.specs.Judged.{break_line, element_text, inputs_line, not_a_run_line, outcome_of, run_line};
 
+use crate::Element;
 use crate::outcome::TraceOutcome;
 use flat_circuit::Circuit;
 use listing::{Piece, add_line, instance_piece, net_piece};
-use run_judge::Element;
 use scald_base::{Bytes, NoMemory};
 
 /// That bits are no run: the tick and the net that show it.

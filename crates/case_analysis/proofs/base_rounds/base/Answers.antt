@@ -1,7 +1,7 @@
 use Rattle.std.proofs.Common.{◌≡◌, ◌<◌, ◌+◌, IfErr, IfOk, subst, arith}
 use Rattle.scald_base.specs.Time.{period}
-use Rattle.wave_table.specs.Table.{waves_at}
-use Rattle.net_waves.specs.Waves.{waves_of}
+use Rattle.fixpoint_engine.specs.Table.{waves_at}
+use Rattle.fixpoint_engine.specs.Waves.{waves_of}
 use Rattle.fixpoint_engine.specs.End.{EndsFor}
 use Rattle.fixpoint_engine.specs.Rounds.{round}
 use Rattle.fixpoint_engine.specs.Settled.{AreAtRest, marked_in}

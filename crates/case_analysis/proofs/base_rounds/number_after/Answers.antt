@@ -1,7 +1,7 @@
 use Rattle.std.proofs.Common.{◌∙◌, ◌-◌, ◌<◌, Some, ap, refl, sym, arith}
 use Rattle.std.proofs.lemmas.Result.{IfOk-weaker}
-use Rattle.wave_table.specs.Table.{IsNumber}
-use Rattle.wave_table.proofs.Growing.{grows_none}
+use Rattle.fixpoint_engine.specs.Table.{IsNumber}
+use Rattle.fixpoint_engine.proofs.Growing.{grows_none}
 use Rattle.fixpoint_engine.specs.Start.{base_start}
 use Rattle.pin_waves.specs.Interface.{interface_wave}
 use Rattle.case_analysis.proofs.Numbered.{begins_asserted, begins_unknown, last_number, numbers_begun}

@@ -1,8 +1,8 @@
 use Rattle.std.proofs.Common.{◌≡◌, ◌∙◌, Some, length, map, sym, subst, ap, arith}
 use Rattle.std.specs.List.{range_with_len}
-use Rattle.wave_table.specs.Table.{AreKnown, waves_at}
-use Rattle.wave_table.proofs.Growing.{grows_trans, same_number}
-use Rattle.wave_table.proofs.ByNumber.{known_more, number_below}
+use Rattle.fixpoint_engine.specs.Table.{AreKnown, waves_at}
+use Rattle.fixpoint_engine.proofs.Growing.{grows_trans, same_number}
+use Rattle.fixpoint_engine.proofs.TableByNumber.{known_more, number_below}
 use Rattle.fixpoint_engine.specs.Start.{base_start, unknown_wave}
 use Rattle.case_analysis.proofs.Numbered.{begun_more}
 use Rattle.case_analysis.proofs.Start.{start_fits, start_is}

@@ -1,6 +1,6 @@
 use Rattle.std.proofs.Common.{◌≡◌, map}
 use Rattle.std.specs.List.{range_with_len}
-use Rattle.wave_table.specs.Table.{AreKnown, Grows, IsNumber, waves_at}
+use Rattle.fixpoint_engine.specs.Table.{AreKnown, Grows, IsNumber, waves_at}
 use Rattle.fixpoint_engine.specs.Start.{base_start, unknown_wave}
 use Rattle.case_analysis.proofs.base_rounds.start_numbers.Given as goal
 

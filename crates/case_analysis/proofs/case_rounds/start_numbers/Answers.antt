@@ -1,9 +1,9 @@
 use Rattle.std.proofs.Common.{◌∙◌, [], Some, length, take, sym, ap, subst}
 use Rattle.std.proofs.lemmas.List.{length-map}
-use Rattle.wave_table.specs.Table.{AreKnown, IsNumber, wave_at, waves_at}
-use Rattle.wave_table.proofs.Growing.{grows_trans, known_still, same_number, same_waves}
-use Rattle.wave_table.proofs.ByNumber.{number_below, number_reads}
-use Rattle.net_waves.specs.Waves.{waves_of}
+use Rattle.fixpoint_engine.specs.Table.{AreKnown, IsNumber, wave_at, waves_at}
+use Rattle.fixpoint_engine.proofs.Growing.{grows_trans, known_still, same_number, same_waves}
+use Rattle.fixpoint_engine.proofs.TableByNumber.{number_below, number_reads}
+use Rattle.fixpoint_engine.specs.Waves.{waves_of}
 use Rattle.fixpoint_engine.specs.Settled.{marked_in}
 use Rattle.fixpoint_engine.specs.Start.{unknown_wave}
 use Rattle.fixpoint_engine.proofs.Added.{known_set}

@@ -2,8 +2,8 @@ use Rattle.std.proofs.Common.{◌≡◌, ◌<◌, List, [], length, map}
 use Rattle.std.specs.List.{range_with_len}
 use Rattle.step_values.specs.declared.value.Value.{Value}
 use Rattle.skew_algebra.specs.Wave.{Wave}
-use Rattle.wave_table.specs.Table.{AreKnown, IsNumber, waves_at}
-use Rattle.net_waves.specs.Waves.{waves_of}
+use Rattle.fixpoint_engine.specs.Table.{AreKnown, IsNumber, waves_at}
+use Rattle.fixpoint_engine.specs.Waves.{waves_of}
 use Rattle.fixpoint_engine.specs.Settled.{marked_in}
 use Rattle.fixpoint_engine.specs.Start.{unknown_wave}
 use Rattle.case_analysis.specs.Case.{case_start}

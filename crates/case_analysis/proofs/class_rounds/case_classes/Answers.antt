@@ -1,8 +1,8 @@
 use Rattle.std.proofs.Common.{◌≡◌, ◌<◌, ◌+◌, ◌∙◌, List, ap, subst, arith}
 use Rattle.scald_base.specs.Time.{period}
 use Rattle.flat_circuit.specs.declared.case.CaseValue.{CaseValue}
-use Rattle.wave_table.specs.Table.{waves_at}
-use Rattle.net_waves.specs.Waves.{waves_of}
+use Rattle.fixpoint_engine.specs.Table.{waves_at}
+use Rattle.fixpoint_engine.specs.Waves.{waves_of}
 use Rattle.fixpoint_engine.specs.Classes.{class_work_to}
 use Rattle.fixpoint_engine.specs.End.{EndsFor}
 use Rattle.fixpoint_engine.specs.Rounds.{round}

@@ -1,17 +1,17 @@
-use Rattle.timing_reply.specs.Promise.{may_count}
-use Rattle.timing_reply.proofs.Promised.{finished, given_by, settles}
-use Rattle.drawing_notes.specs.Answer.{Noted}
+use Rattle.program_call.specs.Promise.{may_count}
+use Rattle.program_call.proofs.Promised.{finished, given_by, settles}
+use Rattle.drawing_notes.specs.Answer.{Noted, own_word}
 use Rattle.drawing_notes.specs.Promise.{WritesNotes}
 use Rattle.drawing_notes.proofs.Promised.{is_given, is_settled, is_written}
 use Rattle.drawing_notes.proofs.program.notes_main.Goals as goal
 
 pub returns-clause-finished : goal.returns-clause-finished
 returns-clause-finished g c =
-    finished Noted (λ text. WritesNotes text _ _ _) c.args.words.now _ _ _ _ _ _ (λ text writes. is_written text _ _ _ writes) c.main_call.ensures.whole
+    finished own_word Noted (λ text. WritesNotes text _ _ _) c.args.words.now _ _ _ _ _ _ (λ text writes. is_written text _ _ _ writes) c.main_call.ensures.whole
 
 pub returns-clause-given : goal.returns-clause-given
-returns-clause-given g c spoken = given_by Noted may_count is_given c.args.words.now _ _ _ _ _ (c.main_call.ensures.replied spoken)
+returns-clause-given g c spoken = given_by own_word Noted may_count is_given c.args.words.now _ _ _ _ _ (c.main_call.ensures.replied spoken)
 
 pub returns-clause-loopless : goal.returns-clause-loopless
 returns-clause-loopless g c text told =
-    settles Noted is_settled c.args.words.now text _ _ _ (λ spoken. c.main_call.ensures.truthful text told spoken)
+    settles own_word Noted is_settled c.args.words.now text _ _ _ (λ spoken. c.main_call.ensures.truthful text told spoken)

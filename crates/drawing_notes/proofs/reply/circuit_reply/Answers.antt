@@ -1,8 +1,8 @@
 use Rattle.std.proofs.Common.{subst, sym}
-use Rattle.drawn_circuit.specs.Drawn.{IsTextRefused}
-use Rattle.timing_analysis.proofs.Drawn.{subject_is_drawn}
-use Rattle.timing_reply.proofs.Ending.{ended_early}
-use Rattle.timing_reply.proofs.Replies.{reply_has}
+use Rattle.timing_analysis.specs.Drawn.{IsTextRefused}
+use Rattle.timing_analysis.proofs.DrawnText.{subject_is_drawn}
+use Rattle.program_call.proofs.Ending.{ended_early}
+use Rattle.program_call.proofs.Replies.{reply_has}
 use Rattle.drawing_notes.specs.Answer.{Noted, refused}
 use Rattle.drawing_notes.proofs.Replying.{noted_is, stopped_is}
 use Rattle.drawing_notes.proofs.reply.circuit_reply.Goals as goal

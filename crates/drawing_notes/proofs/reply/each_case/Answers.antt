@@ -2,14 +2,14 @@ use Rattle.std.proofs.Common.{◌≡◌, ◌∙◌, ap, refl, List, sym, take, s
 use Rattle.std.proofs.lemmas.List.{take_all}
 use Rattle.std.proofs.lemmas.Result.{err_from_is_err_and}
 use Rattle.flat_circuit.specs.declared.case.CaseValue.{CaseValue}
-use Rattle.wave_table.specs.Table.{waves_at}
-use Rattle.net_waves.specs.Waves.{FitWaves}
+use Rattle.fixpoint_engine.specs.Table.{waves_at}
+use Rattle.fixpoint_engine.specs.Waves.{FitWaves}
 use Rattle.timing_analysis.specs.Case.{numbered}
 use Rattle.timing_analysis.specs.Rested.{settled_case}
 use Rattle.timing_analysis.proofs.Stored.{case_from, ends_from}
-use Rattle.timing_reply.specs.Teller.{HasTold}
-use Rattle.timing_reply.proofs.Telling.{told_start, read_case, going_more, going_ends}
-use Rattle.wave_notes.specs.SoFar.{HoldsOf}
+use Rattle.program_call.specs.Teller.{HasTold}
+use Rattle.program_call.proofs.Telling.{told_start, read_case, going_more, going_ends}
+use Rattle.drawing_notes.specs.SoFar.{HoldsOf}
 use Rattle.drawing_notes.proofs.reply.each_case.Goals as goal
 
 pub loop-place-init : goal.loop-place-init

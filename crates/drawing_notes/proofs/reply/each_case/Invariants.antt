@@ -1,9 +1,9 @@
 use Rattle.std.proofs.Common.{◌≡◌, ℕ}
 use Rattle.flat_circuit.specs.Circuit.{Circuit}
 use Rattle.timing_analysis.specs.Rested.{IsBaseIn}
-use Rattle.timing_reply.proofs.Telling.{Going}
-use Rattle.wave_notes.specs.declared.cases.SoFar.{SoFar}
-use Rattle.wave_notes.specs.SoFar.{HoldsOf}
+use Rattle.program_call.proofs.Telling.{Going}
+use Rattle.drawing_notes.specs.declared.cases.SoFar.{SoFar}
+use Rattle.drawing_notes.specs.SoFar.{HoldsOf}
 use Rattle.drawing_notes.proofs.reply.each_case.Given as goal
 
 abbrev pub invariant-loop-place : goal.invariant-loop-place

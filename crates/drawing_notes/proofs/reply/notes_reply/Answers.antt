@@ -2,9 +2,9 @@ use Rattle.std.proofs.Common.{◌∙◌, ap, subst, sym}
 use Rattle.drawing_tree.specs.Tree.{drawing_of}
 use Rattle.drawing_grammar.proofs.TextLaws.{one_drawing}
 use Rattle.drawing_grammar.specs.Refused.{IsRefusal}
-use Rattle.drawn_circuit.specs.Drawn.{undrawn}
-use Rattle.spread_names.specs.Spreads.{spreads}
-use Rattle.timing_reply.proofs.Replies.{reply_has}
+use Rattle.timing_analysis.specs.Drawn.{undrawn}
+use Rattle.drawing_notes.specs.Spreads.{spreads}
+use Rattle.program_call.proofs.Replies.{reply_has}
 use Rattle.drawing_notes.specs.Answer.{Noted, refused}
 use Rattle.drawing_notes.proofs.reply.notes_reply.Goals as goal
 

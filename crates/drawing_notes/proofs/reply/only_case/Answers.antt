@@ -1,9 +1,9 @@
 use Rattle.std.proofs.Common.{◌≡◌, ◌∙◌, [], ap, refl, sym, subst}
-use Rattle.wave_table.specs.Table.{waves_at}
-use Rattle.net_waves.specs.Waves.{FitWaves}
+use Rattle.fixpoint_engine.specs.Table.{waves_at}
+use Rattle.fixpoint_engine.specs.Waves.{FitWaves}
 use Rattle.timing_analysis.specs.Rested.{settled_case}
-use Rattle.timing_reply.proofs.Telling.{told_start, told_more, read_case}
-use Rattle.wave_notes.specs.SoFar.{HoldsOf}
+use Rattle.program_call.proofs.Telling.{told_start, told_more, read_case}
+use Rattle.drawing_notes.specs.SoFar.{HoldsOf}
 use Rattle.drawing_notes.proofs.reply.only_case.Goals as goal
 
 pub add_case-requires-clause-fit : goal.add_case-requires-clause-fit

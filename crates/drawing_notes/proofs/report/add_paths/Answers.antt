@@ -1,10 +1,10 @@
 use Rattle.std.proofs.Common.{◌^◌, ℕ, List, length, sym, subst, arith, Option}
-use Rattle.circuit_notes.specs.declared.launched.Arrival.{Arrival}
-use Rattle.circuit_notes.specs.Arrivals.{AreSmall, arrival_at}
-use Rattle.circuit_notes.specs.Late.{late}
-use Rattle.circuit_notes.specs.Told.{Adds}
-use Rattle.circuit_notes.proofs.Small.{small_weaker}
-use Rattle.wave_notes.specs.Common.{common, skew_at}
+use Rattle.drawing_notes.specs.declared.launched.Arrival.{Arrival}
+use Rattle.drawing_notes.specs.Arrivals.{AreSmall, arrival_at}
+use Rattle.drawing_notes.specs.Late.{late}
+use Rattle.drawing_notes.specs.Told.{Adds}
+use Rattle.drawing_notes.proofs.Small.{small_weaker}
+use Rattle.drawing_notes.specs.Common.{common, skew_at}
 use Rattle.drawing_notes.proofs.Reporting.{paths_added}
 use Rattle.drawing_notes.proofs.report.add_paths.Goals as goal
 

@@ -1,5 +1,5 @@
 use Rattle.std.proofs.Common.{sym, subst}
-use Rattle.wave_notes.specs.Unclocked.{AreActs}
+use Rattle.drawing_notes.specs.Unclocked.{AreActs}
 use Rattle.drawing_notes.proofs.Reporting.{single_added}
 use Rattle.drawing_notes.proofs.report.add_single.Goals as goal
 

@@ -1,8 +1,8 @@
 use Rattle.std.proofs.Common.{◌∙◌, ◌++◌, ℕ, List, length, ap, sym, subst, Option}
-use Rattle.circuit_notes.specs.Parts.{AreInside, together}
-use Rattle.circuit_notes.specs.Paths.{TellsLoops}
+use Rattle.drawing_notes.specs.Parts.{AreInside, together}
+use Rattle.drawing_notes.specs.Paths.{TellsLoops}
 use Rattle.listing.specs.Head.{period_line}
-use Rattle.timing_reply.specs.Answer.{verdict_of}
+use Rattle.program_call.specs.Answer.{verdict_of}
 use Rattle.drawing_notes.specs.Report.{count_line}
 use Rattle.drawing_notes.proofs.Reporting.{reported}
 use Rattle.drawing_notes.proofs.report.report.Goals as goal

@@ -1,6 +1,6 @@
 use Rattle.std.proofs.Common.{◌∙◌, sym, ap, arith}
 use Rattle.scald_base.specs.Time.{period}
-use Rattle.net_waves.specs.Waves.{waves_of}
+use Rattle.fixpoint_engine.specs.Waves.{waves_of}
 use Rattle.margin_report.specs.Margin.{fault_with}
 use Rattle.fault_account.proofs.Short.{least_halved, least_none}
 use Rattle.fault_account.proofs.asked.least_fault.Goals as goal

@@ -1,5 +1,5 @@
 use Rattle.std.proofs.Common.{◌-◌}
-use Rattle.net_waves.specs.Waves.{waves_of}
+use Rattle.fixpoint_engine.specs.Waves.{waves_of}
 use Rattle.margin_report.specs.Margin.{written}
 use Rattle.fault_account.proofs.Short.{IsHalved}
 use Rattle.fault_account.proofs.asked.least_fault.Given as goal

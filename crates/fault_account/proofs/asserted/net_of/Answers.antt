@@ -4,7 +4,7 @@ use Rattle.scald_base.specs.Time.{period}
 use Rattle.step_values.specs.declared.value.Value.TheVariants.{U}
 use Rattle.step_values.specs.Cell.{same, values}
 use Rattle.skew_algebra.specs.Wave.{cell_at, fold}
-use Rattle.net_waves.specs.Waves.{waves_of}
+use Rattle.fixpoint_engine.specs.Waves.{waves_of}
 use Rattle.point_check.specs.Assertion.{exceeds}
 use Rattle.fault_account.specs.Around.{run_after, run_before}
 use Rattle.fault_account.specs.Marks.{AreMarks}

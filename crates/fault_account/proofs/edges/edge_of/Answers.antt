@@ -1,6 +1,6 @@
 use Rattle.std.proofs.Common.{◌≡◌, ℕ, ◌+◌, ◌%◌, ap, ◌∙◌, arith}
 use Rattle.scald_base.specs.Time.{period}
-use Rattle.net_waves.specs.Waves.{waves_of}
+use Rattle.fixpoint_engine.specs.Waves.{waves_of}
 use Rattle.fault_account.specs.Account.{ahead_of, behind_of, earlier_of, edge_slot, falls_of, later_of, more_of}
 use Rattle.fault_account.specs.Shown.{folded}
 use Rattle.fault_account.specs.Sides.{pin_side}

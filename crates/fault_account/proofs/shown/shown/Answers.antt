@@ -1,6 +1,6 @@
 use Rattle.std.proofs.Common.{length, slice_get, sym, ap, ◌∙◌}
-use Rattle.net_waves.specs.Waves.{waves_of}
-use Rattle.net_waves.proofs.Fits.{long_pin}
+use Rattle.fixpoint_engine.specs.Waves.{waves_of}
+use Rattle.fixpoint_engine.proofs.Fits.{long_pin}
 use Rattle.fault_account.proofs.Existing.{pin_is_there}
 use Rattle.fault_account.proofs.shown.shown.Goals as goal
 

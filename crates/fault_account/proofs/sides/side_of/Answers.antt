@@ -1,6 +1,6 @@
 use Rattle.std.proofs.Common.{◌<◌, ◌∙◌, ap, arith}
 use Rattle.scald_base.specs.Time.{period}
-use Rattle.net_waves.specs.Waves.{waves_of}
+use Rattle.fixpoint_engine.specs.Waves.{waves_of}
 use Rattle.fault_account.specs.Unknown.{unknown_of}
 use Rattle.fault_account.proofs.Existing.{chain_exists}
 use Rattle.fault_account.proofs.Inside.{chain_is_side}

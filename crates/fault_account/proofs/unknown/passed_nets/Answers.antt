@@ -1,5 +1,5 @@
 use Rattle.std.proofs.Common.{◌+◌, ◌-◌, length, sym, ap, ◌∙◌}
-use Rattle.net_waves.specs.Waves.{Waves, waves_of}
+use Rattle.fixpoint_engine.specs.Waves.{Waves, waves_of}
 use Rattle.fixpoint_engine.proofs.Drivers.{driver_fits}
 use Rattle.fault_account.specs.Unknown.{unknown_before}
 use Rattle.fault_account.proofs.Way.{before_last, ends_known, ends_met, ends_undriven, way_more}

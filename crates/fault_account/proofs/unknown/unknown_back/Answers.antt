@@ -1,6 +1,6 @@
 use Rattle.std.proofs.Common.{◌+◌, ◌-◌, sym, ◌∙◌, arith}
 use Rattle.gate_eval.proofs.Found.{first_some_beyond}
-use Rattle.net_waves.specs.Waves.{waves_of}
+use Rattle.fixpoint_engine.specs.Waves.{waves_of}
 use Rattle.fault_chain.proofs.Looking.{first_from}
 use Rattle.fault_account.specs.Unknown.{unknown_back}
 use Rattle.fault_account.proofs.Way.{unknown_here}

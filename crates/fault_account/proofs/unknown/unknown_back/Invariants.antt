@@ -1,5 +1,5 @@
 use Rattle.std.proofs.Common.{◌≡◌, ◌<◌, ◌≤◌, ℕ, None}
-use Rattle.net_waves.specs.Waves.{waves_of}
+use Rattle.fixpoint_engine.specs.Waves.{waves_of}
 use Rattle.fault_account.specs.Unknown.{unknown_back}
 use Rattle.fault_account.proofs.unknown.unknown_back.Given as goal
 

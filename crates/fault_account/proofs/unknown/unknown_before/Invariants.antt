@@ -1,5 +1,5 @@
 use Rattle.std.proofs.Common.{◌≡◌, drop, Some}
-use Rattle.net_waves.specs.Waves.{waves_of}
+use Rattle.fixpoint_engine.specs.Waves.{waves_of}
 use Rattle.storage_eval.specs.Storage.{listening_from}
 use Rattle.fault_account.specs.Unknown.{unknown_before, unknown_first}
 use Rattle.fault_account.proofs.unknown.unknown_before.Given as goal

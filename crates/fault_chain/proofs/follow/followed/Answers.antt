@@ -1,6 +1,6 @@
 use Rattle.std.proofs.Common.{◌≡◌, ℕ, ◌+◌, ◌-◌, false, List, [], length, subst, sym, ap, ◌∙◌, arith}
 use Rattle.std.proofs.lemmas.List.{length-replicate}
-use Rattle.net_waves.specs.Waves.{Waves, waves_of}
+use Rattle.fixpoint_engine.specs.Waves.{Waves, waves_of}
 use Rattle.fixpoint_engine.proofs.Drivers.{driver_fits}
 use Rattle.fault_chain.specs.declared.chain.Link.{Link}
 use Rattle.fault_chain.specs.declared.chain.End.TheVariants.{Repeat, Undriven, Both}

@@ -1,5 +1,5 @@
 use Rattle.std.proofs.Common.{◌-◌, length}
-use Rattle.net_waves.specs.Waves.{waves_of}
+use Rattle.fixpoint_engine.specs.Waves.{waves_of}
 use Rattle.fault_chain.proofs.Following.{IsFollowed}
 use Rattle.fault_chain.proofs.follow.followed.Given as goal
 

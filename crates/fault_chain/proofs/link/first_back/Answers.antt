@@ -4,7 +4,7 @@ use Rattle.step_values.specs.declared.value.Value.{Value}
 use Rattle.step_values.specs.Cell.{values}
 use Rattle.skew_algebra.specs.Wave.{Wave, is_steady}
 use Rattle.gate_eval.proofs.Found.{first_some_beyond}
-use Rattle.net_waves.specs.Waves.{waves_of}
+use Rattle.fixpoint_engine.specs.Waves.{waves_of}
 use Rattle.fault_chain.specs.Chain.{mover_back}
 use Rattle.fault_chain.proofs.Looking.{first_from, some_here, steady_none}
 use Rattle.fault_chain.proofs.link.first_back.Goals as goal

@@ -1,5 +1,5 @@
 use Rattle.std.proofs.Common.{◌≡◌, drop}
-use Rattle.net_waves.specs.Waves.{waves_of}
+use Rattle.fixpoint_engine.specs.Waves.{waves_of}
 use Rattle.storage_eval.specs.Storage.{listening_from}
 use Rattle.fault_chain.specs.Chain.{next_link, through_first}
 use Rattle.fault_chain.proofs.link.next_link.Given as goal

@@ -1,6 +1,6 @@
 use Rattle.std.proofs.Common.{◌≡◌, ◌++◌, false, length, replicate, take}
 use Rattle.std.specs.List.{flat_map}
-use Rattle.net_waves.specs.Waves.{waves_of}
+use Rattle.fixpoint_engine.specs.Waves.{waves_of}
 use Rattle.fault_chain.specs.Report.{explained}
 use Rattle.fault_chain.proofs.teller.add_explained.Given as goal
 

@@ -6,12 +6,12 @@ use Rattle.drawing_tree.specs.Tree.{drawing_of}
 use Rattle.step_values.specs.declared.value.Value.{Value}
 use Rattle.skew_algebra.specs.Wave.{Wave}
 use Rattle.flat_circuit.specs.declared.case.CaseValue.{CaseValue}
-use Rattle.wave_table.specs.Table.{waves_at}
-use Rattle.net_waves.specs.Waves.{FitWaves, waves_of}
+use Rattle.fixpoint_engine.specs.Table.{waves_at}
+use Rattle.fixpoint_engine.specs.Waves.{FitWaves, waves_of}
 use Rattle.timing_analysis.specs.Case.{faults_of, numbered}
 use Rattle.timing_analysis.proofs.Stored.{case_from, ends_from}
-use Rattle.timing_reply.specs.Teller.{HasTold}
-use Rattle.timing_reply.proofs.Telling.{told_start, read_case, going_more, going_ends}
+use Rattle.program_call.specs.Teller.{HasTold}
+use Rattle.program_call.proofs.Telling.{told_start, read_case, going_more, going_ends}
 use Rattle.fault_report.specs.Report.{HasExplained, IsReady}
 use Rattle.fault_report.proofs.Telling.{within_case}
 use Rattle.fault_report.proofs.cases.add_cases.Goals as goal

@@ -3,11 +3,11 @@ use Rattle.std.specs.List.{All}
 use Rattle.drawing_tree.specs.Tree.{drawing_of}
 use Rattle.step_values.specs.declared.value.Value.{Value}
 use Rattle.skew_algebra.specs.Wave.{Wave}
-use Rattle.wave_table.specs.Table.{waves_at}
-use Rattle.net_waves.specs.Waves.{FitWaves, waves_of}
+use Rattle.fixpoint_engine.specs.Table.{waves_at}
+use Rattle.fixpoint_engine.specs.Waves.{FitWaves, waves_of}
 use Rattle.timing_analysis.specs.Case.{faults_of}
 use Rattle.timing_analysis.specs.Rested.{IsCaseIn}
-use Rattle.timing_reply.proofs.Telling.{told_start, told_read}
+use Rattle.program_call.proofs.Telling.{told_start, told_read}
 use Rattle.fault_account.specs.Laws.{AreWithin}
 use Rattle.fault_report.specs.Report.{HasExplained}
 use Rattle.fault_report.proofs.Telling.{explained_of_one}

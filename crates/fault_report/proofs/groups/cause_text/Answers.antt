@@ -1,6 +1,6 @@
 use Rattle.std.proofs.Common.{◌≡◌, List, ℕ, IfOk, Result, Ok, Err, subst}
 use Rattle.drawing_tree.specs.Tree.{drawing_of}
-use Rattle.net_waves.specs.Waves.{waves_of}
+use Rattle.fixpoint_engine.specs.Waves.{waves_of}
 use Rattle.fixpoint_engine.specs.Settled.{marked_in}
 use Rattle.fault_report.specs.Group.{cause, cause_with}
 use Rattle.fault_report.proofs.groups.cause_text.Goals as goal

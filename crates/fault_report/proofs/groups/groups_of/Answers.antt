@@ -1,6 +1,6 @@
 use Rattle.std.proofs.Common.{◌∙◌}
 use Rattle.drawing_tree.specs.Tree.{drawing_of}
-use Rattle.net_waves.specs.Waves.{waves_of}
+use Rattle.fixpoint_engine.specs.Waves.{waves_of}
 use Rattle.fault_report.specs.Group.{with_cause}
 use Rattle.fault_report.proofs.Gathering.{one_more}
 use Rattle.fault_report.proofs.groups.groups_of.Goals as goal

@@ -1,6 +1,6 @@
 use Rattle.std.proofs.Common.{◌≡◌, [], false, length, map, replicate, take}
 use Rattle.drawing_tree.specs.Tree.{drawing_of}
-use Rattle.net_waves.specs.Waves.{waves_of}
+use Rattle.fixpoint_engine.specs.Waves.{waves_of}
 use Rattle.text_groups.specs.Group.{gathered}
 use Rattle.fault_report.specs.Group.{with_cause}
 use Rattle.fault_report.proofs.groups.groups_of.Given as goal

@@ -1,7 +1,7 @@
 use Rattle.std.proofs.Common.{subst, sym}
-use Rattle.drawn_circuit.specs.Drawn.{IsTextRefused, undrawn}
-use Rattle.timing_reply.proofs.Ending.{concluded_ended}
-use Rattle.timing_reply.proofs.Telling.{concluded_told}
+use Rattle.timing_analysis.specs.Drawn.{IsTextRefused, undrawn}
+use Rattle.program_call.proofs.Ending.{concluded_ended}
+use Rattle.program_call.proofs.Telling.{concluded_told}
 use Rattle.fault_report.specs.Answer.{explained}
 use Rattle.fault_report.proofs.Replied.{accepted, accepted_made, refused}
 use Rattle.fault_report.proofs.replies.reply_of.Goals as goal

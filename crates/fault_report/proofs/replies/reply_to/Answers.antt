@@ -1,6 +1,6 @@
 use Rattle.std.proofs.Common.{subst, sym}
-use Rattle.drawn_circuit.specs.Drawn.{IsTextRefused}
-use Rattle.timing_analysis.proofs.Drawn.{subject_is_drawn}
+use Rattle.timing_analysis.specs.Drawn.{IsTextRefused}
+use Rattle.timing_analysis.proofs.DrawnText.{subject_is_drawn}
 use Rattle.fault_report.proofs.Replied.{refused}
 use Rattle.fault_report.proofs.replies.reply_to.Goals as goal
 

@@ -1,7 +1,7 @@
 use Rattle.std.proofs.Common.{◌∙◌, ◌∷◌, [], map, ap, refl, arith}
 use Rattle.std.proofs.lemmas.List.{map-append}
-use Rattle.wave_table.proofs.Growing.{known_still}
-use Rattle.wave_table.proofs.ByNumber.{number_below, known_more}
+use Rattle.fixpoint_engine.proofs.Growing.{known_still}
+use Rattle.fixpoint_engine.proofs.TableByNumber.{number_below, known_more}
 use Rattle.fixpoint_engine.proofs.Added.{number_added, number_stays}
 use Rattle.fixpoint_engine.proofs.Keys.{each_number}
 use Rattle.fixpoint_engine.proofs.changes.add_change.Goals as goal

@@ -1,7 +1,7 @@
 use Rattle.std.proofs.Common.{◌∙◌, length, map, take, get_or, ap, refl, sym, arith}
 use Rattle.std.proofs.lemmas.List.{length-set, map-set, take_all}
-use Rattle.wave_table.specs.Table.{wave_at, waves_at}
-use Rattle.wave_table.proofs.ByNumber.{next_item}
+use Rattle.fixpoint_engine.specs.Table.{wave_at, waves_at}
+use Rattle.fixpoint_engine.proofs.TableByNumber.{next_item}
 use Rattle.fixpoint_engine.specs.Worklist.{changed}
 use Rattle.fixpoint_engine.proofs.Added.{known_of, known_set}
 use Rattle.fixpoint_engine.proofs.Changing.{applied_more}

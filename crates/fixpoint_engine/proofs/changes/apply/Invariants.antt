@@ -1,7 +1,7 @@
 use Rattle.std.proofs.Common.{◌≡◌, List, length, map, take}
 use Rattle.step_values.specs.declared.value.Value.{Value}
 use Rattle.skew_algebra.specs.Wave.{Wave}
-use Rattle.wave_table.specs.Table.{AreKnown, wave_at, waves_at}
+use Rattle.fixpoint_engine.specs.Table.{AreKnown, wave_at, waves_at}
 use Rattle.fixpoint_engine.specs.Worklist.{changed}
 use Rattle.fixpoint_engine.proofs.changes.apply.Given as goal
 

@@ -1,7 +1,7 @@
 use Rattle.std.proofs.Common.{◌∙◌, ℕ, List, Option, ap, refl, sym, arith, length, map}
 use Rattle.std.proofs.lemmas.List.{length-set, map-set}
-use Rattle.class_table.specs.Alike.{class_of}
-use Rattle.wave_table.specs.Table.{wave_at, waves_at}
+use Rattle.flat_circuit.specs.Alike.{class_of}
+use Rattle.fixpoint_engine.specs.Table.{wave_at, waves_at}
 use Rattle.fixpoint_engine.specs.Members.{members_below}
 use Rattle.fixpoint_engine.specs.Worklist.{changed}
 use Rattle.fixpoint_engine.proofs.Added.{known_set}

@@ -1,8 +1,8 @@
 use Rattle.std.proofs.Common.{◌≡◌, ◌<◌, ℕ, List, length, map, Some}
 use Rattle.step_values.specs.declared.value.Value.{Value}
 use Rattle.skew_algebra.specs.Wave.{Wave}
-use Rattle.class_table.specs.Alike.{class_of}
-use Rattle.wave_table.specs.Table.{AreKnown, wave_at, waves_at}
+use Rattle.flat_circuit.specs.Alike.{class_of}
+use Rattle.fixpoint_engine.specs.Table.{AreKnown, wave_at, waves_at}
 use Rattle.fixpoint_engine.specs.Members.{members_below, for_class}
 use Rattle.fixpoint_engine.specs.Worklist.{changed}
 use Rattle.fixpoint_engine.proofs.Members.{above}

@@ -1,6 +1,6 @@
 use Rattle.std.proofs.Common.{◌∙◌, map, ap}
 use Rattle.std.proofs.lemmas.List.{take_all}
-use Rattle.wave_table.specs.Table.{wave_at, waves_at}
+use Rattle.fixpoint_engine.specs.Table.{wave_at, waves_at}
 use Rattle.fixpoint_engine.specs.Members.{for_classes}
 use Rattle.fixpoint_engine.specs.Worklist.{changed}
 use Rattle.fixpoint_engine.proofs.Added.{known_of}

@@ -1,8 +1,8 @@
 use Rattle.std.proofs.Common.{◌∙◌, sym, ap, subst}
 use Rattle.std.proofs.lemmas.List.{take_all}
-use Rattle.wave_table.specs.Table.{waves_at}
-use Rattle.wave_table.proofs.Growing.{grows_trans, known_still, same_waves}
-use Rattle.net_waves.specs.Waves.{FitWaves, waves_of}
+use Rattle.fixpoint_engine.specs.Table.{waves_at}
+use Rattle.fixpoint_engine.proofs.Growing.{grows_trans, known_still, same_waves}
+use Rattle.fixpoint_engine.specs.Waves.{FitWaves, waves_of}
 use Rattle.fixpoint_engine.specs.Worklist.{changes_of}
 use Rattle.fixpoint_engine.proofs.Changing.{changes_more}
 use Rattle.fixpoint_engine.proofs.Numbered.{constants_still}

@@ -1,6 +1,6 @@
 use Rattle.std.proofs.Common.{◌≡◌, map, take}
-use Rattle.wave_table.specs.Table.{AreKnown, Grows, wave_at, waves_at}
-use Rattle.net_waves.specs.Waves.{waves_of}
+use Rattle.fixpoint_engine.specs.Table.{AreKnown, Grows, wave_at, waves_at}
+use Rattle.fixpoint_engine.specs.Waves.{waves_of}
 use Rattle.fixpoint_engine.specs.Worklist.{changes_of}
 use Rattle.fixpoint_engine.proofs.changes.changes.Given as goal
 

@@ -1,5 +1,5 @@
 use Rattle.std.proofs.Common.{◌∙◌, ◌++◌, ℕ, List, Option, ap, refl, sym, length, map}
-use Rattle.class_table.specs.Alike.{class_of}
+use Rattle.flat_circuit.specs.Alike.{class_of}
 use Rattle.fixpoint_engine.specs.Members.{members_below}
 use Rattle.fixpoint_engine.proofs.Members.{above, last_some, members_above, member_added, goes_down, falls, none_left}
 use Rattle.fixpoint_engine.proofs.class_changes.add_class.Goals as goal

@@ -1,5 +1,5 @@
 use Rattle.std.proofs.Common.{◌≡◌, ℕ, ◌==◌, ◌&&◌, ◌||◌, length, drop, Some, true}
-use Rattle.class_table.specs.Alike.{class_of}
+use Rattle.flat_circuit.specs.Alike.{class_of}
 use Rattle.fixpoint_engine.specs.Members.{leads_in}
 use Rattle.fixpoint_engine.specs.Work.{hears_from}
 use Rattle.fixpoint_engine.specs.Worklist.{among}

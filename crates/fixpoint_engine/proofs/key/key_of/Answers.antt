@@ -1,8 +1,8 @@
 use Rattle.std.proofs.Common.{◌≡◌, ◌∙◌, map, ap, sym, None, is_some}
 use Rattle.scald_base.specs.Time.{Bounds}
 use Rattle.flat_circuit.specs.declared.instance.Instance.{Instance}
-use Rattle.wave_table.specs.Table.{waves_at}
-use Rattle.net_waves.specs.Waves.{pin_wave, waves_of}
+use Rattle.fixpoint_engine.specs.Table.{waves_at}
+use Rattle.fixpoint_engine.specs.Waves.{pin_wave, waves_of}
 use Rattle.fixpoint_engine.proofs.KeyPins.{none_kept, split_kept}
 use Rattle.fixpoint_engine.proofs.key.key_of.Goals as goal
 use Rattle.fixpoint_engine.proofs.key.key_of.Goals.{in-Some, in-None}

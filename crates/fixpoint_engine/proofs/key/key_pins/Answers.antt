@@ -1,5 +1,5 @@
-use Rattle.wave_table.specs.Table.{wave_at, waves_at}
-use Rattle.net_waves.specs.Waves.{pin_wave, waves_of}
+use Rattle.fixpoint_engine.specs.Table.{wave_at, waves_at}
+use Rattle.fixpoint_engine.specs.Waves.{pin_wave, waves_of}
 use Rattle.fixpoint_engine.specs.Key.{shown_by}
 use Rattle.fixpoint_engine.proofs.KeyPins.{known_added, pin_added}
 use Rattle.fixpoint_engine.proofs.key.key_pins.Goals as goal

@@ -1,8 +1,8 @@
 use Rattle.std.proofs.Common.{◌≡◌, List, map, take}
 use Rattle.step_values.specs.declared.value.Value.{Value}
 use Rattle.skew_algebra.specs.Wave.{Wave}
-use Rattle.wave_table.specs.Table.{AreKnown, wave_at, waves_at}
-use Rattle.net_waves.specs.Waves.{pin_wave, waves_of}
+use Rattle.fixpoint_engine.specs.Table.{AreKnown, wave_at, waves_at}
+use Rattle.fixpoint_engine.specs.Waves.{pin_wave, waves_of}
 use Rattle.fixpoint_engine.specs.Key.{AreConstants, shown_by}
 use Rattle.fixpoint_engine.proofs.key.key_pins.Given as goal
 

@@ -1,9 +1,9 @@
 use Rattle.std.proofs.Common.{◌<◌, ◌∙◌, length, sym, ap, subst}
 use Rattle.flat_circuit.specs.Instances.{TargetExists}
 use Rattle.pin_waves.specs.Interface.{constant_wave}
-use Rattle.wave_table.specs.Table.{waves_at}
-use Rattle.wave_table.proofs.ByNumber.{number_below, number_reads}
-use Rattle.net_waves.specs.Waves.{target_wave, waves_of}
+use Rattle.fixpoint_engine.specs.Table.{waves_at}
+use Rattle.fixpoint_engine.proofs.TableByNumber.{number_below, number_reads}
+use Rattle.fixpoint_engine.specs.Waves.{target_wave, waves_of}
 use Rattle.fixpoint_engine.proofs.Added.{known_number, read_number}
 use Rattle.fixpoint_engine.proofs.KeyPins.{constant_number}
 use Rattle.fixpoint_engine.proofs.key.number_at.Goals as goal

@@ -3,9 +3,9 @@ use Rattle.std.specs.Prelude.{IfSome}
 use Rattle.std.specs.Option.{option_copied}
 use Rattle.std.proofs.lemmas.List.Elements.{All-same}
 use Rattle.scald_base.specs.Time.{period}
-use Rattle.wave_table.specs.Table.{AreKnown, wave_at, waves_at}
-use Rattle.wave_table.proofs.Growing.{grows_none, grows_trans, known_still, same_waves}
-use Rattle.net_waves.specs.Waves.{FitWaves, waves_of}
+use Rattle.fixpoint_engine.specs.Table.{AreKnown, wave_at, waves_at}
+use Rattle.fixpoint_engine.proofs.Growing.{grows_none, grows_trans, known_still, same_waves}
+use Rattle.fixpoint_engine.specs.Waves.{FitWaves, waves_of}
 use Rattle.flat_circuit.specs.Circuit.{driver}
 use Rattle.fixpoint_engine.specs.Settled.{AreAtRest, KeepRuns, marked_in}
 use Rattle.fixpoint_engine.specs.Work.{hears_in}

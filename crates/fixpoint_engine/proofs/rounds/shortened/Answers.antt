@@ -1,6 +1,6 @@
 use Rattle.std.proofs.Common.{sym, subst, take}
-use Rattle.wave_table.specs.Table.{Grows}
-use Rattle.wave_table.proofs.Growing.{take_grows}
+use Rattle.fixpoint_engine.specs.Table.{Grows}
+use Rattle.fixpoint_engine.proofs.Growing.{take_grows}
 use Rattle.fixpoint_engine.proofs.rounds.shortened.Goals as goal
 
 -- nothing was forgotten

@@ -4,9 +4,9 @@ use Rattle.scald_base.specs.Time.{period}
 use Rattle.step_values.specs.declared.value.Value.{Value}
 use Rattle.skew_algebra.specs.Wave.{Wave}
 use Rattle.gate_eval.specs.Meeting.{HaveOnePeriod}
-use Rattle.net_waves.specs.Waves.{pin_wave, waves_of}
-use Rattle.net_waves.proofs.OnePeriod.{pins_have_one_period}
-use Rattle.net_waves.proofs.Marks.{count_marks, position_marks, length_marks}
+use Rattle.fixpoint_engine.specs.Waves.{pin_wave, waves_of}
+use Rattle.fixpoint_engine.proofs.OnePeriod.{pins_have_one_period}
+use Rattle.fixpoint_engine.proofs.Marks.{count_marks, position_marks, length_marks}
 use Rattle.fixpoint_engine.proofs.Normal.{instance_is}
 use Rattle.fixpoint_engine.proofs.value.instance_wave.Goals as goal
 

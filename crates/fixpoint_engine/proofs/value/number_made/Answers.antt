@@ -1,7 +1,7 @@
 use Rattle.std.proofs.Common.{◌∙◌, Some, sym, ap}
 use Rattle.std.proofs.lemmas.Result.{IfOk-weaker}
-use Rattle.wave_table.specs.Table.{IsNumber, waves_at}
-use Rattle.net_waves.specs.Waves.{waves_of}
+use Rattle.fixpoint_engine.specs.Table.{IsNumber, waves_at}
+use Rattle.fixpoint_engine.specs.Waves.{waves_of}
 use Rattle.fixpoint_engine.specs.Value.{instance_wave}
 use Rattle.fixpoint_engine.proofs.Keys.{made_by_key, each_number}
 use Rattle.fixpoint_engine.proofs.value.number_made.Goals as goal

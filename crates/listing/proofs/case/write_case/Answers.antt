@@ -1,6 +1,6 @@
 use Rattle.std.proofs.Common.{◌++◌, refl, ap}
 use Rattle.scald_base.proofs.Device.{at_err}
-use Rattle.net_waves.specs.Waves.{waves_of}
+use Rattle.fixpoint_engine.specs.Waves.{waves_of}
 use Rattle.listing.specs.Case.{case_line, case_lines, shown_faults, shown_waves}
 use Rattle.listing.proofs.Parts.{three_first, three_second, three_err}
 use Rattle.listing.proofs.case.write_case.Goals as goal

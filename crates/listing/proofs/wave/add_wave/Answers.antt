@@ -2,7 +2,7 @@ use Rattle.std.proofs.Common.{◌∙◌, ◌∷◌, [], refl}
 use Rattle.std.proofs.lemmas.List.{get_or_default}
 use Rattle.scald_base.proofs.Device.{at_err}
 use Rattle.skew_algebra.specs.Wave.{skewed}
-use Rattle.net_waves.specs.Waves.{waves_of}
+use Rattle.fixpoint_engine.specs.Waves.{waves_of}
 use Rattle.listing.specs.Piece.{piece_text}
 use Rattle.listing.specs.Run.{runs_text}
 use Rattle.listing.specs.Wave.{wave_line}

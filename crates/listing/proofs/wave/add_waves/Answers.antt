@@ -2,7 +2,7 @@ use Rattle.std.proofs.Common.{ℕ, List, ◌∙◌, ◌<◌, ◌++◌, length, a
 use Rattle.std.specs.List.{flat_map}
 use Rattle.std.proofs.lemmas.List.{take_all}
 use Rattle.scald_base.proofs.Device.{at_err}
-use Rattle.net_waves.specs.Waves.{waves_of}
+use Rattle.fixpoint_engine.specs.Waves.{waves_of}
 use Rattle.flat_circuit.proofs.Numbered.{order_long}
 use Rattle.listing.specs.Wave.{wave_line}
 use Rattle.listing.specs.Text.{HasPart}

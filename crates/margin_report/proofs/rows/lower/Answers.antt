@@ -1,6 +1,6 @@
 use Rattle.std.proofs.Common.{◌∙◌, ap, arith, sym}
 use Rattle.std.specs.Option.{option_copied}
-use Rattle.net_waves.specs.Waves.{waves_of}
+use Rattle.fixpoint_engine.specs.Waves.{waves_of}
 use Rattle.margin_report.proofs.RowByRow.{has_checker, lowered_end, lowers}
 use Rattle.margin_report.proofs.rows.lower.Goals as goal
 use Rattle.margin_report.proofs.rows.lower.Goals.{in-Some+in_ok-margin, in_default}

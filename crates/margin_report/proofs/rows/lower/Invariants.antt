@@ -1,6 +1,6 @@
 use Rattle.std.proofs.Common.{◌≡◌, length}
 use Rattle.std.specs.List.{All}
-use Rattle.net_waves.specs.Waves.{waves_of}
+use Rattle.fixpoint_engine.specs.Waves.{waves_of}
 use Rattle.margin_report.specs.Report.{IsRow}
 use Rattle.margin_report.proofs.RowByRow.{IsLoweredTo}
 use Rattle.margin_report.proofs.rows.lower.Given as goal

@@ -1,7 +1,7 @@
 use Rattle.std.proofs.Common.{◌≡◌, ◌+◌, ℕ, sym, ap, subst, ◌∙◌, arith, None}
 use Rattle.std.proofs.lemmas.Option.{none-some, same_Some}
 use Rattle.scald_base.specs.Time.{period}
-use Rattle.net_waves.specs.Waves.{waves_of}
+use Rattle.fixpoint_engine.specs.Waves.{waves_of}
 use Rattle.margin_report.specs.declared.margin.Margin.TheVariants.{Next}
 use Rattle.margin_report.specs.Margin.{fault_with, written}
 use Rattle.margin_report.proofs.Lowered.{fails, lessens, stays}

@@ -1,5 +1,5 @@
 use Rattle.std.proofs.Common.{arith}
-use Rattle.net_waves.specs.Waves.{waves_of}
+use Rattle.fixpoint_engine.specs.Waves.{waves_of}
 use Rattle.margin_report.proofs.Searching.{between_start, between_stops}
 use Rattle.margin_report.proofs.search.stop_before.Goals as goal
 

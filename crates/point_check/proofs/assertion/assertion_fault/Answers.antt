@@ -1,5 +1,5 @@
 use Rattle.std.proofs.Common.{sym, ◌∙◌, arith}
-use Rattle.net_waves.proofs.ReadSlots.{length_folded}
+use Rattle.fixpoint_engine.proofs.ReadSlots.{length_folded}
 use Rattle.point_check.proofs.Exceeded.{no_assertion_fault, an_assertion_fault}
 use Rattle.point_check.proofs.assertion.assertion_fault.Goals as goal
 

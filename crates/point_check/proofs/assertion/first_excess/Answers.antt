@@ -1,6 +1,6 @@
 use Rattle.std.proofs.Common.{◌≡◌, min, length, arith, sym, ◌∙◌, false}
-use Rattle.net_waves.specs.Pins.{read}
-use Rattle.net_waves.proofs.ReadSlots.{below_run}
+use Rattle.fixpoint_engine.specs.Pins.{read}
+use Rattle.fixpoint_engine.proofs.ReadSlots.{below_run}
 use Rattle.point_check.specs.Assertion.{exceeds}
 use Rattle.point_check.proofs.Exceeded.{excess_here, excess_nowhere, exceeds_read, exceeds_run}
 use Rattle.point_check.proofs.assertion.first_excess.Goals as goal

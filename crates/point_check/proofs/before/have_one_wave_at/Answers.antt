@@ -1,8 +1,8 @@
 use Rattle.std.proofs.Common.{◌≡◌, All, take, refl, subst, arith}
 use Rattle.std.proofs.lemmas.List.{take_all}
 use Rattle.std.proofs.lemmas.List.Elements.{All-more}
-use Rattle.net_waves.specs.Waves.{waves_of}
-use Rattle.net_waves.specs.SameWaves.{IsSameAt}
+use Rattle.fixpoint_engine.specs.Waves.{waves_of}
+use Rattle.fixpoint_engine.specs.SameWaves.{IsSameAt}
 use Rattle.point_check.proofs.before.have_one_wave_at.Goals as goal
 
 pub loop-pin-preserved : goal.loop-pin-preserved

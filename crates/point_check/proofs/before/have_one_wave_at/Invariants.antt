@@ -1,6 +1,6 @@
 use Rattle.std.proofs.Common.{All, take}
-use Rattle.net_waves.specs.Waves.{waves_of}
-use Rattle.net_waves.specs.SameWaves.{IsSameAt}
+use Rattle.fixpoint_engine.specs.Waves.{waves_of}
+use Rattle.fixpoint_engine.specs.SameWaves.{IsSameAt}
 use Rattle.point_check.proofs.before.have_one_wave_at.Given as goal
 
 abbrev pub invariant-loop-pin : goal.invariant-loop-pin

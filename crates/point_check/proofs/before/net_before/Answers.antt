@@ -1,6 +1,6 @@
 use Rattle.std.proofs.Common.{length, ◌∙◌, refl, arith, None}
-use Rattle.net_waves.specs.Waves.{waves_of}
-use Rattle.net_waves.proofs.ByNumber.{known_long, known_at}
+use Rattle.fixpoint_engine.specs.Waves.{waves_of}
+use Rattle.fixpoint_engine.proofs.ByNumber.{known_long, known_at}
 use Rattle.point_check.specs.Faults.{net_fault}
 use Rattle.point_check.proofs.AsBefore.{same_net}
 use Rattle.point_check.proofs.before.net_before.Goals as goal

@@ -1,7 +1,7 @@
 use Rattle.std.proofs.Common.{◌≡◌, ◌++◌, ℕ, List, length, take, ap, ◌∙◌, arith}
 use Rattle.std.specs.Prelude.{filter_map}
 use Rattle.std.proofs.Math.Seq.{take-length}
-use Rattle.net_waves.specs.Waves.{waves_of}
+use Rattle.fixpoint_engine.specs.Waves.{waves_of}
 use Rattle.flat_circuit.proofs.Numbered.{order_long}
 use Rattle.point_check.specs.Faults.{net_fault}
 use Rattle.point_check.proofs.Gathered.{order_found}

@@ -2,7 +2,7 @@ use Rattle.std.proofs.Common.{◌<◌, ◌++◌, List, ap, subst, ◌∙◌, ari
 use Rattle.std.specs.Prelude.{filter_map}
 use Rattle.scald_base.specs.Time.{Header, period}
 use Rattle.flat_circuit.specs.declared.fault.Fault.{Fault}
-use Rattle.net_waves.specs.Waves.{waves_of}
+use Rattle.fixpoint_engine.specs.Waves.{waves_of}
 use Rattle.point_check.specs.Faults.{net_fault}
 use Rattle.point_check.proofs.Kept.{keeps_constraints}
 use Rattle.point_check.proofs.check.all_faults.Goals as goal

@@ -2,7 +2,7 @@ use Rattle.std.proofs.Common.{◌≡◌, Bool, false, Option, None, refl, sym, �
 use Rattle.std.specs.Prelude.{IfOk}
 use Rattle.element_kinds.specs.Kinds.{may_be_marked}
 use Rattle.flat_circuit.specs.declared.fault.Fault.{Fault}
-use Rattle.net_waves.specs.Waves.{waves_of}
+use Rattle.fixpoint_engine.specs.Waves.{waves_of}
 use Rattle.point_check.specs.Faults.{fault_by}
 use Rattle.point_check.proofs.Gathered.{points_limits}
 use Rattle.point_check.proofs.check.fault_by_kind.Goals as goal

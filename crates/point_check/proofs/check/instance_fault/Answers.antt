@@ -1,5 +1,5 @@
 use Rattle.std.proofs.Common.{sym, ◌∙◌}
-use Rattle.net_waves.specs.Waves.{waves_of}
+use Rattle.fixpoint_engine.specs.Waves.{waves_of}
 use Rattle.flat_circuit.proofs.Numbered.{fits_of}
 use Rattle.point_check.proofs.Gathered.{instance_is, instance_not}
 use Rattle.point_check.proofs.Watched.{unwatched}

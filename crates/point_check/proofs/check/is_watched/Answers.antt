@@ -2,7 +2,7 @@ use Rattle.std.proofs.Common.{sym, ◌∙◌}
 use Rattle.std.proofs.lemmas.Bool.{or_from}
 use Rattle.std.specs.Prelude.{is_some}
 use Rattle.element_kinds.specs.Kinds.{checks_points}
-use Rattle.net_waves.specs.Waves.{marked_pin}
+use Rattle.fixpoint_engine.specs.Waves.{marked_pin}
 use Rattle.point_check.proofs.Watched.{unmarked}
 use Rattle.point_check.proofs.check.is_watched.Goals as goal
 

@@ -2,7 +2,7 @@ use Rattle.std.proofs.Common.{sym, ap, subst, ◌∙◌, refl, true, false, None
 use Rattle.std.proofs.lemmas.Option.{slice_get_within}
 use Rattle.scald_base.specs.Time.{Header, period}
 use Rattle.scald_base.specs.Fitting.{Fits}
-use Rattle.net_waves.specs.Waves.{waves_of}
+use Rattle.fixpoint_engine.specs.Waves.{waves_of}
 use Rattle.point_check.specs.Assertion.{assertion_fault}
 use Rattle.point_check.proofs.Gathered.{net_is, net_not, net_below, net_long, fits_at}
 use Rattle.point_check.proofs.check.net_fault.Goals as goal

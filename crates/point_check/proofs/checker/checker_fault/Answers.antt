@@ -2,8 +2,8 @@ use Rattle.std.proofs.Common.{◌≡◌, ◌∙◌, length, sym, ap, arith}
 use Rattle.step_values.specs.declared.value.Value.{Value}
 use Rattle.skew_algebra.specs.Wave.{Wave}
 use Rattle.scald_base.specs.Time.{period}
-use Rattle.net_waves.specs.Waves.{pin_wave, waves_of}
-use Rattle.net_waves.proofs.Fits.{long_pin}
+use Rattle.fixpoint_engine.specs.Waves.{pin_wave, waves_of}
+use Rattle.fixpoint_engine.proofs.Fits.{long_pin}
 use Rattle.point_check.proofs.Gathered.{same_checker}
 use Rattle.point_check.proofs.checker.checker_fault.Goals as goal
 

@@ -1,5 +1,5 @@
 use Rattle.std.proofs.Common.{◌∙◌, length, sym, arith}
-use Rattle.net_waves.proofs.ReadSlots.{length_folded}
+use Rattle.fixpoint_engine.proofs.ReadSlots.{length_folded}
 use Rattle.point_check.proofs.Steady.{still_input}
 use Rattle.point_check.proofs.Gathered.{checker_is}
 use Rattle.point_check.proofs.checker.fault_between.Goals as goal

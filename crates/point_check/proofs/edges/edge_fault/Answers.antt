@@ -1,6 +1,6 @@
 use Rattle.std.proofs.Common.{ℕ, length, refl, sym, ap, ◌∙◌, Some}
-use Rattle.net_waves.specs.Pins.{read}
-use Rattle.net_waves.proofs.ReadSlots.{read_at}
+use Rattle.fixpoint_engine.specs.Pins.{read}
+use Rattle.fixpoint_engine.proofs.ReadSlots.{read_at}
 use Rattle.point_check.specs.Window.{window_fault}
 use Rattle.point_check.proofs.Found.{no_edge, an_edge}
 use Rattle.point_check.proofs.edges.edge_fault.Goals as goal

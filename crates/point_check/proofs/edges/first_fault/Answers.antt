@@ -1,5 +1,5 @@
 use Rattle.std.proofs.Common.{length, arith, rules}
-use Rattle.net_waves.specs.Pins.{read}
+use Rattle.fixpoint_engine.specs.Pins.{read}
 use Rattle.point_check.proofs.Found.{first_fault_here, first_fault_nowhere}
 use Rattle.point_check.proofs.Where.{past_edges}
 use Rattle.point_check.proofs.edges.first_fault.Goals as goal

@@ -4,7 +4,7 @@ use Rattle.step_values.specs.declared.value.Value.{Value}
 use Rattle.step_values.specs.Steps.{has}
 use Rattle.step_values.specs.Cell.{values}
 use Rattle.wave_core.proofs.Places.{same_cell}
-use Rattle.net_waves.specs.Pins.{read}
+use Rattle.fixpoint_engine.specs.Pins.{read}
 use Rattle.point_check.proofs.Where.{last_to_run, last_to_small}
 use Rattle.point_check.proofs.edges.last_fall.Goals as goal
 

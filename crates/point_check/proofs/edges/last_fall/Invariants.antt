@@ -1,6 +1,6 @@
 use Rattle.std.proofs.Common.{◌≡◌, ◌+◌, ◌-◌, ◌≤◌, true, false}
 use Rattle.step_values.specs.Steps.{has}
-use Rattle.net_waves.specs.Pins.{read}
+use Rattle.fixpoint_engine.specs.Pins.{read}
 use Rattle.point_check.specs.Point.{last_to}
 use Rattle.point_check.proofs.edges.last_fall.Given as goal
 

@@ -1,7 +1,7 @@
 use Rattle.std.proofs.Common.{length, rules, arith, ap, ◌∙◌, ℕ}
 use Rattle.flat_circuit.specs.declared.fault.Fault.TheVariants.{Point}
-use Rattle.net_waves.specs.Pins.{read}
-use Rattle.net_waves.proofs.ReadSlots.{read_at}
+use Rattle.fixpoint_engine.specs.Pins.{read}
+use Rattle.fixpoint_engine.proofs.ReadSlots.{read_at}
 use Rattle.point_check.specs.Window.{slot_at}
 use Rattle.point_check.proofs.Found.{no_window_fault, a_window_fault, same_fault}
 use Rattle.point_check.proofs.Where.{all_quiet, mover_where}

@@ -1,6 +1,6 @@
 use Rattle.std.proofs.Common.{Option, length, ap, ◌∙◌}
 use Rattle.element_kinds.specs.declared.form.Check.{Check}
-use Rattle.net_waves.specs.Pins.{read}
+use Rattle.fixpoint_engine.specs.Pins.{read}
 use Rattle.point_check.specs.Point.{window_if}
 use Rattle.point_check.proofs.edges.window_of.Goals as goal
 

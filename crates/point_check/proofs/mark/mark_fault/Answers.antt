@@ -7,9 +7,9 @@ use Rattle.skew_algebra.specs.Wave.{Wave}
 use Rattle.flat_circuit.specs.declared.fault.Fault.TheVariants.{Hazard}
 use Rattle.gate_eval.specs.Meeting.{HaveOnePeriod}
 use Rattle.gate_eval.proofs.Found.{none_is, hazard_unmarked}
-use Rattle.net_waves.specs.Waves.{pin_wave, pin_waves, marked_pin, waves_of}
-use Rattle.net_waves.proofs.OnePeriod.{pins_have_one_period}
-use Rattle.net_waves.proofs.Marks.{count_marks, position_marks, length_marks}
+use Rattle.fixpoint_engine.specs.Waves.{pin_wave, pin_waves, marked_pin, waves_of}
+use Rattle.fixpoint_engine.proofs.OnePeriod.{pins_have_one_period}
+use Rattle.fixpoint_engine.proofs.Marks.{count_marks, position_marks, length_marks}
 use Rattle.point_check.specs.Faults.{hazard_at}
 use Rattle.point_check.proofs.Gathered.{mark_is}
 use Rattle.point_check.proofs.mark.mark_fault.Goals as goal

@@ -1,7 +1,7 @@
 use Rattle.std.proofs.Common.{length, ◌∙◌, refl, sym, arith}
 use Rattle.std.proofs.lemmas.Option.{slice_get_within}
-use Rattle.net_waves.specs.Waves.{waves_of}
-use Rattle.net_waves.proofs.ByNumber.{known_long, known_at}
+use Rattle.fixpoint_engine.specs.Waves.{waves_of}
+use Rattle.fixpoint_engine.proofs.ByNumber.{known_long, known_at}
 use Rattle.flat_circuit.proofs.Numbered.{fits_of}
 use Rattle.pulse_check.specs.Faults.{instance_faults}
 use Rattle.pulse_check.proofs.AsBefore.{same_instance}

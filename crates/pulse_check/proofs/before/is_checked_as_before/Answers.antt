@@ -1,4 +1,4 @@
-use Rattle.net_waves.specs.Waves.{waves_of}
+use Rattle.fixpoint_engine.specs.Waves.{waves_of}
 use Rattle.pulse_check.proofs.AsBefore.{same_first}
 use Rattle.pulse_check.proofs.before.is_checked_as_before.Goals as goal
 

@@ -1,6 +1,6 @@
 use Rattle.std.proofs.Common.{◌≡◌, ◌++◌, OnOk, List, sym, ◌∙◌, subst}
 use Rattle.flat_circuit.specs.declared.fault.Fault.{Fault}
-use Rattle.net_waves.specs.Waves.{waves_of}
+use Rattle.fixpoint_engine.specs.Waves.{waves_of}
 use Rattle.pulse_check.proofs.Gathered.{instance_kind, none_more, other_more}
 use Rattle.pulse_check.proofs.check.add_faults.Goals as goal
 

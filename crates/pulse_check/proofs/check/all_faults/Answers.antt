@@ -1,7 +1,7 @@
 use Rattle.std.proofs.Common.{◌≡◌, ◌<◌, ℕ, length, ap, subst, ◌∙◌, arith}
 use Rattle.std.specs.List.{flat_map, range_with_len}
 use Rattle.scald_base.specs.Time.{Header, period}
-use Rattle.net_waves.specs.Waves.{waves_of}
+use Rattle.fixpoint_engine.specs.Waves.{waves_of}
 use Rattle.pulse_check.specs.Faults.{instance_faults}
 use Rattle.pulse_check.proofs.Gathered.{flat_more}
 use Rattle.pulse_check.proofs.Kept.{keeps_widths}

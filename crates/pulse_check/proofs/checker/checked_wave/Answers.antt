@@ -3,7 +3,7 @@ use Rattle.std.proofs.lemmas.Result.{IfOk-weaker}
 use Rattle.scald_base.specs.Time.{period}
 use Rattle.vector_names.specs.declared.bits.Target.TheVariants.{Net}
 use Rattle.flat_circuit.specs.declared.instance.Pin.{Pin}
-use Rattle.net_waves.specs.Waves.{pin_wave, waves_of}
+use Rattle.fixpoint_engine.specs.Waves.{pin_wave, waves_of}
 use Rattle.pulse_check.proofs.Gathered.{long_first}
 use Rattle.pulse_check.proofs.checker.checked_wave.Goals as goal
 

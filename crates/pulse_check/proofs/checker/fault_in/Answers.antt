@@ -1,6 +1,6 @@
 use Rattle.std.proofs.Common.{◌≡◌, List, None, Some, length, subst}
 use Rattle.step_values.specs.declared.value.Value.{Value}
-use Rattle.net_waves.specs.Pins.{read}
+use Rattle.fixpoint_engine.specs.Pins.{read}
 use Rattle.pulse_check.specs.Pulse.{first_narrow}
 use Rattle.pulse_check.proofs.Gathered.{no_width, a_width}
 use Rattle.pulse_check.proofs.checker.fault_in.Goals as goal

@@ -1,8 +1,8 @@
 use Rattle.std.proofs.Common.{◌≡◌, ◌++◌, ℕ, List, length, map, ap, ◌∙◌, arith}
 use Rattle.std.specs.List.{range_with_len}
 use Rattle.flat_circuit.specs.declared.fault.Fault.{Fault}
-use Rattle.net_waves.specs.Waves.{waves_of}
-use Rattle.net_waves.proofs.ByNumber.{known_more}
+use Rattle.fixpoint_engine.specs.Waves.{waves_of}
+use Rattle.fixpoint_engine.proofs.ByNumber.{known_more}
 use Rattle.pulse_check.specs.Faults.{instance_faults}
 use Rattle.pulse_check.proofs.known.known_pulses.Goals as goal
 

@@ -1,6 +1,6 @@
 use Rattle.std.proofs.Common.{◌≡◌, map}
 use Rattle.std.specs.List.{range_with_len}
-use Rattle.net_waves.specs.Waves.{waves_of}
+use Rattle.fixpoint_engine.specs.Waves.{waves_of}
 use Rattle.pulse_check.specs.Faults.{instance_faults}
 use Rattle.pulse_check.proofs.known.known_pulses.Given as goal
 

@@ -1,5 +1,5 @@
 use Rattle.std.proofs.Common.{length, arith, rules, sym}
-use Rattle.net_waves.specs.Pins.{read}
+use Rattle.fixpoint_engine.specs.Pins.{read}
 use Rattle.pulse_check.proofs.Narrow.{first_at, first_nowhere, past_starts}
 use Rattle.pulse_check.proofs.pulse.first_narrow.Goals as goal
 

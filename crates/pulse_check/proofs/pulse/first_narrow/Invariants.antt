@@ -1,5 +1,5 @@
 use Rattle.std.proofs.Common.{◌≡◌, ℕ, ◌-◌, ◌<◌, None, length}
-use Rattle.net_waves.specs.Pins.{read}
+use Rattle.fixpoint_engine.specs.Pins.{read}
 use Rattle.pulse_check.specs.Pulse.{narrow_at}
 use Rattle.pulse_check.proofs.pulse.first_narrow.Given as goal
 

@@ -1,8 +1,8 @@
 use Rattle.std.proofs.Common.{◌+◌, ◌%◌, ◌≤◌, arith, refl, sym, ap, ◌∙◌}
 use Rattle.step_values.specs.Cell.{values}
 use Rattle.wave_core.proofs.Places.{round_cell, same_cell}
-use Rattle.net_waves.specs.Pins.{read}
-use Rattle.net_waves.proofs.ReadSlots.{below_run}
+use Rattle.fixpoint_engine.specs.Pins.{read}
+use Rattle.fixpoint_engine.proofs.ReadSlots.{below_run}
 use Rattle.pulse_check.specs.Pulse.{may_end, may_last}
 use Rattle.pulse_check.proofs.Narrow.{GoesOn, unended_on, ends_here, stops_here, never_ends}
 use Rattle.pulse_check.proofs.pulse.least_width.Goals as goal

@@ -1,5 +1,5 @@
 use Rattle.std.proofs.Common.{ℕ, ◌-◌, ◌<◌, ◌≤◌}
-use Rattle.net_waves.specs.Pins.{read}
+use Rattle.fixpoint_engine.specs.Pins.{read}
 use Rattle.pulse_check.proofs.Narrow.{GoesOn}
 use Rattle.pulse_check.proofs.pulse.least_width.Given as goal
 

@@ -1,6 +1,6 @@
 use Rattle.std.proofs.Common.{refl, sym, ap, ◌∙◌}
-use Rattle.net_waves.specs.Pins.{read}
-use Rattle.net_waves.proofs.ReadSlots.{read_at}
+use Rattle.fixpoint_engine.specs.Pins.{read}
+use Rattle.fixpoint_engine.proofs.ReadSlots.{read_at}
 use Rattle.pulse_check.specs.Pulse.{may_begin}
 use Rattle.pulse_check.proofs.Narrow.{narrow_here, narrow_not, narrow_wide}
 use Rattle.pulse_check.proofs.pulse.narrow_at.Goals as goal

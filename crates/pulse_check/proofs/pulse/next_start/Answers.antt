@@ -1,6 +1,6 @@
 use Rattle.std.proofs.Common.{length, arith, refl, sym, ap, ◌∙◌}
-use Rattle.net_waves.specs.Pins.{read}
-use Rattle.net_waves.proofs.ReadSlots.{read_at, same_read}
+use Rattle.fixpoint_engine.specs.Pins.{read}
+use Rattle.fixpoint_engine.proofs.ReadSlots.{read_at, same_read}
 use Rattle.pulse_check.specs.Pulse.{may_begin}
 use Rattle.pulse_check.proofs.Narrow.{none_to, none_yet, none_left, starts_at}
 use Rattle.pulse_check.proofs.pulse.next_start.Goals as goal

@@ -1,5 +1,5 @@
 use Rattle.std.proofs.Common.{◌-◌, length}
-use Rattle.net_waves.specs.Pins.{read}
+use Rattle.fixpoint_engine.specs.Pins.{read}
 use Rattle.pulse_check.proofs.Narrow.{NoStart}
 use Rattle.pulse_check.proofs.pulse.next_start.Given as goal
 

@@ -1,9 +1,9 @@
 use Rattle.std.proofs.Common.{◌∙◌, refl, sym, subst, ap, arith, length, None}
 use Rattle.design_gen.proofs.Sections.{datapath_short}
-use Rattle.timing_analysis.proofs.Drawn.{subject_is_drawn}
+use Rattle.timing_analysis.proofs.DrawnText.{subject_is_drawn}
 use Rattle.scald_tool.specs.Answer.{measured}
-use Rattle.drawn_circuit.specs.Drawn.{IsTextRefused}
-use Rattle.timing_reply.proofs.Replies.{accepted, refused}
+use Rattle.timing_analysis.specs.Drawn.{IsTextRefused}
+use Rattle.program_call.proofs.Replies.{accepted, refused}
 use Rattle.scald_tool.proofs.bench.bench.Goals as goal
 
 pub read_circuit-requires : goal.read_circuit-requires

@@ -1,10 +1,10 @@
 use Rattle.std.proofs.Common.{◌≡◌, ℕ, true, refl, subst, IfOk}
 use Rattle.scald_tool.specs.declared.words.Command.TheVariants.{Bench}
-use Rattle.timing_reply.specs.Answer.{Concluded}
+use Rattle.program_call.specs.Answer.{Concluded}
 use Rattle.scald_tool.specs.Answer.{measured}
 use Rattle.scald_tool.specs.Promise.{may_give}
 use Rattle.timing_analysis.proofs.Ends.{end_below}
-use Rattle.timing_reply.proofs.Ending.{concluded_ended, of_ended}
+use Rattle.program_call.proofs.Ending.{concluded_ended, of_ended}
 use Rattle.scald_tool.proofs.Ending.{measured_rested}
 use Rattle.scald_tool.proofs.bench.measured.Goals as goal
 

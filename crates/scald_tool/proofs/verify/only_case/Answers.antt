@@ -1,6 +1,6 @@
 use Rattle.std.proofs.Common.{◌≡◌, ◌++◌, [], ◌∷◌, ap, subst, ◌∙◌}
-use Rattle.wave_table.specs.Table.{waves_at}
-use Rattle.net_waves.specs.Waves.{waves_of}
+use Rattle.fixpoint_engine.specs.Table.{waves_at}
+use Rattle.fixpoint_engine.specs.Waves.{waves_of}
 use Rattle.listing.specs.Case.{case_lines}
 use Rattle.scald_tool.proofs.Telling.{told_start, told_more, reported_by}
 use Rattle.scald_tool.proofs.verify.only_case.Goals as goal

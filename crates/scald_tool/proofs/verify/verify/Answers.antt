@@ -1,9 +1,9 @@
 use Rattle.std.proofs.Common.{subst, sym}
-use Rattle.drawn_circuit.specs.Drawn.{IsTextRefused}
-use Rattle.timing_analysis.proofs.Drawn.{subject_is_drawn}
+use Rattle.timing_analysis.specs.Drawn.{IsTextRefused}
+use Rattle.timing_analysis.proofs.DrawnText.{subject_is_drawn}
 use Rattle.scald_tool.specs.Answer.{reported}
-use Rattle.timing_reply.proofs.Ending.{concluded_ended, loopless_ended}
-use Rattle.timing_reply.proofs.Replies.{accepted, refused}
+use Rattle.program_call.proofs.Ending.{concluded_ended, loopless_ended}
+use Rattle.program_call.proofs.Replies.{accepted, refused}
 use Rattle.scald_tool.proofs.Replies.{reported_clean, reported_verified}
 use Rattle.scald_tool.proofs.verify.verify.Goals as goal
 

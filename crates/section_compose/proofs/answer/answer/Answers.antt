@@ -1,12 +1,12 @@
 use Rattle.std.proofs.Common.{◌∙◌, List, length, map, subst, sym}
 use Rattle.std.proofs.lemmas.List.{length-map}
-use Rattle.section_rules.specs.Pieces.{piece_of}
+use Rattle.section_compose.specs.Pieces.{piece_of}
 use Rattle.std.specs.Prelude.{IfOk}
 use Rattle.std.specs.List.{AllZip}
 use Rattle.std.proofs.lemmas.Slice.Zip.{AllZip-long}
-use Rattle.section_rules.specs.declared.section.Section.{Section}
-use Rattle.section_rules.specs.declared.cut.Piece.{Piece}
-use Rattle.section_rules.specs.Drawn.{DrawsSection}
+use Rattle.section_compose.specs.declared.section.Section.{Section}
+use Rattle.section_compose.specs.declared.cut.Piece.{Piece}
+use Rattle.section_compose.specs.Drawn.{DrawsSection}
 use Rattle.section_compose.specs.declared.answer.End.TheVariants.{Refused as Refused_in}
 use Rattle.section_compose.specs.declared.outcome.SectionsOutcome.TheVariants.{Clean, Refused}
 use Rattle.section_compose.specs.Answer.{AreEnough, Concluded, Joined}

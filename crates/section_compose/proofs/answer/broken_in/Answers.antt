@@ -1,5 +1,5 @@
 use Rattle.std.proofs.Common.{◌<◌, length, subst}
-use Rattle.section_rules.specs.declared.section.Section.{Section}
+use Rattle.section_compose.specs.declared.section.Section.{Section}
 use Rattle.section_compose.proofs.Answered.{told_place}
 use Rattle.section_compose.proofs.answer.broken_in.Goals as goal
 

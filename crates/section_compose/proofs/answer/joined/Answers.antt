@@ -1,6 +1,6 @@
 use Rattle.std.proofs.Common.{sym}
-use Rattle.section_rules.specs.Rule.{number_of}
-use Rattle.section_rules.proofs.Within.{first_within}
+use Rattle.section_compose.specs.Rule.{number_of}
+use Rattle.section_compose.proofs.Within.{first_within}
 use Rattle.section_compose.specs.declared.outcome.SectionsOutcome.TheVariants.{BadSection}
 use Rattle.section_compose.specs.Answer as answer
 use Rattle.section_compose.specs.Answer.{Concluded}

@@ -2,9 +2,9 @@ use Rattle.std.proofs.Common.{◌+◌, ◌<◌, ◌≤◌, length, get_or, refl,
 use Rattle.std.proofs.lemmas.List.Elements.{All-push}
 use Rattle.std.proofs.lemmas.List.{get_or_default}
 use Rattle.scald_base.specs.Time.{period}
-use Rattle.section_rules.specs.declared.cut.Piece.{Piece}
-use Rattle.section_rules.specs.declared.section.Section.{Section}
-use Rattle.section_rules.specs.Drawn.{DrawsSection, IsSectionRefused}
+use Rattle.section_compose.specs.declared.cut.Piece.{Piece}
+use Rattle.section_compose.specs.declared.section.Section.{Section}
+use Rattle.section_compose.specs.Drawn.{DrawsSection, IsSectionRefused}
 use Rattle.section_compose.specs.Reading.{AreTimed}
 use Rattle.section_compose.proofs.Read.{drawn_all, drawn_more, refused_at}
 use Rattle.section_compose.proofs.answer.read_sections.Goals as goal

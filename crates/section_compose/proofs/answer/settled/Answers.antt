@@ -3,7 +3,7 @@ use Rattle.fixpoint_engine.specs.End.{EndsFor}
 use Rattle.fixpoint_engine.specs.Start.{default_limit}
 use Rattle.listing.specs.Answer.{unsettled_line}
 use Rattle.listing.specs.End.{last_line}
-use Rattle.section_rules.specs.Rules.{circuits}
+use Rattle.section_compose.specs.Rules.{circuits}
 use Rattle.section_compose.specs.Answer.{Concluded}
 use Rattle.section_compose.specs.Evaluated.{section_round}
 use Rattle.section_compose.specs.Lines.{section_line, sections_line}

@@ -1,5 +1,5 @@
 use Rattle.std.proofs.Common.{◌<◌, ◌≤◌, length, arith}
-use Rattle.section_rules.specs.Rules.{circuits}
+use Rattle.section_compose.specs.Rules.{circuits}
 use Rattle.section_compose.proofs.Crossing.{case_next, case_none, case_whole}
 use Rattle.section_compose.proofs.evaluated.crossing_case.Goals as goal
 

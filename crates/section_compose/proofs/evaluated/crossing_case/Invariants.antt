@@ -1,4 +1,4 @@
-use Rattle.section_rules.specs.Rules.{circuits}
+use Rattle.section_compose.specs.Rules.{circuits}
 use Rattle.section_compose.proofs.Crossing.{IsCaseTo}
 use Rattle.section_compose.proofs.evaluated.crossing_case.Given as goal
 

@@ -1,8 +1,8 @@
 use Rattle.std.proofs.Common.{◌≡◌, ◌∙◌, ap}
-use Rattle.wave_table.specs.Table.{waves_at}
-use Rattle.net_waves.specs.Waves.{waves_of}
+use Rattle.fixpoint_engine.specs.Table.{waves_at}
+use Rattle.fixpoint_engine.specs.Waves.{waves_of}
 use Rattle.timing_analysis.specs.Case.{faults_of}
-use Rattle.section_rules.specs.Rules.{circuits}
+use Rattle.section_compose.specs.Rules.{circuits}
 use Rattle.section_compose.specs.Settled.{rest_in}
 use Rattle.section_compose.proofs.Begun.{ends, rests}
 use Rattle.section_compose.proofs.evaluated.section_at_rest.Goals as goal

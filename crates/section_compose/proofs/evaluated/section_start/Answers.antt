@@ -1,7 +1,7 @@
 use Rattle.std.proofs.Common.{◌∙◌, take, sym}
 use Rattle.std.proofs.lemmas.List.{length-map}
-use Rattle.wave_table.specs.Table.{wave_at, waves_at}
-use Rattle.wave_table.proofs.Growing.{grows_trans}
+use Rattle.fixpoint_engine.specs.Table.{wave_at, waves_at}
+use Rattle.fixpoint_engine.proofs.Growing.{grows_trans}
 use Rattle.case_analysis.specs.Case.{is_set}
 use Rattle.section_compose.proofs.Started.{begun_each, begun_fits, begun_known, begun_more}
 use Rattle.section_compose.proofs.evaluated.section_start.Goals as goal

@@ -1,6 +1,6 @@
 use Rattle.std.proofs.Common.{◌≡◌, ℕ, length, take}
-use Rattle.wave_table.specs.Table.{AreKnown, Grows, waves_at}
-use Rattle.net_waves.specs.Waves.{waves_of}
+use Rattle.fixpoint_engine.specs.Table.{AreKnown, Grows, waves_at}
+use Rattle.fixpoint_engine.specs.Waves.{waves_of}
 use Rattle.case_analysis.specs.Case.{is_set}
 use Rattle.section_compose.specs.Evaluated.{start_with}
 use Rattle.section_compose.proofs.evaluated.section_start.Given as goal

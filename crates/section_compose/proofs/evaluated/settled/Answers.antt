@@ -1,8 +1,8 @@
 use Rattle.std.proofs.Common.{◌∙◌, ◌++◌, [], ◌∷◌, List, ap, subst}
 use Rattle.flat_circuit.specs.declared.case.CaseValue.{CaseValue}
-use Rattle.class_table.specs.Stable.{IsStable}
-use Rattle.wave_table.specs.Table.{waves_at}
-use Rattle.net_waves.specs.Waves.{waves_of}
+use Rattle.flat_circuit.specs.Stable.{IsStable}
+use Rattle.fixpoint_engine.specs.Table.{waves_at}
+use Rattle.fixpoint_engine.specs.Waves.{waves_of}
 use Rattle.fixpoint_engine.specs.Settled.{marked_in}
 use Rattle.fixpoint_engine.specs.Start.{is_driven}
 use Rattle.case_analysis.specs.Case.{is_set}

@@ -1,7 +1,7 @@
 use Rattle.std.proofs.Common.{length}
 use Rattle.std.proofs.lemmas.Result.{IfOk-weaker}
-use Rattle.node_order.specs.Node.{feeders_of}
-use Rattle.node_order.specs.Sorted.{IsSorted}
+use Rattle.flat_circuit.specs.Node.{feeders_of}
+use Rattle.flat_circuit.specs.Sorted.{IsSorted}
 use Rattle.trace_sim.specs.Order.{IsEvaluationOrder}
 use Rattle.trace_sim.proofs.Orders.{nodes_in, nodes_loopless, order_is}
 use Rattle.trace_sim.proofs.order.evaluation_order.Goals as goal

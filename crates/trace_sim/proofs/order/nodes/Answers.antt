@@ -1,8 +1,8 @@
 use Rattle.std.proofs.Common.{◌∙◌, ◌++◌, ◌∷◌, [], ap, sym, ℕ, List, map, arith}
 use Rattle.std.proofs.lemmas.List.{map_push}
 use Rattle.std.proofs.lemmas.List.FromFn.{map-range_with_len_more}
-use Rattle.node_order.specs.declared.node.Node.{Node}
-use Rattle.node_order.specs.Node.{node_feeders}
+use Rattle.flat_circuit.specs.declared.node.Node.{Node}
+use Rattle.flat_circuit.specs.Node.{node_feeders}
 use Rattle.trace_sim.specs.Order.{feeders_in}
 use Rattle.trace_sim.proofs.order.nodes.Goals as goal
 

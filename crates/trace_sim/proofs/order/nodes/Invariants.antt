@@ -1,6 +1,6 @@
 use Rattle.std.proofs.Common.{◌≡◌, map}
 use Rattle.std.specs.List.{range_with_len}
-use Rattle.node_order.specs.Node.{node_feeders}
+use Rattle.flat_circuit.specs.Node.{node_feeders}
 use Rattle.trace_sim.specs.Order.{feeders_in}
 use Rattle.trace_sim.proofs.order.nodes.Given as goal
 

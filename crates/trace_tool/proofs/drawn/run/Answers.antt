@@ -1,5 +1,5 @@
 use Rattle.std.proofs.Common.{subst, sym}
-use Rattle.drawn_circuit.specs.Drawn.{IsTextRefused}
+use Rattle.timing_analysis.specs.Drawn.{IsTextRefused}
 use Rattle.trace_tool.proofs.Replying.{circuit_reply, refused_reply}
 use Rattle.trace_tool.proofs.drawn.run.Goals as goal
 

@@ -1,5 +1,5 @@
 use Rattle.std.proofs.Common.{◌≡◌, ℕ, ◌*◌, List, ◌++◌, length, ap, ◌∙◌, arith}
-use Rattle.trace_text.specs.Trace.{trace_text}
+use Rattle.trace_tool.specs.Trace.{trace_text}
 use Rattle.trace_tool.proofs.Replying.{big_reply, done_reply}
 use Rattle.trace_tool.proofs.drawn.run_in.Goals as goal
 

@@ -1,6 +1,6 @@
 use Rattle.std.proofs.Common.{subst, sym}
-use Rattle.drawn_circuit.specs.Drawn.{IsTextRefused}
-use Rattle.trace_text.specs.Scan.{lines_of}
+use Rattle.timing_analysis.specs.Drawn.{IsTextRefused}
+use Rattle.trace_tool.specs.Scan.{lines_of}
 use Rattle.trace_tool.proofs.Judging.{no_end_reply, on_circuit_reply, unread_reply}
 use Rattle.trace_tool.proofs.judged.judge.Goals as goal
 

@@ -1,6 +1,6 @@
 use Rattle.std.proofs.Common.{subst}
-use Rattle.trace_text.specs.Scan.{lines_of}
-use Rattle.trace_text.specs.Taking.{IsFault}
+use Rattle.trace_tool.specs.Scan.{lines_of}
+use Rattle.trace_tool.specs.Taking.{IsFault}
 use Rattle.trace_tool.proofs.Judging.{judged_reply, wrong_reply}
 use Rattle.trace_tool.proofs.judged.judge_lines.Goals as goal
 

@@ -5,7 +5,7 @@ use Rattle.trace_sim.specs.Choice.{AreTraces, Bits, choices_of}
 use Rattle.trace_sim.specs.Failure.{EachObeys, FailsFirst}
 use Rattle.trace_sim.specs.Simulated.{run_of}
 use Rattle.trace_sim.proofs.Failing.{is_run}
-use Rattle.trace_text.proofs.Picks.{trace_picks}
+use Rattle.trace_tool.proofs.Picks.{trace_picks}
 use Rattle.trace_tool.specs.Judged.{not_a_run_line, run_in}
 use Rattle.trace_tool.proofs.Judging.{no_run_reply}
 use Rattle.trace_tool.proofs.judged.judge_trace.Goals as goal

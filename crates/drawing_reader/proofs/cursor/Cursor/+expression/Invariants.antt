@@ -1,5 +1,5 @@
 use Rattle.std.proofs.Common.{◌+◌, ◌-◌, ◌*◌, ◌≤◌, List, ◌∷◌, length}
-use Rattle.scald_expr.specs.Expression.{expression_of}
+use Rattle.drawing_tree.specs.Expression.{expression_of}
 use Rattle.drawing_grammar.specs.Grammar.{Need, part, group, Product, Sum, Factors, Terms}
 use Rattle.drawing_grammar.specs.Machine.{Moves}
 use Rattle.drawing_reader.specs.Reader.{ahead}

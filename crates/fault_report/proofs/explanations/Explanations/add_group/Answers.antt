@@ -1,7 +1,7 @@
 use Rattle.std.proofs.Common.{◌≡◌, ◌++◌, List, ℕ, OnOk, ap, subst, sym, ◌∙◌}
 use Rattle.drawing_tree.specs.Tree.{drawing_of}
 use Rattle.flat_circuit.specs.declared.fault.Fault.{Fault}
-use Rattle.net_waves.specs.Waves.{waves_of}
+use Rattle.fixpoint_engine.specs.Waves.{waves_of}
 use Rattle.fixpoint_engine.specs.Settled.{marked_in}
 use Rattle.text_groups.specs.Group.{Group, added, gathered}
 use Rattle.fault_report.specs.Group.{group_lines, paragraph}

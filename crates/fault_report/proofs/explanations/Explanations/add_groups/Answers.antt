@@ -2,7 +2,7 @@ use Rattle.std.proofs.Common.{sym, ap, ◌∙◌, arith}
 use Rattle.std.specs.List.{All}
 use Rattle.drawing_tree.specs.Tree.{drawing_of}
 use Rattle.flat_circuit.specs.declared.fault.Fault.{Fault}
-use Rattle.net_waves.specs.Waves.{waves_of}
+use Rattle.fixpoint_engine.specs.Waves.{waves_of}
 use Rattle.text_groups.specs.Group.{Group}
 use Rattle.fault_account.specs.Laws.{AreWithin}
 use Rattle.fault_report.specs.declared.explanations.Explanations.{Explanations}

@@ -1,7 +1,7 @@
 use Rattle.std.proofs.Common.{◌≡◌, ◌∙◌, ◌<◌, ◌+◌, ap, refl, sym, subst, arith, length, nat_eq, ℕ}
 use Rattle.std.specs.HashMap.{get}
 use Rattle.std.proofs.lemmas.List.{length_push}
-use Rattle.class_table.specs.Alike.{class_of}
+use Rattle.flat_circuit.specs.Alike.{class_of}
 use Rattle.fixpoint_engine.specs.Members.{AreFirsts, AreLasts, last_below, last_in}
 use Rattle.fixpoint_engine.proofs.Members.{IsFirstOf, none_below, last_more, last_some, before_more, class_read, first_none, first_some, firsts_more, lasts_more}
 use Rattle.fixpoint_engine.proofs.class_nets.ClassNets.of.Goals as goal

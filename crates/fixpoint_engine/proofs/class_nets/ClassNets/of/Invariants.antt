@@ -1,6 +1,6 @@
 use Rattle.std.proofs.Common.{◌≡◌, ◌<◌, ℕ, length, get_or, None, nat_eq}
 use Rattle.std.specs.HashMap.{get}
-use Rattle.class_table.specs.Alike.{class_of}
+use Rattle.flat_circuit.specs.Alike.{class_of}
 use Rattle.fixpoint_engine.specs.Members.{AreFirsts, AreLasts, last_below, last_in}
 use Rattle.fixpoint_engine.proofs.class_nets.ClassNets.of.Given as goal
 

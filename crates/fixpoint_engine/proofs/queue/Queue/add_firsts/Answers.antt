@@ -1,7 +1,7 @@
 use Rattle.std.proofs.Common.{◌≡◌, ◌∙◌, ◌&&◌, ◌==◌, length, take, get_or, ap, arith, Some}
 use Rattle.std.proofs.lemmas.List.{take_all}
 use Rattle.flat_circuit.specs.Circuit.{driver}
-use Rattle.class_table.specs.Alike.{class_of}
+use Rattle.flat_circuit.specs.Alike.{class_of}
 use Rattle.fixpoint_engine.specs.Hearers.{row_of}
 use Rattle.fixpoint_engine.specs.Members.{is_evaluated, leads_in}
 use Rattle.fixpoint_engine.specs.Settled.{marked_in}

@@ -1,6 +1,6 @@
 use Rattle.std.proofs.Common.{◌∙◌, ap, refl, sym, Some}
 use Rattle.std.specs.Option.{option_map}
-use Rattle.net_waves.specs.Waves.{waves_of}
+use Rattle.fixpoint_engine.specs.Waves.{waves_of}
 use Rattle.point_check.specs.Again.{of_instance}
 use Rattle.point_check.proofs.Again.{found_is}
 use Rattle.point_check.proofs.last_check.LastCheck.found.Goals as goal

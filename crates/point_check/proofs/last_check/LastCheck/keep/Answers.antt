@@ -1,4 +1,4 @@
-use Rattle.net_waves.specs.Waves.{waves_of}
+use Rattle.fixpoint_engine.specs.Waves.{waves_of}
 use Rattle.point_check.proofs.Again.{kept_is}
 use Rattle.point_check.proofs.last_check.LastCheck.keep.Goals as goal
 

@@ -1,6 +1,6 @@
 use Rattle.std.proofs.Common.{◌≡◌, ◌∙◌, ◌++◌, ap}
-use Rattle.wave_table.specs.Table.{waves_at}
-use Rattle.net_waves.specs.Waves.{waves_of}
+use Rattle.fixpoint_engine.specs.Table.{waves_at}
+use Rattle.fixpoint_engine.specs.Waves.{waves_of}
 use Rattle.listing.specs.declared.case.Mode.TheVariants.{Faults}
 use Rattle.listing.specs.Case.{case_lines}
 use Rattle.listing.specs.Head.{head}

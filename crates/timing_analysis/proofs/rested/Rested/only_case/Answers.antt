@@ -1,6 +1,6 @@
 use Rattle.std.proofs.Common.{◌≡◌, ◌+◌, [], ap, refl, subst, sym, ◌∙◌, arith}
-use Rattle.wave_table.specs.Table.{waves_at}
-use Rattle.net_waves.specs.Waves.{waves_of}
+use Rattle.fixpoint_engine.specs.Table.{waves_at}
+use Rattle.fixpoint_engine.specs.Waves.{waves_of}
 use Rattle.case_analysis.specs.Case.{PermitCase}
 use Rattle.timing_analysis.specs.Case.{faults_of}
 use Rattle.timing_analysis.proofs.Rest.{base_permits, base_rests, case_at_rest}

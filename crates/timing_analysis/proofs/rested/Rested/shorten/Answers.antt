@@ -1,5 +1,5 @@
 use Rattle.std.proofs.Common.{◌∙◌, ap, refl, subst, sym}
-use Rattle.wave_table.specs.Table.{waves_at}
+use Rattle.fixpoint_engine.specs.Table.{waves_at}
 use Rattle.timing_analysis.specs.Rested.{IsBaseIn}
 use Rattle.timing_analysis.proofs.Stored.{base_again}
 use Rattle.timing_analysis.proofs.rested.Rested.shorten.Goals as goal

@@ -1,7 +1,0 @@
-use Rattle.std.specs.List.{flat_map, range_with_len}
-use Rattle.circuit_notes.specs.Unchecked.{unchecked_at}
-use Rattle.circuit_notes.specs.Told.{Adds}
-use Rattle.circuit_notes.proofs.unchecked.add_unchecked.Given as goal
-
-abbrev pub invariant-loop-number : goal.invariant-loop-number
-invariant-loop-number l = Adds l.fn.notes l.notes (flat_map (unchecked_at l.c) (range_with_len 0 l.number))

@@ -1,5 +1,0 @@
-mod Lists
-mod Alike
-mod Pairs
-mod Values
-mod Examples

@@ -1,6 +1,0 @@
-use Rattle.std.proofs.Common.{◌≡◌, ◌<◌, ℕ}
-use Rattle.class_table.specs.Alike.{class_of, value_in}
-use Rattle.class_table.proofs.case_values.is_as_numbers_in.Given as goal
-
-abbrev pub invariant-loop-net : goal.invariant-loop-net
-invariant-loop-net l = (i : ℕ) → i < l.net → value_in l.case i ≡ value_in l.case (class_of l.classes i)

@@ -1,9 +1,0 @@
-use Rattle.std.proofs.Common.{◌≡◌, ◌<◌, ℕ, drop, slice_index_or}
-use Rattle.flat_circuit.specs.Instances.{most_bits}
-use Rattle.class_table.specs.Alike.{value_after, value_in}
-use Rattle.class_table.specs.Table.{said}
-use Rattle.class_table.proofs.case_values.say_all.Given as goal
-
-abbrev pub invariant-loop-value : goal.invariant-loop-value
-invariant-loop-value l =
-    (i : ℕ) → i < most_bits → value_after (said (slice_index_or l.table i 0)) (drop l.value-index l.case) i ≡ value_in l.case i

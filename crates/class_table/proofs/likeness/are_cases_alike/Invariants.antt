@@ -1,6 +1,0 @@
-use Rattle.std.proofs.Common.{take}
-use Rattle.class_table.specs.Alike.{CasesAlike}
-use Rattle.class_table.proofs.likeness.are_cases_alike.Given as goal
-
-abbrev pub invariant-loop-case : goal.invariant-loop-case
-invariant-loop-case l = CasesAlike (take l.case-index l.cases) l.net l.other

@@ -1,0 +1,20 @@
+use Rattle.std.proofs.Common.{◌≡◌, ◌+◌, true, arith, rules}
+use Rattle.step_values.specs.Cell.{values}
+use Rattle.wave_core.specs.Slots.{cell_round}
+use Rattle.drawing_notes.specs.Unclocked.{is_active}
+use Rattle.drawing_notes.proofs.Scanning.{none_passes, one_passes}
+use Rattle.drawing_notes.proofs.searching.has_active.Goals as goal
+
+pub returns-in-Some : goal.returns-in-Some
+returns-in-Some g c =
+    let cells = g.W.CyclicWave.cells c.args.fold.now in
+    let found = c.in-Some.ensures in
+    let passes = found.passes in
+    let active : true ≡ is_active c.args.form (cell_round values cells (0 + c.in-Some.field-0)) = search rules in
+    one_passes values cells (is_active c.args.form) c.period.result c.period.ensures c.in-Some.field-0 found.within active
+
+pub returns-in-None : goal.returns-in-None
+returns-in-None g c =
+    let cells = g.W.CyclicWave.cells c.args.fold.now in
+    none_passes values cells (is_active c.args.form) c.period.result c.period.ensures
+    (λ place below. let fails = c.in-None.ensures place (omega arith) below in search rules)

@@ -1,0 +1,8 @@
+use Rattle.std.proofs.Common.{take}
+use Rattle.std.specs.List.{flat_map}
+use Rattle.drawing_notes.specs.Told.{Adds}
+use Rattle.drawing_notes.specs.Spread.{spread_at}
+use Rattle.drawing_notes.proofs.spread_notes.add_spread.Given as goal
+
+abbrev pub invariant-loop-spread : goal.invariant-loop-spread
+invariant-loop-spread l = Adds l.fn.notes l.notes (flat_map (spread_at l.c) (take l.spread-index l.spreads))

@@ -1,0 +1,7 @@
+use Rattle.std.specs.List.{flat_map, range_with_len}
+use Rattle.drawing_notes.specs.Unchecked.{unchecked_at}
+use Rattle.drawing_notes.specs.Told.{Adds}
+use Rattle.drawing_notes.proofs.unchecked.add_unchecked.Given as goal
+
+abbrev pub invariant-loop-number : goal.invariant-loop-number
+invariant-loop-number l = Adds l.fn.notes l.notes (flat_map (unchecked_at l.c) (range_with_len 0 l.number))

@@ -1,0 +1,61 @@
+//! What the cases so far tell.
+
+ghost use Rattle.std.specs.Prelude.{◌≡◌, ◌++◌, ◌∷◌, [], List, IfOk, OnOk, length};
+ghost use Rattle.fixpoint_engine.specs.Waves.{FitWaves, waves_of};
+ghost use Rattle.timing_analysis.specs.Case.{Case};
+ghost use Rattle.drawing_notes.specs.SoFar.{HoldsOf};
+
+use crate::Notes;
+use crate::skews::add_skews;
+use crate::unclocked::add_acts;
+use crate::unknown::add_unknown;
+use fixpoint_engine::Waves;
+use flat_circuit::Circuit;
+use run_wave::RunWave;
+use scald_base::{Bytes, NoMemory};
+use std::alloc::Global;
+use step_values::Value;
+
+/// What the cases so far tell.
+#[derive(Drop)]
+pub struct SoFar {
+    /// By the numbers of instances, whose clock or enable does something in some case.
+    pub acts: Vec<bool>,
+    /// The greatest skew of each net, by its number, in ticks.
+    pub skews: Vec<u16>,
+    /// The notes on what is unknown.
+    pub unknown: Notes,
+}
+
+impl SoFar {
+    /// Before any case. `NoMemory` comes where memory runs out.
+    pub fn begin(alloc: Global, c: &Circuit) -> Result<SoFar, NoMemory>
+        ensures { IfOk result (λ so_far. HoldsOf so_far c.now []) }
+    {
+        Ok(SoFar {
+            acts: vec![in alloc; false; c.instance_count() as usize]?,
+            skews: vec![in alloc; 0; c.net_count() as usize]?,
+            unknown: Notes::new(Bytes::new(alloc)),
+        })
+    }
+
+    /// One case more, by its number and its waves. `NoMemory` comes where memory runs out.
+    pub fn add_case(
+        &mut self,
+        alloc: Global,
+        c: &Circuit,
+        number: u32,
+        waves: &Waves<RunWave<Value>>,
+    ) -> Result<(), NoMemory>
+        requires fit { FitWaves c.now waves.now }
+        requires each_instance { length self.old.acts.items ≡ length c.now.instances }
+        requires each_net { length self.old.skews.items ≡ length c.now.nets }
+        ensures { OnOk result ((cases : List Case) (one : Case) → one.listed.number ≡ number →
+            one.waves ≡ waves_of waves.now → HoldsOf self.old c.now cases →
+            HoldsOf self.new c.now (cases ++ one ∷ [])) }
+    {
+        add_acts(alloc, c, waves, &mut self.acts)?;
+        add_skews(c, waves, &mut self.skews);
+        add_unknown(&mut self.unknown, c, number, waves)
+    }
+}

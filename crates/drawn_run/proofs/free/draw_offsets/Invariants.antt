@@ -1,9 +1,0 @@
-use Rattle.std.proofs.Common.{◌≡◌, ℕ, take, slice_get}
-use Rattle.drawn_run.specs.Draw.{draw_each}
-use Rattle.drawn_run.specs.Drawn.{draw_offset}
-use Rattle.drawn_run.proofs.free.draw_offsets.Given as goal
-
-abbrev pub invariant-loop-place : goal.invariant-loop-place
-invariant-loop-place g l =
-    (l.shifts, g.R.Rng.stream l.rng)
-    ≡ draw_each (λ (n : ℕ). draw_offset l.c.header (slice_get l.c.nets n)) (take l.place l.c.order) (g.R.Rng.stream l.fn.rng)

@@ -1,6 +1,0 @@
-use Rattle.std.proofs.Common.{◌≡◌, drop}
-use Rattle.class_table.specs.Alike.{value_after, value_in}
-use Rattle.drawn_run.proofs.seed.value_in.Given as goal
-
-abbrev pub invariant-loop-value : goal.invariant-loop-value
-invariant-loop-value l = value_after l.found (drop l.value-index l.values) l.net ≡ value_in l.values l.net

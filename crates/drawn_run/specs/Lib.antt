@@ -1,4 +1,0 @@
-pub mod Draw
-pub mod Drawn
-pub mod Input
-pub mod Laws

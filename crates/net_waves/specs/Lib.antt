@@ -1,4 +1,0 @@
-pub mod Waves
-pub mod Pins
-pub mod SameWaves
-pub mod Interface

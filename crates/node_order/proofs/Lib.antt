@@ -1,3 +1,0 @@
-pub mod Few
-pub mod Nodes
-pub mod Walk

@@ -1,0 +1,43 @@
+-- A program that is asked for by its name alone, and replies to the text that it reads.
+use Rattle.std.specs.Prelude.{ℕ, true, List, [], ◌∷◌, None, Result, Ok, Err, if◌then◌else◌}
+use Rattle.std.specs.Str.{bytes_eq}
+use Rattle.scald_base.specs.declared.outcome.Outcome.{Outcome}
+use Rattle.scald_base.specs.Outcome.{ended, end_of}
+use Rattle.program_call.specs.Program.{Meaning}
+use Rattle.program_call.specs.declared.words.Request.{Request}
+use Rattle.program_call.specs.declared.words.Request.TheVariants.{Reply}
+use Rattle.program_call.specs.Answer.{Telling, Evaluated}
+
+-- any word after the name is one too many
+abbrev pub no_more : List (List ℕ) → Result Request ℕ
+no_more [] = Ok Reply
+no_more (w ∷ ws) = Err 1
+
+-- the first word is the name
+abbrev pub by_name : List ℕ → List (List ℕ) → Result Request ℕ
+by_name name [] = Err 0
+by_name name (w ∷ ws) = if bytes_eq w name then no_more ws else Err 0
+
+-- the most bytes that are read
+abbrev pub most_bytes : ℕ
+most_bytes = 4194304
+
+-- which outcomes and bytes are the reply to a text
+abbrev pub Replying : Type 1
+Replying = List ℕ → Outcome → List ℕ → Type 0
+
+-- It reads a text and has this reply to it.
+abbrev pub wordless : List ℕ → Replying → Meaning Request Outcome
+wordless name Replied = record {
+  command_of = by_name name;
+  reads = λ request. true;
+  most_bytes = λ read. most_bytes;
+  Replied = λ request. Replied;
+  ended = ended;
+  end_of = end_of;
+}
+
+-- It replies what is told of the circuit, by the version of its drawing, at its own limit of rounds, or why there is
+-- nothing to tell.
+abbrev pub telling_program : List ℕ → (ℕ → Telling) → Meaning Request Outcome
+telling_program name tell = wordless name (Evaluated tell None)

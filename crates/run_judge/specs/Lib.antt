@@ -1,3 +1,0 @@
-pub mod Break
-pub mod Interface
-pub mod Pass

@@ -1,0 +1,15 @@
+use Rattle.std.proofs.Common.{◌≡◌, ℕ, List, IfSome, Option, Some, None}
+use Rattle.scald_base.specs.declared.outcome.Outcome.{Outcome}
+use Rattle.scald_base.specs.declared.outcome.Outcome.TheVariants.{Clean}
+use Rattle.scald.specs.declared.named.Answer.TheVariants.{Drawing}
+use Rattle.timing_analysis.specs.Promise.{NeverBreaks}
+use Rattle.scald.proofs.named.answer_to.Goals as goal
+
+-- the answer to a drawing is clean if the outcome of its call is
+drawn : (left : Option (List ℕ)) (o : Outcome) (Asked : Type 0) → IfSome left (λ text. o ≡ Clean → NeverBreaks text) →
+    IfSome left (λ text. Asked → Drawing o ≡ Drawing Clean → NeverBreaks text)
+drawn None o Asked clean = tt
+drawn (Some text) o Asked clean = λ asked same. let is : o ≡ Clean = cc same in clean is
+
+pub returns-in-Tool-clause-clean : goal.returns-in-Tool-clause-clean
+returns-in-Tool-clause-clean g c = drawn (g.S.Source.left c.args.source.now) c.tool_main.result _ c.tool_main.ensures.clean

@@ -1,2 +1,0 @@
-pub mod Expression
-pub mod Value

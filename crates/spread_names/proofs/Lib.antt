@@ -1,8 +1,0 @@
-mod Examples
-pub mod Walking
-pub mod Sizes
-pub mod Turning
-pub mod Using
-pub mod Bodies
-pub mod Over
-pub mod Whole

@@ -1,3 +1,0 @@
-pub mod Widths
-pub mod Spreads
-pub mod Walk

@@ -1,5 +1,0 @@
-use Rattle.trace_text.proofs.OneText.{lines_say_bits as law}
-use Rattle.trace_text.proofs.laws.lines_say_bits.Goals as goal
-
-pub returns : goal.returns
-returns c = law

@@ -1,5 +1,0 @@
-use Rattle.trace_text.proofs.Cutting.{NoneEnds}
-use Rattle.trace_text.proofs.split.next_line.Given as goal
-
-abbrev pub invariant-loop-at : goal.invariant-loop-at
-invariant-loop-at l = NoneEnds l.text l.at

@@ -1,5 +1,0 @@
-use Rattle.trace_text.proofs.Written.{AreWritten}
-use Rattle.trace_text.proofs.write.write_trace.Given as goal
-
-abbrev pub invariant-loop-place : goal.invariant-loop-place
-invariant-loop-place l = AreWritten l.c l.trace l.place l.fn.out l.out

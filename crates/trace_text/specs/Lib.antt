@@ -1,5 +1,0 @@
-pub mod Trace
-pub mod Reading
-pub mod Scan
-pub mod Taking
-pub mod Laws

@@ -1,8 +1,0 @@
-//! Laws of traces. The function does nothing: what it states is its contract.
-
-ghost use Rattle.trace_text.specs.Laws.{LinesSayBits};
-
-/// The lines of a trace say its ticks and every bit, so reading gives back what was written.
-pub fn lines_say_bits()
-    ensures { LinesSayBits }
-{}

@@ -1,7 +1,0 @@
-mod Examples
-pub mod Steps
-pub mod Walking
-pub mod Turning
-pub mod Using
-pub mod Whole
-mod ExamplesReached

@@ -1,3 +1,0 @@
-pub mod Body
-mod Examples
-pub mod Or

@@ -1,8 +1,0 @@
-pub mod Passed
-pub mod Lines
-pub mod Sites
-pub mod Named
-pub mod Plain
-pub mod Ranges
-pub mod Limits
-pub mod Bounds

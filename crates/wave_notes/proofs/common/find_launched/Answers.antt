@@ -1,9 +1,0 @@
-use Rattle.std.proofs.Common.{◌∙◌, ap, Some}
-use Rattle.std.proofs.lemmas.Result.{on_ok_weaker}
-use Rattle.wave_notes.proofs.common.find_launched.Goals as goal
-
-pub returns-in-Some-clause-is : goal.returns-in-Some-clause-is
-returns-in-Some-clause-is c = λ looped are was. was c.args.clock (c.in-Some.is ∙ ap Some c.if-same-clock.true)
-
-pub returns-in_default-clause-is : goal.returns-in_default-clause-is
-returns-in_default-clause-is c = on_ok_weaker c.search.result (λ is looped are was. is looped are) c.search.ensures.is

@@ -1,8 +1,0 @@
-use Rattle.std.proofs.Common.{take}
-use Rattle.std.specs.List.{filter}
-use Rattle.net_waves.specs.Waves.{waves_of}
-use Rattle.wave_notes.specs.Unknown.{IsCounted, has_unknown}
-use Rattle.wave_notes.proofs.unknown.count.Given as goal
-
-abbrev pub invariant-loop-place : goal.invariant-loop-place
-invariant-loop-place g l = IsCounted (filter (has_unknown (waves_of l.waves)) (take l.place l.c.order)) l.counted

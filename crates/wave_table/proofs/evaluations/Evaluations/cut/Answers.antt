@@ -1,7 +1,0 @@
-use Rattle.std.proofs.Common.{sym, subst}
-use Rattle.wave_table.specs.Evaluation.{AreValues}
-use Rattle.wave_table.proofs.evaluations.Evaluations.cut.Goals as goal
-
-pub invariant_of-self : goal.invariant_of-self
-invariant_of-self g c =
-    subst (AreValues g.K.Evaluated.reads g.K.Evaluated.makes c.cut.new.self) (sym c.truncate.ensures.entries) tt

@@ -1,4 +1,0 @@
-pub mod Feed
-pub mod Same
-pub mod Table
-pub mod Evaluation
