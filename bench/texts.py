@@ -159,6 +159,24 @@ def flat(count):
     )
 
 
+def random_gates(gates):
+    """512 registers, and gates of two inputs, each of which reads two of the nets before it, drawn at random."""
+    draw = random.Random(1)
+    registers = 512
+    lines = [
+        f'r{i} : REG [2:5] ("CK .P2-3", "N{registers + draw.randrange(gates)}") -> ("N{i}");' for i in range(registers)
+    ]
+    for i in range(registers, registers + gates):
+        kind, one, other = draw.choice(("AND", "OR", "XOR")), draw.randrange(i), draw.randrange(i)
+        lines.append(f'g{i} : {kind} [1:3] ("N{one}", "N{other}") -> ("N{i}");')
+    return drawing(lines)
+
+
+def undriven(names):
+    """Buffers, each of a net of its own that nothing drives."""
+    return drawing(f'b{i} : BUF [1:2] ("IN {i}") -> ("OUT {i}");' for i in range(names))
+
+
 def wave_loops(gates):
     """Gates of four kinds and of many delays on seven clocks and on each other, with loops: many different waves."""
     draw = random.Random(5)
@@ -300,16 +318,60 @@ def shortest_sums(count):
     return sums(count, "(A*%-B/3)", "+")
 
 
-def token_lines(count):
-    """Ordinary lines of a drawing."""
-    return drawing(
-        f'r{i} : REG [5:15] ("MAIN CLK .P5-6", "D{i}"<0:7>) -> ("Q{i}"<0:7>); -- a register' for i in range(count)
-    )
+def long_text(size, lines=(), after=(), clock="8 x 50"):
+    """A text of at most `size` bytes: gates that are drawn one by one, and then these lines, with cases after them."""
+    left = size - len(drawing(lines, clock=clock, after=after))
+    gates = []
+    while True:
+        i = len(gates)
+        gate = f'inst_number_{i} : AND [1:2] ("signal {i // 2}", "CK .P2-3") -> ("signal {i + 1}"); -- gate {i}'
+        left -= len(gate) + 1
+        if left < 0:
+            return drawing([*gates, *lines], clock=clock, after=after)
+        gates.append(gate)
 
 
-def short_tokens(lines):
-    """The shortest tokens side by side."""
-    return ';:,()<>[]{}=+*/&! - a 7 "b" -> \n' * lines
+def accepted(size):
+    """Gates that are drawn one by one, in a text of so many bytes."""
+    return long_text(size)
+
+
+# Of each kind of refusal a mistake that stands at the end of a drawing, as its last lines or after it; or in the
+# header, where nothing else can be refused so.
+MISTAKES = {
+    "BadByte": {"lines": ["-- caf\xe9"]},
+    "BadToken": {"lines": ['last : BUF [0:0] ("A) -> ("X");']},
+    "Syntax": {"lines": ['last : BUF [0:0] ("A") ("X");']},
+    "BadHeader": {"clock": "8 x 0"},
+    "DoubleName": {"lines": ['inst_number_1 : BUF [0:0] ("A") -> ("X");']},
+    "UnknownKind": {"lines": ['last : BUFF [0:0] ("A") -> ("X");']},
+    "BadName": {"lines": ['last : BUF [0:0] ("A .S2-9") -> ("X");']},
+    "AssertionClash": {"lines": ['last : BUF [0:0] ("CK .P2-4") -> ("X");']},
+    "BadParameter": {"lines": ['last : BUF [0:0] {N=1} ("A") -> ("X");']},
+    "Overflow": {"lines": ['last : BUF [0:9223372036854775807+1] ("A") -> ("X");']},
+    "BadRange": {"lines": ['last : BUF [0:0] ("A"<65536>) -> ("X");']},
+    "Width": {"lines": ['last : BUF [0:0] ("A"<0:2>) -> ("X"<0:3>);']},
+    "PinCount": {"lines": ['last : BUF [0:0] ("A", "B") -> ("X");']},
+    "Bounds": {"lines": ['last : BUF [3:2] ("A") -> ("X");']},
+    "TooDeep": {"lines": [f'last : BUF [0:{"(" * 65}1{")" * 65}] ("A") -> ("X");']},
+    "TooMany": {"lines": [f'last{i} : MIN_PULSE_CHK ("A"<{256 * i}:{256 * i + 255}>);' for i in range(256)] + ['WIRE "B" 0:0;']},
+    "TwoDrivers": {"lines": ['last : BUF [0:0] ("A") -> ("signal 1");']},
+    "ZeroLoop": {"lines": ['last : BUF [0:0] ("X") -> ("X");']},
+    "CaseNet": {"after": ['CASE "signal 1"=0;']},
+    "EdgesOverlap": {"lines": ['last : BUF [0:0] ("A .C2-3(25,25)") -> ("X");']},
+    "ZeroDivisor": {"lines": ['last : BUF [0:1/0] ("A") -> ("X");']},
+    "UnknownName": {"lines": ['last : BUF [0:N] ("A") -> ("X");']},
+}
+
+
+def refused(kind):
+    """Gives the text of a size that is refused for its one mistake."""
+
+    def text(size):
+        return long_text(size, **MISTAKES[kind])
+
+    text.__doc__ = f"The same with one mistake, which is refused as {kind}."
+    return text
 
 
 def nothing(_size):

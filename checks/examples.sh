@@ -24,6 +24,16 @@ silent() {
     [ "$status" -eq 3 ] || [ ! -s "$work/said" ] || failure "$name: $1: this is said: $(head -n 1 "$work/said")"
 }
 
+# counted: the same of verify, but for how many nets nothing determines, in the one example that has such a net
+counted() {
+    [ "$name" != mistyped_clock ] || {
+        echo 'scald: 1 net has neither a driver nor an assertion, and no case sets it: it is STABLE in the report' |
+            cmp -s - "$work/said" || failure "$name: verify: this is said: $(head -n 1 "$work/said")"
+        return
+    }
+    silent verify
+}
+
 for drawing in "$top"/examples/*.scald "$top"/examples/sections/*.scald; do
     name=$(basename -- "$drawing" .scald)
     report=${drawing%.scald}.report
@@ -34,7 +44,7 @@ for drawing in "$top"/examples/*.scald "$top"/examples/sections/*.scald; do
     fi
     "$program" verify <"$drawing" >"$work/report" 2>"$work/said"
     status=$?
-    silent verify
+    counted
     wanted=$(status_of "$report")
     [ "$status" = "$wanted" ] || failure "$name: status $status in place of $wanted"
     cmp -s "$work/report" "$report" || failure "$name: another report"

@@ -1,7 +1,6 @@
 #!/bin/sh
 # Tries the built program over hostile texts and with too little memory. All of it is to be run by hand, since it
-# takes long, mostly for the random texts; --short is the part that .ci/run tries after the gate. It ends with the
-# time that it took.
+# takes long, mostly for the random texts; --short is the part that ./check tries. It ends with the time that it took.
 # Usage: checks/hostile.sh [--short] [PROGRAM [COUNT]], COUNT random texts in place of 20000, or of 400.
 # Needs python3; cc where allocations are to be refused one by one; and GNU time where it is not short.
 # A random text whose answer is wrong is kept in the folder KEPT, or else in the temporary one.

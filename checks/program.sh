@@ -4,7 +4,7 @@
 . "$(dirname -- "$0")/common.sh"
 begin "${1-}"
 first=$top/examples/first.scald
-report=$top/crates/scald/stdout
+report=$top/examples/first.report
 
 # expect NAME STATUS GOT: compares the last command's status GOT, and its output in $work/out with $work/want.
 expect() {
@@ -99,7 +99,7 @@ clocked 'MACRO E {N=1} ();' 'IF N > 0 THEN' 'a : E {N=N-1} ();' 'b : E {N=N-1} (
 expect "too many statements" 2 $?
 
 {
-    printf 'SCALD 1;\nCLOCK 8 x 50;\nWIRE 0:0;\nPSKEW 0:0;\nCSKEW 0:0;\nDRAWING ROW;\n'
+    printf 'SCALD 2;\nCLOCK 8 x 50;\nWIRE 0:0;\nPSKEW 0:0;\nCSKEW 0:0;\nDRAWING ROW;\n'
     printf '  c1 : SETUP_HOLD_CHK {SETUP=20, HOLD=10} ("CK .P2-3", "D .S1-4");\nEND;\n'
 } >"$work/want"
 "$program" format <"$first" >"$work/out"
@@ -196,11 +196,11 @@ none() {
 none ''
 none "unknown command 'check'" check
 none "'twice' cannot come after 'verify'" verify twice
-none "'faults' cannot come after 'rounds=5': it stands before rounds=N" verify rounds=5 faults
-none "'waves' cannot come after 'waves': waves or faults stands once" verify waves waves
-none "'waves' cannot come after 'format': it stands after verify" format waves
+none "'faults' cannot come after 'rounds=5': it stands once, after verify; rounds=N comes last" verify rounds=5 faults
+none "'waves' cannot come after 'waves': it stands once, after verify; rounds=N comes last" verify waves waves
+none "'waves' cannot come after 'format': it stands once, after verify; rounds=N comes last" format waves
 none "'format' cannot come after 'format'" format format
-none "'waves' cannot come after 'upgrade': it stands after verify" upgrade waves
+none "'waves' cannot come after 'upgrade': it stands once, after verify; rounds=N comes last" upgrade waves
 none "'upgrade' cannot come after 'upgrade'" upgrade upgrade
 # words that are nearly one of a form
 none "unknown command 'verfy': is verify meant?" verfy
@@ -210,13 +210,13 @@ none "'Faults' cannot come after 'verify': is faults meant?" verify Faults round
 none "'round=5' cannot come after 'waves': is rounds=N meant?" verify waves round=5
 none "'Faults' cannot come after 'waves'" verify waves Faults
 none "'rounds=0' cannot come after 'faults': N is 1 to 10000000, without zeros in front" verify faults rounds=0
-none "'faults' cannot come after 'waves': waves or faults stands once" verify waves faults
+none "'faults' cannot come after 'waves': it stands once, after verify; rounds=N comes last" verify waves faults
 # words of other forms, and files
-none "unknown command 'waves': it stands after verify" waves
-none "unknown command 'rounds=5': it stands after verify" rounds=5 verify
+none "unknown command 'waves': it stands once, after verify; rounds=N comes last" waves
+none "unknown command 'rounds=5': it stands once, after verify; rounds=N comes last" rounds=5 verify
 none "unknown command 'case=2': it stands after run T SEED" case=2
-none "'rounds=5' cannot come after 'explain': it stands after verify" explain rounds=5
-none "'faults' cannot come after '0': it stands after verify" run 6 0 faults
+none "'rounds=5' cannot come after 'explain': it stands once, after verify; rounds=N comes last" explain rounds=5
+none "'faults' cannot come after '0': it stands once, after verify; rounds=N comes last" run 6 0 faults
 none "'case=2' cannot come after 'verify': it stands after run T SEED" verify case=2
 none "'case=2' cannot come after 'waves': it stands after run T SEED" verify waves case=2
 none "'case=2' cannot come after 'rounds=5': it stands after run T SEED" verify rounds=5 case=2
@@ -231,7 +231,7 @@ none "'first.scald' cannot come after 'sections'$input" sections first.scald
 none "'first.scald' cannot come after '0'$input" run 6 0 first.scald
 none "'first.scald' cannot come after 'case=1'$input" run 6 0 case=1 first.scald
 none "'first.scald' cannot come after '1'$input" judge 1 first.scald
-none "'first.scald' cannot come after '3': bench reads no drawing" bench 3 first.scald
+none "'first.scald' cannot come after '3'$input" bench 3 first.scald
 none "'first.scald' cannot come after 'bench': N is 1 to 200, without zeros in front" bench first.scald
 # no word is trimmed, dropped or joined to another
 none "unknown command ''" ''
@@ -252,24 +252,24 @@ none "unknown command 'VERIFY': is verify meant?" VERIFY
 none "unknown command 'Upgrade': is upgrade meant?" Upgrade
 # no word stands beside these
 none "'notes' cannot come after 'notes'" notes notes
-none "'faults' cannot come after 'notes': it stands after verify" notes faults
+none "'faults' cannot come after 'notes': it stands once, after verify; rounds=N comes last" notes faults
 none "'' cannot come after 'notes'" notes ''
 none "unknown command 'note': is notes meant?" note
 none "'margins' cannot come after 'margins'" margins margins
-none "'waves' cannot come after 'margins': it stands after verify" margins waves
+none "'waves' cannot come after 'margins': it stands once, after verify; rounds=N comes last" margins waves
 none "'' cannot come after 'margins'" margins ''
 none "unknown command 'Margins': is margins meant?" Margins
 none "unknown command 'margin': is margins meant?" margin
 none "'chains' cannot come after 'chains'" chains chains
-none "'faults' cannot come after 'chains': it stands after verify" chains faults
+none "'faults' cannot come after 'chains': it stands once, after verify; rounds=N comes last" chains faults
 none "'' cannot come after 'chains'" chains ''
 none "unknown command 'chain': is chains meant?" chain
 none "'explain' cannot come after 'explain'" explain explain
-none "'faults' cannot come after 'explain': it stands after verify" explain faults
+none "'faults' cannot come after 'explain': it stands once, after verify; rounds=N comes last" explain faults
 none "'' cannot come after 'explain'" explain ''
 none "unknown command 'explian': is explain meant?" explian
 none "'sections' cannot come after 'sections'" sections sections
-none "'waves' cannot come after 'sections': it stands after verify" sections waves
+none "'waves' cannot come after 'sections': it stands once, after verify; rounds=N comes last" sections waves
 none "'' cannot come after 'sections'" sections ''
 none "'3' cannot come after 'sections'" sections 3
 none "unknown command 'Sections': is sections meant?" Sections
@@ -293,9 +293,9 @@ for number in '' 00 -1 4097 65536; do
     none "'$number' cannot come after 'judge': F is 0 to 4096, without zeros in front" judge "$number"
 done
 # three words at most, and two for bench
-none "'faults' cannot come after 'rounds=5': it stands before rounds=N" verify waves rounds=5 faults
-none "'rounds=5' cannot come after 'rounds=5': rounds=N stands once" verify waves rounds=5 rounds=5
-none "'rounds=6' cannot come after 'rounds=5': rounds=N stands once" verify rounds=5 rounds=6
+none "'faults' cannot come after 'rounds=5': it stands once, after verify; rounds=N comes last" verify waves rounds=5 faults
+none "'rounds=5' cannot come after 'rounds=5': it stands once, after verify; rounds=N comes last" verify waves rounds=5 rounds=5
+none "'rounds=6' cannot come after 'rounds=5': it stands once, after verify; rounds=N comes last" verify rounds=5 rounds=6
 none "'' cannot come after 'rounds=5'" verify waves rounds=5 ''
 none "'3' cannot come after '3'" bench 3 3
 # numbers without a sign or zeros in front, within their bounds and not cut
@@ -323,6 +323,8 @@ says "no standard error" 4 '' $?
 
 head -c 4194305 /dev/zero | "$program" verify >"$work/out" 2>"$work/said"
 says "one byte too many" 5 'scald: the drawing has more than 4194304 bytes' $?
+head -c 4194305 /dev/zero | tr '\0' ' ' | "$program" format >"$work/out" 2>"$work/said"
+says "one space too many, to be printed" 5 'scald: the drawing has more than 4194304 bytes' $?
 "$program" verify <"$work" >"$work/out" 2>"$work/said"
 says "a directory as input" 6 'scald: standard input could not be read' $?
 "$program" verify <"$first" 2>"$work/said" >/dev/full
@@ -344,6 +346,14 @@ for count in 0 64; do
     yes ===== | head -n "$count" | "$program" sections >"$work/out" 2>"$work/said"
     says "$((count + 1)) sections" 9 'scald: there should be 2 to 64 sections, with a line ===== between them' $?
 done
+printf 'SECTIONS 64 T 1\nCLEAN\n' >"$work/want"
+{
+    drawing_of
+    for _ in $(seq 63); do echo ===== && drawing_of; done
+} | "$program" sections >"$work/all" 2>/dev/null
+status=$?
+tail -n 2 "$work/all" >"$work/out"
+expect "64 sections" 0 "$status"
 {
     cat "$first"
     printf '=====\nSCALD 1;\nCLOCK 8 x 50;\nDRAWING T;\nb1 : BUFF [0:0] ("A") -> ("X");\nEND;\n'
@@ -354,7 +364,7 @@ says "a section that is refused" 2 "scald: section 2, which begins at line 11 of
 scald: 4:1: there is no such kind and no such macro
     b1 : BUFF [0:0] (\"A\") -> (\"X\");
     ^
-    'BUFF' is none: is BUF meant?" "$status"
+    is BUF meant in place of 'BUFF'?" "$status"
 cp "$work/answer" "$work/out"
 printf 'SECTION 2\nREFUSED 6 UnknownKind 4:1\n' >"$work/want"
 expect "the lines of a section that is refused" 2 "$status"
@@ -379,26 +389,20 @@ status=$?
 : >"$work/out"
 says "a loop that does not settle" 3 \
     'scald: the net that is named still changes after the last round: a loop leads to it
-    it is in a loop, each net of which comes from the next:
-        X<1> is driven at 9:3 by pass<0>
-        X<0> is driven at 8:3 by gate<0>
-        X<4> is driven at 9:3 by pass<3>
-        X<3> is driven at 9:3 by pass<2>
-        X<2> is driven at 9:3 by pass<1>
-        X<1> is driven at 9:3 by pass<0>' "$status"
+    rounds=N with a greater N, of at most 10000000, allows more rounds' "$status"
 
 drawing_of 'late : BUF [1:1] ("X") -> ("A");' 'loop : AND [1:1] ("CK .P2-3", "X") -> ("X");' |
     "$program" verify rounds=20 >"$work/answer" 2>"$work/said"
 status=$?
 says "a net after a loop that does not settle" 3 \
     'scald: the net that is named still changes after the rounds that rounds=N allows
-    it comes from a loop, each net of which comes from the next:
-        X<0> is driven at 5:1 by loop<0>
-        its own output is one of its inputs' "$status"
+    a greater N, of at most 10000000, allows more rounds' "$status"
 
 drawing_of 'b1 : BUF [1:1] ("CK .P2-3") -> ("X");' 'b2 : BUF [1:1] ("X") -> ("Y");' |
     "$program" verify faults rounds=1 >"$work/answer" 2>"$work/said"
-says "too few rounds, and no loop" 3 'scald: the net that is named still changes after the rounds that rounds=N allows' $?
+says "too few rounds, and no loop" 3 \
+    'scald: the net that is named still changes after the rounds that rounds=N allows
+    a greater N, of at most 10000000, allows more rounds' $?
 
 # --- runs
 

@@ -2,8 +2,7 @@
 # Tries `run` and `judge` of the built program. Of each example and each of its cases 200 runs are drawn and judged from
 # the printed tick on: each is a run whose inputs keep their assertions, and nothing breaks that the report does not list;
 # nothing at all where the report is CLEAN. Then random drawings are tried against checks/model, which judges every run
-# and spoilt traces of it too: 500 drawings. --short tries 10 runs of each case and 60 drawings, which .ci/run does after
-# the gate.
+# and spoilt traces of it too: 500 drawings. --short tries 10 runs of each case and 60 drawings, which ./check does.
 # Usage: checks/runs.sh [--short] [PROGRAM [COUNT [FIRST]]], COUNT random drawings from number FIRST on. Needs python3.
 # Where a verdict is wrong the text is kept in the folder KEPT, or else in the temporary one.
 . "$(dirname -- "$0")/common.sh"

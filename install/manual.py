@@ -75,9 +75,10 @@ def sections(language, first, first_report, prefix):
     yield "DESCRIPTION", [
         marked(
             "`scald` checks the timing of a drawing: gates, registers, latches and checkers, with their delays and "
-            "with what is known of each input. It evaluates one period of the clock, prints the wave of each net, and "
-            "reports for each constraint the first place where it may be broken. If it answers `CLEAN`, no run of the "
-            "circuit breaks a constraint from the printed tick on, whatever the inputs do within their assertions."
+            "an assertion on each input. It evaluates one period of the clock, prints the wave of each net, and "
+            "reports for each constraint the first place where it may be broken. If it answers `CLEAN`, no run of "
+            "the circuit in one of the drawing's cases breaks a constraint from the printed tick on, whatever the "
+            "inputs do within their assertions."
         ),
         ".PP",
         marked(
