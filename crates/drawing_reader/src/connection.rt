@@ -9,7 +9,7 @@ ghost use Rattle.drawing_reader.specs.Reader.{tokens_at, ahead, NetAt};
 ghost use Rattle.drawing_grammar.specs.Front.{first_terminal};
 
 use crate::cursor::{Cursor, text_of};
-use crate::signal::signal;
+use crate::signal::{name, signal};
 use assertion_syntax::SignalName;
 use drawing_grammar::{Keyword, Terminal};
 use drawing_tree::{Conn, Conns, Expr, Item, RangeExpr, Term, Terms, WrittenRange};
@@ -61,7 +61,7 @@ impl<'a> Cursor<'a> {
         ensures no_longer { length self.new.rest.now ≤ length self.old.rest.now }
     {
         let token = self.item(Terminal::Name)?;
-        let name = self.name(alloc, token)?;
+        let name = name(alloc, self.text, token)?;
         let range = self.range(alloc)?;
         Ok((name, range))
     }

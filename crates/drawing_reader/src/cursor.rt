@@ -3,7 +3,7 @@
 ghost use Rattle.std.specs.Prelude.{◌≡◌, ◌≢◌, ◌≤◌, ◌<◌, List, [], ◌∷◌, length, OnOk, IfOk, IsTrue, IsFalse, Some, None, slice_range};
 ghost use Rattle.scald_lex.specs.declared.token.TokenKind.TheVariants.{End};
 ghost use Rattle.drawing_grammar.specs.declared.terminal.Terminal.TheVariants.{EndOfText};
-ghost use Rattle.drawing_grammar.specs.Lexeme.{lexeme_of, terminal};
+ghost use Rattle.drawing_grammar.specs.Lexeme.{lexeme_of, lexemes, terminal};
 ghost use Rattle.drawing_grammar.specs.Grammar.{Need, mark, item, keyword as keyword_need};
 ghost use Rattle.drawing_grammar.specs.Machine.{Gives, refusal, no_colon};
 ghost use Rattle.drawing_reader.specs.Reader.{tokens_at, ahead, at, first_token, other_tokens};
@@ -22,16 +22,30 @@ pub struct Cursor<'a> {
     pub operators: usize,
 }
 
+/// The bytes of a text from a place to another, as far as it has them.
+pub fn between<'a>(text: &'a [u8], from: usize, to: usize) -> &'a [u8]
+    ensures { result.now ≡ slice_range text.now from to }
+{
+    let behind = &text[from.min(text.len())..];
+    let count = to.saturating_sub(from).min(behind.len());
+    &behind[..count]
+}
+
 /// The bytes of a token.
 pub fn text_of<'a>(text: &'a [u8], token: Token) -> &'a [u8]
     ensures { result.now ≡ slice_range text.now token.start token.end }
 {
-    let from = (token.start as usize).min(text.len());
-    let behind = &text[from..];
-    let count = (token.end as usize)
-        .saturating_sub(token.start as usize)
-        .min(behind.len());
-    &behind[..count]
+    between(text, token.start as usize, token.end as usize)
+}
+
+/// The bytes of the first of some tokens.
+fn first_text<'a>(text: &'a [u8], tokens: &[PackedToken]) -> &'a [u8]
+    ensures { result.now ≡ first_text (lexemes text.now tokens.now) }
+{
+    match tokens.first() {
+        None => &[],
+        Some(token) => text_of(text, token.token()),
+    }
 }
 
 /// What the grammar takes a token of a text for.
@@ -159,15 +173,6 @@ impl<'a> Cursor<'a> {
         Ok(self.bump())
     }
 
-    fn first_text(&self) -> &[u8]
-        ensures { result.now ≡ first_text (tokens_at self.now) }
-    {
-        match self.rest.first() {
-            None => &[],
-            Some(token) => text_of(self.text, token.token()),
-        }
-    }
-
     /// Whether the next token is this keyword.
     pub fn at_keyword(&self, keyword: Keyword) -> bool
         ensures yes { IsTrue result → AtKeyword keyword (tokens_at self.now) }
@@ -176,7 +181,7 @@ impl<'a> Cursor<'a> {
         if !self.starts(Terminal::Word) {
             return false;
         }
-        self.first_text() == keyword.text()
+        first_text(self.text, self.rest) == keyword.text()
     }
 
     /// Whether no token is left.

@@ -245,18 +245,26 @@ impl<'a> Cursor<'a> {
         }
     }
 
+    /// Whether an operator between factors stands here.
+    fn at_factor_operator(&self) -> bool
+        ensures { IsFalse result → choice Factors (first_terminal (tokens_at self.now)) ≡ None }
+    {
+        matches!(self.look(), Terminal::Star | Terminal::Slash)
+    }
+
+    /// Whether an operator between terms stands here.
+    fn at_term_operator(&self) -> bool
+        ensures { IsFalse result → choice Terms (first_terminal (tokens_at self.now)) ≡ None }
+    {
+        matches!(self.look(), Terminal::Plus | Terminal::Minus)
+    }
+
     /// Whether an operator between the operands of a sum stands here.
     fn at_operator(&self) -> bool
         ensures factors { IsFalse result → choice Factors (first_terminal (tokens_at self.now)) ≡ None }
         ensures terms { IsFalse result → choice Terms (first_terminal (tokens_at self.now)) ≡ None }
     {
-        match self.look() {
-            Terminal::Star => true,
-            Terminal::Slash => true,
-            Terminal::Plus => true,
-            Terminal::Minus => true,
-            _ => false,
-        }
+        self.at_factor_operator() || self.at_term_operator()
     }
 
     /// Takes a number that is all of a sum, as it is of most.

@@ -7,6 +7,7 @@ ghost use Rattle.drawing_grammar.specs.Machine.{Gives};
 ghost use Rattle.drawing_reader.specs.Reader.{ahead};
 
 use crate::cursor::Cursor;
+use crate::signal::name;
 use assertion_syntax::SignalName;
 use drawing_grammar::{Edition, Head, Terminal};
 use drawing_tree::{Assigns, Formal, Formals, MacroDef, MacroDefs, Places};
@@ -32,7 +33,7 @@ impl<'a> Cursor<'a> {
             return Err(self.refused(RefusalKind::Syntax));
         }
         let token = self.bump();
-        let name = self.name(alloc, token)?;
+        let name = name(alloc, self.text, token)?;
         let SignalName {
             base,
             global: _,

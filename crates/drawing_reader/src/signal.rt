@@ -7,7 +7,7 @@ ghost use Rattle.drawing_grammar.specs.Machine.{Gives};
 ghost use Rattle.drawing_reader.specs.Reader.{ahead, at};
 ghost use Rattle.drawing_grammar.specs.Sketch.{blank, unquoted, signal_named};
 
-use crate::cursor::{Cursor, text_of};
+use crate::cursor::{Cursor, between, text_of};
 use assertion_syntax::{NameEnd, SignalName, read_name};
 use drawing_grammar::Terminal;
 use scald_base::{AssertSpec, Bytes, NoMemory, Stop};
@@ -18,9 +18,7 @@ use std::alloc::Global;
 pub fn unquoted<'a>(text: &'a [u8]) -> &'a [u8]
     ensures { result.now ≡ unquoted text.now }
 {
-    let behind = &text[text.len().min(1)..];
-    let count = text.len().saturating_sub(2).min(behind.len());
-    &behind[..count]
+    between(text, 1, text.len().saturating_sub(1))
 }
 
 fn blank(alloc: Global) -> SignalName
@@ -45,15 +43,23 @@ pub fn signal(alloc: Global, text: &[u8]) -> Result<SignalName, Stop>
     }
 }
 
-impl<'a> Cursor<'a> {
-    /// The bytes of a token.
-    pub fn word(&self, alloc: Global, token: Token) -> Result<Bytes, NoMemory>
-        ensures { IfOk result (λ bytes. bytes ≡ slice_range self.now.text.now token.start token.end) }
-    {
-        let bytes = Bytes::of(alloc, text_of(self.text, token))?;
-        Ok(bytes)
-    }
+/// The bytes of a token of a text.
+pub fn word(alloc: Global, text: &[u8], token: Token) -> Result<Bytes, NoMemory>
+    ensures { IfOk result (λ bytes. bytes ≡ slice_range text.now token.start token.end) }
+{
+    let bytes = Bytes::of(alloc, text_of(text, token))?;
+    Ok(bytes)
+}
 
+/// The name of a token of a text.
+pub fn name(alloc: Global, text: &[u8], token: Token) -> Result<SignalName, Stop>
+    ensures is { IfOk result (λ name. name ≡ signal_named (slice_range text.now token.start token.end)) }
+    ensures memory { IfErr result (λ stop. stop ≡ OutOfMemory) }
+{
+    signal(alloc, text_of(text, token))
+}
+
+impl<'a> Cursor<'a> {
     /// Takes a word that has to stand here, and its bytes.
     pub fn next_word(&mut self, alloc: Global) -> Result<(Token, Bytes), Stop>
         ensures reads { (rest : List Need) → Gives result (λ x v.
@@ -63,15 +69,7 @@ impl<'a> Cursor<'a> {
         ensures no_longer { length self.new.rest.now ≤ length self.old.rest.now }
     {
         let token = self.item(Terminal::Word)?;
-        let bytes = self.word(alloc, token)?;
+        let bytes = word(alloc, self.text, token)?;
         Ok((token, bytes))
-    }
-
-    /// The name of a token.
-    pub fn name(&self, alloc: Global, token: Token) -> Result<SignalName, Stop>
-        ensures is { IfOk result (λ name. name ≡ signal_named (slice_range self.now.text.now token.start token.end)) }
-        ensures memory { IfErr result (λ stop. stop ≡ OutOfMemory) }
-    {
-        signal(alloc, text_of(self.text, token))
     }
 }

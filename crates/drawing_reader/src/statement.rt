@@ -4,8 +4,9 @@ ghost use Rattle.std.specs.Prelude.{◌≡◌, ◌≢◌, ◌≤◌, ◌<◌, tr
 ghost use Rattle.drawing_tree.specs.Expression.{expression_of};
 ghost use Rattle.drawing_tree.specs.Tree as tree;
 ghost use Rattle.drawing_tree.specs.Tree.{assignment_of, both_of, written_fall_of, connection_of, use_of, wire_of, statement_of, statements_of, else_of};
-ghost use Rattle.drawing_grammar.specs.Grammar.{Need, fresh, mark, part, group, own_sum, Expr as Whole, Assign as AssignPart, Assigns as AssignsGroup, Parameters, Conns as ConnsGroup, Outputs, Delay as DelayPart, Fall as FallPart, Statement as StatementPart, Statements as StatementsGroup, Otherwise as OtherwisePart};
+ghost use Rattle.drawing_grammar.specs.Grammar.{Need, fresh, mark, keyword, part, group, own_sum, Expr as Whole, Assign as AssignPart, Assigns as AssignsGroup, Parameters, Conns as ConnsGroup, Outputs, Delay as DelayPart, Fall as FallPart, Statement as StatementPart, Statements as StatementsGroup, Otherwise as OtherwisePart};
 ghost use Rattle.std.specs.Prelude.{is_some};
+ghost use Rattle.drawing_grammar.specs.declared.terminal.Keyword.TheVariants.{To, Do};
 ghost use Rattle.drawing_grammar.specs.declared.terminal.Terminal.TheVariants.{EndOfText};
 ghost use Rattle.drawing_grammar.specs.Machine.{Gives, choice};
 ghost use Rattle.drawing_reader.specs.Reader.{tokens_at, ahead, body, DetailsAt, ValuesAt};
@@ -14,6 +15,7 @@ ghost use Rattle.drawing_grammar.specs.declared.edition.Edition.{Edition as Vers
 
 use crate::connection::boxed;
 use crate::cursor::Cursor;
+use crate::signal::word;
 use drawing_grammar::{Edition, Keyword, Terminal};
 use drawing_tree::{
     Assign, Assigns, Conns, Expr, ForStmt, IfStmt, Places, Stmt, Stmts, UseStmt, WireStmt,
@@ -57,7 +59,7 @@ impl<'a> Cursor<'a> {
             return Err(self.refused(RefusalKind::Syntax));
         }
         let token = self.bump();
-        let name = self.word(alloc, token)?;
+        let name = word(alloc, self.text, token)?;
         self.mark(Terminal::Equals)?;
         let value = self.own_sum(alloc)?;
         Ok((Assign { name, value }, token.place))
@@ -191,7 +193,7 @@ impl<'a> Cursor<'a> {
         ensures no_longer { length self.new.rest.now ≤ length self.old.rest.now }
     {
         let token = self.bump();
-        let label = self.word(alloc, token)?;
+        let label = word(alloc, self.text, token)?;
         self.mark(Terminal::Colon)?;
         let (_, kind) = self.next_word(alloc)?;
         let details = self.details(alloc)?;
@@ -249,6 +251,19 @@ impl<'a> Cursor<'a> {
         Ok(())
     }
 
+    /// The first and the last value of the variable of a FOR, and the word DO after them.
+    fn ends(&mut self, alloc: Global) -> Result<(Expr, Expr), Stop>
+        ensures reads { (rest : List Need) → Gives result (λ x v. (expression_of x.0, (expression_of x.1, v)))
+            (ahead self.old (own_sum (keyword To ∷ own_sum (keyword Do ∷ rest)))) (ahead self.new rest) }
+        ensures no_longer { length self.new.rest.now ≤ length self.old.rest.now }
+    {
+        let first = self.own_sum(alloc)?;
+        self.keyword(Keyword::To)?;
+        let last = self.own_sum(alloc)?;
+        self.keyword(Keyword::Do)?;
+        Ok((first, last))
+    }
+
     /// The variable of a FOR, and the first and the last value that it takes.
     fn values(&mut self, alloc: Global) -> Result<(Bytes, Expr, Expr), Stop>
         ensures reads { ValuesAt result self.old self.new }
@@ -256,10 +271,7 @@ impl<'a> Cursor<'a> {
     {
         let (_, var) = self.next_word(alloc)?;
         self.mark(Terminal::Equals)?;
-        let first = self.own_sum(alloc)?;
-        self.keyword(Keyword::To)?;
-        let last = self.own_sum(alloc)?;
-        self.keyword(Keyword::Do)?;
+        let (first, last) = self.ends(alloc)?;
         Ok((var, first, last))
     }
 

@@ -17,27 +17,9 @@ returns-in_err-first-clause-reads c =
     let p = err_from_is_err_and c.from_residual-in_err-first.result c.from_residual-in_err-first.ensures.1 in
     rw (p.1, p.2) (λ rest. stops (moves (c.in_ok-var.ensures.reads _) (c.in_ok-mark.ensures.reads _)) (c.in_err-first.ensures.reads _))
 
-pub returns-in_err-keyword-clause-reads : goal.returns-in_err-keyword-clause-reads
-returns-in_err-keyword-clause-reads c =
-    let p = err_from_is_err_and c.from_residual-in_err-keyword.result c.from_residual-in_err-keyword.ensures.1 in
-    rw (p.1, p.2) (λ rest. stops (moves (moves (c.in_ok-var.ensures.reads _) (c.in_ok-mark.ensures.reads _)) (c.in_ok-first.ensures.reads _)) (c.in_err-keyword.ensures.reads _))
-
-pub returns-in_err-last-clause-reads : goal.returns-in_err-last-clause-reads
-returns-in_err-last-clause-reads c =
-    let p = err_from_is_err_and c.from_residual-in_err-last.result c.from_residual-in_err-last.ensures.1 in
-    rw (p.1, p.2) (λ rest. stops (moves (moves (moves (c.in_ok-var.ensures.reads _) (c.in_ok-mark.ensures.reads _)) (c.in_ok-first.ensures.reads _))
-    (c.in_ok-keyword.ensures.reads _)) (c.in_err-last.ensures.reads _))
-
-pub returns-in_err-keyword-2-clause-reads : goal.returns-in_err-keyword-2-clause-reads
-returns-in_err-keyword-2-clause-reads c =
-    let p = err_from_is_err_and c.from_residual-in_err-keyword-2.result c.from_residual-in_err-keyword-2.ensures.1 in
-    rw (p.1, p.2) (λ rest. stops (moves (moves (moves (moves (c.in_ok-var.ensures.reads _) (c.in_ok-mark.ensures.reads _)) (c.in_ok-first.ensures.reads _)) (c.in_ok-keyword.ensures.reads _))
-    (c.in_ok-last.ensures.reads _)) (c.in_err-keyword-2.ensures.reads _))
-
 pub returns-clause-reads : goal.returns-clause-reads
 returns-clause-reads c = (
   _,
   c.in_ok-var.ensures.text,
-  λ rest. moves (moves (moves (moves (moves (c.in_ok-var.ensures.reads _) (c.in_ok-mark.ensures.reads _)) (c.in_ok-first.ensures.reads _)) (c.in_ok-keyword.ensures.reads _))
-      (c.in_ok-last.ensures.reads _)) (c.in_ok-keyword-2.ensures.reads _),
+  λ rest. moves (moves (c.in_ok-var.ensures.reads _) (c.in_ok-mark.ensures.reads _)) (c.in_ok-first.ensures.reads _),
 )
