@@ -3,8 +3,8 @@
 ghost use Rattle.std.specs.Prelude.{◌≡◌, ◌++◌, OnOk, IfOk, option_map, map, codes};
 ghost use Rattle.drawing_tree.specs.Expression.{expression_of};
 ghost use Rattle.drawing_tree.specs.Tree.{assignment_of, connection_of, both_of, written_fall_of, use_of, wire_of, statement_of, statements_of, if_of, for_of};
-ghost use Rattle.drawing_tree.specs.ExpressionText.{condition_text};
-ghost use Rattle.drawing_tree.specs.Canonical.{for_text, assignment_text, params_text, fall_text, delay_text, connection_text, inputs_text, outputs_text, use_head, use_text, wire_text, line, deeper, statement_lines, statements_lines};
+ghost use Rattle.drawing_tree.specs.ExpressionText.{condition_text, sum_text};
+ghost use Rattle.drawing_tree.specs.Canonical.{bounds_text, for_text, assignment_text, params_text, fall_text, delay_text, connection_text, inputs_text, outputs_text, use_head, use_text, wire_text, line, deeper, statement_lines, statements_lines};
 
 use crate::Expr;
 use crate::connection::Conn;
@@ -33,15 +33,23 @@ pub fn add_params(alloc: Global, out: &mut Bytes, params: &[Assign]) -> Result<(
     add_bracketed_if_some(alloc, out, b" {", b"}", params)
 }
 
+/// Puts a comma and the bounds of a delay at the end.
+fn add_more_bounds(out: &mut Bytes, bounds: &(Expr, Expr)) -> Result<(), NoMemory>
+    ensures { OnOk result (out.new ≡ out.old
+        ++ (codes ", " ++ bounds_text (expression_of bounds.now.0) (expression_of bounds.now.1))) }
+{
+    out.extend(b", ")?;
+    add_bounds(out, &bounds.0, &bounds.1)
+}
+
 /// Puts a comma and the delay of falls at the end, where there is one.
 fn add_fall(out: &mut Bytes, fall: &Option<Box<(Expr, Expr)>>) -> Result<(), NoMemory>
     ensures { OnOk result (out.new ≡ out.old ++ fall_text (written_fall_of fall.now)) }
 {
-    let Some(fall) = fall else {
-        return Ok(());
-    };
-    out.extend(b", ")?;
-    add_bounds(out, &fall.0, &fall.1)
+    match fall {
+        None => Ok(()),
+        Some(bounds) => add_more_bounds(out, bounds),
+    }
 }
 
 /// Puts the delay, or the delays, of a use in brackets at the end, where there is one.
@@ -152,6 +160,17 @@ fn add_if_line(out: &mut Bytes, margin: &[u8], test: &Expr) -> Result<(), NoMemo
     out.extend(b" THEN\n")
 }
 
+/// Puts the values that the variable of a FOR takes at the end.
+fn add_for_values(out: &mut Bytes, first: &Expr, last: &Expr) -> Result<(), NoMemory>
+    ensures { OnOk result (out.new ≡ out.old
+        ++ (sum_text (expression_of first.now) ++ codes " TO " ++ sum_text (expression_of last.now) ++ codes " DO")) }
+{
+    add_sum(out, first)?;
+    out.extend(b" TO ")?;
+    add_sum(out, last)?;
+    out.extend(b" DO")
+}
+
 /// Puts what stands in the first line of a FOR at the end.
 fn add_for_head(out: &mut Bytes, repeated: &ForStmt) -> Result<(), NoMemory>
     ensures { OnOk result (out.new ≡ out.old
@@ -160,10 +179,7 @@ fn add_for_head(out: &mut Bytes, repeated: &ForStmt) -> Result<(), NoMemory>
     out.extend(b"FOR ")?;
     out.extend(repeated.var.as_slice())?;
     out.extend(b" = ")?;
-    add_sum(out, &repeated.first)?;
-    out.extend(b" TO ")?;
-    add_sum(out, &repeated.last)?;
-    out.extend(b" DO")
+    add_for_values(out, &repeated.first, &repeated.last)
 }
 
 /// Puts the first line of a FOR at the end.
