@@ -1,13 +1,14 @@
 //! What is said of the bits of names: of widths that differ, and of ranges.
 
-use crate::lines::{Lines, Part};
+use crate::lines::Lines;
+use crate::lines::Part::Number;
 use crate::statement::Span;
 use crate::text::Text;
 use crate::uses::add_over;
 use element_kinds::{Kind, kind_named};
 
 /// The most connections whose widths are told, and the most names that are looked at.
-const MOST: u64 = 16;
+const MOST: usize = 16;
 
 const MOST_TOKENS: usize = 256;
 
@@ -16,15 +17,17 @@ const LAST_BIT: u64 = 65535;
 
 const MOST_BITS: u64 = 256;
 
-// ---- widths
-
-/// How many bits a connection has, where that can be read.
-fn width_of(text: &Text, connection: Span) -> Option<u64> {
+/// How many bits a connection has in a macro with this head, where that can be read.
+fn width_of(text: &Text, head: Span, connection: Span) -> Option<u64> {
     let mut width: u64 = 0;
+    if MOST_TOKENS < connection.to.saturating_sub(connection.from) {
+        return None;
+    }
     for i in connection.from..connection.to {
         if text.is_name(i) {
-            width = width.saturating_add(text.width(i)?);
-        } else if text.is(i, b"ZERO") || text.is(i, b"ONE") {
+            let (first, last) = text.bits(head, i)?;
+            width = width.saturating_add(first.abs_diff(last)).saturating_add(1);
+        } else if text.is_any(i, &[b"ZERO", b"ONE"]) {
             width = width.saturating_add(1);
         }
     }
@@ -32,41 +35,40 @@ fn width_of(text: &Text, connection: Span) -> Option<u64> {
 }
 
 /// The widths of connections, with a `?` where one cannot be read.
-fn add_widths(out: &mut Lines, text: &Text, list: Span) {
-    let count = text.count(list);
-    for number in 0..count.min(MOST) {
-        if number != 0 {
-            out.put(b", ");
+fn add_widths(out: &mut Lines, text: &Text, head: Span, list: Span) {
+    let mut rest = list;
+    for number in 0..MOST {
+        if rest.is_empty() {
+            return;
         }
-        match width_of(text, text.item(list, number)) {
-            Some(width) => out.add(&[Part::Number(width)]),
+        let (connection, others) = text.split(rest);
+        out.put(if number == 0 { b"" } else { b", " });
+        match width_of(text, head, connection) {
+            Some(width) => out.add(&[Number(width)]),
             None => out.put(b"?"),
         }
+        rest = others;
     }
-    if MOST < count {
+    if !rest.is_empty() {
         out.put(b", ..");
     }
 }
 
 /// The widths of the connections of a use, or of the formals of a head.
-fn add_bits(out: &mut Lines, text: &Text, what: &[u8], label: usize) {
+fn add_bits(out: &mut Lines, text: &Text, label: usize) {
     let used = text.use_at(label);
-    out.add(&[
-        Part::Text(b"    bits of the "),
-        Part::Text(what),
-        Part::Text(b": "),
-    ]);
-    add_widths(out, text, used.inputs);
+    let head = text.macro_head(used.kind);
+    add_widths(out, text, head, used.inputs);
     if !used.outputs.is_empty() {
         out.put(b" -> ");
-        add_widths(out, text, used.outputs);
+        add_widths(out, text, head, used.outputs);
     }
     out.put(b"\n");
 }
 
 /// How wide the connections of a kind are, or of a macro.
-fn width_rule(kind: Option<Kind>) -> &'static [u8] {
-    match kind {
+fn add_rule(out: &mut Lines, kind: Option<Kind>) {
+    out.note(match kind {
         None =>
             b"each connection is as wide as its formal; an input may have one bit for all instead",
         Some(Kind::Chg) =>
@@ -74,18 +76,20 @@ fn width_rule(kind: Option<Kind>) -> &'static [u8] {
         Some(kind) if kind.has_output() =>
             b"each connection is as wide as the output, or has one bit for all",
         Some(_) => b"each connection is as wide as the widest, or has one bit for all",
-    }
+    });
 }
 
 /// Which widths the connections of a use have, and which they should have.
 pub fn add_width(out: &mut Lines, text: &Text, label: usize) {
     let name = text.word(label.saturating_add(2));
     let kind = kind_named(name);
-    add_bits(out, text, b"connections", label);
+    out.put(b"    bits of the connections: ");
+    add_bits(out, text, label);
     if let (None, Some(head)) = (kind, text.macro_named(name)) {
-        add_bits(out, text, b"formals", head.saturating_sub(1));
+        out.put(b"    bits of the formals: ");
+        add_bits(out, text, head.saturating_sub(1));
     }
-    out.note(width_rule(kind));
+    add_rule(out, kind);
     add_quotient(out, text, label);
     out.note(
         b"a name without a range is its bit 0 alone, and a formal without one is all of its bits",
@@ -94,66 +98,50 @@ pub fn add_width(out: &mut Lines, text: &Text, label: usize) {
 
 /// That a size may not divide, where a statement divides.
 fn add_quotient(out: &mut Lines, text: &Text, start: usize) {
-    if (start..text.end_of(start)).any(|i| text.is(i, b"/")) {
-        out.note(
-            b"a / rounds towards zero, so parts of a size that does not divide are not as wide as it",
-        );
-    }
-}
-
-// ---- ranges
-
-/// What is wrong with the bits of a name that is no formal.
-fn add_wrong_bits(out: &mut Lines, first: u64, last: u64) -> bool {
-    let most = first.max(last);
-    if LAST_BIT < most {
-        add_over(out, most, LAST_BIT);
-    } else if MOST_BITS <= first.abs_diff(last) {
-        add_over(out, first.abs_diff(last).saturating_add(1), MOST_BITS);
-    }
-    LAST_BIT < most || MOST_BITS <= first.abs_diff(last)
-}
-
-/// That a name has bits that its formal has not.
-fn add_formal(out: &mut Lines, text: &Text, i: usize, bits: (u64, u64)) -> bool {
-    let Some(formal) = text.formal(i, text.base(i)) else {
-        return false;
-    };
-    let Some((first, last)) = text.bits(formal) else {
-        return false;
-    };
-    let (least, most) = (first.min(last), first.max(last));
-    if least <= bits.0.min(bits.1) && bits.0.max(bits.1) <= most {
-        return false;
-    }
-    out.line(&[
-        Part::Text(b"    the formal "),
-        Part::Shown(text.word(i)),
-        Part::Text(b" has the bits "),
-        Part::Number(least),
-        Part::Text(b" to "),
-        Part::Number(most),
-        Part::Text(b", by its head at "),
-        Part::At(text.token(formal).place),
-    ]);
-    true
-}
-
-/// What is wrong with a name's range, where it is written in digits; whether something is.
-fn add_name(out: &mut Lines, text: &Text, i: usize) -> bool {
-    match text.bits(i) {
-        Some((first, last)) => {
-            add_formal(out, text, i, (first, last)) || add_wrong_bits(out, first, last)
+    for i in start..text.end_of(start) {
+        if text.symbol(i) == b'/' {
+            return out.note(
+                b"a / rounds towards zero, so parts of a size that does not divide are not as wide as it",
+            );
         }
-        None => false,
     }
+}
+
+/// What is wrong with the range of a name, where that is written in digits; whether something is.
+fn add_name(out: &mut Lines, text: &Text, head: Span, i: usize) -> bool {
+    let Some((first, last)) = text.bits(head, i) else {
+        return false;
+    };
+    let [least, most] = [first.min(last), first.max(last)];
+    let bits = (most - least).saturating_add(1);
+    let formal = text.formal(head, i).unwrap_or(i);
+    let (a, b) = text.bits(head, formal).unwrap_or((least, most));
+    if least < a.min(b) || a.max(b) < most {
+        out.tell(
+            b"the formal % has the bits % to %, by its head at %",
+            &[
+                text.shown(i),
+                Number(a.min(b)),
+                Number(a.max(b)),
+                text.at(formal),
+            ],
+        );
+    } else if LAST_BIT < most {
+        add_over(out, most, LAST_BIT);
+    } else if MOST_BITS < bits {
+        add_over(out, bits, MOST_BITS);
+    } else {
+        return false;
+    }
+    true
 }
 
 /// What is wrong with a range of a statement.
 pub fn add_range(out: &mut Lines, text: &Text, start: usize) {
     let end = text.end_of(start);
+    let head = text.macro_head(start);
     for i in start..end.min(start.saturating_add(MOST_TOKENS)) {
-        if text.is_name(i) && add_name(out, text, i) {
+        if text.is_name(i) && add_name(out, text, head, i) {
             return;
         }
     }

@@ -1,19 +1,17 @@
 //! What is said of an entry of a CASE.
 
 use crate::first::is_asserting;
-use crate::lines::{Lines, Part};
+use crate::lines::Lines;
+use crate::lines::Part::{Number, Quoted, Shown};
 use crate::near::is_near;
 use crate::text::Text;
-use scald_lex::TokenKind;
 
 /// The bit of an entry, and the token after it.
 fn bit_of(text: &Text, i: usize) -> (u64, usize) {
     let next = i.saturating_add(1);
-    if text.is(next, b"<") {
-        (
-            text.number(next.saturating_add(1)).unwrap_or(0),
-            next.saturating_add(3),
-        )
+    let digits = next.saturating_add(1);
+    if text.symbol(next) == b'<' {
+        (text.number(digits).unwrap_or(0), digits.saturating_add(2))
     } else {
         (0, next)
     }
@@ -21,42 +19,13 @@ fn bit_of(text: &Text, i: usize) -> (u64, usize) {
 
 /// The entry of the same bit before this one in the same CASE.
 fn before(text: &Text, i: usize) -> Option<usize> {
-    (text.start_of(i)..i).find(|j| text.is_name(*j)
-        && text.base(*j) == text.base(i)
-        && bit_of(text, *j).0 == bit_of(text, i).0)
-}
-
-/// Whether a token of the drawing, or of all bodies if the base is global, names a net of a base.
-fn is_net(text: &Text, i: usize, drawing: usize, base: &[u8]) -> bool {
-    text.is_name(i) && (drawing < i || base.first() == Some(&b'/'))
-}
-
-/// That a name of the drawing says something else of the net than a case does; whether one does.
-fn add_site(out: &mut Lines, text: &Text, case: usize, base: &[u8]) -> bool {
-    let drawing = text.head_of(case);
-    let mut is_output = false;
-    for j in 0..text.start_of(case) {
-        if text.ends_statement(j) {
-            is_output = false;
-        } else if matches!(text.token(j).kind, TokenKind::Arrow) {
-            is_output = true;
-        }
-        if is_net(text, j, drawing, base)
-            && text.base(j) == base
-            && (is_output || is_clock(text, j))
-        {
-            out.line(&[
-                Part::Text(if is_output {
-                    b"    it is an output, at "
-                } else {
-                    b"    it is a clock, at "
-                }),
-                Part::At(text.token(j).place),
-            ]);
-            return true;
+    for j in text.start_of(i)..i {
+        let is_same = text.is_name(j) && text.base(j) == text.base(i);
+        if is_same && bit_of(text, j).0 == bit_of(text, i).0 {
+            return Some(j);
         }
     }
-    false
+    None
 }
 
 /// Whether a name asserts a clock.
@@ -65,52 +34,59 @@ fn is_clock(text: &Text, i: usize) -> bool {
     is_asserting(text, i) && letter != Some(&b'S')
 }
 
-/// That no statement names a net, and which may be meant.
-fn add_absent(out: &mut Lines, text: &Text, case: usize, base: &[u8]) {
-    let drawing = text.head_of(case);
-    let names = drawing..text.start_of(case);
+/// What the names of the drawing, or of all bodies if the base is global, say of a net that a case may not set:
+/// that it is an output or a clock, or that it is not named, and which net may be meant.
+fn add_site(out: &mut Lines, text: &Text, i: usize) {
+    let scope = text.scope_of(i);
+    let base = text.base(i);
+    let mut is_output = false;
+    let mut is_named = false;
     let mut meant = None;
-    for j in names {
-        if text.is_name(j) && text.base(j) == base {
-            return;
+    for j in scope.from..text.start_of(i) {
+        if text.ends_statement(j) {
+            is_output = false;
+        } else if text.is_arrow(j) {
+            is_output = true;
         }
-        if meant.is_none() && text.is_name(j) && is_near(base, text.base(j)) {
-            meant = Some(text.base(j));
+        if !text.is_name(j) {
+            continue;
+        }
+        let place = [text.at(j)];
+        let is_net = text.base(j) == base;
+        if is_net && is_output {
+            return out.tell(b"it is an output, at %", &place);
+        }
+        if is_net && is_clock(text, j) {
+            return out.tell(b"it is a clock, at %", &place);
+        }
+        is_named = is_named || is_net;
+        if meant.is_none() && is_near(base, text.base(j)) {
+            meant = Some(j);
         }
     }
-    out.add(&[
-        Part::Text(b"    no statement of the drawing names "),
-        Part::Quoted(base),
-    ]);
-    match meant {
-        Some(meant) => out.line(&[
-            Part::Text(b": is "),
-            Part::Shown(meant),
-            Part::Text(b" meant?"),
-        ]),
-        None => out.put(b"\n"),
+    if is_named {
+        return;
     }
+    out.fill(b"    no statement of the drawing names %", &[Quoted(base)]);
+    if let Some(meant) = meant {
+        out.fill(b": is % meant?", &[Shown(text.base(meant))]);
+    }
+    out.put(b"\n");
 }
 
 /// Why a case may not set a net so.
 pub fn add_entry(out: &mut Lines, text: &Text, i: usize) {
-    let base = text.base(i);
-    let (_, equals) = bit_of(text, i);
+    let equals = bit_of(text, i).1;
     let value = text.number(equals.saturating_add(1)).unwrap_or(0);
     if is_asserting(text, i) {
         out.note(b"in a CASE a name stands without its assertion");
     } else if 1 < value {
-        out.line(&[
-            Part::Text(b"    a net is set to 0 or to 1, and not to "),
-            Part::Number(value),
-        ]);
+        out.tell(b"a net is set to 0 or to 1, and not to %", &[Number(value)]);
     } else if let Some(other) = before(text, i) {
-        out.line(&[
-            Part::Text(b"    this CASE sets it before, at "),
-            Part::At(text.token(other).place),
-        ]);
-    } else if !add_site(out, text, i, base) {
-        add_absent(out, text, i, base);
+        let place = text.at(other);
+        out.tell(b"this CASE sets it before, at %", &[place]);
+    } else {
+        add_site(out, text, i);
     }
     out.note(
         b"a case sets nets that nothing drives and that assert .S or nothing; inside macros only global ones",

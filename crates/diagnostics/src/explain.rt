@@ -5,9 +5,9 @@ use crate::case::add_entry;
 use crate::first::{add_clash, add_double, add_drivers};
 use crate::header::add_header;
 use crate::known::add_unknown_name;
-use crate::lines::{Lines, Part};
+use crate::lines::Lines;
+use crate::lines::Part::{At, Number, Quoted, Shown};
 use crate::naming::{add_name, add_overlap};
-use crate::reached::add_uses;
 use crate::sentence::sentence;
 use crate::syntax::add_syntax;
 use crate::text::{Text, tokens_of};
@@ -20,25 +20,23 @@ use std::alloc::Global;
 /// mark under the place, and what may help.
 pub fn explain_refusal(alloc: Global, bytes: &[u8], refusal: Refusal) -> Lines {
     let mut out = Lines::new(alloc);
-    out.line(&[
-        Part::Text(b"scald: "),
-        Part::At(refusal.place),
-        Part::Text(b": "),
-        Part::Text(sentence(refusal.kind)),
-    ]);
+    out.fill(
+        b"scald: %: %\n",
+        &[At(refusal.place), Shown(sentence(refusal.kind))],
+    );
     out.mark(bytes, refusal.place);
     let list = tokens_of(alloc, bytes);
-    let text = Text {
-        bytes,
-        tokens: list.as_slice(),
-    };
+    let tokens = list.as_slice();
+    let text = Text { bytes, tokens };
     match refusal.kind {
         RefusalKind::BadByte => add_byte(&mut out, bytes, refusal.place),
         RefusalKind::BadToken => add_token(&mut out, bytes, refusal.place),
         kind => {
-            if let Some(i) = text.index_of(refusal.place) {
-                add_help(&mut out, &text, kind, i);
-                add_uses(&mut out, &text, kind, i);
+            for i in 0..tokens.len() {
+                if text.place(i) == refusal.place {
+                    add_help(&mut out, &text, kind, i);
+                    return out;
+                }
             }
         }
     }
@@ -52,8 +50,20 @@ fn add_help(out: &mut Lines, text: &Text, kind: RefusalKind, i: usize) {
         RefusalKind::Syntax => add_syntax(out, text, i),
         RefusalKind::BadHeader => add_header(out, text, i),
         RefusalKind::DoubleName => add_double(out, text, i),
-        RefusalKind::UnknownKind => add_unknown_kind(out, text, i),
         RefusalKind::BadName => add_name(out, text, i),
+        RefusalKind::EdgesOverlap => add_overlap(out),
+        RefusalKind::CaseNet => add_entry(out, text, i),
+        _ => {
+            add_expanded(out, text, kind, i);
+            add_uses(out, text, i);
+        }
+    }
+}
+
+/// The same of a kind that comes from the expansion.
+fn add_expanded(out: &mut Lines, text: &Text, kind: RefusalKind, i: usize) {
+    match kind {
+        RefusalKind::UnknownKind => add_unknown_kind(out, text, i),
         RefusalKind::AssertionClash => add_clash(out, text, i),
         RefusalKind::BadParameter => add_parameter(out, text, i),
         RefusalKind::Overflow => {
@@ -63,35 +73,68 @@ fn add_help(out: &mut Lines, text: &Text, kind: RefusalKind, i: usize) {
         RefusalKind::Width => add_width(out, text, i),
         RefusalKind::PinCount => add_connections(out, text, i),
         RefusalKind::Bounds => add_bounds(out, text, i),
-        RefusalKind::TooDeep => out.note(too_deep(text, i)),
-        RefusalKind::TooMany => out.note(too_many(text, i)),
+        RefusalKind::TooDeep => add_nested(out, text, i),
+        RefusalKind::TooMany if text.is(i, b"CASE") => {
+            out.note(b"a drawing has at most 256 cases, and this is one more")
+        }
+        RefusalKind::TooMany => out.note(
+            b"at most 65536 bits each of nets, elements and checkers, 1048576 pins and 262144 statements are reached",
+        ),
         RefusalKind::TwoDrivers => add_drivers(out, text, i),
         RefusalKind::ZeroLoop => out.note(
             b"give an element of the loop, or the wire of a net of it, a least delay of 1",
         ),
-        RefusalKind::CaseNet => add_entry(out, text, i),
-        RefusalKind::EdgesOverlap => add_overlap(out),
         RefusalKind::ZeroDivisor => out.note(b"what stands after a / has the value 0 here"),
         RefusalKind::UnknownName => add_unknown_name(out, text, i),
+        _ => {}
     }
 }
 
 /// What is nested too deep at a token.
-fn too_deep(text: &Text, i: usize) -> &'static [u8] {
-    if text.is_word(i) && text.is(i.saturating_add(1), b":") {
-        b"at most 64 uses of macros may be inside one another, and this is one more"
+fn add_nested(out: &mut Lines, text: &Text, i: usize) {
+    if text.symbol(i.saturating_add(1)) == b':' {
+        out.note(b"at most 64 uses of macros may be inside one another, and this is one more");
     } else if text.is_word(i) {
-        b"at most 64 IFs and FORs may be inside one another, and this is one more"
+        out.note(b"at most 64 IFs and FORs may be inside one another, and this is one more");
     } else {
-        b"an expression has at most 64 operators, and at most 64 parentheses and minus signs are open at once"
+        out.note(
+            b"an expression has at most 64 operators, and at most 64 parentheses and minus signs are open at once",
+        );
     }
 }
 
-/// Of what there is one too many at a statement.
-fn too_many(text: &Text, i: usize) -> &'static [u8] {
-    if text.is(i, b"CASE") {
-        b"a drawing has at most 256 cases, and this is one more"
-    } else {
-        b"at most 65536 bits each of nets, elements and checkers, 1048576 pins and 262144 statements are reached"
+/// Whether a token is the kind of a use of a macro.
+fn is_use(text: &Text, i: usize, name: &[u8]) -> bool {
+    let next = i.saturating_add(1);
+    text.is(i, name)
+        && text.symbol(i.saturating_sub(1)) == b':'
+        && matches!(text.symbol(next), b'(' | b'{' | b'[')
+}
+
+/// How often the macro of a token is used, and where first: one of these uses leads to what is refused.
+pub fn add_uses(out: &mut Lines, text: &Text, i: usize) {
+    let head = text.head_of(i);
+    let name = text.word(head.saturating_add(1));
+    let mut count: u64 = 0;
+    let mut first = 0;
+    if !text.is(head, b"MACRO") {
+        return;
     }
+    for j in 0..text.tokens.len() {
+        if is_use(text, j, name) {
+            first = if count == 0 { j } else { first };
+            count = count.saturating_add(1);
+        }
+    }
+    let place = text.place(first.saturating_sub(2));
+    let parts = [Quoted(name), At(place)];
+    match count {
+        0 => return,
+        1 => out.tell(b"% is used at %:", &parts),
+        _ => {
+            let parts = [Quoted(name), Number(count), At(place)];
+            out.tell(b"% is used % times, first at %:", &parts);
+        }
+    }
+    out.mark(text.bytes, place);
 }

@@ -1,11 +1,9 @@
 //! What is said of a number of the header.
 
-use crate::lines::{Lines, Part};
+use crate::lines::Lines;
+use crate::lines::Part::Number;
 use crate::text::Text;
-use crate::uses::add_over;
-
-/// The greatest delay and skew.
-const MOST_DELAY: u64 = 4095;
+use crate::uses::{MOST_DELAY, add_over, add_pair};
 
 /// What is wrong with a period.
 fn add_period(out: &mut Lines, units: u64, ticks: u64) {
@@ -13,15 +11,10 @@ fn add_period(out: &mut Lines, units: u64, ticks: u64) {
         b"CLOCK u x k has u and k of at least 1, and a period of u times k ticks, from 2 to 4096",
     );
     if let Some(period) = units.checked_mul(ticks) {
-        out.line(&[
-            Part::Text(b"    "),
-            Part::Number(units),
-            Part::Text(b" x "),
-            Part::Number(ticks),
-            Part::Text(b" is "),
-            Part::Number(period),
-            Part::Text(b" ticks"),
-        ]);
+        out.tell(
+            b"% x % is % ticks",
+            &[Number(units), Number(ticks), Number(period)],
+        );
     }
 }
 
@@ -33,13 +26,8 @@ pub fn add_header(out: &mut Lines, text: &Text, i: usize) {
         out.note(b"the version is 1 or 2");
     } else if text.is(i, b"CLOCK") {
         add_period(out, first, second);
-    } else if text.is(i, b"WIRE") && second < first {
-        out.line(&[
-            Part::Text(b"    the least, "),
-            Part::Number(first),
-            Part::Text(b", is more than the greatest, "),
-            Part::Number(second),
-        ]);
+    } else if text.is(i, b"WIRE") {
+        add_pair(out, Some((first, second)), MOST_DELAY);
     } else {
         add_over(out, first.max(second), MOST_DELAY);
     }

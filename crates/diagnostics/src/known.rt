@@ -1,12 +1,15 @@
 //! What is said of a name of an expression that means nothing.
 
-use crate::lines::{Lines, Part};
+use crate::lines::Lines;
+use crate::lines::Part::Quoted;
 use crate::near::Likeness;
-use crate::statement::Span;
 use crate::text::Text;
 
 /// The most words of a statement that are looked up.
 const MOST: usize = 64;
+
+/// The most statements that a statement is inside of.
+const DEEPEST: usize = 65;
 
 /// Words of the grammar that may stand among names of expressions.
 const NO_NAMES: [&[u8]; 8] = [
@@ -17,109 +20,67 @@ const NO_NAMES: [&[u8]; 8] = [
 fn is_used(text: &Text, i: usize) -> bool {
     text.is_word(i)
         && !text.is_given(i)
-        && !text.is(i.saturating_sub(1), b"!")
-        && !NO_NAMES.iter().any(|word| text.is(i, word))
+        && text.symbol(i.saturating_sub(1)) != b'!'
+        && !text.is_any(i, &NO_NAMES)
 }
 
-/// The first constant before a statement, or parameter in the head of its macro, that a word is like.
-fn declared<'a>(
-    text: &Text<'a>,
-    start: usize,
-    likeness: Likeness,
-    word: &[u8],
-) -> Option<&'a [u8]> {
-    let head = text.head_of(start);
-    let end = text.end_of(head);
-    for i in 0..start {
-        let is_declared = text.is(i.saturating_sub(1), b"CONST")
-            || text.is_given(i) && head < i && i < end;
+/// The name that a word is like of the constants before a statement, of the parameters in the head of its macro
+/// and of the variables of the FORs around it: the number of its token.
+fn known(text: &Text, start: usize, likeness: Likeness, word: &[u8]) -> Option<usize> {
+    let head = text.macro_head(start);
+    for i in 1..start {
+        let is_declared = text.is(i - 1, b"CONST")
+            || head.from < i && i < head.to && text.is_given(i);
         if is_declared && likeness.holds(word, text.word(i)) {
-            return Some(text.word(i));
+            return Some(i);
+        }
+    }
+    let mut inner = start;
+    for _level in 0..DEEPEST {
+        inner = text.open_before(inner)?;
+        let name = inner.saturating_add(1);
+        if text.is(inner, b"FOR") && likeness.holds(word, text.word(name)) {
+            return Some(name);
         }
     }
     None
 }
 
-/// The variable of a FOR around a statement that a word is like.
-fn variable<'a>(
-    text: &Text<'a>,
-    start: usize,
-    likeness: Likeness,
-    word: &[u8],
-) -> Option<&'a [u8]> {
-    let mut ends: usize = 0;
-    for i in (0..start).rev() {
-        if text.is(i, b"END") {
-            ends = ends.saturating_add(1);
-        } else if text.opens(i) {
-            let name = text.word(i.saturating_add(1));
-            if ends == 0 && text.is(i, b"FOR") && likeness.holds(word, name) {
-                return Some(name);
-            }
-            ends = ends.saturating_sub(1);
+/// That a word is known nowhere here, and which may be meant.
+fn add_unknown(out: &mut Lines, text: &Text, start: usize, word: &[u8]) {
+    out.tell(
+        b"% is no constant declared before, no parameter of the macro and no variable of a FOR around it",
+        &[Quoted(word)],
+    );
+    if let Some(meant) = known(text, start, Likeness::Edit, word) {
+        out.tell(b"is % meant?", &[text.shown(meant)]);
+    }
+    for i in start..text.tokens.len() {
+        if text.is(i, word) && text.is(i.saturating_sub(1), b"CONST") {
+            let place = text.at(i);
+            return out.tell(b"a constant of this name is declared later, at %", &[place]);
         }
     }
-    None
 }
 
-/// The name that is known in a statement that a word is like.
-fn known<'a>(text: &Text<'a>, start: usize, likeness: Likeness, word: &[u8]) -> Option<&'a [u8]> {
-    declared(text, start, likeness, word).or(variable(text, start, likeness, word))
-}
-
-/// The tokens of a statement in which names of expressions stand.
-fn expressions(text: &Text, start: usize) -> Span {
-    let to = (start..text.tokens.len())
-        .find(|j| text.ends_statement(*j))
-        .unwrap_or(text.tokens.len());
-    let skipped: usize = if text.is(start, b"IF") || text.is(start, b"WIRE") {
+/// Which name of a statement is not known there.
+pub fn add_unknown_name(out: &mut Lines, text: &Text, start: usize) {
+    // (the words that a statement begins with are no names of an expression)
+    let skipped = if text.is_any(start, &[b"IF", b"WIRE"]) {
         1
     } else if text.is(start, b"FOR") && text.opens(start) {
         2
     } else {
         3
     };
-    Span {
-        from: start.saturating_add(skipped),
-        to,
-    }
-}
-
-/// Where a constant of this name is declared.
-fn constant<'a>(text: &Text, word: &'a [u8]) -> Option<usize> {
-    (0..text.tokens.len()).find(|i| text.is(*i, word) && text.is(i.saturating_sub(1), b"CONST"))
-}
-
-/// That a word is known nowhere here, and which may be meant.
-fn add_unknown(out: &mut Lines, text: &Text, start: usize, word: &[u8]) {
-    out.line(&[
-        Part::Text(b"    "),
-        Part::Quoted(word),
-        Part::Text(
-            b" is no constant declared before, no parameter of the macro and no variable of a FOR around it",
-        ),
-    ]);
-    if let Some(meant) = known(text, start, Likeness::Edit, word) {
-        out.line(&[
-            Part::Text(b"    is "),
-            Part::Shown(meant),
-            Part::Text(b" meant?"),
-        ]);
-    }
-    if let Some(later) = constant(text, word) {
-        out.line(&[
-            Part::Text(b"    a constant of this name is declared later, at "),
-            Part::At(text.token(later).place),
-        ]);
-    }
-}
-
-/// Which name of a statement is not known there.
-pub fn add_unknown_name(out: &mut Lines, text: &Text, start: usize) {
-    let span = expressions(text, start);
-    for i in span.from..span.to.min(span.from.saturating_add(MOST)) {
-        if is_used(text, i) && known(text, start, Likeness::Whole, text.word(i)).is_none() {
-            return add_unknown(out, text, start, text.word(i));
+    let from = start.saturating_add(skipped);
+    for i in from..from.saturating_add(MOST) {
+        if text.ends_statement(i) {
+            break;
+        }
+        let word = text.word(i);
+        if is_used(text, i) && known(text, start, Likeness::Whole, word).is_none() {
+            return add_unknown(out, text, start, word);
         }
     }
     out.note(

@@ -25,7 +25,6 @@ mod foreign;
 mod header;
 mod known;
 mod naming;
-mod reached;
 mod sentence;
 mod syntax;
 mod token;

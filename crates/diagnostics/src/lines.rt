@@ -39,15 +39,6 @@ pub struct Lines {
     failed: bool,
 }
 
-/// A byte as a terminal can show it: blanks as a space, and what is not printable as `?`.
-fn printable(byte: u8) -> u8 {
-    match byte {
-        b' '..=b'~' => byte,
-        b'\t' | b'\r' => b' ',
-        _ => b'?',
-    }
-}
-
 impl Lines {
     /// No lines yet.
     pub fn new(alloc: Global) -> Lines {
@@ -72,10 +63,14 @@ impl Lines {
         }
     }
 
-    /// Puts bytes of a drawing at the end.
+    /// Puts bytes of a drawing at the end: blanks as a space, and what is not printable as `?`.
     fn put_shown(&mut self, bytes: &[u8]) {
         for byte in bytes {
-            self.put(&[printable(*byte)]);
+            self.put(&[match *byte {
+                b' '..=b'~' => *byte,
+                b'\t' | b'\r' => b' ',
+                _ => b'?',
+            }]);
         }
     }
 
@@ -84,24 +79,29 @@ impl Lines {
         self.put(Buffer::new().format(number).as_bytes());
     }
 
+    /// Puts a part at the end.
+    fn put_part(&mut self, part_of: Part) {
+        match part_of {
+            Part::Text(bytes) => self.put(bytes),
+            Part::Shown(bytes) => self.put_shown(bytes),
+            Part::Quoted(bytes) => {
+                self.put(b"'");
+                self.put_shown(part(bytes, 0, MOST_QUOTED));
+                self.put(b"'");
+            }
+            Part::Number(number) => self.put_number(number),
+            Part::At(place) => {
+                self.put_number(u64::from(place.line));
+                self.put(b":");
+                self.put_number(u64::from(place.col));
+            }
+        }
+    }
+
     /// Puts parts at the end, one after another.
     pub fn add(&mut self, parts: &[Part]) {
         for part_of in parts {
-            match part_of {
-                Part::Text(bytes) => self.put(bytes),
-                Part::Shown(bytes) => self.put_shown(bytes),
-                Part::Quoted(bytes) => {
-                    self.put(b"'");
-                    self.put_shown(part(bytes, 0, MOST_QUOTED));
-                    self.put(b"'");
-                }
-                Part::Number(number) => self.put_number(*number),
-                Part::At(place) => {
-                    self.put_number(u64::from(place.line));
-                    self.put(b":");
-                    self.put_number(u64::from(place.col));
-                }
-            }
+            self.put_part(*part_of);
         }
     }
 
@@ -111,9 +111,26 @@ impl Lines {
         self.put(b"\n");
     }
 
+    /// Puts a text at the end, with these parts in place of the signs `%` in it.
+    pub fn fill(&mut self, text: &[u8], parts: &[Part]) {
+        for (number, between) in text.split(|byte| *byte == b'%').enumerate() {
+            self.put(between);
+            if let Some(part_of) = parts.get(number) {
+                self.put_part(*part_of);
+            }
+        }
+    }
+
+    /// Puts a line of such a text at the end, four columns to the right.
+    pub fn tell(&mut self, text: &[u8], parts: &[Part]) {
+        self.put(b"    ");
+        self.fill(text, parts);
+        self.put(b"\n");
+    }
+
     /// Puts a line of one text at the end, four columns to the right.
     pub fn note(&mut self, text: &[u8]) {
-        self.line(&[Part::Text(b"    "), Part::Text(text)]);
+        self.tell(text, &[]);
     }
 
     /// Puts the line of a place at the end, and below it a mark under the place. Of a long line the part
@@ -121,14 +138,10 @@ impl Lines {
     pub fn mark(&mut self, text: &[u8], place: Place) {
         let col = place.col as usize;
         let from = if col <= LAST_WHOLE { 0 } else { col - BEFORE };
-        let margin: &[u8] = if col <= LAST_WHOLE { b"    " } else { b" .. " };
-        let shown = part(
-            line_of(text, place.line),
-            from,
-            from.saturating_add(MOST_SHOWN),
-        );
-        self.line(&[Part::Text(margin), Part::Shown(shown)]);
-        self.put(b"    ");
+        let line = line_of(text, place.line);
+        self.put(if from == 0 { b"    " } else { b" .. " });
+        self.put_shown(part(line, from, from.saturating_add(MOST_SHOWN)));
+        self.put(b"\n    ");
         for _column in from..col.saturating_sub(1) {
             self.put(b" ");
         }

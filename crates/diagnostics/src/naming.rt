@@ -1,28 +1,23 @@
 //! What is said of a name that is not how a signal is named, or whose edges overlap.
 
 use crate::first::is_asserting;
-use crate::lines::{Lines, Part};
-use crate::text::{Text, after, begins, part};
+use crate::lines::Lines;
+use crate::lines::Part::{Number, Quoted, Shown};
+use crate::text::{Text, after, base_len, part, unquoted};
+use crate::uses::MOST_DELAY;
 
-/// The most bytes of a base, and the greatest skew.
+/// The most bytes of a base.
 const MOST_BYTES: usize = 64;
 
-const MOST_SKEW: u64 = 4095;
-
-/// What comes next in a name, after what was read of it.
-#[derive(Clone, Copy, PartialEq, Eq)]
+/// What comes next in an assertion, after what was read of it.
+#[derive(Clone, Copy)]
 enum Next {
-    /// The first unit of an interval, or more of its digits.
+    /// The unit in which an interval begins, and that in which it ends.
     First,
-    FirstDigits,
-    /// The unit in which it ends.
     Last,
-    LastDigits,
     /// The two numbers of a skew.
     Early,
-    EarlyDigits,
     Late,
-    LateDigits,
     /// An L, or nothing.
     Level,
     /// Nothing.
@@ -30,100 +25,82 @@ enum Next {
 }
 
 impl Next {
-    /// What may come here, in words.
-    fn words(self) -> &'static [u8] {
-        match self {
-            Next::First => b"an interval like 2-3 comes here",
-            Next::FirstDigits =>
+    /// What may come here, in words, after digits of the number or before them.
+    fn words(self, has_digits: bool) -> &'static [u8] {
+        match (self, has_digits) {
+            (Next::First, false) => b"an interval like 2-3 comes here",
+            (Next::First, true) =>
                 b"the unit in which an interval begins is followed by a - and the unit in which it ends",
-            Next::Last => b"the unit in which an interval ends comes here",
-            Next::LastDigits =>
+            (Next::Last, false) => b"the unit in which an interval ends comes here",
+            (Next::Last, true) =>
                 b"a comma and the next interval come here, or after .P and .C a skew like (2,3) or an L",
-            Next::Early | Next::EarlyDigits | Next::Late | Next::LateDigits =>
-                b"a skew is written like (2,3), in ticks",
-            Next::Level => b"after a skew comes an L, or nothing",
-            Next::Nothing => b"nothing comes after the L",
+            (Next::Early | Next::Late, _) => b"a skew is written like (2,3), in ticks",
+            (Next::Level, _) => b"after a skew comes an L, or nothing",
+            (Next::Nothing, _) => b"nothing comes after the L",
         }
     }
 
-    /// Whether a name may end here.
-    fn may_end(self) -> bool {
-        matches!(self, Next::LastDigits | Next::Level | Next::Nothing)
-    }
-
-    /// What comes after this byte, where it may come.
-    fn after(self, byte: u8, is_clock: bool) -> Option<Next> {
-        match (self, byte) {
-            (Next::First | Next::FirstDigits, b'0'..=b'9') => Some(Next::FirstDigits),
-            (Next::FirstDigits, b'-') => Some(Next::Last),
-            (Next::Last | Next::LastDigits, b'0'..=b'9') => Some(Next::LastDigits),
-            (Next::LastDigits, b',') => Some(Next::First),
-            (Next::LastDigits, b'(') if is_clock => Some(Next::Early),
-            (Next::Early | Next::EarlyDigits, b'0'..=b'9') => Some(Next::EarlyDigits),
-            (Next::EarlyDigits, b',') => Some(Next::Late),
-            (Next::Late | Next::LateDigits, b'0'..=b'9') => Some(Next::LateDigits),
-            (Next::LateDigits, b')') => Some(Next::Level),
-            (Next::LastDigits | Next::Level, b'L') if is_clock => Some(Next::Nothing),
+    /// What comes after a sign, where it may come after this.
+    fn after(self, sign: u8, has_digits: bool, is_clock: bool) -> Option<Next> {
+        match (self, sign) {
+            (Next::Level, b'L') => Some(Next::Nothing),
+            _ if !has_digits => None,
+            (Next::First, b'-') => Some(Next::Last),
+            (Next::Last, b',') => Some(Next::First),
+            (Next::Last, b'(') if is_clock => Some(Next::Early),
+            (Next::Last, b'L') if is_clock => Some(Next::Nothing),
+            (Next::Early, b',') => Some(Next::Late),
+            (Next::Late, b')') => Some(Next::Level),
             _ => None,
         }
     }
 }
 
 /// That bytes of a name cannot be followed by what follows them, and what may follow.
-fn add_stop<'a>(out: &mut Lines, name: &'a [u8], at: usize, why: &'a [u8]) {
+fn add_stop(out: &mut Lines, name: &[u8], at: usize, why: &[u8]) {
+    let before = Quoted(part(name, 0, at));
+    let byte = Quoted(part(name, at, at.saturating_add(1)));
+    let why = Shown(why);
     if at == 0 {
-        out.add(&[
-            Part::Text(b"    it cannot begin with "),
-            Part::Quoted(part(name, 0, 1)),
-        ]);
-        return out.line(&[Part::Text(b": "), Part::Text(why)]);
-    }
-    out.add(&[Part::Text(b"    after "), Part::Quoted(part(name, 0, at))]);
-    if at < name.len() {
-        out.add(&[
-            Part::Text(b" there cannot be "),
-            Part::Quoted(part(name, at, at.saturating_add(1))),
-        ]);
+        out.tell(b"it cannot begin with %: %", &[byte, why]);
+    } else if at < name.len() {
+        out.tell(b"after % there cannot be %: %", &[before, byte, why]);
     } else {
-        out.put(b" the name cannot end");
+        out.tell(b"after % the name cannot end: %", &[before, why]);
     }
-    out.line(&[Part::Text(b": "), Part::Text(why)]);
 }
 
-// ---- assertions
+/// The number that digits are.
+fn number_of(digits: &[u8]) -> u64 {
+    let mut number: u64 = 0;
+    for digit in digits {
+        let digit = u64::from(digit.saturating_sub(b'0'));
+        number = number.saturating_mul(10).saturating_add(digit);
+    }
+    number
+}
 
 /// What is wrong with a number of an interval or a skew; whether something is.
 fn add_number(out: &mut Lines, digits: &[u8], next: Next, units: u64) -> bool {
-    let mut number: u64 = 0;
-    for digit in digits {
-        number = number
-            .saturating_mul(10)
-            .saturating_add(u64::from(digit.saturating_sub(b'0')));
-    }
-    let most = match next {
-        Next::FirstDigits => units.saturating_sub(1),
-        Next::LastDigits => units,
-        _ => MOST_SKEW,
+    let (most, why): (u64, &[u8]) = match next {
+        Next::First => (
+            units.saturating_sub(1),
+            b": the units of the period count from 0",
+        ),
+        Next::Last => (
+            units,
+            b", the units of the period; one that wraps ends in a smaller unit than it begins in",
+        ),
+        _ => (MOST_DELAY, b" ticks of skew"),
     };
-    if begins(digits, b"0") && 1 < digits.len() {
+    if digits.starts_with(b"0") && 1 < digits.len() {
         out.note(b"a number has no 0 in front");
-        return true;
-    }
-    if number <= most {
+    } else if most < number_of(digits) {
+        let [digits, most] = [Shown(digits), Number(most)];
+        out.tell(b"% is more than %%", &[digits, most, Shown(why)]);
+    } else {
         return false;
     }
-    out.line(&[
-        Part::Text(b"    "),
-        Part::Shown(digits),
-        Part::Text(b" is more than "),
-        Part::Number(most),
-        Part::Text(match next {
-            Next::FirstDigits => b": the units of the period count from 0",
-            Next::LastDigits =>
-                b", the units of the period; one that wraps ends in a smaller unit than it begins in",
-            _ => b" ticks of skew",
-        }),
-    ]);
     true
 }
 
@@ -134,26 +111,29 @@ fn add_assertion(out: &mut Lines, name: &[u8], from: usize, units: u64) {
     let mut begun = from;
     for i in from..name.len() {
         let byte = name.get(i).copied().unwrap_or(0);
-        let Some(then) = next.after(byte, is_clock) else {
-            return add_stop(out, name, i, next.words());
-        };
-        if then != next {
-            if add_number(out, part(name, begun, i), next, units) {
-                return;
-            }
-            begun = if byte.is_ascii_digit() { i } else { i + 1 };
+        let is_number = !matches!(next, Next::Level | Next::Nothing);
+        if is_number && byte.is_ascii_digit() {
+            continue;
         }
+        let Some(then) = next.after(byte, begun < i, is_clock) else {
+            return add_stop(out, name, i, next.words(begun < i));
+        };
+        if add_number(out, part(name, begun, i), next, units) {
+            return;
+        }
+        begun = i + 1;
         next = then;
     }
-    if !next.may_end() {
-        return add_stop(out, name, name.len(), next.words());
-    }
-    if !add_number(out, after(name, begun), next, units) {
-        out.note(b"an interval ends in another unit than it begins in");
+    let has_digits = begun < name.len();
+    match (next, has_digits) {
+        (Next::Last, true) | (Next::Level | Next::Nothing, _) => {
+            if !add_number(out, after(name, begun), next, units) {
+                out.note(b"an interval ends in another unit than it begins in");
+            }
+        }
+        _ => add_stop(out, name, name.len(), next.words(has_digits)),
     }
 }
-
-// ---- bases
 
 /// Whether a byte may stand in a base, but for spaces.
 fn is_base_byte(byte: u8) -> bool {
@@ -191,44 +171,33 @@ fn wrong_byte(base: &[u8], from: usize) -> usize {
 
 /// What is wrong with a name between quotes, in a period of so many units.
 fn add_fault(out: &mut Lines, name: &[u8], units: u64) {
-    let from: usize = if begins(name, b"/") { 1 } else { 0 };
-    let end = name
-        .windows(2)
-        .position(|two| two == b" .".as_slice())
-        .unwrap_or(name.len());
+    let from: usize = if name.starts_with(b"/") { 1 } else { 0 };
+    let end = base_len(name);
     let base = part(name, 0, end);
     let wrong = wrong_byte(base, from);
-    let letter = name.get(end.saturating_add(2)).copied();
-    if base.len() <= from {
+    if end <= from {
         out.note(b"a name has a letter, a digit, _, # or $ before its assertion");
-    } else if wrong < base.len() {
+    } else if wrong < end || base.last() == Some(&b' ') {
         add_stop(out, name, wrong, base_note(base.get(wrong)));
-    } else if base.last() == Some(&b' ') {
-        add_stop(out, name, base.len(), base_note(None));
-    } else if from.saturating_add(MOST_BYTES) < base.len() {
+    } else if from.saturating_add(MOST_BYTES) < end {
         out.note(b"a name has at most 64 bytes before its assertion");
-    } else if end < name.len() && matches!(letter, Some(b'S' | b'P' | b'C')) {
-        add_assertion(out, name, end.saturating_add(3), units);
     } else if end < name.len() {
-        add_stop(
-            out,
-            name,
-            end.saturating_add(2),
-            b"an assertion begins with .S, .P or .C",
-        );
+        let letter = end.saturating_add(2);
+        match name.get(letter) {
+            Some(b'S' | b'P' | b'C') => add_assertion(out, name, letter.saturating_add(1), units),
+            _ => add_stop(out, name, letter, b"an assertion begins with .S, .P or .C"),
+        }
     }
 }
 
 /// What is wrong with the name at a token.
 pub fn add_name(out: &mut Lines, text: &Text, i: usize) {
-    let quoted = text.word(i);
-    let name = part(quoted, 1, quoted.len().saturating_sub(1));
-    let before = text.head_of(i);
-    let is_formal = text.is(before, b"MACRO") && i < text.end_of(before);
-    if is_formal && (begins(name, b"/") || is_asserting(text, i)) {
-        return out.note(b"a formal of a macro has no assertion, and no / before it");
+    let name = unquoted(text.word(i));
+    if i < text.macro_head(i).to && (name.starts_with(b"/") || is_asserting(text, i)) {
+        out.note(b"a formal of a macro has no assertion, and no / before it");
+    } else {
+        add_fault(out, name, text.number(4).unwrap_or(0));
     }
-    add_fault(out, name, text.number(4).unwrap_or(0));
 }
 
 /// What can be done where the edges of a clock overlap.

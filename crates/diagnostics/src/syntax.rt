@@ -1,9 +1,10 @@
 //! What is said of a token with which no drawing goes on.
 
-use crate::foreign::{add_operator, statement_note};
-use crate::lines::{Lines, Part};
-use crate::near::{is_same, nearest, noted};
-use crate::text::{Text, after, begins};
+use crate::foreign::{JOINED, LABEL, STATEMENTS, add_operator};
+use crate::lines::Lines;
+use crate::lines::Part::{Number, Quoted, Shown};
+use crate::near::{Row, is_one_of, is_same, nearest, noted};
+use crate::text::{Text, after};
 use element_kinds::is_kind_name;
 use scald_lex::TokenKind;
 
@@ -19,114 +20,58 @@ const WORDS: [&[u8]; 16] = [
     b"IF", b"THEN", b"ELSE", b"END", b"FOR", b"TO", b"DO",
 ];
 
-/// Where statements stand, by their first word.
-const PLACES: [(&[u8], &[u8]); 12] = [
-    (b"SCALD", HEADER),
-    (b"CLOCK", HEADER),
-    (b"PSKEW", HEADER),
-    (b"CSKEW", HEADER),
-    (
-        b"WIRE",
-        b"a WIRE without a name stands in the header, and one with a name in the body of a MACRO or of the DRAWING",
-    ),
-    (
-        b"CONST",
-        b"a CONST stands after the header, before the first MACRO and the DRAWING",
-    ),
-    (
-        b"MACRO",
-        b"a MACRO stands before the DRAWING, and in no other MACRO",
-    ),
-    (b"DRAWING", b"a text has one DRAWING, after its MACROs"),
-    (b"CASE", b"a CASE stands after the END of the DRAWING"),
-    (
-        b"IF",
-        b"an IF stands in the body of a MACRO or of the DRAWING",
-    ),
-    (
-        b"FOR",
-        b"a FOR stands in the body of a MACRO or of the DRAWING",
-    ),
-    (b"ELSE", b"an ELSE stands in an IF, once, before its END"),
-];
-
-const HEADER: &[u8] =
-    b"a text begins with SCALD, CLOCK, WIRE, PSKEW and CSKEW, in this order; the last three may be left out";
-
 /// How constants of other languages are written.
-const CONSTANTS: [(&[u8], &[u8]); 8] = [
-    (b"VCC", b"ONE"),
-    (b"VDD", b"ONE"),
-    (b"TRUE", b"ONE"),
-    (b"GND", b"ZERO"),
-    (b"VSS", b"ZERO"),
-    (b"FALSE", b"ZERO"),
-    (b"ONE", b"ONE"),
-    (b"ZERO", b"ZERO"),
+const CONSTANTS: [Row; 2] = [
+    (&[b"VCC", b"VDD", b"TRUE", b"ONE"], b"ONE"),
+    (&[b"GND", b"VSS", b"FALSE", b"ZERO"], b"ZERO"),
 ];
 
-// ---- parts of lines
+/// What is said of constants and FORs.
+const CONST: &[u8] = b"a CONST stands after the header, before the first MACRO and the DRAWING";
+
+const VERSION: &[u8] = b"FOR and CONST are of version 2, in texts that begin with SCALD 2";
 
 /// That a word or a symbol may be meant.
 fn add_meant(out: &mut Lines, word: &[u8]) {
-    out.line(&[
-        Part::Text(b"    is "),
-        Part::Text(word),
-        Part::Text(b" meant?"),
-    ]);
+    out.tell(b"is % meant?", &[Shown(word)]);
 }
 
 /// That something may be missing before a token.
-fn add_missing<'a>(out: &mut Lines, text: &Text<'a>, i: usize, word: &'a [u8]) {
-    out.line(&[
-        Part::Text(b"    is "),
-        Part::Text(word),
-        Part::Text(b" missing after "),
-        Part::Quoted(text.word(i.saturating_sub(1))),
-        Part::Text(b"?"),
-    ]);
+fn add_missing(out: &mut Lines, text: &Text, i: usize, word: &[u8]) {
+    let before = text.word(i.saturating_sub(1));
+    out.tell(b"is % missing after %?", &[Shown(word), Quoted(before)]);
 }
 
-/// What a statement begins with, and where.
-fn add_opened<'a>(out: &mut Lines, text: &Text<'a>, before: &'a [u8], i: usize, after: &'a [u8]) {
-    out.line(&[
-        Part::Text(before),
-        Part::Text(text.word(i)),
-        Part::Text(b" at "),
-        Part::At(text.token(i).place),
-        Part::Text(after),
-    ]);
+/// That a word cannot be a name.
+fn add_reserved(out: &mut Lines, word: &[u8]) {
+    out.tell(
+        b"% is reserved: it cannot be a label, a macro, a parameter, a constant or a drawing",
+        &[Shown(word)],
+    );
 }
 
 /// What stands there, and after what.
 fn add_standing(out: &mut Lines, text: &Text, i: usize) {
-    if text.word(i).is_empty() {
-        out.put(b"    the end of the text");
+    let what = if text.word(i).is_empty() {
+        Shown(b"the end of the text")
     } else {
-        out.add(&[Part::Text(b"    "), Part::Quoted(text.word(i))]);
-    }
+        text.quoted(i)
+    };
     if i == 0 {
-        out.put(b" cannot come first: a text begins with SCALD 2;\n");
+        out.tell(b"% cannot come first: a text begins with SCALD 2;", &[what]);
     } else {
-        out.line(&[
-            Part::Text(b" cannot stand here, after "),
-            Part::Quoted(text.word(i - 1)),
-        ]);
+        let before = text.quoted(i - 1);
+        out.tell(b"% cannot stand here, after %", &[what, before]);
     }
 }
 
-// ---- what the tokens are
-
 /// Whether a statement, a part of the text or its end begins with a token.
 fn begins_statement(text: &Text, i: usize) -> bool {
-    let is_label = text.is_word(i) && text.is(i.saturating_add(1), b":");
-    is_label && !text.is(i.saturating_sub(1), b"[") && !text.is(i.saturating_sub(1), b"(")
+    let before = i.saturating_sub(1);
+    let is_label = text.is_word(i) && text.symbol(i.saturating_add(1)) == b':';
+    is_label && !matches!(text.symbol(before), b'[' | b'(')
         || text.opens(i)
-        || text.word(i).is_empty()
-        || text.is(i, b"WIRE")
-        || text.is(i, b"END")
-        || text.is(i, b"ELSE")
-        || text.is(i, b"CASE")
+        || text.is_any(i, &[b"WIRE", b"END", b"ELSE", b"CASE", b""])
 }
 
 /// Whether an expression or a list of connections may end with a token.
@@ -134,7 +79,7 @@ fn ends_operand(text: &Text, i: usize) -> bool {
     match text.token(i).kind {
         TokenKind::Number(_) | TokenKind::Name => true,
         TokenKind::Symbol(byte) => byte == b')' || byte == b'>',
-        TokenKind::Word => !WORDS.iter().any(|word| text.is(i, word)),
+        TokenKind::Word => !text.is_any(i, &WORDS),
         _ => false,
     }
 }
@@ -144,48 +89,54 @@ fn is_old(text: &Text) -> bool {
     text.number(1) != Some(2)
 }
 
-// ---- notes, each by what stands before; whether one is put
+/// Whether one of the tokens from one number up to another is written so.
+fn has(text: &Text, from: usize, to: usize, word: &[u8]) -> bool {
+    for j in from..to {
+        if text.is(j, word) {
+            return true;
+        }
+    }
+    false
+}
 
 /// On a comment that hides what follows the token before.
 fn add_hidden(out: &mut Lines, text: &Text, before: usize) -> bool {
     let rest = after(text.bytes, text.token(before).end as usize);
     let blanks = rest.iter().take_while(|byte| **byte == b' ').count();
     let rest = after(rest, blanks);
-    if begins(rest, b"-->") {
+    if rest.starts_with(b"-->") {
         out.note(b"--> begins a comment: is -> meant?");
-        true
-    } else if begins(rest, b"--\"") {
+    } else if rest.starts_with(b"--\"") {
         out.note(b"-- begins a comment: a - stands once before a name");
-        true
     } else {
-        false
+        return false;
     }
+    true
 }
 
 /// The statement that the last END before a token ends.
 fn add_last_end(out: &mut Lines, text: &Text, i: usize) {
-    let Some(end) = (0..i).rev().find(|j| text.is(*j, b"END")) else {
-        return;
-    };
-    out.add(&[
-        Part::Text(b"    the last END before this, at "),
-        Part::At(text.token(end).place),
-    ]);
-    match text.open_before(end) {
-        Some(ended) => add_opened(out, text, b", is that of the ", ended, b""),
-        None => out.put(b" ends nothing\n"),
+    for end in (0..i).rev() {
+        if text.is(end, b"END") {
+            if let Some(open) = text.open_before(end) {
+                let [end, at] = [text.at(end), text.at(open)];
+                out.tell(
+                    b"the last END before this, at %, is that of the % at %",
+                    &[end, text.shown(open), at],
+                );
+            }
+            return;
+        }
     }
 }
 
 /// On an END that is missing before a token, or that has ended all before it; whether one is missing.
 fn add_ends(out: &mut Lines, text: &Text, i: usize) -> bool {
-    let is_outer = text.is_head(i) || text.is(i, b"CASE") || text.word(i).is_empty();
-    if i != text.start_of(i) {
-        return false;
-    }
+    let is_outer = text.is_head(i) || text.is_any(i, &[b"CASE", b""]);
     match text.open_before(i) {
         Some(open) if is_outer => {
-            add_opened(out, text, b"    the ", open, b" has no END before this");
+            let opened = [text.shown(open), text.at(open)];
+            out.tell(b"the % at % has no END before this", &opened);
             add_last_end(out, text, i);
             true
         }
@@ -205,7 +156,7 @@ fn wanted_word(text: &Text, i: usize, start: usize) -> Option<&'static [u8]> {
         Some(b"THEN")
     } else if !text.is(start, b"FOR") || !text.opens(start) || is_old(text) {
         None
-    } else if (start..i).any(|j| text.is(j, b"TO")) {
+    } else if has(text, start, i, b"TO") {
         Some(b"DO")
     } else {
         Some(b"TO")
@@ -219,113 +170,78 @@ fn add_head(out: &mut Lines, text: &Text, i: usize, start: usize) -> bool {
     };
     let word = text.word(i);
     let before = i.saturating_sub(1);
-    if is_same(text.word(before), b"NOT") || text.is(i, b"!") {
+    let is_unset = text.is(start, b"FOR") && !has(text, start, i, b"=");
+    if is_same(text.word(before), b"NOT") || text.symbol(i) == b'!' {
         out.note(b"a condition is inverted by = 0, as in (A = 1) = 0");
-    } else if is_same(word, b"AND") || is_same(word, b"OR") {
-        out.note(
-            b"conditions are joined by * for \"and\" and by + for \"or\", each in parentheses",
-        );
-    } else if is_same(word, b"DOWNTO")
-        || text.is(start, b"FOR") && !(start..i).any(|j| text.is(j, b"="))
-    {
+    } else if is_one_of(&[b"AND", b"OR"], word) {
+        out.note(JOINED);
+    } else if is_unset || is_same(word, b"DOWNTO") {
         out.note(b"a FOR counts upwards, by one: FOR I = 0 TO N - 1 DO");
-    } else if ends_operand(text, before) && (text.is_word(i) || text.number(i).is_some()) {
-        add_wanted(out, text, i, wanted);
+    } else if !ends_operand(text, before) || !text.is_word(i) && text.number(i).is_none() {
+        return false;
+    } else {
+        add_missing(out, text, i, wanted);
+    }
+    true
+}
+
+/// On a number of a delay: its unit, or a least without a greatest.
+fn add_delay(out: &mut Lines, text: &Text, i: usize) -> bool {
+    let before = i.saturating_sub(1);
+    let last = before.saturating_sub(1);
+    let is_alone = matches!(text.symbol(last), b'[' | b',');
+    let word = text.word(i);
+    let Some(number) = text.number(before) else {
+        return false;
+    };
+    if is_alone && text.is_any(i, &[b"]", b","]) {
+        let number = Number(number);
+        out.tell(
+            b"a delay has a least and a greatest: is [0:%] or [%:%] meant?",
+            &[number, number, number],
+        );
+    } else if is_same(word, b"x") {
+        add_meant(out, b"x");
+    } else if word.starts_with(b"x") && text.is(last, b"CLOCK") {
+        out.note(b"is a space missing after the x?");
+    } else if text.is_word(i) && text.token(i).start == text.token(before).end {
+        out.note(b"a number has no unit: delays and limits are so many ticks");
     } else {
         return false;
     }
     true
 }
 
-/// Whether a word at a token stands between two operands.
-fn is_between(text: &Text, i: usize) -> bool {
-    let next = i.saturating_add(1);
-    let goes_on = text.number(next).is_some() || text.is(next, b"(") || ends_operand(text, next);
-    text.is_word(i) && goes_on && !begins_statement(text, i)
-}
-
-/// That a word is missing, or meant in place of another.
-fn add_wanted(out: &mut Lines, text: &Text, i: usize, wanted: &'static [u8]) {
-    if text.is(i, b"THEN") || text.is(i, b"DO") || is_between(text, i) {
-        add_meant(out, wanted);
-    } else {
-        add_missing(out, text, i, wanted);
-    }
-}
-
-/// On a number of a delay: its unit, or a least without a greatest.
-fn add_delay(out: &mut Lines, text: &Text, i: usize) -> bool {
-    let before = i.saturating_sub(1);
-    let Some(number) = text.number(before) else {
-        return false;
-    };
-    let last = before.saturating_sub(1);
-    let is_alone = text.is(last, b"[") || text.is(last, b",");
-    if is_alone && (text.is(i, b"]") || text.is(i, b",")) {
-        out.line(&[
-            Part::Text(b"    a delay has a least and a greatest: is [0:"),
-            Part::Number(number),
-            Part::Text(b"] or ["),
-            Part::Number(number),
-            Part::Text(b":"),
-            Part::Number(number),
-            Part::Text(b"] meant?"),
-        ]);
-        true
-    } else if is_same(text.word(i), b"x") {
-        add_meant(out, b"x");
-        true
-    } else if text.is_word(i)
-        && begins(text.word(i), b"x")
-        && text.is(before.saturating_sub(1), b"CLOCK")
-    {
-        out.note(b"is a space missing after the x?");
-        true
-    } else if text.is_word(i) && text.token(i).start == text.token(before).end {
-        out.note(b"a number has no unit: delays and limits are so many ticks");
-        true
-    } else {
-        false
-    }
-}
-
 /// On a bracket that something else stands in.
 fn add_bracket(out: &mut Lines, text: &Text, i: usize) -> bool {
     let before = i.saturating_sub(1);
-    let next = i.saturating_add(1);
-    let is_listed = text.is(before, b"(") || text.is(before, b"{");
+    let last = before.saturating_sub(1);
+    let [this, next] = [text.symbol(i), text.symbol(i.saturating_add(1))];
+    let [left, farther] = [text.symbol(before), text.symbol(last)];
+    let [is_name, follows_name] = [text.is_name(i), text.is_name(before)];
+    let follows_word = text.is_word(before);
     let open = text.bracket_before(i).unwrap_or(0);
-    let note: &[u8] = if text.is(i, b"[") && text.is(before.saturating_sub(1), b"WIRE") {
+    let note: &[u8] = if this == b'[' && text.is(last, b"WIRE") {
         b"the delay of a WIRE has no brackets, as in WIRE \"A\" 3:8;"
-    } else if is_same(text.word(i), b"TO") || is_same(text.word(i), b"DOWNTO") {
+    } else if is_one_of(&[b"TO", b"DOWNTO"], text.word(i)) {
         b"a range is written with a colon, as in \"A\"<3:0>"
-    } else if text.is_name(before) && (text.is(i, b"[") || text.is(i, b"(") || text.is(i, b">")) {
+    } else if follows_name && matches!(this, b'[' | b'(' | b'>') {
         b"a range stands in < > after the name, as in \"A\"<3:0>: is < meant?"
-    } else if text.number(before).is_some()
-        && text.is(before.saturating_sub(1), b":")
-        && text.is(i, b"<")
-    {
-        b"a range ends with a >, as in \"A\"<3:0>"
-    } else if is_listed && text.is(next, b":") {
+    } else if matches!(left, b'(' | b'{') && next == b':' {
         b"a delay stands in [ ], the least and the greatest, as in [20:60]"
-    } else if text.is(before, b"(") && text.is(next, b"=") {
+    } else if left == b'(' && next == b'=' {
         b"parameters stand in { }, as in {N=8}"
-    } else if text.is(i, b"=") && text.is(before.saturating_sub(1), b"[") {
+    } else if this == b'=' && farther == b'[' {
         b"a delay is two numbers, as in [20:60], and parameters stand in { }, as in {N=8}"
-    } else if text.is(i, b"[") && !text.is_word(before)
-        || text.is_name(i) && matches!(text.token(before).kind, TokenKind::Arrow)
-    {
+    } else if this == b'[' && !follows_word || is_name && text.is_arrow(before) {
         b"connections stand in ( )"
-    } else if text.is(i, b"{") && (text.is(before, b"(") || text.is(before, b",")) {
+    } else if this == b'{' && matches!(left, b'(' | b',') {
         b"bits are joined by &, as in \"A\" & \"B\""
-    } else if text.is_name(i) && text.is_name(before) {
+    } else if is_name && follows_name {
         b"is , or & missing between the names?"
-    } else if text.is(i, b"-") {
+    } else if this == b'-' {
         b"a - stands once, in the parentheses of a use, right before a name"
-    } else if text.is(open, b"{")
-        && text.is_word(before)
-        && (text.is(i, b",") || text.is(i, b"}"))
-    {
+    } else if text.symbol(open) == b'{' && follows_word && matches!(this, b',' | b'}') {
         b"a parameter has a name and a value, as in {SETUP=20, HOLD=5}"
     } else {
         return false;
@@ -337,26 +253,21 @@ fn add_bracket(out: &mut Lines, text: &Text, i: usize) -> bool {
 /// On what stands where a net's name should.
 fn add_net(out: &mut Lines, text: &Text, i: usize) -> bool {
     let before = i.saturating_sub(1);
-    let is_place = text.is(before, b"CASE")
-        || text.is(before, b"(")
-        || text.is(before, b",")
-        || text.is(before, b"&")
-        || text.is(before, b"-");
-    if !is_place {
+    let is_listed = matches!(text.symbol(before), b'(' | b',' | b'&' | b'-');
+    let is_not = matches!(text.symbol(i), b'!' | b'/') || is_same(text.word(i), b"NOT");
+    let constant = noted(&CONSTANTS, text.word(i));
+    if !is_listed && !text.is(before, b"CASE") {
         return false;
     }
-    if text.is(i, b"!") || text.is(i, b"/") || is_same(text.word(i), b"NOT") {
+    if is_not {
         out.note(
             b"a - before a name inverts it; a ! stands only after a connection, in the mark !H",
         );
-    } else if text.is(i, b"-") {
-        out.note(b"a - stands once, in the parentheses of a use, right before a name");
-    } else if let Some(constant) = noted(&CONSTANTS, text.word(i)) {
-        out.line(&[
-            Part::Text(b"    a constant bit is ZERO or ONE: is "),
-            Part::Text(constant),
-            Part::Text(b" meant?"),
-        ]);
+    } else if let Some(constant) = constant {
+        out.tell(
+            b"a constant bit is ZERO or ONE: is % meant?",
+            &[Shown(constant)],
+        );
     } else if text.number(i).is_some() {
         out.note(b"a constant bit is ZERO or ONE");
     } else if text.is_word(i) {
@@ -369,86 +280,83 @@ fn add_net(out: &mut Lines, text: &Text, i: usize) -> bool {
 
 /// On a bracket that is open, and a statement that has no `;`.
 fn add_close(out: &mut Lines, text: &Text, i: usize) -> bool {
-    let is_past = begins_statement(text, i) && ends_operand(text, i.saturating_sub(1))
-        || text.is(i, b";");
-    let is_between = matches!(text.token(i).kind, TokenKind::Arrow)
-        || text.is(i, b"(")
-        || text.is(i, b"{");
-    if let (Some(j), true) = (text.bracket_before(i), is_past || is_between) {
-        add_opened(out, text, b"    the ", j, b" is not closed before this");
-        return true;
-    }
     let before = i.saturating_sub(1);
-    if begins_statement(text, i) && ends_operand(text, before) && !text.is(i, b"THEN") {
+    let is_past = begins_statement(text, i) && ends_operand(text, before);
+    if is_past || text.is_arrow(i) || matches!(text.symbol(i), b'(' | b'{' | b';') {
+        if let Some(open) = text.bracket_before(i) {
+            let opened = [text.shown(open), text.at(open)];
+            out.tell(b"the % at % is not closed before this", &opened);
+            return true;
+        }
+    }
+    if is_past && !text.is(i, b"THEN") {
         add_missing(out, text, i, b";");
-        return true;
-    }
-    if text.is(i, b"(") && text.is(before, b")") {
+    } else if text.symbol(i) == b'(' && text.symbol(before) == b')' {
         add_missing(out, text, i, b"->");
-        return true;
+    } else {
+        return false;
     }
-    false
+    true
 }
 
 /// On the first word of a statement and the token after it.
 fn add_begun(out: &mut Lines, text: &Text, i: usize, start: usize) -> bool {
     let first = text.word(start);
+    let is_reserved = text.is_any(start, &RESERVED);
+    let is_new = text.is_any(start, &[b"CONST", b"FOR"]);
     if i != start.saturating_add(1) || !text.is_word(start) {
         return false;
     }
-    if (text.is(start, b"CONST") || text.is(start, b"FOR")) && is_old(text) {
-        out.note(b"FOR and CONST are of version 2, in texts that begin with SCALD 2");
+    if is_new && is_old(text) {
+        out.note(VERSION);
     } else if text.is(start, b"CONST") && text.head_of(i) != 0 {
-        out.note(b"a CONST stands after the header, before the first MACRO and the DRAWING");
-    } else if text.is(start, b"CONST") || text.is(start, b"FOR") {
+        out.note(CONST);
+    } else if is_reserved && text.symbol(i) == b':' {
+        add_reserved(out, first);
+    } else if is_new || is_reserved {
         return false;
-    } else if RESERVED.iter().any(|word| *word == first) {
-        if text.is(i, b":") {
-            add_reserved(out, first);
-        }
-        return text.is(i, b":");
-    } else if let (Some(note), false) = (statement_note(first), is_kind_name(text.word(i))) {
+    } else if let (Some(note), false) = (noted(&STATEMENTS, first), is_kind_name(text.word(i))) {
         out.note(note);
     } else if let (Some(word), false) = (nearest(&WORDS, first), is_kind_name(first)) {
         add_meant(out, word);
     } else {
-        out.note(b"a label and a colon come first, as in b1 : BUF [0:5] (\"A\") -> (\"X\");");
+        out.note(LABEL);
     }
     true
 }
 
-/// That a word cannot be a name.
-fn add_reserved(out: &mut Lines, word: &[u8]) {
-    out.line(&[
-        Part::Text(b"    "),
-        Part::Text(word),
-        Part::Text(
-            b" is reserved: it cannot be a label, a macro, a parameter, a constant or a drawing",
-        ),
-    ]);
+/// Where a statement stands that begins with a word.
+fn place_note(word: &[u8]) -> Option<&'static [u8]> {
+    Some(match word {
+        b"SCALD" | b"CLOCK" | b"PSKEW" | b"CSKEW" =>
+            b"a text begins with SCALD, CLOCK, WIRE, PSKEW and CSKEW, in this order; the last three may be left out",
+        b"WIRE" =>
+            b"a WIRE without a name stands in the header, and one with a name in the body of a MACRO or of the DRAWING",
+        b"CONST" => CONST,
+        b"MACRO" => b"a MACRO stands before the DRAWING, and in no other MACRO",
+        b"DRAWING" => b"a text has one DRAWING, after its MACROs",
+        b"CASE" => b"a CASE stands after the END of the DRAWING",
+        b"IF" => b"an IF stands in the body of a MACRO or of the DRAWING",
+        b"FOR" => b"a FOR stands in the body of a MACRO or of the DRAWING",
+        b"ELSE" => b"an ELSE stands in an IF, once, before its END",
+        _ => return noted(&STATEMENTS, word),
+    })
 }
 
 /// On the word itself: where it stands in a text, or which one it nearly is.
 fn add_word(out: &mut Lines, text: &Text, i: usize, start: usize) {
     let word = text.word(i);
-    let is_keyword = text.is_word(i) && WORDS.iter().any(|other| *other == word);
-    let place = if is_keyword {
-        noted(&PLACES, word)
-    } else {
-        None
-    };
-    if text.is(i.saturating_sub(1), b"!") {
+    let before = i.saturating_sub(1);
+    if text.symbol(before) == b'!' {
         out.note(b"the mark is !H");
-    } else if text.is(i, b";") && text.is(i.saturating_sub(1), b";") {
+    } else if text.symbol(i) == b';' && text.symbol(before) == b';' {
         out.note(b"is this ; one too many?");
     } else if text.is(i, b"CONST") && is_old(text) {
-        out.note(b"FOR and CONST are of version 2, in texts that begin with SCALD 2");
-    } else if let (Some(note), true) = (place, i == start) {
+        out.note(VERSION);
+    } else if let (Some(note), true) = (place_note(word), i == start) {
         out.note(note);
-    } else if i != start && RESERVED.iter().any(|other| *other == word) {
+    } else if i != start && text.is_any(i, &RESERVED) {
         add_reserved(out, word);
-    } else if let (Some(note), true) = (statement_note(word), i == start) {
-        out.note(note);
     } else if let (Some(meant), true) = (nearest(&WORDS, word), text.is_word(i)) {
         add_meant(out, meant);
     }
@@ -463,10 +371,7 @@ pub fn add_syntax(out: &mut Lines, text: &Text, i: usize) {
         || add_hidden(out, text, before)
         || add_operator(out, text, i)
         || add_delay(out, text, i)
-    {
-        return;
-    }
-    if add_head(out, text, i, start)
+        || add_head(out, text, i, start)
         || add_begun(out, text, i, start)
         || add_bracket(out, text, i)
     {
@@ -478,7 +383,8 @@ pub fn add_syntax(out: &mut Lines, text: &Text, i: usize) {
     if add_net(out, text, i) || add_close(out, text, i) {
         return;
     }
-    if !add_ends(out, text, i) || i == start && text.is(i, b"CASE") {
+    let is_first = i == start;
+    if !is_first || !add_ends(out, text, i) || text.is(i, b"CASE") {
         add_word(out, text, i, start);
     }
 }

@@ -1,5 +1,6 @@
 //! The bytes and the tokens of a text that is refused.
 
+use crate::lines::Part;
 use scald_base::Place;
 use scald_lex::{Token, TokenKind, TokenList, tokens};
 use std::alloc::Global;
@@ -43,11 +44,6 @@ pub fn after(bytes: &[u8], from: usize) -> &[u8] {
     part(bytes, from, bytes.len())
 }
 
-/// Whether bytes begin so.
-pub fn begins(bytes: &[u8], start: &[u8]) -> bool {
-    part(bytes, 0, start.len()) == start
-}
-
 /// The line of this number, from 1, without its end.
 pub fn line_of(bytes: &[u8], line: u32) -> &[u8] {
     let count = (line as usize).saturating_sub(1);
@@ -57,24 +53,100 @@ pub fn line_of(bytes: &[u8], line: u32) -> &[u8] {
     }
 }
 
+/// How many bytes stand before the space and the point of an assertion.
+pub fn base_len(name: &[u8]) -> usize {
+    let end = name.windows(2).position(|two| two == b" .".as_slice());
+    end.unwrap_or(name.len())
+}
+
+/// The base of a name in quotes: what stands before its assertion.
+pub fn base_of(quoted: &[u8]) -> &[u8] {
+    let name = unquoted(quoted);
+    part(name, 0, base_len(name))
+}
+
+/// What stands between the quotes of a name.
+pub fn unquoted(quoted: &[u8]) -> &[u8] {
+    part(quoted, 1, quoted.len().saturating_sub(1))
+}
+
+/// How a token of a text is written.
+fn word_of(bytes: &[u8], token: Token) -> &[u8] {
+    part(bytes, token.start as usize, token.end as usize)
+}
+
+/// Where a word stands first in a text.
+pub fn place_of_word(alloc: Global, bytes: &[u8], word: &[u8]) -> Option<Place> {
+    let list = tokens_of(alloc, bytes);
+    for token in list.as_slice() {
+        if word_of(bytes, *token) == word {
+            return Some(token.place);
+        }
+    }
+    None
+}
+
+/// Where a name of this base, with an assertion or without one, stands first in a text.
+pub fn place_of_name(alloc: Global, bytes: &[u8], base: &[u8]) -> Option<Place> {
+    let list = tokens_of(alloc, bytes);
+    for token in list.as_slice() {
+        let word = word_of(bytes, *token);
+        if word.starts_with(b"\"") && base_of(word) == base {
+            return Some(token.place);
+        }
+    }
+    None
+}
+
 impl<'a> Text<'a> {
     /// The token of this number.
     pub fn token(&self, i: usize) -> Token {
-        match self.tokens.get(i) {
-            Some(token) => *token,
-            None => END,
-        }
+        self.tokens.get(i).copied().unwrap_or(END)
+    }
+
+    /// Where it stands, as a place and as a part of a line.
+    pub fn place(&self, i: usize) -> Place {
+        self.token(i).place
+    }
+
+    pub fn at(&self, i: usize) -> Part<'a> {
+        Part::At(self.token(i).place)
     }
 
     /// How it is written.
     pub fn word(&self, i: usize) -> &'a [u8] {
-        let token = self.token(i);
-        part(self.bytes, token.start as usize, token.end as usize)
+        word_of(self.bytes, self.token(i))
     }
 
-    /// Whether it is written so.
+    /// The same as a part of a line, without quotes and in quotes.
+    pub fn shown(&self, i: usize) -> Part<'a> {
+        Part::Shown(self.word(i))
+    }
+
+    pub fn quoted(&self, i: usize) -> Part<'a> {
+        Part::Quoted(self.word(i))
+    }
+
+    /// Whether it is written so, or in one of these ways.
     pub fn is(&self, i: usize, word: &[u8]) -> bool {
-        self.word(i) == word
+        word_of(self.bytes, self.token(i)) == word
+    }
+
+    pub fn is_any(&self, i: usize, words: &[&[u8]]) -> bool {
+        words.contains(&self.word(i))
+    }
+
+    /// The symbol that it is, and 0 where it is none of one byte.
+    pub fn symbol(&self, i: usize) -> u8 {
+        match self.token(i).kind {
+            TokenKind::Symbol(byte) => byte,
+            _ => 0,
+        }
+    }
+
+    /// Whether it is an arrow.
+    pub fn is_arrow(&self, i: usize) -> bool {
+        matches!(self.token(i).kind, TokenKind::Arrow)
     }
 
     /// Whether it is a word.
@@ -98,42 +170,5 @@ impl<'a> Text<'a> {
     /// The base of a name: what stands before its assertion.
     pub fn base(&self, i: usize) -> &'a [u8] {
         base_of(self.word(i))
-    }
-
-    /// The number of the token at a place.
-    pub fn index_of(&self, place: Place) -> Option<usize> {
-        self.tokens.iter().position(|token| token.place == place)
-    }
-}
-
-/// Where a word stands first in a text.
-pub fn place_of_word(alloc: Global, bytes: &[u8], word: &[u8]) -> Option<Place> {
-    let list = tokens_of(alloc, bytes);
-    let text = Text {
-        bytes,
-        tokens: list.as_slice(),
-    };
-    let first = (0..text.tokens.len()).find(|i| text.is(*i, word))?;
-    Some(text.token(first).place)
-}
-
-/// Where a name of this base, with an assertion or without one, stands first in a text.
-pub fn place_of_name(alloc: Global, bytes: &[u8], base: &[u8]) -> Option<Place> {
-    let list = tokens_of(alloc, bytes);
-    let text = Text {
-        bytes,
-        tokens: list.as_slice(),
-    };
-    let first = (0..text.tokens.len()).find(|i| text.is_name(*i)
-        && base_of(text.word(*i)) == base)?;
-    Some(text.token(first).place)
-}
-
-/// The base of a name in quotes: what stands before the space and the point of an assertion.
-pub fn base_of(quoted: &[u8]) -> &[u8] {
-    let end = quoted.windows(2).position(|two| two == b" .".as_slice());
-    match end {
-        Some(end) => part(quoted, 1, end),
-        None => part(quoted, 1, quoted.len().saturating_sub(1)),
     }
 }

@@ -1,7 +1,8 @@
 //! What is said of a byte that no text may have, and of one with which no token begins.
 
-use crate::lines::{Lines, Part};
-use crate::text::{after, begins, line_of};
+use crate::lines::Lines;
+use crate::lines::Part::Number;
+use crate::text::{after, line_of};
 use scald_base::Place;
 
 /// The bytes of a byte order mark, which some editors put before a text.
@@ -17,14 +18,11 @@ fn line_from(text: &[u8], place: Place) -> &[u8] {
 
 /// Which byte stands at the place.
 pub fn add_byte(out: &mut Lines, text: &[u8], place: Place) {
-    if place.line == 1 && place.col == 1 && begins(text, &ORDER_MARK) {
+    if place.line == 1 && place.col == 1 && text.starts_with(&ORDER_MARK) {
         return out.note(b"it begins a byte order mark: save the text without it");
     }
     if let Some(byte) = line_from(text, place).first() {
-        out.line(&[
-            Part::Text(b"    it is byte "),
-            Part::Number(u64::from(*byte)),
-        ]);
+        out.tell(b"it is byte %", &[Number(u64::from(*byte))]);
     }
 }
 

@@ -1,244 +1,176 @@
 //! What is said of a use: of its kind, its delay, its parameters and how many connections it has.
 
+use crate::lines::Part::{Number, Quoted, Shown};
 use crate::lines::{Lines, Part};
-use crate::near::{Likeness, is_near, noted};
+use crate::near::{Likeness, Row, noted};
 use crate::statement::{Span, Use};
 use crate::text::Text;
-use element_kinds::{Check, Form, KINDS, Kind, kind_named};
+use element_kinds::{Check, KINDS, Kind, kind_named};
 
 /// How kinds of other languages are drawn.
-const DRAWN: [(&[u8], &[u8]); 15] = [
-    (
-        b"NOT",
-        b"a - before a name, or BUF with a - before its output",
-    ),
-    (
-        b"INV",
-        b"a - before a name, or BUF with a - before its output",
-    ),
-    (
-        b"INVERTER",
-        b"a - before a name, or BUF with a - before its output",
-    ),
-    (b"NAND", b"AND with a - before its output"),
-    (b"NOR", b"OR with a - before its output"),
-    (b"XNOR", b"XOR with a - before its output"),
-    (b"DFF", b"REG"),
-    (b"FF", b"REG"),
-    (b"FLOP", b"REG"),
-    (b"REGISTER", b"REG"),
-    (b"DLATCH", b"LATCH"),
-    (b"BUFFER", b"BUF"),
-    (b"MUX", b"MUX2, MUX4 or MUX8"),
-    (b"SETUP", b"SETUP_HOLD_CHK"),
-    (b"HOLD", b"SETUP_HOLD_CHK"),
+const DRAWN: [Row; 9] = [
+    (&[b"NOT", b"INV", b"INVERTER"], INVERTED),
+    (&[b"NAND"], b"AND with a - before its output"),
+    (&[b"NOR"], b"OR with a - before its output"),
+    (&[b"XNOR"], b"XOR with a - before its output"),
+    (&[b"DFF", b"FF", b"FLOP", b"REGISTER"], b"REG"),
+    (&[b"DLATCH"], b"LATCH"),
+    (&[b"BUFFER"], b"BUF"),
+    (&[b"MUX"], b"MUX2, MUX4 or MUX8"),
+    (&[b"SETUP", b"HOLD"], b"SETUP_HOLD_CHK"),
 ];
 
-/// The greatest delay, and each of two.
-const MOST: u64 = 4095;
+const INVERTED: &[u8] = b"a - before a name, or BUF with a - before its output";
+
+/// The greatest delay and skew, and the greatest of each of two delays.
+pub const MOST_DELAY: u64 = 4095;
 
 const MOST_OF_TWO: u64 = 255;
 
-// ---- kinds
+/// The most tokens of the parameters of a use that are looked at.
+const MOST_GIVEN: usize = 256;
 
 /// The first kind that a word is like.
-fn kind_like(likeness: Likeness, word: &[u8]) -> Option<&'static [u8]> {
+fn kind_like(likeness: Likeness, word: &[u8]) -> Option<Kind> {
     for kind in KINDS {
         if likeness.holds(word, kind.name()) {
-            return Some(kind.name());
+            return Some(kind);
         }
     }
     None
 }
 
-/// The first macro that a word is like.
-fn macro_like<'a>(text: &Text<'a>, likeness: Likeness, word: &[u8]) -> Option<&'a [u8]> {
-    for i in 0..text.tokens.len() {
-        let name = text.word(i.saturating_add(1));
-        if text.is(i, b"MACRO") && likeness.holds(word, name) {
-            return Some(name);
+/// The first macro that a word is like: the number of its name.
+fn macro_like(text: &Text, likeness: Likeness, word: &[u8]) -> Option<usize> {
+    for i in 1..text.tokens.len() {
+        if text.is(i - 1, b"MACRO") && likeness.holds(word, text.word(i)) {
+            return Some(i);
         }
     }
     None
 }
 
-/// The kind or the macro that a word may stand for.
-fn meant<'a>(text: &Text<'a>, word: &[u8]) -> Option<&'a [u8]> {
-    kind_like(Likeness::Case, word)
-        .or(macro_like(text, Likeness::Case, word))
-        .or(macro_like(text, Likeness::Edit, word))
+/// That another name is meant in place of a word.
+fn add_meant(out: &mut Lines, name: &[u8], word: &[u8]) {
+    out.tell(b"is % meant in place of %?", &[Shown(name), Quoted(word)]);
 }
 
 /// That there is no kind and no macro of this name.
 pub fn add_unknown_kind(out: &mut Lines, text: &Text, label: usize) {
     let word = text.word(label.saturating_add(2));
-    let drawn = noted(&DRAWN, word);
-    match meant(text, word).or(if drawn.is_some() {
-        None
+    let defined = macro_like(text, Likeness::Case, word);
+    if let Some(kind) = kind_like(Likeness::Case, word) {
+        add_meant(out, kind.name(), word);
+    } else if let Some(name) = defined.or(macro_like(text, Likeness::Edit, word)) {
+        add_meant(out, text.word(name), word);
+    } else if let Some(way) = noted(&DRAWN, word) {
+        out.tell(b"% is drawn as %", &[Quoted(word), Shown(way)]);
+    } else if let Some(kind) = kind_like(Likeness::Edit, word) {
+        add_meant(out, kind.name(), word);
     } else {
-        kind_like(Likeness::Edit, word)
-    }) {
-        Some(name) => out.line(&[
-            Part::Text(b"    is "),
-            Part::Text(name),
-            Part::Text(b" meant in place of "),
-            Part::Quoted(word),
-            Part::Text(b"?"),
-        ]),
-        None => match drawn {
-            Some(way) => out.line(&[
-                Part::Text(b"    "),
-                Part::Quoted(word),
-                Part::Text(b" is drawn as "),
-                Part::Text(way),
-            ]),
-            None => {
-                out.note(
-                    b"the kinds are BUF, AND, OR, XOR, MUX2, MUX4, MUX8, CHG, REG, REG_RS, LATCH, LATCH_RS,",
-                );
-                out.note(
-                    b"SETUP_HOLD_CHK, SETUP_RISE_HOLD_FALL_CHK and MIN_PULSE_CHK; a - before a name inverts it",
-                );
-            }
-        },
-    }
-}
-
-// ---- delays and limits
-
-/// How a kind is given its delay.
-fn add_delay_rule(out: &mut Lines, kind: Kind) {
-    out.line(&[
-        Part::Text(b"    "),
-        Part::Text(kind.name()),
-        Part::Text(if !kind.has_output() {
-            b" takes no delay"
-        } else if kind.may_split() {
-            b" takes a delay [a:b], 0 <= a <= b <= 4095, or two, [r:R, f:F], each at most 255"
-        } else {
-            b" takes one delay [a:b], 0 <= a <= b <= 4095"
-        }),
-    ]);
-}
-
-/// What is wrong with a least and a greatest delay that are written in digits, where the greatest may be so much.
-fn add_pair(out: &mut Lines, pair: Option<(u64, u64)>, most: u64) {
-    let Some((least, greatest)) = pair else {
-        return;
-    };
-    if greatest < least {
-        out.line(&[
-            Part::Text(b"    the least, "),
-            Part::Number(least),
-            Part::Text(b", is more than the greatest, "),
-            Part::Number(greatest),
-            Part::Text(b": is "),
-            Part::Number(greatest),
-            Part::Text(b":"),
-            Part::Number(least),
-            Part::Text(b" meant?"),
-        ]);
-    } else if most < greatest {
-        add_over(out, greatest, most);
+        out.note(
+            b"the kinds are BUF, AND, OR, XOR, MUX2, MUX4, MUX8, CHG, REG, REG_RS, LATCH, LATCH_RS,",
+        );
+        out.note(
+            b"SETUP_HOLD_CHK, SETUP_RISE_HOLD_FALL_CHK and MIN_PULSE_CHK; a - before a name inverts it",
+        );
     }
 }
 
 /// That a number is past its bound.
 pub fn add_over(out: &mut Lines, number: u64, most: u64) {
-    out.line(&[
-        Part::Text(b"    "),
-        Part::Number(number),
-        Part::Text(b" is more than "),
-        Part::Number(most),
-    ]);
+    out.tell(b"% is more than %", &[Number(number), Number(most)]);
+}
+
+/// What is wrong with a least and a greatest delay that are written in digits, where the greatest may be so much.
+pub fn add_pair(out: &mut Lines, pair: Option<(u64, u64)>, most: u64) {
+    match pair {
+        Some((a, b)) if b < a => {
+            let [least, greatest] = [Number(a), Number(b)];
+            out.tell(
+                b"the least, %, is more than the greatest, %: is %:% meant?",
+                &[least, greatest, greatest, least],
+            );
+        }
+        Some((_, b)) if most < b => add_over(out, b, most),
+        _ => {}
+    }
 }
 
 /// What is wrong with the delay of a use of a kind.
 fn add_delay(out: &mut Lines, text: &Text, kind: Kind, delay: Span) {
-    let count = text.count(delay);
-    add_delay_rule(out, kind);
-    if count == 0 && kind.has_output() {
-        out.line(&[
-            Part::Text(b"    here it has none: it stands after the kind, as in "),
-            Part::Text(kind.name()),
-            Part::Text(b" [20:60]"),
-        ]);
-    } else if count == 2 {
-        add_pair(out, text.pair(text.item(delay, 0)), MOST_OF_TWO);
-        add_pair(out, text.pair(text.item(delay, 1)), MOST_OF_TWO);
+    let (rise, fall) = text.split(delay);
+    let name = [Shown(kind.name())];
+    if !kind.has_output() {
+        return out.tell(b"% takes no delay", &name);
+    }
+    if kind.may_split() {
+        out.tell(
+            b"% takes a delay [a:b], 0 <= a <= b <= 4095, or two, [r:R, f:F], each at most 255",
+            &name,
+        );
     } else {
-        add_pair(out, text.pair(delay), MOST);
+        out.tell(b"% takes one delay [a:b], 0 <= a <= b <= 4095", &name);
+    }
+    if delay.is_empty() {
+        out.tell(
+            b"here it has none: it stands after the kind, as in % [20:60]",
+            &name,
+        );
+    } else if fall.is_empty() {
+        add_pair(out, text.pair(rise), MOST_DELAY);
+    } else {
+        add_pair(out, text.pair(rise), MOST_OF_TWO);
+        add_pair(out, text.pair(fall), MOST_OF_TWO);
     }
 }
 
-/// The number that a use gives a parameter, and 0 where it gives none in digits.
-fn given(text: &Text, list: Span, name: &[u8]) -> u64 {
-    for j in list.from..list.to {
-        if text.is(j, name) && text.is_given(j) {
-            return text.number(j.saturating_add(2)).unwrap_or(0);
-        }
-    }
-    0
+/// Where a list gives a parameter of this name.
+fn given(text: &Text, list: Span, name: &[u8]) -> Option<usize> {
+    (list.from..list.to).find(|j| text.is(*j, name) && text.is_given(*j))
 }
 
-/// How many ticks the period has.
-fn period(text: &Text) -> u64 {
-    match (text.number(4), text.number(6)) {
-        (Some(units), Some(ticks)) => units.saturating_mul(ticks),
-        _ => 0,
-    }
+/// The number that a list gives a limit, and 0 where it gives none in digits.
+fn limit_of(text: &Text, list: Span, name: &[u8]) -> u64 {
+    let equals = given(text, list, name).unwrap_or(list.to);
+    text.number(equals.saturating_add(2)).unwrap_or(0)
 }
 
 /// That a limit is past the period.
-fn add_limit(out: &mut Lines, name: &[u8], number: u64, period: u64) {
-    if period < number {
-        out.line(&[
-            Part::Text(b"    "),
-            Part::Text(name),
-            Part::Text(b" "),
-            Part::Number(number),
-            Part::Text(b", and the period has "),
-            Part::Number(period),
-            Part::Text(b" ticks"),
-        ]);
+fn add_limit(out: &mut Lines, text: &Text, what: &[u8], limit: u64) {
+    let [units, ticks] = [text.number(4), text.number(6)];
+    let period = units.unwrap_or(0).saturating_mul(ticks.unwrap_or(0));
+    if period < limit {
+        out.tell(
+            b"% %, and the period has % ticks",
+            &[Shown(what), Number(limit), Number(period)],
+        );
     }
 }
 
 /// What is wrong with the limits of a checker.
 fn add_limits(out: &mut Lines, text: &Text, check: Check, list: Span) {
-    let period = period(text);
     match check {
         Check::MinPulse => {
             out.note(b"HIGH and LOW are 0 or more, and each is at most the period");
-            add_limit(out, b"HIGH is", given(text, list, b"HIGH"), period);
-            add_limit(out, b"LOW is", given(text, list, b"LOW"), period);
+            add_limit(out, text, b"HIGH is", limit_of(text, list, b"HIGH"));
+            add_limit(out, text, b"LOW is", limit_of(text, list, b"LOW"));
         }
         Check::SetupHold | Check::RiseFall => {
             out.note(b"SETUP and HOLD are 0 or more, and together at most the period");
-            let sum = given(text, list, b"SETUP").saturating_add(given(text, list, b"HOLD"));
-            add_limit(out, b"SETUP and HOLD together are", sum, period);
+            let sum = limit_of(text, list, b"SETUP").saturating_add(limit_of(text, list, b"HOLD"));
+            add_limit(out, text, b"SETUP and HOLD together are", sum);
         }
     }
-}
-
-/// What is wrong with the bounds of a WIRE.
-fn add_wire(out: &mut Lines, text: &Text, start: usize) {
-    out.note(b"WIRE \"A\" a:b has 0 <= a <= b <= 4095");
-    let to = text.end_of(start);
-    add_pair(
-        out,
-        text.pair(Span {
-            from: to.saturating_sub(3),
-            to,
-        }),
-        MOST,
-    );
 }
 
 /// What is wrong with a delay, with limits or with the bounds of a wire.
 pub fn add_bounds(out: &mut Lines, text: &Text, start: usize) {
     if text.is(start, b"WIRE") {
-        return add_wire(out, text, start);
+        let to = text.end_of(start);
+        let from = to.saturating_sub(3);
+        out.note(b"WIRE \"A\" a:b has 0 <= a <= b <= 4095");
+        return add_pair(out, text.pair(Span { from, to }), MOST_DELAY);
     }
     let used = text.use_at(start);
     match kind_named(text.word(used.kind)) {
@@ -250,213 +182,134 @@ pub fn add_bounds(out: &mut Lines, text: &Text, start: usize) {
     }
 }
 
-// ---- parameters
-
-/// The parameters of a kind.
-fn limits_of(kind: Kind) -> [&'static [u8]; 2] {
-    match kind.form() {
-        Form::Checker(Check::MinPulse) => [b"HIGH", b"LOW"],
-        Form::Checker(_) => [b"SETUP", b"HOLD"],
-        _ => [b"", b""],
-    }
+/// What has parameters: a kind, or else a macro, and the numbers of these; a macro's are those of its tokens.
+#[derive(Clone, Copy)]
+struct Owner {
+    kind: Option<Kind>,
+    list: Span,
 }
 
-/// Whether a list names this parameter.
-fn names(text: &Text, list: Span, word: &[u8]) -> bool {
-    (list.from..list.to).any(|j| text.is_given(j) && text.is(j, word))
+/// What the kind of a use names, where that is a kind or a macro.
+fn owner_of(text: &Text, name: &[u8]) -> Option<Owner> {
+    let kind = kind_named(name);
+    let list = if kind.is_some() {
+        Span { from: 0, to: 2 }
+    } else {
+        let head = text.macro_named(name)?;
+        text.use_at(head.saturating_sub(1)).given
+    };
+    Some(Owner { kind, list })
 }
 
-/// The parameter of a list that a word nearly is.
-fn nearly<'a>(text: &Text<'a>, list: Span, word: &[u8]) -> Option<&'a [u8]> {
-    for j in list.from..list.to {
-        if text.is_given(j) && is_near(word, text.word(j)) {
-            return Some(text.word(j));
-        }
-    }
-    None
-}
-
-/// The first parameter that is given twice.
-fn twice<'a>(text: &Text<'a>, list: Span) -> Option<&'a [u8]> {
-    for j in list.from..list.to {
-        let later = Span {
-            from: j.saturating_add(1),
-            to: list.to,
+/// The parameter of this number; nothing where none has it.
+fn parameter<'a>(text: &Text<'a>, owner: Owner, number: usize) -> &'a [u8] {
+    let Some(kind) = owner.kind else {
+        return if text.is_given(number) {
+            text.word(number)
+        } else {
+            b""
         };
-        if text.is_given(j) && names(text, later, text.word(j)) {
-            return Some(text.word(j));
-        }
-    }
-    None
-}
-
-/// That a word is none of the parameters, and which may be meant.
-fn add_none<'a>(out: &mut Lines, word: &'a [u8], of: &'a [u8], meant: Option<&'a [u8]>) {
-    out.add(&[
-        Part::Text(b"    "),
-        Part::Quoted(word),
-        Part::Text(b" is no parameter of "),
-        Part::Quoted(of),
-    ]);
-    match meant {
-        Some(meant) => out.line(&[
-            Part::Text(b": is "),
-            Part::Text(meant),
-            Part::Text(b" meant?"),
-        ]),
-        None => out.put(b"\n"),
+    };
+    match (kind.check(), number) {
+        (Some(Check::MinPulse), 0) => b"HIGH",
+        (Some(Check::MinPulse), _) => b"LOW",
+        (Some(_), 0) => b"SETUP",
+        (Some(_), _) => b"HOLD",
+        (None, _) => b"",
     }
 }
 
-/// The parameters of a macro.
-fn add_names(out: &mut Lines, text: &Text, list: Span) {
-    let mut is_first = true;
-    out.put(b"    its parameters are");
-    for j in list.from..list.to {
-        if text.is_given(j) {
-            out.put(if is_first { b" " } else { b", " });
-            out.add(&[Part::Shown(text.word(j))]);
-            is_first = false;
+/// The number of the parameter that a word is like.
+fn parameter_like(text: &Text, owner: Owner, likeness: Likeness, word: &[u8]) -> Option<usize> {
+    (owner.list.from..owner.list.to).find(|j| likeness.holds(word, parameter(text, owner, *j)))
+}
+
+/// That a word is none of the parameters, which may be meant, and which there are.
+fn add_unknown(out: &mut Lines, text: &Text, owner: Owner, word: &[u8], of: &[u8]) {
+    out.fill(b"    % is no parameter of %", &[Quoted(word), Quoted(of)]);
+    if let Some(meant) = parameter_like(text, owner, Likeness::Edit, word) {
+        out.fill(b": is % meant?", &[Shown(parameter(text, owner, meant))]);
+    }
+    let mut before: &[u8] = b"\n    its parameters are ";
+    for j in owner.list.from..owner.list.to {
+        let name = parameter(text, owner, j);
+        if !name.is_empty() {
+            out.put(before);
+            out.fill(b"%", &[Shown(name)]);
+            before = b", ";
         }
+    }
+    if before.len() != 2 {
+        out.put(b"\n    it takes no parameters");
     }
     out.put(b"\n");
-}
-
-/// What is wrong with a parameter of a use of a kind.
-fn add_limit_name(out: &mut Lines, text: &Text, kind: Kind, word: &[u8]) {
-    let [first, second] = limits_of(kind);
-    let meant: Option<&[u8]> = if is_near(word, first) {
-        Some(first)
-    } else if is_near(word, second) {
-        Some(second)
-    } else {
-        None
-    };
-    let _ = text;
-    add_none(out, word, kind.name(), meant);
-    if first.is_empty() {
-        out.note(b"it takes no parameters");
-    } else {
-        out.line(&[
-            Part::Text(b"    its parameters are "),
-            Part::Text(first),
-            Part::Text(b" and "),
-            Part::Text(second),
-        ]);
-    }
-}
-
-/// What is wrong with a parameter of a use of a macro.
-fn add_macro_name(out: &mut Lines, text: &Text, head: usize, word: &[u8]) {
-    let list = text.use_at(head.saturating_sub(1)).given;
-    add_none(
-        out,
-        word,
-        text.word(head.saturating_add(1)),
-        nearly(text, list, word),
-    );
-    if list.is_empty() {
-        out.note(b"it takes no parameters");
-    } else {
-        add_names(out, text, list);
-    }
-}
-
-/// Whether the macro or the kind of a use has a parameter.
-fn has(text: &Text, used: Use, word: &[u8]) -> bool {
-    let name = text.word(used.kind);
-    match kind_named(name) {
-        Some(kind) => limits_of(kind).iter().any(|limit| *limit == word),
-        None => match text.macro_named(name) {
-            Some(head) => names(text, text.use_at(head.saturating_sub(1)).given, word),
-            None => true,
-        },
-    }
 }
 
 /// What is wrong with the parameters of a use.
 pub fn add_parameter(out: &mut Lines, text: &Text, label: usize) {
     let used = text.use_at(label);
     let name = text.word(used.kind);
-    let wrong = (used.given.from..used.given.to).find(|j| text.is_given(*j)
-        && !has(text, used, text.word(*j)));
-    match wrong {
-        None => {
-            if let Some(word) = twice(text, used.given) {
-                out.line(&[
-                    Part::Text(b"    "),
-                    Part::Quoted(word),
-                    Part::Text(b" is given twice"),
-                ]);
-            }
+    let Some(owner) = owner_of(text, name) else {
+        return;
+    };
+    let Span { from, to } = used.given;
+    for j in from..to.min(from.saturating_add(MOST_GIVEN)) {
+        let word = text.word(j);
+        if !text.is_given(j) {
+            continue;
         }
-        Some(j) => match (kind_named(name), text.macro_named(name)) {
-            (Some(kind), _) => add_limit_name(out, text, kind, text.word(j)),
-            (None, Some(head)) => add_macro_name(out, text, head, text.word(j)),
-            _ => {}
-        },
+        if parameter_like(text, owner, Likeness::Whole, word).is_none() {
+            return add_unknown(out, text, owner, word, name);
+        }
+        if given(text, Span { from, to: j }, word).is_some() {
+            return out.tell(b"% is given twice", &[Quoted(word)]);
+        }
     }
 }
 
-// ---- connections
-
-/// So many connections of a word.
-fn add_count(out: &mut Lines, count: u64, word: &[u8]) {
-    out.add(&[
-        Part::Number(count),
-        Part::Text(b" "),
-        Part::Text(word),
-        Part::Text(if count == 1 { b"" } else { b"s" }),
-    ]);
-}
-
-/// How many connections a use or a head has.
-fn add_counts(out: &mut Lines, text: &Text, used: Use) {
-    add_count(out, text.count(used.inputs), b"input");
-    out.put(b" and ");
-    add_count(out, text.count(used.outputs), b"output");
+/// The end of a noun of which there are so many.
+fn plural(count: u64) -> Part<'static> {
+    Shown(if count == 1 { b"" } else { b"s" })
 }
 
 /// How many connections a kind takes.
 fn add_wanted(out: &mut Lines, kind: Kind) {
     let (fewest, most) = kind.inputs();
-    out.add(&[
-        Part::Text(b"    "),
-        Part::Text(kind.name()),
-        Part::Text(b" takes "),
-    ]);
+    let [fewest, most] = [u64::from(fewest), u64::from(most)];
+    out.fill(b"    % takes ", &[Shown(kind.name())]);
     if fewest != most {
-        out.add(&[Part::Number(u64::from(fewest)), Part::Text(b" to ")]);
+        out.fill(b"% to ", &[Number(fewest)]);
     }
-    add_count(out, u64::from(most), b"input");
+    out.fill(b"% input% and ", &[Number(most), plural(most)]);
     out.put(if kind.has_output() {
-        b" and 1 output"
+        b"1 output, and "
     } else {
-        b" and 0 outputs"
+        b"no output, and "
     });
     out.put(if kind.may_be_marked() {
-        b", and one input may have the mark !H\n"
+        b"one input may have the mark !H\n"
     } else {
-        b", and no mark !H\n"
+        b"no mark !H\n"
     });
+}
+
+/// How many connections a use or a head has.
+fn add_counts(out: &mut Lines, text: &Text, used: Use) {
+    let [inputs, outputs] = [text.count(used.inputs), text.count(used.outputs)];
+    out.fill(b"% input% and ", &[Number(inputs), plural(inputs)]);
+    out.fill(b"% output%", &[Number(outputs), plural(outputs)]);
 }
 
 /// How many connections are wanted, and how many there are.
 pub fn add_connections(out: &mut Lines, text: &Text, label: usize) {
     let used = text.use_at(label);
     let name = text.word(used.kind);
-    match (kind_named(name), text.macro_named(name)) {
-        (Some(kind), _) => add_wanted(out, kind),
-        (None, Some(head)) => {
-            out.add(&[
-                Part::Text(b"    "),
-                Part::Quoted(name),
-                Part::Text(b" takes "),
-            ]);
-            add_counts(out, text, text.use_at(head.saturating_sub(1)));
-            out.put(b", and no mark !H\n");
-        }
-        _ => {}
+    if let Some(kind) = kind_named(name) {
+        add_wanted(out, kind);
+    } else if let Some(head) = text.macro_named(name) {
+        out.fill(b"    % takes ", &[Quoted(name)]);
+        add_counts(out, text, text.use_at(head.saturating_sub(1)));
+        out.put(b", and no mark !H\n");
     }
     out.put(b"    here it has ");
     add_counts(out, text, used);
