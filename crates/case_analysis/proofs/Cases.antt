@@ -24,7 +24,7 @@ use Rattle.fixpoint_engine.specs.Interface.{PermitRun}
 use Rattle.fixpoint_engine.proofs.WavesOf.{set_at}
 use Rattle.fixpoint_engine.specs.Reach.{reach}
 use Rattle.fixpoint_engine.specs.Start.{is_driven}
-use Rattle.fixpoint_engine.specs.Settled.{KeepRuns}
+use Rattle.fixpoint_engine.specs.Settled.{FitActive, KeepRuns, marked_in}
 use Rattle.case_analysis.specs.Base.{PermitInputs}
 use Rattle.fixpoint_engine.specs.declared.rounds.EngineEnd.{EngineEnd}
 use Rattle.fixpoint_engine.specs.declared.rounds.EngineEnd.TheVariants.{Unsettled, NoMemory}
@@ -53,6 +53,14 @@ pub in_cone : {X : Type 0} (c : Circuit) (vs : List CaseValue) (cone : ℕ → B
 in_cone c vs cone is (Ok x) = record { cone = cone; is = is }
 in_cone c vs cone is (Err NoMemory) = tt
 in_cone c vs cone is (Err (Unsettled net limit)) = record { cone = cone; is = is }
+
+-- the driven nets of a cone are driven
+pub active_fits : (c : Circuit) (active : List Bool) (cone : ℕ → Bool) → ((i : ℕ) → marked_in active i ≡ case_active c cone i) → FitActive c active
+active_fits c active cone are i on = and_second (cone i) (is_driven c i) (sym (are i) ∙ on)
+  where
+    and_second : (a b : Bool) → (a && b) ≡ true → b ≡ true
+    and_second true b e = e
+    and_second false b e = absurd (cc)
 
 -- ---- one value more
 

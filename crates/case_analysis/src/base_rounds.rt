@@ -7,14 +7,17 @@ ghost use Rattle.fixpoint_engine.specs.Table.{AreKnown, Grows, IsNumber, waves_a
 ghost use Rattle.fixpoint_engine.specs.Waves.{FitWaves, waves_of};
 ghost use Rattle.fixpoint_engine.specs.End.{EndsFor};
 ghost use Rattle.fixpoint_engine.specs.Loops.{HasNoLoop};
+ghost use Rattle.fixpoint_engine.specs.Members.{evaluations_to};
+ghost use Rattle.fixpoint_engine.specs.NetClasses.{AreClasses};
 ghost use Rattle.fixpoint_engine.specs.Settled.{marked_in};
 ghost use Rattle.fixpoint_engine.specs.Start.{base_start, default_limit, is_driven, unknown_wave};
-ghost use Rattle.fixpoint_engine.specs.Work.{work_to};
 ghost use Rattle.case_analysis.specs.Base.{AreAssertedAlike, IsBase, PermitInputs, base_round};
 
 use crate::parts::{instance_of, net_of};
-use fixpoint_engine::{EngineEnd, NetSet, Numbers, Settled, Store, settle};
-use flat_circuit::{Circuit, Net, is_same_assertion};
+use fixpoint_engine::{
+    EngineEnd, NetClasses, NetSet, Numbers, Settled, Store, constant_numbers, settle,
+};
+use flat_circuit::{CaseList, Circuit, Net, is_same_assertion};
 use pin_waves::interface_wave;
 use scald_base::{AssertSpec, Header, List, NoMemory};
 use skew_algebra::Skewed;
@@ -120,23 +123,27 @@ pub fn default_limit(c: &Circuit) -> u32
 }
 
 /// The base: from the assertions of the nets that nothing drives, and nothing known of the others, rounds
-/// over all driven nets until a round is as the one before. The settled waves permit every run whose
-/// inputs keep their assertions, `reach` ticks a round later. `Unsettled` comes exactly where no round up
-/// to `limit` is as the next one: never where no net is reached from itself through listening pins and
-/// the limit is not below the number of instances with an output. The waves are answered by their numbers in the
-/// store.
+/// over all driven nets until a round is as the one before, by one net of each class where there are
+/// classes. The settled waves permit every run whose inputs keep their assertions, `reach` ticks a round
+/// later. `Unsettled` comes exactly where no round up to `limit` is as the next one: never where no net is
+/// reached from itself through listening pins and the limit is not below the number of instances with an
+/// output. The waves are answered by their numbers in the store.
 pub fn base<W: CyclicWave<Item = Value>>(
     alloc: Global,
     c: &Circuit,
     store: &mut Store<W>,
+    cases: &CaseList,
+    classes: &NetClasses,
     limit: u32,
 ) -> Result<Settled, EngineEnd>
+    requires { AreClasses c.now cases.now classes.now }
     ensures grows { Grows store.old store.new }
     ensures known { IfOk result (λ s. AreKnown store.new s.numbers) }
     ensures rest { IfOk result (λ s. IsBase c.now limit s.rounds (waves_of (waves_at store.new s.numbers))) }
     ensures within { IfOk result (λ s. s.rounds ≤ limit) }
     ensures fit { IfOk result (λ s. FitWaves c.now (waves_at store.new s.numbers)) }
-    ensures work { IfOk result (λ s. s.evals ≡ work_to c.now (is_driven c.now) (base_round c.now) (s.rounds + 1)) }
+    ensures work { IfOk result (λ s. s.evals
+        ≡ evaluations_to classes.now.nets c.now (is_driven c.now) (base_round c.now) (s.rounds + 1)) }
     ensures sound { IfOk result (λ s. PermitInputs c.now s.rounds (waves_of (waves_at store.new s.numbers))) }
     ensures unsettled { IfErr result (EndsFor c.now.order (base_round c.now) limit) }
     ensures loopless { HasNoLoop c.now → outputs c.now.instances ≤ limit →
@@ -144,7 +151,12 @@ pub fn base<W: CyclicWave<Item = Value>>(
 {
     c.known();
     c.header().known();
+    let constants = constant_numbers(alloc, c.header(), store)?;
     let start = start_numbers(alloc, c, store)?;
     let active = driven_nets(alloc, c)?;
-    settle(alloc, c, store, &start, &active, limit)
+    let nets = classes.nets.as_ref();
+    let hearers = &classes.hearers;
+    settle(
+        alloc, c, store, constants, nets, hearers, &start, &active, limit,
+    )
 }

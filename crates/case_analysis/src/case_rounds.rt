@@ -7,18 +7,22 @@ ghost use Rattle.skew_algebra.specs.Wave.{Wave};
 ghost use Rattle.fixpoint_engine.specs.Table.{AreKnown, Grows, IsNumber, waves_at};
 ghost use Rattle.fixpoint_engine.specs.Waves.{FitWaves, waves_of};
 ghost use Rattle.fixpoint_engine.specs.End.{EndsFor};
+ghost use Rattle.fixpoint_engine.specs.Key.{AreConstants};
 ghost use Rattle.fixpoint_engine.specs.Loops.{HasNoLoop};
+ghost use Rattle.fixpoint_engine.specs.Members.{evaluations_to};
+ghost use Rattle.fixpoint_engine.specs.NetClasses.{AreClasses};
 ghost use Rattle.fixpoint_engine.specs.Settled.{marked_in};
 ghost use Rattle.fixpoint_engine.specs.Start.{unknown_wave};
-ghost use Rattle.fixpoint_engine.specs.Work.{work_to};
 ghost use Rattle.case_analysis.specs.Base.{IsBase};
-ghost use Rattle.case_analysis.specs.Case.{EndsInCone, HasCone, IsCase, IsCone, NetsExist, PermitCase, case_active, case_round, case_start};
+ghost use Rattle.case_analysis.specs.Case.{EndsInCone, HasCone, IsCase, IsCone, NetsExist, PermitCase, case_active, case_at, case_round, case_start};
 
 use crate::base_rounds::unknown_wave;
 use crate::cones::cone;
-use crate::parts::net_of;
-use fixpoint_engine::{EngineEnd, NetSet, Numbers, Settled, Store, constant_numbers, settle};
-use flat_circuit::{Case, Circuit};
+use crate::parts::{case_at, net_of};
+use fixpoint_engine::{
+    Constants, EngineEnd, NetClasses, NetSet, Numbers, Settled, Store, constant_numbers, settle,
+};
+use flat_circuit::{Case, CaseList, Circuit};
 use scald_base::{List, NoMemory};
 use std::alloc::Global;
 use step_values::Value;
@@ -53,25 +57,26 @@ fn unset_numbers(
     Ok(numbers)
 }
 
-/// The numbers of the waves that a case begins with.
-pub fn start_numbers<W: CyclicWave<Item = Value>>(
+/// The numbers of the waves that a case begins with, and those of the constants.
+fn start_numbers<W: CyclicWave<Item = Value>>(
     alloc: Global,
     c: &Circuit,
     store: &mut Store<W>,
     case: &Case,
     cone: &NetSet,
     before: &Numbers,
-) -> Result<Numbers, NoMemory>
+) -> Result<(Numbers, Constants), NoMemory>
     requires exist { NetsExist c.now case.now }
     requires cone { length cone.now ≡ length c.now.nets }
     requires known { AreKnown store.old before.now }
     requires fit { FitWaves c.now (waves_at store.old before.now) }
     ensures grows { Grows store.old store.new }
-    ensures known { IfOk result (AreKnown store.new) }
+    ensures constants { IfOk result (λ start. AreConstants c.now.header store.new start.1) }
+    ensures known { IfOk result (λ start. AreKnown store.new start.0) }
     ensures is { let old = waves_of (waves_at store.old before.now) in
-        IfOk result (λ numbers. (i : ℕ) → waves_of (waves_at store.new numbers) i
+        IfOk result (λ start. (i : ℕ) → waves_of (waves_at store.new start.0) i
         ≡ case_start c.now case.now (marked_in cone.now) old i) }
-    ensures fit { IfOk result (λ numbers. FitWaves c.now (waves_at store.new numbers)) }
+    ensures fit { IfOk result (λ start. FitWaves c.now (waves_at store.new start.0)) }
 {
     let unknown = store.number(unknown_wave(alloc, c.header())?)?;
     let constants = constant_numbers(alloc, c.header(), store)?;
@@ -79,11 +84,11 @@ pub fn start_numbers<W: CyclicWave<Item = Value>>(
     for value in case.as_slice() {
         numbers.set(value.net as usize, constants.of(value.one));
     }
-    Ok(numbers)
+    Ok((numbers, constants))
 }
 
 /// The driven nets of a cone.
-pub fn driven_in(alloc: Global, c: &Circuit, cone: &NetSet) -> Result<NetSet, NoMemory>
+fn driven_in(alloc: Global, c: &Circuit, cone: &NetSet) -> Result<NetSet, NoMemory>
     ensures each_net { IfOk result (λ set. length set ≡ length c.now.nets) }
     ensures is { IfOk result (λ set. (i : ℕ) → marked_in set i ≡ case_active c.now (marked_in cone.now) i) }
 {
@@ -96,46 +101,61 @@ pub fn driven_in(alloc: Global, c: &Circuit, cone: &NetSet) -> Result<NetSet, No
     Ok(active)
 }
 
-/// The settled waves of a case: its nets have their values, the other nets of its cone are unknown
-/// at the start, and all others keep the base's waves; rounds over the driven nets of the cone, until a
-/// round is as the one before. The waves permit every run of the case whose inputs keep their assertions,
-/// `reach` ticks later for each round of the base and of the case. `Unsettled` comes exactly where no
-/// round up to `limit` is as the next one: never where no net is reached from itself through listening
-/// pins and the limit is not below the number of instances with an output.
+/// The settled waves of the case with this number from 0: its nets have their values, the other nets of
+/// its cone are unknown at the start, and all others keep the base's waves; rounds over the driven nets of
+/// the cone, until a round is as the one before, by one net of each class where there are classes. The
+/// waves permit every run of the case whose inputs keep their assertions, `reach` ticks later for each
+/// round of the base and of the case. `Unsettled` comes exactly where no round up to `limit` is as the
+/// next one: never where no net is reached from itself through listening pins and the limit is not below
+/// the number of instances with an output.
 pub fn case_waves<W: CyclicWave<Item = Value>>(
     alloc: Global,
     c: &Circuit,
     store: &mut Store<W>,
+    cases: &CaseList,
+    classes: &NetClasses,
     base: &Settled,
-    case: &Case,
+    number: u32,
     limit: u32,
 ) -> Result<Settled, EngineEnd>
     requires known { AreKnown store.old base.now.numbers }
-    requires exist { NetsExist c.now case.now }
+    requires classes { AreClasses c.now cases.now classes.now }
+    requires number { number < length cases.now }
+    requires exist { NetsExist c.now (case_at cases.now number) }
     requires base { IsBase c.now base.now.rounds base.now.rounds (waves_of (waves_at store.old base.now.numbers)) }
     requires fit { FitWaves c.now (waves_at store.old base.now.numbers) }
     ensures grows { Grows store.old store.new }
     ensures known { IfOk result (λ s. AreKnown store.new s.numbers) }
-    ensures rest { let before = waves_of (waves_at store.old base.now.numbers) in
-        IfOk result (λ s. (cone : ℕ → Bool) → IsCone c.now case.now cone →
-        IsCase c.now case.now cone before limit s.rounds (waves_of (waves_at store.new s.numbers))) }
+    ensures rest { let case = case_at cases.now number in
+        let before = waves_of (waves_at store.old base.now.numbers) in
+        IfOk result (λ s. (cone : ℕ → Bool) → IsCone c.now case cone →
+        IsCase c.now case cone before limit s.rounds (waves_of (waves_at store.new s.numbers))) }
     ensures within { IfOk result (λ s. s.rounds ≤ limit) }
     ensures fit { IfOk result (λ s. FitWaves c.now (waves_at store.new s.numbers)) }
-    ensures work { let before = waves_of (waves_at store.old base.now.numbers) in
-        IfOk result (λ s. (cone : ℕ → Bool) → IsCone c.now case.now cone →
-        s.evals ≡ work_to c.now (case_active c.now cone) (case_round c.now case.now cone before) (s.rounds + 1)) }
-    ensures sound { IfOk result (λ s. PermitCase c.now case.now (base.now.rounds + s.rounds) (waves_of (waves_at store.new s.numbers))) }
-    ensures unsettled { let before = waves_of (waves_at store.old base.now.numbers) in
-        IfErr result (λ e. (cone : ℕ → Bool) → IsCone c.now case.now cone →
-        EndsFor c.now.order (case_round c.now case.now cone before) limit e) }
-    ensures cone { MatchResult result (λ _. HasCone c.now case.now) (EndsInCone c.now case.now) }
+    ensures work { let case = case_at cases.now number in
+        let before = waves_of (waves_at store.old base.now.numbers) in
+        IfOk result (λ s. (cone : ℕ → Bool) → IsCone c.now case cone → s.evals ≡ evaluations_to
+        classes.now.nets c.now (case_active c.now cone) (case_round c.now case cone before) (s.rounds + 1)) }
+    ensures sound { IfOk result (λ s. PermitCase c.now (case_at cases.now number)
+        (base.now.rounds + s.rounds) (waves_of (waves_at store.new s.numbers))) }
+    ensures unsettled { let case = case_at cases.now number in
+        let before = waves_of (waves_at store.old base.now.numbers) in
+        IfErr result (λ e. (cone : ℕ → Bool) → IsCone c.now case cone →
+        EndsFor c.now.order (case_round c.now case cone before) limit e) }
+    ensures cone { MatchResult result (λ _.
+        HasCone c.now (case_at cases.now number)) (EndsInCone c.now (case_at cases.now number)) }
     ensures loopless { HasNoLoop c.now → outputs c.now.instances ≤ limit →
         MatchResult result (λ s. s.rounds ≤ outputs c.now.instances) (λ e. e ≡ EngineEnd.NoMemory) }
 {
     c.known();
     c.header().known();
+    let case = case_at(cases, number);
     let cone = cone(alloc, c, case)?;
-    let start = start_numbers(alloc, c, store, case, &cone, &base.numbers)?;
+    let (start, constants) = start_numbers(alloc, c, store, case, &cone, &base.numbers)?;
     let active = driven_in(alloc, c, &cone)?;
-    settle(alloc, c, store, &start, &active, limit)
+    let nets = classes.nets.as_ref();
+    let hearers = &classes.hearers;
+    settle(
+        alloc, c, store, constants, nets, hearers, &start, &active, limit,
+    )
 }

@@ -4,15 +4,13 @@
 //! The layer above calls [`base`] for the waves, and [`reach`] and [`tick`] for that tick. `specs/Base`
 //! says which runs the waves permit, and `specs/Tick` from which tick on checks may rely on them.
 //!
-//! [`check_cases`] gives the cases that a drawing lists, [`case_waves`] the waves of one, from those of
-//! the base (`specs/Listed`, `Case`); [`base_classes`] and [`case_classes`] give the waves of the base
-//! and of a case by classes of nets.
+//! [`check_cases`] gives the cases that a drawing lists, and [`case_waves`] the waves of one, from those
+//! of the base (`specs/Listed`, `Case`).
 #![tactic(auto)]
 
 mod base_rounds;
 mod case_list;
 mod case_rounds;
-mod class_rounds;
 mod cones;
 mod parts;
 mod printed_tick;
@@ -20,7 +18,6 @@ mod printed_tick;
 pub use base_rounds::{base, default_limit, driven_nets, start_numbers};
 pub use case_list::check_cases;
 pub use case_rounds::case_waves;
-pub use class_rounds::{base_classes, case_classes};
 pub use cones::cone;
 pub use parts::case_at;
 pub use printed_tick::{reach, tick};

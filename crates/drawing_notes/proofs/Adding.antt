@@ -5,12 +5,13 @@ use Rattle.std.proofs.lemmas.List.{take_more}
 use Rattle.std.proofs.lemmas.List.Concat.{flat_map-append}
 use Rattle.std.proofs.lemmas.List.Folds.{concat-append}
 use Rattle.vector_names.proofs.Ranges.{range_more}
-use Rattle.drawing_notes.specs.Told.{Told, Adds}
+use Rattle.drawing_notes.specs.Lines.{Lines, Adds}
 
-pub adds_none : (t : Told) → Adds t t []
+pub adds_none : (t : Lines) → Adds t t []
 adds_none t = record { bytes = sym (append-nil t.bytes); count = omega arith }
 
-pub adds_both : (first second : List (List ℕ)) (old between new : Told) → Adds old between first → Adds between new second → Adds old new (first ++ second)
+pub adds_both : (first second : List (List ℕ)) (old between new : Lines) → Adds old between first →
+    Adds between new second → Adds old new (first ++ second)
 adds_both first second old between new a b = record {
   bytes =
       b.bytes ∙ ap (λ (l : List ℕ). l ++ concat second) a.bytes ∙ append_assoc old.bytes (concat first) (concat second)
@@ -25,18 +26,19 @@ lines_more f n =
     ap (flat_map f) (range_more 0 n n (omega arith)) ∙ flat_map-append f (range_with_len 0 n) (n ∷ [])
     ∙ ap (λ (l : List (List ℕ)). flat_map f (range_with_len 0 n) ++ l) (append-nil (f n))
 
-pub adds_number : (f : ℕ → List (List ℕ)) (n : ℕ) (old between new : Told) →
+pub adds_number : (f : ℕ → List (List ℕ)) (n : ℕ) (old between new : Lines) →
     Adds old between (flat_map f (range_with_len 0 n)) → Adds between new (f n) → Adds old new (flat_map f (range_with_len 0 (n + 1)))
 adds_number f n old between new before one =
     subst (Adds old new) (sym (lines_more f n)) (adds_both (flat_map f (range_with_len 0 n)) (f n) old between new before one)
 
-pub adds_numbers : (f : ℕ → List (List ℕ)) (n m : ℕ) (old new : Told) → n ≡ m →
+pub adds_numbers : (f : ℕ → List (List ℕ)) (n m : ℕ) (old new : Lines) → n ≡ m →
     Adds old new (flat_map f (range_with_len 0 n)) → Adds old new (flat_map f (range_with_len 0 m))
 adds_numbers f n m old new same all = subst (λ k. Adds old new (flat_map f (range_with_len 0 k))) same all
 
 -- ---- of one item of a list after the other
 
-pub adds_item : (f : ℕ → List (List ℕ)) (xs : List ℕ) (k : ℕ) (old between new : Told) → k < length xs →
+pub adds_item : (f : ℕ → List (List ℕ)) (xs : List ℕ) (k : ℕ) (old between new : Lines) →
+    k < length xs →
     Adds old between (flat_map f (take k xs)) → Adds between new (f (get_or xs k 0)) → Adds old new (flat_map f (take (k + 1) xs))
 adds_item f xs k old between new below before one =
     subst (Adds old new)

@@ -20,7 +20,7 @@ use Rattle.flat_circuit.specs.declared.net.Net.{Net}
 use Rattle.flat_circuit.specs.Circuit.{Circuit}
 use Rattle.fixpoint_engine.specs.Settled.{marked_in}
 use Rattle.timing_analysis.specs.Case.{Case}
-use Rattle.drawing_notes.specs.Told.{Told, Adds}
+use Rattle.drawing_notes.specs.Lines.{Lines, Adds}
 use Rattle.drawing_notes.specs.declared.spread.Spread.{Spread}
 use Rattle.drawing_notes.specs.declared.cases.SoFar.{SoFar}
 use Rattle.drawing_notes.specs.Common.{common, common_line, greatest_skew, skew_at}
@@ -189,10 +189,10 @@ acts_of_the_other : AreActs registers two_cases (false ∷ true ∷ []) → ⊥
 unfolding moved normal earlier back
 acts_of_the_other are = let no : false ≡ true = are 0 (omega arith) in absurd (cc)
 
-abbrev nothing : Told
+abbrev nothing : Lines
 nothing = record { bytes = []; count = 0 }
 
-abbrev one_note : Told
+abbrev one_note : Lines
 one_note = record { bytes = codes "NOTE UNKNOWN CASE 2 NETS 1 A<0>\n"; count = 1 }
 
 one_is_added : Adds nothing one_note (unknown registers two_cases)
@@ -211,7 +211,8 @@ all_is_told s marks_are skews_are notes_are = record {
   each_net = ap length skews_are;
   acts = subst (AreActs registers two_cases) (sym marks_are) acts_in_the_second;
   skews = λ i. ap (λ (xs : List ℕ). skew_at xs i) skews_are ∙ skew_of_each i;
-  unknown_notes = subst (λ (t : Told). Adds nothing t (unknown registers two_cases)) (sym notes_are) one_is_added;
+  unknown_notes = subst (λ (t : Lines). Adds nothing t (unknown registers two_cases))
+      (sym notes_are) one_is_added;
 }
 
 module _ (s : SoFar) (holds : HoldsOf s registers two_cases) where
@@ -222,7 +223,9 @@ module _ (s : SoFar) (holds : HoldsOf s registers two_cases) where
   never_a_net_less skews_are = let no : 2 ≡ 3 = sym (ap length skews_are) ∙ holds.each_net in absurd (omega (arith, no))
 
   never_without_its_note : s.unknown ≡ nothing → ⊥
-  never_without_its_note none = let no : 0 ≡ 1 = sym (ap (λ (t : Told). t.count) none) ∙ holds.unknown_notes.count in absurd (omega (arith, no))
+  never_without_its_note none = let no : 0 ≡ 1 =
+      sym (ap (λ (t : Lines). t.count) none)
+      ∙ holds.unknown_notes.count in absurd (omega (arith, no))
 
   never_a_steady_clock : s.acts.items ≡ true ∷ true ∷ [] → ⊥
   unfolding moved normal earlier back

@@ -9,7 +9,7 @@ use Rattle.flat_circuit.specs.Circuit.{Circuit}
 use Rattle.fixpoint_engine.specs.Settled.{marked_in}
 use Rattle.fixpoint_engine.specs.Waves.{waves_of}
 use Rattle.timing_analysis.specs.Case.{Case}
-use Rattle.drawing_notes.specs.Told.{Told, Adds}
+use Rattle.drawing_notes.specs.Lines.{Lines, Adds}
 use Rattle.drawing_notes.proofs.Adding.{adds_both, adds_none}
 use Rattle.drawing_notes.proofs.Written.{same_at}
 use Rattle.drawing_notes.specs.declared.cases.SoFar.{SoFar}
@@ -19,7 +19,7 @@ use Rattle.drawing_notes.specs.Unclocked.{AreActs}
 use Rattle.drawing_notes.specs.Unknown.{has_unknown, unknown, unknown_at, unknown_in}
 use Rattle.drawing_notes.proofs.Raising.{raised_case}
 
-abbrev nothing : Told
+abbrev nothing : Lines
 nothing = record { bytes = []; count = 0 }
 
 pub begin_holds : (c : Circuit) (s : SoFar) → s.acts.items ≡ replicate (length c.instances) false → s.skews.items ≡ replicate (length c.nets) 0 →
@@ -29,7 +29,7 @@ begin_holds c s acts skews none = record {
   each_net = ap length skews ∙ length-replicate (length c.nets) 0;
   acts = λ k exists. ap (λ (ms : List Bool). marked_in ms k) acts ∙ same_at false (length c.instances) k;
   skews = λ i. ap (λ (xs : List ℕ). skew_at xs i) skews ∙ same_at 0 (length c.nets) i;
-  unknown_notes = subst (λ (t : Told). Adds nothing t []) (sym none) (adds_none nothing);
+  unknown_notes = subst (λ (t : Lines). Adds nothing t []) (sym none) (adds_none nothing);
 }
 
 module _ (c : Circuit) (ws : List (Wave Value)) (number : ℕ) (cases : List Case) (one : Case) (numbered : one.listed.number ≡ number)

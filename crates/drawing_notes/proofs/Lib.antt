@@ -45,7 +45,5 @@ pub mod Stepping
 pub mod Telling
 pub mod Written
 pub mod Examples
-pub mod Lawful
 pub mod Promised
-pub mod Replying
 pub mod Reporting

@@ -11,7 +11,7 @@ use Rattle.std.proofs.lemmas.List.Folds.{list_any-append}
 use Rattle.std.proofs.lemmas.Slice.Eq.{bytes_eq-Decides}
 use Rattle.indexmap.specs.IndexSet.{insert_key}
 use Rattle.flat_circuit.specs.declared.net.Net.{Net}
-use Rattle.drawing_notes.specs.Told.{Told, Adds}
+use Rattle.drawing_notes.specs.Lines.{Lines, Adds}
 use Rattle.drawing_notes.proofs.Adding.{adds_both}
 use Rattle.drawing_notes.proofs.Anys.{any_more, kept_same}
 use Rattle.drawing_notes.specs.Spread.{AreNames, is_among, is_other_bit, is_other_of}
@@ -58,7 +58,8 @@ puts_net old new k n o put same is other at name =
 
 -- ---- notes on items of a list, one after the other
 
-pub adds_next : {X : Type 0} (f : X → List (List ℕ)) (xs : List X) (k : ℕ) (x : X) (old between new : Told) → k < length xs → x ≡ get_or xs k x →
+pub adds_next : {X : Type 0} (f : X → List (List ℕ)) (xs : List X) (k : ℕ) (x : X)
+    (old between new : Lines) → k < length xs → x ≡ get_or xs k x →
     Adds old between (flat_map f (take k xs)) → Adds between new (f x) → Adds old new (flat_map f (take (k + 1) xs))
 adds_next f xs k x old between new below is before one =
     subst (Adds old new)

@@ -1,27 +1,60 @@
 -- What the answer to a text says of the outcome of the call, and of what was written.
-use Rattle.std.proofs.Common.{◌≡◌, true, List, ℕ, length, refl, arith, Option}
+use Rattle.std.proofs.Common.{◌≡◌, ◌∙◌, true, List, ℕ, length, refl, sym, ap, subst, Option, None}
 use Rattle.scald_base.specs.declared.outcome.Outcome.{Outcome}
-use Rattle.fixpoint_engine.specs.Start.{default_limit}
+use Rattle.scald_base.specs.Outcome.{end_of}
+use Rattle.program_call.specs.Program.{IsLawful}
+use Rattle.program_call.specs.Answer as answer
+use Rattle.program_call.specs.Answer.{rested, verdict_of}
 use Rattle.program_call.specs.Promise.{SettlesLoopless, Writes, may_count}
-use Rattle.program_call.proofs.Outcomes.{never_stops, verdict_counts, verdict_settles}
+use Rattle.program_call.proofs.Judgement.{IsOne}
+use Rattle.program_call.proofs.Outcomes.{HoldsOfReports, evaluated_has, evaluated_settles}
+use Rattle.program_call.proofs.Outcomes.{verdict_counts, verdict_settles}
+use Rattle.program_call.proofs.Speaking.{reporting_is_lawful, verdict_speaks}
+use Rattle.drawing_notes.specs.Paths.{Ways}
 use Rattle.drawing_notes.specs.Spreads.{spreads}
-use Rattle.drawing_notes.specs.Answer.{Noted, refused, noted, unsettled}
+use Rattle.drawing_notes.specs.Answer.{Noted, notes_of, notes_program, own_word}
 use Rattle.drawing_notes.specs.Promise.{WritesNotes}
-use Rattle.drawing_notes.specs.Report.{notes}
+use Rattle.drawing_notes.specs.Report.{note_lines, notes}
+use Rattle.drawing_notes.proofs.OneWay.{one_way}
+
+-- ---- one answer, which is no end of a call
+
+notes_are_one : IsOne notes_of
+notes_are_one d c base cases o o' bytes bytes' is is' =
+    let same : is.ways ≡ is'.ways = one_way c is.ways is'.ways is.are is'.are in (
+      is.outcome ∙ ap (λ (ways : Ways). verdict_of (length (notes ways (spreads d) c cases))) same
+          ∙ sym is'.outcome,
+      is.text ∙ ap (λ (ways : Ways). note_lines d.version c (notes ways (spreads d) c cases)) same
+          ∙ sym is'.text,
+    )
+
+notes_speak : HoldsOfReports (λ o. end_of o ≡ None) notes_of
+notes_speak d c base cases o bytes is =
+    ap end_of is.outcome ∙ verdict_speaks (length (notes is.ways (spreads d) c cases))
+
+pub notes_are_lawful : IsLawful notes_program
+notes_are_lawful = reporting_is_lawful own_word notes_of notes_speak notes_are_one
+
+-- ---- the call
 
 pub is_given : (text : List ℕ) (o : Outcome) (bytes : List ℕ) → Noted text o bytes → may_count o ≡ true
-is_given text _ _ (refused r is) = refl
-is_given text _ _ (noted c values draws ways are base cases rests at_rest) = verdict_counts (length (notes ways (spreads draws.drawing) c cases))
-is_given text _ _ (unsettled c values draws place stops) = refl
+is_given text o bytes =
+    evaluated_has (λ p. may_count p ≡ true) (λ place last. refl) (λ r. refl) notes_of None text o
+    bytes
+    (λ d c base cases p bs is. ap may_count is.outcome
+    ∙ verdict_counts (length (notes is.ways (spreads d) c cases)))
 
 pub is_written : (text : List ℕ) (o : Outcome) (taken taken' : Option (List ℕ)) →
-    ((told : Outcome) (bytes : List ℕ) → Noted text told bytes → Writes told bytes o taken taken') → WritesNotes text o taken taken'
+    ((reply : Outcome) (bytes : List ℕ) → Noted text reply bytes →
+    Writes reply bytes o taken taken') → WritesNotes text o taken taken'
 is_written text o taken taken' writes c values base cases drawn ways are rests at_rest =
-    writes _ _ (noted c values drawn ways are base cases rests at_rest)
+    writes _ _ (answer.judged c values _ _ drawn
+    (rested base cases _ _ rests at_rest
+    (record { ways = ways; are = are; outcome = refl; text = refl })))
 
 pub is_settled : (text : List ℕ) (o : Outcome) (bytes : List ℕ) → Noted text o bytes → SettlesLoopless text o
-is_settled text _ _ (refused r is) free place last still = absurd (cc)
-is_settled text _ _ (noted c values draws ways are base cases rests at_rest) free place last still =
-    verdict_settles (length (notes ways (spreads draws.drawing) c cases)) place last still
-is_settled text _ _ (unsettled c values draws net stops) free place last still =
-    never_stops c values (default_limit c) net draws.draws.is_circuit (free c values draws) (omega arith) stops
+is_settled text o bytes =
+    evaluated_settles notes_of text o bytes
+    (λ d c base cases p bs is place last still.
+    verdict_settles (length (notes is.ways (spreads d) c cases)) place last
+    (sym is.outcome ∙ still))

@@ -1,41 +1,31 @@
 -- What the program of notes means.
-use Rattle.std.specs.Prelude.{ℕ, List, codes}
-use Rattle.scald_base.specs.declared.refusal.Refusal.{Refusal}
+use Rattle.std.specs.Prelude.{ℕ, List, codes, None}
 use Rattle.scald_base.specs.declared.outcome.Outcome.{Outcome}
-use Rattle.scald_base.specs.declared.outcome.Outcome.TheVariants.{Refused, Unsettled}
-use Rattle.flat_circuit.specs.declared.case.CaseValue.{CaseValue}
-use Rattle.flat_circuit.specs.Circuit.{Circuit}
-use Rattle.fixpoint_engine.specs.Rounds.{RestsAt}
-use Rattle.fixpoint_engine.specs.Start.{default_limit}
-use Rattle.case_analysis.specs.Base.{base_round}
-use Rattle.timing_analysis.specs.Drawn.{DrawsCircuit, IsTextRefused}
-use Rattle.listing.specs.Answer.{refusal_line, unsettled_line}
-use Rattle.timing_analysis.specs.Case.{Case, AreAtRest, listed_cases}
-use Rattle.timing_analysis.specs.Ended.{StopsEarly}
+use Rattle.drawing_tree.specs.Tree.{Drawing}
 use Rattle.program_call.specs.Program.{Meaning}
 use Rattle.program_call.specs.declared.words.Request.{Request}
-use Rattle.program_call.specs.Wordless.{wordless}
-use Rattle.drawing_notes.specs.Paths.{Ways, AreWays}
+use Rattle.program_call.specs.Answer.{Evaluated, Reporting}
+use Rattle.program_call.specs.Wordless.{reporting_program}
+use Rattle.drawing_notes.specs.declared.reply.Kept.{Kept}
 use Rattle.drawing_notes.specs.Spreads.{spreads}
-use Rattle.drawing_notes.specs.Report.{notes_told}
+use Rattle.drawing_notes.specs.Report.{AreNotes}
 
--- Why a text is refused; or, of the circuit that it draws, with its own limit of rounds: the notes on it, on its cases at rest
--- and on the names that its drawing spreads, by what leads to what in it; or the first net in name order that still changes
--- at the limit.
-pub data Noted (text : List ℕ) : Outcome → List ℕ → Type 0 where
-  refused : (r : Refusal) → IsTextRefused text r → Noted text (Refused r) (refusal_line r)
-  noted : (c : Circuit) (values : List (List CaseValue)) (draws : DrawsCircuit text c values) (ways : Ways) → AreWays c ways →
-      (base : ℕ) (cases : List Case) → RestsAt (base_round c) (default_limit c) base →
-      AreAtRest c (default_limit c) base (listed_cases values) cases →
-      Noted text (notes_told ways (spreads draws.drawing) draws.drawing.version c base cases).0
-      (notes_told ways (spreads draws.drawing) draws.drawing.version c base cases).1
-  unsettled : (c : Circuit) (values : List (List CaseValue)) → DrawsCircuit text c values →
-      (place : ℕ) → StopsEarly c values (default_limit c) place →
-      Noted text (Unsettled place (default_limit c)) (unsettled_line c place (default_limit c))
+-- what the notes keep of a drawing: its version, and the names that it spreads
+abbrev pub kept_of : Drawing → Kept
+kept_of d = record { version = d.version; spreads = spreads d }
+
+-- the notes on the circuit of a drawing, on its settled cases and on the names that the drawing
+-- spreads
+abbrev pub notes_of : Drawing → Reporting
+notes_of d = AreNotes d.version (spreads d)
+
+-- What is answered on a text, with the circuit's own limit of rounds.
+abbrev pub Noted : List ℕ → Outcome → List ℕ → Type 0
+Noted = Evaluated notes_of None
 
 -- the word that asks for it
 abbrev pub own_word : List ℕ
 own_word = codes "notes"
 
 abbrev pub notes_program : Meaning Request Outcome
-notes_program = wordless own_word Noted
+notes_program = reporting_program own_word notes_of

@@ -15,10 +15,9 @@ pub mod Parts
 pub mod Paths
 pub mod Pins
 pub mod Search
-pub mod Told
+pub mod Lines
 pub mod Unchecked
 pub mod Unread
 pub mod Answer
-pub mod Noted
 pub mod Promise
 pub mod Report

@@ -4,7 +4,7 @@ use Rattle.flat_circuit.specs.Circuit.{Circuit}
 use Rattle.timing_analysis.specs.Case.{Case}
 use Rattle.drawing_notes.specs.declared.cases.SoFar.{SoFar}
 use Rattle.drawing_notes.specs.Common.{greatest_skew, skew_at}
-use Rattle.drawing_notes.specs.Told.{Adds}
+use Rattle.drawing_notes.specs.Lines.{Adds}
 use Rattle.drawing_notes.specs.Unclocked.{AreActs}
 use Rattle.drawing_notes.specs.Unknown.{unknown}
 

@@ -11,10 +11,10 @@ use crate::unclocked::add_acts;
 use crate::unknown::add_unknown;
 use fixpoint_engine::Waves;
 use flat_circuit::Circuit;
-use run_wave::RunWave;
 use scald_base::{Bytes, NoMemory};
 use std::alloc::Global;
 use step_values::Value;
+use wave_core::CyclicWave;
 
 /// What the cases so far tell.
 #[derive(Drop)]
@@ -40,12 +40,12 @@ impl SoFar {
     }
 
     /// One case more, by its number and its waves. `NoMemory` comes where memory runs out.
-    pub fn add_case(
+    pub fn add_case<W: CyclicWave<Item = Value>>(
         &mut self,
         alloc: Global,
         c: &Circuit,
         number: u32,
-        waves: &Waves<RunWave<Value>>,
+        waves: &Waves<W>,
     ) -> Result<(), NoMemory>
         requires fit { FitWaves c.now waves.now }
         requires each_instance { length self.old.acts.items ≡ length c.now.instances }

@@ -7,7 +7,7 @@ ghost use Rattle.case_analysis.specs.Found.{Extends};
 ghost use Rattle.drawing_notes.specs.Parts.{together};
 ghost use Rattle.drawing_notes.specs.Paths.{TellsLaunches, is_looped};
 ghost use Rattle.drawing_notes.specs.Search.{is_clocked_by as spec_clocked};
-ghost use Rattle.drawing_notes.specs.Told.{Adds};
+ghost use Rattle.drawing_notes.specs.Lines.{Adds};
 ghost use Rattle.drawing_notes.specs.Common.{common, common_at, common_line, skew_at as spec_skew_at};
 ghost use Rattle.drawing_notes.specs.Doubts.{AreCommon, AreUnlooped, IsLaunched, WasFound, doubt_at, is_common_by, launches_to};
 

@@ -2,7 +2,7 @@
 
 ghost use Rattle.std.specs.Prelude.{◌≡◌, slice_get, OnOk};
 ghost use Rattle.drawing_notes.specs.Idle.{asks_nothing, idle, idle_at, is_idle};
-ghost use Rattle.drawing_notes.specs.Told.{Adds};
+ghost use Rattle.drawing_notes.specs.Lines.{Adds};
 
 use crate::notes::Notes;
 use element_kinds::Check;

@@ -3,7 +3,7 @@
 ghost use Rattle.std.specs.Prelude.{◌≡◌, ◌^◌, OnOk};
 ghost use Rattle.drawing_notes.specs.Arrivals.{AreSmall, arrival_at};
 ghost use Rattle.drawing_notes.specs.Late.{late, late_at, late_on};
-ghost use Rattle.drawing_notes.specs.Told.{Adds};
+ghost use Rattle.drawing_notes.specs.Lines.{Adds};
 
 use crate::launched::{Arrival, arrival_at, behind_wire};
 use crate::notes::Notes;

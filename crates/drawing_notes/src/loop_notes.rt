@@ -3,7 +3,7 @@
 ghost use Rattle.std.specs.Prelude.{◌≡◌, ◌<◌, ◌^◌, IfOk, OnOk, length};
 ghost use Rattle.drawing_notes.specs.Loops.{loops};
 ghost use Rattle.drawing_notes.specs.Parts.{AreInside, AreSizes, part_at, together};
-ghost use Rattle.drawing_notes.specs.Told.{Adds};
+ghost use Rattle.drawing_notes.specs.Lines.{Adds};
 
 use crate::loops::Part;
 use crate::notes::Notes;

@@ -3,7 +3,7 @@
 ghost use Rattle.std.specs.Prelude.{◌≡◌, ◌∷◌, [], ℕ, List, OnOk, map};
 ghost use Rattle.listing.specs.Piece.{piece_text};
 ghost use Rattle.listing.specs.Text.{line};
-ghost use Rattle.drawing_notes.specs.Told.{Adds};
+ghost use Rattle.drawing_notes.specs.Lines.{Adds};
 
 use listing::{Piece, add_line};
 use scald_base::{Bytes, NoMemory};
@@ -18,9 +18,9 @@ pub struct Notes {
 
 impl Model for Notes {
     ghost use Rattle.std.specs.Prelude.{◌≤◌, length};
-    ghost use Rattle.drawing_notes.specs.Told.{Told};
+    ghost use Rattle.drawing_notes.specs.Lines.{Lines};
 
-    ghost Value = { Told };
+    ghost Value = { Lines };
 
     ghost view = { λ n. record { bytes = n.bytes; count = n.count } };
 

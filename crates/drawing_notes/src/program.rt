@@ -9,10 +9,12 @@ ghost use Rattle.program_call.specs.Promise.{SettlesLoopless, may_count};
 ghost use Rattle.drawing_notes.specs.Answer.{notes_program};
 ghost use Rattle.drawing_notes.specs.Promise.{WritesNotes};
 
-use crate::reply::notes_reply;
-use program_call::{Replier, Reply, Wordless, main_call};
+use crate::reply::Noting;
+use program_call::{Replier, Reply, Wordless, main_call, reply_to};
+use run_wave::RunWave;
 use scald_base::{NoMemory, Outcome, Sink, Source, Words};
 use std::alloc::Global;
+use step_values::Value;
 
 /// The program of notes.
 pub struct NotesProgram;
@@ -30,7 +32,7 @@ impl Replier for NotesProgram {
     }
 
     fn reply(alloc: Global, text: &[u8]) -> Result<Reply<Outcome>, NoMemory> {
-        notes_reply(alloc, text)
+        reply_to::<Noting, RunWave<Value>>(alloc, text, (), None, &mut 0)
     }
 
     fn laws() {}

@@ -1,13 +1,12 @@
 //! All notes on a circuit, kind by kind.
 
-ghost use Rattle.std.specs.Prelude.{◌≡◌, ◌++◌, List, OnOk, IfOk, length};
+ghost use Rattle.std.specs.Prelude.{◌≡◌, ◌++◌, ℕ, List, OnOk, IfOk, length};
 ghost use Rattle.timing_analysis.specs.Case.{Case};
 ghost use Rattle.drawing_notes.specs.Parts.{AreInside, together};
 ghost use Rattle.drawing_notes.specs.Paths.{TellsLoops};
-ghost use Rattle.drawing_notes.specs.Told.{Adds};
+ghost use Rattle.drawing_notes.specs.Lines.{Adds};
 ghost use Rattle.drawing_notes.specs.SoFar.{HoldsOf};
-ghost use Rattle.drawing_notes.specs.Noted.{AddsPaths, IsReport};
-ghost use Rattle.drawing_notes.specs.Report.{count_line, single_notes};
+ghost use Rattle.drawing_notes.specs.Report.{AddsPaths, AreNotes, count_line, single_notes};
 
 use crate::{
     Notes, Part, SoFar, Spread, add_common, add_idle, add_late, add_loops, add_spread,
@@ -86,7 +85,8 @@ pub fn report(
     so_far: &SoFar,
 ) -> Result<Reply<Outcome>, NoMemory>
     requires { length so_far.now.acts.items ≡ length c.now.instances }
-    ensures { IfOk result (IsReport version spreads.now so_far.now c.now) }
+    ensures { IfOk result (λ reply. (base : ℕ) (cases : List Case) → HoldsOf so_far.now c.now cases →
+        AreNotes version spreads.now c.now base cases reply.outcome reply.bytes) }
 {
     let mut bytes = Bytes::new(alloc);
     write_period(c, version, &mut bytes)?;

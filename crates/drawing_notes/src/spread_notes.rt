@@ -2,7 +2,7 @@
 
 ghost use Rattle.std.specs.Prelude.{◌≡◌, ◌∷◌, ◌||◌, [], ℕ, List, IfOk, OnOk, slice_get};
 ghost use Rattle.drawing_notes.specs.Spread.{AreNames, is_among, is_other_of, spread, spread_at, spread_line};
-ghost use Rattle.drawing_notes.specs.Told.{Adds};
+ghost use Rattle.drawing_notes.specs.Lines.{Adds};
 
 use crate::{Notes, Spread};
 use flat_circuit::Circuit;

@@ -1,7 +1,7 @@
 //! Inputs of registers and latches that no checker sees.
 
 ghost use Rattle.std.specs.Prelude.{◌≡◌, slice_get, IfOk, OnOk};
-ghost use Rattle.drawing_notes.specs.Told.{Adds};
+ghost use Rattle.drawing_notes.specs.Lines.{Adds};
 ghost use Rattle.drawing_notes.specs.Unchecked.{AreSeen, is_among, sampling_of, seen_by, turned, unchecked, unchecked_at};
 
 use crate::notes::Notes;

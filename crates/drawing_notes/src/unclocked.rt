@@ -4,7 +4,7 @@ ghost use Rattle.std.specs.Prelude.{◌≡◌, ◌++◌, ◌∷◌, ◌||◌, []
 ghost use Rattle.flat_circuit.specs.Instances.{PinExists};
 ghost use Rattle.fixpoint_engine.specs.Waves.{FitWaves, waves_of};
 ghost use Rattle.timing_analysis.specs.Case.{Case};
-ghost use Rattle.drawing_notes.specs.Told.{Adds};
+ghost use Rattle.drawing_notes.specs.Lines.{Adds};
 ghost use Rattle.drawing_notes.specs.Unclocked.{AreActs, acts_at as spec_acts_at, acts_in as spec_acts_in, unclocked, unclocked_of};
 
 use crate::searching::has_active;

@@ -3,7 +3,7 @@
 ghost use Rattle.std.specs.Prelude.{◌≡◌, ◌<◌, ◌-◌, ◌^◌, ◌∷◌, [], OnOk};
 ghost use Rattle.std.specs.List.{filter};
 ghost use Rattle.fixpoint_engine.specs.Waves.{FitWaves, waves_of};
-ghost use Rattle.drawing_notes.specs.Told.{Adds};
+ghost use Rattle.drawing_notes.specs.Lines.{Adds};
 ghost use Rattle.drawing_notes.specs.Unknown.{IsCounted, and_net, has_unknown as spec_has_unknown, unknown_in, unknown_line};
 
 use crate::Notes;

@@ -3,7 +3,7 @@
 ghost use Rattle.std.specs.Prelude.{◌≡◌, ◌∷◌, [], slice_get, IfOk, OnOk, length};
 ghost use Rattle.std.specs.List.{All};
 ghost use Rattle.flat_circuit.specs.Instances.{PinExists, pins_at};
-ghost use Rattle.drawing_notes.specs.Told.{Adds};
+ghost use Rattle.drawing_notes.specs.Lines.{Adds};
 ghost use Rattle.drawing_notes.specs.Unread.{AreRead, MarksPins, is_plain_output, is_unread, unread, unread_at};
 
 use crate::notes::Notes;

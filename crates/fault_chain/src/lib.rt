@@ -13,7 +13,7 @@ mod link;
 // what goes out
 mod lines;
 mod program;
-mod teller;
+mod reporter;
 
 // beside the call
 pub mod laws;

@@ -10,10 +10,12 @@ ghost use Rattle.fault_chain.specs.Answer.{chains};
 ghost use Rattle.fault_chain.specs.Laws.{ChainsAreWhole, DrawnChainsAreWhole};
 ghost use Rattle.fault_chain.specs.Promise.{WritesChains};
 
-use crate::teller::Chains;
+use crate::reporter::Chains;
 use program_call::{Replier, Reply, Wordless, main_call, reply_to};
+use run_wave::RunWave;
 use scald_base::{NoMemory, Outcome, Sink, Source, Words};
 use std::alloc::Global;
+use step_values::Value;
 
 /// The program of chains.
 pub struct ChainProgram;
@@ -21,19 +23,19 @@ pub struct ChainProgram;
 impl Replier for ChainProgram {
     ghost use Rattle.std.specs.Prelude.{None};
     ghost use Rattle.program_call.specs.Answer.{Evaluated};
-    ghost use Rattle.fault_chain.specs.Answer.{chains_told};
+    ghost use Rattle.fault_chain.specs.Answer.{AreChains};
     ghost use Rattle.fault_chain.specs.Answer.{own_word};
 
     ghost word = { own_word };
 
-    ghost replied = { Evaluated chains_told None };
+    ghost replied = { Evaluated (λ d. AreChains d.version) None };
 
     fn name() -> &'static [u8] {
         b"chains".as_slice()
     }
 
     fn reply(alloc: Global, text: &[u8]) -> Result<Reply<Outcome>, NoMemory> {
-        reply_to::<Chains>(alloc, text)
+        reply_to::<Chains, RunWave<Value>>(alloc, text, (), None, &mut 0)
     }
 
     fn laws() {}

@@ -3,6 +3,7 @@ pub mod Grouped
 pub mod Naming
 pub mod Last
 pub mod Through
+pub mod CaseByCase
 pub mod Telling
 pub mod Replied
 pub mod Promised

@@ -18,8 +18,8 @@ use Rattle.fixpoint_engine.specs.Waves.{waves_of}
 use Rattle.program_call.specs.declared.reply.Reply.{Reply}
 use Rattle.timing_analysis.specs.Case.{Case, Listed, fault_count, faults, faults_of}
 use Rattle.timing_analysis.specs.Rested.{IsCaseAtRest, settled_case}
-use Rattle.program_call.specs.Teller.{HasTold, IsTold}
-use Rattle.program_call.proofs.Telling.{told_done}
+use Rattle.fault_report.specs.ByCase.{HasTold, IsTold}
+use Rattle.fault_report.proofs.CaseByCase.{told_done}
 use Rattle.text_groups.specs.Group.{Group, gathered}
 use Rattle.fault_account.specs.Laws.{AreWithin, FaultsAreWithin}
 use Rattle.fault_report.specs.declared.explanations.Explanations.{Explanations}

@@ -4,6 +4,7 @@ pub mod Hazards
 pub mod Group
 pub mod Table
 pub mod Report
+pub mod ByCase
 pub mod Answer
 pub mod Promise
 pub mod Laws

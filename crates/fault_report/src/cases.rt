@@ -11,7 +11,7 @@ ghost use Rattle.timing_analysis.specs.Case.{Listed, faults_of, listed_cases, nu
 ghost use Rattle.timing_analysis.specs.Ended.{EndsCases, EndsEarly};
 ghost use Rattle.timing_analysis.specs.Rested.{IsBaseIn, IsCaseIn};
 ghost use Rattle.timing_analysis.specs.Subject.{IsSubject};
-ghost use Rattle.program_call.specs.Teller.{HasTold, IsTold};
+ghost use Rattle.fault_report.specs.ByCase.{HasTold, IsTold};
 ghost use Rattle.fault_account.specs.Laws.{AreWithin};
 ghost use Rattle.fault_report.specs.Answer.{explained};
 ghost use Rattle.fault_report.specs.Report.{HasExplained};
@@ -21,12 +21,19 @@ use drawing_tree::Drawing;
 use fault_account::laws::faults_are_within;
 use fixpoint_engine::{EngineEnd, Store, Waves};
 use flat_circuit::Circuit;
-use program_call::{Reply, Told};
+use program_call::Reply;
 use run_wave::RunWave;
 use scald_base::{NoMemory, Outcome};
 use std::alloc::Global;
 use step_values::Value;
 use timing_analysis::{CaseAtRest, Rested, Subject};
+
+/// What is told of a circuit, and the round in which its base settled.
+#[derive(Drop)]
+pub struct Explained {
+    pub reply: Reply<Outcome>,
+    pub base: u32,
+}
 
 /// What is told of a circuit and its cases, or the end of the base or of the first case that never settles
 /// within so many rounds.
@@ -35,7 +42,7 @@ pub fn told_of(
     drawing: &Drawing,
     subject: &Subject,
     limit: u32,
-) -> Result<Told, EngineEnd>
+) -> Result<Explained, EngineEnd>
     requires is { IsSubject subject.now }
     requires few { limit ≤ 10000000 }
     ensures rests { IfOk result (λ told. RestsAt (base_round subject.now.circuit) limit told.base) }
@@ -50,7 +57,7 @@ pub fn told_of(
     } else {
         each_case(alloc, drawing, subject, limit, rested)?
     };
-    Ok(Told { reply, base })
+    Ok(Explained { reply, base })
 }
 
 /// What is told of a circuit that has this case alone.

@@ -1,5 +1,6 @@
 -- What the worklist has come to after some rounds, and how a round more, rest and the limit follow.
-use Rattle.std.proofs.Common.{◌≡◌, ℕ, Option, zero, suc, ◌+◌, ◌*◌, ◌<◌, ◌≤◌, ◌==◌, inl, inr, Bool, true, false, not, ◌&&◌, ◌||◌, cond, All, List, [], ◌∷◌, length, map, refl, sym, ap, subst, ◌∙◌, arith}
+use Rattle.std.proofs.Common.{◌≡◌, ℕ, Option, zero, suc, ◌+◌, ◌*◌, ◌<◌, ◌≤◌, ◌==◌, inl, inr, Bool, true, false, not, ◌&&◌, ◌||◌, cond, All, List, [], ◌∷◌, length, map, refl, sym, ap, subst, ◌∙◌, arith, Some, None}
+use Rattle.std.specs.Prelude.{IfSome}
 use Rattle.std.specs.Cmp.{both_ways}
 use Rattle.std.specs.List.{list_any, range_with_len}
 use Rattle.std.proofs.Math.Bool.{and_assoc, and_comm}
@@ -44,7 +45,7 @@ use Rattle.fixpoint_engine.proofs.Turns.{nets_of, Turn, turn_rests, turn_reaches
 use Rattle.fixpoint_engine.proofs.Classes.{differ_together, rounds_same}
 use Rattle.fixpoint_engine.specs.Members.{is_with}
 use Rattle.fixpoint_engine.proofs.Members.{nets_in, nets_for_classes, exist_for_classes, waves_for_classes, IsTo}
-use Rattle.fixpoint_engine.proofs.Alone.{for_all_is}
+use Rattle.fixpoint_engine.proofs.Alone.{for_all_is, own_classes}
 
 -- ---- the first net of a class
 
@@ -314,6 +315,16 @@ classes_are c cases active ks start known fit each stable one together = record 
   one = rounds_same c cases ks known stable (marked_in active) start together one;
   none = λ i past. active_past c active i fit past;
 }
+
+-- with classes or without
+pub each_stands : (c : Circuit) (cases : List (List CaseValue)) (active : List Bool) (classes : Option (List ℕ)) (start : Waves) →
+    IsCircuit c → FitActive c active → IfSome classes (λ ks. (length ks ≡ length c.nets) × IsStable c cases ks) →
+    ((ks : List ℕ) → IsStable c cases ks → HaveOneWave c ks start × AreTogether c ks (marked_in active)) →
+    OneStandsForAll c (marked_in active) (numbers_in (length c.nets) classes) start
+each_stands c cases active None start known fit stable alike = own_classes c active start fit
+each_stands c cases active (Some ks) start known fit stable alike =
+    let both = alike ks stable.1 in
+    classes_are c cases active ks start known fit stable.0 stable.1 both.0 both.1
 
 -- ---- the limit, as code has the changes
 

@@ -21,3 +21,4 @@ pub mod Classes
 pub mod Laws
 pub mod Members
 pub mod Hearers
+pub mod NetClasses

@@ -4,7 +4,10 @@ use Rattle.std.specs.List.{flat_map, list_any, range_with_len}
 use Rattle.flat_circuit.specs.Alike.{class_of}
 use Rattle.fixpoint_engine.specs.Settled.{marked_in}
 use Rattle.fixpoint_engine.specs.Worklist.{Change, among}
-use Rattle.fixpoint_engine.specs.Classes.{is_first}
+use Rattle.flat_circuit.specs.Circuit.{Circuit}
+use Rattle.fixpoint_engine.specs.Waves.{Waves}
+use Rattle.fixpoint_engine.specs.Work.{work_to}
+use Rattle.fixpoint_engine.specs.Classes.{class_work_to, is_first}
 
 -- the last net of a class below a number
 unfoldable pub last_below : List ℕ → ℕ → ℕ → Option ℕ
@@ -76,3 +79,8 @@ is_with classes nets i = list_any (λ net. class_of classes net == class_of clas
 abbrev pub is_with_any : Option (List ℕ) → List ℕ → ℕ → Bool
 is_with_any None nets = among nets
 is_with_any (Some classes) nets = is_with classes nets
+
+-- how many evaluations are due in the rounds 1 to r together, one for each class
+abbrev pub evaluations_to : Option (List ℕ) → Circuit → (ℕ → Bool) → (ℕ → Waves) → ℕ → ℕ
+evaluations_to None c active rounds r = work_to c active rounds r
+evaluations_to (Some classes) c active rounds r = class_work_to c classes active rounds r

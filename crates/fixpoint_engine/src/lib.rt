@@ -40,21 +40,24 @@ mod class_changes;
 mod class_nets;
 mod hearers;
 mod last_nets;
+mod net_classes;
 
 // rounds until they settle, and what holds of them
 mod laws;
 mod rounds;
 
+pub use class_nets::ClassNets;
 pub use evaluated::Evaluated;
 pub use evaluations::Evaluations;
-pub use flat_circuit::ClassMap;
+pub use hearers::Hearers;
 pub use key::{Constants, Key, KeyPin, Store, constant_numbers};
 pub use laws::stable_classes_go_together;
+pub use net_classes::NetClasses;
 pub use net_set::NetSet;
 pub use numbers::{Numbers, copied, numbers_of, renumbered};
 pub use pins::{pin_wave, waves_at_pins, wire_behind};
 pub use readers::{output_of, readers_of};
-pub use rounds::{EngineEnd, Settled, settle, settle_classes};
+pub use rounds::{EngineEnd, Settled, settle};
 pub use same_waves::{has_one_wave, has_one_wave_at};
 pub use wave_table::WaveTable;
 pub use waves::Waves;

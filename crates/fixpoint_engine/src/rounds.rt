@@ -3,17 +3,15 @@
 ghost use Rattle.std.specs.Prelude.{◌≡◌, ◌+◌, ◌<◌, ◌≤◌, ℕ, IfErr, IfOk, IfSome, MatchOption, false, length, map, take};
 ghost use Rattle.std.specs.List.{All};
 ghost use Rattle.std.specs.Option.{option_copied};
-ghost use Rattle.flat_circuit.specs.Stable.{IsStable};
 ghost use Rattle.flat_circuit.specs.Name.{net_at};
 ghost use Rattle.fixpoint_engine.specs.Table.{AreKnown, Grows, waves_at};
 ghost use Rattle.fixpoint_engine.specs.Waves.{FitWaves, waves_of};
 ghost use Rattle.fixpoint_engine.specs.Key.{AreConstants};
 ghost use Rattle.fixpoint_engine.specs.Rounds.{round};
 ghost use Rattle.fixpoint_engine.specs.Settled.{AreAtRest, FitActive, KeepRuns, marked_in};
-ghost use Rattle.fixpoint_engine.specs.Work.{work_to};
-ghost use Rattle.fixpoint_engine.specs.Classes.{OneStandsForAll, AreTogether, GoTogether, HaveOneWave, class_work_to};
+ghost use Rattle.fixpoint_engine.specs.Classes.{OneStandsForAll};
 ghost use Rattle.fixpoint_engine.specs.Hearers.{AreHearers};
-ghost use Rattle.fixpoint_engine.specs.Members.{numbers_in};
+ghost use Rattle.fixpoint_engine.specs.Members.{evaluations_to, numbers_in};
 ghost use Rattle.fixpoint_engine.specs.End.{EndsAt, EndsFor, IsFirstIn};
 ghost use Rattle.fixpoint_engine.specs.Worklist.{among};
 
@@ -21,11 +19,11 @@ use crate::changes::{Change, changes};
 use crate::class_changes::{apply_all, for_all};
 use crate::class_nets::ClassNets;
 use crate::hearers::Hearers;
-use crate::key::{Constants, Store, constant_numbers};
+use crate::key::{Constants, Store};
 use crate::net_set::NetSet;
 use crate::queue::Queue;
 use crate::{Numbers, copied};
-use flat_circuit::{CaseList, Circuit, ClassMap};
+use flat_circuit::Circuit;
 use scald_base::NoMemory;
 use std::alloc::Global;
 use step_values::Value;
@@ -127,9 +125,17 @@ fn shortened<W: CyclicWave<Item = Value>>(
     store.compact(alloc, kept, numbers.as_slice())
 }
 
-/// Rounds in which the first net of each class is evaluated, and the number of its wave given to all nets of the
-/// class, until they settle. Where there are no classes, each net is one of its own.
-fn rounds_from<W: CyclicWave<Item = Value>>(
+/// Rounds over the active nets, from the waves at the start, until a round is as the one before: the
+/// waves of the first round that the next one equals. The start waves permit a run from some tick on;
+/// the settled waves permit it `reach` ticks a round later. `Unsettled` comes exactly where no round up
+/// to `limit` is as the next one. In the first round each active net is evaluated, and later those alone
+/// whose driver listens to a net that changed in the round before; `evals` counts them. Waves are given
+/// and answered by their numbers in the store, which has what is made of them remembered.
+///
+/// Where there are classes, whose nets have one wave in every round and are due in the same rounds, one
+/// net of each class is evaluated, and the number of its wave is given to all; `evals` counts the classes
+/// that have nets which are due in a round.
+pub fn settle<W: CyclicWave<Item = Value>>(
     alloc: Global,
     c: &Circuit,
     store: &mut Store<W>,
@@ -154,7 +160,7 @@ fn rounds_from<W: CyclicWave<Item = Value>>(
         (waves_of (waves_at store.new s.numbers))) }
     ensures fit { IfOk result (λ s. FitWaves c.now (waves_at store.new s.numbers)) }
     ensures work { let first = waves_of (waves_at store.old start.now) in
-        IfOk result (λ s. s.evals ≡ class_work_to c.now (numbers_in (length c.now.nets) (option_copied classes.entry))
+        IfOk result (λ s. s.evals ≡ evaluations_to (option_copied classes.entry) c.now
         (marked_in active.now) (round c.now (marked_in active.now) first) (s.rounds + 1)) }
     ensures sound { let first = waves_of (waves_at store.old start.now) in
         IfOk result (λ s. KeepRuns c.now first s.rounds (waves_of (waves_at store.new s.numbers))) }
@@ -188,129 +194,4 @@ fn rounds_from<W: CyclicWave<Item = Value>>(
         numbers = shortened(alloc, store, kept, numbers)?;
         rounds += 1;
     }
-}
-
-/// Such rounds from the waves at the start, with the constants among the waves of the store.
-fn settle_firsts<W: CyclicWave<Item = Value>>(
-    alloc: Global,
-    c: &Circuit,
-    store: &mut Store<W>,
-    classes: Option<&ClassNets>,
-    hearers: &Hearers,
-    start: &Numbers,
-    active: &NetSet,
-    limit: u32,
-) -> Result<Settled, EngineEnd>
-    requires known { AreKnown store.old start.now }
-    requires waves { FitWaves c.now (waves_at store.old start.now) }
-    requires active { FitActive c.now active.now }
-    requires hearers { IfSome (option_copied classes) (λ classes. AreHearers c.now classes hearers.now) }
-    requires classes { OneStandsForAll c.now (marked_in active.now)
-        (numbers_in (length c.now.nets) (option_copied classes)) (waves_of (waves_at store.old start.now)) }
-    ensures grows { Grows store.old store.new }
-    ensures known { IfOk result (λ s. AreKnown store.new s.numbers) }
-    ensures rest { let first = waves_of (waves_at store.old start.now) in
-        IfOk result (λ s. AreAtRest c.now (marked_in active.now) first limit s.rounds
-        (waves_of (waves_at store.new s.numbers))) }
-    ensures fit { IfOk result (λ s. FitWaves c.now (waves_at store.new s.numbers)) }
-    ensures work { let first = waves_of (waves_at store.old start.now) in
-        IfOk result (λ s. s.evals ≡ class_work_to c.now (numbers_in (length c.now.nets) (option_copied classes.entry))
-        (marked_in active.now) (round c.now (marked_in active.now) first) (s.rounds + 1)) }
-    ensures sound { let first = waves_of (waves_at store.old start.now) in
-        IfOk result (λ s. KeepRuns c.now first s.rounds (waves_of (waves_at store.new s.numbers))) }
-    ensures unsettled { let first = waves_of (waves_at store.old start.now) in
-        IfErr result (EndsFor c.now.order (round c.now (marked_in active.now) first) limit) }
-{
-    let constants = constant_numbers(alloc, c.header(), store)?;
-    rounds_from(
-        alloc, c, store, constants, classes, hearers, start, active, limit,
-    )
-}
-
-/// Rounds over the active nets, from the waves at the start, until a round is as the one before: the
-/// waves of the first round that the next one equals. The start waves permit a run from some tick on;
-/// the settled waves permit it `reach` ticks a round later. `Unsettled` comes exactly where no round up
-/// to `limit` is as the next one. In the first round each active net is evaluated, and later those alone
-/// whose driver listens to a net that changed in the round before; `evals` counts them. Waves are given
-/// and answered by their numbers in the store, which has what is made of them remembered.
-pub fn settle<W: CyclicWave<Item = Value>>(
-    alloc: Global,
-    c: &Circuit,
-    store: &mut Store<W>,
-    start: &Numbers,
-    active: &NetSet,
-    limit: u32,
-) -> Result<Settled, EngineEnd>
-    requires known { AreKnown store.old start.now }
-    requires waves { FitWaves c.now (waves_at store.old start.now) }
-    requires active { FitActive c.now active.now }
-    ensures grows { Grows store.old store.new }
-    ensures known { IfOk result (λ s. AreKnown store.new s.numbers) }
-    ensures rest { let first = waves_of (waves_at store.old start.now) in
-        IfOk result (λ s. AreAtRest c.now (marked_in active.now) first limit s.rounds
-        (waves_of (waves_at store.new s.numbers))) }
-    ensures fit { IfOk result (λ s. FitWaves c.now (waves_at store.new s.numbers)) }
-    ensures work { let first = waves_of (waves_at store.old start.now) in
-        IfOk result (λ s. s.evals ≡ work_to c.now (marked_in active.now)
-        (round c.now (marked_in active.now) first) (s.rounds + 1)) }
-    ensures sound { let first = waves_of (waves_at store.old start.now) in
-        IfOk result (λ s. KeepRuns c.now first s.rounds (waves_of (waves_at store.new s.numbers))) }
-    ensures unsettled { let first = waves_of (waves_at store.old start.now) in
-        IfErr result (EndsFor c.now.order (round c.now (marked_in active.now) first) limit) }
-{
-    let hearers = Hearers::none(alloc);
-    settle_firsts(alloc, c, store, None, &hearers, start, active, limit)
-}
-
-/// The answer of `settle`, where nothing tells the nets of one class apart, in the circuit and in each of
-/// these cases, and they have one wave at the start and are all active or all not: they have one wave
-/// in every round and are due in the same rounds, so that one net of each class is evaluated and the number
-/// of its wave given to all. `evals` counts the classes that have nets which are due in a round.
-pub fn settle_classes<W: CyclicWave<Item = Value>>(
-    alloc: Global,
-    c: &Circuit,
-    store: &mut Store<W>,
-    cases: &CaseList,
-    numbers: &ClassMap,
-    start: &Numbers,
-    active: &NetSet,
-    limit: u32,
-) -> Result<Settled, EngineEnd>
-    requires known { AreKnown store.old start.now }
-    requires waves { FitWaves c.now (waves_at store.old start.now) }
-    requires active { FitActive c.now active.now }
-    requires one_each { length numbers.now ≡ length c.now.nets }
-    requires stable { IsStable c.now cases.now numbers.now }
-    requires alike { HaveOneWave c.now numbers.now (waves_of (waves_at store.old start.now)) }
-    requires together { AreTogether c.now numbers.now (marked_in active.now) }
-    ensures grows { Grows store.old store.new }
-    ensures known { IfOk result (λ s. AreKnown store.new s.numbers) }
-    ensures rest { let first = waves_of (waves_at store.old start.now) in
-        IfOk result (λ s. AreAtRest c.now (marked_in active.now) first limit s.rounds
-        (waves_of (waves_at store.new s.numbers))) }
-    ensures fit { IfOk result (λ s. FitWaves c.now (waves_at store.new s.numbers)) }
-    ensures work { let first = waves_of (waves_at store.old start.now) in
-        IfOk result (λ s. s.evals ≡ class_work_to c.now numbers.now
-        (marked_in active.now) (round c.now (marked_in active.now) first) (s.rounds + 1)) }
-    ensures go_together { let first = waves_of (waves_at store.old start.now) in
-        IfOk result (λ s. GoTogether c.now numbers.now
-        (marked_in active.now) (round c.now (marked_in active.now) first)) }
-    ensures sound { let first = waves_of (waves_at store.old start.now) in
-        IfOk result (λ s. KeepRuns c.now first s.rounds (waves_of (waves_at store.new s.numbers))) }
-    ensures unsettled { let first = waves_of (waves_at store.old start.now) in
-        IfErr result (EndsFor c.now.order (round c.now (marked_in active.now) first) limit) }
-{
-    c.known();
-    let classes = ClassNets::of(alloc, numbers, c.net_count())?;
-    let hearers = Hearers::of(alloc, c, &classes)?;
-    settle_firsts(
-        alloc,
-        c,
-        store,
-        Some(&classes),
-        &hearers,
-        start,
-        active,
-        limit,
-    )
 }

@@ -11,10 +11,12 @@ ghost use Rattle.margin_report.specs.Laws.{FittingIsMonotone, MarginsAreTrue};
 ghost use Rattle.margin_report.specs.Promise.{WritesMargins, may_answer};
 ghost use Rattle.margin_report.specs.Tried.{TriedAsWritten};
 
-use crate::teller::Margins;
+use crate::reporter::Margins;
 use program_call::{Replier, Reply, Wordless, main_call, reply_to};
+use run_wave::RunWave;
 use scald_base::{NoMemory, Outcome, Sink, Source, Words};
 use std::alloc::Global;
+use step_values::Value;
 
 /// The program of margins.
 pub struct MarginProgram;
@@ -22,19 +24,19 @@ pub struct MarginProgram;
 impl Replier for MarginProgram {
     ghost use Rattle.std.specs.Prelude.{None};
     ghost use Rattle.program_call.specs.Answer.{Evaluated};
-    ghost use Rattle.margin_report.specs.Answer.{margins_told};
+    ghost use Rattle.margin_report.specs.Answer.{AreMargins};
     ghost use Rattle.margin_report.specs.Answer.{own_word};
 
     ghost word = { own_word };
 
-    ghost replied = { Evaluated margins_told None };
+    ghost replied = { Evaluated (λ d. AreMargins d.version) None };
 
     fn name() -> &'static [u8] {
         b"margins".as_slice()
     }
 
     fn reply(alloc: Global, text: &[u8]) -> Result<Reply<Outcome>, NoMemory> {
-        reply_to::<Margins>(alloc, text)
+        reply_to::<Margins, RunWave<Value>>(alloc, text, (), None, &mut 0)
     }
 
     fn laws() {}

@@ -11,12 +11,12 @@ use Rattle.program_call.proofs.Answering.{end_of_ended, one_answer}
 -- ---- the programs
 
 -- one word is the form that reads, none that which does not, and two go wrong at the second
-abbrev form_of : List (List ℕ) → Result Bool ℕ
+abbrev pub form_of : List (List ℕ) → Result Bool ℕ
 form_of [] = Ok false
 form_of (word ∷ []) = Ok true
 form_of (word ∷ other ∷ words) = Err 1
 
-abbrev program : (Bool → List ℕ → Outcome → List ℕ → Type 0) → Meaning Bool Outcome
+abbrev pub program : (Bool → List ℕ → Outcome → List ℕ → Type 0) → Meaning Bool Outcome
 program Replies = record {
   command_of = form_of;
   reads = λ command. command;
@@ -26,14 +26,14 @@ program Replies = record {
   end_of = end_of;
 }
 
-abbrev Echoes : Bool → List ℕ → Outcome → List ℕ → Type 0
+abbrev pub Echoes : Bool → List ℕ → Outcome → List ℕ → Type 0
 Echoes true text o bytes = (o ≡ Done) × (bytes ≡ text)
 Echoes false text o bytes = (o ≡ Done) × (bytes ≡ [])
 
-abbrev echo : Meaning Bool Outcome
+abbrev pub echo : Meaning Bool Outcome
 echo = program Echoes
 
-lawful : IsLawful echo
+pub lawful : IsLawful echo
 lawful = record { ends = end_of_ended; replies = done; one = one; unread = unread }
   where
     done : (command : Bool) (text : List ℕ) (o : Outcome) (bytes : List ℕ) →
@@ -54,7 +54,7 @@ lawful = record { ends = end_of_ended; replies = done; one = one; unread = unrea
 abbrev babble : Meaning Bool Outcome
 babble = program (λ command text o bytes. o ≡ Done)
 
-abbrev word : List (List ℕ)
+abbrev pub word : List (List ℕ)
 word = [] ∷ []
 
 -- ---- answers
@@ -84,13 +84,13 @@ many_replies text taken taken' short answered =
 
 -- ---- an answer that is cut short
 
-abbrev two : List ℕ
+abbrev pub two : List ℕ
 two = 1 ∷ 2 ∷ []
 
-abbrev other : List ℕ
+abbrev pub other : List ℕ
 other = 3 ∷ []
 
-echoed : Answer echo word two Done two
+pub echoed : Answer echo word two Done two
 echoed = replied true Done two refl (λ asks. omega arith) (refl, refl)
 
 first_byte : IsCutShort echo word two (Some []) (Some (1 ∷ []))
@@ -108,7 +108,7 @@ begins_otherwise (suc count) same =
     absurd (omega (arith, first))
 
 -- a byte that is not the answer's first
-other_byte : ¬ IsCutShort echo word two (Some []) (Some other)
+pub other_byte : ¬ IsCutShort echo word two (Some []) (Some other)
 other_byte cut =
     let same : cut.bytes ≡ two = (one_answer echo lawful word two _ _ _ _ cut.is echoed).1 in
     begins_otherwise cut.written.count

@@ -1,59 +1,79 @@
--- A circuit has one conclusion, and a text is evaluated in one way.
-use Rattle.std.proofs.Common.{◌≡◌, ℕ, suc, refl, ap, subst, ◌∙◌, List, Option}
+-- A circuit has one conclusion, and a text is evaluated in one way, where what is reported of a circuit is one.
+use Rattle.std.proofs.Common.{◌≡◌, ℕ, suc, refl, sym, ap, subst, ◌∙◌, List, Option}
 use Rattle.flat_circuit.specs.declared.case.CaseValue.{CaseValue}
 use Rattle.flat_circuit.specs.Circuit.{Circuit}
+use Rattle.fixpoint_engine.specs.Rounds.{RestsAt}
 use Rattle.case_analysis.specs.Base.{base_round}
 use Rattle.drawing_tree.specs.Tree.{Drawing}
 use Rattle.drawing_grammar.proofs.TextLaws.{one_drawing}
 use Rattle.timing_analysis.proofs.OneText.{not_refused, one_refusal, text_draws_one_circuit}
 use Rattle.listing.specs.Answer.{unsettled_line}
-use Rattle.timing_analysis.specs.Case.{StopsAt, listed_cases}
+use Rattle.timing_analysis.specs.Case.{Case, AreAtRest, StopsAt, listed_cases}
+use Rattle.timing_analysis.specs.Ended.{StopsEarly, by_base, by_case}
 use Rattle.timing_analysis.proofs.OneRest.{one_rest, one_place, rest_in_one_way, rest_or_stop, one_stop}
 use Rattle.scald_base.specs.declared.outcome.Outcome.{Outcome}
 use Rattle.scald_base.specs.declared.outcome.Outcome.TheVariants.{Unsettled}
 use Rattle.program_call.specs.Answer as answer
-use Rattle.program_call.specs.Answer.{Telling, limit_for, Concluded, Evaluated, rested, unsettled, case_unsettled}
+use Rattle.program_call.specs.Answer.{Reporting, limit_for, Concluded, Evaluated, rested, unsettled}
 
--- ---- judgements
+-- ---- settled or not
 
-one_judgement : (tell : Telling) (c : Circuit) (values : List (List CaseValue)) (limit : ℕ) (o o' : Outcome) (bytes bytes' : List ℕ) →
-    Concluded tell c values limit o bytes → Concluded tell c values limit o' bytes' → (o ≡ o') × (bytes ≡ bytes')
-one_judgement tell c values limit _ _ _ _ (rested base cases rests at) (rested base' cases' rests' at') =
-    let one = rest_in_one_way c limit limit base base' (listed_cases values) cases cases' rests at rests' at' in
-    let told : tell c base cases ≡ tell c base' cases' = ap (tell c base) one.1 ∙ ap (λ (b : ℕ). tell c b cases') one.0 in
-    (ap (λ (t : Outcome × List ℕ). t.0) told, ap (λ (t : Outcome × List ℕ). t.1) told)
-one_judgement tell c values limit _ _ _ _ (rested base cases rests at) (unsettled place is) = absurd (is.never base rests.within rests.still)
-one_judgement tell c values limit _ _ _ _ (rested base cases rests at) (case_unsettled base' place rests' stops) =
-    let same : base' ≡ base = one_rest (base_round c) limit limit base' base rests' rests in
-    absurd (rest_or_stop c limit base (listed_cases values) cases place at (subst (λ (b : ℕ). StopsAt c limit b (listed_cases values) place) same stops))
-one_judgement tell c values limit _ _ _ _ (unsettled place is) (rested base cases rests at) = absurd (is.never base rests.within rests.still)
-one_judgement tell c values limit _ _ _ _ (unsettled place is) (unsettled place' is') =
-    let same : place ≡ place' = one_place c.order (base_round c limit) (base_round c (suc limit)) place place' is.first is'.first in
-    (ap (λ (k : ℕ). Unsettled k limit) same, ap (λ (k : ℕ). unsettled_line c k limit) same)
-one_judgement tell c values limit _ _ _ _ (unsettled place is) (case_unsettled base place' rests stops) = absurd (is.never base rests.within rests.still)
-one_judgement tell c values limit _ _ _ _ (case_unsettled base place rests stops) (rested base' cases rests' at) =
-    let same : base ≡ base' = one_rest (base_round c) limit limit base base' rests rests' in
-    absurd (rest_or_stop c limit base' (listed_cases values) cases place at (subst (λ (b : ℕ). StopsAt c limit b (listed_cases values) place) same stops))
-one_judgement tell c values limit _ _ _ _ (case_unsettled base place rests stops) (unsettled place' is) = absurd (is.never base rests.within rests.still)
-one_judgement tell c values limit _ _ _ _ (case_unsettled base place rests stops) (case_unsettled base' place' rests' stops') =
-    let bases : base' ≡ base = one_rest (base_round c) limit limit base' base rests' rests in
-    let same : place ≡ place' = one_stop c limit base (listed_cases values) place place' stops (subst (λ (b : ℕ). StopsAt c limit b (listed_cases values) place') bases stops') in
-    (ap (λ (k : ℕ). Unsettled k limit) same, ap (λ (k : ℕ). unsettled_line c k limit) same)
+module _ (c : Circuit) (values : List (List CaseValue)) (limit : ℕ) where
+  settled_or_not : (base place : ℕ) (cases : List Case) → RestsAt (base_round c) limit base →
+      AreAtRest c limit base (listed_cases values) cases → StopsEarly c values limit place → ⊥
+  settled_or_not base place cases rests at_rest (by_base is) = is.never base rests.within rests.still
+  settled_or_not base place cases rests at_rest (by_case other rests' stops) =
+      let same : other ≡ base = one_rest (base_round c) limit limit other base rests' rests in
+      rest_or_stop c limit base (listed_cases values) cases place at_rest
+      (subst (λ (b : ℕ). StopsAt c limit b (listed_cases values) place) same stops)
 
--- ---- answers
+  one_stop_early : (place other : ℕ) → StopsEarly c values limit place → StopsEarly c values limit other → place ≡ other
+  one_stop_early place other (by_base is) (by_base is') =
+      one_place c.order (base_round c limit) (base_round c (suc limit)) place other is.first is'.first
+  one_stop_early place other (by_base is) (by_case base rests stops) = absurd (is.never base rests.within rests.still)
+  one_stop_early place other (by_case base rests stops) (by_base is) = absurd (is.never base rests.within rests.still)
+  one_stop_early place other (by_case base rests stops) (by_case base' rests' stops') =
+      let same : base' ≡ base = one_rest (base_round c) limit limit base' base rests' rests in
+      one_stop c limit base (listed_cases values) place other stops
+      (subst (λ (b : ℕ). StopsAt c limit b (listed_cases values) other) same stops')
 
-pub one_evaluated : (tell : ℕ → Telling) (rounds : Option ℕ) (text : List ℕ) (o o' : Outcome) (bytes bytes' : List ℕ) →
-    Evaluated tell rounds text o bytes → Evaluated tell rounds text o' bytes' → (o ≡ o') × (bytes ≡ bytes')
-one_evaluated tell rounds text _ _ _ _ (answer.refused r is) (answer.refused q is') =
-    let same : r ≡ q = one_refusal text r q is is' in (rw same refl, rw same refl)
-one_evaluated tell rounds text _ _ _ _ (answer.refused r is) (answer.judged c values o' bytes' drawn j) = absurd (not_refused text r c values is drawn)
-one_evaluated tell rounds text _ _ _ _ (answer.judged c values o bytes drawn j) (answer.refused q is') = absurd (not_refused text q c values is' drawn)
-one_evaluated tell rounds text _ _ _ _ (answer.judged c values o bytes drawn j) (answer.judged c' values' o' bytes' drawn' j') =
-    let same = text_draws_one_circuit text c' c values' values drawn' drawn in
-    let drawings : drawn'.drawing ≡ drawn.drawing = one_drawing text drawn'.drawing drawn.drawing drawn'.draws.drawn drawn.draws.drawn in
-    let versions : drawn'.drawing.version ≡ drawn.drawing.version = ap (λ (d : Drawing). d.version) drawings in
-    let told = tell drawn.drawing.version in
-    one_judgement told c values (limit_for c rounds) o o' bytes bytes' j
-    (subst (λ (vs : List (List CaseValue)). Concluded told c vs (limit_for c rounds) o' bytes') same.1
-    (subst (λ (z : Circuit). Concluded told z values' (limit_for z rounds) o' bytes') same.0
-    (subst (λ (n : ℕ). Concluded (tell n) c' values' (limit_for c' rounds) o' bytes') versions j')))
+-- ---- conclusions
+
+-- of a settled circuit one outcome and its bytes are reported
+abbrev pub IsOne : (Drawing → Reporting) → Type 0
+IsOne Reports =
+    (d : Drawing) (c : Circuit) (base : ℕ) (cases : List Case) (o o' : Outcome) (bytes bytes' : List ℕ) →
+    Reports d c base cases o bytes → Reports d c base cases o' bytes' → (o ≡ o') × (bytes ≡ bytes')
+
+module _ (Reports : Drawing → Reporting) (one : IsOne Reports) where
+  one_conclusion : (d : Drawing) (c : Circuit) (values : List (List CaseValue)) (limit : ℕ) (o o' : Outcome) (bytes bytes' : List ℕ) →
+      Concluded (Reports d) c values limit o bytes → Concluded (Reports d) c values limit o' bytes' → (o ≡ o') × (bytes ≡ bytes')
+  one_conclusion d c values limit _ _ _ _ (rested base cases o bytes rests at_rest is) (rested base' cases' o' bytes' rests' at_rest' is') =
+      let same = rest_in_one_way c limit limit base base' (listed_cases values) cases cases' rests at_rest rests' at_rest' in
+      one d c base cases o o' bytes bytes' is
+      (subst (λ (b : ℕ). Reports d c b cases o' bytes') (sym same.0)
+      (subst (λ (cs : List Case). Reports d c base' cs o' bytes') (sym same.1) is'))
+  one_conclusion d c values limit _ _ _ _ (rested base cases o bytes rests at_rest is) (unsettled place stops) =
+      absurd (settled_or_not c values limit base place cases rests at_rest stops)
+  one_conclusion d c values limit _ _ _ _ (unsettled place stops) (rested base cases o bytes rests at_rest is) =
+      absurd (settled_or_not c values limit base place cases rests at_rest stops)
+  one_conclusion d c values limit _ _ _ _ (unsettled place stops) (unsettled other stops') =
+      let same : place ≡ other = one_stop_early c values limit place other stops stops' in
+      (ap (λ (k : ℕ). Unsettled k limit) same, ap (λ (k : ℕ). unsettled_line c k limit) same)
+
+  -- ---- answers
+
+  pub one_evaluated : (rounds : Option ℕ) (text : List ℕ) (o o' : Outcome) (bytes bytes' : List ℕ) →
+      Evaluated Reports rounds text o bytes → Evaluated Reports rounds text o' bytes' → (o ≡ o') × (bytes ≡ bytes')
+  one_evaluated rounds text _ _ _ _ (answer.refused r is) (answer.refused q is') =
+      let same : r ≡ q = one_refusal text r q is is' in (rw same refl, rw same refl)
+  one_evaluated rounds text _ _ _ _ (answer.refused r is) (answer.judged c values o' bytes' drawn j) = absurd (not_refused text r c values is drawn)
+  one_evaluated rounds text _ _ _ _ (answer.judged c values o bytes drawn j) (answer.refused q is') = absurd (not_refused text q c values is' drawn)
+  one_evaluated rounds text _ _ _ _ (answer.judged c values o bytes drawn j) (answer.judged c' values' o' bytes' drawn' j') =
+      let same = text_draws_one_circuit text c' c values' values drawn' drawn in
+      let d = drawn.drawing in
+      let drawings : drawn'.drawing ≡ d = one_drawing text drawn'.drawing d drawn'.draws.drawn drawn.draws.drawn in
+      one_conclusion d c values (limit_for c rounds) o o' bytes bytes' j
+      (subst (λ (vs : List (List CaseValue)). Concluded (Reports d) c vs (limit_for c rounds) o' bytes') same.1
+      (subst (λ (z : Circuit). Concluded (Reports d) z values' (limit_for z rounds) o' bytes') same.0
+      (subst (λ (e : Drawing). Concluded (Reports e) c' values' (limit_for c' rounds) o' bytes') drawings j')))

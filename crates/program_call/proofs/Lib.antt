@@ -4,7 +4,9 @@ pub mod Speaking
 pub mod Promised
 pub mod Ending
 pub mod Replies
-pub mod Telling
+pub mod Reporting
 pub mod Examples
 pub mod Answering
+pub mod Calling
 pub mod ExamplesAnswer
+mod ExamplesCall

@@ -1,9 +1,10 @@
--- What holds of each outcome that a text may have, where it holds of those that are told.
+-- What holds of each outcome that a text may have, where it holds of those that are reported.
 use Rattle.std.proofs.Common.{◌≡◌, ℕ, ◌≤◌, Bool, true, false, not, cond, List, refl, ap, arith, Option, None}
 use Rattle.std.specs.Prelude.{◌==◌, ◌≢◌}
 use Rattle.scald_base.specs.declared.refusal.Refusal.{Refusal}
 use Rattle.scald_base.specs.declared.outcome.Outcome.{Outcome}
 use Rattle.scald_base.specs.declared.outcome.Outcome.TheVariants.{Clean, Faulty, Refused, Unsettled}
+use Rattle.drawing_tree.specs.Tree.{Drawing}
 use Rattle.flat_circuit.specs.declared.case.CaseValue.{CaseValue}
 use Rattle.flat_circuit.specs.Instances.{outputs}
 use Rattle.flat_circuit.specs.Circuit.{Circuit, IsCircuit}
@@ -15,27 +16,29 @@ use Rattle.case_analysis.specs.Case.{case_active}
 use Rattle.timing_analysis.specs.Case.{Case}
 use Rattle.timing_analysis.specs.Ended.{StopsEarly, by_base, by_case}
 use Rattle.program_call.specs.Answer as answer
-use Rattle.program_call.specs.Answer.{Telling, Concluded, Evaluated, limit_for, rested, unsettled, case_unsettled, verdict_of}
+use Rattle.fixpoint_engine.specs.Start.{default_limit}
+use Rattle.program_call.specs.Answer.{Reporting, Concluded, Evaluated, limit_for, rested, unsettled, verdict_of}
 use Rattle.program_call.specs.Promise.{SettlesLoopless, may_count}
 
--- ---- by what is told
+-- ---- by what is reported
 
--- it holds of all that may be told of a circuit
-abbrev pub HoldsOfTold : (Outcome → Type 0) → Telling → Type 0
-HoldsOfTold P tell = (c : Circuit) (base : ℕ) (cases : List Case) → P (tell c base cases).0
+-- it holds of every outcome that is reported of a circuit
+abbrev pub HoldsOfReports : (Outcome → Type 0) → (Drawing → Reporting) → Type 0
+HoldsOfReports P Reports =
+    (d : Drawing) (c : Circuit) (base : ℕ) (cases : List Case) (o : Outcome) (bytes : List ℕ) → Reports d c base cases o bytes → P o
 
-module _ (P : Outcome → Type 0) (of_net : (place last : ℕ) → P (Unsettled place last)) where
-  concluded_has : (tell : Telling) (c : Circuit) (values : List (List CaseValue)) (limit : ℕ) (o : Outcome) (bytes : List ℕ) → HoldsOfTold P tell →
-      Concluded tell c values limit o bytes → P o
-  concluded_has tell c values limit _ _ told (rested base cases rests at_rest) = told c base cases
-  concluded_has tell c values limit _ _ told (unsettled place is) = of_net place limit
-  concluded_has tell c values limit _ _ told (case_unsettled base place rests stops) = of_net place limit
+concluded_has : (P : Outcome → Type 0) (Reports : Reporting) (c : Circuit) (values : List (List CaseValue)) (limit : ℕ) (o : Outcome) (bytes : List ℕ) →
+    ((base : ℕ) (cases : List Case) (o : Outcome) (bytes : List ℕ) → Reports c base cases o bytes → P o) →
+    ((place : ℕ) → StopsEarly c values limit place → P (Unsettled place limit)) → Concluded Reports c values limit o bytes → P o
+concluded_has P Reports c values limit _ _ holds of_net (rested base cases o bytes rests at_rest is) = holds base cases o bytes is
+concluded_has P Reports c values limit _ _ holds of_net (unsettled place stops) = of_net place stops
 
-  pub evaluated_has : ((r : Refusal) → P (Refused r)) → (tell : ℕ → Telling) (rounds : Option ℕ) (text : List ℕ) (o : Outcome) (bytes : List ℕ) →
-      ((version : ℕ) → HoldsOfTold P (tell version)) → Evaluated tell rounds text o bytes → P o
-  evaluated_has of_refusal tell rounds text _ _ told (answer.refused r is) = of_refusal r
-  evaluated_has of_refusal tell rounds text _ _ told (answer.judged c values o bytes drawn j) =
-      concluded_has (tell drawn.drawing.version) c values (limit_for c rounds) o bytes (told drawn.drawing.version) j
+pub evaluated_has : (P : Outcome → Type 0) → ((place last : ℕ) → P (Unsettled place last)) → ((r : Refusal) → P (Refused r)) →
+    (Reports : Drawing → Reporting) (rounds : Option ℕ) (text : List ℕ) (o : Outcome) (bytes : List ℕ) →
+    HoldsOfReports P Reports → Evaluated Reports rounds text o bytes → P o
+evaluated_has P of_net of_refusal Reports rounds text _ _ holds (answer.refused r is) = of_refusal r
+evaluated_has P of_net of_refusal Reports rounds text _ _ holds (answer.judged c values o bytes draws j) =
+    concluded_has P (Reports draws.drawing) c values (limit_for c rounds) o bytes (holds draws.drawing c) (λ place stops. of_net place (limit_for c rounds)) j
 
 -- ---- without loops
 
@@ -54,19 +57,13 @@ never_stops c values limit place known none within (by_case base rests stops) =
     let never = stops.never in
     ever_still c (case_active c never.cone) _ limit place known none within never.is
 
-concluded_settles : (tell : Telling) (c : Circuit) (values : List (List CaseValue)) (limit : ℕ) (o : Outcome) (bytes : List ℕ) → HoldsOfTold NamesNoNet tell →
-    IsCircuit c → HasNoLoop c → outputs c.instances ≤ limit → Concluded tell c values limit o bytes → NamesNoNet o
-concluded_settles tell c values limit _ _ told known none within (rested base cases rests at_rest) place last still = told c base cases place last still
-concluded_settles tell c values limit _ _ told known none within (unsettled net is) place last still = never_stops c values limit net known none within (by_base is)
-concluded_settles tell c values limit _ _ told known none within (case_unsettled base net rests stops) place last still =
-    never_stops c values limit net known none within (by_case base rests stops)
-
-pub evaluated_settles : (tell : ℕ → Telling) (text : List ℕ) (o : Outcome) (bytes : List ℕ) → ((version : ℕ) → HoldsOfTold NamesNoNet (tell version)) →
-    Evaluated tell None text o bytes → SettlesLoopless text o
-evaluated_settles tell text _ _ told (answer.refused r is) free place last still = absurd (cc)
-evaluated_settles tell text _ _ told (answer.judged c values o bytes drawn j) free place last still =
-    concluded_settles (tell drawn.drawing.version) c values _ o bytes (told drawn.drawing.version) drawn.draws.is_circuit (free c values drawn) (omega arith) j
-    place last still
+-- A text whose circuit has no loop settles within the circuit's own limit.
+pub evaluated_settles : (Reports : Drawing → Reporting) (text : List ℕ) (o : Outcome) (bytes : List ℕ) → HoldsOfReports NamesNoNet Reports →
+    Evaluated Reports None text o bytes → SettlesLoopless text o
+evaluated_settles Reports text _ _ holds (answer.refused r is) = λ free place last still. absurd (cc)
+evaluated_settles Reports text _ _ holds (answer.judged c values o bytes draws j) = λ free.
+    concluded_has NamesNoNet (Reports draws.drawing) c values (default_limit c) o bytes (holds draws.drawing c)
+    (λ net stops. absurd (never_stops c values (default_limit c) net draws.draws.is_circuit (free c values draws) (omega arith) stops)) j
 
 -- ---- what is counted
 

@@ -1,4 +1,4 @@
--- What is answered on a text is no end of a call, where what is told is none.
+-- What is answered on a text is no end of a call, where what is reported is none.
 use Rattle.std.proofs.Common.{◌≡◌, ℕ, Bool, true, false, cond, List, refl, Option, None}
 use Rattle.std.specs.Prelude.{◌==◌}
 use Rattle.scald_base.specs.declared.outcome.Outcome.{Outcome}
@@ -6,20 +6,15 @@ use Rattle.scald_base.specs.declared.outcome.Outcome.TheVariants.{Clean, Faulty}
 use Rattle.scald_base.specs.Outcome.{end_of}
 use Rattle.program_call.specs.Program.{IsLawful}
 use Rattle.program_call.proofs.Answering.{end_of_ended}
-use Rattle.program_call.specs.declared.words.Request.{Request}
-use Rattle.program_call.specs.Wordless.{telling_program}
-use Rattle.program_call.specs.Answer.{Telling, Evaluated, verdict_of}
-use Rattle.program_call.proofs.Judgement.{one_evaluated}
-use Rattle.program_call.proofs.Outcomes.{HoldsOfTold, evaluated_has}
+use Rattle.drawing_tree.specs.Tree.{Drawing}
+use Rattle.program_call.specs.Wordless.{reporting_program}
+use Rattle.program_call.specs.Answer.{Reporting, Evaluated, verdict_of}
+use Rattle.program_call.proofs.Judgement.{IsOne, one_evaluated}
+use Rattle.program_call.proofs.Outcomes.{HoldsOfReports, evaluated_has}
 
--- what is told of a circuit is no end of a call
-abbrev pub Speaks : Telling → Type 0
-Speaks tell = HoldsOfTold (λ o. end_of o ≡ None) tell
-
-pub evaluated_speaks : (tell : ℕ → Telling) (rounds : Option ℕ) (text : List ℕ) (o : Outcome) (bytes : List ℕ) → ((version : ℕ) →
-    Speaks (tell version)) → Evaluated tell rounds text o bytes → end_of o ≡ None
-evaluated_speaks tell rounds text o bytes spoken =
-    evaluated_has (λ o. end_of o ≡ None) (λ place last. refl) (λ r. refl) tell rounds text o bytes spoken
+pub evaluated_speaks : (Reports : Drawing → Reporting) (rounds : Option ℕ) (text : List ℕ) (o : Outcome) (bytes : List ℕ) →
+    HoldsOfReports (λ o. end_of o ≡ None) Reports → Evaluated Reports rounds text o bytes → end_of o ≡ None
+evaluated_speaks = evaluated_has (λ o. end_of o ≡ None) (λ place last. refl) (λ r. refl)
 
 -- ---- outcomes of faults
 
@@ -30,25 +25,13 @@ verdict_speaks n = either (n == 0) n
     either true n = refl
     either false n = refl
 
--- ---- programs that tell
+-- ---- programs that report
 
-replies_speak : (name : List ℕ) (tell : ℕ → Telling) → ((version : ℕ) → Speaks (tell version)) → (request : Request) (text : List ℕ) (o : Outcome) (bytes : List ℕ) →
-    (telling_program name tell).Replied request text o bytes → end_of o ≡ None
-replies_speak name tell spoken request text o bytes replied = evaluated_speaks tell None text o bytes spoken replied
-
-one_reply : (name : List ℕ) (tell : ℕ → Telling) (request : Request) (text : List ℕ) (o o' : Outcome) (bytes bytes' : List ℕ) →
-    (telling_program name tell).Replied request text o bytes → (telling_program name tell).Replied request text o' bytes' → (o ≡ o') × (bytes ≡ bytes')
-one_reply name tell request text o o' bytes bytes' replied replied' = one_evaluated tell None text o o' bytes bytes' replied replied'
-
--- each of them reads
-unread : (name : List ℕ) (tell : ℕ → Telling) (request : Request) (text other : List ℕ) (o : Outcome) (bytes : List ℕ) →
-    (telling_program name tell).reads request ≡ false → (telling_program name tell).Replied request text o bytes → (telling_program name tell).Replied request other o bytes
-unread name tell request text other o bytes none replied = absurd (cc)
-
-pub telling_is_lawful : (name : List ℕ) (tell : ℕ → Telling) → ((version : ℕ) → Speaks (tell version)) → IsLawful (telling_program name tell)
-telling_is_lawful name tell spoken = record {
+pub reporting_is_lawful : (name : List ℕ) (Reports : Drawing → Reporting) → HoldsOfReports (λ o. end_of o ≡ None) Reports →
+    IsOne Reports → IsLawful (reporting_program name Reports)
+reporting_is_lawful name Reports spoken one = record {
   ends = end_of_ended;
-  replies = replies_speak name tell spoken;
-  one = one_reply name tell;
-  unread = unread name tell;
+  replies = λ request text o bytes replied. evaluated_speaks Reports None text o bytes spoken replied;
+  one = λ request text o o' bytes bytes' replied replied'. one_evaluated Reports one None text o o' bytes bytes' replied replied';
+  unread = λ request text other o bytes none replied. absurd (cc);
 }

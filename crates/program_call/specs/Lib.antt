@@ -2,6 +2,6 @@ pub mod Answer
 pub mod Ended
 pub mod Wordless
 pub mod Promise
-pub mod Teller
+pub mod Reporter
 pub mod Program
 pub mod Call

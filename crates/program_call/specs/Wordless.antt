@@ -3,10 +3,11 @@ use Rattle.std.specs.Prelude.{ℕ, true, List, [], ◌∷◌, None, Result, Ok, 
 use Rattle.std.specs.Str.{bytes_eq}
 use Rattle.scald_base.specs.declared.outcome.Outcome.{Outcome}
 use Rattle.scald_base.specs.Outcome.{ended, end_of}
+use Rattle.drawing_tree.specs.Tree.{Drawing}
 use Rattle.program_call.specs.Program.{Meaning}
 use Rattle.program_call.specs.declared.words.Request.{Request}
 use Rattle.program_call.specs.declared.words.Request.TheVariants.{Reply}
-use Rattle.program_call.specs.Answer.{Telling, Evaluated}
+use Rattle.program_call.specs.Answer.{Reporting, Evaluated}
 
 -- any word after the name is one too many
 abbrev pub no_more : List (List ℕ) → Result Request ℕ
@@ -37,7 +38,7 @@ wordless name Replied = record {
   end_of = end_of;
 }
 
--- It replies what is told of the circuit, by the version of its drawing, at its own limit of rounds, or why there is
--- nothing to tell.
-abbrev pub telling_program : List ℕ → (ℕ → Telling) → Meaning Request Outcome
-telling_program name tell = wordless name (Evaluated tell None)
+-- It replies what is reported of the circuit, by its drawing, at its own limit of rounds, or why there is nothing to
+-- report.
+abbrev pub reporting_program : List ℕ → (Drawing → Reporting) → Meaning Request Outcome
+reporting_program name Reports = wordless name (Evaluated Reports None)

@@ -1,4 +1,4 @@
-//! The answers on a text of whose circuit nothing is told.
+//! The answers on a text of whose circuit nothing is reported.
 
 ghost use Rattle.std.specs.Prelude.{◌≡◌, ◌<◌, ℕ, IfOk, length};
 ghost use Rattle.listing.specs.Answer.{refusal_line, unsettled_line};

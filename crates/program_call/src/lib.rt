@@ -5,8 +5,8 @@
 //! whatever the devices do. A program that its name alone asks for is [`Wordless`] over what replies
 //! to its text ([`Replier`], `specs/Wordless`, `specs/Promise`).
 //!
-//! Most programs say something of each case ([`Teller`]): [`reply_to`] reads the text, lets its base
-//! and each of its cases settle, and gives what is said of them, or the line of a refusal or of a net
+//! Most programs report on each case ([`Reporter`]): [`reply_to`] reads the text, lets its base and
+//! each of its cases settle, and gives what is reported of them, or the line of a refusal or of a net
 //! that does not settle. `specs/Answer` says which reply a text has.
 #![tactic(auto)]
 
@@ -19,8 +19,9 @@ mod reply;
 mod cases;
 mod ends;
 mod outcome;
-mod teller;
+mod reporter;
 mod text_reply;
+mod undriven;
 
 // a program without words
 mod wordless;
@@ -31,7 +32,7 @@ pub use ends::{ended, refused};
 pub use outcome::verdict;
 pub use program::Program;
 pub use reply::Reply;
-pub use teller::Teller;
-pub use text_reply::{Told, reply_to, told_of};
+pub use reporter::Reporter;
+pub use text_reply::reply_to;
 pub use wordless::{Replier, Wordless};
 pub use words::{Request, read_name};

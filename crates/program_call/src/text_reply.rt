@@ -1,41 +1,54 @@
 //! From a text to the reply on its circuit.
 
-ghost use Rattle.std.specs.Prelude.{◌≡◌, ◌-◌, ◌^◌, ◌<◌, ◌≤◌, None, IfOk, IfErr, length};
-ghost use Rattle.flat_circuit.specs.Instances.{outputs};
-ghost use Rattle.fixpoint_engine.specs.Loops.{HasNoLoop};
-ghost use Rattle.fixpoint_engine.specs.Rounds.{RestsAt};
-ghost use Rattle.case_analysis.specs.Base.{base_round};
-ghost use Rattle.timing_analysis.specs.Case.{listed_cases};
-ghost use Rattle.timing_analysis.specs.Ended.{EndsEarly};
-ghost use Rattle.timing_analysis.specs.Subject.{IsSubject};
-ghost use Rattle.program_call.specs.Answer.{Evaluated};
-ghost use Rattle.program_call.specs.Teller.{IsTold};
+ghost use Rattle.std.specs.Prelude.{◌≡◌, ◌-◌, ◌^◌, ◌<◌, ◌≤◌, true, IfOk, IfErr, IfSome, length};
+ghost use Rattle.scald_base.specs.declared.refusal.Refusal.{Refusal};
+ghost use Rattle.timing_analysis.specs.Drawn.{IsTextRefused};
+ghost use Rattle.timing_analysis.specs.Promise.{FaultlessNeverBreaks};
+ghost use Rattle.program_call.specs.Answer.{Evaluated, is_finished, limit_for};
+ghost use Rattle.program_call.specs.Reporter.{IsRead};
 
 use crate::Reply;
-use crate::cases::{each_case, only_case};
+use crate::cases::report_cases;
 use crate::ends::{ended, refused};
-use crate::teller::Teller;
+use crate::reporter::Reporter;
+use crate::undriven::count_undriven;
 use case_analysis::default_limit;
-use fixpoint_engine::EngineEnd;
-use run_wave::RunWave;
+use flat_circuit::Circuit;
 use scald_base::{NoMemory, Outcome, Stop};
 use std::alloc::Global;
 use step_values::Value;
-use timing_analysis::{Subject, read_circuit};
+use timing_analysis::{Subject, circuit_of, read_text};
+use wave_core::CyclicWave;
 
-/// The reply to a text of fewer than 4,294,967,295 bytes: what `T` tells of its circuit, after at most as
-/// many rounds of the base and of each case as the circuit's own limit has; or why the text is refused,
-/// or which net does not settle.
-pub fn reply_to<T: Teller>(alloc: Global, text: &[u8]) -> Result<Reply<Outcome>, NoMemory>
+/// The reply to a text of fewer than 4,294,967,295 bytes: what `R` reports of its circuit, after at most
+/// so many rounds of the base and of each case where the number is given, at most 10,000,000, or else as
+/// many as the circuit's own limit has; or why the text is refused, or which net does not settle. It is
+/// the same whichever kind of waves is chosen.
+///
+/// Where the text is accepted, `undriven` becomes how many nets of its circuit nothing determines: neither
+/// a driver nor an assertion nor a case. Nothing is promised of that number.
+pub fn reply_to<R: Reporter, W: CyclicWave<Item = Value>>(
+    alloc: Global,
+    text: &[u8],
+    asked: R::Asked,
+    rounds: Option<u32>,
+    undriven: &mut u32,
+) -> Result<Reply<Outcome>, NoMemory>
     requires short { length text.now < 2 ^ 32 - 1 }
-    ensures { IfOk result (λ reply. Evaluated T.tell None text.now reply.outcome reply.bytes) }
+    requires few { IfSome rounds (λ limit. limit ≤ 10000000) }
+    ensures is { IfOk result (λ reply.
+        Evaluated (λ d. R.reports asked (R.keeps d)) rounds text.now reply.outcome reply.bytes) }
+    ensures faultless { IfOk result (λ reply.
+        is_finished reply.outcome ≡ true → FaultlessNeverBreaks text.now) }
 {
-    match read_circuit(alloc, text) {
-        Ok(drawn) => {
-            let subject = Subject::new(alloc, drawn)?;
-            let limit = default_limit(&subject.circuit);
-            match told_of::<T>(alloc, &subject, limit) {
-                Ok(told) => Ok(told.reply),
+    match read::<R>(alloc, text) {
+        Ok((kept, subject)) => {
+            if let Ok(count) = count_undriven(alloc, &subject.circuit, &subject.cases) {
+                *undriven = count;
+            }
+            let limit = limit_for(&subject.circuit, rounds);
+            match report_cases::<R, W>(alloc, &subject, asked, kept, limit) {
+                Ok(reply) => Ok(reply),
                 Err(end) => ended(alloc, &subject.circuit, end),
             }
         }
@@ -44,31 +57,34 @@ pub fn reply_to<T: Teller>(alloc: Global, text: &[u8]) -> Result<Reply<Outcome>,
     }
 }
 
-/// What is told of a circuit, and the round in which its base settled.
-#[derive(Drop)]
-pub struct Told {
-    pub reply: Reply<Outcome>,
-    pub base: u32,
+/// What is kept of the drawing of a text, and what is evaluated of it. The tree of the drawing goes before
+/// its circuit is finished.
+fn read<R: Reporter>(alloc: Global, text: &[u8]) -> Result<(R::Kept, Subject), Stop>
+    requires { length text.now < 2 ^ 32 - 1 }
+    ensures read { IfOk result (λ read. IsRead R.keeps text.now read.0 read.1) }
+    ensures refused { IfErr result (λ stop. (r : Refusal) → stop ≡ Stop.Refused r → IsTextRefused text.now r) }
+{
+    let drawing = match read_text(alloc, text) {
+        Ok(drawing) => drawing,
+        Err(stop) => return Err(stop),
+    };
+    let kept = R::keep(alloc, &drawing)?;
+    let drawn = match circuit_of(alloc, drawing) {
+        Ok(drawn) => drawn,
+        Err(stop) => return Err(stop),
+    };
+    let subject = Subject::new(alloc, drawn)?;
+    Ok((kept, subject))
 }
 
-/// What is told of a circuit and its cases, or the end of the base or of the first case that never
-/// settles within so many rounds.
-pub fn told_of<T: Teller>(alloc: Global, subject: &Subject, limit: u32) -> Result<Told, EngineEnd>
-    requires is { IsSubject subject.now }
-    requires few { limit ≤ 10000000 }
-    ensures rests { IfOk result (λ told. RestsAt (base_round subject.now.circuit) limit told.base) }
-    ensures told { IfOk result (λ told. IsTold (T.tell subject.now.version) subject.now.circuit limit told.base
-        (listed_cases subject.now.cases) told.reply.outcome told.reply.bytes) }
-    ensures ended { IfErr result (EndsEarly subject.now.circuit subject.now.cases limit) }
-    ensures loopless { HasNoLoop subject.now.circuit →
-        outputs subject.now.circuit.instances ≤ limit → IfErr result (λ end. end ≡ EngineEnd.NoMemory) }
+/// How many rounds there may be: as many as the words allow, or else the circuit's own limit.
+fn limit_for(circuit: &Circuit, rounds: Option<u32>) -> u32
+    requires { IfSome rounds (λ limit. limit ≤ 10000000) }
+    ensures is { result ≡ limit_for circuit.now rounds }
+    ensures few { result ≤ 10000000 }
 {
-    let rested = subject.base::<RunWave<Value>>(alloc, limit)?;
-    let base = rested.base.rounds;
-    let reply = if subject.cases.is_empty() {
-        only_case::<T>(alloc, subject, limit, rested)?
-    } else {
-        each_case::<T>(alloc, subject, limit, rested)?
-    };
-    Ok(Told { reply, base })
+    match rounds {
+        Some(limit) => limit,
+        None => default_limit(circuit),
+    }
 }

@@ -13,11 +13,9 @@ use Rattle.program_call.specs.Program.{by_source, by_words}
 use Rattle.scald_tool.specs.declared.words.Command.{Command}
 use Rattle.scald_tool.specs.declared.words.Command.TheVariants.{Verify, Format, Upgrade, Bench}
 use Rattle.scald_tool.specs.Words.{are_reading, command_of, reads}
-use Rattle.program_call.specs.Answer.{limit_for, verdict_of}
+use Rattle.program_call.specs.Answer.{is_finished, limit_for, verdict_of}
 use Rattle.scald_tool.specs.Answer.{most_bytes}
 use Rattle.scald_base.specs.Outcome.{status_of}
-use Rattle.scald_tool.specs.Report.{faults_in}
-use Rattle.scald_tool.specs.Finished.{is_finished}
 use Rattle.scald_tool.specs.Promise.{AreTold, asks_verify, evaluates, has_read, has_report, is_silent, may_answer, may_give, speaks, unlimited}
 
 -- ---- outcomes
@@ -30,9 +28,6 @@ module _ (n : ℕ) (r : Refusal) (net round i : ℕ) where
 
   statuses : map status_of outcomes ≡ 0 ∷ 1 ∷ 0 ∷ 2 ∷ 3 ∷ 4 ∷ 5 ∷ 6 ∷ 7 ∷ 8 ∷ []
   statuses = refl
-
-  counts : map faults_in outcomes ≡ 0 ∷ n ∷ 0 ∷ 0 ∷ 0 ∷ 0 ∷ 0 ∷ 0 ∷ 0 ∷ 0 ∷ []
-  counts = refl
 
   speaking : map speaks outcomes ≡
       true ∷ true ∷ true ∷ true ∷ true ∷ false ∷ false ∷ false ∷ false ∷ false ∷ []

@@ -3,19 +3,24 @@ use Rattle.std.proofs.Common.{◌≡◌, ◌⊎◌, inl, inr, ℕ, Bool, true, f
 use Rattle.std.specs.Prelude.{◌==◌}
 use Rattle.scald_base.specs.Device.{Rose}
 use Rattle.program_call.specs.Program.{replied}
+use Rattle.drawing_tree.specs.Tree.{Drawing}
 use Rattle.drawing_tree.specs.Canonical.{canonical}
 use Rattle.design_gen.specs.Datapath.{datapath}
+use Rattle.fixpoint_engine.specs.Reach.{reach}
+use Rattle.case_analysis.specs.Tick.{tick}
+use Rattle.listing.specs.Answer.{summary_line}
 use Rattle.format_upgrade.specs.Upgraded.{upgraded_text}
 use Rattle.scald_base.specs.declared.outcome.Outcome.{Outcome}
 use Rattle.scald_base.specs.declared.outcome.Outcome.TheVariants.{Clean, Faulty, Done, NoMemory}
 use Rattle.scald_tool.specs.declared.words.Command.{Command}
 use Rattle.timing_analysis.specs.Case.{fault_count}
 use Rattle.program_call.specs.Answer as evaluation
-use Rattle.program_call.specs.Answer.{Telling, Evaluated, verdict_of}
+use Rattle.program_call.specs.Answer.{Evaluated, Reporting, is_finished, verdict_of}
 use Rattle.scald_tool.specs.Answer as answer
-use Rattle.scald_tool.specs.Answer.{Replied, measured, reported}
+use Rattle.scald_tool.specs.Answer.{Measured, Replied, Reported}
 use Rattle.scald_tool.specs.Promise.{IsAnswered}
-use Rattle.scald_tool.specs.Finished.{ComesToRest, Passes, formatted, upgraded, verified, benched, is_finished, IsFinished, AsksWell}
+use Rattle.scald_tool.specs.Report.{report}
+use Rattle.scald_tool.specs.Finished.{ComesToRest, Passes, formatted, upgraded, verified, benched, IsFinished, AsksWell}
 
 verdict_finished : (n : ℕ) → is_finished (verdict_of n) ≡ true
 verdict_finished n = either (n == 0) n
@@ -31,30 +36,25 @@ pub record Finishes (command : Command) (text : List ℕ) : Type 0 where
   pub is : Replied command text outcome bytes
   pub finished : is_finished outcome ≡ true
 
--- the version of the drawing
-abbrev version_of : {rounds : Option ℕ} {text : List ℕ} → ComesToRest rounds text → ℕ
-version_of rest = rest.drawn.drawing.version
-
-told_at_rest : (tell : ℕ → Telling) (rounds : Option ℕ) (text : List ℕ) → (rest : ComesToRest rounds text) →
-    Evaluated tell rounds text (tell (version_of rest) rest.circuit rest.base rest.cases).0 (tell (version_of rest) rest.circuit rest.base rest.cases).1
-told_at_rest tell rounds text rest =
-    let told = tell (version_of rest) rest.circuit rest.base rest.cases in
-    evaluation.judged rest.circuit rest.values told.0 told.1 rest.drawn
-    (evaluation.rested rest.base rest.cases rest.rests rest.at_rest)
+rest_is_evaluated : (Reports : Drawing → Reporting) (rounds : Option ℕ) (text : List ℕ) (rest : ComesToRest rounds text) (o : Outcome)
+    (bytes : List ℕ) → Reports rest.drawn.drawing rest.circuit rest.base rest.cases o bytes → Evaluated Reports rounds text o bytes
+rest_is_evaluated Reports rounds text rest o bytes is =
+    evaluation.judged rest.circuit rest.values o bytes rest.drawn
+    (evaluation.rested rest.base rest.cases o bytes rest.rests rest.at_rest is)
 
 finishes : (text : List ℕ) (command : Command) → Passes text command → Finishes command text
 finishes text _ (formatted d draws) = record { outcome = Done; bytes = canonical d; is = answer.drawn d draws; finished = refl }
 finishes text _ (upgraded d draws) = record { outcome = Done; bytes = upgraded_text d; is = answer.readable d draws; finished = refl }
 finishes text _ (verified mode rounds rest) = record {
-  outcome = (reported mode (version_of rest) rest.circuit rest.base rest.cases).0;
-  bytes = (reported mode (version_of rest) rest.circuit rest.base rest.cases).1;
-  is = told_at_rest (reported mode) rounds text rest;
+  outcome = verdict_of (fault_count rest.circuit rest.cases);
+  bytes = report mode rest.drawn.drawing.version rest.circuit rest.base rest.cases;
+  is = rest_is_evaluated (λ d. Reported mode d.version) rounds text rest _ _ (record { outcome = refl; text = refl });
   finished = verdict_finished (fault_count rest.circuit rest.cases);
 }
 finishes text _ (benched sections rest) = record {
   outcome = Done;
-  bytes = (measured sections rest.circuit rest.base rest.cases).1;
-  is = told_at_rest (λ version. measured sections) None (datapath sections) rest;
+  bytes = summary_line rest.circuit sections rest.base (tick (reach rest.circuit) rest.base 0) (fault_count rest.circuit rest.cases);
+  is = rest_is_evaluated (λ d. Measured sections) None (datapath sections) rest _ _ (record { outcome = refl; text = refl });
   finished = refl;
 }
 

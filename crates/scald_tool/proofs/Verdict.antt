@@ -4,10 +4,9 @@ use Rattle.std.specs.Prelude.{◌==◌, Option}
 use Rattle.std.proofs.lemmas.Bool.{eqb-true}
 use Rattle.listing.specs.declared.case.Mode.{Mode}
 use Rattle.scald_base.specs.declared.outcome.Outcome.{Outcome}
-use Rattle.scald_base.specs.declared.outcome.Outcome.TheVariants.{Clean, Faulty, Unsettled}
+use Rattle.scald_base.specs.declared.outcome.Outcome.TheVariants.{Clean, Faulty}
 use Rattle.scald_tool.specs.declared.words.Command.TheVariants.{Verify}
 use Rattle.program_call.specs.Answer.{verdict_of}
-use Rattle.scald_tool.specs.Report.{faults_in}
 use Rattle.scald_tool.specs.Promise.{may_give}
 
 -- `verify` may give it
@@ -19,13 +18,6 @@ verdict_given mode rounds n o e = ap (may_give (Verify mode rounds)) e ∙ eithe
     either true n = refl
     either false n = refl
 
-pub verdict_rests : (n place round : ℕ) (o : Outcome) → o ≡ verdict_of n → o ≡ Unsettled place round → ⊥
-verdict_rests n place round o e is = either (n == 0) n (sym e ∙ is)
-  where
-    either : (none : Bool) (n : ℕ) → cond none Clean (Faulty n) ≡ Unsettled place round → ⊥
-    either true n e = absurd (cc)
-    either false n e = absurd (cc)
-
 -- it is clean only if there is no fault
 pub verdict_clean : (n : ℕ) (o : Outcome) → o ≡ verdict_of n → o ≡ Clean → n ≡ 0
 verdict_clean n o e is = either (n == 0) refl (sym e ∙ is)
@@ -33,11 +25,3 @@ verdict_clean n o e is = either (n == 0) refl (sym e ∙ is)
     either : (none : Bool) → none ≡ (n == 0) → cond none Clean (Faulty n) ≡ Clean → n ≡ 0
     either true same e = eqb-true n 0 (sym same)
     either false same e = absurd cc
-
--- it counts the faults
-pub verdict_counts : (n : ℕ) (o : Outcome) → o ≡ verdict_of n → faults_in o ≡ n
-verdict_counts n o e = ap faults_in e ∙ either (n == 0) refl
-  where
-    either : (none : Bool) → none ≡ (n == 0) → faults_in (cond none Clean (Faulty n)) ≡ n
-    either true same = sym (eqb-true n 0 (sym same))
-    either false same = refl

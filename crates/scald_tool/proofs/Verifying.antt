@@ -4,16 +4,16 @@ use Rattle.listing.specs.declared.case.Mode.{Mode}
 use Rattle.scald_base.specs.declared.outcome.Outcome.{Outcome}
 use Rattle.scald_base.specs.declared.outcome.Outcome.TheVariants.{NoMemory}
 use Rattle.scald_tool.specs.declared.words.Command.TheVariants.{Verify}
-use Rattle.scald_tool.specs.Answer.{Verified, reported}
+use Rattle.scald_tool.specs.Answer.{Verified}
 use Rattle.scald_tool.specs.Promise.{IsVerified, may_give}
-use Rattle.program_call.proofs.Judgement.{one_evaluated}
+use Rattle.scald_tool.proofs.Judgement.{one_reply}
 
 pub put_behind : (mode : Mode) (rounds : Option ℕ) (text : List ℕ) (o : Outcome) (bytes piece before after : List ℕ) → Verified mode rounds text o bytes → piece ≡ bytes → after ≡ before ++ piece →
     IsVerified mode rounds text o before after
 put_behind mode rounds text o bytes piece before after is same put = record {
   bytes = bytes;
   is = is;
-  only = λ p others other. one_evaluated (reported mode) rounds text p o others bytes other is;
+  only = λ p others other. one_reply (Verify mode rounds) text p o others bytes other is;
   put = put ∙ ap (λ (b : List ℕ). before ++ b) same;
 }
 

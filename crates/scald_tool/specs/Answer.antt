@@ -1,5 +1,5 @@
 -- What the program answers to its words and to the bytes that it is given.
-use Rattle.std.specs.Prelude.{ℕ, List, Option, None}
+use Rattle.std.specs.Prelude.{◌≡◌, ℕ, List, Option, None}
 use Rattle.scald_base.specs.Outcome.{ended, end_of}
 use Rattle.program_call.specs.Program as program
 use Rattle.program_call.specs.Program.{Meaning}
@@ -7,7 +7,6 @@ use Rattle.scald_base.specs.declared.refusal.Refusal.{Refusal}
 use Rattle.drawing_tree.specs.Tree.{Drawing}
 use Rattle.drawing_tree.specs.Canonical.{canonical}
 use Rattle.drawing_grammar.specs.CanonicalDraws.{TextDraws}
-use Rattle.flat_circuit.specs.declared.case.CaseValue.{CaseValue}
 use Rattle.flat_circuit.specs.Circuit.{Circuit}
 use Rattle.listing.specs.declared.case.Mode.{Mode}
 use Rattle.fixpoint_engine.specs.Reach.{reach}
@@ -21,34 +20,33 @@ use Rattle.scald_tool.specs.declared.words.Command.{Command}
 use Rattle.scald_tool.specs.declared.words.Command.TheVariants.{Verify, Format, Upgrade, Bench}
 use Rattle.scald_tool.specs.Words.{command_of, reads}
 use Rattle.drawing_grammar.specs.Refused.{IsRefusal}
-use Rattle.timing_analysis.specs.Case.{fault_count}
-use Rattle.program_call.specs.Answer.{Telling, Concluded, Evaluated, verdict_of}
+use Rattle.timing_analysis.specs.Case.{Case, fault_count}
+use Rattle.program_call.specs.Answer.{Evaluated, verdict_of}
 use Rattle.scald_tool.specs.Report.{report}
 
 -- the most bytes that are read
 abbrev pub most_bytes : ℕ
 most_bytes = 4194304
 
--- the report on a circuit that is drawn in this version of the language, and how many faults there are
-abbrev pub reported : Mode → ℕ → Telling
-reported mode version c base cases = (verdict_of (fault_count c cases), report mode version c base cases)
+-- The report on a circuit that is drawn in this version of the language, and how many faults there are.
+pub record Reported (mode : Mode) (version : ℕ) (c : Circuit) (base : ℕ) (cases : List Case) (o : Outcome) (bytes : List ℕ) : Type 0 where
+  pub outcome : o ≡ verdict_of (fault_count c cases)
+  pub text : bytes ≡ report mode version c base cases
 
 -- The numbers of the report on so many sections: the rounds of the base, the tick that is printed for case 0, which takes no
 -- rounds, and the faults.
-abbrev pub measured : ℕ → Telling
-measured sections c base cases = (Done, summary_line c sections base (tick (reach c) base 0) (fault_count c cases))
-
-abbrev pub Judged : Mode → ℕ → Circuit → List (List CaseValue) → ℕ → Outcome → List ℕ → Type 0
-Judged mode version = Concluded (reported mode version)
+pub record Measured (sections : ℕ) (c : Circuit) (base : ℕ) (cases : List Case) (o : Outcome) (bytes : List ℕ) : Type 0 where
+  pub outcome : o ≡ Done
+  pub text : bytes ≡ summary_line c sections base (tick (reach c) base 0) (fault_count c cases)
 
 -- What `verify` answers on a text.
 abbrev pub Verified : Mode → Option ℕ → List ℕ → Outcome → List ℕ → Type 0
-Verified mode = Evaluated (reported mode)
+Verified mode = Evaluated (λ d. Reported mode d.version)
 
 -- What `bench` answers, on the drawing of so many sections and at its own limit: what `verify` does where that is refused or
--- does not rest, and else its numbers.
+-- does not settle, and else its numbers.
 abbrev pub Benched : ℕ → Outcome → List ℕ → Type 0
-Benched sections = Evaluated (λ version. measured sections) None (datapath sections)
+Benched sections = Evaluated (λ d. Measured sections) None (datapath sections)
 
 -- What `format` answers on a text: the canonical text of the drawing that it draws, or why it draws none.
 pub data Formatted (text : List ℕ) : Outcome → List ℕ → Type 0 where

@@ -1,5 +1,5 @@
 -- Which texts have an answer that is neither a refusal nor a net that does not rest.
-use Rattle.std.specs.Prelude.{◌≡◌, ℕ, ◌≤◌, Bool, true, false, List, length, Option, None, Ok}
+use Rattle.std.specs.Prelude.{◌≡◌, ℕ, ◌≤◌, true, List, length, Option, None, Ok}
 use Rattle.drawing_tree.specs.Tree.{Drawing}
 use Rattle.drawing_grammar.specs.CanonicalDraws.{TextDraws}
 use Rattle.flat_circuit.specs.declared.case.CaseValue.{CaseValue}
@@ -9,13 +9,12 @@ use Rattle.case_analysis.specs.Base.{base_round}
 use Rattle.design_gen.specs.Datapath.{datapath}
 use Rattle.listing.specs.declared.case.Mode.{Mode}
 use Rattle.scald_base.specs.declared.outcome.Outcome.{Outcome}
-use Rattle.scald_base.specs.declared.outcome.Outcome.TheVariants.{Clean, Faulty, Done, Refused, Unsettled, BadWords, TooLong, ReadFault, WriteFault, NoMemory}
 use Rattle.scald_tool.specs.declared.words.Command.{Command}
 use Rattle.scald_tool.specs.declared.words.Command.TheVariants.{Verify, Format, Upgrade, Bench}
 use Rattle.scald_tool.specs.Words.{command_of, reads}
 use Rattle.timing_analysis.specs.Drawn.{DrawsCircuit}
 use Rattle.timing_analysis.specs.Case.{Case, AreAtRest, listed_cases}
-use Rattle.program_call.specs.Answer.{limit_for}
+use Rattle.program_call.specs.Answer.{is_finished, limit_for}
 use Rattle.scald_tool.specs.Answer.{most_bytes}
 use Rattle.scald_tool.specs.Promise.{IsAnswered}
 
@@ -37,19 +36,6 @@ pub data Passes (text : List ℕ) : Command → Type 0 where
   upgraded : (d : Drawing) → TextDraws text d → Passes text Upgrade
   verified : (mode : Mode) (rounds : Option ℕ) → ComesToRest rounds text → Passes text (Verify mode rounds)
   benched : (sections : ℕ) → ComesToRest None (datapath sections) → Passes text (Bench sections)
-
--- a report without or with faults, or what else was asked for
-abbrev pub is_finished : Outcome → Bool
-is_finished Clean = true
-is_finished (Faulty n) = true
-is_finished Done = true
-is_finished (Refused r) = false
-is_finished (Unsettled k limit) = false
-is_finished (BadWords i) = false
-is_finished TooLong = false
-is_finished ReadFault = false
-is_finished WriteFault = false
-is_finished NoMemory = false
 
 -- To words of a form, and a text that is not too long where the form reads and that passes every stage, the answer is the one
 -- that they have, with exactly its bytes, and it is finished.

@@ -6,4 +6,3 @@ pub mod Promise
 pub mod Kept
 pub mod Finished
 pub mod Laws
-pub mod Reported

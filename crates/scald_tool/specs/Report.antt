@@ -1,14 +1,13 @@
 -- The report as a whole.
-use Rattle.std.specs.Prelude.{ℕ, List, ◌++◌}
+use Rattle.std.specs.Prelude.{◌≡◌, ℕ, List, ◌++◌}
 use Rattle.std.specs.List.{flat_map}
 use Rattle.flat_circuit.specs.Circuit.{Circuit}
 use Rattle.listing.specs.declared.case.Mode.{Mode}
 use Rattle.listing.specs.Head.{head}
 use Rattle.listing.specs.Case.{case_lines}
 use Rattle.listing.specs.End.{last_line}
-use Rattle.scald_base.specs.declared.outcome.Outcome.{Outcome}
-use Rattle.scald_base.specs.declared.outcome.Outcome.TheVariants.{Clean, Faulty, Done, Refused, Unsettled, BadWords, TooLong, ReadFault, WriteFault, NoMemory}
 use Rattle.timing_analysis.specs.Case.{Case, printed_tick, faults, fault_count}
+use Rattle.scald_tool.specs.declared.report.Report.{Report}
 
 abbrev pub case_text : Mode → Circuit → ℕ → Case → List ℕ
 case_text mode c base case = case_lines c mode case.listed.number base case.rounds (printed_tick c base case) case.waves (faults c case)
@@ -17,15 +16,9 @@ case_text mode c base case = case_lines c mode case.listed.number base case.roun
 abbrev pub report : Mode → ℕ → Circuit → ℕ → List Case → List ℕ
 report mode version c base cases = head version c ++ flat_map (case_text mode c base) cases ++ last_line (fault_count c cases)
 
--- how many faults an outcome counts
-abbrev pub faults_in : Outcome → ℕ
-faults_in (Faulty count) = count
-faults_in Clean = 0
-faults_in Done = 0
-faults_in (Refused r) = 0
-faults_in (Unsettled k limit) = 0
-faults_in (BadWords i) = 0
-faults_in TooLong = 0
-faults_in ReadFault = 0
-faults_in WriteFault = 0
-faults_in NoMemory = 0
+-- A report while it is written: it has the head and the lines of these cases, and counts their faults.
+pub record HasLines (report : Report) (mode : Mode) (version : ℕ) (c : Circuit) (base : ℕ) (cases : List Case) : Type 0 where
+  pub mode_is : report.mode ≡ mode
+  pub base_is : report.base ≡ base
+  pub lines : report.bytes ≡ head version c ++ flat_map (case_text mode c base) cases
+  pub count : report.total ≡ fault_count c cases

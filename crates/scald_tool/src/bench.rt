@@ -1,101 +1,102 @@
 //! From a number of sections to the numbers of the report on the drawing that has so many.
 
-ghost use Rattle.std.specs.Prelude.{◌≡◌, ◌≢◌, ◌≤◌, ℕ, true, IfOk};
-ghost use Rattle.fixpoint_engine.specs.Loops.{HasNoLoop};
-ghost use Rattle.fixpoint_engine.specs.Reach.{reach};
-ghost use Rattle.fixpoint_engine.specs.Start.{default_limit};
-ghost use Rattle.case_analysis.specs.Tick.{tick};
-ghost use Rattle.timing_analysis.specs.Drawn.{IsLoopless};
-ghost use Rattle.timing_analysis.specs.Subject.{IsSubject};
-ghost use Rattle.design_gen.specs.Datapath.{datapath};
-ghost use Rattle.listing.specs.Answer.{summary_line};
-ghost use Rattle.program_call.specs.Answer.{Concluded};
-ghost use Rattle.scald_tool.specs.Answer.{Benched, measured};
-ghost use Rattle.scald_tool.specs.Promise.{may_give};
-ghost use Rattle.scald_tool.specs.Report.{faults_in};
+ghost use Rattle.std.specs.Prelude.{◌≡◌, IfOk};
+ghost use Rattle.scald_tool.specs.Answer.{Benched};
 
-use crate::verify::{Reported, report_cases};
-use crate::words::Command;
-use case_analysis::{default_limit, reach, tick};
+use case_analysis::{reach, tick};
 use design_gen::generate;
+use drawing_tree::Drawing;
+use fixpoint_engine::Waves;
 use flat_circuit::Circuit;
-use listing::{Mode, write_summary};
-use program_call::{Reply, ended, refused};
+use listing::write_summary;
+use program_call::{Reply, Reporter, reply_to};
 use run_wave::RunWave;
-use scald_base::{Bytes, NoMemory, Outcome, Stop};
+use scald_base::{Bytes, NoMemory, Outcome};
 use std::alloc::Global;
 use step_values::Value;
-use timing_analysis::{Subject, read_circuit};
+use timing_analysis::CaseAtRest;
 use wave_core::CyclicWave;
 
 /// The numbers of the report on the generated drawing of so many sections, at its own limit of rounds;
 /// or, as `verify` has it, why that is refused or which net does not settle.
 pub fn bench(alloc: Global, sections: u16) -> Result<Reply<Outcome>, NoMemory>
-    ensures is { IfOk result (λ reply. Benched sections reply.outcome reply.bytes) }
-    ensures given { IfOk result (λ reply. may_give (Command.Bench sections) reply.outcome ≡ true) }
-    ensures loopless { IfOk result (λ reply.
-        (place round : ℕ) → IsLoopless (datapath sections) → reply.outcome ≢ Outcome.Unsettled place round) }
+    ensures { IfOk result (λ reply. Benched sections reply.outcome reply.bytes) }
 {
     let text = generate(alloc, sections)?;
-    match read_circuit(alloc, text.as_slice()) {
-        Ok(drawn) => {
-            let subject = Subject::new(alloc, drawn)?;
-            measured::<RunWave<Value>>(alloc, sections, &subject)
-        }
-        Err(Stop::Refused(refusal)) => refused(alloc, refusal),
-        Err(Stop::NoMemory) => Err(NoMemory),
+    reply_to::<Numbers, RunWave<Value>>(alloc, text.as_slice(), sections, None, &mut 0)
+}
+
+/// How many sections a drawing has, the round in which its base settled, and how many faults the cases
+/// so far have.
+#[derive(Drop)]
+pub struct Numbers {
+    pub sections: u16,
+    pub base: u32,
+    pub total: u32,
+}
+
+impl Reporter for Numbers {
+    ghost use Rattle.std.specs.Prelude.{◌≡◌, ◌≤◌, ◌*◌};
+    ghost use Rattle.timing_analysis.specs.Case.{fault_count};
+    ghost use Rattle.scald_tool.specs.Answer.{Measured};
+
+    type Asked = u16;
+
+    type Kept = ();
+
+    ghost keeps = { λ d. tt };
+
+    ghost reports = { λ sections kept. Measured sections };
+
+    ghost holds = { λ numbers sections kept c base cases.
+        (numbers.sections ≡ sections) × (numbers.base ≡ base) × (numbers.total ≡ fault_count c cases) };
+
+    ghost ready = { λ numbers c cases. (numbers.total ≤ cases * 458752) × (numbers.base ≤ 10000000) };
+
+    fn keep(_alloc: Global, _drawing: &Drawing) -> Result<(), NoMemory> {
+        Ok(())
     }
-}
 
-/// The numbers of the report on a circuit of so many sections, or the net that does not settle in the
-/// circuit's own limit.
-fn measured<W: CyclicWave<Item = Value>>(
-    alloc: Global,
-    sections: u16,
-    subject: &Subject,
-) -> Result<Reply<Outcome>, NoMemory>
-    requires { IsSubject subject.now }
-    ensures is { IfOk result (λ reply. Concluded (measured sections)
-        subject.now.circuit subject.now.cases (default_limit subject.now.circuit) reply.outcome reply.bytes) }
-    ensures given { IfOk result (λ reply. may_give (Command.Bench sections) reply.outcome ≡ true) }
-    ensures loopless { IfOk result (λ reply.
-        (place round : ℕ) → HasNoLoop subject.now.circuit → reply.outcome ≢ Outcome.Unsettled place round) }
-{
-    let limit = default_limit(&subject.circuit);
-    match report_cases::<W>(alloc, subject, Mode::Faults, limit) {
-        Ok(reported) => summary(alloc, sections, &subject.circuit, &reported),
-        Err(end) => ended(alloc, &subject.circuit, end),
+    fn begin(
+        _alloc: Global,
+        sections: u16,
+        _kept: (),
+        _circuit: &Circuit,
+        base: u32,
+    ) -> Result<Numbers, NoMemory> {
+        Ok(Numbers {
+            sections,
+            base,
+            total: 0,
+        })
     }
-}
 
-/// The line of the numbers of a report.
-fn summary(
-    alloc: Global,
-    sections: u16,
-    circuit: &Circuit,
-    reported: &Reported,
-) -> Result<Reply<Outcome>, NoMemory>
-    requires { reported.now.base ≤ 10000000 }
-    ensures outcome { IfOk result (λ reply. reply.outcome ≡ Outcome.Done) }
-    ensures bytes { IfOk result (λ reply. reply.bytes ≡ summary_line circuit.now sections
-        reported.now.base (tick (reach circuit.now) reported.now.base 0) (faults_in reported.now.reply.outcome)) }
-{
-    let tick = tick(reach(circuit), reported.base, 0);
-    let faults = faults_in(reported.reply.outcome);
-    let mut bytes = Bytes::new(alloc);
-    write_summary(circuit, sections, reported.base, tick, faults, &mut bytes)?;
-    Ok(Reply {
-        outcome: Outcome::Done,
-        bytes,
-    })
-}
+    fn add_case<W: CyclicWave<Item = Value>>(
+        &mut self,
+        _alloc: Global,
+        _circuit: &Circuit,
+        _place: u32,
+        case: &CaseAtRest,
+        _waves: &Waves<W>,
+    ) -> Result<(), NoMemory> {
+        self.total += case.faults.len() as u32;
+        Ok(())
+    }
 
-/// How many faults an outcome counts.
-fn faults_in(outcome: Outcome) -> u32
-    ensures { result ≡ faults_in outcome }
-{
-    match outcome {
-        Outcome::Faulty(count) => count,
-        _ => 0,
+    fn end(self, alloc: Global, circuit: &Circuit) -> Result<Reply<Outcome>, NoMemory> {
+        let tick = tick(reach(circuit), self.base, 0);
+        let mut bytes = Bytes::new(alloc);
+        write_summary(
+            circuit,
+            self.sections,
+            self.base,
+            tick,
+            self.total,
+            &mut bytes,
+        )?;
+        Ok(Reply {
+            outcome: Outcome::Done,
+            bytes,
+        })
     }
 }

@@ -1,12 +1,10 @@
 //! From a text to the canonical text of its drawing.
 
-ghost use Rattle.std.specs.Prelude.{◌≡◌, ◌-◌, ◌^◌, ◌<◌, IfOk, length, true};
+ghost use Rattle.std.specs.Prelude.{◌≡◌, ◌-◌, ◌^◌, ◌<◌, IfOk, length};
 ghost use Rattle.drawing_tree.specs.Tree.{drawing_of};
 ghost use Rattle.drawing_tree.specs.Canonical.{canonical};
 ghost use Rattle.scald_tool.specs.Answer.{Formatted};
-ghost use Rattle.scald_tool.specs.Promise.{may_give};
 
-use crate::words::Command;
 use drawing_tree::{Drawing, print_drawing};
 use program_call::{Reply, refused};
 use scald_base::{NoMemory, Outcome, Stop};
@@ -16,8 +14,7 @@ use timing_analysis::read_text;
 /// The canonical text of a drawing, or the line of its refusal.
 pub fn format(alloc: Global, text: &[u8]) -> Result<Reply<Outcome>, NoMemory>
     requires { length text.now < 2 ^ 32 - 1 }
-    ensures is { IfOk result (λ reply. Formatted text.now reply.outcome reply.bytes) }
-    ensures given { IfOk result (λ reply. may_give Command.Format reply.outcome ≡ true) }
+    ensures { IfOk result (λ reply. Formatted text.now reply.outcome reply.bytes) }
 {
     match read_text(alloc, text) {
         Ok(drawing) => formatted(alloc, &drawing),

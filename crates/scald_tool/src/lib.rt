@@ -3,8 +3,8 @@
 //!
 //! The program calls `tool_main`, the main call of `program_call` for the program `Verifier`. What it
 //! promises stands in `specs/Promise`, over the answer that words and a text have (`Answer`): by the
-//! circuit that the text draws (`drawn_circuit`), its cases at rest (`timing_analysis`, which also says
-//! what never breaks in them) and the lines on them (`Report`).
+//! circuit that the text draws, its settled cases (`timing_analysis`, which also says what never breaks
+//! in them) and the lines on them (`Report`).
 #![tactic(auto)]
 
 // what comes in
@@ -14,13 +14,10 @@ mod words;
 mod bench;
 mod format;
 mod report;
-mod undriven;
 mod upgrade;
 mod verified;
-mod verify;
 
 // what goes out
-mod answer;
 mod tool;
 mod verifier;
 

@@ -1,16 +1,12 @@
 //! A report while it is written, case by case.
 
-ghost use Rattle.std.specs.Prelude.{◌≡◌, ◌+◌, ◌++◌, ◌≤◌, ◌<◌, ◌^◌, IfOk, OnOk, length};
-ghost use Rattle.fixpoint_engine.specs.Waves.{FitWaves, waves_of};
-ghost use Rattle.listing.specs.Head.{head};
-ghost use Rattle.listing.specs.Case.{case_lines};
-ghost use Rattle.listing.specs.End.{last_line};
-ghost use Rattle.program_call.specs.Answer.{verdict_of};
+ghost use Rattle.std.specs.Prelude.{◌≡◌, ◌++◌, ◌≤◌, ◌*◌};
 
+use drawing_tree::Drawing;
 use fixpoint_engine::Waves;
 use flat_circuit::Circuit;
 use listing::{CaseHead, Mode, begin_report, end_report, write_case};
-use program_call::{Reply, verdict};
+use program_call::{Reply, Reporter, verdict};
 use scald_base::{Bytes, NoMemory, Outcome};
 use std::alloc::Global;
 use step_values::Value;
@@ -21,54 +17,84 @@ use wave_core::CyclicWave;
 #[derive(Drop)]
 pub struct Report {
     pub bytes: Bytes,
+    /// Which lines of a case are shown.
+    pub mode: Mode,
+    /// The round in which the base settled.
+    pub base: u32,
     pub total: u32,
 }
 
-impl Report {
-    /// The head of a report on a circuit that is drawn in this version of the language, before any case.
-    pub fn begin(alloc: Global, version: u8, circuit: &Circuit) -> Result<Report, NoMemory>
-        ensures head { IfOk result (λ report. report.bytes ≡ head version circuit.now) }
-        ensures none { IfOk result (λ report. report.total ≡ 0) }
-    {
-        let mut bytes = Bytes::new(alloc);
-        begin_report(circuit, version, &mut bytes)?;
-        Ok(Report { bytes, total: 0 })
+impl Reporter for Report {
+    ghost use Rattle.std.specs.Prelude.{◌≡◌, ◌++◌, ◌≤◌, ◌*◌};
+    ghost use Rattle.scald_tool.specs.Answer.{Reported};
+    ghost use Rattle.scald_tool.specs.Report.{HasLines};
+
+    type Asked = Mode;
+
+    type Kept = u8;
+
+    ghost keeps = { λ d. d.version };
+
+    ghost reports = { Reported };
+
+    ghost holds = { HasLines };
+
+    ghost ready = { λ report c cases. report.total ≤ cases * 458752 };
+
+    fn keep(_alloc: Global, drawing: &Drawing) -> Result<u8, NoMemory> {
+        Ok(drawing.version)
     }
 
-    /// The lines of one case at rest, after those of the others; `waves` are those of the case.
-    pub fn add_case<W: CyclicWave<Item = Value>>(
-        &mut self,
-        circuit: &Circuit,
+    fn begin(
+        alloc: Global,
         mode: Mode,
+        version: u8,
+        circuit: &Circuit,
         base: u32,
+    ) -> Result<Report, NoMemory> {
+        let mut bytes = Bytes::new(alloc);
+        begin_report(circuit, version, &mut bytes)?;
+        Ok(Report {
+            bytes,
+            mode,
+            base,
+            total: 0,
+        })
+    }
+
+    fn add_case<W: CyclicWave<Item = Value>>(
+        &mut self,
+        _alloc: Global,
+        circuit: &Circuit,
+        _place: u32,
         case: &CaseAtRest,
         waves: &Waves<W>,
-    ) -> Result<(), NoMemory>
-        requires room { self.old.total + 458752 < 2 ^ 32 }
-        requires fit { FitWaves circuit.now waves.now }
-        requires few { length case.now.faults ≤ 458752 }
-        ensures told { let waves = waves_of waves.now in
-            OnOk result (self.new.bytes ≡ self.old.bytes ++ case_lines circuit.now
-            mode case.now.number base case.now.settled.rounds case.now.tick waves case.now.faults) }
-        ensures counted { OnOk result (self.new.total ≡ self.old.total + length case.now.faults) }
-    {
+    ) -> Result<(), NoMemory> {
         let head = CaseHead {
             number: case.number,
-            base,
+            base: self.base,
             rounds: case.settled.rounds,
             tick: case.tick,
         };
-        write_case(circuit, head, waves, &case.faults, mode, &mut self.bytes)?;
+        write_case(
+            circuit,
+            head,
+            waves,
+            &case.faults,
+            self.mode,
+            &mut self.bytes,
+        )?;
         self.total += case.faults.len() as u32;
         Ok(())
     }
 
-    /// The whole report, with its outcome.
-    pub fn end(self) -> Result<Reply<Outcome>, NoMemory>
-        ensures outcome { IfOk result (λ reply. reply.outcome ≡ verdict_of self.total) }
-        ensures bytes { IfOk result (λ reply. reply.bytes ≡ self.bytes ++ last_line self.total) }
-    {
-        let Report { mut bytes, total } = self;
+    fn end(self, _alloc: Global, _circuit: &Circuit) -> Result<Reply<Outcome>, NoMemory> {
+        let Report {
+            mut bytes,
+            mode: _,
+            base: _,
+            total,
+        } = self;
         end_report(total, &mut bytes)?;
         Ok(Reply {
             outcome: verdict(total),

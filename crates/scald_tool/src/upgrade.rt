@@ -1,12 +1,10 @@
 //! From a text to the text of the same circuit in the last version of the language.
 
-ghost use Rattle.std.specs.Prelude.{◌≡◌, ◌-◌, ◌^◌, ◌<◌, IfOk, length, true};
+ghost use Rattle.std.specs.Prelude.{◌≡◌, ◌-◌, ◌^◌, ◌<◌, IfOk, length};
 ghost use Rattle.drawing_tree.specs.Tree.{drawing_of};
 ghost use Rattle.format_upgrade.specs.Upgraded.{upgraded_text};
 ghost use Rattle.scald_tool.specs.Answer.{Upgrades};
-ghost use Rattle.scald_tool.specs.Promise.{may_give};
 
-use crate::words::Command;
 use drawing_tree::Drawing;
 use format_upgrade::upgrade;
 use program_call::{Reply, refused};
@@ -17,8 +15,7 @@ use timing_analysis::read_text;
 /// The upgraded text of a drawing, or the line of its refusal.
 pub fn upgrade_text(alloc: Global, text: &[u8]) -> Result<Reply<Outcome>, NoMemory>
     requires { length text.now < 2 ^ 32 - 1 }
-    ensures is { IfOk result (λ reply. Upgrades text.now reply.outcome reply.bytes) }
-    ensures given { IfOk result (λ reply. may_give Command.Upgrade reply.outcome ≡ true) }
+    ensures { IfOk result (λ reply. Upgrades text.now reply.outcome reply.bytes) }
 {
     match read_text(alloc, text) {
         Ok(drawing) => upgraded(alloc, &drawing),

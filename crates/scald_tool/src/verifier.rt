@@ -1,10 +1,15 @@
 //! The verifier as a program: what its main call reads and answers.
 
-use crate::answer::answer;
+use crate::bench::bench;
+use crate::format::format;
+use crate::report::Report;
+use crate::upgrade::upgrade_text;
 use crate::words::{Command, read_words};
-use program_call::{Program, Reply};
+use program_call::{Program, Reply, reply_to};
+use run_wave::RunWave;
 use scald_base::{CallEnd, NoMemory, Outcome, Words};
 use std::alloc::Global;
+use step_values::Value;
 
 /// The most bytes of a text.
 const MOST_BYTES: u32 = 4_194_304;
@@ -45,7 +50,14 @@ impl Program for Verifier {
         text: &[u8],
         undriven: &mut u32,
     ) -> Result<Reply<Outcome>, NoMemory> {
-        answer(alloc, command, text, undriven)
+        match command {
+            Command::Verify { mode, rounds } => {
+                reply_to::<Report, RunWave<Value>>(alloc, text, mode, rounds, undriven)
+            }
+            Command::Format => format(alloc, text),
+            Command::Upgrade => upgrade_text(alloc, text),
+            Command::Bench(sections) => bench(alloc, sections),
+        }
     }
 
     fn ended(end: CallEnd) -> Outcome {

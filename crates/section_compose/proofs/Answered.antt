@@ -17,9 +17,7 @@ use Rattle.section_compose.specs.Rules.{circuits}
 use Rattle.section_compose.specs.declared.answer.End.TheVariants as end
 use Rattle.section_compose.specs.declared.outcome.SectionsOutcome.{SectionsOutcome}
 use Rattle.section_compose.specs.declared.outcome.SectionsOutcome.TheVariants.{BadCount, Refused, Unsettled}
-use Rattle.section_compose.specs.declared.program.Command.{Command}
-use Rattle.section_compose.specs.declared.program.Command.TheVariants.{Compose}
-use Rattle.section_compose.specs.Answer.{AreEnough, HasSections, Joined, RefusesFirst, Replied, bad_count, drawn, refused}
+use Rattle.section_compose.specs.Answer.{AreEnough, HasSections, Joined, RefusesFirst, bad_count, drawn, refused}
 use Rattle.section_compose.specs.Answer.{Concluded}
 use Rattle.section_compose.specs.Lines.{refused_lines}
 use Rattle.section_compose.specs.Reading.{IsRefusedIn}
@@ -36,11 +34,6 @@ pub never_so : {A E : Type 0} (r : Result A E) (outcome : A → SectionsOutcome)
     IfOk r (λ x. outcome x ≡ o) → (o ≡ other → ⊥) → IfOk r (λ x. outcome x ≡ other → P)
 never_so (Ok x) outcome o other P is differ = λ same. absurd (differ (sym is ∙ same))
 never_so (Err e) outcome o other P is differ = tt
-
--- as the program has it, which is asked for one thing
-pub replied_joined : {A E : Type 0} (r : Result A E) (command : Command) (text : List ℕ) (outcome : A → SectionsOutcome) (bytes : A → List ℕ) →
-    IfOk r (λ x. Joined text (outcome x) (bytes x)) → IfOk r (λ x. Replied command text (outcome x) (bytes x))
-replied_joined r Compose text outcome bytes is = is
 
 -- the same where the numbers, or the refusal, are called otherwise
 pub unsettled_so : {A E : Type 0} (r : Result A E) (outcome : A → SectionsOutcome) (bytes : A → List ℕ) (section n k n' k' : ℕ) (line : ℕ → ℕ → List ℕ)

@@ -22,3 +22,4 @@ pub mod OneAnswer
 pub mod Promised
 pub mod Told
 pub mod Examples
+mod ExamplesWhole

@@ -20,12 +20,10 @@ use Rattle.program_call.specs.Program.{IsLawful}
 use Rattle.timing_analysis.proofs.OneRest.{one_place, one_rest, same_waves}
 use Rattle.section_compose.specs.declared.outcome.SectionsOutcome.{SectionsOutcome}
 use Rattle.section_compose.specs.declared.outcome.SectionsOutcome.TheVariants.{Clean, Faulty, Refused, Unsettled, BadSection}
-use Rattle.section_compose.specs.declared.program.Command.{Command}
-use Rattle.section_compose.specs.declared.program.Command.TheVariants.{Compose}
 use Rattle.section_compose.specs.declared.rules.Broken.{Broken}
 use Rattle.section_compose.specs.declared.section.Section.{Section}
 use Rattle.section_compose.specs.Answer as answer
-use Rattle.section_compose.specs.Answer.{AreEnough, Concluded, Joined, RefusesFirst, Replied, composer, reads}
+use Rattle.section_compose.specs.Answer.{AreEnough, Concluded, Joined, RefusesFirst, composer}
 use Rattle.section_compose.specs.Cut.{sections_of}
 use Rattle.section_compose.specs.Evaluated.{AreSettled, IsAtRest, NeverSettles, Rest, StopsAt, all_faults, section_round}
 use Rattle.section_compose.specs.Lines.{broken_line, refused_lines, report, unsettled_lines}
@@ -217,14 +215,10 @@ concluded_speaks sections _ _ (answer.broken b c is at) = refl
 concluded_speaks sections _ _ (answer.unsettled s place kept stops) = refl
 concluded_speaks sections _ _ (answer.settled rests kept rest) = verdict_speaks (all_faults (circuits sections) rests)
 
-reply_speaks : (command : Command) (text : List ℕ) (o : SectionsOutcome) (bytes : List ℕ) → Replied command text o bytes → end_of o ≡ None
-reply_speaks Compose text _ _ (answer.bad_count wrong) = refl
-reply_speaks Compose text _ _ (answer.refused s r enough first) = refl
-reply_speaks Compose text _ _ (answer.drawn sections o bytes has is) = concluded_speaks sections o bytes is
-
-one_reply : (command : Command) (text : List ℕ) (o o' : SectionsOutcome) (bytes bytes' : List ℕ) →
-    Replied command text o bytes → Replied command text o' bytes' → (o ≡ o') × (bytes ≡ bytes')
-one_reply Compose text o o' bytes bytes' a b = one_joined text o o' bytes bytes' a b
+joined_speaks : (text : List ℕ) (o : SectionsOutcome) (bytes : List ℕ) → Joined text o bytes → end_of o ≡ None
+joined_speaks text _ _ (answer.bad_count wrong) = refl
+joined_speaks text _ _ (answer.refused s r enough first) = refl
+joined_speaks text _ _ (answer.drawn sections o bytes has is) = concluded_speaks sections o bytes is
 
 ends_apart : (end : CallEnd) → end_of (ended end) ≡ Some end
 ends_apart (call.BadWords i) = refl
@@ -233,9 +227,10 @@ ends_apart call.ReadFault = refl
 ends_apart call.WriteFault = refl
 ends_apart call.NoMemory = refl
 
-unread : (command : Command) (text other : List ℕ) (o : SectionsOutcome) (bytes : List ℕ) → reads command ≡ false →
-    Replied command text o bytes → Replied command other o bytes
-unread Compose text other o bytes none r = absurd (cc)
-
 pub composer_lawful : IsLawful composer
-composer_lawful = record { ends = ends_apart; replies = reply_speaks; one = one_reply; unread = unread }
+composer_lawful = record {
+  ends = ends_apart;
+  replies = λ request. joined_speaks;
+  one = λ request. one_joined;
+  unread = λ request text other o bytes none replied. absurd (cc);
+}

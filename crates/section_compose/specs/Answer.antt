@@ -1,16 +1,15 @@
 -- What is answered to the bytes of several drawings.
-use Rattle.std.specs.Prelude.{◌≡◌, ◌⊎◌, ℕ, ◌+◌, ◌-◌, ◌<◌, ◌≤◌, Bool, true, List}
-use Rattle.std.specs.Prelude.{[], ◌∷◌, length, slice_get, codes, if◌then◌else◌, Some, None, Result, Ok, Err}
-use Rattle.std.specs.Str.{bytes_eq}
+use Rattle.std.specs.Prelude.{◌≡◌, ◌⊎◌, ℕ, ◌+◌, ◌-◌, ◌<◌, ◌≤◌, true, List}
+use Rattle.std.specs.Prelude.{[], ◌∷◌, length, slice_get, codes, Some, None}
 use Rattle.std.specs.List.{AllZip}
 use Rattle.scald_base.specs.declared.refusal.Refusal.{Refusal}
 use Rattle.flat_circuit.specs.Circuit.{Circuit}
 use Rattle.fixpoint_engine.specs.Start.{default_limit}
 use Rattle.program_call.specs.Program.{Meaning}
+use Rattle.program_call.specs.Wordless.{by_name, most_bytes}
+use Rattle.program_call.specs.declared.words.Request.{Request}
 use Rattle.section_compose.specs.declared.outcome.SectionsOutcome.{SectionsOutcome}
 use Rattle.section_compose.specs.declared.outcome.SectionsOutcome.TheVariants.{Refused, Unsettled, BadCount, BadSection}
-use Rattle.section_compose.specs.declared.program.Command.{Command}
-use Rattle.section_compose.specs.declared.program.Command.TheVariants.{Compose}
 use Rattle.section_compose.specs.declared.rules.Broken.{Broken}
 use Rattle.section_compose.specs.declared.section.Section.{Section}
 use Rattle.section_compose.specs.Cut.{sections_of}
@@ -20,25 +19,6 @@ use Rattle.section_compose.specs.Lines.{broken_line, refused_lines, unsettled_li
 use Rattle.section_compose.specs.Outcome.{ended, end_of, verdict_of}
 use Rattle.section_compose.specs.Rule.{number_of}
 use Rattle.section_compose.specs.Rules.{circuits, first_broken}
-
--- ---- words
-
--- any word after the name is one too many
-abbrev pub no_more : List (List ℕ) → Result Command ℕ
-no_more [] = Ok Compose
-no_more (word ∷ words) = Err 1
-
--- the first word is the name
-abbrev pub command_of : List (List ℕ) → Result Command ℕ
-command_of [] = Err 0
-command_of (word ∷ words) = if bytes_eq word (codes "sections") then no_more words else Err 0
-
-abbrev pub reads : Command → Bool
-reads Compose = true
-
--- the most bytes that are read
-abbrev pub most_bytes : ℕ
-most_bytes = 4194304
 
 -- ---- sections that are drawn
 
@@ -88,16 +68,13 @@ pub data Joined (text : List ℕ) : SectionsOutcome → List ℕ → Type 0 wher
   drawn : (sections : List Section) (o : SectionsOutcome) (bytes : List ℕ) → HasSections text sections →
       Concluded sections o bytes → Joined text o bytes
 
-abbrev pub Replied : Command → List ℕ → SectionsOutcome → List ℕ → Type 0
-Replied Compose text = Joined text
-
 -- What is answered to words and a text.
-abbrev pub composer : Meaning Command SectionsOutcome
+abbrev pub composer : Meaning Request SectionsOutcome
 composer = record {
-  command_of = command_of;
-  reads = reads;
+  command_of = by_name (codes "sections");
+  reads = λ request. true;
   most_bytes = λ read. most_bytes;
-  Replied = Replied;
+  Replied = λ request. Joined;
   ended = ended;
   end_of = end_of;
 }

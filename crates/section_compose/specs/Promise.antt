@@ -3,7 +3,7 @@ use Rattle.std.specs.Prelude.{◌≡◌, ℕ, Bool, List, Option, None}
 use Rattle.program_call.specs.Program as program
 use Rattle.section_compose.specs.declared.outcome.SectionsOutcome.{SectionsOutcome}
 use Rattle.section_compose.specs.declared.outcome.SectionsOutcome.TheVariants.{Clean}
-use Rattle.section_compose.specs.declared.program.Command.{Command}
+use Rattle.program_call.specs.declared.words.Request.{Request}
 use Rattle.section_compose.specs.declared.section.Section.{Section}
 use Rattle.section_compose.specs.Answer.{HasSections, composer}
 use Rattle.section_compose.specs.Evaluated.{Rest, AreSettled, greatest_tick}
@@ -21,7 +21,7 @@ pub record NeverBreaksJoined (text : List ℕ) : Type 0 where
   pub never : NeverBreaksWhole (circuits sections) (greatest_tick (circuits sections) rests)
 
 -- what is promised of the sections of a text that is answered so
-abbrev pub IsPromised : Command → List ℕ → SectionsOutcome → Type 0
+abbrev pub IsPromised : Request → List ℕ → SectionsOutcome → Type 0
 IsPromised command text o = o ≡ Clean → NeverBreaksJoined text
 
 -- an outcome that says something of the text, all of which was read and all of whose answer was written

@@ -237,13 +237,17 @@ fn add_list(out: &mut Lines, standing: Standing, sections: &[Section]) -> u64 {
     count
 }
 
-/// Of a text of sections that break no rule: which global nets cross, from which section to which, which no
-/// section drives, and which stand only in the section that drives them.
+/// Of a text of sections that break no rule: which global nets cross, from which section to which,
+/// which no section drives, and which stand only in the section that drives them. Nothing is said
+/// if memory runs out before all sections are read, since a list of some would be false.
 pub fn list_crossings(alloc: Global, text: &[u8]) -> Lines {
     let mut out = Lines::new(alloc);
     let pieces = pieces_of(alloc, text);
     let read = read_sections(alloc, text, pieces.as_slice());
     let sections = read.as_slice();
+    if pieces.is_empty() || sections.len() < pieces.len() {
+        return out;
+    }
     if add_list(&mut out, Standing::Crosses, sections) == 0 {
         out.put(b"scald: no net crosses: sections share only nets whose names begin with /\n");
     }

@@ -14,8 +14,10 @@ ghost use Rattle.section_compose.specs.Rules.{circuits};
 
 use crate::{Section, crosses_into};
 use case_analysis::{default_limit, driven_nets, reach, start_numbers, tick};
-use fixpoint_engine::{EngineEnd, Numbers, Settled, Store, Waves, settle, settle_classes};
-use flat_circuit::{Case, CaseList, CaseValue, Circuit, Faults, classes, stable};
+use fixpoint_engine::{
+    EngineEnd, NetClasses, Numbers, Settled, Store, Waves, constant_numbers, settle,
+};
+use flat_circuit::{Case, CaseList, CaseValue, Circuit, Faults};
 use pin_waves::wide_wave;
 use scald_base::{AssertSpec, Header, List, NoMemory};
 use skew_algebra::Skewed;
@@ -147,17 +149,18 @@ fn settled<W: CyclicWave<Item = Value>>(
 {
     c.known();
     c.header().known();
+    let constants = constant_numbers(alloc, c.header(), store)?;
     let start = section_start(alloc, c, store, &case)?;
     let active = driven_nets(alloc, c)?;
     let limit = default_limit(c);
     let mut cases: CaseList = List::new(alloc);
     cases.push(case)?;
-    let numbers = classes(alloc, c, &cases)?;
-    if stable(c, &cases, &numbers) {
-        settle_classes(alloc, c, store, &cases, &numbers, &start, &active, limit)
-    } else {
-        settle(alloc, c, store, &start, &active, limit)
-    }
+    let classes = NetClasses::of(alloc, c, &cases)?;
+    let nets = classes.nets.as_ref();
+    let hearers = &classes.hearers;
+    settle(
+        alloc, c, store, constants, nets, hearers, &start, &active, limit,
+    )
 }
 
 /// A section at rest, with its faults. `Unsettled` comes where it does not settle within its limit of

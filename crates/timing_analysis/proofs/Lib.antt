@@ -10,7 +10,6 @@ pub mod Headline
 pub mod Rest
 pub mod Cases
 pub mod Ends
-pub mod DrawnText
 mod Examples
 mod Unbroken
 mod ExamplesBroken

@@ -34,10 +34,10 @@ pub record DrawsCircuit (text : List ℕ) (c : Circuit) (cases : List (List Case
   pub are : cases_of draws.circuit.state drawing ≡ Ok (map (bits_of c.nets) cases)
   pub listed : All (IsListed c) cases
 
--- The same, where the drawing is of this version of the language.
-pub record DrawsAs (text : List ℕ) (number : ℕ) (c : Circuit) (cases : List (List CaseValue)) : Type 0 where
+-- The same, by this drawing.
+pub record DrawsBy (text : List ℕ) (d : Drawing) (c : Circuit) (cases : List (List CaseValue)) : Type 0 where
   pub draws : DrawsCircuit text c cases
-  pub version : draws.drawing.version ≡ number
+  pub drawing : draws.drawing ≡ d
 
 -- no net of the circuit that the text draws is reached from itself through listening pins
 abbrev pub IsLoopless : List ℕ → Type 0

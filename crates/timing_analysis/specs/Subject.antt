@@ -1,17 +1,10 @@
 -- What is evaluated: a circuit, its cases, the classes in which its nets are evaluated, and its reach.
-use Rattle.std.specs.Prelude.{◌≡◌, ℕ, ◌≤◌, List, length, Option, Some, None, ⊤}
+use Rattle.std.specs.Prelude.{◌≡◌, ◌≤◌, length}
 use Rattle.std.specs.List.{All}
-use Rattle.flat_circuit.specs.declared.case.CaseValue.{CaseValue}
-use Rattle.flat_circuit.specs.Circuit.{Circuit}
-use Rattle.flat_circuit.specs.Stable.{IsStable}
+use Rattle.fixpoint_engine.specs.NetClasses.{AreClasses}
 use Rattle.fixpoint_engine.specs.Reach.{reach}
 use Rattle.case_analysis.specs.Case.{NetsExist}
 use Rattle.timing_analysis.specs.declared.subject.Subject.{Subject}
-
--- Where there are classes, each net has one, and nothing tells the nets of one class apart, in no case either.
-abbrev pub AreClasses : Circuit → List (List CaseValue) → Option (List ℕ) → Type 0
-AreClasses c cases (Some classes) = (length classes ≡ length c.nets) × IsStable c cases classes
-AreClasses c cases None = ⊤
 
 -- Its cases are few, their nets exist, its classes are stable, and its reach is that of the circuit, which is at
 -- most twice the longest delay and one more.

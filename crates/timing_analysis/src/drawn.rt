@@ -1,6 +1,6 @@
 //! From a text to the drawing that it draws, and to its circuit and cases.
 
-ghost use Rattle.std.specs.Prelude.{◌≡◌, ◌-◌, ◌^◌, ◌<◌, ◌≤◌, IfOk, IfErr, length};
+ghost use Rattle.std.specs.Prelude.{◌≡◌, ◌-◌, ◌^◌, ◌<◌, ◌≤◌, ℕ, List, IfOk, IfErr, length};
 ghost use Rattle.std.specs.List.{All};
 ghost use Rattle.scald_base.specs.declared.refusal.Refusal.{Refusal};
 ghost use Rattle.drawing_tree.specs.Tree.{drawing_of};
@@ -8,7 +8,7 @@ ghost use Rattle.drawing_tree.specs.WellFormed.{IsWellFormed};
 ghost use Rattle.drawing_grammar.specs.CanonicalDraws.{TextDraws};
 ghost use Rattle.drawing_grammar.specs.Refused.{IsRefusal};
 ghost use Rattle.case_analysis.specs.Case.{NetsExist};
-ghost use Rattle.timing_analysis.specs.Drawn.{DrawsAs, DrawsCircuit, IsTextRefused};
+ghost use Rattle.timing_analysis.specs.Drawn.{DrawsBy, DrawsCircuit, IsTextRefused};
 
 use case_analysis::check_cases;
 use drawing_reader::read_drawing;
@@ -37,13 +37,12 @@ pub fn read_text(alloc: Global, text: &[u8]) -> Result<Drawing, Stop>
     }
 }
 
-/// The version of a drawing and its cases. All else of it goes, and the memory that it takes.
-fn version_and_cases(drawing: Drawing) -> (u8, CaseStmts)
-    ensures version { result.0 ≡ drawing.version }
-    ensures cases { result.1 ≡ drawing.cases }
+/// The cases of a drawing, as they are written. All else of it goes, and the memory that it takes.
+fn written_cases(drawing: Drawing) -> CaseStmts
+    ensures { result ≡ drawing.cases }
 {
     let Drawing {
-        version,
+        version: _,
         header: _,
         consts: _,
         const_places: _,
@@ -52,15 +51,42 @@ fn version_and_cases(drawing: Drawing) -> (u8, CaseStmts)
         body: _,
         cases,
     } = drawing;
-    (version, cases)
+    cases
 }
 
-/// A circuit and the cases in which it is evaluated, and the version of the language that it is drawn in.
+/// A circuit and the cases in which it is evaluated.
 #[derive(Drop)]
 pub struct Drawn {
-    pub version: u8,
     pub circuit: Circuit,
     pub cases: CaseList,
+}
+
+/// The circuit of a drawing, with its cases; or `Refused`, where it has no circuit or has a case that is
+/// refused; or `NoMemory`, where memory runs out.
+pub fn circuit_of(alloc: Global, drawing: Drawing) -> Result<Drawn, Stop>
+    requires { IsWellFormed (drawing_of drawing) }
+    ensures drawn { IfOk result (λ drawn. (text : List ℕ) → TextDraws text (drawing_of drawing) →
+        DrawsBy text (drawing_of drawing) drawn.circuit drawn.cases) }
+    ensures exist { IfOk result (λ drawn. All (NetsExist drawn.circuit) drawn.cases) }
+    ensures few { IfOk result (λ drawn. length drawn.cases ≤ 256) }
+    ensures refused { IfErr result (λ stop. (text : List ℕ) (r : Refusal) →
+        TextDraws text (drawing_of drawing) → stop ≡ Stop.Refused r → IsTextRefused text r) }
+{
+    let expansion = match expanded(alloc, &drawing) {
+        Ok(expansion) => expansion,
+        Err(stop) => return Err(stop),
+    };
+    // The tree of a large drawing takes as much as its circuit: it goes before that is finished.
+    let written = written_cases(drawing);
+    let circuit = match expansion.finish() {
+        Ok(circuit) => circuit,
+        Err(stop) => return Err(stop),
+    };
+    circuit.known();
+    match check_cases(alloc, &circuit, &written) {
+        Ok(cases) => Ok(Drawn { circuit, cases }),
+        Err(stop) => Err(stop),
+    }
 }
 
 /// The circuit that a text of fewer than 4,294,967,295 bytes draws, with its cases; or `Refused`, where
@@ -69,32 +95,12 @@ pub struct Drawn {
 pub fn read_circuit(alloc: Global, text: &[u8]) -> Result<Drawn, Stop>
     requires { length text.now < 2 ^ 32 - 1 }
     ensures drawn { IfOk result (λ drawn. DrawsCircuit text.now drawn.circuit drawn.cases) }
-    ensures version { IfOk result (λ drawn. DrawsAs text.now drawn.version drawn.circuit drawn.cases) }
     ensures exist { IfOk result (λ drawn. All (NetsExist drawn.circuit) drawn.cases) }
     ensures few { IfOk result (λ drawn. length drawn.cases ≤ 256) }
     ensures refused { IfErr result (λ stop. (r : Refusal) → stop ≡ Stop.Refused r → IsTextRefused text.now r) }
 {
-    let drawing = match read_text(alloc, text) {
-        Ok(drawing) => drawing,
-        Err(stop) => return Err(stop),
-    };
-    let expansion = match expanded(alloc, &drawing) {
-        Ok(expansion) => expansion,
-        Err(stop) => return Err(stop),
-    };
-    // The tree of a large drawing takes as much as its circuit: it goes before that is finished.
-    let (version, written) = version_and_cases(drawing);
-    let circuit = match expansion.finish() {
-        Ok(circuit) => circuit,
-        Err(stop) => return Err(stop),
-    };
-    circuit.known();
-    match check_cases(alloc, &circuit, &written) {
-        Ok(cases) => Ok(Drawn {
-            version,
-            circuit,
-            cases,
-        }),
+    match read_text(alloc, text) {
+        Ok(drawing) => circuit_of(alloc, drawing),
         Err(stop) => Err(stop),
     }
 }

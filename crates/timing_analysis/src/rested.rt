@@ -21,7 +21,7 @@ ghost use Rattle.timing_analysis.specs.Subject.{IsSubject};
 
 use crate::case_faults::{KnownFaults, faults, faults_again, known_faults};
 use crate::subject::Subject;
-use case_analysis::tick;
+use case_analysis::{base, case_waves, tick};
 use fixpoint_engine::{EngineEnd, Numbers, Settled, Store, Waves};
 use flat_circuit::{Circuit, Faults};
 use scald_base::NoMemory;
@@ -71,7 +71,14 @@ impl Subject {
             r.base.rounds ≤ outputs self.now.circuit.instances) (λ e. e ≡ EngineEnd.NoMemory) }
     {
         let mut store: Store<W> = Store::new(alloc);
-        let base = self.settled_base(alloc, &mut store, limit)?;
+        let base = base(
+            alloc,
+            &self.circuit,
+            &mut store,
+            &self.cases,
+            &self.classes,
+            limit,
+        )?;
         let known = if self.cases.is_empty() {
             None
         } else {
@@ -109,7 +116,16 @@ impl Subject {
             outputs self.now.circuit.instances ≤ limit → IfErr result (λ e. e ≡ EngineEnd.NoMemory) }
     {
         rested.shorten(alloc)?;
-        let settled = self.settled_case(alloc, &mut rested.store, &rested.base, place, limit)?;
+        let settled = case_waves(
+            alloc,
+            &self.circuit,
+            &mut rested.store,
+            &self.cases,
+            &self.classes,
+            &rested.base,
+            place,
+            limit,
+        )?;
         let found = faults_from(alloc, &self.circuit, rested, &settled.numbers)?;
         let tick = tick(self.reach, rested.base.rounds, settled.rounds);
         Ok(CaseAtRest {

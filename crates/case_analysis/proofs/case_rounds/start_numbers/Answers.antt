@@ -1,5 +1,7 @@
 use Rattle.std.proofs.Common.{◌∙◌, [], Some, length, take, sym, ap, subst}
 use Rattle.std.proofs.lemmas.List.{length-map}
+use Rattle.scald_base.specs.Time.{Header}
+use Rattle.fixpoint_engine.specs.Key.{AreConstants}
 use Rattle.fixpoint_engine.specs.Table.{AreKnown, IsNumber, wave_at, waves_at}
 use Rattle.fixpoint_engine.proofs.Growing.{grows_trans, known_still, same_number, same_waves}
 use Rattle.fixpoint_engine.proofs.TableByNumber.{number_below, number_reads}
@@ -53,3 +55,7 @@ returns-clause-fit g c =
     let store = c.constant_numbers.new.store in
     case_fits c.args.c.now (take c.loop-value.value-index c.args.case.now) (marked_in c.args.cone.now) (waves_at c.args.store.now c.args.before.now)
     (waves_at store c.loop-value.numbers) c.requires.fit (length-map c.loop-value.numbers (wave_at store) ∙ c.loop-value.invariant.each_net) c.loop-value.invariant.is
+
+pub returns-clause-constants : goal.returns-clause-constants
+returns-clause-constants g c =
+    subst (λ (h : Header). AreConstants h c.constant_numbers.new.store c.in_ok-constants.constants) c.header-2.ensures c.in_ok-constants.ensures.are

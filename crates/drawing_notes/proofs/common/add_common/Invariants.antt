@@ -2,7 +2,7 @@ use Rattle.std.proofs.Common.{ℕ, Bool}
 use Rattle.std.specs.List.{flat_map, range_with_len}
 use Rattle.drawing_notes.specs.Parts.{together}
 use Rattle.drawing_notes.specs.Paths.{TellsLaunches, is_looped}
-use Rattle.drawing_notes.specs.Told.{Adds}
+use Rattle.drawing_notes.specs.Lines.{Adds}
 use Rattle.drawing_notes.specs.Common.{common_at, skew_at}
 use Rattle.drawing_notes.proofs.common.add_common.Given as goal
 

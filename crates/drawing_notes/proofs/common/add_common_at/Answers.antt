@@ -1,6 +1,6 @@
 use Rattle.std.proofs.Common.{sym, subst, ◌∙◌}
 use Rattle.std.proofs.lemmas.Result.{on_ok_weaker}
-use Rattle.drawing_notes.specs.Told.{Adds}
+use Rattle.drawing_notes.specs.Lines.{Adds}
 use Rattle.drawing_notes.proofs.Adding.{adds_none}
 use Rattle.drawing_notes.specs.Common.{skew_at}
 use Rattle.drawing_notes.proofs.Noting.{no_doubt, no_note, note_of}

@@ -2,7 +2,7 @@ use Rattle.std.proofs.Common.{ℕ, slice_get, subst, Option}
 use Rattle.drawing_notes.specs.Arrivals.{arrival_at}
 use Rattle.drawing_notes.specs.Late.{late_on}
 use Rattle.drawing_notes.specs.Pins.{pin_net}
-use Rattle.drawing_notes.specs.Told.{Adds}
+use Rattle.drawing_notes.specs.Lines.{Adds}
 use Rattle.drawing_notes.proofs.Adding.{adds_number}
 use Rattle.drawing_notes.proofs.late.add_late_at.Goals as goal
 

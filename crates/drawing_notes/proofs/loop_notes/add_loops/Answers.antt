@@ -8,7 +8,7 @@ use Rattle.listing.specs.Names.{net_text}
 use Rattle.listing.specs.Text.{line}
 use Rattle.drawing_notes.specs.Loops.{loop_at, loop_line}
 use Rattle.drawing_notes.specs.Parts.{nets_on, part_at, together}
-use Rattle.drawing_notes.specs.Told.{Told, Adds}
+use Rattle.drawing_notes.specs.Lines.{Lines, Adds}
 use Rattle.drawing_notes.proofs.Adding.{adds_none, adds_number, adds_numbers}
 use Rattle.drawing_notes.proofs.Telling.{loop_again, loop_first, loop_none, tells_again, tells_first, tells_none}
 use Rattle.drawing_notes.proofs.loop_notes.add_loops.Goals as goal
@@ -37,7 +37,9 @@ loop-place-preserved c =
           ∙ sym (loop_first circuit parts place root part untold) in
           record {
             each_net = ap length (w.told-is ∙ w.add.ensures) ∙ length-set c.loop-place.told root true ∙ c.loop-place.invariant.each_net;
-            adds = subst (λ (t : Told). Adds c.args.notes.now t (flat_map (loop_at circuit (together parts)) (range_with_len 0 (place + 1)))) (sym w.notes-is)
+            adds = subst (λ (t : Lines). Adds c.args.notes.now t
+                (flat_map (loop_at circuit (together parts)) (range_with_len 0 (place + 1))))
+                (sym w.notes-is)
                 (adds_number (loop_at circuit (together parts)) place c.args.notes.now c.loop-place.notes w.add-then-not-has.new.self c.loop-place.invariant.adds
                 (subst (Adds c.loop-place.notes w.add-then-not-has.new.self) told_so w.in_ok-add.ensures));
             told = tells_first circuit.order parts place within c.loop-place.told c.match-part_at.told root part
@@ -50,7 +52,9 @@ loop-place-preserved c =
           let again = loop_again circuit parts place root part (sym (c.loop-place.invariant.told root) ∙ marked) in
           record {
             each_net = ap length w.told-is ∙ c.loop-place.invariant.each_net;
-            adds = subst (λ (t : Told). Adds c.args.notes.now t (flat_map (loop_at circuit (together parts)) (range_with_len 0 (place + 1)))) (sym w.notes-is)
+            adds = subst (λ (t : Lines). Adds c.args.notes.now t
+                (flat_map (loop_at circuit (together parts)) (range_with_len 0 (place + 1))))
+                (sym w.notes-is)
                 (adds_number (loop_at circuit (together parts)) place c.args.notes.now c.loop-place.notes c.loop-place.notes c.loop-place.invariant.adds
                 (subst (Adds c.loop-place.notes c.loop-place.notes) (sym again) (adds_none c.loop-place.notes)));
             told = λ r. ap (λ (ms : List Bool). marked_in ms r) w.told-is
@@ -60,7 +64,9 @@ loop-place-preserved c =
           let none = ap (part_at parts) (sym c.net_at-net.ensures) ∙ sym c.part_at.ensures ∙ w.in_default.is in
           record {
             each_net = ap length w.told-is ∙ c.loop-place.invariant.each_net;
-            adds = subst (λ (t : Told). Adds c.args.notes.now t (flat_map (loop_at circuit (together parts)) (range_with_len 0 (place + 1)))) (sym w.notes-is)
+            adds = subst (λ (t : Lines). Adds c.args.notes.now t
+                (flat_map (loop_at circuit (together parts)) (range_with_len 0 (place + 1))))
+                (sym w.notes-is)
                 (adds_number (loop_at circuit (together parts)) place c.args.notes.now c.loop-place.notes c.loop-place.notes c.loop-place.invariant.adds
                 (subst (Adds c.loop-place.notes c.loop-place.notes) (sym (loop_none circuit parts place none)) (adds_none c.loop-place.notes)));
             told = λ r. ap (λ (ms : List Bool). marked_in ms r) w.told-is

@@ -2,7 +2,7 @@ use Rattle.std.proofs.Common.{◌^◌, ℕ, List, length, sym, subst, arith, Opt
 use Rattle.drawing_notes.specs.declared.launched.Arrival.{Arrival}
 use Rattle.drawing_notes.specs.Arrivals.{AreSmall, arrival_at}
 use Rattle.drawing_notes.specs.Late.{late}
-use Rattle.drawing_notes.specs.Told.{Adds}
+use Rattle.drawing_notes.specs.Lines.{Adds}
 use Rattle.drawing_notes.proofs.Small.{small_weaker}
 use Rattle.drawing_notes.specs.Common.{common, skew_at}
 use Rattle.drawing_notes.proofs.Reporting.{paths_added}

@@ -22,7 +22,7 @@ returns c =
     let circuit = c.args.c.now in
     let notes = c.add_paths.new.notes in
     let before = c.in_ok-write_period.ensures.ok ∙ ap (λ (b : List ℕ). b ++ period_line c.args.version circuit) c.new-bytes.ensures in
-    reported circuit c.args.so_far.now c.args.version c.args.spreads.now c.new-notes.result c.add_single.new.notes notes _
+    reported circuit c.args.so_far.now c.args.version c.args.spreads.now c.new-notes.result c.add_single.new.notes notes _ _
     (c.new-notes.ensures ∙ (λ k. record { bytes = before k; count = 0 }))
     c.in_ok-add_single.ensures c.in_ok-add_paths.ensures
     (c.verdict.ensures ∙ ap verdict_of c.count-count.ensures)

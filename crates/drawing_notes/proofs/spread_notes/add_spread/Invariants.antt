@@ -1,6 +1,6 @@
 use Rattle.std.proofs.Common.{take}
 use Rattle.std.specs.List.{flat_map}
-use Rattle.drawing_notes.specs.Told.{Adds}
+use Rattle.drawing_notes.specs.Lines.{Adds}
 use Rattle.drawing_notes.specs.Spread.{spread_at}
 use Rattle.drawing_notes.proofs.spread_notes.add_spread.Given as goal
 

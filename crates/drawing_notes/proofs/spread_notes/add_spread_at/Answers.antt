@@ -1,6 +1,6 @@
 use Rattle.std.proofs.Common.{◌≡◌, ◌∷◌, [], true, cond, ap, sym, subst, ◌∙◌}
 use Rattle.std.proofs.lemmas.Result.{on_ok_weaker}
-use Rattle.drawing_notes.specs.Told.{Adds}
+use Rattle.drawing_notes.specs.Lines.{Adds}
 use Rattle.drawing_notes.specs.Spread.{has_other_bits, spread_line}
 use Rattle.drawing_notes.proofs.spread_notes.add_spread_at.Goals as goal
 

@@ -1,6 +1,6 @@
 use Rattle.std.proofs.Common.{◌≡◌, ℕ, true, List, [], ◌∷◌, codes, sym, ap, subst, ◌∙◌}
 use Rattle.listing.specs.Text.{line}
-use Rattle.drawing_notes.specs.Told.{Adds}
+use Rattle.drawing_notes.specs.Lines.{Adds}
 use Rattle.drawing_notes.specs.Unread.{is_unread, unread_line}
 use Rattle.drawing_notes.proofs.Reading.{unread_told}
 use Rattle.drawing_notes.proofs.unread.add_unread_at.Goals as goal

@@ -10,8 +10,8 @@ use Rattle.fixpoint_engine.specs.Table.{waves_at}
 use Rattle.fixpoint_engine.specs.Waves.{FitWaves, waves_of}
 use Rattle.timing_analysis.specs.Case.{faults_of, numbered}
 use Rattle.timing_analysis.proofs.Stored.{case_from, ends_from}
-use Rattle.program_call.specs.Teller.{HasTold}
-use Rattle.program_call.proofs.Telling.{told_start, read_case, going_more, going_ends}
+use Rattle.fault_report.specs.ByCase.{HasTold}
+use Rattle.fault_report.proofs.CaseByCase.{told_start, read_case, going_more, going_ends}
 use Rattle.fault_report.specs.Report.{HasExplained, IsReady}
 use Rattle.fault_report.proofs.Telling.{within_case}
 use Rattle.fault_report.proofs.cases.add_cases.Goals as goal

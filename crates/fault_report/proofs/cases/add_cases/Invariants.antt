@@ -1,7 +1,7 @@
 use Rattle.std.proofs.Common.{◌≡◌}
 use Rattle.drawing_tree.specs.Tree.{drawing_of}
 use Rattle.timing_analysis.specs.Rested.{IsBaseIn}
-use Rattle.program_call.proofs.Telling.{Going}
+use Rattle.fault_report.proofs.CaseByCase.{Going}
 use Rattle.fault_report.specs.Report.{HasExplained, IsReady}
 use Rattle.fault_report.proofs.cases.add_cases.Given as goal
 

@@ -7,7 +7,7 @@ use Rattle.fixpoint_engine.specs.Table.{waves_at}
 use Rattle.fixpoint_engine.specs.Waves.{FitWaves, waves_of}
 use Rattle.timing_analysis.specs.Case.{faults_of}
 use Rattle.timing_analysis.specs.Rested.{IsCaseIn}
-use Rattle.program_call.proofs.Telling.{told_start, told_read}
+use Rattle.fault_report.proofs.CaseByCase.{told_start, told_read}
 use Rattle.fault_account.specs.Laws.{AreWithin}
 use Rattle.fault_report.specs.Report.{HasExplained}
 use Rattle.fault_report.proofs.Telling.{explained_of_one}

@@ -3,7 +3,7 @@ use Rattle.std.proofs.lemmas.Result.{err_from_is_err_and}
 use Rattle.timing_analysis.specs.Case.{Listed}
 use Rattle.timing_analysis.specs.Ended.{EndsCases}
 use Rattle.timing_analysis.proofs.Ends.{base_early, case_early}
-use Rattle.program_call.proofs.Telling.{some_are_listed}
+use Rattle.fault_report.proofs.CaseByCase.{some_are_listed}
 use Rattle.fault_report.proofs.cases.told_of.Goals as goal
 
 pub returns-in_err-rested-clause-ended : goal.returns-in_err-rested-clause-ended

@@ -1,8 +1,9 @@
 use Rattle.std.proofs.Common.{subst, sym}
 use Rattle.timing_analysis.specs.Drawn.{IsTextRefused, undrawn}
 use Rattle.program_call.proofs.Ending.{concluded_ended}
-use Rattle.program_call.proofs.Telling.{concluded_told}
+use Rattle.fault_report.proofs.CaseByCase.{concluded_told}
 use Rattle.fault_report.specs.Answer.{explained}
+use Rattle.fault_report.specs.ByCase.{Tells}
 use Rattle.fault_report.proofs.Replied.{accepted, accepted_made, refused}
 use Rattle.fault_report.proofs.replies.reply_of.Goals as goal
 
@@ -24,5 +25,5 @@ pub returns-in-Ok : goal.returns-in-Ok
 returns-in-Ok c =
     accepted_made c.args.text.now _ c.args.subject.now.circuit c.args.subject.now.cases c.default_limit-limit.result _
     c.in-Ok.ensures.drawn c.requires.draws c.default_limit-limit.ensures.is
-    (concluded_ended (explained _) c.args.subject.now.circuit c.args.subject.now.cases c.default_limit-limit.result c.in-Err.end _
+    (concluded_ended (Tells (explained _)) c.args.subject.now.circuit c.args.subject.now.cases c.default_limit-limit.result c.in-Err.end _
     c.in-Err.ensures.ended c.ended.ensures)

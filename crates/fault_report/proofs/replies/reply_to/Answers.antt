@@ -1,6 +1,7 @@
-use Rattle.std.proofs.Common.{subst, sym}
-use Rattle.timing_analysis.specs.Drawn.{IsTextRefused}
-use Rattle.timing_analysis.proofs.DrawnText.{subject_is_drawn}
+use Rattle.std.proofs.Common.{List, subst, sym}
+use Rattle.flat_circuit.specs.Circuit.{Circuit}
+use Rattle.flat_circuit.specs.declared.case.CaseValue.{CaseValue}
+use Rattle.timing_analysis.specs.Drawn.{DrawsCircuit, IsTextRefused}
 use Rattle.fault_report.proofs.Replied.{refused}
 use Rattle.fault_report.proofs.replies.reply_to.Goals as goal
 
@@ -12,5 +13,6 @@ returns-in-Err-Refused c =
 
 pub reply_of-requires-clause-draws : goal.reply_of-requires-clause-draws
 reply_of-requires-clause-draws c =
-    let drawn = subject_is_drawn c.args.text.now _ _ _ _ _ _ c.in_ok-subject-in-Ok.ensures.version c.in_ok-subject-in-Ok.ensures.circuit c.in_ok-subject-in-Ok.ensures.cases c.in-Ok.ensures.version in
-    drawn.draws
+    subst (λ (z : Circuit). DrawsCircuit c.args.text.now z c.in_ok-subject-in-Ok.subject.cases) (sym c.in_ok-subject-in-Ok.ensures.circuit)
+    (subst (λ (values : List (List CaseValue)). DrawsCircuit c.args.text.now c.in-Ok.drawn.circuit values) (sym c.in_ok-subject-in-Ok.ensures.cases)
+    c.in-Ok.ensures.drawn)

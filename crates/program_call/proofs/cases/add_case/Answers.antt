@@ -3,9 +3,9 @@ use Rattle.std.proofs.lemmas.Result.{on_ok_weaker}
 use Rattle.step_values.specs.declared.value.Value.{Value}
 use Rattle.skew_algebra.specs.Wave.{Wave}
 use Rattle.fixpoint_engine.specs.Table.{waves_at}
-use Rattle.fixpoint_engine.specs.Waves.{FitWaves, waves_of}
-use Rattle.timing_analysis.specs.Case.{faults_of}
-use Rattle.program_call.proofs.Telling.{told_read}
+use Rattle.fixpoint_engine.specs.Waves.{FitWaves}
+use Rattle.timing_analysis.specs.Rested.{IsCaseAtRest}
+use Rattle.program_call.proofs.Reporting.{of_more}
 use Rattle.program_call.proofs.cases.add_case.Goals as goal
 
 pub add_case-requires-clause-fit : goal.add_case-requires-clause-fit
@@ -14,18 +14,17 @@ add_case-requires-clause-fit g c =
     c.new-waves.ensures ∙ ap (λ t. waves_at t c.as_slice.result.now) c.waves.ensures ∙ ap (waves_at c.args.store.now) c.as_slice.ensures in
     subst (FitWaves c.args.circuit.now) (sym same) c.requires.fit
 
-pub add_case-requires-clause-found : goal.add_case-requires-clause-found
-add_case-requires-clause-found g c =
-    let same : c.new-waves.result ≡ waves_at c.args.store.now c.args.case.now.settled.numbers =
-    c.new-waves.ensures ∙ ap (λ t. waves_at t c.as_slice.result.now) c.waves.ensures ∙ ap (waves_at c.args.store.now) c.as_slice.ensures in
-    c.requires.found ∙ ap (λ (ws : List (Wave Value)). faults_of c.args.circuit.now (waves_of ws)) (sym same)
-
-pub returns-clause-told : goal.returns-clause-told
-returns-clause-told g c =
-    let same : c.new-waves.result ≡ waves_at c.args.store.now c.args.case.now.settled.numbers =
+pub returns-clause-holds : goal.returns-clause-holds
+returns-clause-holds g c =
+    let case = c.args.case.now in
+    let circuit = c.args.circuit.now in
+    let same : c.new-waves.result ≡ waves_at c.args.store.now case.settled.numbers =
     c.new-waves.ensures ∙ ap (λ t. waves_at t c.as_slice.result.now) c.waves.ensures ∙ ap (waves_at c.args.store.now) c.as_slice.ensures in
     on_ok_weaker c.add_case.result
-    (λ more version limit base before l has is. told_read g.T.Teller.told c.args.circuit.now c.args.teller.now c.add_case.new.self
-    c.args.case.now.number c.args.case.now.settled.rounds c.args.case.now.tick _ c.new-waves.result c.args.case.now.faults same
-    more version limit base before l has is.rest)
-    c.add_case.ensures.told
+    (λ more asked kept limit base before listed is so_far.
+    let rest : IsCaseAtRest circuit limit base listed case.number case.settled.rounds case.tick c.new-waves.result case.faults =
+    subst (λ (ws : List (Wave Value)). IsCaseAtRest circuit limit base listed case.number case.settled.rounds case.tick ws case.faults)
+    (sym same) is.rest in
+    of_more circuit limit base before listed _ _ case.number case.settled.rounds case.tick c.new-waves.result case.faults rest
+    (λ cases holds. more asked kept limit base listed cases rest holds) so_far)
+    c.add_case.ensures.holds

@@ -1,26 +1,34 @@
-use Rattle.std.proofs.Common.{subst, sym, None}
+use Rattle.std.proofs.Common.{subst, sym}
 use Rattle.timing_analysis.specs.Drawn.{IsTextRefused}
-use Rattle.timing_analysis.proofs.DrawnText.{subject_is_drawn}
-use Rattle.program_call.proofs.Ending.{concluded_ended}
-use Rattle.program_call.proofs.Replies.{accepted, refused}
-use Rattle.program_call.proofs.Telling.{evaluated_told}
+use Rattle.timing_analysis.proofs.Ends.{end_below}
+use Rattle.program_call.proofs.Ending.{end_unfinished}
+use Rattle.program_call.proofs.Replies.{ended_evaluated, refusal_unfinished, refused, reported_evaluated, reported_faultless}
 use Rattle.program_call.proofs.text_reply.reply_to.Goals as goal
 
-pub returns-in-Err-Refused : goal.returns-in-Err-Refused
-returns-in-Err-Refused g c =
-    refused g.T.Teller.tell None c.args.text.now _ _
-    (subst (IsTextRefused c.args.text.now) (sym c.in-Err-Refused.refusal-is) (c.in-Err-Refused.ensures.refused c.in-Err-Refused.refusal c.in-Err-Refused.field-0-is))
+pub returns-in-Err-Refused-clause-is : goal.returns-in-Err-Refused-clause-is
+returns-in-Err-Refused-clause-is g c =
+    refused (λ d. g.R.Reporter.reports c.args.asked (g.R.Reporter.keeps d)) c.args.rounds c.args.text.now _ _
+    (subst (IsTextRefused c.args.text.now) (sym c.in-Err-Refused.refusal-is)
+    (c.in-Err-Refused.ensures.refused c.in-Err-Refused.refusal c.in-Err-Refused.field-0-is))
     c.refused.ensures.outcome c.refused.ensures.bytes
 
-pub returns-in-Ok-told_of : goal.returns-in-Ok-told_of
-returns-in-Ok-told_of g c =
-    let drawn = subject_is_drawn c.args.text.now _ _ _ _ _ _ c.in_ok-subject-in-Ok.ensures.version c.in_ok-subject-in-Ok.ensures.circuit c.in_ok-subject-in-Ok.ensures.cases c.in-Ok.ensures.version in
-    evaluated_told g.T.Teller.tell c.args.text.now _ _ _ c.default_limit-limit.result c.in-Ok-told_of.told.base _ _ drawn
-    c.default_limit-limit.ensures.is c.in-Ok-told_of.ensures.rests c.in-Ok-told_of.ensures.told
+pub returns-in-Err-Refused-clause-faultless : goal.returns-in-Err-Refused-clause-faultless
+returns-in-Err-Refused-clause-faultless g c = refusal_unfinished _ _ _ c.refused.ensures.outcome
 
-pub returns-in-Ok : goal.returns-in-Ok
-returns-in-Ok g c =
-    let drawn = subject_is_drawn c.args.text.now _ _ _ _ _ _ c.in_ok-subject-in-Ok.ensures.version c.in_ok-subject-in-Ok.ensures.circuit c.in_ok-subject-in-Ok.ensures.cases c.in-Ok.ensures.version in
-    accepted g.T.Teller.tell None c.args.text.now _ _ _ c.default_limit-limit.result _ drawn c.default_limit-limit.ensures.is
-    (concluded_ended (g.T.Teller.tell c.in_ok-subject-in-Ok.subject.version) c.in_ok-subject-in-Ok.subject.circuit c.in_ok-subject-in-Ok.subject.cases
-    c.default_limit-limit.result c.in-Err.end _ c.in-Err.ensures.ended c.ended.ensures)
+pub returns-in-Ok-report_cases-clause-is : goal.returns-in-Ok-report_cases-clause-is
+returns-in-Ok-report_cases-clause-is g c =
+    reported_evaluated g.R.Reporter.keeps (g.R.Reporter.reports c.args.asked) c.args.rounds c.args.text.now _ _ c.limit_for-limit.result
+    c.in-Ok.ensures.read c.limit_for-limit.ensures.is _ _ c.in-Ok-report_cases.ensures.reported
+
+pub returns-in-Ok-report_cases-clause-faultless : goal.returns-in-Ok-report_cases-clause-faultless
+returns-in-Ok-report_cases-clause-faultless g c finished =
+    reported_faultless g.R.Reporter.keeps (g.R.Reporter.reports c.args.asked) c.args.rounds c.args.text.now _ _ c.limit_for-limit.result
+    c.in-Ok.ensures.read c.limit_for-limit.ensures.is _ _ c.in-Ok-report_cases.ensures.reported
+
+pub returns-in-Ok-clause-is : goal.returns-in-Ok-clause-is
+returns-in-Ok-clause-is g c =
+    ended_evaluated g.R.Reporter.keeps (g.R.Reporter.reports c.args.asked) c.args.rounds c.args.text.now _ _ c.limit_for-limit.result
+    c.in-Ok.ensures.read c.limit_for-limit.ensures.is c.in-Err.end _ c.in-Err.ensures.ended c.ended.ensures
+
+pub returns-in-Ok-clause-faultless : goal.returns-in-Ok-clause-faultless
+returns-in-Ok-clause-faultless g c = end_unfinished _ _ c.in-Err.end _ c.ended.ensures

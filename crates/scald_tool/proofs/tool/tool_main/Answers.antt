@@ -2,7 +2,7 @@ use Rattle.std.proofs.Common.{ap}
 use Rattle.timing_analysis.specs.Promise.{FaultlessNeverBreaks, NeverBreaks}
 use Rattle.scald_tool.specs.Promise.{has_report, speaks}
 use Rattle.scald_tool.proofs.Finishing.{finished_or_not}
-use Rattle.scald_tool.proofs.Told.{given_by, of_report, report_speaks, loopless}
+use Rattle.scald_tool.proofs.Speaking.{given_by, of_report, report_speaks, loopless}
 use Rattle.scald_tool.proofs.tool.tool_main.Goals as goal
 
 pub returns-clause-finished : goal.returns-clause-finished

@@ -7,7 +7,7 @@ use Rattle.drawing_notes.proofs.Gathering.{case_more}
 use Rattle.drawing_notes.proofs.cases.SoFar.add_case.Goals as goal
 
 pub returns : goal.returns
-returns c =
+returns g c =
     let old = c.args.self.now in
     let marks = c.add_acts.new.acts in
     let skews = c.add_skews.new.skews in

@@ -1,7 +1,7 @@
-use Rattle.timing_analysis.specs.Case.{fault_count}
-use Rattle.program_call.proofs.Speaking.{telling_is_lawful, verdict_speaks}
-use Rattle.fault_chain.specs.Answer.{chains_told, own_word}
+use Rattle.program_call.proofs.Speaking.{reporting_is_lawful}
+use Rattle.fault_chain.specs.Answer.{own_word}
+use Rattle.fault_chain.proofs.Promised.{Chains, chains_are_one, chains_speak}
 use Rattle.fault_chain.proofs.program.ChainProgramReplier.laws.Goals as goal
 
 pub returns : goal.returns
-returns c = telling_is_lawful own_word chains_told (λ version circuit base cases. verdict_speaks (fault_count circuit cases))
+returns c = reporting_is_lawful own_word Chains chains_speak chains_are_one

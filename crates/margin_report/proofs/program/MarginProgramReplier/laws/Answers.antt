@@ -1,7 +1,7 @@
-use Rattle.std.proofs.Common.{refl}
-use Rattle.program_call.proofs.Speaking.{telling_is_lawful}
-use Rattle.margin_report.specs.Answer.{margins_told, own_word}
+use Rattle.program_call.proofs.Speaking.{reporting_is_lawful}
+use Rattle.margin_report.specs.Answer.{own_word}
+use Rattle.margin_report.proofs.Promised.{Margins, margins_are_one, margins_speak}
 use Rattle.margin_report.proofs.program.MarginProgramReplier.laws.Goals as goal
 
 pub returns : goal.returns
-returns c = telling_is_lawful own_word margins_told (λ version circuit base cases. refl)
+returns c = reporting_is_lawful own_word Margins margins_speak margins_are_one
