@@ -10,6 +10,7 @@ use Rattle.drawing_notes.specs.Paths.{Ways}
 use Rattle.drawing_notes.proofs.ExamplesCircuit.{three, instance, on}
 use Rattle.drawing_notes.specs.Unclocked.{unclocked_line}
 use Rattle.drawing_notes.specs.Report.{count_line, note_lines, notes}
+use Rattle.flat_circuit.specs.declared.limits.Limits.TheVariants.{Edges}
 
 -- nothing leads to anything
 abbrev no_ways : Ways
@@ -17,8 +18,8 @@ no_ways = record { together = λ i j. false; arrival = λ net. None; launched = 
 
 -- a checker of nothing on a clock that never comes
 abbrev idle_checker : Circuit
-idle_checker = three (instance (codes "c1") SetupHold (0, 0) (on 0 ∷ on 1 ∷ []) None ∷ []) None None
-    None
+idle_checker =
+    three (instance (codes "c1") SetupHold (Edges 0 0) (on 0 ∷ on 1 ∷ []) None ∷ []) None None None
 
 two_notes : note_lines 2 idle_checker (notes no_ways [] idle_checker [])
     ≡ codes "SCALD 2 PERIOD 8\nNOTE UNCLOCKED c1<0> PIN 0 A<0>\nNOTE IDLE c1<0>\nNOTES 2\n"

@@ -10,8 +10,11 @@ use Rattle.element_kinds.specs.declared.kind.Kind.{Kind}
 use Rattle.element_kinds.specs.declared.kind.Kind.TheVariants.{And, Buf, Chg, Reg, Latch, SetupHold, RiseFall, MinPulse}
 use Rattle.flat_circuit.specs.declared.instance.Pin.{Pin}
 use Rattle.flat_circuit.specs.declared.instance.Instance.{Instance}
+use Rattle.flat_circuit.specs.declared.limits.Limits.TheVariants.{None as Unlimited, Edges, Pulses}
+use Rattle.flat_circuit.specs.declared.limits.Limits.{Limits}
 use Rattle.flat_circuit.specs.declared.net.Net.{Net}
 use Rattle.flat_circuit.specs.Circuit.{Circuit}
+use Rattle.flat_circuit.proofs.RunTables.{limits_of}
 use Rattle.drawing_notes.specs.declared.launched.Arrival.{Arrival}
 use Rattle.drawing_notes.specs.Pins.{has_clock, target_text}
 use Rattle.drawing_notes.specs.Idle.{idle, idle_line}
@@ -37,7 +40,7 @@ turned i = record { target = OnNet i; inverted = true; hold = false }
 abbrev pub high : Pin
 high = record { target = Constant true; inverted = false; hold = false }
 
-abbrev pub instance : List ℕ → Kind → ℕ × ℕ → List Pin → Option ℕ → Instance
+abbrev pub instance : List ℕ → Kind → Limits → List Pin → Option ℕ → Instance
 instance path kind limits pins None =
     record {
       path = path;
@@ -78,7 +81,7 @@ abbrev two_outputs : Circuit
 two_outputs = record {
   header = header;
   nets = net (codes "B") Unasserted 2 (Some 0) ∷ net (codes "A") Unasserted 2 (Some 1) ∷ net (codes "C") (Stable []) 7 None ∷ [];
-  instances = instance (codes "b1") Buf (0, 0) (on 2 ∷ []) (Some 0) ∷ instance (codes "b2") Buf (0, 0) (on 2 ∷ []) (Some 1) ∷ [];
+  instances = instance (codes "b1") Buf Unlimited (on 2 ∷ []) (Some 0) ∷ instance (codes "b2") Buf Unlimited (on 2 ∷ []) (Some 1) ∷ [];
   order = 1 ∷ 0 ∷ 2 ∷ [];
 }
 
@@ -95,36 +98,36 @@ nets_and_constants = (refl, refl, refl)
 
 -- ---- IDLE
 
-abbrev checker : Kind → ℕ × ℕ → Circuit
+abbrev checker : Kind → Limits → Circuit
 checker kind limits = three (instance (codes "c1") kind limits (on 0 ∷ on 1 ∷ []) None ∷ []) None None None
 
-asks_nothing : idle (checker SetupHold (0, 0)) ≡ codes "NOTE IDLE c1<0>\n" ∷ []
+asks_nothing : idle (checker SetupHold (Edges 0 0)) ≡ codes "NOTE IDLE c1<0>\n" ∷ []
 unfolding digits idle_line
 asks_nothing = refl
 
-asks_for_a_tick : (idle (checker SetupHold (0, 1)) ≡ []) × (idle (checker SetupHold (1, 0)) ≡ [])
+asks_for_a_tick : (idle (checker SetupHold (Edges 0 1)) ≡ []) × (idle (checker SetupHold (Edges 1 0)) ≡ [])
 asks_for_a_tick = (refl, refl)
 
-from_rise_to_fall : idle (checker RiseFall (0, 0)) ≡ []
+from_rise_to_fall : idle (checker RiseFall (Edges 0 0)) ≡ []
 from_rise_to_fall = refl
 
-any_width : idle (checker MinPulse (1, 1)) ≡ codes "NOTE IDLE c1<0>\n" ∷ []
+any_width : idle (checker MinPulse (Pulses 1 1)) ≡ codes "NOTE IDLE c1<0>\n" ∷ []
 unfolding digits idle_line
 any_width = refl
 
 no_checker : idle two_outputs ≡ []
 no_checker = refl
 
-two_ticks : (idle (checker MinPulse (2, 1)) ≡ []) × (idle (checker MinPulse (0, 2)) ≡ [])
+two_ticks : (idle (checker MinPulse (Pulses 2 1)) ≡ []) × (idle (checker MinPulse (Pulses 0 2)) ≡ [])
 two_ticks = (refl, refl)
 
 -- ---- UNCHECKED: a register on clock A with input B, and a checker
 
 abbrev register : Pin → Pin → Instance
-register clock input = instance (codes "r1") Reg (0, 0) (clock ∷ input ∷ []) (Some 2)
+register clock input = instance (codes "r1") Reg Unlimited (clock ∷ input ∷ []) (Some 2)
 
 abbrev beside : Instance → Kind → Pin → Pin → Circuit
-beside r kind clock input = three (r ∷ instance (codes "c1") kind (1, 1) (clock ∷ input ∷ []) None ∷ []) None None (Some 0)
+beside r kind clock input = three (r ∷ instance (codes "c1") kind (limits_of kind 1) (clock ∷ input ∷ []) None ∷ []) None None (Some 0)
 
 with_its_clock : (unchecked (beside (register (on 0) (on 1)) SetupHold (on 0) (on 1)) ≡ [])
     × (unchecked (beside (register (on 0) (on 1)) RiseFall (on 0) (turned 1)) ≡ [])
@@ -144,7 +147,7 @@ with_another = (refl, refl, refl, refl, refl)
 
 -- a latch closes at the other edge
 abbrev latch : Pin → Pin → Instance
-latch enable input = instance (codes "r1") Latch (0, 0) (enable ∷ input ∷ []) (Some 2)
+latch enable input = instance (codes "r1") Latch Unlimited (enable ∷ input ∷ []) (Some 2)
 
 at_either_edge : (unchecked (beside (latch (on 0) (on 1)) SetupHold (on 0) (on 1)) ≡ [])
     × (unchecked (beside (latch (on 0) (on 1)) SetupHold (turned 0) (on 1)) ≡ [])
@@ -162,17 +165,17 @@ of_a_constant = refl
 -- ---- UNREAD: a buffer from A to B, and whatever reads B
 
 abbrev buffer : List Instance → Circuit
-buffer js = three (instance (codes "b1") Buf (0, 0) (on 0 ∷ []) (Some 1) ∷ js) None (Some 0) None
+buffer js = three (instance (codes "b1") Buf Unlimited (on 0 ∷ []) (Some 1) ∷ js) None (Some 0) None
 
 read_by_nobody : unread (buffer []) ≡ codes "NOTE UNREAD B<0>\n" ∷ []
 unfolding digits unread_line
 read_by_nobody = refl
 
-read_by_one : (unread (buffer (instance (codes "r1") Reg (0, 0) (on 0 ∷ on 1 ∷ []) (Some 2) ∷ [])) ≡ [])
-    × (unread (buffer (instance (codes "w1") MinPulse (1, 1) (on 1 ∷ []) None ∷ [])) ≡ [])
+read_by_one : (unread (buffer (instance (codes "r1") Reg Unlimited (on 0 ∷ on 1 ∷ []) (Some 2) ∷ [])) ≡ [])
+    × (unread (buffer (instance (codes "w1") MinPulse (Pulses 1 1) (on 1 ∷ []) None ∷ [])) ≡ [])
 read_by_one = (refl, refl)
 
-read_by_a_complement : unread (buffer (instance (codes "w1") MinPulse (1, 1) (turned 1 ∷ []) None ∷ [])) ≡ []
+read_by_a_complement : unread (buffer (instance (codes "w1") MinPulse (Pulses 1 1) (turned 1 ∷ []) None ∷ [])) ≡ []
 read_by_a_complement = refl
 
 by_their_names : unread two_outputs ≡ codes "NOTE UNREAD A<0>\n" ∷ codes "NOTE UNREAD B<0>\n" ∷ []
@@ -180,7 +183,7 @@ unfolding digits unread_line
 by_their_names = refl
 
 -- C asserts that it is stable, and A is not driven
-asserts_or_is_none : unread (three (instance (codes "b1") Buf (0, 0) (on 0 ∷ []) (Some 2) ∷ []) None None (Some 0)) ≡ []
+asserts_or_is_none : unread (three (instance (codes "b1") Buf Unlimited (on 0 ∷ []) (Some 2) ∷ []) None None (Some 0)) ≡ []
 asserts_or_is_none = refl
 
 -- ---- LOOP, by which nets are on one loop
@@ -216,7 +219,7 @@ abbrev after : ℕ → ℕ → Option Arrival
 after ticks net = if net == 1 then Some (record { ticks = ticks; storage = 0 }) else None
 
 abbrev launched : Circuit
-launched = three (instance (codes "r1") Reg (0, 0) (on 0 ∷ high ∷ []) (Some 1) ∷ instance (codes "w1") MinPulse (1, 1) (on 1 ∷ []) None ∷ []) None (Some 0) None
+launched = three (instance (codes "r1") Reg Unlimited (on 0 ∷ high ∷ []) (Some 1) ∷ instance (codes "w1") MinPulse (Pulses 1 1) (on 1 ∷ []) None ∷ []) None (Some 0) None
 
 one_tick_late : late launched (after 7) ≡ codes "NOTE LATE w1<0> PIN 0 B<0> TICKS 9 FROM r1<0>\n" ∷ []
 unfolding digits late_line
@@ -227,7 +230,7 @@ just_in_time = refl
 
 -- at the second pin of what the register drives: storage, or a gate that passes it on
 abbrev beyond : Kind → Circuit
-beyond kind = three (instance (codes "r1") Reg (0, 0) (on 0 ∷ high ∷ []) (Some 1) ∷ instance (codes "e2") kind (0, 0) (on 0 ∷ on 1 ∷ []) (Some 2) ∷ []) None (Some 0) (Some 1)
+beyond kind = three (instance (codes "r1") Reg Unlimited (on 0 ∷ high ∷ []) (Some 1) ∷ instance (codes "e2") kind Unlimited (on 0 ∷ on 1 ∷ []) (Some 2) ∷ []) None (Some 0) (Some 1)
 
 ends_at_storage : (late (beyond Reg) (after 7) ≡ codes "NOTE LATE e2<0> PIN 1 B<0> TICKS 9 FROM r1<0>\n" ∷ [])
     × (late (beyond Latch) (after 7) ≡ codes "NOTE LATE e2<0> PIN 1 B<0> TICKS 9 FROM r1<0>\n" ∷ [])

@@ -6,6 +6,7 @@ use Rattle.element_kinds.specs.declared.kind.Kind.TheVariants.{And, Buf, Reg}
 use Rattle.flat_circuit.specs.Circuit.{Circuit, driver, wire_at}
 use Rattle.flat_circuit.specs.Loop.{Reaches, By_one, And_then}
 use Rattle.flat_circuit.specs.declared.instance.Instance.{Instance}
+use Rattle.flat_circuit.specs.declared.limits.Limits.TheVariants.{None as Unlimited}
 use Rattle.drawing_notes.specs.Pins.{clock_of, pin_net}
 use Rattle.drawing_notes.specs.Paths.{leads, Leads, AreTogether, TellsLoops, greatest_delay, Launches, Stored, Passed, IsLatest, IsArrival, IsLaunchedBy, TellsLaunches}
 use Rattle.drawing_notes.proofs.ExamplesCircuit.{three, instance, on, high}
@@ -14,8 +15,8 @@ use Rattle.drawing_notes.proofs.ExamplesCircuit.{three, instance, on, high}
 
 abbrev ring : Circuit
 ring = three (
-    instance (codes "b1") Buf (0, 0) (on 0 ∷ []) (Some 1) ∷ instance (codes "b2") Buf (0, 0) (on 1 ∷ []) (Some 0)
-    ∷ instance (codes "b3") Buf (0, 0) (on 1 ∷ []) (Some 2) ∷ []) (Some 1) (Some 0) (Some 2)
+    instance (codes "b1") Buf Unlimited (on 0 ∷ []) (Some 1) ∷ instance (codes "b2") Buf Unlimited (on 1 ∷ []) (Some 0)
+    ∷ instance (codes "b3") Buf Unlimited (on 1 ∷ []) (Some 2) ∷ []) (Some 1) (Some 0) (Some 2)
 
 there_and_back : AreTogether ring 0 1
 there_and_back = record { there = By_one refl; back = By_one refl }
@@ -63,7 +64,7 @@ not_one_loop tells = beside_it ((tells 1 2).0 refl)
 
 abbrev row : Circuit
 row = three (
-    instance (codes "r1") Reg (0, 0) (on 2 ∷ on 0 ∷ []) (Some 0) ∷ instance (codes "b1") Buf (0, 0) (on 0 ∷ []) (Some 1) ∷ [])
+    instance (codes "r1") Reg Unlimited (on 2 ∷ on 0 ∷ []) (Some 0) ∷ instance (codes "b1") Buf Unlimited (on 0 ∷ []) (Some 1) ∷ [])
     (Some 0) (Some 1) None
 
 abbrev no_loops : ℕ → Bool
@@ -78,7 +79,7 @@ past_a_gate = Passed at_its_output refl refl
 -- with the wire of the net that leads, which is C's of 7 here
 abbrev from_c : Circuit
 from_c = three (
-    instance (codes "r1") Reg (0, 0) (on 1 ∷ on 1 ∷ []) (Some 2) ∷ instance (codes "b1") Buf (0, 0) (on 2 ∷ []) (Some 0) ∷ [])
+    instance (codes "r1") Reg Unlimited (on 1 ∷ on 1 ∷ []) (Some 2) ∷ instance (codes "b1") Buf Unlimited (on 2 ∷ []) (Some 0) ∷ [])
     (Some 1) None (Some 0)
 
 past_its_wire : Launches from_c no_loops 0 0 13
@@ -127,7 +128,7 @@ more_than_the_latest is = let e = (launched_at_b 0 9 is.comes).1 in omega (arith
 by_its_clock : IsLaunchedBy row no_loops 2 1
 by_its_clock = record {
   storage = 0;
-  instance = instance (codes "r1") Reg (0, 0) (on 2 ∷ on 0 ∷ []) (Some 0);
+  instance = instance (codes "r1") Reg Unlimited (on 2 ∷ on 0 ∷ []) (Some 0);
   is = refl;
   clocked = refl;
   ticks = 8;
@@ -152,8 +153,8 @@ not_each tells = not_by_its_input ((tells 0 1).0 refl)
 
 abbrev meet : Circuit
 meet = three (
-    instance (codes "r1") Reg (0, 0) (high ∷ high ∷ []) (Some 0) ∷ instance (codes "r2") Reg (0, 0) (high ∷ high ∷ []) (Some 1)
-    ∷ instance (codes "g1") And (0, 0) (on 0 ∷ on 1 ∷ []) (Some 2) ∷ []) (Some 0) (Some 1) (Some 2)
+    instance (codes "r1") Reg Unlimited (high ∷ high ∷ []) (Some 0) ∷ instance (codes "r2") Reg Unlimited (high ∷ high ∷ []) (Some 1)
+    ∷ instance (codes "g1") And Unlimited (on 0 ∷ on 1 ∷ []) (Some 2) ∷ []) (Some 0) (Some 1) (Some 2)
 
 of_the_first : Launches meet no_loops 0 2 8
 of_the_first = Passed {from = 0} {ticks = 3} (Stored refl refl refl) refl refl

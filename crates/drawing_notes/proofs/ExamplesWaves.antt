@@ -18,6 +18,7 @@ use Rattle.flat_circuit.specs.declared.instance.Pin.{Pin}
 use Rattle.flat_circuit.specs.declared.instance.Instance.{Instance}
 use Rattle.flat_circuit.specs.declared.net.Net.{Net}
 use Rattle.flat_circuit.specs.Circuit.{Circuit}
+use Rattle.flat_circuit.proofs.RunTables.{limits_of}
 use Rattle.fixpoint_engine.specs.Settled.{marked_in}
 use Rattle.timing_analysis.specs.Case.{Case}
 use Rattle.drawing_notes.specs.Lines.{Lines, Adds}
@@ -50,7 +51,7 @@ instance path kind pins = record {
   kind = kind;
   delay = record { min = 1; max = 3 };
   split = None;
-  limits = (1, 1);
+  limits = limits_of kind 1;
   pins = pins;
   out = None;
   out_inverted = false;

@@ -4,18 +4,20 @@ use Rattle.std.specs.List.{flat_map, range_with_len}
 use Rattle.element_kinds.specs.declared.form.Check.{Check}
 use Rattle.element_kinds.specs.declared.form.Check.TheVariants.{SetupHold as AboutRise, RiseFall as RiseToFall, MinPulse as Widths}
 use Rattle.element_kinds.specs.Kinds.{check_of}
+use Rattle.flat_circuit.specs.Limits.{setup_of, hold_of, high_of, low_of}
 use Rattle.flat_circuit.specs.declared.instance.Instance.{Instance}
 use Rattle.flat_circuit.specs.Circuit.{Circuit}
+use Rattle.flat_circuit.specs.declared.limits.Limits.{Limits}
 use Rattle.listing.specs.Text.{line}
 use Rattle.listing.specs.Names.{instance_text}
 
--- Setup and hold about a rise have no tick in their window; between a rise and the next fall there is always a tick.
--- Every pulse is one tick wide at least.
-abbrev pub asks_nothing : Option Check → ℕ × ℕ → Bool
+-- Setup and hold about a rise have no tick in their window; between a rise and the next fall there is
+-- always a tick. Every pulse is one tick wide at least.
+abbrev pub asks_nothing : Option Check → Limits → Bool
 asks_nothing None limits = false
-asks_nothing (Some AboutRise) limits = (limits.0 == 0) && (limits.1 == 0)
+asks_nothing (Some AboutRise) limits = (setup_of limits == 0) && (hold_of limits == 0)
 asks_nothing (Some RiseToFall) limits = false
-asks_nothing (Some Widths) limits = nat_le limits.0 1 && nat_le limits.1 1
+asks_nothing (Some Widths) limits = nat_le (high_of limits) 1 && nat_le (low_of limits) 1
 
 abbrev pub is_idle : Option Instance → Bool
 is_idle None = false

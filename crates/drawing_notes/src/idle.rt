@@ -6,19 +6,19 @@ ghost use Rattle.drawing_notes.specs.Lines.{Adds};
 
 use crate::notes::Notes;
 use element_kinds::Check;
-use flat_circuit::Circuit;
+use flat_circuit::{Circuit, Limits};
 use listing::{Piece, instance_piece};
 use scald_base::NoMemory;
 
 /// Whether limits ask nothing of any run, by what is checked.
-fn asks_nothing(check: Option<Check>, limits: (u16, u16)) -> bool
+fn asks_nothing(check: Option<Check>, limits: Limits) -> bool
     ensures { result ≡ asks_nothing check limits }
 {
     match check {
         None => false,
-        Some(Check::SetupHold) => limits.0 == 0 && limits.1 == 0,
+        Some(Check::SetupHold) => limits.setup() == 0 && limits.hold() == 0,
         Some(Check::RiseFall) => false,
-        Some(Check::MinPulse) => limits.0 <= 1 && limits.1 <= 1,
+        Some(Check::MinPulse) => limits.high() <= 1 && limits.low() <= 1,
     }
 }
 

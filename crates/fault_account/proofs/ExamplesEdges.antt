@@ -8,6 +8,7 @@ use Rattle.flat_circuit.specs.declared.fault.Fault.{Fault}
 use Rattle.flat_circuit.specs.declared.fault.Fault.TheVariants.{Point}
 use Rattle.flat_circuit.specs.declared.fault.PointKind.TheVariants.{Setup, High, Hold}
 use Rattle.flat_circuit.specs.declared.instance.Instance.{Instance}
+use Rattle.flat_circuit.proofs.RunTables.{limits_of}
 use Rattle.margin_report.specs.declared.margin.Parameter.TheVariants as parameter
 use Rattle.fault_account.specs.declared.account.Asked.{Asked}
 use Rattle.fault_account.specs.Account.{ahead_of, behind_of, edge_slot, falls_of, later_of, least_of, reach_of, told_of, would_do}
@@ -85,7 +86,7 @@ checker kind =
       kind = kind;
       delay = record { min = 0; max = 0 };
       split = None;
-      limits = (20, 20);
+      limits = limits_of kind 20;
       pins = [];
       out = None;
       out_inverted = false;

@@ -6,6 +6,7 @@ use Rattle.scald_base.specs.declared.assertion.AssertSpec.TheVariants.{None as U
 use Rattle.vector_names.specs.declared.bits.Target.TheVariants.{Net as OnNet}
 use Rattle.element_kinds.specs.declared.kind.Kind.TheVariants.{Buf}
 use Rattle.flat_circuit.specs.declared.instance.Instance.{Instance}
+use Rattle.flat_circuit.specs.declared.limits.Limits.TheVariants.{None as Unlimited}
 use Rattle.flat_circuit.specs.declared.net.Net.{Net}
 use Rattle.flat_circuit.specs.declared.split.Split.{Split}
 use Rattle.flat_circuit.specs.Circuit.{Circuit}
@@ -43,7 +44,7 @@ buffer delay split from to =
       kind = Buf;
       delay = delay;
       split = split;
-      limits = (0, 0);
+      limits = Unlimited;
       pins = record { target = OnNet from; inverted = false; hold = false } ∷ [];
       out = Some (OnNet to);
       out_inverted = false;

@@ -13,6 +13,7 @@ use Rattle.element_kinds.specs.declared.kind.Kind.{Kind}
 use Rattle.element_kinds.specs.declared.kind.Kind.TheVariants.{And, Reg}
 use Rattle.flat_circuit.specs.declared.instance.Instance.{Instance}
 use Rattle.flat_circuit.specs.declared.instance.Pin.{Pin}
+use Rattle.flat_circuit.specs.declared.limits.Limits.TheVariants.{None as Unlimited}
 use Rattle.flat_circuit.specs.declared.net.Net.{Net}
 use Rattle.flat_circuit.specs.Circuit.{Circuit}
 use Rattle.fixpoint_engine.specs.Waves.{Waves, waves_of}
@@ -37,7 +38,7 @@ element kind pins to =
       kind = kind;
       delay = span 1 1;
       split = None;
-      limits = (0, 0);
+      limits = Unlimited;
       pins = pins;
       out = Some (OnNet to);
       out_inverted = false;

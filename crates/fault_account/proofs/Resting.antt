@@ -12,8 +12,10 @@ use Rattle.step_values.specs.Cell.{values}
 use Rattle.skew_algebra.specs.Wave.{Wave, cell_at, fold}
 use Rattle.element_kinds.specs.declared.kind.Kind.{Kind}
 use Rattle.element_kinds.specs.Kinds.{checks_points, checks_pulses, may_be_marked}
+use Rattle.flat_circuit.specs.Limits.{setup_of, hold_of, high_of, low_of}
 use Rattle.flat_circuit.specs.declared.fault.Fault.{Fault}
 use Rattle.flat_circuit.specs.declared.instance.Instance.{Instance}
+use Rattle.flat_circuit.specs.declared.limits.Limits.TheVariants.{Edges}
 use Rattle.flat_circuit.specs.declared.net.Net.{Net}
 use Rattle.flat_circuit.specs.Circuit.{Circuit, IsCircuit}
 use Rattle.flat_circuit.proofs.Numbered.{fits_of}
@@ -71,9 +73,9 @@ module _ (c : Circuit) (ws : Waves) (known : IsCircuit c) (some : 0 < period c.h
   fault_within : (k : ℕ) (j : Instance) (parameter : Parameter) (value : ℕ) → LimitsAreWithin (period c.header) j.limits parameter →
       value ≤ written j.limits parameter → IfSome (fault_with c ws k j parameter value) (IsWithin c)
   fault_within k j Setup value within most =
-      point_within c some j.kind k (wave_of_pin (pin_waves c ws j) 0) (wave_of_pin (pin_waves c ws j) 1) (value, j.limits.1)
+      point_within c some j.kind k (wave_of_pin (pin_waves c ws j) 0) (wave_of_pin (pin_waves c ws j) 1) (Edges value (hold_of j.limits))
   fault_within k j Hold value within most =
-      point_within c some j.kind k (wave_of_pin (pin_waves c ws j) 0) (wave_of_pin (pin_waves c ws j) 1) (j.limits.0, value)
+      point_within c some j.kind k (wave_of_pin (pin_waves c ws j) 0) (wave_of_pin (pin_waves c ws j) 1) (Edges (setup_of j.limits) value)
   fault_within k j High value within most = width_within c some k (pin_of c ws j) true value (omega (arith, within, most))
   fault_within k j Low value within most = width_within c some k (pin_of c ws j) false value (omega (arith, within, most))
 
@@ -181,9 +183,9 @@ module _ (c : Circuit) (ws : Waves) (known : IsCircuit c) (some : 0 < period c.h
         by_kind : (j : Instance) → slice_get c.instances k ≡ Some j → (pulses : Bool) → checks_pulses j.kind ≡ pulses →
             All (IsWithin c) (faults_by pulses c ws k j)
         by_kind j there true checks =
-            All-append (IsWithin c) (listed (limited_width c ws k j true j.limits.0)) (listed (limited_width c ws k j false j.limits.1))
-            (of_level j true j.limits.0 (asked_within c.header j High (fits_of c k j known there).lim checks))
-            (of_level j false j.limits.1 (asked_within c.header j Low (fits_of c k j known there).lim checks))
+            All-append (IsWithin c) (listed (limited_width c ws k j true (high_of j.limits))) (listed (limited_width c ws k j false (low_of j.limits)))
+            (of_level j true (high_of j.limits) (asked_within c.header j High (fits_of c k j known there).lim checks))
+            (of_level j false (low_of j.limits) (asked_within c.header j Low (fits_of c k j known there).lim checks))
         by_kind j there false checks = All-nil (IsWithin c)
 
         by : (found : Option Instance) → slice_get c.instances k ≡ found → All (IsWithin c) (widths_of c ws k found)

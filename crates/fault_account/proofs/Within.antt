@@ -10,6 +10,7 @@ use Rattle.step_values.specs.Cell.{values}
 use Rattle.skew_algebra.specs.Wave.{Wave, fold}
 use Rattle.element_kinds.specs.declared.kind.Kind.{Kind}
 use Rattle.flat_circuit.specs.Circuit.{Circuit}
+use Rattle.flat_circuit.specs.declared.limits.Limits.{Limits}
 use Rattle.fixpoint_engine.specs.Pins.{read}
 use Rattle.point_check.specs.declared.window.Window.{Window}
 use Rattle.point_check.specs.Point.{checker_fault, edge_fault, window_of}
@@ -42,7 +43,7 @@ module _ (c : Circuit) (some : 0 < period c.header) where
       map_if (IsWithin c) (fault_at (period c.header) k input w t) (first_mover (period c.header) input w t)
       (λ place. (below, back_lt (period c.header) (t + 1 + place) w.setup some))
 
-  pub point_within : (kind : Kind) (k : ℕ) (clock input : Wave Value) (limits : ℕ × ℕ) →
+  pub point_within : (kind : Kind) (k : ℕ) (clock input : Wave Value) (limits : Limits) →
       IfSome (checker_fault kind (period c.header) k clock input limits) (IsWithin c)
   unfolding checker_fault
   point_within kind k clock input limits =

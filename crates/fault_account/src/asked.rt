@@ -10,7 +10,7 @@ ghost use Rattle.fault_account.specs.Asked.{asked_of as asked, instance_of as in
 use crate::account::Asked;
 use element_kinds::Kind;
 use fixpoint_engine::Waves;
-use flat_circuit::{Circuit, Fault, Instance, PointKind};
+use flat_circuit::{Circuit, Fault, Instance, Limits, PointKind};
 use margin_report::Parameter;
 use point_check::point_fault;
 use pulse_check::width_fault;
@@ -60,13 +60,15 @@ fn is_asked(kind: Kind, parameter: Parameter) -> bool
     }
 }
 
-/// The written value of a parameter, of a checker's two limits, in ticks.
-fn written(limits: (u16, u16), parameter: Parameter) -> u16
+/// The written value of a parameter, of a checker's limits, in ticks.
+fn written(limits: Limits, parameter: Parameter) -> u16
     ensures { result ≡ written_of limits parameter }
 {
     match parameter {
-        Parameter::Setup | Parameter::High => limits.0,
-        Parameter::Hold | Parameter::Low => limits.1,
+        Parameter::Setup => limits.setup(),
+        Parameter::Hold => limits.hold(),
+        Parameter::High => limits.high(),
+        Parameter::Low => limits.low(),
     }
 }
 
@@ -89,10 +91,18 @@ fn fault_of_value<W: CyclicWave<Item = Value>>(
     ensures { IfOk result (λ found.
         found ≡ fault_with c.now (waves_of waves.now) number checker.now parameter value) }
 {
-    let (first, second) = checker.limits;
+    let limits = checker.limits;
     match parameter {
-        Parameter::Setup => point_fault(alloc, c, waves, number, (value, second)),
-        Parameter::Hold => point_fault(alloc, c, waves, number, (first, value)),
+        Parameter::Setup => {
+            let hold = limits.hold();
+            let shorter = Limits::Edges { setup: value, hold };
+            point_fault(alloc, c, waves, number, shorter)
+        }
+        Parameter::Hold => {
+            let setup = limits.setup();
+            let shorter = Limits::Edges { setup, hold: value };
+            point_fault(alloc, c, waves, number, shorter)
+        }
         Parameter::High => width_fault(alloc, c, waves, number, true, value),
         Parameter::Low => width_fault(alloc, c, waves, number, false, value),
     }

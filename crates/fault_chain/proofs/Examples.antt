@@ -14,10 +14,12 @@ use Rattle.element_kinds.specs.declared.kind.Kind.{Kind}
 use Rattle.element_kinds.specs.declared.kind.Kind.TheVariants.{And, Buf, Reg, RegRs, SetupHold, MinPulse}
 use Rattle.flat_circuit.specs.declared.instance.Pin.{Pin}
 use Rattle.flat_circuit.specs.declared.instance.Instance.{Instance}
+use Rattle.flat_circuit.specs.declared.limits.Limits.TheVariants.{None as Unlimited}
 use Rattle.flat_circuit.specs.declared.net.Net.{Net}
 use Rattle.flat_circuit.specs.declared.fault.PointKind.TheVariants.{Setup}
 use Rattle.flat_circuit.specs.declared.fault.Fault.TheVariants.{Point, Width, Hazard, Assertion}
 use Rattle.flat_circuit.specs.Circuit.{Circuit}
+use Rattle.flat_circuit.proofs.RunTables.{limits_of}
 use Rattle.fixpoint_engine.specs.Waves.{Waves, waves_of}
 use Rattle.fault_chain.specs.declared.chain.Link.{Link}
 use Rattle.fault_chain.specs.declared.chain.End.TheVariants.{Level, Repeat, Undriven, Both}
@@ -49,7 +51,7 @@ element kind delay pins =
       kind = kind;
       delay = delay;
       split = None;
-      limits = (0, 0);
+      limits = Unlimited;
       pins = pins;
       out = Some (OnNet 1);
       out_inverted = false;
@@ -126,7 +128,7 @@ checked kind pins =
         kind = kind;
         delay = late 0 0;
         split = None;
-        limits = (2, 2);
+        limits = limits_of kind 2;
         pins = pins;
         out = None;
         out_inverted = false;

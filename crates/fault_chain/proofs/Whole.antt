@@ -19,6 +19,7 @@ use Rattle.step_values.specs.Cell.{values}
 use Rattle.skew_algebra.specs.Wave.{Wave, cell_at, fold, skewed}
 use Rattle.element_kinds.specs.declared.kind.Kind.{Kind}
 use Rattle.element_kinds.specs.Kinds.{checks_points, checks_pulses, may_be_marked}
+use Rattle.flat_circuit.specs.Limits.{high_of, low_of}
 use Rattle.flat_circuit.specs.declared.instance.Instance.{Instance}
 use Rattle.flat_circuit.specs.declared.net.Net.{Net}
 use Rattle.flat_circuit.specs.declared.fault.Fault.{Fault}
@@ -290,9 +291,9 @@ module _ (c : Circuit) (ws : Waves) (known : IsCircuit c) (some : 0 < period c.h
 
       by_kind : (j : Instance) → slice_get c.instances k ≡ Some j → (pulses : Bool) → All Whole (faults_by pulses c ws k j)
       by_kind j at true =
-          All-append Whole (listed (limited_width c ws k j true j.limits.0)) (listed (limited_width c ws k j false j.limits.1))
-          (one (limited_width c ws k j true j.limits.0) (width_whole k j at true j.limits.0))
-          (one (limited_width c ws k j false j.limits.1) (width_whole k j at false j.limits.1))
+          All-append Whole (listed (limited_width c ws k j true (high_of j.limits))) (listed (limited_width c ws k j false (low_of j.limits)))
+          (one (limited_width c ws k j true (high_of j.limits)) (width_whole k j at true (high_of j.limits)))
+          (one (limited_width c ws k j false (low_of j.limits)) (width_whole k j at false (low_of j.limits)))
       by_kind j at false = All-nil Whole
 
       by : (o : Option Instance) → slice_get c.instances k ≡ o → All Whole (widths_of c ws k o)

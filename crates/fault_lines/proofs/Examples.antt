@@ -10,6 +10,7 @@ use Rattle.vector_names.specs.declared.bits.Target.TheVariants.{Net as OnNet}
 use Rattle.step_values.specs.declared.value.Value.TheVariants.{S, C, R, F, U}
 use Rattle.element_kinds.specs.declared.kind.Kind.TheVariants.{Buf}
 use Rattle.flat_circuit.specs.declared.instance.Instance.{Instance}
+use Rattle.flat_circuit.specs.declared.limits.Limits.TheVariants.{None as Unlimited}
 use Rattle.flat_circuit.specs.declared.split.Split.{Split}
 use Rattle.flat_circuit.specs.declared.net.Net.{Net}
 use Rattle.flat_circuit.specs.declared.fault.PointKind.{PointKind}
@@ -90,7 +91,7 @@ buffer delay split inverted =
       kind = Buf;
       delay = delay;
       split = split;
-      limits = (0, 0);
+      limits = Unlimited;
       pins = record { target = OnNet 0; inverted = false; hold = false } ∷ [];
       out = Some (OnNet 1);
       out_inverted = inverted;

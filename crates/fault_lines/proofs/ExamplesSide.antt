@@ -9,6 +9,7 @@ use Rattle.step_values.specs.declared.value.Value.TheVariants.{U}
 use Rattle.element_kinds.specs.declared.kind.Kind.TheVariants.{RegRs}
 use Rattle.flat_circuit.specs.declared.instance.Pin.{Pin}
 use Rattle.flat_circuit.specs.Circuit.{Circuit}
+use Rattle.flat_circuit.specs.declared.limits.Limits.TheVariants.{None as Unlimited}
 use Rattle.listing.specs.Text.{line}
 use Rattle.fault_chain.specs.declared.chain.Link.{Link}
 use Rattle.fault_chain.specs.declared.chain.End.TheVariants.{Level, Repeat, Undriven, Both}
@@ -79,7 +80,7 @@ forced =
         kind = RegRs;
         delay = span 2 10;
         split = None;
-        limits = (0, 0);
+        limits = Unlimited;
         pins = on_net 0 ∷ on_net 1 ∷ on_net 0 ∷ on_net 1 ∷ [];
         out = Some (OnNet 2);
         out_inverted = false;

@@ -15,6 +15,7 @@ use Rattle.element_kinds.specs.declared.kind.Kind.{Kind}
 use Rattle.element_kinds.specs.declared.kind.Kind.TheVariants.{Buf, And, Xor, Reg}
 use Rattle.flat_circuit.specs.declared.instance.Pin.{Pin}
 use Rattle.flat_circuit.specs.declared.instance.Instance.{Instance}
+use Rattle.flat_circuit.specs.declared.limits.Limits.TheVariants.{None as Unlimited}
 use Rattle.flat_circuit.specs.declared.net.Net.{Net}
 use Rattle.flat_circuit.specs.declared.split.Split.{Split}
 use Rattle.flat_circuit.specs.Split.{either_delay}
@@ -58,7 +59,7 @@ element kind delay pins out =
       kind = kind;
       delay = delay;
       split = None;
-      limits = (0, 0);
+      limits = Unlimited;
       pins = pins;
       out = Some (OnNet out);
       out_inverted = false;

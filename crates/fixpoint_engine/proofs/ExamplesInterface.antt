@@ -14,6 +14,7 @@ use Rattle.element_kinds.specs.declared.kind.Kind.{Kind}
 use Rattle.element_kinds.specs.declared.kind.Kind.TheVariants.{Buf, Reg}
 use Rattle.flat_circuit.specs.declared.instance.Pin.{Pin}
 use Rattle.flat_circuit.specs.declared.instance.Instance.{Instance}
+use Rattle.flat_circuit.specs.declared.limits.Limits.TheVariants.{None as Unlimited}
 use Rattle.flat_circuit.specs.declared.net.Net.{Net}
 use Rattle.flat_circuit.specs.Circuit.{Circuit}
 use Rattle.pin_waves.proofs.Tests.{shown}
@@ -34,13 +35,11 @@ element kind delay pins out =
       kind = kind;
       delay = delay;
       split = None;
-      limits =
-          (0, 0);
+      limits = Unlimited;
       pins = pins;
       out = option_map OnNet out;
       out_inverted = false;
-      place =
-          record { line = 1; col = 1 };
+      place = record { line = 1; col = 1 };
     }
 
 abbrev pub on : ℕ → Pin

@@ -11,6 +11,7 @@ use Rattle.element_kinds.specs.declared.kind.Kind.{Kind}
 use Rattle.element_kinds.specs.declared.kind.Kind.TheVariants.{Buf, Reg, RegRs, Latch, Chg}
 use Rattle.flat_circuit.specs.declared.instance.Pin.{Pin}
 use Rattle.flat_circuit.specs.declared.instance.Instance.{Instance}
+use Rattle.flat_circuit.specs.declared.limits.Limits.TheVariants.{None as Unlimited}
 use Rattle.flat_circuit.specs.declared.net.Net.{Net}
 use Rattle.flat_circuit.specs.Circuit.{Circuit}
 use Rattle.fixpoint_engine.specs.Same.{same_wave}
@@ -59,7 +60,7 @@ element kind pins out = record {
   kind = kind;
   delay = record { min = 1; max = 1 };
   split = None;
-  limits = (0, 0);
+  limits = Unlimited;
   pins = pins;
   out = Some (OnNet out);
   out_inverted = false;

@@ -7,10 +7,11 @@ use Rattle.flat_circuit.specs.declared.instance.Instance.{Instance}
 use Rattle.flat_circuit.specs.Circuit.{Circuit}
 use Rattle.flat_circuit.specs.Run.{Run}
 use Rattle.flat_circuit.proofs.RunTables.{checker, circuit, late}
+use Rattle.flat_circuit.specs.declared.limits.Limits.{Limits}
 use Rattle.pin_waves.proofs.Tests.{implies, implies_is, all_below, each_passes}
 
 -- an instance without an output, with these limits and pins, and the circuit that has it alone
-abbrev pub element : Kind → ℕ × ℕ → List Pin → Instance
+abbrev pub element : Kind → Limits → List Pin → Instance
 element kind limits pins = record (checker kind pins) { limits = limits }
 
 abbrev pub alone : Instance → Circuit

@@ -1,11 +1,15 @@
--- Pins, limits and equations of each kind, by their rows, worked out on paper, in the order of the kinds.
-use Rattle.std.proofs.Common.{◌≡◌, ℕ, ◌+◌, ◌≤◌, true, false, [], ◌∷◌, map, refl}
-use Rattle.scald_base.specs.Time.{Header, Bounds, period}
-use Rattle.element_kinds.specs.declared.kind.Kind.TheVariants.{And, Chg, Reg, RiseFall, MinPulse}
+-- Pins, limits and equations of each kind, by their rows, worked out on paper, in the order of the
+-- kinds.
+use Rattle.std.proofs.Common.{◌≡◌, ℕ, ◌+◌, ◌≤◌, true, false, [], ◌∷◌, map, refl, lit≤, arith}
+use Rattle.scald_base.specs.Time.{Header, Bounds}
+use Rattle.element_kinds.specs.declared.kind.Kind.TheVariants.{And, Chg, Reg, SetupHold, RiseFall, MinPulse}
 use Rattle.element_kinds.specs.Kinds.{kinds, may_split}
+use Rattle.flat_circuit.specs.declared.limits.Limits.TheVariants.{None as Unlimited, Edges, Pulses}
 use Rattle.flat_circuit.specs.Kind.{pin_counts, LimitsFit}
+use Rattle.flat_circuit.specs.Limits.{setup_of, hold_of, high_of, low_of}
 use Rattle.flat_circuit.specs.Run.{Within, DelayFits}
 use Rattle.flat_circuit.specs.Laws.{looks_back}
+use Rattle.flat_circuit.proofs.RunTables.{header}
 
 -- a change function has up to 16 connections of up to 256 bits
 counts : map pin_counts kinds
@@ -36,9 +40,39 @@ changes_have_none d n = tt
 checkers_have_none : (d : Bounds) (n : ℕ) → DelayFits MinPulse d n
 checkers_have_none d n = tt
 
--- setup and hold are limited together, widths each
-together : (h : Header) (l : ℕ × ℕ) → LimitsFit h RiseFall l → l.0 + l.1 ≤ period h
-together h l fits = fits
+-- ---- limits, over a period of 8 ticks
 
-each_alone : (h : Header) (l : ℕ × ℕ) → l.0 ≤ period h → l.1 ≤ period h → LimitsFit h MinPulse l
-each_alone h l high low = (high, low)
+abbrev eight_ticks : Header
+eight_ticks = header
+
+-- setup and hold are limited together
+together : LimitsFit eight_ticks SetupHold (Edges 3 5) × LimitsFit eight_ticks RiseFall (Edges 3 5)
+together = (lit≤ tt, lit≤ tt)
+
+too_long : ¬ LimitsFit eight_ticks SetupHold (Edges 3 6) × ¬ LimitsFit eight_ticks RiseFall (Edges 3 6)
+too_long = ((λ (fits : 3 + 6 ≤ 8). absurd (omega (arith, fits))), (λ (fits : 3 + 6 ≤ 8). absurd (omega (arith, fits))))
+
+-- each width by itself
+each_alone : LimitsFit eight_ticks MinPulse (Pulses 8 8)
+each_alone = (lit≤ tt, lit≤ tt)
+
+too_wide : ¬ LimitsFit eight_ticks MinPulse (Pulses 9 0) × ¬ LimitsFit eight_ticks MinPulse (Pulses 0 9)
+too_wide =
+    ((λ (fits : LimitsFit eight_ticks MinPulse (Pulses 9 0)). let high : 9 ≤ 8 = fits.0 in absurd (omega (arith, high))),
+    (λ (fits : LimitsFit eight_ticks MinPulse (Pulses 0 9)). let low : 9 ≤ 8 = fits.1 in absurd (omega (arith, low))))
+
+-- a checker has limits of what it checks
+of_another : ¬ LimitsFit eight_ticks SetupHold (Pulses 0 0) × ¬ LimitsFit eight_ticks MinPulse (Edges 0 0)
+of_another = ((λ fits. fits), (λ fits. fits))
+
+without : ¬ LimitsFit eight_ticks SetupHold Unlimited × ¬ LimitsFit eight_ticks MinPulse Unlimited
+without = ((λ fits. fits), (λ fits. fits))
+
+-- and an element has none
+an_element : LimitsFit eight_ticks And Unlimited × ¬ LimitsFit eight_ticks And (Edges 0 0)
+an_element = (refl, (λ (fits : LimitsFit eight_ticks And (Edges 0 0)). absurd (cc)))
+
+-- ---- one limit of them
+
+ones : (setup_of (Edges 3 5) ≡ 3) × (hold_of (Edges 3 5) ≡ 5) × (high_of (Pulses 3 5) ≡ 3) × (low_of (Pulses 3 5) ≡ 5)
+ones = (refl, refl, refl, refl)

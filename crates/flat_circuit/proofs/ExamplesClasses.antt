@@ -11,6 +11,7 @@ use Rattle.element_kinds.specs.declared.kind.Kind.{Kind}
 use Rattle.element_kinds.specs.declared.kind.Kind.TheVariants.{Buf, And, Or}
 use Rattle.flat_circuit.specs.declared.instance.Pin.{Pin}
 use Rattle.flat_circuit.specs.declared.instance.Instance.{Instance}
+use Rattle.flat_circuit.specs.declared.limits.Limits.TheVariants.{None as Unlimited}
 use Rattle.flat_circuit.specs.declared.net.Net.{Net}
 use Rattle.flat_circuit.specs.declared.split.Split.{Split}
 use Rattle.flat_circuit.specs.Circuit.{Circuit}
@@ -35,7 +36,7 @@ element kind delay inverted pins out = record {
   kind = kind;
   delay = delay;
   split = None;
-  limits = (0, 0);
+  limits = Unlimited;
   pins = pins;
   out = Some (OnNet out);
   out_inverted = inverted;

@@ -9,8 +9,13 @@ use Rattle.scald_base.specs.Time.{Header, Bounds}
 use Rattle.scald_base.specs.declared.assertion.AssertSpec.TheVariants.{None as Unasserted}
 use Rattle.vector_names.specs.declared.bits.Target.TheVariants.{Net as OnNet, Constant}
 use Rattle.element_kinds.specs.declared.kind.Kind.{Kind}
+use Rattle.element_kinds.specs.declared.form.Check.{Check}
+use Rattle.element_kinds.specs.declared.form.Check.TheVariants.{SetupHold as AboutRise, RiseFall as RiseToFall, MinPulse as Widths}
+use Rattle.element_kinds.specs.Kinds.{check_of}
 use Rattle.flat_circuit.specs.declared.instance.Pin.{Pin}
 use Rattle.flat_circuit.specs.declared.instance.Instance.{Instance}
+use Rattle.flat_circuit.specs.declared.limits.Limits.{Limits}
+use Rattle.flat_circuit.specs.declared.limits.Limits.TheVariants.{None as Unlimited, Edges, Pulses}
 use Rattle.flat_circuit.specs.declared.net.Net.{Net}
 use Rattle.flat_circuit.specs.declared.split.Split.{Split}
 use Rattle.flat_circuit.specs.Split.{either_delay}
@@ -64,13 +69,11 @@ element kind delay pins out =
       kind = kind;
       delay = delay;
       split = None;
-      limits =
-          (0, 0);
+      limits = Unlimited;
       pins = pins;
       out = Some (OnNet out);
       out_inverted = false;
-      place =
-          record { line = 1; col = 1 };
+      place = record { line = 1; col = 1 };
     }
 
 abbrev pub two : ℕ → ℕ → ℕ → ℕ → Split
@@ -84,6 +87,16 @@ split_element kind s pins out =
 abbrev pub complemented : Instance → Instance
 complemented i = record i { out_inverted = true }
 
+-- limits of so many ticks each, by what is checked
+abbrev pub limits_by : Option Check → ℕ → Limits
+limits_by None n = Unlimited
+limits_by (Some AboutRise) n = Edges n n
+limits_by (Some RiseToFall) n = Edges n n
+limits_by (Some Widths) n = Pulses n n
+
+abbrev pub limits_of : Kind → ℕ → Limits
+limits_of kind n = limits_by (check_of kind) n
+
 abbrev pub checker : Kind → List Pin → Instance
 checker kind pins =
     record {
@@ -92,13 +105,11 @@ checker kind pins =
       kind = kind;
       delay = bounds 0 0;
       split = None;
-      limits =
-          (1, 1);
+      limits = limits_of kind 1;
       pins = pins;
       out = None;
       out_inverted = false;
-      place =
-          record { line = 1; col = 1 };
+      place = record { line = 1; col = 1 };
     }
 
 abbrev pub circuit : List Net → List Instance → Circuit

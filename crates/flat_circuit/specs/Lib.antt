@@ -6,6 +6,7 @@ pub mod Sorted
 pub mod Assertion
 pub mod Few
 pub mod Text
+pub mod Limits
 pub mod Kind
 pub mod Split
 pub mod Name

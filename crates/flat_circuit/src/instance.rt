@@ -1,6 +1,7 @@
 //! The bits of elements and checkers.
 
 use crate::few::Few;
+use crate::limits::Limits;
 use crate::split::Split;
 use crate::text::Text;
 use element_kinds::Kind;
@@ -18,7 +19,8 @@ pub struct Pin {
 /// The pins of an instance, in the order of its kind. Most have one or two.
 pub type Pins = Few<Pin>;
 
-/// One bit of an element or of a checker. The wide fields come first, so that no room is left between.
+/// One bit of an element or of a checker. The wide fields come first, so that no room is left
+/// between.
 #[derive(Drop, PartialEq, Eq, Debug)]
 pub struct Instance {
     /// The labels of the scopes from the drawing down, each with a slash after it, and its own label.
@@ -33,8 +35,8 @@ pub struct Instance {
     pub split: Option<Split>,
     /// The bounds of its delay, in ticks. A checker has none, whatever stands here.
     pub delay: Delay,
-    /// A checker's setup and hold times, or its least widths of high and low pulses, in ticks.
-    pub limits: (u16, u16),
+    /// What it demands of its pins. An element has none.
+    pub limits: Limits,
     /// Which bit of the width it is, from 0.
     pub bit: u16,
     pub kind: Kind,

@@ -19,6 +19,7 @@ mod case;
 mod fault;
 mod few;
 mod instance;
+mod limits;
 mod net;
 mod split;
 mod text;
@@ -64,6 +65,7 @@ pub use instance::{Instance, Pin, Pins};
 pub use laws::{
     fronts_are_runs, later_parts_are_runs, runs_go_by_instances, unnamed_bits_are_free,
 };
+pub use limits::Limits;
 pub use net::Net;
 pub use node::Node;
 pub use order_search::sorted;

@@ -11,8 +11,10 @@ use Rattle.scald_base.specs.declared.assertion.AssertSpec.{AssertSpec}
 use Rattle.scald_base.specs.declared.assertion.AssertSpec.TheVariants.{Stable}
 use Rattle.element_kinds.specs.declared.kind.Kind.{Kind}
 use Rattle.element_kinds.specs.declared.kind.Kind.TheVariants.{And, Or}
+use Rattle.flat_circuit.specs.Limits.{hold_of}
 use Rattle.flat_circuit.specs.Name.{Name}
 use Rattle.flat_circuit.specs.Builder.{is_asserted, same_name}
+use Rattle.flat_circuit.specs.declared.limits.Limits.TheVariants.{None as Unlimited, Edges}
 use Rattle.flat_circuit.specs.declared.split.Split.{Split}
 use Rattle.macro_expander.specs.Cases.{CaseBit}
 use Rattle.macro_expander.specs.Named.{Fixed, NamedInstance, NamedPin, On, State, Where}
@@ -46,7 +48,7 @@ gate = record {
   kind = And;
   delay = bounds 1 2;
   split = None;
-  limits = (0, 0);
+  limits = Unlimited;
   pins = pin ∷ [];
   out = Some (On (net (codes "B")));
   out_inverted = false;
@@ -148,8 +150,9 @@ other_delay same = absurd (let there : 3 ≡ 2 = ap (number_of (λ j. j.delay.ma
 other_split : ¬ SameCircuit (with_gate gate) (with_gate (record gate { split = Some (record { rise = bounds 1 2; fall = bounds 1 2 }) }))
 other_split same = absurd (let there : 2 ≡ 0 = ap (number_of (λ j. rises_in j.split)) same.instances in omega (arith, there))
 
-other_limits : ¬ SameCircuit (with_gate gate) (with_gate (record gate { limits = (0, 5) }))
-other_limits same = absurd (let there : 5 ≡ 0 = ap (number_of (λ j. j.limits.1)) same.instances in omega (arith, there))
+other_limits : ¬ SameCircuit (with_gate gate) (with_gate (record gate { limits = Edges 0 5 }))
+other_limits same =
+    absurd (let there : 5 ≡ 0 = ap (number_of (λ j. hold_of j.limits)) same.instances in omega (arith, there))
 
 other_output : ¬ SameCircuit (with_gate gate) (with_gate (record gate { out_inverted = true }))
 other_output same =

@@ -15,6 +15,7 @@ use Rattle.skew_algebra.specs.Wave.{Wave, skewed}
 use Rattle.element_kinds.specs.declared.kind.Kind.{Kind}
 use Rattle.element_kinds.specs.declared.kind.Kind.TheVariants.{Buf, And, Reg, SetupHold, MinPulse}
 use Rattle.flat_circuit.specs.declared.instance.Instance.{Instance}
+use Rattle.flat_circuit.specs.declared.limits.Limits.TheVariants.{None as Unlimited}
 use Rattle.flat_circuit.specs.declared.net.Net.{Net}
 use Rattle.flat_circuit.specs.declared.fault.PointKind.TheVariants.{Setup, High, Hold}
 use Rattle.flat_circuit.specs.declared.fault.Fault.{Fault}
@@ -50,7 +51,7 @@ made label kind out =
       kind = kind;
       delay = record { min = 0; max = 0 };
       split = None;
-      limits = (0, 0);
+      limits = Unlimited;
       pins = [];
       out = out;
       out_inverted = false;

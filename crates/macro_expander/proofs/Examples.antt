@@ -17,6 +17,7 @@ use Rattle.macro_expander.specs.Flat.{flat, use_act, wire_act, body_at}
 use Rattle.macro_expander.specs.Primitives.{primitive_use, plan_of, all_added}
 use Rattle.macro_expander.specs.Macros.{given_to, inside_of, bound_scope, inner_scope}
 use Rattle.macro_expander.specs.Terms.{named_bits, formal_term, bit_numbered, term_bits, joined, all_joined, wires_of}
+use Rattle.flat_circuit.specs.declared.limits.Limits.TheVariants.{Edges}
 
 at : ℕ → Place
 at line = record { line = line; col = 1 }
@@ -105,7 +106,7 @@ checked_bit k = record {
   kind = SetupHold;
   delay = record { min = 0; max = 0 };
   split = None;
-  limits = (20, 10);
+  limits = Edges 20 10;
   pins = (record { target = On (record { text = codes "CK"; bit = 0 }); inverted = false; hold = false })
       ∷ (record { target = On (record { text = codes "D"; bit = k }); inverted = false; hold = false }) ∷ [];
   out = None;

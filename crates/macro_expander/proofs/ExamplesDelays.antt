@@ -17,6 +17,7 @@ use Rattle.macro_expander.specs.Terms.{term_bits, joined, all_joined, wires_of}
 use Rattle.macro_expander.specs.Primitives.{takes_delays, plan_of, all_added, primitive_use}
 use Rattle.macro_expander.specs.Macros.{given_to}
 use Rattle.macro_expander.specs.Flat.{flat, use_act, body_at}
+use Rattle.flat_circuit.specs.declared.limits.Limits.TheVariants.{None as Unlimited}
 
 -- ---- uses
 
@@ -79,7 +80,7 @@ plan kind u = plan_of 400 kind [] u
 -- ---- what they give
 
 abbrev one_delay : ℕ → ℕ → Judged Plan
-one_delay min max = Ok (record { delay = record { min = min; max = max }; split = None; limits = (0, 0) })
+one_delay min max = Ok (record { delay = record { min = min; max = max }; split = None; limits = Unlimited })
 
 abbrev two_delays : ℕ × ℕ → ℕ × ℕ → ℕ × ℕ → Judged Plan
 two_delays either rise fall = Ok (record {
@@ -88,7 +89,7 @@ two_delays either rise fall = Ok (record {
     rise = record { min = rise.0; max = rise.1 };
     fall = record { min = fall.0; max = fall.1 };
   });
-  limits = (0, 0);
+  limits = Unlimited;
 })
 
 alone : plan Buf (use_of (from 2 4) None) ≡ one_delay 2 4
@@ -148,7 +149,7 @@ drawn_bit = record {
   kind = Buf;
   delay = record { min = 2; max = 8 };
   split = Some (record { rise = record { min = 6; max = 8 }; fall = record { min = 2; max = 4 } });
-  limits = (0, 0);
+  limits = Unlimited;
   pins = (record { target = Fixed false; inverted = false; hold = false }) ∷ [];
   out = Some (Fixed false);
   out_inverted = false;

@@ -18,6 +18,7 @@ use Rattle.macro_expander.specs.Flat.{flat, use_act, body_at, const_values, noth
 use Rattle.macro_expander.specs.Primitives.{in_pin_order, is_least_first, primitive_use, plan_of, all_added}
 use Rattle.macro_expander.specs.Macros.{given_to, inside_of, bound_scope, inner_scope}
 use Rattle.macro_expander.specs.Terms.{term_bits, joined, all_joined, wires_of, named_bits}
+use Rattle.flat_circuit.specs.declared.limits.Limits.TheVariants.{None as Unlimited}
 
 -- ---- values
 
@@ -135,7 +136,7 @@ buffered scope label delay = record {
   kind = Buf;
   delay = record { min = delay; max = delay };
   split = None;
-  limits = (0, 0);
+  limits = Unlimited;
   pins = (record {
     target = On (record { text = scope ++ codes "A"; bit = 0 });
     inverted = false;

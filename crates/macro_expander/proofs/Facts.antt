@@ -18,7 +18,9 @@ use Rattle.element_kinds.specs.declared.form.Check.{Check}
 use Rattle.element_kinds.specs.declared.form.Check.TheVariants.{SetupHold as AboutRise, RiseFall as RiseToFall, MinPulse as Widths}
 use Rattle.flat_circuit.specs.declared.instance.Pin.{Pin}
 use Rattle.element_kinds.specs.Kinds.{has_output, check_of, may_split}
-use Rattle.flat_circuit.specs.Kind.{PinsFit, LimitsFitCheck, LimitsFit}
+use Rattle.flat_circuit.specs.declared.limits.Limits.{Limits}
+use Rattle.flat_circuit.specs.declared.limits.Limits.TheVariants.{None as Unlimited, Edges, Pulses}
+use Rattle.flat_circuit.specs.Kind.{PinsFit, EdgesFit, PulsesFit, LimitsFitCheck, LimitsFit}
 use Rattle.flat_circuit.specs.Split.{either_delay, SplitFits}
 use Rattle.flat_circuit.specs.Name.{Name}
 use Rattle.flat_circuit.specs.Instances.{PinExists, OutExists, InstanceFits}
@@ -50,37 +52,46 @@ judging_ok (Err kind) next b h = absurd (cc)
 
 -- ---- limits
 
-sum_by_test : (b : Bool) (p s h : ℕ) (l : ℕ × ℕ) → nat_le (s + h) p ≡ b → cond b (Ok (s, h)) (Err Bounds) ≡ Ok l → l.0 + l.1 ≤ p
-sum_by_test true p s h l t e = let is : (s, h) ≡ l = cc in subst (λ (x : ℕ × ℕ). x.0 + x.1 ≤ p) is (leb-true (s + h) p t)
-sum_by_test false p s h l t e = absurd (cc)
+sum_by_test : (b : Bool) (h : Header) (setup hold : ℕ) (l : Limits) → nat_le (setup + hold) (period h) ≡ b →
+    cond b (Ok (Edges setup hold)) (Err Bounds) ≡ Ok l → EdgesFit h l
+sum_by_test true h setup hold l t e =
+    let is : Edges setup hold ≡ l = cc in
+    subst (λ (x : Limits). EdgesFit h x) is (leb-true (setup + hold) (period h) t)
+sum_by_test false h setup hold l t e = absurd (cc)
 
-setup_fits : (p : ℕ) (s h : ℤ) (l : ℕ × ℕ) → setup_and_hold p s h ≡ Ok l → l.0 + l.1 ≤ p
-setup_fits p (pos s) (pos h) l e = sum_by_test (nat_le (s + h) p) p s h l refl e
-setup_fits p (pos s) (negsuc h) l e = absurd (cc)
-setup_fits p (negsuc s) (pos h) l e = absurd (cc)
-setup_fits p (negsuc s) (negsuc h) l e = absurd (cc)
+setup_fits : (h : Header) (setup hold : ℤ) (l : Limits) → setup_and_hold (period h) setup hold ≡ Ok l → EdgesFit h l
+setup_fits h (pos setup) (pos hold) l e =
+    sum_by_test (nat_le (setup + hold) (period h)) h setup hold l refl e
+setup_fits h (pos setup) (negsuc hold) l e = absurd (cc)
+setup_fits h (negsuc setup) (pos hold) l e = absurd (cc)
+setup_fits h (negsuc setup) (negsuc hold) l e = absurd (cc)
 
-each_by_test : (b : Bool) (p s h : ℕ) (l : ℕ × ℕ) → (nat_le s p && nat_le h p) ≡ b → cond b (Ok (s, h)) (Err Bounds) ≡ Ok l → (l.0 ≤ p) × (l.1 ≤ p)
-each_by_test true p s h l t e =
-    let is : (s, h) ≡ l = cc in
-    let q = and_parts (nat_le s p) (nat_le h p) t in
-    subst (λ (x : ℕ × ℕ). (x.0 ≤ p) × (x.1 ≤ p)) is (leb-true s p q.0, leb-true h p q.1)
-each_by_test false p s h l t e = absurd (cc)
+each_by_test : (b : Bool) (h : Header) (high low : ℕ) (l : Limits) →
+    (nat_le high (period h) && nat_le low (period h)) ≡ b →
+    cond b (Ok (Pulses high low)) (Err Bounds) ≡ Ok l → PulsesFit h l
+each_by_test true h high low l t e =
+    let is : Pulses high low ≡ l = cc in
+    let q = and_parts (nat_le high (period h)) (nat_le low (period h)) t in
+    subst (λ (x : Limits). PulsesFit h x) is
+    (leb-true high (period h) q.0, leb-true low (period h) q.1)
+each_by_test false h high low l t e = absurd (cc)
 
-high_fits : (p : ℕ) (s h : ℤ) (l : ℕ × ℕ) → high_and_low p s h ≡ Ok l → (l.0 ≤ p) × (l.1 ≤ p)
-high_fits p (pos s) (pos h) l e = each_by_test (nat_le s p && nat_le h p) p s h l refl e
-high_fits p (pos s) (negsuc h) l e = absurd (cc)
-high_fits p (negsuc s) (pos h) l e = absurd (cc)
-high_fits p (negsuc s) (negsuc h) l e = absurd (cc)
+high_fits : (h : Header) (high low : ℤ) (l : Limits) → high_and_low (period h) high low ≡ Ok l → PulsesFit h l
+high_fits h (pos high) (pos low) l e =
+    each_by_test (nat_le high (period h) && nat_le low (period h)) h high low l refl e
+high_fits h (pos high) (negsuc low) l e = absurd (cc)
+high_fits h (negsuc high) (pos low) l e = absurd (cc)
+high_fits h (negsuc high) (negsuc low) l e = absurd (cc)
 
-limits_fit : (h : Header) (kind : Kind) (given : List Binding) (l : ℕ × ℕ) → limits_of (period h) kind given ≡ Ok l → LimitsFit h kind l
+limits_fit : (h : Header) (kind : Kind) (given : List Binding) (l : Limits) →
+    limits_of (period h) kind given ≡ Ok l → LimitsFit h kind l
 limits_fit h kind given l e = by (check_of kind) e
   where
     by : (check : Option Check) → limits_for (period h) check given ≡ Ok l → LimitsFitCheck h check l
-    by None e = tt
-    by (Some AboutRise) e = setup_fits (period h) _ _ l e
-    by (Some RiseToFall) e = setup_fits (period h) _ _ l e
-    by (Some Widths) e = high_fits (period h) _ _ l e
+    by None e = let is : Unlimited ≡ l = cc in sym is
+    by (Some AboutRise) e = setup_fits h _ _ l e
+    by (Some RiseToFall) e = setup_fits h _ _ l e
+    by (Some Widths) e = high_fits h _ _ l e
 
 -- ---- delays
 

@@ -9,6 +9,7 @@ use Rattle.scald_base.specs.Time.{Bounds}
 use Rattle.scald_base.specs.declared.assertion.AssertSpec.{AssertSpec}
 use Rattle.scald_base.specs.declared.refusal.Place.{Place}
 use Rattle.element_kinds.specs.declared.kind.Kind.{Kind}
+use Rattle.flat_circuit.specs.declared.limits.Limits.{Limits}
 use Rattle.flat_circuit.specs.declared.net.Net.{Net}
 use Rattle.flat_circuit.specs.declared.instance.Pin.{Pin}
 use Rattle.flat_circuit.specs.declared.instance.Instance.{Instance}
@@ -67,7 +68,7 @@ module _ (names : List Name) (distinct : AreDistinct names) where
       ∙ (ap (λ (x : Kind). record j { path = k.path; bit = k.bit; kind = x }) c
       ∙ (ap (λ (x : Bounds). record j { path = k.path; bit = k.bit; kind = k.kind; delay = x }) d
       ∙ (ap (λ (x : Option Split). record j { path = k.path; bit = k.bit; kind = k.kind; delay = k.delay; split = x }) s
-      ∙ (ap (λ (x : ℕ × ℕ). record k { limits = x; pins = j.pins; out = j.out; out_inverted = j.out_inverted; place = j.place }) e
+      ∙ (ap (λ (x : Limits). record k { limits = x; pins = j.pins; out = j.out; out_inverted = j.out_inverted; place = j.place }) e
       ∙ (ap (λ (x : List Pin). record k { pins = x; out = j.out; out_inverted = j.out_inverted; place = j.place }) f
       ∙ (ap (λ (x : Option Target). record k { out = x; out_inverted = j.out_inverted; place = j.place }) g
       ∙ (ap (λ (x : Bool). record k { out_inverted = x; place = j.place }) h

@@ -3,6 +3,7 @@ use Rattle.std.specs.Prelude.{ℕ, Bool, List, Option}
 use Rattle.scald_base.specs.Time.{Bounds, Header}
 use Rattle.scald_base.specs.declared.refusal.Place.{Place}
 use Rattle.element_kinds.specs.declared.kind.Kind.{Kind}
+use Rattle.flat_circuit.specs.declared.limits.Limits.{Limits}
 use Rattle.flat_circuit.specs.declared.split.Split.{Split}
 use Rattle.flat_circuit.specs.Name.{Name}
 use Rattle.flat_circuit.specs.Builder.{Asserted}
@@ -28,7 +29,7 @@ pub record NamedInstance : Type 0 where
   pub kind : Kind
   pub delay : Bounds
   pub split : Option Split
-  pub limits : ℕ × ℕ
+  pub limits : Limits
   pub pins : List NamedPin
   pub out : Option Where
   pub out_inverted : Bool

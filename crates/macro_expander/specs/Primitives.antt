@@ -12,6 +12,8 @@ use Rattle.element_kinds.specs.declared.kind.Kind.{Kind}
 use Rattle.element_kinds.specs.declared.form.Check.{Check}
 use Rattle.element_kinds.specs.declared.form.Check.TheVariants.{SetupHold as AboutRise, RiseFall as RiseToFall, MinPulse as Widths}
 use Rattle.element_kinds.specs.Kinds.{inputs_of, has_output, is_change, check_of, greatest_marks, may_split, selects_of}
+use Rattle.flat_circuit.specs.declared.limits.Limits.{Limits}
+use Rattle.flat_circuit.specs.declared.limits.Limits.TheVariants.{None as Unlimited, Edges, Pulses}
 use Rattle.flat_circuit.specs.declared.split.Split.{Split}
 use Rattle.flat_circuit.specs.Split.{either_delay}
 use Rattle.flat_circuit.specs.Instances.{most_bits, most_pins}
@@ -134,25 +136,30 @@ abbrev pub given_or_zero : List Binding → List ℕ → ℤ
 given_or_zero given name = option_map_or (λ b. b.value) (find (is_named name) given) (pos 0)
 
 -- setup and hold: together at most the period
-abbrev pub setup_and_hold : ℕ → ℤ → ℤ → Judged (ℕ × ℕ)
-setup_and_hold period (pos setup) (pos hold) = if nat_le (setup + hold) period then Ok (setup, hold) else Err Bounds
+abbrev pub setup_and_hold : ℕ → ℤ → ℤ → Judged Limits
+setup_and_hold period (pos setup) (pos hold) =
+    if nat_le (setup + hold) period then Ok (Edges setup hold) else Err Bounds
 setup_and_hold period (pos setup) (negsuc hold) = Err Bounds
 setup_and_hold period (negsuc setup) hold = Err Bounds
 
 -- least widths: each at most the period
-abbrev pub high_and_low : ℕ → ℤ → ℤ → Judged (ℕ × ℕ)
-high_and_low period (pos high) (pos low) = if nat_le high period && nat_le low period then Ok (high, low) else Err Bounds
+abbrev pub high_and_low : ℕ → ℤ → ℤ → Judged Limits
+high_and_low period (pos high) (pos low) =
+    if nat_le high period && nat_le low period then Ok (Pulses high low) else Err Bounds
 high_and_low period (pos high) (negsuc low) = Err Bounds
 high_and_low period (negsuc high) low = Err Bounds
 
 -- by what is checked, if anything is
-abbrev pub limits_for : ℕ → Option Check → List Binding → Judged (ℕ × ℕ)
-limits_for period None given = Ok (0, 0)
-limits_for period (Some AboutRise) given = setup_and_hold period (given_or_zero given (codes "SETUP")) (given_or_zero given (codes "HOLD"))
-limits_for period (Some RiseToFall) given = setup_and_hold period (given_or_zero given (codes "SETUP")) (given_or_zero given (codes "HOLD"))
-limits_for period (Some Widths) given = high_and_low period (given_or_zero given (codes "HIGH")) (given_or_zero given (codes "LOW"))
+abbrev pub limits_for : ℕ → Option Check → List Binding → Judged Limits
+limits_for period None given = Ok Unlimited
+limits_for period (Some AboutRise) given =
+    setup_and_hold period (given_or_zero given (codes "SETUP")) (given_or_zero given (codes "HOLD"))
+limits_for period (Some RiseToFall) given =
+    setup_and_hold period (given_or_zero given (codes "SETUP")) (given_or_zero given (codes "HOLD"))
+limits_for period (Some Widths) given =
+    high_and_low period (given_or_zero given (codes "HIGH")) (given_or_zero given (codes "LOW"))
 
-abbrev pub limits_of : ℕ → Kind → List Binding → Judged (ℕ × ℕ)
+abbrev pub limits_of : ℕ → Kind → List Binding → Judged Limits
 limits_of period kind given = limits_for period (check_of kind) given
 
 -- ---- what a use of a primitive says before its connections are looked at: its delays and limits

@@ -12,7 +12,7 @@ use crate::parameter::{comes_again, value_given, values_given};
 use crate::range::{at, value};
 use drawing_tree::{Assigns, Conns, Env, Expr, UseStmt};
 use element_kinds::{Check, Kind, kind_named};
-use flat_circuit::Split;
+use flat_circuit::{Limits, Split};
 use scald_base::{Delay, RefusalKind, Stop, same_bytes};
 use std::alloc::Global;
 
@@ -23,7 +23,7 @@ pub struct Plan {
     pub delay: Delay,
     /// The bounds of the rise delay and of the fall delay, where two are written.
     pub split: Option<Split>,
-    pub limits: (u16, u16),
+    pub limits: Limits,
 }
 
 const LONGEST_DELAY: u16 = 4095;
@@ -199,27 +199,33 @@ fn takes_delays(kind: Kind, statement: &UseStmt) -> bool
     statement.delay.is_some() == kind.has_output() && (!is_split || kind.may_split())
 }
 
-fn setup_and_hold(period: u16, setup: i64, hold: i64) -> Result<(u16, u16), RefusalKind>
+fn setup_and_hold(period: u16, setup: i64, hold: i64) -> Result<Limits, RefusalKind>
     ensures { result ≡ spec_setup_and_hold period setup hold }
 {
     let period = i64::from(period);
     if 0 <= setup && 0 <= hold && setup <= period && hold <= period - setup {
-        return Ok((setup as u16, hold as u16));
+        return Ok(Limits::Edges {
+            setup: setup as u16,
+            hold: hold as u16,
+        });
     }
     Err(RefusalKind::Bounds)
 }
 
-fn high_and_low(period: u16, high: i64, low: i64) -> Result<(u16, u16), RefusalKind>
+fn high_and_low(period: u16, high: i64, low: i64) -> Result<Limits, RefusalKind>
     ensures { result ≡ spec_high_and_low period high low }
 {
     let period = i64::from(period);
     if 0 <= high && 0 <= low && high <= period && low <= period {
-        return Ok((high as u16, low as u16));
+        return Ok(Limits::Pulses {
+            high: high as u16,
+            low: low as u16,
+        });
     }
     Err(RefusalKind::Bounds)
 }
 
-fn limits_for(period: u16, check: Check, given: &Env) -> Result<(u16, u16), RefusalKind>
+fn limits_for(period: u16, check: Check, given: &Env) -> Result<Limits, RefusalKind>
     ensures { result ≡ spec_limits_for period (Some check) given.now }
 {
     match check {
@@ -237,11 +243,11 @@ fn limits_for(period: u16, check: Check, given: &Env) -> Result<(u16, u16), Refu
 }
 
 /// The limits of a checker whose use gives these values, or why they are refused; another kind has none.
-pub fn limits_of(period: u16, kind: Kind, given: &Env) -> Result<(u16, u16), RefusalKind>
+pub fn limits_of(period: u16, kind: Kind, given: &Env) -> Result<Limits, RefusalKind>
     ensures { result ≡ spec_limits_of period kind given.now }
 {
     match kind.check() {
-        None => Ok((0, 0)),
+        None => Ok(Limits::None),
         Some(check) => limits_for(period, check, given),
     }
 }

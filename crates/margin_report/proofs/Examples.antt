@@ -15,6 +15,8 @@ use Rattle.element_kinds.specs.declared.kind.Kind.{Kind}
 use Rattle.element_kinds.specs.declared.kind.Kind.TheVariants.{SetupHold, MinPulse}
 use Rattle.flat_circuit.specs.declared.instance.Pin.{Pin}
 use Rattle.flat_circuit.specs.declared.instance.Instance.{Instance}
+use Rattle.flat_circuit.specs.declared.limits.Limits.TheVariants.{Edges, Pulses}
+use Rattle.flat_circuit.specs.declared.limits.Limits.{Limits}
 use Rattle.flat_circuit.specs.declared.net.Net.{Net}
 use Rattle.flat_circuit.specs.declared.fault.PointKind.TheVariants.{Setup as Before, Hold as After}
 use Rattle.flat_circuit.specs.declared.fault.Fault.TheVariants.{Point, Width}
@@ -41,7 +43,7 @@ net name = record { name = name; bit = 0; spec = Unasserted; wire = record { min
 abbrev pin : ℕ → Pin
 pin i = record { target = OnNet i; inverted = false; hold = false }
 
-abbrev checker : Kind → ℕ × ℕ → List Pin → Instance
+abbrev checker : Kind → Limits → List Pin → Instance
 checker kind limits pins =
     record {
       path = codes "c1";
@@ -144,7 +146,8 @@ no_hold : own_faults (circuit edge) (case 0 in_5).waves 0 Hold ≡ []
 unfolding instance_fault checker_fault moved normal back earlier
 no_hold = refl
 
-one_limit_more : map (λ parameter. (with_value edge parameter 5).limits) (Setup ∷ Hold ∷ High ∷ Low ∷ []) ≡ (5, 1) ∷ (1, 5) ∷ (5, 1) ∷ (1, 5) ∷ []
+one_limit_more : map (λ parameter. (with_value edge parameter 5).limits) (Setup ∷ Hold ∷ High ∷ Low ∷ []) 
+    ≡ Edges 5 1 ∷ Edges 1 5 ∷ Pulses 5 0 ∷ Pulses 0 5 ∷ []
 one_limit_more = refl
 
 -- ---- outcomes

@@ -2,6 +2,7 @@
 use Rattle.std.proofs.Common.{◌≡◌, ℕ, ◌≤◌, true, false, is_none, List, [], ◌∷◌, refl, sym, ap, ◌∙◌, arith, Option, Some, None}
 use Rattle.std.proofs.lemmas.Bool.{and_from, and_parts}
 use Rattle.scald_base.specs.Time.{period}
+use Rattle.flat_circuit.specs.Limits.{setup_of, hold_of}
 use Rattle.flat_circuit.specs.declared.instance.Instance.{Instance}
 use Rattle.flat_circuit.specs.declared.fault.Fault.{Fault}
 use Rattle.flat_circuit.specs.Circuit.{Circuit}
@@ -21,9 +22,9 @@ none_from (Some x) none = absurd (cc)
 pub none_with_less : (c : Circuit) (ws : Waves) (k : ℕ) (j : Instance) (parameter : Parameter) (less value : ℕ) → 1 ≤ period c.header → less ≤ value →
     fault_with c ws k j parameter value ≡ None → fault_with c ws k j parameter less ≡ None
 none_with_less c ws k j Setup less value some most none =
-    longer_times_keep_faults c ws k j less j.limits.1 value j.limits.1 some most (omega arith) none
+    longer_times_keep_faults c ws k j less (hold_of j.limits) value (hold_of j.limits) some most (omega arith) none
 none_with_less c ws k j Hold less value some most none =
-    longer_times_keep_faults c ws k j j.limits.0 less j.limits.0 value some (omega arith) most none
+    longer_times_keep_faults c ws k j (setup_of j.limits) less (setup_of j.limits) value some (omega arith) most none
 none_with_less c ws k j High less value some most none = greater_widths_keep_faults c ws k j true less value most none
 none_with_less c ws k j Low less value some most none = greater_widths_keep_faults c ws k j false less value most none
 

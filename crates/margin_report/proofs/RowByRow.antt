@@ -13,12 +13,15 @@ use Rattle.element_kinds.specs.declared.form.Check.{Check}
 use Rattle.element_kinds.specs.declared.form.Check.TheVariants.{SetupHold as AboutRise, RiseFall as RiseToFall, MinPulse as Widths}
 use Rattle.element_kinds.specs.Kinds.{check_in, check_of, checks_points, checks_pulses, checks_so, is_at_edges, is_of_points, is_of_pulses, is_of_widths}
 use Rattle.element_kinds.proofs.Forms.{of_form}
+use Rattle.flat_circuit.specs.Limits.{high_of, low_of}
 use Rattle.flat_circuit.specs.declared.instance.Instance.{Instance}
-use Rattle.flat_circuit.specs.Kind.{LimitsFit, LimitsFitCheck}
+use Rattle.flat_circuit.specs.Kind.{LimitsFit, LimitsFitCheck, PulsesFit}
 use Rattle.flat_circuit.specs.Instances.{InstanceFits}
 use Rattle.flat_circuit.specs.Circuit.{Circuit, IsCircuit}
+use Rattle.flat_circuit.specs.declared.limits.Limits.TheVariants.{None as Unlimited, Edges, Pulses}
+use Rattle.flat_circuit.specs.declared.limits.Limits.{Limits}
 use Rattle.fixpoint_engine.specs.Waves.{Waves}
-use Rattle.point_check.proofs.Gathered.{points_limits}
+use Rattle.point_check.proofs.Gathered.{edges_limits, points_limits}
 use Rattle.timing_analysis.specs.Case.{Case}
 use Rattle.margin_report.specs.declared.margin.Parameter.{Parameter}
 use Rattle.margin_report.specs.declared.margin.Parameter.TheVariants.{Setup, Hold, High, Low}
@@ -36,8 +39,14 @@ points_by_check kind = sym (of_form is_of_points kind) ∙ ap (checks_so is_at_e
 pulses_by_check : (kind : Kind) → checks_pulses kind ≡ checks_so is_of_widths (check_of kind)
 pulses_by_check kind = sym (of_form is_of_pulses kind) ∙ ap (checks_so is_of_widths) (of_form check_in kind)
 
-pulses_limits : (h : Header) (kind : Kind) (l : ℕ × ℕ) → checks_pulses kind ≡ true → LimitsFit h kind l → (l.0 ≤ period h) × (l.1 ≤ period h)
-pulses_limits h MinPulse l checks fits = fits
+widths_limits : (h : Header) (l : Limits) → PulsesFit h l → (high_of l ≤ period h) × (low_of l ≤ period h)
+widths_limits h Unlimited fits = absurd fits
+widths_limits h (Edges setup hold) fits = absurd fits
+widths_limits h (Pulses high low) fits = fits
+
+pulses_limits : (h : Header) (kind : Kind) (l : Limits) → checks_pulses kind ≡ true → LimitsFit h kind l →
+    (high_of l ≤ period h) × (low_of l ≤ period h)
+pulses_limits h MinPulse l checks fits = widths_limits h l fits
 pulses_limits h kind l checks fits = cc
 
 -- A checker has the parameters of its rows, and their written values are those that a period allows.
@@ -48,14 +57,20 @@ each_asked h j fit = by (check_of j.kind) refl fit
     by : (check : Option Check) → check_of j.kind ≡ check → LimitsFitCheck h check j.limits →
         All (λ (parameter : Parameter). IsAskedBy j parameter × AreWithin (period h) j.limits parameter) (parameters_in check)
     by None is fit i d less = absurd (omega (arith, less))
-    by (Some AboutRise) is fit zero d less = (points_by_check j.kind ∙ ap (checks_so is_at_edges) is, fit)
-    by (Some AboutRise) is fit (suc zero) d less = (points_by_check j.kind ∙ ap (checks_so is_at_edges) is, fit)
+    by (Some AboutRise) is fit zero d less =
+        (points_by_check j.kind ∙ ap (checks_so is_at_edges) is, edges_limits h j.limits fit)
+    by (Some AboutRise) is fit (suc zero) d less =
+        (points_by_check j.kind ∙ ap (checks_so is_at_edges) is, edges_limits h j.limits fit)
     by (Some AboutRise) is fit (suc (suc i)) d less = absurd (omega (arith, less))
-    by (Some RiseToFall) is fit zero d less = (points_by_check j.kind ∙ ap (checks_so is_at_edges) is, fit)
-    by (Some RiseToFall) is fit (suc zero) d less = (points_by_check j.kind ∙ ap (checks_so is_at_edges) is, fit)
+    by (Some RiseToFall) is fit zero d less =
+        (points_by_check j.kind ∙ ap (checks_so is_at_edges) is, edges_limits h j.limits fit)
+    by (Some RiseToFall) is fit (suc zero) d less =
+        (points_by_check j.kind ∙ ap (checks_so is_at_edges) is, edges_limits h j.limits fit)
     by (Some RiseToFall) is fit (suc (suc i)) d less = absurd (omega (arith, less))
-    by (Some Widths) is fit zero d less = (pulses_by_check j.kind ∙ ap (checks_so is_of_widths) is, fit.0)
-    by (Some Widths) is fit (suc zero) d less = (pulses_by_check j.kind ∙ ap (checks_so is_of_widths) is, fit.1)
+    by (Some Widths) is fit zero d less =
+        (pulses_by_check j.kind ∙ ap (checks_so is_of_widths) is, (widths_limits h j.limits fit).0)
+    by (Some Widths) is fit (suc zero) d less =
+        (pulses_by_check j.kind ∙ ap (checks_so is_of_widths) is, (widths_limits h j.limits fit).1)
     by (Some Widths) is fit (suc (suc i)) d less = absurd (omega (arith, less))
 
 -- What a checker has as its limits fits each of its parameters.

@@ -4,13 +4,14 @@ use Rattle.std.proofs.lemmas.Bool.{cases_eq}
 use Rattle.flat_circuit.specs.declared.instance.Instance.{Instance}
 use Rattle.flat_circuit.specs.declared.fault.Fault.{Fault}
 use Rattle.flat_circuit.specs.Circuit.{Circuit}
+use Rattle.flat_circuit.specs.declared.limits.Limits.{Limits}
 use Rattle.fixpoint_engine.specs.Waves.{Waves}
 use Rattle.margin_report.specs.declared.margin.Parameter.{Parameter}
 use Rattle.margin_report.specs.declared.margin.Parameter.TheVariants.{Setup, Hold, High, Low}
 use Rattle.margin_report.specs.Margin.{AreWithin, StopsAt, fault_with, spare, written}
 
 -- so much more than the written value is at most the period
-pub value_within : (p : ℕ) (limits : ℕ × ℕ) (parameter : Parameter) (more : ℕ) → AreWithin p limits parameter →
+pub value_within : (p : ℕ) (limits : Limits) (parameter : Parameter) (more : ℕ) → AreWithin p limits parameter →
     more ≤ spare p limits parameter → written limits parameter + more ≤ p
 value_within p limits Setup more within most = omega (arith, within, most)
 value_within p limits Hold more within most = omega (arith, within, most)

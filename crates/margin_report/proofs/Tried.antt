@@ -8,6 +8,7 @@ use Rattle.scald_base.specs.Time.{period}
 use Rattle.skew_algebra.specs.Wave.{Wave}
 use Rattle.step_values.specs.declared.value.Value.{Value}
 use Rattle.element_kinds.specs.Kinds.{checks_points, checks_pulses, may_be_marked}
+use Rattle.flat_circuit.specs.Limits.{high_of, low_of}
 use Rattle.flat_circuit.specs.declared.instance.Instance.{Instance}
 use Rattle.flat_circuit.specs.declared.fault.Fault.{Fault}
 use Rattle.flat_circuit.specs.Circuit.{Circuit}
@@ -63,26 +64,26 @@ append_nil [] = refl
 append_nil (x ∷ xs) = ap (λ ys. x ∷ ys) (append_nil xs)
 
 both_widths : (c : Circuit) (ws : Waves) (k : ℕ) (j : Instance) → checks_pulses j.kind ≡ true → slice_get c.instances k ≡ Some j →
-    instance_faults c ws k ≡ listed (limited_fault c ws k j true j.limits.0) ++ listed (limited_fault c ws k j false j.limits.1)
+    instance_faults c ws k ≡ listed (limited_fault c ws k j true (high_of j.limits)) ++ listed (limited_fault c ws k j false (low_of j.limits))
 unfolding instance_faults
 both_widths c ws k j asked at = ap (faults_of c ws k) at ∙ ap (λ (b : Bool). faults_by b c ws k j) asked
 
 high_widths : (c : Circuit) (ws : Waves) (k : ℕ) (j : Instance) → checks_pulses j.kind ≡ true → slice_get c.instances k ≡ Some j →
-    filter (is_of_pulse k true) (instance_faults c ws k) ≡ listed (limited_fault c ws k j true j.limits.0)
+    filter (is_of_pulse k true) (instance_faults c ws k) ≡ listed (limited_fault c ws k j true (high_of j.limits))
 high_widths c ws k j asked at =
-    let high : List Fault = listed (limited_fault c ws k j true j.limits.0) in
-    let low : List Fault = listed (limited_fault c ws k j false j.limits.1) in
+    let high : List Fault = listed (limited_fault c ws k j true (high_of j.limits)) in
+    let low : List Fault = listed (limited_fault c ws k j false (low_of j.limits)) in
     ap (filter (is_of_pulse k true)) (both_widths c ws k j asked at) ∙ filter-append (is_of_pulse k true) high low
-    ∙ (λ i. own_width (period c.header) k (pulse.pin_of c ws j) true j.limits.0 i ++ other_width (period c.header) k (pulse.pin_of c ws j) true j.limits.1 i)
+    ∙ (λ i. own_width (period c.header) k (pulse.pin_of c ws j) true (high_of j.limits) i ++ other_width (period c.header) k (pulse.pin_of c ws j) true (low_of j.limits) i)
     ∙ append_nil high
 
 low_widths : (c : Circuit) (ws : Waves) (k : ℕ) (j : Instance) → checks_pulses j.kind ≡ true → slice_get c.instances k ≡ Some j →
-    filter (is_of_pulse k false) (instance_faults c ws k) ≡ listed (limited_fault c ws k j false j.limits.1)
+    filter (is_of_pulse k false) (instance_faults c ws k) ≡ listed (limited_fault c ws k j false (low_of j.limits))
 low_widths c ws k j asked at =
-    let high : List Fault = listed (limited_fault c ws k j true j.limits.0) in
-    let low : List Fault = listed (limited_fault c ws k j false j.limits.1) in
+    let high : List Fault = listed (limited_fault c ws k j true (high_of j.limits)) in
+    let low : List Fault = listed (limited_fault c ws k j false (low_of j.limits)) in
     ap (filter (is_of_pulse k false)) (both_widths c ws k j asked at) ∙ filter-append (is_of_pulse k false) high low
-    ∙ (λ i. other_width (period c.header) k (pulse.pin_of c ws j) false j.limits.0 i ++ own_width (period c.header) k (pulse.pin_of c ws j) false j.limits.1 i)
+    ∙ (λ i. other_width (period c.header) k (pulse.pin_of c ws j) false (high_of j.limits) i ++ own_width (period c.header) k (pulse.pin_of c ws j) false (low_of j.limits) i)
 
 -- ---- with a value
 

@@ -6,9 +6,12 @@ use Rattle.element_kinds.specs.Kinds.{checks_points, checks_pulses}
 use Rattle.element_kinds.specs.declared.form.Check.{Check}
 use Rattle.element_kinds.specs.declared.form.Check.TheVariants.{SetupHold as AboutRise, RiseFall as RiseToFall, MinPulse as Widths}
 use Rattle.scald_base.specs.Time.{period}
+use Rattle.flat_circuit.specs.Limits.{setup_of, hold_of, high_of, low_of}
 use Rattle.flat_circuit.specs.declared.instance.Instance.{Instance}
 use Rattle.flat_circuit.specs.declared.fault.Fault.{Fault}
 use Rattle.flat_circuit.specs.Circuit.{Circuit}
+use Rattle.flat_circuit.specs.declared.limits.Limits.TheVariants.{Edges}
+use Rattle.flat_circuit.specs.declared.limits.Limits.{Limits}
 use Rattle.fixpoint_engine.specs.Waves.{Waves}
 use Rattle.point_check.specs.Faults.{limited_fault as point_fault}
 use Rattle.pulse_check.specs.Faults.{limited_fault as width_fault}
@@ -27,20 +30,20 @@ parameters_in (Some AboutRise) = Setup ∷ Hold ∷ []
 parameters_in (Some RiseToFall) = Setup ∷ Hold ∷ []
 parameters_in (Some Widths) = High ∷ Low ∷ []
 
--- the written value, of a checker's two limits
-abbrev pub written : ℕ × ℕ → Parameter → ℕ
-written limits Setup = limits.0
-written limits Hold = limits.1
-written limits High = limits.0
-written limits Low = limits.1
+-- the written value, of a checker's limits
+abbrev pub written : Limits → Parameter → ℕ
+written limits Setup = setup_of limits
+written limits Hold = hold_of limits
+written limits High = high_of limits
+written limits Low = low_of limits
 
 -- How much more may be written in a period of p ticks: setup and hold are together at most the period, and so is each of the
 -- two widths.
-abbrev pub spare : ℕ → ℕ × ℕ → Parameter → ℕ
-spare p limits Setup = p - (limits.0 + limits.1)
-spare p limits Hold = p - (limits.0 + limits.1)
-spare p limits High = p - limits.0
-spare p limits Low = p - limits.1
+abbrev pub spare : ℕ → Limits → Parameter → ℕ
+spare p limits Setup = p - (setup_of limits + hold_of limits)
+spare p limits Hold = p - (setup_of limits + hold_of limits)
+spare p limits High = p - high_of limits
+spare p limits Low = p - low_of limits
 
 -- the checker has the parameter
 abbrev pub IsAskedBy : Instance → Parameter → Type 0
@@ -50,11 +53,11 @@ IsAskedBy j High = checks_pulses j.kind ≡ true
 IsAskedBy j Low = checks_pulses j.kind ≡ true
 
 -- its limits are those that a period of p ticks allows
-abbrev pub AreWithin : ℕ → ℕ × ℕ → Parameter → Type 0
-AreWithin p limits Setup = limits.0 + limits.1 ≤ p
-AreWithin p limits Hold = limits.0 + limits.1 ≤ p
-AreWithin p limits High = limits.0 ≤ p
-AreWithin p limits Low = limits.1 ≤ p
+abbrev pub AreWithin : ℕ → Limits → Parameter → Type 0
+AreWithin p limits Setup = setup_of limits + hold_of limits ≤ p
+AreWithin p limits Hold = setup_of limits + hold_of limits ≤ p
+AreWithin p limits High = high_of limits ≤ p
+AreWithin p limits Low = low_of limits ≤ p
 
 -- by how much more the value could be, where the written one fits
 abbrev pub more_in : Margin → Option ℕ
@@ -71,8 +74,8 @@ IsBelow margin most = IfSome (more_in margin) (λ more. more ≤ most)
 -- The fault that checker k has in these waves where a parameter has this value and the other is as it is written. The
 -- width of high pulses has the faults of high pulses alone, and that of low ones those of low ones.
 abbrev pub fault_with : Circuit → Waves → ℕ → Instance → Parameter → ℕ → Option Fault
-fault_with c ws k j Setup value = point_fault c ws k j (value, j.limits.1)
-fault_with c ws k j Hold value = point_fault c ws k j (j.limits.0, value)
+fault_with c ws k j Setup value = point_fault c ws k j (Edges value (hold_of j.limits))
+fault_with c ws k j Hold value = point_fault c ws k j (Edges (setup_of j.limits) value)
 fault_with c ws k j High value = width_fault c ws k j true value
 fault_with c ws k j Low value = width_fault c ws k j false value
 

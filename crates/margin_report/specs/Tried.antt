@@ -1,8 +1,11 @@
 -- The faults of a checker that count for a parameter, in a circuit that has a value of it.
 use Rattle.std.specs.Prelude.{◌≡◌, ℕ, true, false, List, filter, slice_get, Some}
+use Rattle.flat_circuit.specs.Limits.{setup_of, hold_of, high_of, low_of}
 use Rattle.flat_circuit.specs.declared.instance.Instance.{Instance}
 use Rattle.flat_circuit.specs.declared.fault.Fault.{Fault}
 use Rattle.flat_circuit.specs.Circuit.{Circuit}
+use Rattle.flat_circuit.specs.declared.limits.Limits.TheVariants.{Edges, Pulses}
+use Rattle.flat_circuit.specs.declared.limits.Limits.{Limits}
 use Rattle.fixpoint_engine.specs.Waves.{Waves}
 use Rattle.point_check.specs.Faults.{instance_fault}
 use Rattle.pulse_check.specs.Faults.{instance_faults, listed}
@@ -20,11 +23,11 @@ own_faults c ws k High = filter (is_of_pulse k true) (instance_faults c ws k)
 own_faults c ws k Low = filter (is_of_pulse k false) (instance_faults c ws k)
 
 -- the two limits, with this value of one of them
-abbrev pub with_limit : ℕ × ℕ → Parameter → ℕ → ℕ × ℕ
-with_limit limits Setup value = (value, limits.1)
-with_limit limits Hold value = (limits.0, value)
-with_limit limits High value = (value, limits.1)
-with_limit limits Low value = (limits.0, value)
+abbrev pub with_limit : Limits → Parameter → ℕ → Limits
+with_limit limits Setup value = Edges value (hold_of limits)
+with_limit limits Hold value = Edges (setup_of limits) value
+with_limit limits High value = Pulses value (low_of limits)
+with_limit limits Low value = Pulses (high_of limits) value
 
 -- the checker with this value, and all else as it is written
 abbrev pub with_value : Instance → Parameter → ℕ → Instance

@@ -7,7 +7,7 @@ ghost use Rattle.margin_report.specs.Margin.{AreWithin, IsAskedBy, StopsAt, faul
 
 use crate::margin::Parameter;
 use fixpoint_engine::Waves;
-use flat_circuit::{Circuit, Fault, Instance};
+use flat_circuit::{Circuit, Fault, Instance, Limits};
 use point_check::point_fault;
 use pulse_check::width_fault;
 use scald_base::NoMemory;
@@ -15,25 +15,27 @@ use std::alloc::Global;
 use step_values::Value;
 use wave_core::CyclicWave;
 
-/// The written value of a parameter, of a checker's two limits, in ticks.
-pub fn written(limits: (u16, u16), parameter: Parameter) -> u16
+/// The written value of a parameter, of a checker's limits, in ticks.
+pub fn written(limits: Limits, parameter: Parameter) -> u16
     ensures { result ≡ written limits parameter }
 {
     match parameter {
-        Parameter::Setup | Parameter::High => limits.0,
-        Parameter::Hold | Parameter::Low => limits.1,
+        Parameter::Setup => limits.setup(),
+        Parameter::Hold => limits.hold(),
+        Parameter::High => limits.high(),
+        Parameter::Low => limits.low(),
     }
 }
 
 /// How much more may be written in a period of so many ticks.
-pub fn spare(period: u16, limits: (u16, u16), parameter: Parameter) -> u16
+pub fn spare(period: u16, limits: Limits, parameter: Parameter) -> u16
     requires { AreWithin period limits parameter }
     ensures { result ≡ spare period limits parameter }
 {
     match parameter {
-        Parameter::Setup | Parameter::Hold => period - (limits.0 + limits.1),
-        Parameter::High => period - limits.0,
-        Parameter::Low => period - limits.1,
+        Parameter::Setup | Parameter::Hold => period - (limits.setup() + limits.hold()),
+        Parameter::High => period - limits.high(),
+        Parameter::Low => period - limits.low(),
     }
 }
 
@@ -57,11 +59,19 @@ pub fn fault_with<W: CyclicWave<Item = Value>>(
         parameter (written checker.now.limits parameter + more)) }
 {
     c.header().known();
-    let (first, second) = checker.limits;
-    let value = written(checker.limits, parameter) + more;
+    let limits = checker.limits;
+    let value = written(limits, parameter) + more;
     match parameter {
-        Parameter::Setup => point_fault(alloc, c, waves, number, (value, second)),
-        Parameter::Hold => point_fault(alloc, c, waves, number, (first, value)),
+        Parameter::Setup => {
+            let hold = limits.hold();
+            let longer = Limits::Edges { setup: value, hold };
+            point_fault(alloc, c, waves, number, longer)
+        }
+        Parameter::Hold => {
+            let setup = limits.setup();
+            let longer = Limits::Edges { setup, hold: value };
+            point_fault(alloc, c, waves, number, longer)
+        }
         Parameter::High => width_fault(alloc, c, waves, number, true, value),
         Parameter::Low => width_fault(alloc, c, waves, number, false, value),
     }

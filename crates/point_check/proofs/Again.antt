@@ -11,6 +11,7 @@ use Rattle.element_kinds.specs.declared.kind.Kind.{Kind}
 use Rattle.flat_circuit.specs.declared.instance.Pin.{Pin}
 use Rattle.flat_circuit.specs.declared.fault.Fault.{Fault}
 use Rattle.flat_circuit.specs.Circuit.{Circuit}
+use Rattle.flat_circuit.specs.declared.limits.Limits.{Limits}
 use Rattle.gate_eval.specs.Hold.{first_some}
 use Rattle.pin_waves.specs.Pin.{pin_wave as wave_behind}
 use Rattle.fixpoint_engine.specs.Waves.{Waves, FitWaves, waves_of, target_wave, target_wire, pin_wave}
@@ -49,7 +50,7 @@ at_edge : (b : Bool) (i j : ℕ) (found found' : Option Fault) → found' ≡ op
 at_edge true i j found found' is = is
 at_edge false i j found found' is = refl
 
-of_another : (kind : Kind) (p i j : ℕ) (clock input : Wave Value) (limits : ℕ × ℕ) →
+of_another : (kind : Kind) (p i j : ℕ) (clock input : Wave Value) (limits : Limits) →
     checker_fault kind p j clock input limits ≡ option_map (of_instance j) (checker_fault kind p i clock input limits)
 unfolding checker_fault
 of_another kind p i j clock input limits =
@@ -85,16 +86,16 @@ module _ (c : Circuit) (xs : List (Wave Value)) (p : Pin) (net : ℕ) (wave : Wa
 module _ (c : Circuit) (ws : Waves) (clock input : Pin) (clock_wave input_wave : Wave Value) (clock_wire input_wire : Bounds) (clock_turned input_turned : Bool)
     (found : Option Fault) (clock_is : Shows c ws clock_wave clock_wire clock_turned clock) (input_is : Shows c ws input_wave input_wire input_turned input) where
   -- as any instance
-  pub kept_is : (kind : Kind) (k : ℕ) (limits : ℕ × ℕ) → found ≡ checker_fault kind (period c.header) k (pin_wave c ws clock) (pin_wave c ws input) limits → (j : ℕ) →
+  pub kept_is : (kind : Kind) (k : ℕ) (limits : Limits) → found ≡ checker_fault kind (period c.header) k (pin_wave c ws clock) (pin_wave c ws input) limits → (j : ℕ) →
       option_map (of_instance j) found ≡ checker_fault kind (length clock_wave.cells) j
       (wave_behind clock_wave clock_wire clock_turned) (wave_behind input_wave input_wire input_turned) limits
   kept_is kind k limits is j =
       ap (option_map (of_instance j)) is ∙ sym (of_another kind (period c.header) k j (pin_wave c ws clock) (pin_wave c ws input) limits)
       ∙ (λ i. checker_fault kind (sym clock_is.long i) j (sym clock_is.is i) (sym input_is.is i) limits)
 
-  pub found_is : (kind kind' : Kind) (j : ℕ) (limits limits' : ℕ × ℕ) → kind ≡ kind' → limits.0 ≡ limits'.0 → limits.1 ≡ limits'.1 →
+  pub found_is : (kind kind' : Kind) (j : ℕ) (limits limits' : Limits) → kind ≡ kind' → limits ≡ limits' →
       ((k : ℕ) → option_map (of_instance k) found ≡ checker_fault kind (length clock_wave.cells) k
       (wave_behind clock_wave clock_wire clock_turned) (wave_behind input_wave input_wire input_turned) limits) →
       option_map (of_instance j) found ≡ checker_fault kind' (period c.header) j (pin_wave c ws clock) (pin_wave c ws input) limits'
-  found_is kind kind' j limits limits' same setup hold is =
-      is j ∙ (λ i. checker_fault (same i) (clock_is.long i) j (clock_is.is i) (input_is.is i) (setup i, hold i))
+  found_is kind kind' j limits limits' same asked is =
+      is j ∙ (λ i. checker_fault (same i) (clock_is.long i) j (clock_is.is i) (input_is.is i) (asked i))

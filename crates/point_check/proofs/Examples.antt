@@ -14,6 +14,8 @@ use Rattle.element_kinds.specs.declared.kind.Kind.TheVariants.{SetupHold, RiseFa
 use Rattle.flat_circuit.specs.declared.fault.PointKind.TheVariants.{Setup, High, Hold}
 use Rattle.flat_circuit.specs.declared.fault.Fault.{Fault}
 use Rattle.flat_circuit.specs.declared.fault.Fault.TheVariants.{Point, Width, Hazard, Assertion}
+use Rattle.flat_circuit.specs.declared.limits.Limits.TheVariants.{Edges}
+use Rattle.flat_circuit.specs.declared.limits.Limits.{Limits}
 use Rattle.fixpoint_engine.specs.Pins.{read}
 use Rattle.point_check.specs.Point.{high_window, checker_fault}
 use Rattle.point_check.specs.Assertion.{assertion_fault}
@@ -40,77 +42,77 @@ changes_in_5 = eight S S S S S C S S
 abbrev changes_in_7 : Wave Value
 changes_in_7 = eight S S S S S S S C
 
-abbrev fault : Kind → Wave Value → Wave Value → ℕ × ℕ → Option Fault
+abbrev fault : Kind → Wave Value → Wave Value → Limits → Option Fault
 fault kind clock input limits = checker_fault kind 8 0 clock input limits
 
 -- ---- setup and hold
 
-before_the_edge : fault SetupHold pulse changes_in_1 (2, 1) ≡ Some (Point Setup 0 2 1 67)
+before_the_edge : fault SetupHold pulse changes_in_1 (Edges 2 1) ≡ Some (Point Setup 0 2 1 67)
 unfolding checker_fault back earlier
 before_the_edge = refl
 
-too_early_to_matter : fault SetupHold pulse changes_in_1 (1, 1) ≡ None
+too_early_to_matter : fault SetupHold pulse changes_in_1 (Edges 1 1) ≡ None
 unfolding checker_fault back earlier
 too_early_to_matter = refl
 
-after_the_edge : fault SetupHold pulse changes_in_4 (2, 2) ≡ Some (Point Hold 0 2 4 67)
+after_the_edge : fault SetupHold pulse changes_in_4 (Edges 2 2) ≡ Some (Point Hold 0 2 4 67)
 unfolding checker_fault back earlier
 after_the_edge = refl
 
-over_the_end : fault SetupHold (eight R F Zero Zero Zero Zero Zero Zero) changes_in_7 (2, 0) ≡ Some (Point Setup 0 0 7 67)
+over_the_end : fault SetupHold (eight R F Zero Zero Zero Zero Zero Zero) changes_in_7 (Edges 2 0) ≡ Some (Point Setup 0 0 7 67)
 unfolding checker_fault back earlier
 over_the_end = refl
 
-no_certain_edge : fault SetupHold (eight Zero Zero C S C Zero Zero Zero) changes_in_1 (2, 1) ≡ Some (Point Setup 0 2 1 67)
+no_certain_edge : fault SetupHold (eight Zero Zero C S C Zero Zero Zero) changes_in_1 (Edges 2 1) ≡ Some (Point Setup 0 2 1 67)
 unfolding checker_fault back earlier
 no_certain_edge = refl
 
-unknown_input : fault SetupHold pulse (eight U U U U U U U U) (2, 1) ≡ Some (Point Setup 0 2 1 85)
+unknown_input : fault SetupHold pulse (eight U U U U U U U U) (Edges 2 1) ≡ Some (Point Setup 0 2 1 85)
 unfolding checker_fault back earlier
 unknown_input = refl
 
 -- the clock comes up to two slots late, so an edge may lie in slots 2 to 4
-late_clock : fault SetupHold (skewed (Zero ∷ Zero ∷ R ∷ One ∷ One ∷ One ∷ F ∷ Zero ∷ []) 2) changes_in_5 (0, 1) ≡ Some (Point Hold 0 4 5 67)
+late_clock : fault SetupHold (skewed (Zero ∷ Zero ∷ R ∷ One ∷ One ∷ One ∷ F ∷ Zero ∷ []) 2) changes_in_5 (Edges 0 1) ≡ Some (Point Hold 0 4 5 67)
 unfolding checker_fault back earlier
 late_clock = refl
 
 -- ---- rise and fall
 
-while_high : fault RiseFall pulse changes_in_4 (1, 1) ≡ Some (Point High 0 2 4 67)
+while_high : fault RiseFall pulse changes_in_4 (Edges 1 1) ≡ Some (Point High 0 2 4 67)
 unfolding checker_fault back earlier
 while_high = refl
 
-behind_the_fall : fault RiseFall pulse changes_in_5 (1, 1) ≡ Some (Point Hold 0 2 5 67)
+behind_the_fall : fault RiseFall pulse changes_in_5 (Edges 1 1) ≡ Some (Point Hold 0 2 5 67)
 unfolding checker_fault back earlier
 behind_the_fall = refl
 
-behind_its_hold : fault RiseFall pulse changes_in_5 (1, 0) ≡ None
+behind_its_hold : fault RiseFall pulse changes_in_5 (Edges 1 0) ≡ None
 unfolding checker_fault back earlier
 behind_its_hold = refl
 
-to_the_last_fall : high_window 8 (read (Zero ∷ R ∷ F ∷ F ∷ C ∷ Zero ∷ F ∷ Zero ∷ [])) (3, 2) 1 ≡ Some (record { setup = 3; high = 3; hold = 2 })
+to_the_last_fall : high_window 8 (read (Zero ∷ R ∷ F ∷ F ∷ C ∷ Zero ∷ F ∷ Zero ∷ [])) (Edges 3 2) 1 ≡ Some (record { setup = 3; high = 3; hold = 2 })
 unfolding back earlier
 to_the_last_fall = refl
 
-low_before_it_falls : high_window 8 (read (Zero ∷ R ∷ Zero ∷ F ∷ Zero ∷ Zero ∷ Zero ∷ Zero ∷ [])) (3, 2) 1 ≡ None
+low_before_it_falls : high_window 8 (read (Zero ∷ R ∷ Zero ∷ F ∷ Zero ∷ Zero ∷ Zero ∷ Zero ∷ [])) (Edges 3 2) 1 ≡ None
 unfolding back earlier
 low_before_it_falls = refl
 
-never_falls : high_window 8 (read (One ∷ R ∷ One ∷ One ∷ S ∷ One ∷ One ∷ One ∷ [])) (3, 2) 1 ≡ None
+never_falls : high_window 8 (read (One ∷ R ∷ One ∷ One ∷ S ∷ One ∷ One ∷ One ∷ [])) (Edges 3 2) 1 ≡ None
 unfolding back earlier
 never_falls = refl
 
-falls_anywhere : high_window 8 (read (C ∷ C ∷ C ∷ C ∷ C ∷ C ∷ C ∷ C ∷ [])) (3, 2) 1 ≡ Some (record { setup = 3; high = 8; hold = 0 })
+falls_anywhere : high_window 8 (read (C ∷ C ∷ C ∷ C ∷ C ∷ C ∷ C ∷ C ∷ [])) (Edges 3 2) 1 ≡ Some (record { setup = 3; high = 8; hold = 0 })
 unfolding back earlier
 falls_anywhere = refl
 
 -- The window has slots 5 to 7 and 0 up to the edge, and then all slots once more: slot 7 comes first before the edge, and
 -- slot 1 behind it.
-first_before : fault RiseFall (eight C C C C C C C C) changes_in_7 (4, 0) ≡ Some (Point Setup 0 0 7 67)
+first_before : fault RiseFall (eight C C C C C C C C) changes_in_7 (Edges 4 0) ≡ Some (Point Setup 0 0 7 67)
 unfolding checker_fault back earlier
 first_before = refl
 
-first_behind : fault RiseFall (eight C C C C C C C C) changes_in_1 (4, 0) ≡ Some (Point High 0 0 1 67)
+first_behind : fault RiseFall (eight C C C C C C C C) changes_in_1 (Edges 4 0) ≡ Some (Point High 0 0 1 67)
 unfolding checker_fault back earlier
 first_behind = refl
 

@@ -7,12 +7,13 @@ use Rattle.flat_circuit.specs.declared.instance.Pin.{Pin}
 use Rattle.flat_circuit.specs.declared.instance.Instance.{Instance}
 use Rattle.flat_circuit.specs.Run.{Run}
 use Rattle.flat_circuit.proofs.RunTables.{on, not_on, bits}
+use Rattle.flat_circuit.specs.declared.limits.Limits.TheVariants.{None as Unlimited}
 use Rattle.fixpoint_engine.proofs.WrittenRuns.{element, run_of}
 use Rattle.point_check.proofs.Literal.{holding, Breaks, broken, unbroken, has_mark, found, no_mark, none_marked}
 
 -- a gate of these pins
 abbrev gate : Kind → List Pin → Instance
-gate kind pins = element kind (0, 0) pins
+gate kind pins = element kind Unlimited pins
 
 -- one whose first pin is marked, on net 0, and whose other is on net 1
 abbrev marked : Kind → Instance

@@ -7,6 +7,7 @@ use Rattle.element_kinds.specs.declared.kind.Kind.TheVariants.{RiseFall}
 use Rattle.flat_circuit.specs.declared.instance.Instance.{Instance}
 use Rattle.flat_circuit.specs.Run.{Run}
 use Rattle.flat_circuit.proofs.RunTables.{on, bits}
+use Rattle.flat_circuit.specs.declared.limits.Limits.TheVariants.{Edges}
 use Rattle.gate_eval.proofs.PermitExamples.{signal}
 use Rattle.fixpoint_engine.proofs.WrittenRuns.{element, run_of}
 use Rattle.point_check.specs.Break.{IsHighTo}
@@ -14,7 +15,7 @@ use Rattle.point_check.proofs.Literal.{Breaks, broken, unbroken, high_to, found,
 
 -- a checker of this setup and hold, of a clock on net 0 and an input on net 1
 abbrev checker : ℕ → ℕ → Instance
-checker setup hold = element RiseFall (setup, hold) (on 0 ∷ on 1 ∷ [])
+checker setup hold = element RiseFall (Edges setup hold) (on 0 ∷ on 1 ∷ [])
 
 -- the clock and the input, tick by tick, behind wires of these delays
 abbrev behind : List ℕ → String → String → Run

@@ -7,13 +7,14 @@ use Rattle.flat_circuit.specs.declared.instance.Pin.{Pin}
 use Rattle.flat_circuit.specs.declared.instance.Instance.{Instance}
 use Rattle.flat_circuit.specs.Run.{Run}
 use Rattle.flat_circuit.proofs.RunTables.{on, not_on, bits}
+use Rattle.flat_circuit.specs.declared.limits.Limits.TheVariants.{Edges}
 use Rattle.fixpoint_engine.proofs.WrittenRuns.{element, alone, run_of}
 use Rattle.point_check.specs.Break.{BreaksInstance}
 use Rattle.point_check.proofs.Literal.{Breaks, broken, unbroken, found, no_setup_hold, nowhere}
 
 -- a checker of this setup and hold, of a clock and an input at these pins
 abbrev of_pins : List Pin → ℕ → ℕ → Instance
-of_pins pins setup hold = element SetupHold (setup, hold) pins
+of_pins pins setup hold = element SetupHold (Edges setup hold) pins
 
 abbrev checker : ℕ → ℕ → Instance
 checker setup hold = of_pins (on 0 ∷ on 1 ∷ []) setup hold

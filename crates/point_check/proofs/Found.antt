@@ -8,6 +8,7 @@ use Rattle.element_kinds.specs.declared.kind.Kind.{Kind}
 use Rattle.flat_circuit.specs.declared.fault.PointKind.{PointKind}
 use Rattle.flat_circuit.specs.declared.fault.Fault.{Fault}
 use Rattle.flat_circuit.specs.declared.fault.Fault.TheVariants.{Point}
+use Rattle.flat_circuit.specs.declared.limits.Limits.{Limits}
 use Rattle.gate_eval.proofs.Found.{first_some_at, first_some_from, first_some_beyond, first_some_nowhere}
 use Rattle.point_check.specs.declared.window.Window.{Window}
 use Rattle.point_check.specs.Window.{Folds, places, slot_at, kind_at, mover_at, first_mover, fault_at, window_fault}
@@ -73,22 +74,22 @@ falls_nowhere p clock nowhere =
 
 -- ---- all edges
 
-pub no_edge : (kind : Kind) (p k : ℕ) (clock input : Folds) (limits : ℕ × ℕ) (t : ℕ) (v : Value) → clock t ≡ v → has v false true ≡ false → None ≡ edge_fault kind p k clock input limits t
+pub no_edge : (kind : Kind) (p k : ℕ) (clock input : Folds) (limits : Limits) (t : ℕ) (v : Value) → clock t ≡ v → has v false true ≡ false → None ≡ edge_fault kind p k clock input limits t
 no_edge kind p k clock input limits t v is low =
     sym (ap (λ b. cond b (window_fault p k input t (window_of kind p clock limits t)) None) (ap (λ (u : Value). has u false true) is ∙ low))
 
-pub an_edge : (kind : Kind) (p k : ℕ) (clock input : Folds) (limits : ℕ × ℕ) (t : ℕ) (v : Value) (window : Option Window) (found : Option Fault) → clock t ≡ v → has v false true ≡ true →
+pub an_edge : (kind : Kind) (p k : ℕ) (clock input : Folds) (limits : Limits) (t : ℕ) (v : Value) (window : Option Window) (found : Option Fault) → clock t ≡ v → has v false true ≡ true →
     window ≡ window_of kind p clock limits t → found ≡ window_fault p k input t window → found ≡ edge_fault kind p k clock input limits t
 an_edge kind p k clock input limits t v window found is rises of so =
     so ∙ ap (window_fault p k input t) of
     ∙ sym (ap (λ b. cond b (window_fault p k input t (window_of kind p clock limits t)) None) (ap (λ (u : Value). has u false true) is ∙ rises))
 
-pub first_fault_here : (kind : Kind) (p k : ℕ) (clock input : Folds) (limits : ℕ × ℕ) (t : ℕ) (fault : Fault) → ((s : ℕ) → s < t → edge_fault kind p k clock input limits s ≡ None) → t < p →
+pub first_fault_here : (kind : Kind) (p k : ℕ) (clock input : Folds) (limits : Limits) (t : ℕ) (fault : Fault) → ((s : ℕ) → s < t → edge_fault kind p k clock input limits s ≡ None) → t < p →
     Some fault ≡ edge_fault kind p k clock input limits t → Some fault ≡ first_fault kind p k clock input limits
 first_fault_here kind p k clock input limits t fault before below here =
     sym (first_some_at (edge_fault kind p k clock input limits) p 0 t fault before (omega arith) (omega arith) (sym here))
 
-pub first_fault_nowhere : (kind : Kind) (p k : ℕ) (clock input : Folds) (limits : ℕ × ℕ) → ((s : ℕ) → s < p → edge_fault kind p k clock input limits s ≡ None) →
+pub first_fault_nowhere : (kind : Kind) (p k : ℕ) (clock input : Folds) (limits : Limits) → ((s : ℕ) → s < p → edge_fault kind p k clock input limits s ≡ None) →
     None ≡ first_fault kind p k clock input limits
 first_fault_nowhere kind p k clock input limits nowhere =
     sym (first_some_nowhere (edge_fault kind p k clock input limits) p 0 (λ s below. nowhere s (omega arith)))

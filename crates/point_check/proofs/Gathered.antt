@@ -15,10 +15,13 @@ use Rattle.skew_algebra.specs.Wave.{Wave, folded}
 use Rattle.element_kinds.specs.declared.kind.Kind.{Kind}
 use Rattle.element_kinds.specs.declared.kind.Kind.TheVariants.{SetupHold, RiseFall}
 use Rattle.element_kinds.specs.Kinds.{checks_points}
+use Rattle.flat_circuit.specs.Limits.{setup_of, hold_of}
 use Rattle.flat_circuit.specs.declared.instance.Instance.{Instance}
+use Rattle.flat_circuit.specs.declared.limits.Limits.TheVariants.{None as Unlimited, Edges, Pulses}
+use Rattle.flat_circuit.specs.declared.limits.Limits.{Limits}
 use Rattle.flat_circuit.specs.declared.net.Net.{Net}
 use Rattle.flat_circuit.specs.declared.fault.Fault.{Fault}
-use Rattle.flat_circuit.specs.Kind.{LimitsFit}
+use Rattle.flat_circuit.specs.Kind.{EdgesFit, LimitsFit}
 use Rattle.flat_circuit.specs.Circuit.{Circuit, IsCircuit}
 use Rattle.gate_eval.specs.Hold.{hazard}
 use Rattle.fixpoint_engine.specs.Waves.{Waves, pin_waves, marked_pin, FitWaves, waves_of}
@@ -76,18 +79,24 @@ mark_is c ws k j waves marked o found w m is e = e ∙ ap (option_map (hazard_at
 -- ---- one checker, by the folds that code has
 
 -- what a checker at edges of a clock may have as its limits
-pub points_limits : (h : Header) (kind : Kind) (l : ℕ × ℕ) → checks_points kind ≡ true → LimitsFit h kind l → l.0 + l.1 ≤ period h
-points_limits h SetupHold l checks fits = fits
-points_limits h RiseFall l checks fits = fits
+pub edges_limits : (h : Header) (l : Limits) → EdgesFit h l → setup_of l + hold_of l ≤ period h
+edges_limits h Unlimited fits = absurd fits
+edges_limits h (Edges setup hold) fits = fits
+edges_limits h (Pulses high low) fits = absurd fits
+
+pub points_limits : (h : Header) (kind : Kind) (l : Limits) → checks_points kind ≡ true → LimitsFit h kind l →
+    setup_of l + hold_of l ≤ period h
+points_limits h SetupHold l checks fits = edges_limits h l fits
+points_limits h RiseFall l checks fits = edges_limits h l fits
 points_limits h kind l checks fits = cc
 
-pub checker_is : (kind : Kind) (k : ℕ) (clock input : Wave Value) (cs xs : List Value) (limits : ℕ × ℕ) (found : Option Fault) → 0 < length clock.cells → 0 < length input.cells →
+pub checker_is : (kind : Kind) (k : ℕ) (clock input : Wave Value) (cs xs : List Value) (limits : Limits) (found : Option Fault) → 0 < length clock.cells → 0 < length input.cells →
     cs ≡ folded values clock → xs ≡ folded values input → found ≡ first_fault kind (length cs) k (read cs) (read xs) limits → found ≡ checker_fault kind (length clock.cells) k clock input limits
 unfolding checker_fault
 checker_is kind k clock input cs xs limits found some some' c_is x_is e =
     e ∙ (λ i. first_fault kind (length_folded clock cs c_is i) k (read_folded clock cs some c_is i) (read_folded input xs some' x_is i) limits)
 
-pub same_checker : (kind : Kind) (p p' k : ℕ) (clock clock' input input' : Wave Value) (limits : ℕ × ℕ) (found : Option Fault) → p ≡ p' → clock ≡ clock' → input ≡ input' →
+pub same_checker : (kind : Kind) (p p' k : ℕ) (clock clock' input input' : Wave Value) (limits : Limits) (found : Option Fault) → p ≡ p' → clock ≡ clock' → input ≡ input' →
     found ≡ checker_fault kind p k clock input limits → found ≡ checker_fault kind p' k clock' input' limits
 same_checker kind p p' k clock clock' input input' limits found pe ce xe e = e ∙ (λ i. checker_fault kind (pe i) k (ce i) (xe i) limits)
 

@@ -17,6 +17,7 @@ use Rattle.point_check.specs.declared.window.Window.{Window}
 use Rattle.point_check.specs.Window.{Folds, places, slot_at, mover_at, first_mover, fault_at, window_fault}
 use Rattle.point_check.specs.Point.{first_low, last_fall, falls_somewhere, to_last_fall, all_round, high_window_to, window_by, window_if, window_of, edge_fault, checker_fault}
 use Rattle.point_check.specs.Laws.{LongerTimesKeepFaults}
+use Rattle.flat_circuit.specs.declared.limits.Limits.TheVariants.{Edges}
 
 -- ---- windows
 
@@ -79,27 +80,27 @@ no_fault_by p some k input t (Some w) (Some wider) within none = no_window_fault
 -- ---- the windows of an edge
 
 module _ (setup hold longer_setup longer_hold : ℕ) (before : setup ≤ longer_setup) (after : hold ≤ longer_hold) where
-  fall_within : (high : Option ℕ) → AreWithin (to_last_fall (setup, hold) high) (to_last_fall (longer_setup, longer_hold) high)
+  fall_within : (high : Option ℕ) → AreWithin (to_last_fall (Edges setup hold) high) (to_last_fall (Edges longer_setup longer_hold) high)
   fall_within None = tt
   fall_within (Some high) = record { setup = before; high = refl; hold = after }
 
-  round_within : (p : ℕ) (falls : Bool) → AreWithin (all_round p (setup, hold) falls) (all_round p (longer_setup, longer_hold) falls)
+  round_within : (p : ℕ) (falls : Bool) → AreWithin (all_round p (Edges setup hold) falls) (all_round p (Edges longer_setup longer_hold) falls)
   round_within p true = record { setup = before; high = refl; hold = omega arith }
   round_within p false = tt
 
   high_within : (p : ℕ) (clock : Folds) (t : ℕ) (low : Option ℕ) →
-      AreWithin (high_window_to p clock (setup, hold) t low) (high_window_to p clock (longer_setup, longer_hold) t low)
+      AreWithin (high_window_to p clock (Edges setup hold) t low) (high_window_to p clock (Edges longer_setup longer_hold) t low)
   high_within p clock t (Some m) = fall_within (last_fall clock t m)
   high_within p clock t None = round_within p (falls_somewhere p clock)
 
   by_within : (check : Check) (p : ℕ) (clock : Folds) (t : ℕ) →
-      AreWithin (window_by check p clock (setup, hold) t) (window_by check p clock (longer_setup, longer_hold) t)
+      AreWithin (window_by check p clock (Edges setup hold) t) (window_by check p clock (Edges longer_setup longer_hold) t)
   by_within AboutRise p clock t = record { setup = before; high = refl; hold = after }
   by_within RiseToFall p clock t = high_within p clock t (first_low p clock t)
   by_within Widths p clock t = tt
 
   if_within : (check : Option Check) (p : ℕ) (clock : Folds) (t : ℕ) →
-      AreWithin (window_if check p clock (setup, hold) t) (window_if check p clock (longer_setup, longer_hold) t)
+      AreWithin (window_if check p clock (Edges setup hold) t) (window_if check p clock (Edges longer_setup longer_hold) t)
   if_within None p clock t = tt
   if_within (Some check) p clock t = by_within check p clock t
 
@@ -111,19 +112,19 @@ module _ (setup hold longer_setup longer_hold : ℕ) (before : setup ≤ longer_
   edge_either false p some k input t w wider within none = refl
 
   no_edge_fault : (kind : Kind) (p : ℕ) → 1 ≤ p → (k : ℕ) (clock input : Folds) (t : ℕ) →
-      edge_fault kind p k clock input (longer_setup, longer_hold) t ≡ None → edge_fault kind p k clock input (setup, hold) t ≡ None
+      edge_fault kind p k clock input (Edges longer_setup longer_hold) t ≡ None → edge_fault kind p k clock input (Edges setup hold) t ≡ None
   no_edge_fault kind p some k clock input t none =
       edge_either (has (clock t) false true) p some k input t
-      (window_of kind p clock (setup, hold) t) (window_of kind p clock (longer_setup, longer_hold) t)
+      (window_of kind p clock (Edges setup hold) t) (window_of kind p clock (Edges longer_setup longer_hold) t)
       (if_within (check_of kind) p clock t) none
 
   pub no_checker_fault : (kind : Kind) (p : ℕ) → 1 ≤ p → (k : ℕ) (clock input : Wave Value) →
-      checker_fault kind p k clock input (longer_setup, longer_hold) ≡ None → checker_fault kind p k clock input (setup, hold) ≡ None
+      checker_fault kind p k clock input (Edges longer_setup longer_hold) ≡ None → checker_fault kind p k clock input (Edges setup hold) ≡ None
   unfolding checker_fault
   no_checker_fault kind p some k clock input none =
-      first_some_nowhere (edge_fault kind p k (fold values clock) (fold values input) (setup, hold)) p 0 (λ t below.
+      first_some_nowhere (edge_fault kind p k (fold values clock) (fold values input) (Edges setup hold)) p 0 (λ t below.
       no_edge_fault kind p some k (fold values clock) (fold values input) t
-      (first_some_none (edge_fault kind p k (fold values clock) (fold values input) (longer_setup, longer_hold)) p 0 t none (omega arith) below))
+      (first_some_none (edge_fault kind p k (fold values clock) (fold values input) (Edges longer_setup longer_hold)) p 0 t none (omega arith) below))
 
 pub longer_times_keep_faults : LongerTimesKeepFaults
 longer_times_keep_faults c ws k j setup hold longer_setup longer_hold some before after none =

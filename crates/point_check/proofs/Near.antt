@@ -16,7 +16,9 @@ use Rattle.skew_algebra.specs.Permits.{Permits}
 use Rattle.skew_algebra.proofs.Moves.{fold_has}
 use Rattle.element_kinds.specs.declared.kind.Kind.{Kind}
 use Rattle.element_kinds.specs.declared.kind.Kind.TheVariants.{SetupHold, RiseFall}
+use Rattle.flat_circuit.specs.Limits.{setup_of, hold_of}
 use Rattle.flat_circuit.specs.declared.fault.Fault.{Fault}
+use Rattle.flat_circuit.specs.declared.limits.Limits.{Limits}
 use Rattle.gate_eval.specs.Hold.{first_some}
 use Rattle.gate_eval.proofs.Fitting.{fold_mod}
 use Rattle.gate_eval.proofs.Held.{first_some_none, map_none}
@@ -84,7 +86,7 @@ step_has p w n t v s x before after long permits at was is t1 tv tn =
     let same : fold values w s ≡ fold values w t = sym (fold_mod values p w s long) ∙ ap (fold values w) at ∙ fold_mod values p w t long in
     (λ i. has (same i) (sym was i) (sym is i)) ∙ fold_has values values_lawful w n v t x permits t1 tv tn
 
-module _ (kind : Kind) (p k : ℕ) (clock input : Wave Value) (limits : ℕ × ℕ) where
+module _ (kind : Kind) (p k : ℕ) (clock input : Wave Value) (limits : Limits) where
   if_rises : (b : Bool) (o : Option Fault) → b ≡ true → cond b o None ≡ None → o ≡ None
   if_rises true o e none = none
   if_rises false o e none = cc
@@ -106,9 +108,9 @@ module _ (kind : Kind) (p k : ℕ) (clock input : Wave Value) (limits : ℕ × �
 
 -- ---- setup and hold
 
-pub setup_hold_kept : (p k : ℕ) (clock input : Wave Value) (limits : ℕ × ℕ) (n edge change v u : ℕ) (c x : Signal) → 0 < p → length clock.cells ≡ p → length input.cells ≡ p →
+pub setup_hold_kept : (p k : ℕ) (clock input : Wave Value) (limits : Limits) (n edge change v u : ℕ) (c x : Signal) → 0 < p → length clock.cells ≡ p → length input.cells ≡ p →
     Permits values clock n c v → Permits values input n x u → checker_fault SetupHold p k clock input limits ≡ None → Rises c edge → 1 ≤ edge → v ≤ edge → edge < n →
-    1 ≤ change → u ≤ change → change < n → edge + 1 ≤ change + limits.0 → change ≤ edge + limits.1 → x (change - 1) ≡ x change
+    1 ≤ change → u ≤ change → change < n → edge + 1 ≤ change + setup_of limits → change ≤ edge + hold_of limits → x (change - 1) ≡ x change
 setup_hold_kept p k clock input limits n edge change v u c x pos long long' permits permits' none up e1 ev en c1 cu cn near far =
     still_near p k input (about limits) n edge change u x pos long' permits'
     (quiet_rise SetupHold p k clock input limits n edge v c pos long permits none up e1 ev en) near (omega arith) c1 cu cn
@@ -123,9 +125,9 @@ some_not_none : (o : Option ℕ) → is_none o ≡ false → is_some o ≡ true
 some_not_none None e = cc
 some_not_none (Some x) e = refl
 
-module _ (p k : ℕ) (clock input : Wave Value) (limits : ℕ × ℕ) (n edge fall change v u : ℕ) (c x : Signal) (pos : 0 < p) (long : length clock.cells ≡ p) (long' : length input.cells ≡ p)
+module _ (p k : ℕ) (clock input : Wave Value) (limits : Limits) (n edge fall change v u : ℕ) (c x : Signal) (pos : 0 < p) (long : length clock.cells ≡ p) (long' : length input.cells ≡ p)
     (permits : Permits values clock n c v) (permits' : Permits values input n x u) (high : IsHighTo c edge fall) (e1 : 1 ≤ edge) (ev : v ≤ edge) (fn : fall < n)
-    (c1 : 1 ≤ change) (cu : u ≤ change) (cn : change < n) (near : edge + 1 ≤ change + limits.0) (far : change ≤ fall + limits.1) where
+    (c1 : 1 ≤ change) (cu : u ≤ change) (cn : change < n) (near : edge + 1 ≤ change + setup_of limits) (far : change ≤ fall + hold_of limits) where
   ordered : edge < fall
   ordered = high.ordered
 
@@ -161,7 +163,7 @@ module _ (p k : ℕ) (clock input : Wave Value) (limits : ℕ × ℕ) (n edge fa
       let before = ordered in
       let later = last_to_later (λ j. has (fold values clock (edge % p + j)) true false) m (fall - edge) (omega (arith, before)) (omega (arith, within)) falls_then in
       let last : fall - edge ≤ later.last = later.later in
-      still_near p k input (record { setup = limits.0; high = later.last; hold = limits.1 }) n edge change u x pos long' permits'
+      still_near p k input (record { setup = setup_of limits; high = later.last; hold = hold_of limits }) n edge change u x pos long' permits'
       (ap (λ (o : Option ℕ). window_fault p k (fold values input) (edge % p) (to_last_fall limits o)) (sym later.is) ∙ none)
       near (omega (arith, last, far)) c1 cu cn
 
@@ -178,13 +180,13 @@ module _ (p k : ℕ) (clock input : Wave Value) (limits : ℕ × ℕ) (n edge fa
 
   by_round : window_fault p k (fold values input) (edge % p) (all_round p limits (falls_somewhere p (fold values clock))) ≡ None → x (change - 1) ≡ x change
   by_round none =
-      let w : Window = record { setup = limits.0; high = p; hold = 0 } in
+      let w : Window = record { setup = setup_of limits; high = p; hold = 0 } in
       let j : ℕ = back p change (edge + 1) in
       let small : back p change (edge + 1) < p = back_lt p change (edge + 1) pos in
-      still_in p input n change u (slot_at p (record { setup = limits.0; high = p; hold = 0 }) (edge % p) (limits.0 + back p change (edge + 1))) x long' permits'
-      (quiet_place p k (fold values input) (record { setup = limits.0; high = p; hold = 0 }) (edge % p) (limits.0 + back p change (edge + 1))
+      still_in p input n change u (slot_at p (record { setup = setup_of limits; high = p; hold = 0 }) (edge % p) (setup_of limits + back p change (edge + 1))) x long' permits'
+      (quiet_place p k (fold values input) (record { setup = setup_of limits; high = p; hold = 0 }) (edge % p) (setup_of limits + back p change (edge + 1))
       (ap (λ b. window_fault p k (fold values input) (edge % p) (all_round p limits b)) (sym falls_anywhere) ∙ none) (omega (arith, small)))
-      (slot_near p edge (edge + 1 + back p change (edge + 1)) (limits.0 + back p change (edge + 1)) limits.0 pos (omega arith) ∙ slot_behind p edge change pos)
+      (slot_near p edge (edge + 1 + back p change (edge + 1)) (setup_of limits + back p change (edge + 1)) (setup_of limits) pos (omega arith) ∙ slot_behind p edge change pos)
       c1 cu cn
 
   by_low : (o : Option ℕ) → first_low p (fold values clock) (edge % p) ≡ o →

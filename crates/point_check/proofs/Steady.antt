@@ -11,6 +11,7 @@ use Rattle.skew_algebra.specs.Wave.{Wave, fold, is_steady}
 use Rattle.skew_algebra.proofs.Cells.{all_at}
 use Rattle.element_kinds.specs.declared.kind.Kind.{Kind}
 use Rattle.flat_circuit.specs.declared.fault.Fault.{Fault}
+use Rattle.flat_circuit.specs.declared.limits.Limits.{Limits}
 use Rattle.point_check.specs.declared.window.Window.{Window}
 use Rattle.point_check.specs.Window.{slot_at, window_fault}
 use Rattle.point_check.specs.Point.{window_of, checker_fault}
@@ -34,7 +35,7 @@ none_anyway : (b : Bool) (o : Option Fault) → o ≡ None → cond b o None ≡
 none_anyway true o none = none
 none_anyway false o none = refl
 
-pub still_input : (kind : Kind) (p k : ℕ) (clock input : Wave Value) (limits : ℕ × ℕ) → 0 < length input.cells → is_steady values input.cells ≡ true →
+pub still_input : (kind : Kind) (p k : ℕ) (clock input : Wave Value) (limits : Limits) → 0 < length input.cells → is_steady values input.cells ≡ true →
     None ≡ checker_fault kind p k clock input limits
 unfolding checker_fault
 still_input kind p k clock input limits some steady =

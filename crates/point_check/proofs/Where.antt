@@ -19,6 +19,7 @@ use Rattle.point_check.specs.Window.{Folds, places, slot_at, mover_at, first_mov
 use Rattle.point_check.specs.Next.{IsNextEdge}
 use Rattle.point_check.specs.Point.{first_low, last_to, falls_somewhere, edge_fault}
 use Rattle.point_check.proofs.Found.{no_mover, a_mover, first_mover_here, first_mover_nowhere, stays_high, gets_low, first_low_here, first_low_nowhere, falls_here, falls_nowhere, no_edge}
+use Rattle.flat_circuit.specs.declared.limits.Limits.{Limits}
 
 -- places of a window are counted on from its first slot
 read_place : (cells : List Value) (w : Window) (t from place : ℕ) → from ≡ slot_at (length cells) w t 0 → read cells (slot_at (length cells) w t place) ≡ read cells (from + place)
@@ -100,7 +101,7 @@ module _ (cells : List Value) (period from left : ℕ) (same : period ≡ length
   is_next place within before here =
       record { after = omega arith; within = omega (arith, is, within, most, same); none = λ s above below. no_rise place s before above below; at = λ below. sym here }
 
-pub past_edges : (kind : Kind) (p k : ℕ) (clock input : Folds) (limits : ℕ × ℕ) (edge next : ℕ) → ((s : ℕ) → s < edge → edge_fault kind p k clock input limits s ≡ None) →
+pub past_edges : (kind : Kind) (p k : ℕ) (clock input : Folds) (limits : Limits) (edge next : ℕ) → ((s : ℕ) → s < edge → edge_fault kind p k clock input limits s ≡ None) →
     None ≡ edge_fault kind p k clock input limits edge → IsNextEdge clock (edge + 1) p next → (s : ℕ) → s < next → edge_fault kind p k clock input limits s ≡ None
 past_edges kind p k clock input limits edge next before here to =
     below_run (λ s. edge_fault kind p k clock input limits s ≡ None) edge next before (λ s above below. elim (cases_eq edge s) [

@@ -17,6 +17,7 @@ use Rattle.skew_algebra.specs.Wave.{Wave, fold}
 use Rattle.element_kinds.specs.declared.kind.Kind.{Kind}
 use Rattle.element_kinds.specs.Kinds.{checks_points, may_be_marked}
 use Rattle.flat_circuit.specs.declared.instance.Instance.{Instance}
+use Rattle.flat_circuit.specs.declared.limits.Limits.{Limits}
 use Rattle.flat_circuit.specs.declared.net.Net.{Net}
 use Rattle.flat_circuit.specs.declared.fault.Fault.{Fault}
 use Rattle.flat_circuit.specs.Circuit.{Circuit, IsCircuit, net_name, net_names}
@@ -52,7 +53,7 @@ window_is_of : (p k : ℕ) (input : Folds) (t : ℕ) (window : Option Window) �
 window_is_of p k input t None = tt
 window_is_of p k input t (Some w) = map_each (λ f. is_of_instance k f ≡ true) (fault_at p k input w t) (first_mover p input w t) (λ place. eq-eqb k k refl)
 
-checker_of : (kind : Kind) (p k : ℕ) (clock input : Wave Value) (limits : ℕ × ℕ) → IfSome (checker_fault kind p k clock input limits) (λ f. is_of_instance k f ≡ true)
+checker_of : (kind : Kind) (p k : ℕ) (clock input : Wave Value) (limits : Limits) → IfSome (checker_fault kind p k clock input limits) (λ f. is_of_instance k f ≡ true)
 unfolding checker_fault
 checker_of kind p k clock input limits =
     first_some_each (λ f. is_of_instance k f ≡ true) (edge_fault kind p k (fold values clock) (fold values input) limits) p 0

@@ -15,6 +15,7 @@ use Rattle.element_kinds.specs.declared.form.Check.TheVariants.{SetupHold as Abo
 use Rattle.element_kinds.specs.declared.form.Form.{Form}
 use Rattle.element_kinds.specs.declared.form.Form.TheVariants.{Gate, Change, Register, Latch as Enabled, Checker}
 use Rattle.element_kinds.specs.Kinds.{form_of, closes_of}
+use Rattle.flat_circuit.specs.Limits.{setup_of, hold_of}
 use Rattle.flat_circuit.specs.declared.instance.Pin.{Pin}
 use Rattle.flat_circuit.specs.declared.instance.Instance.{Instance}
 use Rattle.flat_circuit.specs.declared.net.Net.{Net}
@@ -48,8 +49,8 @@ pub record IsSetupHoldBreak (run : Run) (j : Instance) (choice : Choice) (start 
   pub change_in : StepsFrom run choice 1 start change
   pub rises : Rises (pin_at run j choice 0) edge
   pub changes : Changes (pin_at run j choice 1) change
-  pub not_before : edge + 1 ≤ change + j.limits.0
-  pub not_after : change ≤ edge + j.limits.1
+  pub not_before : edge + 1 ≤ change + setup_of j.limits
+  pub not_after : change ≤ edge + hold_of j.limits
 
 pub record BreaksSetupHold (run : Run) (j : Instance) (choice : Choice) (start : ℕ) : Type 0 where
   pub edge : ℕ
@@ -65,8 +66,8 @@ pub record IsRiseFallBreak (run : Run) (j : Instance) (choice : Choice)
   pub change_in : StepsFrom run choice 1 start change
   pub is_high : IsHighTo (pin_at run j choice 0) edge fall
   pub changes : Changes (pin_at run j choice 1) change
-  pub not_before : edge + 1 ≤ change + j.limits.0
-  pub not_after : change ≤ fall + j.limits.1
+  pub not_before : edge + 1 ≤ change + setup_of j.limits
+  pub not_after : change ≤ fall + hold_of j.limits
 
 pub record BreaksRiseFall (run : Run) (j : Instance) (choice : Choice) (start : ℕ) : Type 0 where
   pub edge : ℕ

@@ -6,6 +6,7 @@ use Rattle.scald_base.specs.Time.{period}
 use Rattle.element_kinds.specs.declared.kind.Kind.{Kind}
 use Rattle.element_kinds.specs.Kinds.{checks_points, may_be_marked}
 use Rattle.flat_circuit.specs.declared.instance.Instance.{Instance}
+use Rattle.flat_circuit.specs.declared.limits.Limits.{Limits}
 use Rattle.flat_circuit.specs.declared.net.Net.{Net}
 use Rattle.flat_circuit.specs.declared.fault.Fault.{Fault}
 use Rattle.flat_circuit.specs.declared.fault.Fault.TheVariants.{Point, Width, Hazard, Assertion}
@@ -24,15 +25,15 @@ IsPointChecker None = ⊥
 IsPointChecker (Some j) = checks_points j.kind ≡ true
 
 -- the fault of checker k with these limits, by the waves at its clock and its input
-abbrev pub limited_fault : Circuit → Waves → ℕ → Instance → ℕ × ℕ → Option Fault
+abbrev pub limited_fault : Circuit → Waves → ℕ → Instance → Limits → Option Fault
 limited_fault c ws k j limits =
     checker_fault j.kind (period c.header) k (wave_of_pin (pin_waves c ws j) 0) (wave_of_pin (pin_waves c ws j) 1) limits
 
-abbrev pub limited_fault_of : Circuit → Waves → ℕ → ℕ × ℕ → Option Instance → Option Fault
+abbrev pub limited_fault_of : Circuit → Waves → ℕ → Limits → Option Instance → Option Fault
 limited_fault_of c ws k limits None = None
 limited_fault_of c ws k limits (Some j) = limited_fault c ws k j limits
 
-abbrev pub limited_fault_at : Circuit → Waves → ℕ → ℕ × ℕ → Option Fault
+abbrev pub limited_fault_at : Circuit → Waves → ℕ → Limits → Option Fault
 limited_fault_at c ws k limits = limited_fault_of c ws k limits (slice_get c.instances k)
 
 abbrev pub hazard_at : ℕ → ℕ × ℕ → Fault

@@ -8,7 +8,9 @@ use Rattle.element_kinds.specs.declared.kind.Kind.{Kind}
 use Rattle.element_kinds.specs.declared.form.Check.{Check}
 use Rattle.element_kinds.specs.declared.form.Check.TheVariants.{SetupHold as AboutRise, RiseFall as RiseToFall, MinPulse as Widths}
 use Rattle.element_kinds.specs.Kinds.{check_of}
+use Rattle.flat_circuit.specs.Limits.{setup_of, hold_of}
 use Rattle.flat_circuit.specs.declared.fault.Fault.{Fault}
+use Rattle.flat_circuit.specs.declared.limits.Limits.{Limits}
 use Rattle.gate_eval.specs.Hold.{first_some}
 use Rattle.point_check.specs.declared.window.Window.{Window}
 use Rattle.point_check.specs.Window.{Folds, window_fault}
@@ -35,51 +37,53 @@ falls_somewhere p clock = is_some (first_some (λ s. if has (clock s) true false
 -- ---- windows
 
 -- before the edge, and after it, so many ticks
-abbrev pub about : ℕ × ℕ → Window
-about limits = record { setup = limits.0; high = 0; hold = limits.1 }
+abbrev pub about : Limits → Window
+about limits = record { setup = setup_of limits; high = 0; hold = hold_of limits }
 
 -- from before the rise to after the last fall; none where no fall comes
-abbrev pub to_last_fall : ℕ × ℕ → Option ℕ → Option Window
+abbrev pub to_last_fall : Limits → Option ℕ → Option Window
 to_last_fall limits None = None
-to_last_fall limits (Some high) = Some (record { setup = limits.0; high = high; hold = limits.1 })
+to_last_fall limits (Some high) =
+    Some (record { setup = setup_of limits; high = high; hold = hold_of limits })
 
 -- The clock may stay at 1 in every slot: then every slot is of the window, if a fall may come at all.
-abbrev pub all_round : ℕ → ℕ × ℕ → Bool → Option Window
-all_round p limits falls = if falls then Some (record { setup = limits.0; high = p; hold = 0 }) else None
+abbrev pub all_round : ℕ → Limits → Bool → Option Window
+all_round p limits falls =
+    if falls then Some (record { setup = setup_of limits; high = p; hold = 0 }) else None
 
-abbrev pub high_window_to : ℕ → Folds → ℕ × ℕ → ℕ → Option ℕ → Option Window
+abbrev pub high_window_to : ℕ → Folds → Limits → ℕ → Option ℕ → Option Window
 high_window_to p clock limits t (Some m) = to_last_fall limits (last_fall clock t m)
 high_window_to p clock limits t None = all_round p limits (falls_somewhere p clock)
 
-abbrev pub high_window : ℕ → Folds → ℕ × ℕ → ℕ → Option Window
+abbrev pub high_window : ℕ → Folds → Limits → ℕ → Option Window
 high_window p clock limits t = high_window_to p clock limits t (first_low p clock t)
 
 -- the window of a rise at slot t, by what a checker with these limits checks
-abbrev pub window_by : Check → ℕ → Folds → ℕ × ℕ → ℕ → Option Window
+abbrev pub window_by : Check → ℕ → Folds → Limits → ℕ → Option Window
 window_by AboutRise p clock limits t = Some (about limits)
 window_by RiseToFall p clock limits t = high_window p clock limits t
 window_by Widths p clock limits t = None
 
 -- that of what is checked, if anything is
-abbrev pub window_if : Option Check → ℕ → Folds → ℕ × ℕ → ℕ → Option Window
+abbrev pub window_if : Option Check → ℕ → Folds → Limits → ℕ → Option Window
 window_if None p clock limits t = None
 window_if (Some check) p clock limits t = window_by check p clock limits t
 
 -- the window of a rise at slot t, for a checker of each kind with these limits
-abbrev pub window_of : Kind → ℕ → Folds → ℕ × ℕ → ℕ → Option Window
+abbrev pub window_of : Kind → ℕ → Folds → Limits → ℕ → Option Window
 window_of kind p clock limits t = window_if (check_of kind) p clock limits t
 
 -- ---- the fault
 
 -- what an edge at slot t makes, where the clock may rise there
-abbrev pub edge_fault : Kind → ℕ → ℕ → Folds → Folds → ℕ × ℕ → ℕ → Option Fault
+abbrev pub edge_fault : Kind → ℕ → ℕ → Folds → Folds → Limits → ℕ → Option Fault
 edge_fault kind p k clock input limits t =
     if has (clock t) false true then window_fault p k input t (window_of kind p clock limits t) else None
 
 -- the first
-abbrev pub first_fault : Kind → ℕ → ℕ → Folds → Folds → ℕ × ℕ → Option Fault
+abbrev pub first_fault : Kind → ℕ → ℕ → Folds → Folds → Limits → Option Fault
 first_fault kind p k clock input limits = first_some (edge_fault kind p k clock input limits) p 0
 
 -- the fault of checker k, of this kind and with these limits, in a period of p slots, by the waves at its clock and its input
-unfoldable pub checker_fault : Kind → ℕ → ℕ → Wave Value → Wave Value → ℕ × ℕ → Option Fault
+unfoldable pub checker_fault : Kind → ℕ → ℕ → Wave Value → Wave Value → Limits → Option Fault
 checker_fault kind p k clock input limits = first_fault kind p k (fold values clock) (fold values input) limits

@@ -3,6 +3,7 @@
 ghost use Rattle.std.specs.Prelude.{◌≡◌, ◌+◌, ◌≤◌, IfOk, length, slice_get, true};
 ghost use Rattle.scald_base.specs.Time.{period};
 ghost use Rattle.flat_circuit.specs.Instances.{InstanceFits, PinExists};
+ghost use Rattle.flat_circuit.specs.Limits.{hold_of, setup_of};
 ghost use Rattle.fixpoint_engine.specs.Waves.{FitWaves, waves_of, pin_wave as wave_shown};
 ghost use Rattle.point_check.specs.Point.{checker_fault as fault_of_checker};
 ghost use Rattle.element_kinds.specs.Kinds.{checks_points};
@@ -13,7 +14,7 @@ use crate::folds::LastFold;
 use crate::last_check::Constraint;
 use crate::recent::Recent;
 use fixpoint_engine::{Waves, pin_wave};
-use flat_circuit::{Circuit, Fault, Instance, Pin};
+use flat_circuit::{Circuit, Fault, Instance, Limits, Pin};
 use scald_base::NoMemory;
 use skew_algebra::Skewed;
 use std::alloc::Global;
@@ -28,7 +29,7 @@ fn fault_between<W: CyclicWave<Item = Value>>(
     clock: &Skewed<W>,
     input: &Skewed<W>,
 ) -> Result<Option<Fault>, NoMemory>
-    requires limits { asked.limits.0 + asked.limits.1 ≤ length clock.now.cells }
+    requires limits { setup_of asked.limits + hold_of asked.limits ≤ length clock.now.cells }
     requires periods { length input.now.cells ≡ length clock.now.cells }
     ensures { IfOk result (λ found. found ≡ fault_of_checker asked.kind (length clock.now.cells)
         asked.instance clock.now input.now asked.limits) }
@@ -60,7 +61,7 @@ fn checker_fault<W: CyclicWave<Item = Value>>(
 ) -> Result<Option<Fault>, NoMemory>
     requires clock { PinExists (length c.now.nets) clock }
     requires input { PinExists (length c.now.nets) input }
-    requires limits { asked.limits.0 + asked.limits.1 ≤ period c.now.header }
+    requires limits { setup_of asked.limits + hold_of asked.limits ≤ period c.now.header }
     requires fit { FitWaves c.now waves.now }
     ensures { let ws = waves_of waves.now in
         IfOk result (λ found. found ≡ fault_of_checker asked.kind (period c.now.header)
@@ -85,7 +86,7 @@ fn fault_once<W: CyclicWave<Item = Value>>(
 ) -> Result<Option<Fault>, NoMemory>
     requires clock { PinExists (length c.now.nets) clock }
     requires input { PinExists (length c.now.nets) input }
-    requires limits { asked.limits.0 + asked.limits.1 ≤ period c.now.header }
+    requires limits { setup_of asked.limits + hold_of asked.limits ≤ period c.now.header }
     requires fit { FitWaves c.now waves.now }
     ensures { let ws = waves_of waves.now in
         IfOk result (λ found. found ≡ fault_of_checker asked.kind (period c.now.header)
@@ -109,11 +110,11 @@ pub fn limited_fault<W: CyclicWave<Item = Value>>(
     waves: &Waves<W>,
     number: u32,
     checker: &Instance,
-    limits: (u16, u16),
+    limits: Limits,
 ) -> Result<Option<Fault>, NoMemory>
     requires checker { checks_points checker.now.kind ≡ true }
     requires fits { InstanceFits c.now.header (length c.now.nets) checker.now }
-    requires limits { limits.0 + limits.1 ≤ period c.now.header }
+    requires limits { setup_of limits + hold_of limits ≤ period c.now.header }
     requires fit { FitWaves c.now waves.now }
     ensures { let ws = waves_of waves.now in
         IfOk result (λ found. found ≡ fault_with c.now ws number checker.now limits) }
@@ -139,10 +140,10 @@ pub fn point_fault<W: CyclicWave<Item = Value>>(
     c: &Circuit,
     waves: &Waves<W>,
     instance: u32,
-    limits: (u16, u16),
+    limits: Limits,
 ) -> Result<Option<Fault>, NoMemory>
     requires checker { IsPointChecker (slice_get c.now.instances instance) }
-    requires limits { limits.0 + limits.1 ≤ period c.now.header }
+    requires limits { setup_of limits + hold_of limits ≤ period c.now.header }
     requires fit { FitWaves c.now waves.now }
     ensures { let ws = waves_of waves.now in
         IfOk result (λ found. found ≡ limited_fault_at c.now ws instance limits) }

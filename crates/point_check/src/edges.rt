@@ -1,6 +1,7 @@
 //! What an input does about the edges of a clock.
 
 ghost use Rattle.std.specs.Prelude.{◌≡◌, ◌+◌, ◌*◌, ◌^◌, ◌<◌, ◌≤◌, IfSome, length};
+ghost use Rattle.flat_circuit.specs.Limits.{hold_of, setup_of};
 ghost use Rattle.fixpoint_engine.specs.Pins.{read};
 ghost use Rattle.point_check.specs.Window.{kind_at as kind_of_place, slot_at as slot_of_place, window_fault as fault_of_window};
 ghost use Rattle.point_check.specs.Point.{edge_fault as fault_of_edge, falls_somewhere as falls, first_fault as fault_of_edges, first_low as low_after, high_window as window_of_rise, last_fall as fall_before, window_by as window_by_check, window_of as window_by_kind, all_round as window_all_round};
@@ -9,7 +10,7 @@ ghost use Rattle.point_check.specs.Next.{IsNextEdge};
 
 use crate::window::Window;
 use element_kinds::Check;
-use flat_circuit::{Fault, Kind, PointKind};
+use flat_circuit::{Fault, Kind, Limits, PointKind};
 use step_values::{Step, Value};
 use wave_core::{Cell, CyclicWave, first_where};
 
@@ -107,8 +108,8 @@ fn last_fall<W: CyclicWave<Item = Value>>(clock: &W, edge: u16, low: u16) -> Opt
 }
 
 /// The window where the clock may stay at 1 for ever: the whole period, or none where it can not fall.
-fn all_round<W: CyclicWave<Item = Value>>(clock: &W, limits: (u16, u16)) -> Option<Window>
-    requires { limits.0 + limits.1 ≤ length (W.cells clock.now) }
+fn all_round<W: CyclicWave<Item = Value>>(clock: &W, limits: Limits) -> Option<Window>
+    requires { setup_of limits + hold_of limits ≤ length (W.cells clock.now) }
     ensures window { result ≡ window_all_round (length (W.cells clock.now))
         limits (falls (length (W.cells clock.now)) (read (W.cells clock.now))) }
     ensures fits { IfSome result (WindowFits (length (W.cells clock.now))) }
@@ -117,7 +118,7 @@ fn all_round<W: CyclicWave<Item = Value>>(clock: &W, limits: (u16, u16)) -> Opti
     match first_where(clock, 0, period, |value| value.may_fall()) {
         None => None,
         Some(_fall) => Some(Window {
-            setup: limits.0,
+            setup: limits.setup(),
             high: period,
             hold: 0,
         }),
@@ -128,20 +129,20 @@ fn all_round<W: CyclicWave<Item = Value>>(clock: &W, limits: (u16, u16)) -> Opti
 /// for ever, and no window where it can not fall.
 fn high_window<W: CyclicWave<Item = Value>>(
     clock: &W,
-    limits: (u16, u16),
+    limits: Limits,
     edge: u16,
 ) -> Option<Window>
     requires edge { edge < length (W.cells clock.now) }
-    requires limits { limits.0 + limits.1 ≤ length (W.cells clock.now) }
+    requires limits { setup_of limits + hold_of limits ≤ length (W.cells clock.now) }
     ensures window { result ≡ window_of_rise (length (W.cells clock.now)) (read (W.cells clock.now)) limits edge }
     ensures fits { IfSome result (WindowFits (length (W.cells clock.now))) }
 {
     match first_low(clock, edge) {
         Some(low) => match last_fall(clock, edge, low) {
             Some(high) => Some(Window {
-                setup: limits.0,
+                setup: limits.setup(),
                 high,
-                hold: limits.1,
+                hold: limits.hold(),
             }),
             None => None,
         },
@@ -153,20 +154,20 @@ fn high_window<W: CyclicWave<Item = Value>>(
 fn window_by<W: CyclicWave<Item = Value>>(
     check: Check,
     clock: &W,
-    limits: (u16, u16),
+    limits: Limits,
     edge: u16,
 ) -> Option<Window>
     requires edge { edge < length (W.cells clock.now) }
-    requires limits { limits.0 + limits.1 ≤ length (W.cells clock.now) }
+    requires limits { setup_of limits + hold_of limits ≤ length (W.cells clock.now) }
     ensures window { result ≡ window_by_check check
         (length (W.cells clock.now)) (read (W.cells clock.now)) limits edge }
     ensures fits { IfSome result (WindowFits (length (W.cells clock.now))) }
 {
     match check {
         Check::SetupHold => Some(Window {
-            setup: limits.0,
+            setup: limits.setup(),
             high: 0,
-            hold: limits.1,
+            hold: limits.hold(),
         }),
         Check::RiseFall => high_window(clock, limits, edge),
         Check::MinPulse => None,
@@ -177,11 +178,11 @@ fn window_by<W: CyclicWave<Item = Value>>(
 fn window_of<W: CyclicWave<Item = Value>>(
     kind: Kind,
     clock: &W,
-    limits: (u16, u16),
+    limits: Limits,
     edge: u16,
 ) -> Option<Window>
     requires edge { edge < length (W.cells clock.now) }
-    requires limits { limits.0 + limits.1 ≤ length (W.cells clock.now) }
+    requires limits { setup_of limits + hold_of limits ≤ length (W.cells clock.now) }
     ensures window { result ≡ window_by_kind kind (length (W.cells clock.now)) (read (W.cells clock.now)) limits edge }
     ensures fits { IfSome result (WindowFits (length (W.cells clock.now))) }
 {
@@ -197,11 +198,11 @@ fn edge_fault<W: CyclicWave<Item = Value>>(
     instance: u32,
     clock: &W,
     input: &W,
-    limits: (u16, u16),
+    limits: Limits,
     edge: u16,
 ) -> Option<Fault>
     requires edge { edge < length (W.cells clock.now) }
-    requires limits { limits.0 + limits.1 ≤ length (W.cells clock.now) }
+    requires limits { setup_of limits + hold_of limits ≤ length (W.cells clock.now) }
     requires periods { length (W.cells input.now) ≡ length (W.cells clock.now) }
     ensures { result ≡ fault_of_edge kind (length (W.cells clock.now))
         instance (read (W.cells clock.now)) (read (W.cells input.now)) limits edge }
@@ -236,9 +237,9 @@ pub fn first_fault<W: CyclicWave<Item = Value>>(
     instance: u32,
     clock: &W,
     input: &W,
-    limits: (u16, u16),
+    limits: Limits,
 ) -> Option<Fault>
-    requires limits { limits.0 + limits.1 ≤ length (W.cells clock.now) }
+    requires limits { setup_of limits + hold_of limits ≤ length (W.cells clock.now) }
     requires periods { length (W.cells input.now) ≡ length (W.cells clock.now) }
     ensures { result ≡ fault_of_edges kind (length (W.cells clock.now))
         instance (read (W.cells clock.now)) (read (W.cells input.now)) limits }

@@ -11,20 +11,19 @@ ghost use Rattle.point_check.specs.Point.{checker_fault as fault_of_checker};
 ghost use Rattle.point_check.specs.Again.{Shows, of_instance as fault_for};
 
 use fixpoint_engine::{Waves, wire_behind};
-use flat_circuit::{Circuit, Fault, Kind, Pin, Target};
+use flat_circuit::{Circuit, Fault, Kind, Limits, Pin, Target};
 use scald_base::{Delay, NoMemory};
 use skew_algebra::Skewed;
 use std::alloc::Global;
 use step_values::Value;
 use wave_core::CyclicWave;
 
-/// What a checker asks of its input: by its kind and its number, and its setup and hold times, in
-/// ticks.
+/// What a checker asks of its input: by its kind and its number, and its setup and hold times.
 #[derive(Clone, Copy, Drop)]
 pub struct Constraint {
     pub kind: Kind,
     pub instance: u32,
-    pub limits: (u16, u16),
+    pub limits: Limits,
 }
 
 /// The wave of the net that a pin is on, with the bounds of the wire that leads from there, in ticks,
@@ -153,8 +152,7 @@ impl<W: CyclicWave<Item = Value>> Checked<W> {
         requires input { PinExists (length c.now.nets) input }
         requires fit { FitWaves c.now waves.now }
         ensures kind { IsTrue result → self.now.asked.kind ≡ asked.kind }
-        ensures setup { IsTrue result → self.now.asked.limits.0 ≡ asked.limits.0 }
-        ensures hold { IsTrue result → self.now.asked.limits.1 ≡ asked.limits.1 }
+        ensures limits { IsTrue result → self.now.asked.limits ≡ asked.limits }
         ensures clock { IsTrue result → Shows c.now (waves_of waves.now)
             self.now.clock.wave self.now.clock.wire self.now.clock.inverted clock }
         ensures input { IsTrue result → Shows c.now (waves_of waves.now)
@@ -163,7 +161,7 @@ impl<W: CyclicWave<Item = Value>> Checked<W> {
         if self.asked.kind != asked.kind {
             return false;
         }
-        if self.asked.limits.0 != asked.limits.0 || self.asked.limits.1 != asked.limits.1 {
+        if self.asked.limits != asked.limits {
             return false;
         }
         self.clock.is_of(c, waves, clock) && self.input.is_of(c, waves, input)

@@ -3,6 +3,7 @@ use Rattle.std.proofs.Common.{◌≡◌, ℕ, ◌<◌, true, false, List, [], �
 use Rattle.scald_base.specs.Time.{period}
 use Rattle.element_kinds.specs.declared.kind.Kind.{Kind}
 use Rattle.element_kinds.specs.declared.kind.Kind.TheVariants.{MinPulse}
+use Rattle.flat_circuit.specs.Limits.{high_of, low_of}
 use Rattle.flat_circuit.specs.declared.instance.Pin.{Pin}
 use Rattle.flat_circuit.specs.declared.instance.Instance.{Instance}
 use Rattle.flat_circuit.specs.Kind.{PinsFit}
@@ -29,7 +30,7 @@ same_first c ws vs j ps d checks fits same is =
     by (q ∷ qs) some is = same_pin c ws vs q is
 
 same_kind : (kind : Kind) (c : Circuit) (ws vs : Waves) (k : ℕ) (j : Instance) → pin_of c ws j ≡ pin_of c vs j → faults_by_kind kind c ws k j ≡ faults_by_kind kind c vs k j
-same_kind MinPulse c ws vs k j same = λ i. listed (width_fault (period c.header) k (same i) true j.limits.0) ++ listed (width_fault (period c.header) k (same i) false j.limits.1)
+same_kind MinPulse c ws vs k j same = λ i. listed (width_fault (period c.header) k (same i) true (high_of j.limits)) ++ listed (width_fault (period c.header) k (same i) false (low_of j.limits))
 same_kind kind c ws vs k j same = refl
 
 pub same_instance : (c : Circuit) (ws vs : Waves) (k : ℕ) (j : Instance) → Some j ≡ slice_get c.instances k → pin_of c ws j ≡ pin_of c vs j → instance_faults c ws k ≡ instance_faults c vs k

@@ -7,6 +7,7 @@ use Rattle.scald_base.specs.declared.assertion.ClockSpec.{ClockSpec}
 use Rattle.scald_base.specs.declared.assertion.AssertSpec.TheVariants.{Precision}
 use Rattle.element_kinds.specs.declared.kind.Kind.TheVariants.{MinPulse}
 use Rattle.flat_circuit.specs.declared.instance.Instance.{Instance}
+use Rattle.flat_circuit.specs.declared.limits.Limits.TheVariants.{Pulses}
 use Rattle.flat_circuit.specs.declared.net.Net.{Net}
 use Rattle.flat_circuit.specs.Circuit.{Circuit}
 use Rattle.flat_circuit.specs.Run.{Run, IsRun}
@@ -35,7 +36,7 @@ net =
     }
 
 abbrev pub checker : Instance
-checker = element MinPulse (3, 7) (on 0 ∷ [])
+checker = element MinPulse (Pulses 3 7) (on 0 ∷ [])
 
 abbrev pub circuit : Circuit
 circuit = record { header = header; nets = net ∷ []; instances = checker ∷ []; order = 0 ∷ [] }

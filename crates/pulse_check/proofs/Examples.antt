@@ -11,6 +11,8 @@ use Rattle.flat_circuit.specs.declared.fault.Fault.{Fault}
 use Rattle.flat_circuit.specs.declared.fault.Fault.TheVariants.{Point, Width, Hazard, Assertion}
 use Rattle.flat_circuit.specs.declared.fault.PointKind.TheVariants.{Setup}
 use Rattle.element_kinds.specs.declared.kind.Kind.TheVariants.{MinPulse}
+use Rattle.flat_circuit.specs.declared.limits.Limits.TheVariants.{Pulses}
+use Rattle.flat_circuit.specs.declared.limits.Limits.{Limits}
 use Rattle.flat_circuit.specs.declared.net.Net.{Net}
 use Rattle.flat_circuit.specs.Circuit.{Circuit}
 use Rattle.flat_circuit.proofs.RunTables.{on}
@@ -89,18 +91,18 @@ no_width_asked = refl
 abbrev net : Net
 net = record { name = []; bit = 0; spec = Unasserted; wire = record { min = 0; max = 0 }; driver = None }
 
-abbrev measured : ℕ × ℕ → Circuit
+abbrev measured : Limits → Circuit
 measured limits = record (alone (element MinPulse limits (on 0 ∷ []))) { nets = net ∷ [] }
 
-both_levels : instance_faults (measured (3, 7)) (λ i. pulse) 0 ≡ Width 0 true 2 2 ∷ Width 0 false 4 6 ∷ []
+both_levels : instance_faults (measured (Pulses 3 7)) (λ i. pulse) 0 ≡ Width 0 true 2 2 ∷ Width 0 false 4 6 ∷ []
 unfolding instance_faults width_fault moved normal back earlier
 both_levels = refl
 
-high_alone : instance_faults (measured (3, 6)) (λ i. pulse) 0 ≡ Width 0 true 2 2 ∷ []
+high_alone : instance_faults (measured (Pulses 3 6)) (λ i. pulse) 0 ≡ Width 0 true 2 2 ∷ []
 unfolding instance_faults width_fault moved normal back earlier
 high_alone = refl
 
-low_alone : instance_faults (measured (2, 7)) (λ i. pulse) 0 ≡ Width 0 false 4 6 ∷ []
+low_alone : instance_faults (measured (Pulses 2 7)) (λ i. pulse) 0 ≡ Width 0 false 4 6 ∷ []
 unfolding instance_faults width_fault moved normal back earlier
 low_alone = refl
 

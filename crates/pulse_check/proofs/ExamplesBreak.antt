@@ -6,6 +6,7 @@ use Rattle.element_kinds.specs.declared.kind.Kind.TheVariants.{Buf, And, Or, Xor
 use Rattle.flat_circuit.specs.declared.instance.Instance.{Instance}
 use Rattle.flat_circuit.specs.Run.{Run}
 use Rattle.flat_circuit.proofs.RunTables.{on, not_on, bits}
+use Rattle.flat_circuit.specs.declared.limits.Limits.TheVariants.{Pulses}
 use Rattle.gate_eval.proofs.PermitExamples.{signal}
 use Rattle.fixpoint_engine.proofs.WrittenRuns.{alone, element, run_of}
 use Rattle.pulse_check.specs.Break.{IsPulse, BreaksPulse}
@@ -13,7 +14,7 @@ use Rattle.pulse_check.proofs.Literal.{Breaks, broken, unbroken, found, pulse_to
 
 -- a checker of high pulses of this least width, and low ones of that
 abbrev checker : ℕ → ℕ → Instance
-checker high low = element MinPulse (high, low) (on 0 ∷ [])
+checker high low = element MinPulse (Pulses high low) (on 0 ∷ [])
 
 -- the net, tick by tick, behind a wire of this delay
 abbrev behind : ℕ → String → Run
@@ -127,10 +128,10 @@ late_but_early =
     unbroken (no_width 3 5 refl (pulse_to 3 5 (omega arith) refl refl refl)
     (λ at. omega (arith, at.start_in.after)))
 
-complemented : Breaks (element MinPulse (3, 0) (not_on 0 ∷ [])) (run "11100111") true 0
+complemented : Breaks (element MinPulse (Pulses 3 0) (not_on 0 ∷ [])) (run "11100111") true 0
 complemented = broken record { start = 3; end = 5; at = search found }
 
-complemented_low : ¬ Breaks (element MinPulse (8, 8) (not_on 0 ∷ [])) (run "11100000") false 0
+complemented_low : ¬ Breaks (element MinPulse (Pulses 8 8) (not_on 0 ∷ [])) (run "11100000") false 0
 complemented_low = unbroken (no_step refl)
 
 -- ---- a glitch ends the pulse: this signal is high from 3 to 4 and from 5 to 7
@@ -155,16 +156,16 @@ narrow_by_a_glitch = broken record { start = 3; end = 4; at = search found }
 
 -- ---- other instances have no widths, and a missing one has none
 
-not_of_buf : ¬ Breaks (element Buf (8, 8) (on 0 ∷ [])) (run "00011000") true 0
+not_of_buf : ¬ Breaks (element Buf (Pulses 8 8) (on 0 ∷ [])) (run "00011000") true 0
 not_of_buf = unbroken (λ b. b)
 
-not_of_and : ¬ Breaks (element And (8, 8) (on 0 ∷ [])) (run "00011000") true 0
+not_of_and : ¬ Breaks (element And (Pulses 8 8) (on 0 ∷ [])) (run "00011000") true 0
 not_of_and = unbroken (λ b. b)
 
-not_of_or : ¬ Breaks (element Or (8, 8) (on 0 ∷ [])) (run "00011000") true 0
+not_of_or : ¬ Breaks (element Or (Pulses 8 8) (on 0 ∷ [])) (run "00011000") true 0
 not_of_or = unbroken (λ b. b)
 
-not_of_xor : ¬ Breaks (element Xor (8, 8) (on 0 ∷ [])) (run "00011000") true 0
+not_of_xor : ¬ Breaks (element Xor (Pulses 8 8) (on 0 ∷ [])) (run "00011000") true 0
 not_of_xor = unbroken (λ b. b)
 
 not_of_mux2 : ¬ Breaks (element Mux2 (8, 8) (on 0 ∷ [])) (run "00011000") true 0
@@ -176,25 +177,25 @@ not_of_mux4 = unbroken (λ b. b)
 not_of_mux8 : ¬ Breaks (element Mux8 (8, 8) (on 0 ∷ [])) (run "00011000") true 0
 not_of_mux8 = unbroken (λ b. b)
 
-not_of_chg : ¬ Breaks (element Chg (8, 8) (on 0 ∷ [])) (run "00011000") true 0
+not_of_chg : ¬ Breaks (element Chg (Pulses 8 8) (on 0 ∷ [])) (run "00011000") true 0
 not_of_chg = unbroken (λ b. b)
 
-not_of_reg : ¬ Breaks (element Reg (8, 8) (on 0 ∷ [])) (run "00011000") true 0
+not_of_reg : ¬ Breaks (element Reg (Pulses 8 8) (on 0 ∷ [])) (run "00011000") true 0
 not_of_reg = unbroken (λ b. b)
 
-not_of_regrs : ¬ Breaks (element RegRs (8, 8) (on 0 ∷ [])) (run "00011000") true 0
+not_of_regrs : ¬ Breaks (element RegRs (Pulses 8 8) (on 0 ∷ [])) (run "00011000") true 0
 not_of_regrs = unbroken (λ b. b)
 
-not_of_latch : ¬ Breaks (element Latch (8, 8) (on 0 ∷ [])) (run "00011000") true 0
+not_of_latch : ¬ Breaks (element Latch (Pulses 8 8) (on 0 ∷ [])) (run "00011000") true 0
 not_of_latch = unbroken (λ b. b)
 
-not_of_latchrs : ¬ Breaks (element LatchRs (8, 8) (on 0 ∷ [])) (run "00011000") true 0
+not_of_latchrs : ¬ Breaks (element LatchRs (Pulses 8 8) (on 0 ∷ [])) (run "00011000") true 0
 not_of_latchrs = unbroken (λ b. b)
 
-not_of_setuphold : ¬ Breaks (element SetupHold (8, 8) (on 0 ∷ [])) (run "00011000") true 0
+not_of_setuphold : ¬ Breaks (element SetupHold (Pulses 8 8) (on 0 ∷ [])) (run "00011000") true 0
 not_of_setuphold = unbroken (λ b. b)
 
-not_of_risefall : ¬ Breaks (element RiseFall (8, 8) (on 0 ∷ [])) (run "00011000") true 0
+not_of_risefall : ¬ Breaks (element RiseFall (Pulses 8 8) (on 0 ∷ [])) (run "00011000") true 0
 not_of_risefall = unbroken (λ b. b)
 
 not_of_a_missing_one : ¬ BreaksPulse (alone (checker 8 8)) (run "00011000") 1 true 0

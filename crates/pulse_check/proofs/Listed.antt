@@ -9,6 +9,7 @@ use Rattle.scald_base.specs.Time.{period}
 use Rattle.skew_algebra.specs.Wave.{Wave}
 use Rattle.step_values.specs.declared.value.Value.{Value}
 use Rattle.element_kinds.specs.declared.kind.Kind.TheVariants.{MinPulse}
+use Rattle.flat_circuit.specs.Limits.{high_of, low_of}
 use Rattle.flat_circuit.specs.declared.instance.Instance.{Instance}
 use Rattle.flat_circuit.specs.declared.fault.Fault.{Fault}
 use Rattle.flat_circuit.specs.Circuit.{Circuit}
@@ -45,8 +46,8 @@ either test xs ys none =
 -- of both levels
 pub none_of_checker : (c : Circuit) (ws : Waves) (k : ℕ) (j : Instance) (level : Bool) → list_any (is_of_pulse k level) (faults_by_kind MinPulse c ws k j) ≡ false →
     list_any (is_of_pulse k level) (listed (limited_fault c ws k j level (limit_of j level))) ≡ false
-none_of_checker c ws k j true none = (either (is_of_pulse k true) (listed (limited_fault c ws k j true j.limits.0)) (listed (limited_fault c ws k j false j.limits.1)) none).0
-none_of_checker c ws k j false none = (either (is_of_pulse k false) (listed (limited_fault c ws k j true j.limits.0)) (listed (limited_fault c ws k j false j.limits.1)) none).1
+none_of_checker c ws k j true none = (either (is_of_pulse k true) (listed (limited_fault c ws k j true (high_of j.limits))) (listed (limited_fault c ws k j false (low_of j.limits))) none).0
+none_of_checker c ws k j false none = (either (is_of_pulse k false) (listed (limited_fault c ws k j true (high_of j.limits))) (listed (limited_fault c ws k j false (low_of j.limits))) none).1
 
 none_at : (find : ℕ → List Fault) (test : Fault → Bool) (xs : List ℕ) (place d x : ℕ) →
     place < length xs → get_or xs place d ≡ x → list_any test (flat_map find xs) ≡ false → list_any test (find x) ≡ false

@@ -4,6 +4,7 @@ use Rattle.std.specs.Prelude.{◌≡◌, ℕ, ◌+◌, ◌-◌, ◌<◌, ◌≤�
 use Rattle.scald_base.specs.Signal.{Signal}
 use Rattle.element_kinds.specs.declared.kind.Kind.{Kind}
 use Rattle.element_kinds.specs.Kinds.{checks_pulses}
+use Rattle.flat_circuit.specs.Limits.{high_of, low_of}
 use Rattle.flat_circuit.specs.declared.instance.Instance.{Instance}
 use Rattle.flat_circuit.specs.Circuit.{Circuit}
 use Rattle.flat_circuit.specs.Run.{Run, Choice}
@@ -18,8 +19,8 @@ pub record IsPulse (x : Signal) (level : Bool) (start end : ℕ) : Type 0 where
 
 -- the least width that a checker asks for: of high pulses, or of low ones
 abbrev pub limit_of : Instance → Bool → ℕ
-limit_of j true = j.limits.0
-limit_of j false = j.limits.1
+limit_of j true = high_of j.limits
+limit_of j false = low_of j.limits
 
 -- A pulse at the level, from one tick to another, is narrower than the checker asks for.
 pub record IsWidthBreak (run : Run) (j : Instance) (choice : Choice) (level : Bool)

@@ -7,6 +7,7 @@ use Rattle.skew_algebra.specs.Wave.{Wave}
 use Rattle.step_values.specs.declared.value.Value.{Value}
 use Rattle.element_kinds.specs.declared.kind.Kind.{Kind}
 use Rattle.element_kinds.specs.Kinds.{checks_pulses}
+use Rattle.flat_circuit.specs.Limits.{high_of, low_of}
 use Rattle.flat_circuit.specs.declared.instance.Instance.{Instance}
 use Rattle.flat_circuit.specs.declared.fault.Fault.{Fault}
 use Rattle.flat_circuit.specs.declared.fault.Fault.TheVariants.{Width}
@@ -46,9 +47,10 @@ abbrev pub listed : Option Fault → List Fault
 listed None = []
 listed (Some fault) = fault ∷ []
 
--- Those of a checker that measures pulses. The limit of high pulses is the first of its two.
+-- Those of a checker that measures pulses.
 abbrev pub faults_by : Bool → Circuit → Waves → ℕ → Instance → List Fault
-faults_by true c ws k j = listed (limited_fault c ws k j true j.limits.0) ++ listed (limited_fault c ws k j false j.limits.1)
+faults_by true c ws k j =
+    listed (limited_fault c ws k j true (high_of j.limits)) ++ listed (limited_fault c ws k j false (low_of j.limits))
 faults_by false c ws k j = []
 
 abbrev pub faults_by_kind : Kind → Circuit → Waves → ℕ → Instance → List Fault

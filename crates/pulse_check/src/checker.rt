@@ -96,10 +96,10 @@ pub fn add_checker_faults<W: CyclicWave<Item = Value>>(
         (faults.new ≡ faults.old ++ faults_by_kind checker.now.kind c.now (waves_of waves.now) number checker.now) }
 {
     let wave = checked_wave(alloc, c, waves, checker)?;
-    if let Some(fault) = fault_in(&wave, number, true, checker.limits.0) {
+    if let Some(fault) = fault_in(&wave, number, true, checker.limits.high()) {
         faults.push(fault)?;
     }
-    if let Some(fault) = fault_in(&wave, number, false, checker.limits.1) {
+    if let Some(fault) = fault_in(&wave, number, false, checker.limits.low()) {
         faults.push(fault)?;
     }
     Ok(())

@@ -16,6 +16,7 @@ use Rattle.step_values.specs.Steps.{has}
 use Rattle.wave_core.specs.Slots.{earlier}
 use Rattle.skew_algebra.specs.Wave.{normal}
 use Rattle.element_kinds.specs.declared.kind.Kind.TheVariants.{Reg, SetupHold}
+use Rattle.flat_circuit.specs.declared.limits.Limits.TheVariants.{Edges}
 use Rattle.flat_circuit.specs.declared.net.Net.{Net}
 use Rattle.flat_circuit.specs.Circuit.{Circuit}
 use Rattle.flat_circuit.specs.Run.{Run, IsRun, net_signal}
@@ -59,7 +60,7 @@ second = record {
   nets = net "/CK" (clock 2) None ∷ net "/A" still None ∷ net "/B" still (Some 0) ∷ net "/K" (clock 5) None ∷ [];
   instances =
       element Reg (bounds 5 15) (on 0 ∷ on 1 ∷ []) 2
-      ∷ record (checker SetupHold (on 3 ∷ on 1 ∷ [])) { limits = (20, 5) } ∷ [];
+      ∷ record (checker SetupHold (on 3 ∷ on 1 ∷ [])) { limits = Edges 20 5 } ∷ [];
   order = 1 ∷ 2 ∷ 0 ∷ 3 ∷ [];
 }
 

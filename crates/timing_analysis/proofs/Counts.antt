@@ -5,6 +5,7 @@ use Rattle.std.specs.List.{cons_option, flat_map, range_with_len}
 use Rattle.std.proofs.lemmas.List.{length-map}
 use Rattle.std.proofs.lemmas.List.FromFn.{length-range_with_len}
 use Rattle.std.proofs.lemmas.List.Sorted.{length_permutation}
+use Rattle.flat_circuit.specs.Limits.{high_of, low_of}
 use Rattle.flat_circuit.specs.declared.fault.Fault.{Fault}
 use Rattle.element_kinds.specs.declared.kind.Kind.{Kind}
 use Rattle.element_kinds.specs.declared.kind.Kind.TheVariants.{MinPulse}
@@ -32,9 +33,9 @@ two_at_most : (kind : Kind) (c : Circuit) (ws : Waves) (k : ℕ) (j : Instance) 
 two_at_most MinPulse c ws k j =
     omega (
       arith,
-      length-append (listed (limited_fault c ws k j true j.limits.0)) (listed (limited_fault c ws k j false j.limits.1)),
-      length_listed (limited_fault c ws k j true j.limits.0),
-      length_listed (limited_fault c ws k j false j.limits.1),
+      length-append (listed (limited_fault c ws k j true (high_of j.limits))) (listed (limited_fault c ws k j false (low_of j.limits))),
+      length_listed (limited_fault c ws k j true (high_of j.limits)),
+      length_listed (limited_fault c ws k j false (low_of j.limits)),
     )
 two_at_most kind c ws k j = omega arith
 

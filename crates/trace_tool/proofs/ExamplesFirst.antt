@@ -12,6 +12,7 @@ use Rattle.flat_circuit.specs.declared.instance.Instance.{Instance}
 use Rattle.flat_circuit.specs.Circuit.{Circuit}
 use Rattle.flat_circuit.specs.Run.{Choice as Chosen}
 use Rattle.flat_circuit.proofs.RunTables.{bits, checker, circuit, late, on}
+use Rattle.flat_circuit.specs.declared.limits.Limits.TheVariants.{Pulses}
 use Rattle.trace_sim.specs.Choice.{Bits}
 use Rattle.trace_sim.specs.Simulated.{run_of}
 use Rattle.trace_tool.specs.declared.element.Element.TheVariants.{Instance as OfInstance}
@@ -22,7 +23,7 @@ use Rattle.trace_tool.proofs.Soonest.{breaks_by, has_soonest}
 
 -- a checker of the pulses of a net, which are to be so wide where they are high
 abbrev pulses_of : ℕ → ℕ → Instance
-pulses_of net wide = record (checker MinPulse (on net ∷ [])) { limits = (wide, 0) }
+pulses_of net wide = record (checker MinPulse (on net ∷ [])) { limits = Pulses wide 0 }
 
 -- no net drives another, and none has a place in name order
 abbrev checked : List Instance → Circuit

@@ -17,6 +17,8 @@ use Rattle.element_kinds.specs.declared.form.Check.{Check}
 use Rattle.element_kinds.specs.declared.form.Check.TheVariants.{SetupHold as AboutRise, RiseFall as RiseToFall}
 use Rattle.flat_circuit.specs.declared.instance.Instance.{Instance}
 use Rattle.flat_circuit.proofs.RunTables.{bits, bounds, checker, element, input, on}
+use Rattle.flat_circuit.specs.declared.limits.Limits.TheVariants.{Edges, Pulses}
+use Rattle.flat_circuit.specs.declared.limits.Limits.{Limits}
 use Rattle.trace_sim.specs.Choice.{Bits}
 use Rattle.trace_tool.specs.Pass.{AssertionEnds, LetsThrough, MarkEnds, begins, pulse_ends, shown, window_ends}
 
@@ -24,7 +26,7 @@ abbrev six : List ℕ
 six = 0 ∷ 1 ∷ 2 ∷ 3 ∷ 4 ∷ 5 ∷ []
 
 -- a checker with these limits, its clock on net 0 and its input on net 1
-abbrev checking : Kind → ℕ × ℕ → Instance
+abbrev checking : Kind → Limits → Instance
 checking kind limits = record (checker kind (on 0 ∷ on 1 ∷ [])) { limits = limits }
 
 abbrev straight : List ℕ
@@ -38,10 +40,10 @@ windows check i wires from bits =
 -- ---- setup and hold
 
 abbrev setup : ℕ → Instance
-setup ticks = checking SetupHold (ticks, 0)
+setup ticks = checking SetupHold (Edges ticks 0)
 
 abbrev hold : ℕ → Instance
-hold ticks = checking SetupHold (0, ticks)
+hold ticks = checking SetupHold (Edges 0 ticks)
 
 -- the clock rises at 3, and the input changes at 2
 abbrev before_the_rise : Bits
@@ -89,7 +91,7 @@ late_clock_in_time = refl
 
 -- ---- from a rise to a fall
 
-abbrev high : ℕ × ℕ → Instance
+abbrev high : Limits → Instance
 high limits = checking RiseFall limits
 
 -- the clock is 1 at ticks 2 and 3
@@ -97,48 +99,48 @@ abbrev pulse_with : List Bool → Bits
 pulse_with input = bits "001100" ∷ input ∷ []
 
 -- the break ends with the fall, which it names
-changes_while_high : windows RiseToFall (high (0, 0)) straight 0 (pulse_with (bits "000111")) ≡ bits "000010"
+changes_while_high : windows RiseToFall (high (Edges 0 0)) straight 0 (pulse_with (bits "000111")) ≡ bits "000010"
 changes_while_high = refl
 
-changes_after_fall : windows RiseToFall (high (0, 1)) straight 0 (pulse_with (bits "000001")) ≡ bits "000001"
+changes_after_fall : windows RiseToFall (high (Edges 0 1)) straight 0 (pulse_with (bits "000001")) ≡ bits "000001"
 changes_after_fall = refl
 
-held_long_enough : windows RiseToFall (high (0, 0)) straight 0 (pulse_with (bits "000001")) ≡ bits "000000"
+held_long_enough : windows RiseToFall (high (Edges 0 0)) straight 0 (pulse_with (bits "000001")) ≡ bits "000000"
 held_long_enough = refl
 
-changes_before_high : windows RiseToFall (high (2, 0)) straight 0 (pulse_with (bits "011111")) ≡ bits "000010"
+changes_before_high : windows RiseToFall (high (Edges 2 0)) straight 0 (pulse_with (bits "011111")) ≡ bits "000010"
 changes_before_high = refl
 
-set_up_in_time : windows RiseToFall (high (1, 0)) straight 0 (pulse_with (bits "011111")) ≡ bits "000000"
+set_up_in_time : windows RiseToFall (high (Edges 1 0)) straight 0 (pulse_with (bits "011111")) ≡ bits "000000"
 set_up_in_time = refl
 
 -- a rise without a fall opens none
-never_falls : windows RiseToFall (high (2, 2)) straight 0 (bits "001111" ∷ bits "000101" ∷ []) ≡ bits "000000"
+never_falls : windows RiseToFall (high (Edges 2 2)) straight 0 (bits "001111" ∷ bits "000101" ∷ []) ≡ bits "000000"
 never_falls = refl
 
 -- ---- widths
 
-abbrev width : ℕ × ℕ → ℕ → Bits → List Bool
+abbrev width : Limits → ℕ → Bits → List Bool
 width limits from bits = map (pulse_ends limits (begins from (0 ∷ []) 0) (shown bits (checking MinPulse limits) (0 ∷ []) 0)) six
 
 abbrev clock : Bits
 clock = bits "010001" ∷ bits "000000" ∷ []
 
-too_narrow : width (2, 0) 0 clock ≡ bits "001000"
+too_narrow : width (Pulses 2 0) 0 clock ≡ bits "001000"
 too_narrow = refl
 
-wide_enough : width (1, 0) 0 clock ≡ bits "000000"
+wide_enough : width (Pulses 1 0) 0 clock ≡ bits "000000"
 wide_enough = refl
 
 -- the low pulse from 2 to 5
-too_narrow_low : width (0, 4) 0 clock ≡ bits "000001"
+too_narrow_low : width (Pulses 0 4) 0 clock ≡ bits "000001"
 too_narrow_low = refl
 
-wide_enough_low : width (0, 3) 0 clock ≡ bits "000000"
+wide_enough_low : width (Pulses 0 3) 0 clock ≡ bits "000000"
 wide_enough_low = refl
 
 -- it names tick 1 too
-named_too_soon : width (2, 0) 2 clock ≡ bits "000000"
+named_too_soon : width (Pulses 2 0) 2 clock ≡ bits "000000"
 named_too_soon = refl
 
 -- ---- marks

@@ -8,6 +8,7 @@ use Rattle.vector_names.specs.declared.bits.Target.{Target}
 use Rattle.vector_names.specs.declared.bits.Target.TheVariants.{Net as OnNet, Constant}
 use Rattle.element_kinds.specs.declared.kind.Kind.{Kind}
 use Rattle.element_kinds.specs.declared.kind.Kind.TheVariants.{And, Chg, MinPulse, Reg}
+use Rattle.flat_circuit.specs.declared.limits.Limits.TheVariants.{None as Unlimited}
 use Rattle.flat_circuit.specs.declared.split.Split.{Split}
 use Rattle.flat_circuit.specs.declared.instance.Pin.{Pin}
 use Rattle.flat_circuit.specs.declared.instance.Instance.{Instance}
@@ -36,7 +37,7 @@ made label kind split pins out =
       kind = kind;
       delay = bounds 0 9;
       split = split;
-      limits = (0, 0);
+      limits = Unlimited;
       pins = pins;
       out = out;
       out_inverted = false;

@@ -10,6 +10,8 @@ use Rattle.pulse_check.specs.Break.{IsPulse}
 use Rattle.trace_tool.specs.Pass.{breaks_hold, breaks_setup, last_close, last_step, narrow, opened, opened_by, pulse_ends, step_at, steps, width_limit, window_ends}
 use Rattle.trace_tool.proofs.Last.{last_at, has_last}
 use Rattle.trace_tool.proofs.Pulses.{StepsTo, as_high, as_pulse, begins_at, counts_at, from_start, not_not, pulse_between, step_is, steps_at, steps_to, to_end}
+use Rattle.flat_circuit.specs.Limits.{setup_of, hold_of}
+use Rattle.flat_circuit.specs.declared.limits.Limits.{Limits}
 
 -- ---- the edges about which an input is to stay
 
@@ -67,17 +69,17 @@ in_order Widths begin x opens close w = absurd w
 -- ---- breaks
 
 -- The input changes after the setup time begins and before the hold time ends, all before a tick.
-pub record IsBroken (check : Check) (limits : ℕ × ℕ) (begin : ℕ) (x : Signal) (input : ℕ) (y : Signal)
+pub record IsBroken (check : Check) (limits : Limits) (begin : ℕ) (x : Signal) (input : ℕ) (y : Signal)
     (opens close change n : ℕ) : Type 0 where
   pub window : IsWindow check begin x opens close
   pub counts : input ≤ change
   pub changes : Changes y change
-  pub not_before : opens + 1 ≤ change + limits.0
-  pub not_after : change ≤ close + limits.1
+  pub not_before : opens + 1 ≤ change + setup_of limits
+  pub not_after : change ≤ close + hold_of limits
   pub closes : close < n
   pub ends : change < n
 
-pub record WindowBreak (check : Check) (limits : ℕ × ℕ) (begin : ℕ) (x : Signal) (input : ℕ) (y : Signal)
+pub record WindowBreak (check : Check) (limits : Limits) (begin : ℕ) (x : Signal) (input : ℕ) (y : Signal)
     (n : ℕ) : Type 0 where
   pub opens : ℕ
   pub close : ℕ
@@ -128,11 +130,11 @@ is_opened : (o : Option ℕ) → is_some o ≡ true → (opens : ℕ) × (o ≡ 
 is_opened None e = absurd (cc)
 is_opened (Some opens) e = (opens, refl)
 
-module _ (check : Check) (limits : ℕ × ℕ) (begin : ℕ) (x : Signal) (input : ℕ) (y : Signal) where
+module _ (check : Check) (limits : Limits) (begin : ℕ) (x : Signal) (input : ℕ) (y : Signal) where
   abbrev pub Test : ℕ → Bool
   Test t = window_ends check limits begin x input y t
 
-  setup_broken : (t : ℕ) → IsLate (opened check begin x t) (last_step input y (t + 1)) limits.0 →
+  setup_broken : (t : ℕ) → IsLate (opened check begin x t) (last_step input y (t + 1)) (setup_of limits) →
       WindowBreak check limits begin x input y (t + 1)
   setup_broken t l =
       let window = window_at check begin x l.opens t l.edge_is in
@@ -154,7 +156,7 @@ module _ (check : Check) (limits : ℕ × ℕ) (begin : ℕ) (x : Signal) (input
         };
       }
 
-  hold_broken : (t : ℕ) → IsEarly (steps input y t) (last_close check begin x t) limits.1 t →
+  hold_broken : (t : ℕ) → IsEarly (steps input y t) (last_close check begin x t) (hold_of limits) t →
       WindowBreak check limits begin x input y (t + 1)
   hold_broken t e =
       let last = last_at (λ u. is_some (opened check begin x u)) t e.close e.edge_is in
@@ -180,11 +182,11 @@ module _ (check : Check) (limits : ℕ × ℕ) (begin : ℕ) (x : Signal) (input
 
   pub broken_at : (t : ℕ) → Test t ≡ true → WindowBreak check limits begin x input y (t + 1)
   broken_at t e =
-      let late = breaks_setup (opened check begin x t) (last_step input y (t + 1)) limits.0 in
-      let early = breaks_hold (steps input y t) (last_close check begin x t) limits.1 t in
+      let late = breaks_setup (opened check begin x t) (last_step input y (t + 1)) (setup_of limits) in
+      let early = breaks_hold (steps input y t) (last_close check begin x t) (hold_of limits) t in
       elim (or_cases late early e) as (λ _. WindowBreak check limits begin x input y (t + 1)) [
-        | inl l ↦ setup_broken t (is_late (opened check begin x t) (last_step input y (t + 1)) limits.0 l)
-        | inr h ↦ hold_broken t (is_early (steps input y t) (last_close check begin x t) limits.1 t h)
+        | inl l ↦ setup_broken t (is_late (opened check begin x t) (last_step input y (t + 1)) (setup_of limits) l)
+        | inr h ↦ hold_broken t (is_early (steps input y t) (last_close check begin x t) (hold_of limits) t h)
       ]
 
   -- the second edge comes at or after the change
@@ -196,10 +198,10 @@ module _ (check : Check) (limits : ℕ × ℕ) (begin : ℕ) (x : Signal) (input
       let opener = opened_at check begin x opens close b.window in
       let late = found.no_sooner in
       let early = b.not_before in
-      or_left (breaks_setup (opened check begin x close) (last_step input y (close + 1)) limits.0)
-      (breaks_hold (steps input y close) (last_close check begin x close) limits.1 close)
-      (ap (λ o. breaks_setup o (last_step input y (close + 1)) limits.0) opener
-      ∙ ap (λ l. breaks_setup (Some opens) l limits.0) found.is ∙ le-leb (opens + 1) (found.last + limits.0) (omega arith))
+      or_left (breaks_setup (opened check begin x close) (last_step input y (close + 1)) (setup_of limits))
+      (breaks_hold (steps input y close) (last_close check begin x close) (hold_of limits) close)
+      (ap (λ o. breaks_setup o (last_step input y (close + 1)) (setup_of limits)) opener
+      ∙ ap (λ l. breaks_setup (Some opens) l (setup_of limits)) found.is ∙ le-leb (opens + 1) (found.last + setup_of limits) (omega arith))
 
   -- the change comes after it
   at_change : (opens close change n : ℕ) → IsBroken check limits begin x input y opens close change n → close < change →
@@ -210,10 +212,10 @@ module _ (check : Check) (limits : ℕ × ℕ) (begin : ℕ) (x : Signal) (input
       let step = steps_at input y change (record { counts = b.counts; changes = b.changes }) in
       let late = found.no_sooner in
       let early = b.not_after in
-      or_right (breaks_setup (opened check begin x change) (last_step input y (change + 1)) limits.0)
-      (breaks_hold (steps input y change) (last_close check begin x change) limits.1 change)
-      (ap (λ s. breaks_hold s (last_close check begin x change) limits.1 change) step
-      ∙ ap (λ l. breaks_hold true l limits.1 change) found.is ∙ le-leb change (found.last + limits.1) (omega arith))
+      or_right (breaks_setup (opened check begin x change) (last_step input y (change + 1)) (setup_of limits))
+      (breaks_hold (steps input y change) (last_close check begin x change) (hold_of limits) change)
+      (ap (λ s. breaks_hold s (last_close check begin x change) (hold_of limits) change) step
+      ∙ ap (λ l. breaks_hold true l (hold_of limits) change) found.is ∙ le-leb change (found.last + hold_of limits) (omega arith))
 
   pub window_end : (n : ℕ) → WindowBreak check limits begin x input y n → Ends Test n
   window_end n w = elim (cases_lt w.close w.change) as (λ _. Ends Test n) [
@@ -224,26 +226,26 @@ module _ (check : Check) (limits : ℕ × ℕ) (begin : ℕ) (x : Signal) (input
 -- ---- widths
 
 -- A pulse at some level is narrower than is asked for, and ends before a tick.
-pub record IsNarrow (limits : ℕ × ℕ) (begin : ℕ) (x : Signal) (level : Bool) (start end n : ℕ) : Type 0 where
+pub record IsNarrow (limits : Limits) (begin : ℕ) (x : Signal) (level : Bool) (start end n : ℕ) : Type 0 where
   pub counts : begin ≤ start
   pub is_pulse : IsPulse x level start end
   pub narrow : end < start + width_limit limits level
   pub ends : end < n
 
-pub record PulseBreak (limits : ℕ × ℕ) (begin : ℕ) (x : Signal) (n : ℕ) : Type 0 where
+pub record PulseBreak (limits : Limits) (begin : ℕ) (x : Signal) (n : ℕ) : Type 0 where
   pub level : Bool
   pub start : ℕ
   pub end : ℕ
   pub at : IsNarrow limits begin x level start end n
 
-record IsShort (limits : ℕ × ℕ) (step : Option Bool) (last : Option ℕ) (t : ℕ) : Type 0 where
+record IsShort (limits : Limits) (step : Option Bool) (last : Option ℕ) (t : ℕ) : Type 0 where
   bit : Bool
   start : ℕ
   step_is : step ≡ Some bit
   last_is : last ≡ Some start
   short : t < start + width_limit limits (not bit)
 
-is_short : (limits : ℕ × ℕ) (step : Option Bool) (last : Option ℕ) (t : ℕ) → narrow limits step last t ≡ true →
+is_short : (limits : Limits) (step : Option Bool) (last : Option ℕ) (t : ℕ) → narrow limits step last t ≡ true →
     IsShort limits step last t
 is_short limits None last t e = absurd (cc)
 is_short limits (Some bit) None t e = absurd (cc)
@@ -255,7 +257,7 @@ is_short limits (Some bit) (Some start) t e = record {
   short = ltb-true t (start + width_limit limits (not bit)) e;
 }
 
-pub narrow_at : (limits : ℕ × ℕ) (begin : ℕ) (x : Signal) (t : ℕ) → pulse_ends limits begin x t ≡ true →
+pub narrow_at : (limits : Limits) (begin : ℕ) (x : Signal) (t : ℕ) → pulse_ends limits begin x t ≡ true →
     PulseBreak limits begin x (t + 1)
 narrow_at limits begin x t e =
     let s = is_short limits (step_at begin x t) (last_step begin x t) t e in
@@ -273,7 +275,7 @@ narrow_at limits begin x t e =
       };
     }
 
-pub pulse_end : (limits : ℕ × ℕ) (begin : ℕ) (x : Signal) (n : ℕ) → PulseBreak limits begin x n →
+pub pulse_end : (limits : Limits) (begin : ℕ) (x : Signal) (n : ℕ) → PulseBreak limits begin x n →
     Ends (pulse_ends limits begin x) n
 pulse_end limits begin x n p =
     let b = p.at in
@@ -291,7 +293,7 @@ pulse_end limits begin x n p =
 
 -- ---- longer parts of a run
 
-pub longer_window : (check : Check) (limits : ℕ × ℕ) (begin : ℕ) (x : Signal) (input : ℕ) (y : Signal) (m n : ℕ) → m ≤ n →
+pub longer_window : (check : Check) (limits : Limits) (begin : ℕ) (x : Signal) (input : ℕ) (y : Signal) (m n : ℕ) → m ≤ n →
     WindowBreak check limits begin x input y m → WindowBreak check limits begin x input y n
 longer_window check limits begin x input y m n long w =
     let b = w.at in
@@ -312,7 +314,7 @@ longer_window check limits begin x input y m n long w =
       };
     }
 
-pub longer_pulse : (limits : ℕ × ℕ) (begin : ℕ) (x : Signal) (m n : ℕ) → m ≤ n → PulseBreak limits begin x m →
+pub longer_pulse : (limits : Limits) (begin : ℕ) (x : Signal) (m n : ℕ) → m ≤ n → PulseBreak limits begin x m →
     PulseBreak limits begin x n
 longer_pulse limits begin x m n long p =
     let b = p.at in

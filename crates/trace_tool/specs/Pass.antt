@@ -11,7 +11,9 @@ use Rattle.element_kinds.specs.declared.form.Form.{Form}
 use Rattle.element_kinds.specs.declared.form.Form.TheVariants.{Gate, Change, Register, Latch as Enabled, Checker}
 use Rattle.element_kinds.specs.Equation.{nth_signal}
 use Rattle.element_kinds.specs.Kinds.{closes_of, form_of}
+use Rattle.flat_circuit.specs.Limits.{setup_of, hold_of, high_of, low_of}
 use Rattle.flat_circuit.specs.declared.instance.Instance.{Instance}
+use Rattle.flat_circuit.specs.declared.limits.Limits.{Limits}
 use Rattle.flat_circuit.specs.declared.net.Net.{Net}
 use Rattle.flat_circuit.specs.Name.{net_at}
 use Rattle.flat_circuit.specs.Circuit.{Circuit}
@@ -93,23 +95,23 @@ abbrev pub breaks_hold : Bool → Option ℕ → ℕ → ℕ → Bool
 breaks_hold true (Some edge) hold t = nat_le t (edge + hold)
 breaks_hold changes edge hold t = false
 
-abbrev pub window_ends : Check → ℕ × ℕ → ℕ → Signal → ℕ → Signal → ℕ → Bool
+abbrev pub window_ends : Check → Limits → ℕ → Signal → ℕ → Signal → ℕ → Bool
 window_ends check limits begin x input y t =
-    breaks_setup (opened check begin x t) (last_step input y (t + 1)) limits.0
-    || breaks_hold (steps input y t) (last_close check begin x t) limits.1 t
+    breaks_setup (opened check begin x t) (last_step input y (t + 1)) (setup_of limits)
+    || breaks_hold (steps input y t) (last_close check begin x t) (hold_of limits) t
 
 -- ---- widths
 
-abbrev pub width_limit : ℕ × ℕ → Bool → ℕ
-width_limit limits true = limits.0
-width_limit limits false = limits.1
+abbrev pub width_limit : Limits → Bool → ℕ
+width_limit limits true = high_of limits
+width_limit limits false = low_of limits
 
 -- the pin steps from a level at this tick, and came to it too late
-abbrev pub narrow : ℕ × ℕ → Option Bool → Option ℕ → ℕ → Bool
+abbrev pub narrow : Limits → Option Bool → Option ℕ → ℕ → Bool
 narrow limits (Some bit) (Some start) t = nat_lt t (start + width_limit limits (not bit))
 narrow limits step last t = false
 
-abbrev pub pulse_ends : ℕ × ℕ → ℕ → Signal → ℕ → Bool
+abbrev pub pulse_ends : Limits → ℕ → Signal → ℕ → Bool
 pulse_ends limits begin x t = narrow limits (step_at begin x t) (last_step begin x t) t
 
 -- ---- marks

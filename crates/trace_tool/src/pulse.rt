@@ -4,17 +4,17 @@ ghost use Rattle.std.specs.Prelude.{◌≡◌};
 ghost use Rattle.trace_tool.specs.Pass.{FindsFirst, PulseEnds, narrow as is_narrow, width_limit as limit_at};
 
 use crate::step::{begin, latest, step_at};
-use flat_circuit::Instance;
+use flat_circuit::{Instance, Limits};
 use trace_sim::Levels;
 
-fn width_limit(limits: (u16, u16), level: bool) -> u16
+fn width_limit(limits: Limits, level: bool) -> u16
     ensures { result ≡ limit_at limits level }
 {
-    if level { limits.0 } else { limits.1 }
+    if level { limits.high() } else { limits.low() }
 }
 
 // Whether the step ends a pulse that is too narrow, which the last step before it began.
-fn narrow(limits: (u16, u16), step: Option<bool>, last: Option<u16>, t: u16) -> bool
+fn narrow(limits: Limits, step: Option<bool>, last: Option<u16>, t: u16) -> bool
     ensures { result ≡ is_narrow limits step last t }
 {
     match (step, last) {

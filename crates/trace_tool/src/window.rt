@@ -1,11 +1,12 @@
 //! Inputs that are to stay about the edges of a clock.
 
 ghost use Rattle.std.specs.Prelude.{◌≡◌, ◌||◌};
+ghost use Rattle.flat_circuit.specs.Limits.{hold_of, setup_of};
 ghost use Rattle.trace_tool.specs.Pass.{FindsFirst, WindowEnds, breaks_hold as breaks_hold_time, breaks_setup as breaks_setup_time, opened_by as first_edge};
 
 use crate::step::{begin, latest, step_at};
 use element_kinds::Check;
-use flat_circuit::Instance;
+use flat_circuit::{Instance, Limits};
 use trace_sim::Levels;
 
 // The first of the two edges about which the input is to stay, where the second comes at this tick:
@@ -42,7 +43,7 @@ fn breaks_hold(changes: bool, edge: Option<u16>, hold: u16, t: u16) -> bool
 
 // Whether a break ends at a tick, by the edges and the changes that are named.
 fn breaks(
-    limits: (u16, u16),
+    limits: Limits,
     edge: Option<u16>,
     change: Option<u16>,
     close: Option<u16>,
@@ -50,9 +51,9 @@ fn breaks(
     t: u16,
 ) -> bool
     ensures { result
-        ≡ (breaks_setup_time edge change limits.0 || breaks_hold_time changes close limits.1 t) }
+        ≡ (breaks_setup_time edge change (setup_of limits) || breaks_hold_time changes close (hold_of limits) t) }
 {
-    breaks_setup(edge, change, limits.0) || breaks_hold(changes, close, limits.1, t)
+    breaks_setup(edge, change, limits.setup()) || breaks_hold(changes, close, limits.hold(), t)
 }
 
 /// The first tick that ends a break of a setup or hold time, from a tick on. What matters before it

@@ -12,5 +12,5 @@ returns-in-Some-found g c =
     ap Some c.for_instance.ensures ∙ sym (ap (option_map (of_instance c.args.asked.instance)) c.in-Some-found.is)
     ∙ found_is c.args.c.now (waves_of c.args.waves.now) c.args.clock c.args.input kept.clock.wave kept.input.wave
     kept.clock.wire kept.input.wire kept.clock.inverted kept.input.inverted kept.found (again.clock refl) (again.input refl)
-    kept.asked.kind c.args.asked.kind c.args.asked.instance kept.asked.limits c.args.asked.limits (again.kind refl) (again.setup refl) (again.hold refl)
+    kept.asked.kind c.args.asked.kind c.args.asked.instance kept.asked.limits c.args.asked.limits (again.kind refl) (again.limits refl)
     kept.is
