@@ -238,74 +238,102 @@ placed_constant begin name value = record {
   name_place = name.place;
 }
 
+-- a text's drawing, by its header, its constants and the values of what follows them
+abbrev pub sketch_from : (v : Edition) → WrittenHeader → PlacedConstants → Values (from_macros v) →
+    Sketch
+sketch_from v header consts (macros, (name, (body, (cases, _)))) =
+    record {
+      header = header;
+      consts = consts;
+      macros = macros;
+      name = name.text;
+      body = body;
+      cases = cases;
+    }
+
 -- What a choice stands for: its first token, and the values of what follows.
 abbrev pub choice_value : {p : Part} (c : Choice p) (n : ℕ) → Lexeme → Values (following c n) → Meaning p
 choice_value g.number n t v = e.Number (number_of t)
 choice_value g.parameter n t v = e.Param t.text
-choice_value g.negated n t v = e.Negate v.0
-choice_value g.bracketed n t v = v.0
-choice_value g.times n t v = λ left. v.1.0 (binary op.Mul left v.0)
-choice_value g.divided n t v = λ left. v.1.0 (binary op.Div left v.0)
-choice_value g.plus n t v = λ left. v.1.0 (binary op.Add left v.0)
-choice_value g.less n t v = λ left. v.1.0 (binary op.Sub left v.0)
-choice_value g.equal n t v = λ left. binary op.Eq left v.0
-choice_value g.unequal n t v = λ left. binary op.Ne left v.0
-choice_value g.below n t v = λ left. binary (less_or v.0) left v.1.0
-choice_value g.above n t v = λ left. binary (greater_or v.0) left v.1.0
+choice_value g.negated n t (operand, _) = e.Negate operand
+choice_value g.bracketed n t (inner, _) = inner
+choice_value g.times n t (right, (more, _)) = λ left. more (binary op.Mul left right)
+choice_value g.divided n t (right, (more, _)) = λ left. more (binary op.Div left right)
+choice_value g.plus n t (right, (more, _)) = λ left. more (binary op.Add left right)
+choice_value g.less n t (right, (more, _)) = λ left. more (binary op.Sub left right)
+choice_value g.equal n t (right, _) = λ left. binary op.Eq left right
+choice_value g.unequal n t (right, _) = λ left. binary op.Ne left right
+choice_value g.below n t (or_equal, (right, _)) = λ left. binary (less_or or_equal) left right
+choice_value g.above n t (or_equal, (right, _)) = λ left. binary (greater_or or_equal) left right
 choice_value g.or_equal n t v = true
-choice_value g.range n t v = Some (record { first = v.0; last = v.1.0 })
-choice_value g.last n t v = Some v.0
-choice_value g.parameters n t v = v.0
-choice_value g.assign n t v = record { item = record { name = t.text; value = v.0 }; place = t.place }
-choice_value g.next_assign n t v = with_item v.0 v.1.0
-choice_value g.formal n t v = record { item = record { base = (signal_of t).base; range = v.0 }; place = t.place }
-choice_value g.next_formal n t v = with_item v.0 v.1.0
-choice_value g.formal_outputs n t v = v.0
-choice_value g.delay n t v = record { delay = Some (v.0, v.1.0); fall = v.1.1.0 }
-choice_value g.fall n t v = Some (v.0, v.1.0)
-choice_value g.complement n t v = placed_term true v.0 t
+choice_value g.range n t (first, (last, _)) = Some (record { first = first; last = last })
+choice_value g.last n t (last, _) = Some last
+choice_value g.parameters n t (assigns, _) = assigns
+choice_value g.assign n t (value, _) =
+    record { item = record { name = t.text; value = value }; place = t.place }
+choice_value g.next_assign n t (assign, (more, _)) = with_item assign more
+choice_value g.formal n t (range, _) =
+    record { item = record { base = (signal_of t).base; range = range }; place = t.place }
+choice_value g.next_formal n t (formal, (more, _)) = with_item formal more
+choice_value g.formal_outputs n t (formals, _) = formals
+choice_value g.delay n t (min, (max, (fall, _))) = record { delay = Some (min, max); fall = fall }
+choice_value g.fall n t (min, (max, _)) = Some (min, max)
+choice_value g.complement n t (atom, _) = placed_term true atom t
 choice_value g.zero_term n t v = placed_term false tree.Zero t
 choice_value g.one_term n t v = placed_term false tree.One t
-choice_value g.named_term n t v = placed_term false (tree.Named (signal_of t) v.0) t
+choice_value g.named_term n t (range, _) =
+    placed_term false (tree.Named (signal_of t) range) t
 choice_value g.zero_atom n t v = tree.Zero
 choice_value g.one_atom n t v = tree.One
-choice_value g.named_atom n t v = tree.Named (signal_of t) v.0
-choice_value g.next_term n t v = v.0.item ∷ v.1.0
+choice_value g.named_atom n t (range, _) = tree.Named (signal_of t) range
+choice_value g.next_term n t (term, (more, _)) = term.item ∷ more
 choice_value g.hold n t v = true
-choice_value g.next_conn n t v = v.0 ∷ v.1.0
-choice_value g.outputs n t v = v.0
-choice_value g.constant n t v = placed_constant t v.0 v.1.0
-choice_value g.use_ n t v = tree.Use (record { label = t.text; kind = v.0.text; delay = v.1.0.delay; fall = v.1.0.fall; params = v.1.1.0.items; ins = v.1.1.1.0; outs = v.1.1.1.1.0; place = t.place })
-choice_value g.wire n t v = tree.Wire (record { name = signal_of v.0; range = v.1.0; min = v.1.1.0; max = v.1.1.1.0; place = t.place })
-choice_value g.if_ n t v = tree.If v.0 v.1.0 v.1.1.0 t.place
-choice_value g.for_ n t v = tree.For v.0.text v.1.0 v.1.1.0 v.1.1.1.0 t.place
-choice_value g.else_ n t v = tree.else_ v.0
-choice_value g.macro n t v = headed_macro v.0 v.1.0 v.1.1.0 v.1.1.1.0 v.1.1.1.1.0
-choice_value g.index n t v = capped v.0
-choice_value g.entry n t v = record { name = signal_of t; bit = v.0; value = capped v.1.0; place = t.place }
-choice_value g.next_entry n t v = v.0 ∷ v.1.0
-choice_value g.case_ n t v = record { entries = v.0; place = t.place }
-choice_value g.wire_bounds n t v = Some (number_pair t v.0 v.1.0)
-choice_value g.precision_skew n t v = Some (number_pair t v.0 v.1.0)
-choice_value g.clock_skew n t v = Some (number_pair t v.0 v.1.0)
-choice_value (g.text {v = e}) n t v =
-    let consts = constants_of e (from_macros e) v.1.1.1.1.1.1.1 in
-    let behind_consts = behind_constants e (from_macros e) v.1.1.1.1.1.1.1 in
-    record {
-      header = record {
-        version = number_of v.0;
-        place = t.place;
-        clock = number_pair v.1.0 v.1.1.0 v.1.1.1.0;
-        wire = v.1.1.1.1.0;
-        pskew = v.1.1.1.1.1.0;
-        cskew = v.1.1.1.1.1.1.0;
-      };
-      consts = consts;
-      macros = behind_consts.0;
-      name = behind_consts.1.0.text;
-      body = behind_consts.1.1.0;
-      cases = behind_consts.1.1.1.0;
-    }
+choice_value g.next_conn n t (connection, (more, _)) = connection ∷ more
+choice_value g.outputs n t (connections, _) = connections
+choice_value g.constant n t (name, (value, _)) = placed_constant t name value
+choice_value g.use_ n t (kind, (delays, (params, (ins, (outs, _))))) =
+    tree.Use (record {
+      label = t.text;
+      kind = kind.text;
+      delay = delays.delay;
+      fall = delays.fall;
+      params = params.items;
+      ins = ins;
+      outs = outs;
+      place = t.place;
+    })
+choice_value g.wire n t (name, (range, (min, (max, _)))) =
+    tree.Wire (record {
+      name = signal_of name;
+      range = range;
+      min = min;
+      max = max;
+      place = t.place;
+    })
+choice_value g.if_ n t (test, (taken, (other, _))) = tree.If test taken other t.place
+choice_value g.for_ n t (variable, (first, (last, (body, _)))) =
+    tree.For variable.text first last body t.place
+choice_value g.else_ n t (body, _) = tree.else_ body
+choice_value g.macro n t (name, (params, (ins, (outs, (body, _))))) =
+    headed_macro name params ins outs body
+choice_value g.index n t (number, _) = capped number
+choice_value g.entry n t (bit, (value, _)) =
+    record { name = signal_of t; bit = bit; value = capped value; place = t.place }
+choice_value g.next_entry n t (entry, (more, _)) = entry ∷ more
+choice_value g.case_ n t (entries, _) = record { entries = entries; place = t.place }
+choice_value g.wire_bounds n t (min, (max, _)) = Some (number_pair t min max)
+choice_value g.precision_skew n t (early, (late, _)) = Some (number_pair t early late)
+choice_value g.clock_skew n t (early, (late, _)) = Some (number_pair t early late)
+choice_value (g.text {v = e}) n t
+    (version, (clock, (units, (ticks, (wire, (pskew, (cskew, more))))))) =
+    sketch_from e (record {
+      version = number_of version;
+      place = t.place;
+      clock = number_pair clock units ticks;
+      wire = wire;
+      pskew = pskew;
+      cskew = cskew;
+    }) (constants_of e (from_macros e) more) (behind_constants e (from_macros e) more)
 
 -- What a part stands for where it is left out; a part without such a value is never left out.
 abbrev pub absent_value : (p : Part) → Option (Meaning p)
@@ -344,20 +372,20 @@ absent_value g.ClockSkew = Some None
 absent_value (g.Text v) = None
 
 abbrev pub group_value : (g : Group) (n : ℕ) → Meaning (lead g) → Values (others g n) → GroupMeaning g
-group_value g.Product n first v = v.0 first
-group_value g.Sum n first v = v.1.0 (v.0 first)
-group_value g.Expr n first v = v.1.1.0 (v.1.0 (v.0 first))
-group_value g.Conn n first v = connection first v.0 v.1.0
-group_value g.SomeConns n first v = connection first v.0 v.1.0 ∷ v.1.1.0
-group_value g.Conns n first v = connection first v.0 v.1.0 ∷ v.1.1.0
-group_value g.SomeFormals n first v = with_item first v.0
-group_value g.Formals n first v = with_item first v.0
-group_value g.Assigns n first v = with_item first v.0
-group_value g.Entries n first v = first ∷ v.0
-group_value g.Constants n first v = with_constant first v.0
-group_value (g.Statements e) n first v = tree.cons first v.0
-group_value (g.Macros e) n first v = with_macro first v.0
-group_value g.Cases n first v = first ∷ v.0
+group_value g.Product n first (factors, _) = factors first
+group_value g.Sum n first (factors, (terms, _)) = terms (factors first)
+group_value g.Expr n first (factors, (terms, (comparison, _))) = comparison (terms (factors first))
+group_value g.Conn n first (terms, (hold, _)) = connection first terms hold
+group_value g.SomeConns n first (terms, (hold, (more, _))) = connection first terms hold ∷ more
+group_value g.Conns n first (terms, (hold, (more, _))) = connection first terms hold ∷ more
+group_value g.SomeFormals n first (more, _) = with_item first more
+group_value g.Formals n first (more, _) = with_item first more
+group_value g.Assigns n first (more, _) = with_item first more
+group_value g.Entries n first (more, _) = first ∷ more
+group_value g.Constants n first (more, _) = with_constant first more
+group_value (g.Statements e) n first (more, _) = tree.cons first more
+group_value (g.Macros e) n first (more, _) = with_macro first more
+group_value g.Cases n first (more, _) = first ∷ more
 
 -- What a group stands for where it is left out; a group without such a value is never left out.
 abbrev pub absent_group : (g : Group) → Option (GroupMeaning g)
