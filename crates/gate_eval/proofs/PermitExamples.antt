@@ -16,11 +16,14 @@ use Rattle.skew_algebra.specs.Wave.{Wave, skewed}
 use Rattle.skew_algebra.specs.Permits.{Permits, KeepsMoved}
 use Rattle.element_kinds.specs.declared.kind.Kind.{Kind}
 use Rattle.element_kinds.specs.Equation.{Equation}
-use Rattle.flat_circuit.specs.Run.{DelayFits}
+use Rattle.flat_circuit.specs.declared.split.Split.{Split}
+use Rattle.flat_circuit.specs.Run.{DelayFits, Within}
+use Rattle.flat_circuit.specs.Split.{SplitEquation}
 use Rattle.flat_circuit.proofs.Deciding.{at_most_tells, if_tells, all_tells, each_below, below_tells, some_below, some_tells}
 use Rattle.flat_circuit.proofs.RunTables.{bits}
 use Rattle.gate_eval.specs.Permitted.{AllPermit}
 use Rattle.gate_eval.specs.Instance.{IsSound}
+use Rattle.gate_eval.specs.Split.{IsSplitSound}
 
 -- ---- the test
 
@@ -190,6 +193,34 @@ sound_at_both_ends : (kind : Kind) (d : Bounds) (waves : List (Wave Value)) (wav
     Permits values wave (n + d.min) output (v + d.max + 1)
 sound_at_both_ends kind d waves wave sound n v delay signals output permit one fits obeys =
     sound n (n + d.min) v delay signals output permit one fits (omega arith) obeys
+
+-- The same of a gate with two delays, here from 2 to 3 ticks for a rise and from 1 to 2 for a fall: the
+-- output is longer by the least of all, and its equation holds from the greatest of all on.
+abbrev rises_late : Split
+rises_late = record { rise = record { min = 2; max = 3 }; fall = record { min = 1; max = 2 } }
+
+abbrev falls_late : Split
+falls_late = record { rise = record { min = 1; max = 2 }; fall = record { min = 2; max = 3 } }
+
+record IsSoundFrom1To3 (s : Split) : Type 0 where
+  at_both_ends : (kind : Kind) (waves : List (Wave Value)) (wave : Wave Value) →
+      IsSplitSound kind s waves wave →
+      (n v rise fall : ℕ) (signals : List Signal) (output : Signal) →
+      AllPermit values waves n signals v → 1 ≤ v → Within s.rise rise → Within s.fall fall →
+      ((t : ℕ) → v + 3 ≤ t → t < n + 1 → SplitEquation kind rise fall signals output t) →
+      Permits values wave (n + 1) output (v + 3 + 1)
+
+late_rise_at_both_ends : IsSoundFrom1To3 rises_late
+late_rise_at_both_ends = record {
+  at_both_ends = λ kind waves wave sound n v rise fall signals output permit one rises falls obeys.
+      sound n (n + 1) v rise fall signals output permit one rises falls (omega arith) obeys;
+}
+
+late_fall_at_both_ends : IsSoundFrom1To3 falls_late
+late_fall_at_both_ends = record {
+  at_both_ends = λ kind waves wave sound n v rise fall signals output permit one rises falls obeys.
+      sound n (n + 1) v rise fall signals output permit one rises falls (omega arith) obeys;
+}
 
 -- Where a wave keeps what another permits, moved: a signal that is late by a delay within the
 -- bounds is permitted from as much later on, to its last tick.
