@@ -50,7 +50,8 @@ abbrev mutual
   pub IsShallowStatement : tree.Statement → Type 0
   IsShallowStatement (tree.Use u) = IsShallowUse u
   IsShallowStatement (tree.Wire w) = IsShallowWire w
-  IsShallowStatement (tree.If test ss other place) = IsShallowTest test × AreShallow ss × IsShallowOtherwise other
+  IsShallowStatement (tree.If test ss other place) =
+      IsShallowTest test × AreShallow ss × IsShallowOtherwise other
   IsShallowStatement (tree.For var first last ss place) =
       IsShallow first × IsShallow last × AreShallow ss
 
@@ -92,4 +93,6 @@ pub record DrawsAgain (text : List ℕ) (d : tree.Drawing) : Type 0 where
 
 -- What some text draws, its canonical text draws too, where that does not nest too deep.
 abbrev pub CanonicalDraws : Type 0
-CanonicalDraws = (text : List ℕ) (d : tree.Drawing) → TextDraws text d → IsShallowDrawing d → DrawsAgain (canonical d) d
+CanonicalDraws =
+    (text : List ℕ) (d : tree.Drawing) → TextDraws text d → IsShallowDrawing d →
+    DrawsAgain (canonical d) d

@@ -42,19 +42,22 @@ constants (c ∷ consts) (place ∷ places) =
 abbrev pub parameters : ℕ → List tree.Assignment → List Place → List Declaration
 parameters scope [] places = []
 parameters scope (p ∷ params) [] = []
-parameters scope (p ∷ params) (place ∷ places) = declaration scope Parameter p.name place ∷ parameters scope params places
+parameters scope (p ∷ params) (place ∷ places) =
+    declaration scope Parameter p.name place ∷ parameters scope params places
 
 abbrev pub formals : ℕ → List tree.Formal → List Place → List Declaration
 formals scope [] places = []
 formals scope (f ∷ fs) [] = []
-formals scope (f ∷ fs) (place ∷ places) = declaration scope Formal f.base place ∷ formals scope fs places
+formals scope (f ∷ fs) (place ∷ places) =
+    declaration scope Formal f.base place ∷ formals scope fs places
 
 -- the labels of a body, those inside of IFs and FORs too
 unfoldable mutual
   pub statement_labels : ℕ → Statement → List Declaration
   statement_labels scope (tree.Use u) = declaration scope Label u.label u.place ∷ []
   statement_labels scope (tree.Wire w) = []
-  statement_labels scope (tree.If test behind_then behind_else place) = labels scope behind_then ++ else_labels scope behind_else
+  statement_labels scope (tree.If test behind_then behind_else place) =
+      labels scope behind_then ++ else_labels scope behind_else
   statement_labels scope (tree.For var first last body place) = labels scope body
 
   pub labels : ℕ → Statements → List Declaration
@@ -69,13 +72,15 @@ unfoldable mutual
 abbrev pub head_declared : ℕ → tree.Macro → Head → List Declaration
 head_declared scope m h =
     declaration 0 Macro m.name m.place
-    ∷ (parameters scope m.params h.parameters ++ (formals scope m.ins h.ins ++ formals scope m.outs h.outs))
+    ∷ (parameters scope m.params h.parameters
+    ++ (formals scope m.ins h.ins ++ formals scope m.outs h.outs))
 
 -- each macro with its body
 abbrev pub macros_declared : ℕ → List tree.Macro → List Head → List Declaration
 macros_declared scope [] heads = []
 macros_declared scope (m ∷ macros) [] = []
-macros_declared scope (m ∷ macros) (h ∷ heads) = (head_declared scope m h ++ labels scope m.body) ++ macros_declared (suc scope) macros heads
+macros_declared scope (m ∷ macros) (h ∷ heads) =
+    (head_declared scope m h ++ labels scope m.body) ++ macros_declared (suc scope) macros heads
 
 -- what a drawing of these constants, these macros and this body declares
 abbrev pub declared : List tree.Assignment → List Place → List tree.Macro → List Head →
@@ -123,7 +128,8 @@ pub record Declares (taken now : List Key) (ds : List Declaration) : Type 0 wher
   pub added : now ≡ taken ++ keys_of ds
   pub different : AreDifferent taken → AreDifferent now
 
--- The refusal is at the first of these that declares again what was taken, or stands before among these.
+-- The refusal is at the first of these that declares again what was taken, or stands before among
+-- these.
 pub record Repeats (taken : List Key) (ds : List Declaration) (r : Refusal) : Type 0 where
   pub before : List Declaration
   pub again : Declaration

@@ -1,5 +1,5 @@
--- Which drawing the tokens of a text draw, or why they draw none: the grammar comes first, then the header, the names and
--- the double names.
+-- Which drawing the tokens of a text draw, or why they draw none: the grammar comes first, then the
+-- header, the names and the double names.
 use Rattle.std.specs.Prelude.{◌≡◌, List, Ok, Err, ⊤}
 use Rattle.scald_base.specs.Time.{Header}
 use Rattle.scald_base.specs.declared.refusal.Refusal.{Refusal}
@@ -42,7 +42,8 @@ pub record IsText (ts : List Lexeme) (w : WrittenBy ts) : Type 0 where
   pub spelled : spelling w ≡ ts
   pub within : Within ts (weights w 0)
 
--- The tokens are a text whose header and names are good and that declares nothing twice, and this is its drawing.
+-- The tokens are a text whose header and names are good and that declares nothing twice, and this
+-- is its drawing.
 pub record Draws (ts : List Lexeme) (d : tree.Drawing) : Type 0 where
   pub written : WrittenBy ts
   pub text : IsText ts written

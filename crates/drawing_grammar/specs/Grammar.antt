@@ -244,7 +244,9 @@ following hold n = keyword Hazard ∷ []
 following next_conn n = group Conn 0 ∷ part MoreConns 0 ∷ []
 following outputs n = mark OpenParenthesis ∷ group SomeConns 0 ∷ mark CloseParenthesis ∷ []
 following constant n = item Word ∷ mark Equals ∷ own_sum (mark Semicolon ∷ [])
-following use_ n = mark Colon ∷ item Word ∷ part Delay 0 ∷ part Parameters 0 ∷ mark OpenParenthesis ∷ group Conns 0 ∷ mark CloseParenthesis ∷ part Outputs 0 ∷ mark Semicolon ∷ []
+following use_ n =
+    mark Colon ∷ item Word ∷ part Delay 0 ∷ part Parameters 0 ∷ mark OpenParenthesis ∷ group Conns 0
+    ∷ mark CloseParenthesis ∷ part Outputs 0 ∷ mark Semicolon ∷ []
 following wire n = item Name ∷ part Range 0 ∷ own_sum (mark Colon ∷ own_sum (mark Semicolon ∷ []))
 following (if_ {v = v}) n =
     fresh ∷ group Expr 0 ∷ mark Then ∷ group (Statements v) (suc n) ∷ part (Otherwise v) (suc n)

@@ -1,4 +1,5 @@
--- The header that its written numbers give, and the first of its statements whose numbers are refused.
+-- The header that its written numbers give, and the first of its statements whose numbers are
+-- refused.
 use Rattle.std.specs.Prelude.{ℕ, ℤ, pos, negsuc, ◌*ℤ◌, int_le, Bool, ◌&&◌, if◌then◌else◌, Option, Some, None, Result, Ok, Err}
 use Rattle.scald_base.specs.Time.{Bounds, Header}
 use Rattle.scald_base.specs.declared.refusal.Place.{Place}
@@ -15,14 +16,17 @@ is_version n = int_le (pos 1) n && int_le n (pos 2)
 
 -- units and ticks are not 0, and the period is 2 to 4,096 ticks
 abbrev pub is_clock : ℤ → ℤ → Bool
-is_clock units ticks = int_le (pos 1) units && int_le (pos 1) ticks && int_le (pos 2) (units *ℤ ticks) && int_le (units *ℤ ticks) (pos 4096)
+is_clock units ticks =
+    int_le (pos 1) units && int_le (pos 1) ticks && int_le (pos 2) (units *ℤ ticks)
+    && int_le (units *ℤ ticks) (pos 4096)
 
 -- the least is not above the greatest, and that is at most 4,095
 abbrev pub is_bounds : ℤ → ℤ → Bool
 is_bounds min max = int_le (pos 0) min && int_le min max && int_le max (pos 4095)
 
 abbrev pub is_skew : ℤ → ℤ → Bool
-is_skew early late = int_le (pos 0) early && int_le early (pos 4095) && int_le (pos 0) late && int_le late (pos 4095)
+is_skew early late =
+    int_le (pos 0) early && int_le early (pos 4095) && int_le (pos 0) late && int_le late (pos 4095)
 
 -- ---- what it says
 
@@ -57,11 +61,13 @@ abbrev pub judged_statement : {A : Type 0} → Bool → Place → Result A Refus
 judged_statement good place said = if good then said else Err (refused_at place)
 
 -- the same for a statement of two numbers, which may be left out
-abbrev pub judged_pair : {A : Type 0} → (ℤ → ℤ → Bool) → Option NumberPair → Result A Refusal → Result A Refusal
+abbrev pub judged_pair : {A : Type 0} → (ℤ → ℤ → Bool) → Option NumberPair → Result A Refusal →
+    Result A Refusal
 judged_pair test None said = said
 judged_pair test (Some pair) said = judged_statement (test pair.first pair.second) pair.place said
 
--- the header, where the numbers of all its statements are good; else the refusal of the first that has another
+-- the header, where the numbers of all its statements are good; else the refusal of the first that
+-- has another
 abbrev pub judged : WrittenHeader → Result Header Refusal
 judged w =
     judged_statement (is_version w.version) w.place

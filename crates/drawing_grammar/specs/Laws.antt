@@ -27,7 +27,10 @@ OneRefusal = (ts : List Lexeme) (r s : Refusal) → IsWrong ts r → IsWrong ts 
 
 -- The tokens of a text draw a drawing, or they are refused.
 abbrev pub DrawnOrRefused : Type 0
-DrawnOrRefused = (text : List ℕ) (tokens : List Token) → AreTokens text tokens → ((d : Drawing) × Draws (lexemes text tokens) d) ⊎ ((r : Refusal) × IsWrong (lexemes text tokens) r)
+DrawnOrRefused =
+    (text : List ℕ) (tokens : List Token) → AreTokens text tokens →
+    ((d : Drawing) × Draws (lexemes text tokens) d)
+    ⊎ ((r : Refusal) × IsWrong (lexemes text tokens) r)
 
 -- A name in quotes stands for the one that the text between the quotes spells.
 abbrev pub IsSpelled : Lexeme → Type 0
@@ -39,7 +42,9 @@ NamesAreSpelled = (ts : List Lexeme) (d : Drawing) → Draws ts d → All IsSpel
 
 -- A drawing that a text draws is well formed.
 abbrev pub DrawnIsWellFormed : Type 0
-DrawnIsWellFormed = (text : List ℕ) (tokens : List Token) (d : Drawing) → AreTokens text tokens → Draws (lexemes text tokens) d → IsWellFormed d
+DrawnIsWellFormed =
+    (text : List ℕ) (tokens : List Token) (d : Drawing) → AreTokens text tokens →
+    Draws (lexemes text tokens) d → IsWellFormed d
 
 abbrev pub places_of : List Lexeme → List Place
 places_of ts = map (λ (t : Lexeme). t.place) ts
@@ -50,4 +55,5 @@ WrongAtTokens = (ts : List Lexeme) (r : Refusal) → IsWrong ts r → Contains (
 
 -- Each place that stands in a drawing is that of one of the tokens that draw it.
 abbrev pub DrawnAtTokens : Type 0
-DrawnAtTokens = (ts : List Lexeme) (d : Drawing) → Draws ts d → EachPlace (Contains (places_of ts)) d
+DrawnAtTokens =
+    (ts : List Lexeme) (d : Drawing) → Draws ts d → EachPlace (Contains (places_of ts)) d

@@ -42,7 +42,10 @@ word_terminal word =
 
 -- a letter that a reserved word begins with
 abbrev pub is_first : ℕ → Bool
-is_first b = b == 67 || (b == 68 || (b == 69 || (b == 73 || (b == 77 || (b == 79 || (b == 80 || (b == 83 || (b == 84 || (b == 87 || b == 90)))))))))
+is_first b =
+    b == 67 || (b == 68 || (b == 69
+    || (b == 73 || (b == 77 || (b == 79
+    || (b == 80 || (b == 83 || (b == 84 || (b == 87 || b == 90)))))))))
 
 abbrev pub begins_reserved : List ℕ → Bool
 begins_reserved [] = false

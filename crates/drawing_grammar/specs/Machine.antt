@@ -139,29 +139,33 @@ choice_at (g.Statement Second) t ts =
     if is_loop t ts then Some g.for_ else choice (g.Statement Second) (terminal t)
 choice_at p t ts = choice p (terminal t)
 
--- What a token does to what is needed: other needs, of which the token has this weight, or nothing that is needed
--- begins with it.
+-- What a token does to what is needed: other needs, of which the token has this weight, or nothing
+-- that is needed begins with it.
 pub data Step (needs : List Need) : Type 0 where
   Next : (later : List Need) → ℕ → ℕ → (Values later → Values needs) → Step needs
   Stuck : Step needs
 
-abbrev pub passed : {needs later : List Need} → Step later → (Values later → Values needs) → Step needs
+abbrev pub passed : {needs later : List Need} → Step later → (Values later → Values needs) →
+    Step needs
 passed (Next later a m build) f = Next later a m (λ v. f (build v))
 passed Stuck f = Stuck
 
 -- a part, where the choice that begins so is this
-abbrev pub entered : (p : Part) (n : ℕ) (rest : List Need) → ℕ → Lexeme → Option (Choice p) → Option (Meaning p) → Step rest → Step (part p n ∷ rest)
+abbrev pub entered : (p : Part) (n : ℕ) (rest : List Need) → ℕ → Lexeme → Option (Choice p) →
+    Option (Meaning p) → Step rest → Step (part p n ∷ rest)
 entered p n rest a t (Some c) absent skip = Next (following c n ++ rest) (counted (cost c) a)
-    (weight (cost c) n a) (λ v. (choice_value c n t (front (following c n) rest v), behind (following c n) rest v))
+    (weight (cost c) n a) (λ v.
+    (choice_value c n t (front (following c n) rest v), behind (following c n) rest v))
 entered p n rest a t None (Some v) skip = passed skip (λ w. (v, w))
 entered p n rest a t None None skip = Stuck
 
-abbrev pub group_entered : (h : Group) (n : ℕ) (rest : List Need) → ℕ → Lexeme → Option (Choice (lead h)) → Option (GroupMeaning h) → Step rest → Step (group h n ∷ rest)
+abbrev pub group_entered : (h : Group) (n : ℕ) (rest : List Need) → ℕ → Lexeme →
+    Option (Choice (lead h)) → Option (GroupMeaning h) → Step rest → Step (group h n ∷ rest)
 group_entered h n rest a t (Some c) absent skip =
     Next (following c n ++ (others h n ++ rest)) (counted (cost c) a) (weight (cost c) n a)
     (λ v. (
-      group_value h n (choice_value c n t (front (following c n) (others h n ++ rest) v)) (front (others h n)
-          rest (behind (following c n) (others h n ++ rest) v)),
+      group_value h n (choice_value c n t (front (following c n) (others h n ++ rest) v))
+          (front (others h n) rest (behind (following c n) (others h n ++ rest) v)),
       behind (others h n) rest (behind (following c n) (others h n ++ rest) v),
     ))
 group_entered h n rest a t None (Some v) skip = passed skip (λ w. (v, w))
@@ -184,7 +188,8 @@ pub data Verdict (needs : List Need) : Type 0 where
   Complete : Values needs → Verdict needs
   Refused : Refusal → Verdict needs
 
-abbrev pub given : {needs later : List Need} → (Values later → Values needs) → Verdict later → Verdict needs
+abbrev pub given : {needs later : List Need} → (Values later → Values needs) → Verdict later →
+    Verdict needs
 given f (Complete v) = Complete (f v)
 given f (Refused r) = Refused r
 
@@ -194,11 +199,13 @@ nowhere = record { line = 0; col = 0 }
 abbrev pub refusal : RefusalKind → Place → Refusal
 refusal kind place = record { kind = kind; place = place }
 
-abbrev pub finish_part : {p : Part} {n : ℕ} {rest : List Need} → Option (Meaning p) → Verdict rest → Verdict (part p n ∷ rest)
+abbrev pub finish_part : {p : Part} {n : ℕ} {rest : List Need} → Option (Meaning p) → Verdict rest →
+    Verdict (part p n ∷ rest)
 finish_part (Some v) x = given (λ w. (v, w)) x
 finish_part None x = Refused (refusal Syntax nowhere)
 
-abbrev pub finish_group : {h : Group} {n : ℕ} {rest : List Need} → Option (GroupMeaning h) → Verdict rest → Verdict (group h n ∷ rest)
+abbrev pub finish_group : {h : Group} {n : ℕ} {rest : List Need} → Option (GroupMeaning h) →
+    Verdict rest → Verdict (group h n ∷ rest)
 finish_group (Some v) x = given (λ w. (v, w)) x
 finish_group None x = Refused (refusal Syntax nowhere)
 
@@ -212,8 +219,10 @@ finish (fresh ∷ rest) = given (λ v. v) (finish rest)
 finish (part p n ∷ rest) = finish_part (absent_value p) (finish rest)
 finish (group h n ∷ rest) = finish_group (absent_group h) (finish rest)
 
-abbrev pub go_on : {needs : List Need} → Step needs → ((later : List Need) → ℕ → Verdict later) → Place → Verdict needs
-go_on (Next later a m build) next place = if nat_le m limit then given build (next later a) else Refused (refusal TooDeep place)
+abbrev pub go_on : {needs : List Need} → Step needs → ((later : List Need) → ℕ → Verdict later) →
+    Place → Verdict needs
+go_on (Next later a m build) next place =
+    if nat_le m limit then given build (next later a) else Refused (refusal TooDeep place)
 go_on Stuck next place = Refused (refusal Syntax place)
 
 -- What the tokens give of what is needed, where a binary operators of the expression came before.
@@ -222,7 +231,8 @@ verdict [] needs a = finish needs
 verdict (t ∷ ts) needs a = go_on (step needs a t ts) (verdict ts) t.place
 
 -- The tokens before a step give what those after it give, and this of them.
-pub record Moves {needs later : List Need} (before : Verdict needs) (after : Verdict later) (f : Values later → Values needs) : Type 0 where
+pub record Moves {needs later : List Need} (before : Verdict needs) (after : Verdict later)
+    (f : Values later → Values needs) : Type 0 where
   pub is : before ≡ given f after
 
 abbrev pub Says : {needs : List Need} → Verdict needs → Stop → Type 0
@@ -234,6 +244,7 @@ pub record Fails {needs : List Need} (before : Verdict needs) (s : Stop) : Type 
   pub is : Says before s
 
 -- An answer of the reader.
-abbrev pub Gives : {X : Type 0} {needs later : List Need} → Result X Stop → (X → Values later → Values needs) → Verdict needs → Verdict later → Type 0
+abbrev pub Gives : {X : Type 0} {needs later : List Need} → Result X Stop →
+    (X → Values later → Values needs) → Verdict needs → Verdict later → Type 0
 Gives (Ok x) f before after = Moves before after (f x)
 Gives (Err s) f before after = Fails before s

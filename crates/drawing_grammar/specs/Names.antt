@@ -106,7 +106,8 @@ names (left_out v e w) = names w
 names (grouped w) = names w
 names (lacking v e w) = names w
 
--- ---- the same by the tokens alone: the names of a macro's head, from MACRO up to the semicolon, are its formals
+-- ---- the same by the tokens alone: the names of a macro's head, from MACRO up to the semicolon,
+-- are its formals
 
 abbrev pub names_at : Bool → Terminal → Lexeme → List Naming
 names_at in_head Name t = naming in_head t ∷ []
@@ -119,7 +120,8 @@ head_behind in_head _ = in_head
 
 unfoldable pub names_from : Bool → List Lexeme → List Naming
 names_from in_head [] = []
-names_from in_head (t ∷ ts) = names_at in_head (terminal t) t ++ names_from (head_behind in_head (terminal t)) ts
+names_from in_head (t ∷ ts) =
+    names_at in_head (terminal t) t ++ names_from (head_behind in_head (terminal t)) ts
 
 -- ---- which of them are refused
 
@@ -139,16 +141,20 @@ pub record IsGood (h : Header) (n : Naming) : Type 0 where
   pub plain : MayStand n.of_formal name
   pub fits : Fits h name.spec
 
--- Why a name is refused: as a formal's it is not plain, an interval is none of the header's, or else edges overlap.
-pub data IsNameFault (h : Header) (of_formal : Bool) (name : SignalName) : RefusalKind → Type 0 where
+-- Why a name is refused: as a formal's it is not plain, an interval is none of the header's, or
+-- else edges overlap.
+pub data IsNameFault (h : Header) (of_formal : Bool) (name : SignalName) : RefusalKind →
+    Type 0 where
   no_formal : (MayStand of_formal name → ⊥) → IsNameFault h of_formal name BadName
   no_interval : (IntervalsFit h name.spec → ⊥) → IsNameFault h of_formal name BadName
-  overlapping : MayStand of_formal name → IntervalsFit h name.spec → Overlap h name.spec → IsNameFault h of_formal name EdgesOverlap
+  overlapping : MayStand of_formal name → IntervalsFit h name.spec → Overlap h name.spec →
+      IsNameFault h of_formal name EdgesOverlap
 
 -- The text is of no name, or of one that is refused.
 pub data IsFault (h : Header) (n : Naming) : RefusalKind → Type 0 where
   no_name : ((name : SignalName) → IsTextOf name n.text → ⊥) → IsFault h n BadName
-  bad_name : {kind : RefusalKind} (name : SignalName) → IsTextOf name n.text → IsNameFault h n.of_formal name kind → IsFault h n kind
+  bad_name : {kind : RefusalKind} (name : SignalName) → IsTextOf name n.text →
+      IsNameFault h n.of_formal name kind → IsFault h n kind
 
 abbrev pub AreGood : Header → List Naming → Type 0
 AreGood h [] = ⊤

@@ -1,4 +1,5 @@
--- How deep a canonical text nests: how many parentheses and minus signs of an expression are open at once.
+-- How deep a canonical text nests: how many parentheses and minus signs of an expression are open
+-- at once.
 use Rattle.std.specs.Prelude.{ℕ, suc, ◌+◌, Bool, if◌then◌else◌, max}
 use Rattle.drawing_tree.specs.Expression.{Expression, Number, Param, Negate, Binary}
 use Rattle.drawing_tree.specs.ExpressionText.{left_enclosed, right_enclosed, minus_enclosed, is_comparison}
@@ -12,7 +13,9 @@ unfoldable pub nesting : Expression → ℕ
 nesting (Number n) = 0
 nesting (Param name) = 0
 nesting (Negate operand) = suc (enclosed_nesting (minus_enclosed operand) (nesting operand))
-nesting (Binary op left right) = max (enclosed_nesting (left_enclosed op left) (nesting left)) (enclosed_nesting (right_enclosed op right) (nesting right))
+nesting (Binary op left right) =
+    max (enclosed_nesting (left_enclosed op left) (nesting left))
+    (enclosed_nesting (right_enclosed op right) (nesting right))
 
 -- everywhere else
 abbrev pub sum_nesting : Expression → ℕ

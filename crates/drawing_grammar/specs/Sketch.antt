@@ -1,4 +1,5 @@
--- What a part of a text stands for: the tree of its drawing, with the numbers of the header as they are written.
+-- What a part of a text stands for: the tree of its drawing, with the numbers of the header as they
+-- are written.
 use Rattle.std.specs.Prelude.{ℕ, ◌-◌, ◌^◌, min, Bool, true, false, List, [], ◌∷◌, ◌++◌, length, slice_range, Option, Some, None}
 use Rattle.scald_base.specs.declared.refusal.Place.{Place}
 use Rattle.scald_base.specs.declared.assertion.AssertSpec.TheVariants.{None as Unasserted}
@@ -57,7 +58,8 @@ abbrev pub no_items : {A : Type 0} → PlacedList A
 no_items = record { items = []; places = [] }
 
 abbrev pub with_item : {A : Type 0} → Placed A → PlacedList A → PlacedList A
-with_item first more = record { items = first.item ∷ more.items; places = first.place ∷ more.places }
+with_item first more =
+    record { items = first.item ∷ more.items; places = first.place ∷ more.places }
 
 -- the delays of a use: the one in common or of rises, and the one of falls
 pub record Delays : Type 0 where
@@ -220,16 +222,27 @@ connection first more hold = record { terms = first.item ∷ more; hold = hold; 
 
 -- two numbers of the header, in the statement that begins with this token
 abbrev pub number_pair : Lexeme → Lexeme → Lexeme → NumberPair
-number_pair begin first second = record { first = number_of first; second = number_of second; place = begin.place }
+number_pair begin first second =
+    record { first = number_of first; second = number_of second; place = begin.place }
 
-abbrev pub headed_macro : Lexeme → PlacedList tree.Assignment → PlacedList tree.Formal → PlacedList tree.Formal → tree.Statements → HeadedMacro
+abbrev pub headed_macro : Lexeme → PlacedList tree.Assignment → PlacedList tree.Formal →
+    PlacedList tree.Formal → tree.Statements → HeadedMacro
 headed_macro name params ins outs body = record {
-  macro = record { name = name.text; params = params.items; ins = ins.items; outs = outs.items; body = body; place = name.place };
+  macro =
+      record {
+        name = name.text;
+        params = params.items;
+        ins = ins.items;
+        outs = outs.items;
+        body = body;
+        place = name.place;
+      };
   head = record { parameters = params.places; ins = ins.places; outs = outs.places };
 }
 
 abbrev pub with_macro : HeadedMacro → HeadedMacros → HeadedMacros
-with_macro first more = record { macros = first.macro ∷ more.macros; heads = first.head ∷ more.heads }
+with_macro first more =
+    record { macros = first.macro ∷ more.macros; heads = first.head ∷ more.heads }
 
 abbrev pub placed_constant : Lexeme → Lexeme → Expression → PlacedConstant
 placed_constant begin name value = record {
@@ -252,7 +265,8 @@ sketch_from v header consts (macros, (name, (body, (cases, _)))) =
     }
 
 -- What a choice stands for: its first token, and the values of what follows.
-abbrev pub choice_value : {p : Part} (c : Choice p) (n : ℕ) → Lexeme → Values (following c n) → Meaning p
+abbrev pub choice_value : {p : Part} (c : Choice p) (n : ℕ) → Lexeme → Values (following c n) →
+    Meaning p
 choice_value g.number n t v = e.Number (number_of t)
 choice_value g.parameter n t v = e.Param t.text
 choice_value g.negated n t (operand, _) = e.Negate operand
@@ -371,7 +385,8 @@ absent_value g.PrecisionSkew = Some None
 absent_value g.ClockSkew = Some None
 absent_value (g.Text v) = None
 
-abbrev pub group_value : (g : Group) (n : ℕ) → Meaning (lead g) → Values (others g n) → GroupMeaning g
+abbrev pub group_value : (g : Group) (n : ℕ) → Meaning (lead g) → Values (others g n) →
+    GroupMeaning g
 group_value g.Product n first (factors, _) = factors first
 group_value g.Sum n first (factors, (terms, _)) = terms (factors first)
 group_value g.Expr n first (factors, (terms, (comparison, _))) = comparison (terms (factors first))

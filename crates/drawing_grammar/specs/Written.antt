@@ -1,4 +1,5 @@
--- What is written by the grammar: the tokens that spell it, how far each of them goes towards a limit, and its tree.
+-- What is written by the grammar: the tokens that spell it, how far each of them goes towards a
+-- limit, and its tree.
 use Rattle.std.specs.Prelude.{◌≡◌, ℕ, suc, ◌≤◌, ◌<◌, List, [], ◌∷◌, ◌++◌, Some, ⊤}
 use Rattle.drawing_grammar.specs.declared.terminal.Keyword.{Keyword}
 use Rattle.drawing_grammar.specs.declared.terminal.Terminal.{Terminal}
@@ -19,20 +20,26 @@ MayOpen constant t = Is Const t
 MayOpen for_ t = Is For t
 MayOpen c t = terminal t ≡ opening c
 
--- What is written where these are needed, one after another. Of a part one of its choices is written, or it is left
--- out. Of a group its first part and the others are written, or it is left out.
+-- What is written where these are needed, one after another. Of a part one of its choices is
+-- written, or it is left out. Of a group its first part and the others are written, or it is left
+-- out.
 pub data Written : List Need → Type 0 where
   nothing : Written []
-  marked : {l : Terminal} {rest : List Need} (t : Lexeme) → terminal t ≡ l → Written rest → Written (mark l ∷ rest)
-  token : {l : Terminal} {rest : List Need} (t : Lexeme) → terminal t ≡ l → Written rest → Written (item l ∷ rest)
+  marked : {l : Terminal} {rest : List Need} (t : Lexeme) → terminal t ≡ l → Written rest →
+      Written (mark l ∷ rest)
+  token : {l : Terminal} {rest : List Need} (t : Lexeme) → terminal t ≡ l → Written rest →
+      Written (item l ∷ rest)
   worded : {x : Keyword} {rest : List Need} (t : Lexeme) → terminal t ≡ Word →
       t.text ≡ keyword_text x → Written rest → Written (keyword x ∷ rest)
   begun : {rest : List Need} → Written rest → Written (fresh ∷ rest)
   chosen : {p : Part} {n : ℕ} {rest : List Need} (c : Choice p) (t : Lexeme) → MayOpen c t →
       Written (following c n ++ rest) → Written (part p n ∷ rest)
-  left_out : {p : Part} {n : ℕ} {rest : List Need} (v : Meaning p) → absent_value p ≡ Some v → Written rest → Written (part p n ∷ rest)
-  grouped : {g : Group} {n : ℕ} {rest : List Need} → Written (part (lead g) n ∷ (others g n ++ rest)) → Written (group g n ∷ rest)
-  lacking : {g : Group} {n : ℕ} {rest : List Need} (v : GroupMeaning g) → absent_group g ≡ Some v → Written rest → Written (group g n ∷ rest)
+  left_out : {p : Part} {n : ℕ} {rest : List Need} (v : Meaning p) → absent_value p ≡ Some v →
+      Written rest → Written (part p n ∷ rest)
+  grouped : {g : Group} {n : ℕ} {rest : List Need} →
+      Written (part (lead g) n ∷ (others g n ++ rest)) → Written (group g n ∷ rest)
+  lacking : {g : Group} {n : ℕ} {rest : List Need} (v : GroupMeaning g) → absent_group g ≡ Some v →
+      Written rest → Written (group g n ∷ rest)
 
 -- the tokens that spell it
 abbrev pub spelling : {needs : List Need} → Written needs → List Lexeme
@@ -59,8 +66,8 @@ counted plain a = a
 counted opens a = a
 counted operator a = suc a
 
--- The weight of each token, where a binary operators of the expression came before. An expression of its own begins
--- with none.
+-- The weight of each token, where a binary operators of the expression came before. An expression
+-- of its own begins with none.
 abbrev pub weights : {needs : List Need} → Written needs → ℕ → List ℕ
 weights nothing a = []
 weights (marked t e w) a = 0 ∷ weights w a
@@ -79,9 +86,13 @@ values (marked t e w) = values w
 values (token t e w) = (t, values w)
 values (worded t e f w) = values w
 values (begun w) = values w
-values (chosen {n = n} {rest = rest} c t e w) = let v = values w in (choice_value c n t (front (following c n) rest v), behind (following c n) rest v)
+values (chosen {n = n} {rest = rest} c t e w) =
+    let v = values w in
+    (choice_value c n t (front (following c n) rest v), behind (following c n) rest v)
 values (left_out v e w) = (v, values w)
-values (grouped {g = g} {n = n} {rest = rest} w) = let v = values w in (group_value g n v.0 (front (others g n) rest v.1), behind (others g n) rest v.1)
+values (grouped {g = g} {n = n} {rest = rest} w) =
+    let v = values w in
+    (group_value g n v.0 (front (others g n) rest v.1), behind (others g n) rest v.1)
 values (lacking v e w) = (v, values w)
 
 -- the most that may be open at once, and the most binary operators of an expression

@@ -1,4 +1,5 @@
-//! The grammar of a drawing: what is written by it, which tokens spell it, and which drawing it draws.
+//! The grammar of a drawing: what is written by it, which tokens spell it, and which drawing it
+//! draws.
 //!
 //! `specs/Lexeme` says what the grammar takes a token for, and `specs/Grammar` has its table;
 //! `specs/Written` has what is written by it and its limits, `specs/Sketch` what that stands for,

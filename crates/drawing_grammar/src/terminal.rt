@@ -6,8 +6,8 @@ ghost use Rattle.drawing_grammar.specs.Lexeme.{is_first, begins_reserved, word_t
 
 use scald_base::same_bytes;
 
-/// A token as the grammar sees it: a word that stands for itself, any other word, a number, a name, a symbol or
-/// the end.
+/// A token as the grammar sees it: a word that stands for itself, any other word, a number, a name,
+/// a symbol or the end.
 #[derive(Clone, Copy, PartialEq, Eq, Debug)]
 pub enum Terminal {
     Scald,

@@ -1,4 +1,5 @@
-//! Laws of texts and their drawings, over bytes. The functions do nothing: what each states is its contract.
+//! Laws of texts and their drawings, over bytes. The functions do nothing: what each states is its
+//! contract.
 
 ghost use Rattle.drawing_grammar.specs.TextLaws.{DrawnAtBytes, DrawnOrRefused, NotBoth, OneDrawing, OneRefusal, RefusedAtBytes, ShallowWhereDrawn};
 
@@ -27,7 +28,8 @@ pub fn refused_at_bytes()
     ensures { RefusedAtBytes }
 {}
 
-/// Each place that stands in the drawing of a text is that of one of the text's bytes, or of its end.
+/// Each place that stands in the drawing of a text is that of one of the text's bytes, or of its
+/// end.
 pub fn drawn_at_bytes()
     ensures { DrawnAtBytes }
 {}

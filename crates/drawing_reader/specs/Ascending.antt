@@ -13,12 +13,18 @@ label_cmp a b = ordering_then (nat_cmp (length a) (length b)) (slice_cmp nat_cmp
 
 -- No label of the scope that comes after this one is taken.
 abbrev pub IsLast : ℕ → List Key → List ℕ → Type 0
-IsLast scope taken last = (name : List ℕ) → Contains taken (key scope Label name) → label_cmp last name ≢ Less
+IsLast scope taken last =
+    (name : List ℕ) → Contains taken (key scope Label name) → label_cmp last name ≢ Less
 
--- Behind the last label nothing of these is declared again, and the next one is the last of all then.
+-- Behind the last label nothing of these is declared again, and the next one is the last of all
+-- then.
 abbrev pub Climbs : ℕ → List ℕ → List ℕ → List Declaration → Type 0
-Climbs scope last next ds = (taken : List Key) → IsLast scope taken last → Declares taken (taken ++ keys_of ds) ds × IsLast scope (taken ++ keys_of ds) next
+Climbs scope last next ds =
+    (taken : List Key) → IsLast scope taken last →
+    Declares taken (taken ++ keys_of ds) ds × IsLast scope (taken ++ keys_of ds) next
 
 -- Where no label of the scope is taken, nothing of these is declared again.
 abbrev pub AreFresh : ℕ → List Declaration → Type 0
-AreFresh scope ds = (taken : List Key) → ((name : List ℕ) → Contains taken (key scope Label name) → ⊥) → Declares taken (taken ++ keys_of ds) ds
+AreFresh scope ds =
+    (taken : List Key) → ((name : List ℕ) → Contains taken (key scope Label name) → ⊥) →
+    Declares taken (taken ++ keys_of ds) ds

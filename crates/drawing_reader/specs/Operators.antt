@@ -9,18 +9,31 @@ use Rattle.drawing_grammar.specs.Machine.{Moves, Fails}
 use Rattle.drawing_reader.specs.Reader.{ahead}
 
 abbrev pub FactorAt : Result (Option Op) Stop → Cursor → Cursor → Type 0
-FactorAt (Ok None) old new = (n : ℕ) (rest : List Need) → Moves (ahead old (part Factors n ∷ rest)) (ahead new rest) (λ v. (λ left. left, v))
+FactorAt (Ok None) old new =
+    (n : ℕ) (rest : List Need) → Moves (ahead old (part Factors n ∷ rest))
+    (ahead new rest) (λ v. (λ left. left, v))
 FactorAt (Ok (Some o)) old new = (n : ℕ) (rest : List Need) →
-    Moves (ahead old (part Factors n ∷ rest)) (ahead new (part Unary n ∷ part Factors n ∷ rest)) (λ v. (λ left. v.1.0 (binary o left v.0), v.1.1))
+    Moves (ahead old (part Factors n ∷ rest))
+    (ahead new (part Unary n ∷ part Factors n ∷ rest)) (λ v.
+    (λ left. v.1.0 (binary o left v.0), v.1.1))
 FactorAt (Err s) old new = (n : ℕ) (rest : List Need) → Fails (ahead old (part Factors n ∷ rest)) s
 
 abbrev pub TermAt : Result (Option Op) Stop → Cursor → Cursor → Type 0
-TermAt (Ok None) old new = (n : ℕ) (rest : List Need) → Moves (ahead old (part Terms n ∷ rest)) (ahead new rest) (λ v. (λ left. left, v))
+TermAt (Ok None) old new =
+    (n : ℕ) (rest : List Need) → Moves (ahead old (part Terms n ∷ rest))
+    (ahead new rest) (λ v. (λ left. left, v))
 TermAt (Ok (Some o)) old new = (n : ℕ) (rest : List Need) →
-    Moves (ahead old (part Terms n ∷ rest)) (ahead new (group Product n ∷ part Terms n ∷ rest)) (λ v. (λ left. v.1.0 (binary o left v.0), v.1.1))
+    Moves (ahead old (part Terms n ∷ rest))
+    (ahead new (group Product n ∷ part Terms n ∷ rest)) (λ v.
+    (λ left. v.1.0 (binary o left v.0), v.1.1))
 TermAt (Err s) old new = (n : ℕ) (rest : List Need) → Fails (ahead old (part Terms n ∷ rest)) s
 
 abbrev pub ComparisonAt : Result (Option Op) Stop → Cursor → Cursor → Type 0
-ComparisonAt (Ok None) old new = (n : ℕ) (rest : List Need) → Moves (ahead old (part Comparison n ∷ rest)) (ahead new rest) (λ v. (λ left. left, v))
-ComparisonAt (Ok (Some o)) old new = (n : ℕ) (rest : List Need) → Moves (ahead old (part Comparison n ∷ rest)) (ahead new (group Sum n ∷ rest)) (λ v. (λ left. binary o left v.0, v.1))
-ComparisonAt (Err s) old new = (n : ℕ) (rest : List Need) → Fails (ahead old (part Comparison n ∷ rest)) s
+ComparisonAt (Ok None) old new =
+    (n : ℕ) (rest : List Need) → Moves (ahead old (part Comparison n ∷ rest))
+    (ahead new rest) (λ v. (λ left. left, v))
+ComparisonAt (Ok (Some o)) old new =
+    (n : ℕ) (rest : List Need) → Moves (ahead old (part Comparison n ∷ rest))
+    (ahead new (group Sum n ∷ rest)) (λ v. (λ left. binary o left v.0, v.1))
+ComparisonAt (Err s) old new =
+    (n : ℕ) (rest : List Need) → Fails (ahead old (part Comparison n ∷ rest)) s

@@ -13,7 +13,7 @@ use Rattle.drawing_grammar.specs.Edition.{edition_of}
 use Rattle.drawing_grammar.specs.Lexeme.{Lexeme}
 use Rattle.drawing_grammar.specs.declared.header.WrittenHeader.{WrittenHeader}
 use Rattle.drawing_grammar.specs.Grammar.{Need, part, constants, from_macros, Text}
-use Rattle.drawing_grammar.specs.Sketch.{Sketch, PlacedConstants, Values, front, behind, behind_constants}
+use Rattle.drawing_grammar.specs.Sketch.{Sketch, PlacedConstants, Values, sketch_from, front, behind, behind_constants}
 use Rattle.drawing_grammar.specs.Sketch.{constants_of as placed_constants}
 use Rattle.drawing_grammar.specs.Draws.{whole}
 use Rattle.drawing_grammar.specs.Laws.{places_of}
@@ -43,16 +43,9 @@ behind_header e rest = constants e (from_macros e) ++ rest
 abbrev pub headed : (e : Edition) (rest : List Need) → WrittenHeader →
     Values (behind_header e rest) → Values (part (Text e) 0 ∷ rest)
 headed e rest header v =
-    let inner = front (constants e (from_macros e)) rest v in
-    let behind_consts = behind_constants e (from_macros e) inner in (
-      record {
-        header = header;
-        consts = placed_constants e (from_macros e) inner;
-        macros = behind_consts.0;
-        name = behind_consts.1.0.text;
-        body = behind_consts.1.1.0;
-        cases = behind_consts.1.1.1.0;
-      },
+    let inner = front (constants e (from_macros e)) rest v in (
+      sketch_from e header (placed_constants e (from_macros e) inner)
+          (behind_constants e (from_macros e) inner),
       behind (constants e (from_macros e)) rest v,
     )
 

@@ -9,7 +9,8 @@ ghost use Rattle.drawing_reader.specs.Ascending.{label_cmp, Climbs, AreFresh};
 use drawing_tree::Stmt;
 use std::cmp::Ordering;
 
-/// Where a label stands against another: the shorter comes first, and of one length the one whose bytes come first.
+/// Where a label stands against another: the shorter comes first, and of one length the one whose
+/// bytes come first.
 fn order_of_labels(a: &[u8], b: &[u8]) -> Ordering
     ensures { result ≡ label_cmp a.now b.now }
 {
@@ -26,11 +27,12 @@ fn is_behind(last: &[u8], label: &[u8]) -> bool
     }
 }
 
-/// The label of a statement, where it comes after the last one; of a statement without labels the last one again.
-/// An IF and a FOR have no answer.
+/// The label of a statement, where it comes after the last one; of a statement without labels the
+/// last one again. An IF and a FOR have no answer.
 fn climbed<'a>(last: &'a [u8], statement: &'a Stmt) -> Option<&'a [u8]>
     ensures { IfSome result (λ next.
-        (scope : ℕ) → Climbs scope last.now next.now (statement_labels scope (statement_of statement.now))) }
+        (scope : ℕ) → Climbs scope last.now next.now
+        (statement_labels scope (statement_of statement.now))) }
 {
     match statement {
         Stmt::Use(u) => {
@@ -45,10 +47,11 @@ fn climbed<'a>(last: &'a [u8], statement: &'a Stmt) -> Option<&'a [u8]>
     }
 }
 
-/// Whether the labels of statements are seen to differ by their order alone: each comes after the one before, as
-/// numbered labels do. It needs no allocation.
+/// Whether the labels of statements are seen to differ by their order alone: each comes after the
+/// one before, as numbered labels do. It needs no allocation.
 pub fn are_ascending(statements: &[Stmt]) -> bool
-    ensures { IsTrue result → (scope : ℕ) → AreFresh scope (labels scope (statements_of statements.now)) }
+    ensures { IsTrue result → (scope : ℕ) →
+        AreFresh scope (labels scope (statements_of statements.now)) }
 {
     let mut last: &[u8] = &[];
     'statements: for statement in statements {

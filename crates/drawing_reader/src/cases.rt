@@ -36,7 +36,8 @@ fn capped(kind: TokenKind) -> u32
 impl<'a> Cursor<'a> {
     fn index(&mut self) -> Result<u32, Stop>
         ensures reads { (rest : List Need) →
-            Gives result (λ x v. (x, v)) (ahead self.old (part Index 0 ∷ rest)) (ahead self.new rest) }
+            Gives result (λ x v. (x, v)) (ahead self.old (part Index 0 ∷ rest))
+            (ahead self.new rest) }
         ensures no_longer { length self.new.rest.now ≤ length self.old.rest.now }
     {
         if !self.starts(Terminal::Less) {
@@ -50,7 +51,8 @@ impl<'a> Cursor<'a> {
 
     fn entry(&mut self, alloc: Global) -> Result<CaseEntry, Stop>
         ensures reads { (rest : List Need) →
-            Gives result (λ x v. (x, v)) (ahead self.old (part Entry 0 ∷ rest)) (ahead self.new rest) }
+            Gives result (λ x v. (x, v)) (ahead self.old (part Entry 0 ∷ rest))
+            (ahead self.new rest) }
         ensures no_longer { length self.new.rest.now ≤ length self.old.rest.now }
     {
         if !self.starts(Terminal::Name) {
@@ -72,7 +74,8 @@ impl<'a> Cursor<'a> {
 
     fn entries(&mut self, alloc: Global) -> Result<CaseEntries, Stop>
         ensures reads { (rest : List Need) →
-            Gives result (λ x v. (x, v)) (ahead self.old (group Entries 0 ∷ rest)) (ahead self.new rest) }
+            Gives result (λ x v. (x, v)) (ahead self.old (group Entries 0 ∷ rest))
+            (ahead self.new rest) }
         ensures no_longer { length self.new.rest.now ≤ length self.old.rest.now }
     {
         let first = self.entry(alloc)?;
@@ -88,7 +91,8 @@ impl<'a> Cursor<'a> {
 
     fn case_statement(&mut self, alloc: Global) -> Result<CaseStmt, Stop>
         ensures reads { (rest : List Need) →
-            Gives result (λ x v. (x, v)) (ahead self.old (part CaseStatement 0 ∷ rest)) (ahead self.new rest) }
+            Gives result (λ x v. (x, v)) (ahead self.old (part CaseStatement 0 ∷ rest))
+            (ahead self.new rest) }
         ensures shorter { OnOk result (length self.new.rest.now < length self.old.rest.now) }
         ensures no_longer { length self.new.rest.now ≤ length self.old.rest.now }
     {
@@ -107,7 +111,8 @@ impl<'a> Cursor<'a> {
     /// The cases.
     pub fn cases(&mut self, alloc: Global) -> Result<CaseStmts, Stop>
         ensures reads { (rest : List Need) →
-            Gives result (λ x v. (x, v)) (ahead self.old (group Cases 0 ∷ rest)) (ahead self.new rest) }
+            Gives result (λ x v. (x, v)) (ahead self.old (group Cases 0 ∷ rest))
+            (ahead self.new rest) }
         ensures no_longer { length self.new.rest.now ≤ length self.old.rest.now }
     {
         let mut all = CaseStmts::new(alloc);

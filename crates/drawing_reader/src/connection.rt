@@ -27,7 +27,8 @@ pub fn boxed<T: Drop>(alloc: Global, value: T) -> Result<Box<T>, NoMemory>
 impl<'a> Cursor<'a> {
     fn range_end(&mut self, alloc: Global) -> Result<Option<Expr>, Stop>
         ensures reads { (rest : List Need) → Gives result (λ x v.
-            (option_map expression_of x, v)) (ahead self.old (part RangeEnd 0 ∷ rest)) (ahead self.new rest) }
+            (option_map expression_of x, v)) (ahead self.old (part RangeEnd 0 ∷ rest))
+            (ahead self.new rest) }
         ensures no_longer { length self.new.rest.now ≤ length self.old.rest.now }
     {
         if !self.starts(Terminal::Colon) {
@@ -68,7 +69,8 @@ impl<'a> Cursor<'a> {
 
     fn atom(&mut self, alloc: Global) -> Result<Item, Stop>
         ensures reads { (rest : List Need) →
-            Gives result (λ x v. (item_of x, v)) (ahead self.old (part Atom 0 ∷ rest)) (ahead self.new rest) }
+            Gives result (λ x v. (item_of x, v)) (ahead self.old (part Atom 0 ∷ rest))
+            (ahead self.new rest) }
         ensures no_longer { length self.new.rest.now ≤ length self.old.rest.now }
     {
         match self.look() {
@@ -92,7 +94,8 @@ impl<'a> Cursor<'a> {
 
     /// A term, and the place of its first token.
     fn term(&mut self, alloc: Global) -> Result<(Term, Place), Stop>
-        ensures reads { (rest : List Need) → Gives result (λ x v. (record { item = term_of x.0; place = x.1 }, v))
+        ensures reads { (rest : List Need) →
+            Gives result (λ x v. (record { item = term_of x.0; place = x.1 }, v))
             (ahead self.old (part TermPart 0 ∷ rest)) (ahead self.new rest) }
         ensures no_longer { length self.new.rest.now ≤ length self.old.rest.now }
     {
@@ -140,7 +143,8 @@ impl<'a> Cursor<'a> {
 
     fn hold(&mut self) -> Result<bool, Stop>
         ensures reads { (rest : List Need) →
-            Gives result (λ x v. (x, v)) (ahead self.old (part Hold 0 ∷ rest)) (ahead self.new rest) }
+            Gives result (λ x v. (x, v)) (ahead self.old (part Hold 0 ∷ rest))
+            (ahead self.new rest) }
         ensures no_longer { length self.new.rest.now ≤ length self.old.rest.now }
     {
         if !self.starts(Terminal::Exclamation) {
@@ -153,7 +157,8 @@ impl<'a> Cursor<'a> {
 
     fn connection(&mut self, alloc: Global) -> Result<Conn, Stop>
         ensures reads { (rest : List Need) → Gives result (λ x v.
-            (connection_of x, v)) (ahead self.old (group ConnGroup 0 ∷ rest)) (ahead self.new rest) }
+            (connection_of x, v)) (ahead self.old (group ConnGroup 0 ∷ rest))
+            (ahead self.new rest) }
         ensures no_longer { length self.new.rest.now ≤ length self.old.rest.now }
     {
         let (first, place) = self.term(alloc)?;
@@ -170,7 +175,8 @@ impl<'a> Cursor<'a> {
 
     fn some_connections(&mut self, alloc: Global) -> Result<Conns, Stop>
         ensures reads { (rest : List Need) → Gives result (λ x v.
-            (map connection_of x, v)) (ahead self.old (group SomeConns 0 ∷ rest)) (ahead self.new rest) }
+            (map connection_of x, v)) (ahead self.old (group SomeConns 0 ∷ rest))
+            (ahead self.new rest) }
         ensures no_longer { length self.new.rest.now ≤ length self.old.rest.now }
     {
         let first = self.connection(alloc)?;
@@ -197,7 +203,8 @@ impl<'a> Cursor<'a> {
     /// Connections, or none.
     pub fn connections(&mut self, alloc: Global) -> Result<Conns, Stop>
         ensures reads { (rest : List Need) → Gives result (λ x v.
-            (map connection_of x, v)) (ahead self.old (group ConnsGroup 0 ∷ rest)) (ahead self.new rest) }
+            (map connection_of x, v)) (ahead self.old (group ConnsGroup 0 ∷ rest))
+            (ahead self.new rest) }
         ensures no_longer { length self.new.rest.now ≤ length self.old.rest.now }
     {
         if !self.at_term() {
@@ -210,7 +217,8 @@ impl<'a> Cursor<'a> {
     /// The outputs after an arrow, or none.
     pub fn outputs(&mut self, alloc: Global) -> Result<Conns, Stop>
         ensures reads { (rest : List Need) → Gives result (λ x v.
-            (map connection_of x, v)) (ahead self.old (part Outputs 0 ∷ rest)) (ahead self.new rest) }
+            (map connection_of x, v)) (ahead self.old (part Outputs 0 ∷ rest))
+            (ahead self.new rest) }
         ensures no_longer { length self.new.rest.now ≤ length self.old.rest.now }
     {
         if !self.starts(Terminal::Arrow) {

@@ -142,7 +142,8 @@ impl<'a> Cursor<'a> {
         token
     }
 
-    /// Takes a token that has to stand here; where the next is another, `Syntax` comes at its place.
+    /// Takes a token that has to stand here; where the next is another, `Syntax` comes at its
+    /// place.
     pub fn mark(&mut self, terminal: Terminal) -> Result<(), Stop>
         requires { terminal ≢ EndOfText }
         ensures reads { (rest : List Need) →
@@ -161,7 +162,8 @@ impl<'a> Cursor<'a> {
     pub fn item(&mut self, terminal: Terminal) -> Result<Token, Stop>
         requires { terminal ≢ EndOfText }
         ensures reads { (rest : List Need) →
-            Gives result (λ t v. (at self.old t, v)) (ahead self.old (item terminal ∷ rest)) (ahead self.new rest) }
+            Gives result (λ t v. (at self.old t, v)) (ahead self.old (item terminal ∷ rest))
+            (ahead self.new rest) }
         ensures taken { IfOk result (λ t. tokens_at self.old ≡ at self.old t ∷ tokens_at self.new) }
         ensures shorter { OnOk result (length self.new.rest.now < length self.old.rest.now) }
         ensures no_longer { length self.new.rest.now ≤ length self.old.rest.now }
@@ -237,7 +239,8 @@ impl<'a> Cursor<'a> {
     /// place.
     pub fn keyword(&mut self, keyword: Keyword) -> Result<(), Stop>
         ensures reads { (rest : List Need) →
-            Gives result (λ _ v. v) (ahead self.old (keyword_need keyword ∷ rest)) (ahead self.new rest) }
+            Gives result (λ _ v. v) (ahead self.old (keyword_need keyword ∷ rest))
+            (ahead self.new rest) }
         ensures no_longer { length self.new.rest.now ≤ length self.old.rest.now }
     {
         if !self.at_keyword(keyword) {

@@ -71,7 +71,8 @@ impl<'a> Declarations<'a> {
         name: &'a [u8],
         place: Place,
     ) -> Result<(), Stop>
-        ensures { MatchResult result (λ _. Declares self.old self.new (declaration scope kind name.now place ∷ []))
+        ensures { MatchResult result (λ _.
+            Declares self.old self.new (declaration scope kind name.now place ∷ []))
             (IsStopAt self.old (declaration scope kind name.now place ∷ [])) }
     {
         let seen = &mut self.seen;
@@ -162,7 +163,8 @@ impl<'a> Declarations<'a> {
     /// Takes the labels inside of an IF.
     #[cycle(labels)]
     fn choice(&mut self, scope: usize, choice: &'a IfStmt) -> Result<(), Stop>
-        ensures { MatchResult result (λ _. Declares self.old self.new (statement_labels scope (if_of choice.now)))
+        ensures { MatchResult result (λ _.
+            Declares self.old self.new (statement_labels scope (if_of choice.now)))
             (IsStopAt self.old (statement_labels scope (if_of choice.now))) }
     {
         self.statements(scope, choice.yes.as_slice())?;
@@ -175,7 +177,8 @@ impl<'a> Declarations<'a> {
     /// Takes the labels inside of a FOR.
     #[cycle(labels)]
     fn repeated(&mut self, scope: usize, repeated: &'a ForStmt) -> Result<(), Stop>
-        ensures { MatchResult result (λ _. Declares self.old self.new (statement_labels scope (for_of repeated.now)))
+        ensures { MatchResult result (λ _.
+            Declares self.old self.new (statement_labels scope (for_of repeated.now)))
             (IsStopAt self.old (statement_labels scope (for_of repeated.now))) }
     {
         self.statements(scope, repeated.body.as_slice())
@@ -184,7 +187,8 @@ impl<'a> Declarations<'a> {
     /// Takes the labels of statements.
     #[cycle(labels)]
     fn statements(&mut self, scope: usize, statements: &'a [Stmt]) -> Result<(), Stop>
-        ensures { MatchResult result (λ _. Declares self.old self.new (labels scope (statements_of statements.now)))
+        ensures { MatchResult result (λ _.
+            Declares self.old self.new (labels scope (statements_of statements.now)))
             (IsStopAt self.old (labels scope (statements_of statements.now))) }
     {
         'statements: for statement in statements {
@@ -219,7 +223,8 @@ impl<'a> Declarations<'a> {
         ensures { MatchResult result (λ _.
             Declares self.old self.new (head_declared scope (macro_of definition.now) head.now
             ++ labels scope (macro_of definition.now).body)) (IsStopAt self.old
-            (head_declared scope (macro_of definition.now) head.now ++ labels scope (macro_of definition.now).body)) }
+            (head_declared scope (macro_of definition.now) head.now
+            ++ labels scope (macro_of definition.now).body)) }
     {
         self.head(scope, definition, head)?;
         self.statements(scope, definition.body.as_slice())
@@ -264,7 +269,8 @@ pub fn distinct_names(
     let mut declarations = Declarations::new(alloc);
     declarations.constants(consts.consts.as_slice(), consts.name_places.as_slice())?;
     declarations.definitions(macros.as_slice(), heads)?;
-    // No memory is taken for labels that are seen to differ by their order alone, as most are where there are many.
+    // No memory is taken for labels that are seen to differ by their order alone, as most are where
+    // there are many.
     if are_ascending(body) {
         return Ok(());
     }

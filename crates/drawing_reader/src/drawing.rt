@@ -22,9 +22,10 @@ use scald_lex::PackedList;
 use std::alloc::Global;
 
 /// The drawing of a text, whose tokens these are, or its first refusal: `Syntax` or `TooDeep`,
-/// whichever token comes first; then `BadHeader`; then `BadName` and `EdgesOverlap`, name by name; then
-/// `DoubleName`. A refusal has the place of one of the tokens. The drawing is well formed, and its canonical
-/// text draws it again, places aside, where that text does not nest too deep.
+/// whichever token comes first; then `BadHeader`; then `BadName` and `EdgesOverlap`, name by name;
+/// then
+/// `DoubleName`. A refusal has the place of one of the tokens. The drawing is well formed, and its
+/// canonical text draws it again, places aside, where that text does not nest too deep.
 pub fn read_drawing(alloc: Global, text: &[u8], tokens: &PackedList) -> Result<Drawing, Stop>
     requires { AreTokens text.now tokens.now }
     ensures drawn { IfOk result (λ d. Draws (lexemes text.now tokens.now) (drawing_of d)) }
@@ -34,8 +35,10 @@ pub fn read_drawing(alloc: Global, text: &[u8], tokens: &PackedList) -> Result<D
     ensures refused { IfErr result (λ stop. IsWrongStop (lexemes text.now tokens.now) stop) }
     ensures at_token { IfErr result (λ stop. IsStopAt (lexemes text.now tokens.now) stop) }
     ensures placed { IfErr result (λ stop. IsPlacedStop text.now stop) }
-    ensures only_drawing { (d : Drawn) → Draws (lexemes text.now tokens.now) d → GivesDrawing d result }
-    ensures only_refusal { (r : Refusal) → IsWrong (lexemes text.now tokens.now) r → GivesRefusal r result }
+    ensures only_drawing { (d : Drawn) → Draws (lexemes text.now tokens.now) d →
+        GivesDrawing d result }
+    ensures only_refusal { (r : Refusal) → IsWrong (lexemes text.now tokens.now) r →
+        GivesRefusal r result }
 {
     judged_drawing(alloc, text, tokens)
 }

@@ -19,7 +19,8 @@ use scald_base::{Bytes, NoMemory, RefusalKind, Stop};
 use scald_lex::{Token, TokenKind};
 use std::alloc::Global;
 
-/// The most parentheses and minus signs that may be open at once, and the most binary operators of an expression.
+/// The most parentheses and minus signs that may be open at once, and the most binary operators of
+/// an expression.
 const LIMIT: usize = 64;
 
 fn number(kind: TokenKind) -> Expr
@@ -38,7 +39,8 @@ fn negated(alloc: Global, operand: Expr) -> Result<Expr, NoMemory>
 }
 
 fn binary(alloc: Global, op: Op, left: Expr, right: Expr) -> Result<Expr, NoMemory>
-    ensures { IfOk result (λ e. expression_of e ≡ Expression.Binary op (expression_of left) (expression_of right)) }
+    ensures { IfOk result (λ e.
+        expression_of e ≡ Expression.Binary op (expression_of left) (expression_of right)) }
 {
     let left = Box::new(alloc, left)?;
     let right = Box::new(alloc, right)?;
@@ -63,7 +65,8 @@ impl<'a> Cursor<'a> {
         ensures ok { IfOk result (λ n. n ≡ suc depth) }
         ensures room { OnOk result (depth < 64) }
         ensures err { IfErr result (λ s.
-            (s ≡ Stop.Refused (refusal RefusalKind.TooDeep (first_place (tokens_at self.now)))) × (64 ≤ depth)) }
+            (s ≡ Stop.Refused (refusal RefusalKind.TooDeep (first_place (tokens_at self.now))))
+            × (64 ≤ depth)) }
     {
         if depth >= LIMIT {
             return Err(self.refused(RefusalKind::TooDeep));
@@ -73,14 +76,16 @@ impl<'a> Cursor<'a> {
 
     /// Takes the first token of a binary operator.
     fn operator(&mut self) -> Result<(), Stop>
-        ensures taken { OnOk result (first_terminal (tokens_at self.old) ≢ EndOfText → Taken self.old self.new) }
+        ensures taken { OnOk result (first_terminal (tokens_at self.old) ≢ EndOfText →
+            Taken self.old self.new) }
         ensures counted { OnOk result (self.new.operators ≡ suc self.old.operators) }
         ensures room { OnOk result (self.old.operators < 64) }
         ensures err { IfErr result (λ s.
             (s ≡ Stop.Refused (refusal RefusalKind.TooDeep (first_place (tokens_at self.old))))
             × (64 ≤ self.old.operators)) }
         ensures shorter { OnOk result
-            (first_terminal (tokens_at self.old) ≢ EndOfText → length self.new.rest.now < length self.old.rest.now) }
+            (first_terminal (tokens_at self.old) ≢ EndOfText →
+            length self.new.rest.now < length self.old.rest.now) }
         ensures no_longer { length self.new.rest.now ≤ length self.old.rest.now }
     {
         if self.operators >= LIMIT {
@@ -93,7 +98,8 @@ impl<'a> Cursor<'a> {
 
     fn factor_operator(&mut self) -> Result<Option<Op>, Stop>
         ensures reads { FactorAt result self.old self.new }
-        ensures shorter { IfOk result (λ o. IfSome o (λ _. length self.new.rest.now < length self.old.rest.now)) }
+        ensures shorter { IfOk result (λ o.
+            IfSome o (λ _. length self.new.rest.now < length self.old.rest.now)) }
         ensures no_longer { length self.new.rest.now ≤ length self.old.rest.now }
     {
         match self.look() {
@@ -111,7 +117,8 @@ impl<'a> Cursor<'a> {
 
     fn term_operator(&mut self) -> Result<Option<Op>, Stop>
         ensures reads { TermAt result self.old self.new }
-        ensures shorter { IfOk result (λ o. IfSome o (λ _. length self.new.rest.now < length self.old.rest.now)) }
+        ensures shorter { IfOk result (λ o.
+            IfSome o (λ _. length self.new.rest.now < length self.old.rest.now)) }
         ensures no_longer { length self.new.rest.now ≤ length self.old.rest.now }
     {
         match self.look() {
@@ -130,7 +137,8 @@ impl<'a> Cursor<'a> {
     /// Takes an equals sign that may stand here.
     fn or_equal(&mut self) -> bool
         ensures reads { (n : ℕ) (rest : List Need) →
-            Moves (ahead self.old (part OrEqual n ∷ rest)) (ahead self.new rest) (λ v. (result, v)) }
+            Moves (ahead self.old (part OrEqual n ∷ rest))
+            (ahead self.new rest) (λ v. (result, v)) }
         ensures no_longer { length self.new.rest.now ≤ length self.old.rest.now }
     {
         if !self.starts(Terminal::Equals) {
@@ -204,7 +212,8 @@ impl<'a> Cursor<'a> {
     #[cycle(expression)]
     fn product(&mut self, alloc: Global, depth: usize) -> Result<Expr, Stop>
         ensures reads { (rest : List Need) → Gives result (λ e v.
-            (expression_of e, v)) (ahead self.old (group Product depth ∷ rest)) (ahead self.new rest) }
+            (expression_of e, v)) (ahead self.old (group Product depth ∷ rest))
+            (ahead self.new rest) }
         ensures no_longer { length self.new.rest.now ≤ length self.old.rest.now }
     {
         let mut left = self.unary(alloc, depth)?;
@@ -232,7 +241,8 @@ impl<'a> Cursor<'a> {
     #[cycle(expression)]
     fn whole(&mut self, alloc: Global, depth: usize) -> Result<Expr, Stop>
         ensures reads { (rest : List Need) → Gives result (λ e v.
-            (expression_of e, v)) (ahead self.old (group Whole depth ∷ rest)) (ahead self.new rest) }
+            (expression_of e, v)) (ahead self.old (group Whole depth ∷ rest))
+            (ahead self.new rest) }
         ensures no_longer { length self.new.rest.now ≤ length self.old.rest.now }
     {
         let left = self.sum(alloc, depth)?;
@@ -261,7 +271,8 @@ impl<'a> Cursor<'a> {
 
     /// Whether an operator between the operands of a sum stands here.
     fn at_operator(&self) -> bool
-        ensures factors { IsFalse result → choice Factors (first_terminal (tokens_at self.now)) ≡ None }
+        ensures factors { IsFalse result →
+            choice Factors (first_terminal (tokens_at self.now)) ≡ None }
         ensures terms { IsFalse result → choice Terms (first_terminal (tokens_at self.now)) ≡ None }
     {
         self.at_factor_operator() || self.at_term_operator()
@@ -269,10 +280,12 @@ impl<'a> Cursor<'a> {
 
     /// Takes a number that is all of a sum, as it is of most.
     fn lone_number(&mut self) -> Option<Token>
-        ensures found { IfSome result (λ t. (rest : List Need) → Moves (ahead self.old (group Sum 0 ∷ rest))
+        ensures found { IfSome result (λ t.
+            (rest : List Need) → Moves (ahead self.old (group Sum 0 ∷ rest))
             (ahead self.new rest) (λ v. (Expression.Number (kind_number t.kind), v))) }
         ensures none { IfNone result ((rest : List Need) →
-            Moves (ahead self.old (group Sum 0 ∷ rest)) (ahead self.new (group Sum 0 ∷ rest)) (λ v. v)) }
+            Moves (ahead self.old (group Sum 0 ∷ rest))
+            (ahead self.new (group Sum 0 ∷ rest)) (λ v. v)) }
         ensures no_longer { length self.new.rest.now ≤ length self.old.rest.now }
     {
         if !self.starts(Terminal::Number) {
@@ -290,7 +303,8 @@ impl<'a> Cursor<'a> {
     /// A sum that is an expression of its own.
     pub fn own_sum(&mut self, alloc: Global) -> Result<Expr, Stop>
         ensures reads { (rest : List Need) → Gives result (λ e v.
-            (expression_of e, v)) (ahead self.old (fresh ∷ group Sum 0 ∷ rest)) (ahead self.new rest) }
+            (expression_of e, v)) (ahead self.old (fresh ∷ group Sum 0 ∷ rest))
+            (ahead self.new rest) }
         ensures no_longer { length self.new.rest.now ≤ length self.old.rest.now }
     {
         self.operators = 0;
@@ -303,7 +317,8 @@ impl<'a> Cursor<'a> {
 
     /// Two sums with a colon between them.
     pub fn two_sums(&mut self, alloc: Global) -> Result<(Expr, Expr), Stop>
-        ensures reads { (rest : List Need) → Gives result (λ x v. (expression_of x.0, (expression_of x.1, v)))
+        ensures reads { (rest : List Need) →
+            Gives result (λ x v. (expression_of x.0, (expression_of x.1, v)))
             (ahead self.old (own_sum (mark Terminal.Colon ∷ own_sum rest))) (ahead self.new rest) }
         ensures no_longer { length self.new.rest.now ≤ length self.old.rest.now }
     {
@@ -316,7 +331,8 @@ impl<'a> Cursor<'a> {
     /// An expression, which may be a comparison.
     pub fn own_expression(&mut self, alloc: Global) -> Result<Expr, Stop>
         ensures reads { (rest : List Need) → Gives result (λ e v.
-            (expression_of e, v)) (ahead self.old (fresh ∷ group Whole 0 ∷ rest)) (ahead self.new rest) }
+            (expression_of e, v)) (ahead self.old (fresh ∷ group Whole 0 ∷ rest))
+            (ahead self.new rest) }
         ensures no_longer { length self.new.rest.now ≤ length self.old.rest.now }
     {
         self.operators = 0;

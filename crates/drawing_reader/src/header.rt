@@ -52,7 +52,8 @@ fn refused(place: Place) -> Refusal
 
 /// Units and ticks.
 fn clock(pair: NumberPair) -> Option<(u16, u16)>
-    ensures is { SomeIff result (is_clock pair.first pair.second ≡ true) (natural pair.first, natural pair.second) }
+    ensures is { SomeIff result (is_clock pair.first pair.second ≡ true)
+        (natural pair.first, natural pair.second) }
 {
     match pair.first.checked_mul(pair.second) {
         Some(period) if pair.first >= 1 && pair.second >= 1 && period >= 2 && period <= 4096 => {

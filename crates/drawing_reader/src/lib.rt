@@ -1,10 +1,10 @@
 //! From the tokens of a text to the tree of its drawing.
 //!
-//! The layer above calls [`read_drawing`], which answers the one drawing that the tokens of a text draw,
-//! or its first refusal; what both are is said by the crate `drawing_grammar`. The reader is a descent
-//! over the tokens, a function for each part of the grammar; then the header, the names and what is
-//! declared twice are judged. `specs/Reader` says what a cursor has before it, `specs/Sketched` what
-//! reading a whole text answers.
+//! The layer above calls [`read_drawing`], which answers the one drawing that the tokens of a text
+//! draw, or its first refusal; what both are is said by the crate `drawing_grammar`. The reader is
+//! a descent over the tokens, a function for each part of the grammar; then the header, the names
+//! and what is declared twice are judged. `specs/Reader` says what a cursor has before it,
+//! `specs/Sketched` what reading a whole text answers.
 #![tactic(auto)]
 
 // tokens

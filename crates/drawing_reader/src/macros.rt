@@ -25,7 +25,8 @@ struct Declares {
 impl<'a> Cursor<'a> {
     /// A formal, and the place of its name.
     fn formal(&mut self, alloc: Global) -> Result<(Formal, Place), Stop>
-        ensures reads { (rest : List Need) → Gives result (λ x v. (record { item = formal_of x.0; place = x.1 }, v))
+        ensures reads { (rest : List Need) →
+            Gives result (λ x v. (record { item = formal_of x.0; place = x.1 }, v))
             (ahead self.old (part FormalPart 0 ∷ rest)) (ahead self.new rest) }
         ensures no_longer { length self.new.rest.now ≤ length self.old.rest.now }
     {
@@ -107,7 +108,8 @@ impl<'a> Cursor<'a> {
         Ok(all)
     }
 
-    /// What stands between the name of a macro and its statements, and where it names what it declares.
+    /// What stands between the name of a macro and its statements, and where it names what it
+    /// declares.
     fn head(&mut self, alloc: Global) -> Result<(Declares, Head), Stop>
         ensures reads { (rest : List Need) →
             Gives result (λ x v. (
@@ -117,8 +119,9 @@ impl<'a> Cursor<'a> {
                 (record { items = map formal_of x.0.outs; places = x.1.outs }, v),
               ),
             ))
-            (ahead self.old (part Parameters 0 ∷ mark Terminal.OpenParenthesis ∷ group
-            FormalsGroup 0 ∷ mark Terminal.CloseParenthesis ∷ part FormalOutputs 0 ∷ rest)) (ahead self.new rest) }
+            (ahead self.old (part Parameters 0 ∷ mark Terminal.OpenParenthesis
+            ∷ group FormalsGroup 0 ∷ mark Terminal.CloseParenthesis ∷ part FormalOutputs 0 ∷ rest))
+            (ahead self.new rest) }
         ensures no_longer { length self.new.rest.now ≤ length self.old.rest.now }
     {
         let (params, parameters) = self.parameters(alloc)?;
@@ -133,7 +136,8 @@ impl<'a> Cursor<'a> {
     }
 
     fn definition(&mut self, alloc: Global, edition: Edition) -> Result<(MacroDef, Head), Stop>
-        ensures reads { (rest : List Need) → Gives result (λ x v. (record { macro = macro_of x.0; head = x.1 }, v))
+        ensures reads { (rest : List Need) →
+            Gives result (λ x v. (record { macro = macro_of x.0; head = x.1 }, v))
             (ahead self.old (part (MacroPart edition) 0 ∷ rest)) (ahead self.new rest) }
         ensures shorter { OnOk result (length self.new.rest.now < length self.old.rest.now) }
         ensures no_longer { length self.new.rest.now ≤ length self.old.rest.now }

@@ -101,8 +101,8 @@ fn is_again(text: &[u8], of_formal: bool, known: &[u8]) -> bool
     known == text
 }
 
-/// Whether a text is of a name that may stand there. `known` is of a name that may stand outside of a head, and so
-/// is the answer: where the text was read, it is the text.
+/// Whether a text is of a name that may stand there. `known` is of a name that may stand outside of
+/// a head, and so is the answer: where the text was read, it is the text.
 fn judge<'a>(
     alloc: Global,
     text: &'a [u8],
@@ -116,7 +116,8 @@ fn judge<'a>(
         (IsNameStop header.now (named text.now of_formal place ∷ [])) }
     ensures known { IfOk result (λ now. IsKnown header.now now.now) }
 {
-    // No memory is taken for a name that is seen to be good by its bytes alone, nor for a clock that stands again.
+    // No memory is taken for a name that is seen to be good by its bytes alone, nor for a clock
+    // that stands again.
     if is_bare(text) {
         return Ok(known);
     }
@@ -133,7 +134,8 @@ fn judge<'a>(
     }
 }
 
-/// Takes a token, inside or outside of a macro's head, and answers where the next one stands and what name is known.
+/// Takes a token, inside or outside of a macro's head, and answers where the next one stands and
+/// what name is known.
 fn judge_token<'a>(
     alloc: Global,
     text: &'a [u8],
@@ -143,12 +145,15 @@ fn judge_token<'a>(
     header: &Header,
 ) -> Result<(bool, &'a [u8]), Stop>
     requires { IsKnown header.now known.now }
-    ensures next { IfOk result (λ next. next.0 ≡ head_behind in_head (terminal (lexeme_of text.now token))) }
+    ensures next { IfOk result (λ next.
+        next.0 ≡ head_behind in_head (terminal (lexeme_of text.now token))) }
     ensures known { IfOk result (λ next. IsKnown header.now next.1.now) }
     ensures good { IfOk result (λ _.
-        AreGood header.now (names_at in_head (terminal (lexeme_of text.now token)) (lexeme_of text.now token))) }
+        AreGood header.now (names_at in_head (terminal (lexeme_of text.now token))
+        (lexeme_of text.now token))) }
     ensures refused { IfErr result
-        (IsNameStop header.now (names_at in_head (terminal (lexeme_of text.now token)) (lexeme_of text.now token))) }
+        (IsNameStop header.now (names_at in_head (terminal (lexeme_of text.now token))
+        (lexeme_of text.now token))) }
 {
     match terminal_of(text, token) {
         Terminal::Macro => Ok((true, known)),
@@ -162,16 +167,17 @@ fn judge_token<'a>(
     }
 }
 
-/// Whether each name of a text is one that fits the header, and plain where it is a formal's. At the first
-/// that is not, `BadName` comes where it has not the form of a name, is a formal's and not plain, or has an
-/// interval that does not fit; else `EdgesOverlap`.
+/// Whether each name of a text is one that fits the header, and plain where it is a formal's. At
+/// the first that is not, `BadName` comes where it has not the form of a name, is a formal's and
+/// not plain, or has an interval that does not fit; else `EdgesOverlap`.
 pub fn judged_names(
     alloc: Global,
     text: &[u8],
     tokens: &[PackedToken],
     header: &Header,
 ) -> Result<(), Stop>
-    ensures { MatchResult result (λ _. AreGood header.now (names_from false (lexemes text.now tokens.now)))
+    ensures { MatchResult result (λ _.
+        AreGood header.now (names_from false (lexemes text.now tokens.now)))
         (IsNameStop header.now (names_from false (lexemes text.now tokens.now))) }
 {
     let mut in_head = false;

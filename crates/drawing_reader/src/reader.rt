@@ -37,7 +37,11 @@ pub struct Sketch {
 }
 
 fn pair_of(first: TokenKind, second: TokenKind, place: Place) -> NumberPair
-    ensures { result ≡ record { first = kind_number first; second = kind_number second; place = place } }
+    ensures { result ≡ record {
+      first = kind_number first;
+      second = kind_number second;
+      place = place;
+    } }
 {
     NumberPair {
         first: value_of(first),
@@ -106,7 +110,8 @@ impl<'a> Cursor<'a> {
 
     fn wire_bounds(&mut self) -> Result<Option<NumberPair>, Stop>
         ensures reads { (rest : List Need) →
-            Gives result (λ x v. (x, v)) (ahead self.old (part WireBounds 0 ∷ rest)) (ahead self.new rest) }
+            Gives result (λ x v. (x, v)) (ahead self.old (part WireBounds 0 ∷ rest))
+            (ahead self.new rest) }
     {
         if !self.starts(Terminal::Wire) {
             return Ok(None);
@@ -118,7 +123,8 @@ impl<'a> Cursor<'a> {
 
     fn precision_skew(&mut self) -> Result<Option<NumberPair>, Stop>
         ensures reads { (rest : List Need) →
-            Gives result (λ x v. (x, v)) (ahead self.old (part PrecisionSkew 0 ∷ rest)) (ahead self.new rest) }
+            Gives result (λ x v. (x, v)) (ahead self.old (part PrecisionSkew 0 ∷ rest))
+            (ahead self.new rest) }
     {
         if !self.starts(Terminal::Pskew) {
             return Ok(None);
@@ -130,7 +136,8 @@ impl<'a> Cursor<'a> {
 
     fn clock_skew(&mut self) -> Result<Option<NumberPair>, Stop>
         ensures reads { (rest : List Need) →
-            Gives result (λ x v. (x, v)) (ahead self.old (part ClockSkew 0 ∷ rest)) (ahead self.new rest) }
+            Gives result (λ x v. (x, v)) (ahead self.old (part ClockSkew 0 ∷ rest))
+            (ahead self.new rest) }
     {
         if !self.starts(Terminal::Cskew) {
             return Ok(None);
@@ -173,8 +180,10 @@ impl<'a> Cursor<'a> {
     /// The header. Its version is the one that the tokens name.
     fn header(&mut self) -> Result<WrittenHeader, Stop>
         ensures reads { (e : Version) (rest : List Need) → Gives result (λ x v.
-            headed e rest x v) (ahead self.old (part (Text e) 0 ∷ rest)) (ahead self.new (behind_header e rest)) }
-        ensures version { IfOk result (λ x. edition_by x.version ≡ edition_of (tokens_at self.old)) }
+            headed e rest x v) (ahead self.old (part (Text e) 0 ∷ rest))
+            (ahead self.new (behind_header e rest)) }
+        ensures version { IfOk result (λ x.
+            edition_by x.version ≡ edition_of (tokens_at self.old)) }
     {
         if !self.starts(Terminal::Scald) {
             return Err(self.refused(RefusalKind::Syntax));
@@ -202,7 +211,8 @@ impl<'a> Cursor<'a> {
     /// All but the end of the text.
     fn sketch(&mut self, alloc: Global) -> Result<Sketch, Stop>
         ensures reads { (rest : List Need) → Gives result (λ x v.
-            (sketch_of x, v)) (ahead self.old (part (Text (edition_of (tokens_at self.old))) 0 ∷ rest))
+            (sketch_of x, v)) (ahead self.old
+            (part (Text (edition_of (tokens_at self.old))) 0 ∷ rest))
             (ahead self.new (mark EndOfText ∷ rest)) }
     {
         let header = self.header()?;
@@ -232,14 +242,17 @@ impl<'a> Cursor<'a> {
     }
 }
 
-/// What the tokens of a text stand for, or the first token that is refused: `Syntax` where no text goes on with it,
+/// What the tokens of a text stand for, or the first token that is refused: `Syntax` where no text
+/// goes on with it,
 /// `TooDeep` where it is beyond a limit.
 pub fn read_sketch(alloc: Global, text: &[u8], tokens: &PackedList) -> Result<Sketch, Stop>
     requires { AreTokens text.now tokens.now }
     ensures found { IfOk result (λ found. Reads (lexemes text.now tokens.now) (sketch_of found)) }
     ensures refused { IfErr result (λ stop. IsStop (lexemes text.now tokens.now) stop) }
-    ensures only_sketch { (s : Sketched) → Reads (lexemes text.now tokens.now) s → GivesSketch s result }
-    ensures only_refusal { (r : Refusal) → IsRefused (lexemes text.now tokens.now) r → GivesRefusal r result }
+    ensures only_sketch { (s : Sketched) → Reads (lexemes text.now tokens.now) s →
+        GivesSketch s result }
+    ensures only_refusal { (r : Refusal) → IsRefused (lexemes text.now tokens.now) r →
+        GivesRefusal r result }
 {
     let mut cursor = Cursor {
         text,

@@ -53,7 +53,8 @@ pub fn word(alloc: Global, text: &[u8], token: Token) -> Result<Bytes, NoMemory>
 
 /// The name of a token of a text.
 pub fn name(alloc: Global, text: &[u8], token: Token) -> Result<SignalName, Stop>
-    ensures is { IfOk result (λ name. name ≡ signal_named (slice_range text.now token.start token.end)) }
+    ensures is { IfOk result (λ name.
+        name ≡ signal_named (slice_range text.now token.start token.end)) }
     ensures memory { IfErr result (λ stop. stop ≡ OutOfMemory) }
 {
     signal(alloc, text_of(text, token))
@@ -63,7 +64,8 @@ impl<'a> Cursor<'a> {
     /// Takes a word that has to stand here, and its bytes.
     pub fn next_word(&mut self, alloc: Global) -> Result<(Token, Bytes), Stop>
         ensures reads { (rest : List Need) → Gives result (λ x v.
-            (at self.old x.0, v)) (ahead self.old (item Terminal.Word ∷ rest)) (ahead self.new rest) }
+            (at self.old x.0, v)) (ahead self.old (item Terminal.Word ∷ rest))
+            (ahead self.new rest) }
         ensures text { IfOk result (λ x. x.1 ≡ (at self.old x.0).text) }
         ensures shorter { OnOk result (length self.new.rest.now < length self.old.rest.now) }
         ensures no_longer { length self.new.rest.now ≤ length self.old.rest.now }

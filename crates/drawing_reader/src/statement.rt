@@ -104,8 +104,10 @@ impl<'a> Cursor<'a> {
     /// Two sums with a colon between them, and what closes them.
     fn sums(&mut self, alloc: Global, close: Terminal) -> Result<(Expr, Expr), Stop>
         requires { close ≢ EndOfText }
-        ensures reads { (rest : List Need) → Gives result (λ x v. (expression_of x.0, (expression_of x.1, v)))
-            (ahead self.old (own_sum (mark Terminal.Colon ∷ own_sum (mark close ∷ rest)))) (ahead self.new rest) }
+        ensures reads { (rest : List Need) →
+            Gives result (λ x v. (expression_of x.0, (expression_of x.1, v)))
+            (ahead self.old (own_sum (mark Terminal.Colon ∷ own_sum (mark close ∷ rest))))
+            (ahead self.new rest) }
         ensures no_longer { length self.new.rest.now ≤ length self.old.rest.now }
     {
         let both = self.two_sums(alloc)?;
@@ -116,7 +118,8 @@ impl<'a> Cursor<'a> {
     /// A comma and the delay of falls, or nothing.
     fn fall(&mut self, alloc: Global) -> Result<Option<Box<(Expr, Expr)>>, Stop>
         ensures reads { (rest : List Need) → Gives result (λ x v.
-            (written_fall_of x, v)) (ahead self.old (part FallPart 0 ∷ rest)) (ahead self.new rest) }
+            (written_fall_of x, v)) (ahead self.old (part FallPart 0 ∷ rest))
+            (ahead self.new rest) }
         ensures no_longer { length self.new.rest.now ≤ length self.old.rest.now }
     {
         if !self.starts(Terminal::Comma) {
@@ -131,7 +134,8 @@ impl<'a> Cursor<'a> {
     /// The delay of a use in brackets, with that of falls where two are written, or nothing.
     fn delays(&mut self, alloc: Global) -> Result<Delays, Stop>
         ensures reads { (rest : List Need) →
-            Gives result (λ x v. (record { delay = option_map both_of x.delay; fall = written_fall_of x.fall }, v))
+            Gives result (λ x v.
+            (record { delay = option_map both_of x.delay; fall = written_fall_of x.fall }, v))
             (ahead self.old (part DelayPart 0 ∷ rest)) (ahead self.new rest) }
         ensures no_longer { length self.new.rest.now ≤ length self.old.rest.now }
     {
@@ -156,8 +160,9 @@ impl<'a> Cursor<'a> {
         ensures reads { (rest : List Need) →
             Gives result (λ x v.
             (map connection_of x.0, (map connection_of x.1, v)))
-            (ahead self.old (mark Terminal.OpenParenthesis ∷ group ConnsGroup 0 ∷
-            mark Terminal.CloseParenthesis ∷ part Outputs 0 ∷ mark Terminal.Semicolon ∷ rest)) (ahead self.new rest) }
+            (ahead self.old (mark Terminal.OpenParenthesis ∷ group ConnsGroup 0
+            ∷ mark Terminal.CloseParenthesis ∷ part Outputs 0 ∷ mark Terminal.Semicolon ∷ rest))
+            (ahead self.new rest) }
         ensures no_longer { length self.new.rest.now ≤ length self.old.rest.now }
     {
         self.mark(Terminal::OpenParenthesis)?;
@@ -186,7 +191,8 @@ impl<'a> Cursor<'a> {
 
     fn use_statement(&mut self, alloc: Global) -> Result<UseStmt, Stop>
         requires { first_terminal (tokens_at self.old) ≡ Terminal.Word }
-        ensures reads { (e : Version) (n : ℕ) (rest : List Need) → at_loop e (tokens_at self.old) ≡ false →
+        ensures reads { (e : Version) (n : ℕ) (rest : List Need) →
+            at_loop e (tokens_at self.old) ≡ false →
             Gives result (λ x v. (tree.Use (use_of x), v))
             (ahead self.old (part (StatementPart e) n ∷ rest)) (ahead self.new rest) }
         ensures shorter { OnOk result (length self.new.rest.now < length self.old.rest.now) }
@@ -212,7 +218,8 @@ impl<'a> Cursor<'a> {
     fn wire_statement(&mut self, alloc: Global) -> Result<WireStmt, Stop>
         requires { first_terminal (tokens_at self.old) ≡ Terminal.Wire }
         ensures reads { (e : Version) (n : ℕ) (rest : List Need) → Gives result (λ x v.
-            (tree.Wire (wire_of x), v)) (ahead self.old (part (StatementPart e) n ∷ rest)) (ahead self.new rest) }
+            (tree.Wire (wire_of x), v)) (ahead self.old (part (StatementPart e) n ∷ rest))
+            (ahead self.new rest) }
         ensures shorter { OnOk result (length self.new.rest.now < length self.old.rest.now) }
         ensures no_longer { length self.new.rest.now ≤ length self.old.rest.now }
     {
@@ -232,7 +239,8 @@ impl<'a> Cursor<'a> {
     /// The condition of an IF, and the word THEN after it.
     fn condition(&mut self, alloc: Global) -> Result<Expr, Stop>
         ensures reads { (rest : List Need) → Gives result (λ x v. (expression_of x, v))
-            (ahead self.old (fresh ∷ group Whole 0 ∷ mark Terminal.Then ∷ rest)) (ahead self.new rest) }
+            (ahead self.old (fresh ∷ group Whole 0 ∷ mark Terminal.Then ∷ rest))
+            (ahead self.new rest) }
         ensures no_longer { length self.new.rest.now ≤ length self.old.rest.now }
     {
         let test = self.own_expression(alloc)?;
@@ -243,7 +251,8 @@ impl<'a> Cursor<'a> {
     /// The word END, and the semicolon after it.
     fn end(&mut self) -> Result<(), Stop>
         ensures reads { (rest : List Need) → Gives result (λ _ v.
-            v) (ahead self.old (mark Terminal.End ∷ mark Terminal.Semicolon ∷ rest)) (ahead self.new rest) }
+            v) (ahead self.old (mark Terminal.End ∷ mark Terminal.Semicolon ∷ rest))
+            (ahead self.new rest) }
         ensures no_longer { length self.new.rest.now ≤ length self.old.rest.now }
     {
         self.mark(Terminal::End)?;
@@ -253,8 +262,10 @@ impl<'a> Cursor<'a> {
 
     /// The first and the last value of the variable of a FOR, and the word DO after them.
     fn ends(&mut self, alloc: Global) -> Result<(Expr, Expr), Stop>
-        ensures reads { (rest : List Need) → Gives result (λ x v. (expression_of x.0, (expression_of x.1, v)))
-            (ahead self.old (own_sum (keyword To ∷ own_sum (keyword Do ∷ rest)))) (ahead self.new rest) }
+        ensures reads { (rest : List Need) →
+            Gives result (λ x v. (expression_of x.0, (expression_of x.1, v)))
+            (ahead self.old (own_sum (keyword To ∷ own_sum (keyword Do ∷ rest))))
+            (ahead self.new rest) }
         ensures no_longer { length self.new.rest.now ≤ length self.old.rest.now }
     {
         let first = self.own_sum(alloc)?;
@@ -279,7 +290,8 @@ impl<'a> Cursor<'a> {
     fn if_statement(&mut self, alloc: Global, edition: Edition, depth: usize) -> Result<Stmt, Stop>
         requires { first_terminal (tokens_at self.old) ≡ Terminal.If }
         ensures reads { (rest : List Need) → Gives result (λ x v.
-            (statement_of x, v)) (ahead self.old (part (StatementPart edition) depth ∷ rest)) (ahead self.new rest) }
+            (statement_of x, v)) (ahead self.old (part (StatementPart edition) depth ∷ rest))
+            (ahead self.new rest) }
         ensures shorter { OnOk result (length self.new.rest.now < length self.old.rest.now) }
         ensures no_longer { length self.new.rest.now ≤ length self.old.rest.now }
     {
@@ -301,7 +313,8 @@ impl<'a> Cursor<'a> {
     fn for_statement(&mut self, alloc: Global, depth: usize) -> Result<Stmt, Stop>
         requires { at_loop Edition.Second (tokens_at self.old) ≡ true }
         ensures reads { (rest : List Need) → Gives result (λ x v. (statement_of x, v))
-            (ahead self.old (part (StatementPart Edition.Second) depth ∷ rest)) (ahead self.new rest) }
+            (ahead self.old (part (StatementPart Edition.Second) depth ∷ rest))
+            (ahead self.new rest) }
         ensures shorter { OnOk result (length self.new.rest.now < length self.old.rest.now) }
         ensures no_longer { length self.new.rest.now ≤ length self.old.rest.now }
     {
@@ -322,7 +335,8 @@ impl<'a> Cursor<'a> {
     #[cycle(statement)]
     fn statement(&mut self, alloc: Global, edition: Edition, depth: usize) -> Result<Stmt, Stop>
         ensures reads { (rest : List Need) → Gives result (λ x v.
-            (statement_of x, v)) (ahead self.old (part (StatementPart edition) depth ∷ rest)) (ahead self.new rest) }
+            (statement_of x, v)) (ahead self.old (part (StatementPart edition) depth ∷ rest))
+            (ahead self.new rest) }
         ensures shorter { OnOk result (length self.new.rest.now < length self.old.rest.now) }
         ensures no_longer { length self.new.rest.now ≤ length self.old.rest.now }
     {
@@ -348,12 +362,14 @@ impl<'a> Cursor<'a> {
 
     /// Whether a statement may begin here. The word FOR may begin one in both versions.
     fn at_statement(&self, edition: Edition) -> bool
-        ensures { result ≡ is_some (choice (StatementPart edition) (first_terminal (tokens_at self.now))) }
+        ensures { result ≡ is_some (choice (StatementPart edition)
+            (first_terminal (tokens_at self.now))) }
     {
         matches!(self.look(), Terminal::Word | Terminal::Wire | Terminal::If)
     }
 
-    /// The statements of a macro or of a drawing, from the semicolon in front of them to the END after them.
+    /// The statements of a macro or of a drawing, from the semicolon in front of them to the END
+    /// after them.
     pub fn body(&mut self, alloc: Global, edition: Edition) -> Result<Stmts, Stop>
         ensures reads { (rest : List Need) →
             Gives result (λ x v. (statements_of x.items, v))
@@ -389,7 +405,8 @@ impl<'a> Cursor<'a> {
         depth: usize,
     ) -> Result<Option<Stmts>, Stop>
         ensures reads { (rest : List Need) → Gives result (λ x v.
-            (else_of x, v)) (ahead self.old (part (OtherwisePart edition) depth ∷ rest)) (ahead self.new rest) }
+            (else_of x, v)) (ahead self.old (part (OtherwisePart edition) depth ∷ rest))
+            (ahead self.new rest) }
         ensures no_longer { length self.new.rest.now ≤ length self.old.rest.now }
     {
         if !self.starts(Terminal::Else) {

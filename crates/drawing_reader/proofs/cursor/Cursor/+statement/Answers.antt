@@ -82,7 +82,7 @@ for_statement-returns-in_err-body-clause-reads t c =
     let p = err_from_is_err_and c.from_residual-in_err-body.result c.from_residual-in_err-body.ensures.1 in
     rw (p.1, p.2) (λ rest. stops
     (moves (deeper g.for_ c.args.depth c.args.self.now c.bump-token.new.self c.bump-token.result refl c.in_ok-inner.ensures.room
-    c.requires c.bump-token.ensures.taken c.bump-token.ensures.operators rest) (c.in_ok-var.ensures.reads.2 _))
+    c.requires c.bump-token.ensures.taken c.bump-token.ensures.operators rest) (c.in_ok-var.ensures.reads.leads _))
     ((let z : c.in_ok-inner.inner ≡ suc c.args.depth = c.in_ok-inner.ensures.ok in rw z at c.in_err-body.ensures.reads) _))
 
 pub for_statement-returns-in_err-end-clause-reads : goal.for_statement-returns-in_err-end-clause-reads
@@ -90,15 +90,15 @@ for_statement-returns-in_err-end-clause-reads t c =
     let p = err_from_is_err_and c.from_residual-in_err-end.result c.from_residual-in_err-end.ensures.1 in
     rw (p.1, p.2) (λ rest. stops
     (moves (moves (deeper g.for_ c.args.depth c.args.self.now c.bump-token.new.self c.bump-token.result refl c.in_ok-inner.ensures.room
-    c.requires c.bump-token.ensures.taken c.bump-token.ensures.operators rest) (c.in_ok-var.ensures.reads.2 _))
+    c.requires c.bump-token.ensures.taken c.bump-token.ensures.operators rest) (c.in_ok-var.ensures.reads.leads _))
     ((let z : c.in_ok-inner.inner ≡ suc c.args.depth = c.in_ok-inner.ensures.ok in rw z at c.in_ok-body.ensures.reads) _))
     (c.in_err-end.ensures.reads _))
 
 pub for_statement-returns-clause-reads : goal.for_statement-returns-clause-reads
 for_statement-returns-clause-reads t c =
-    rw (view_repeated _, view_for _, c.in_ok-var.ensures.reads.1)
+    rw (view_repeated _, view_for _, c.in_ok-var.ensures.reads.is)
     (λ rest. moves (moves (moves (deeper g.for_ c.args.depth c.args.self.now c.bump-token.new.self c.bump-token.result
-    refl c.in_ok-inner.ensures.room c.requires c.bump-token.ensures.taken c.bump-token.ensures.operators rest) (c.in_ok-var.ensures.reads.2 _))
+    refl c.in_ok-inner.ensures.room c.requires c.bump-token.ensures.taken c.bump-token.ensures.operators rest) (c.in_ok-var.ensures.reads.leads _))
     ((let z : c.in_ok-inner.inner ≡ suc c.args.depth = c.in_ok-inner.ensures.ok in rw z at c.in_ok-body.ensures.reads) _))
     (c.in_ok-end.ensures.reads _))
 

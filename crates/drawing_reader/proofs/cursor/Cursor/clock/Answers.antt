@@ -34,12 +34,12 @@ returns-in_err-mark c = record {
 
 pub returns : goal.returns
 returns c = record {
-  reads = (
-    at c.args.self.now c.in_ok-clock.clock,
-    at c.item.new.self c.in_ok-units.units,
-    at c.keyword.new.self c.in_ok-ticks.ticks,
-    c.pair_of.ensures,
-    λ rest. moves (moves (moves (moves (c.in_ok-clock.ensures.reads _) (c.in_ok-units.ensures.reads _)) (c.in_ok-keyword.ensures.reads _))
-        (c.in_ok-ticks.ensures.reads _)) (c.in_ok-mark.ensures.reads _),
-  );
+  reads = record {
+    begin = at c.args.self.now c.in_ok-clock.clock;
+    units = at c.item.new.self c.in_ok-units.units;
+    ticks = at c.keyword.new.self c.in_ok-ticks.ticks;
+    is = c.pair_of.ensures;
+    leads = λ rest. moves (moves (moves (moves (c.in_ok-clock.ensures.reads _) (c.in_ok-units.ensures.reads _)) (c.in_ok-keyword.ensures.reads _))
+        (c.in_ok-ticks.ensures.reads _)) (c.in_ok-mark.ensures.reads _);
+  };
 }

@@ -30,5 +30,5 @@ returns c = let k = c.in_ok-pair.ensures.reads in
     record {
       reads = λ rest.
           reshaped _ (moves (plainly g.clock_skew 0 c.args.self.now c.bump-token.new.self c.bump-token.result refl
-          (c.starts.ensures.yes (cc)) c.bump-token.ensures.taken c.bump-token.ensures.operators rest) (k.3 rest)) (λ v. ap (λ x. (Some x, v)) (sym k.2));
+          (c.starts.ensures.yes (cc)) c.bump-token.ensures.taken c.bump-token.ensures.operators rest) (k.leads rest)) (λ v. ap (λ x. (Some x, v)) (sym k.is));
     }

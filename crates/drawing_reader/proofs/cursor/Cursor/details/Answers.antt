@@ -14,4 +14,8 @@ returns-in_err-ins-clause-reads c = let p = err_from_is_err_and c.from_residual-
     rw (p.1, p.2) (λ rest. stops (moves (c.in_ok-delays.ensures.reads _) (c.in_ok-params.ensures.reads _)) (c.in_err-ins.ensures.reads _))
 
 pub returns-clause-reads : goal.returns-clause-reads
-returns-clause-reads c = (_, λ rest. moves (moves (c.in_ok-delays.ensures.reads _) (c.in_ok-params.ensures.reads _)) (c.in_ok-ins.ensures.reads _))
+returns-clause-reads c = record {
+  places = _;
+  leads = λ rest.
+      moves (moves (c.in_ok-delays.ensures.reads _) (c.in_ok-params.ensures.reads _)) (c.in_ok-ins.ensures.reads _);
+}

@@ -18,4 +18,11 @@ returns-in_err-body c = record {
 }
 
 pub returns : goal.returns
-returns c = record { reads = (_, c.in_ok-name.ensures.text, λ rest. moves (moves (c.in_ok-mark.ensures.reads _) (c.in_ok-name.ensures.reads _)) (c.in_ok-body.ensures.reads _)) }
+returns c = record {
+  reads = record {
+    word = _;
+    is = c.in_ok-name.ensures.text;
+    leads = λ rest.
+        moves (moves (c.in_ok-mark.ensures.reads _) (c.in_ok-name.ensures.reads _)) (c.in_ok-body.ensures.reads _);
+  };
+}

@@ -43,7 +43,7 @@ returns-in_err-wire-clause-reads c =
     rw (p.1, p.2) (λ e rest. stops
     (moves (moves (moves (plainly (g.text {v = e}) 0 c.args.self.now c.bump-token.new.self c.bump-token.result
     refl (c.starts.ensures.yes (cc)) c.bump-token.ensures.taken c.bump-token.ensures.operators rest) (c.in_ok-version.ensures.reads _))
-    (c.in_ok-mark.ensures.reads _)) (c.in_ok-clock.ensures.reads.4 _)) (c.in_err-wire.ensures.reads _))
+    (c.in_ok-mark.ensures.reads _)) (c.in_ok-clock.ensures.reads.leads _)) (c.in_err-wire.ensures.reads _))
 
 pub returns-in_err-pskew-clause-reads : goal.returns-in_err-pskew-clause-reads
 returns-in_err-pskew-clause-reads c =
@@ -51,7 +51,7 @@ returns-in_err-pskew-clause-reads c =
     rw (p.1, p.2) (λ e rest. stops
     (moves (moves (moves (moves (plainly (g.text {v = e}) 0 c.args.self.now c.bump-token.new.self c.bump-token.result refl
     (c.starts.ensures.yes (cc)) c.bump-token.ensures.taken c.bump-token.ensures.operators rest) (c.in_ok-version.ensures.reads _))
-    (c.in_ok-mark.ensures.reads _)) (c.in_ok-clock.ensures.reads.4 _)) (c.in_ok-wire.ensures.reads _)) (c.in_err-pskew.ensures.reads _))
+    (c.in_ok-mark.ensures.reads _)) (c.in_ok-clock.ensures.reads.leads _)) (c.in_ok-wire.ensures.reads _)) (c.in_err-pskew.ensures.reads _))
 
 pub returns-in_err-cskew-clause-reads : goal.returns-in_err-cskew-clause-reads
 returns-in_err-cskew-clause-reads c =
@@ -60,15 +60,15 @@ returns-in_err-cskew-clause-reads c =
     (moves (moves (moves (moves
     (moves (plainly (g.text {v = e}) 0 c.args.self.now c.bump-token.new.self c.bump-token.result refl (c.starts.ensures.yes (cc)) c.bump-token.ensures.taken
     c.bump-token.ensures.operators rest) (c.in_ok-version.ensures.reads _)) (c.in_ok-mark.ensures.reads _))
-    (c.in_ok-clock.ensures.reads.4 _)) (c.in_ok-wire.ensures.reads _)) (c.in_ok-pskew.ensures.reads _)) (c.in_err-cskew.ensures.reads _))
+    (c.in_ok-clock.ensures.reads.leads _)) (c.in_ok-wire.ensures.reads _)) (c.in_ok-pskew.ensures.reads _)) (c.in_err-cskew.ensures.reads _))
 
 pub returns-clause-reads : goal.returns-clause-reads
 returns-clause-reads c =
-    rw (c.written.ensures, c.in_ok-clock.ensures.reads.3)
+    rw (c.written.ensures, c.in_ok-clock.ensures.reads.is)
     (λ e rest. moves (moves (moves
     (moves (moves (moves (plainly (g.text {v = e}) 0 c.args.self.now c.bump-token.new.self c.bump-token.result refl
     (c.starts.ensures.yes (cc)) c.bump-token.ensures.taken c.bump-token.ensures.operators rest) (c.in_ok-version.ensures.reads _))
-    (c.in_ok-mark.ensures.reads _)) (c.in_ok-clock.ensures.reads.4 _))
+    (c.in_ok-mark.ensures.reads _)) (c.in_ok-clock.ensures.reads.leads _))
     (c.in_ok-wire.ensures.reads _)) (c.in_ok-pskew.ensures.reads _)) (c.in_ok-cskew.ensures.reads _))
 
 pub returns-clause-version : goal.returns-clause-version

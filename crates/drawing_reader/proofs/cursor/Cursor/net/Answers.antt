@@ -14,10 +14,10 @@ returns-in_err-range-clause-reads c = let p = err_from_is_err_and c.from_residua
     rw (p.1, p.2) (λ rest. stops (c.in_ok-token.ensures.reads _) (c.in_err-range.ensures.reads _))
 
 pub returns-clause-reads : goal.returns-clause-reads
-returns-clause-reads c = (
-  at c.args.self.now c.in_ok-token.token,
-  c.in_ok-name.ensures.is
+returns-clause-reads c = record {
+  token = at c.args.self.now c.in_ok-token.token;
+  is = c.in_ok-name.ensures.is
       ∙ ap (λ (x : List ℕ). s.signal_named (slice_range x c.in_ok-token.token.start c.in_ok-token.token.end))
-      c.in_ok-token.ensures.text,
-  λ rest. moves (c.in_ok-token.ensures.reads _) (c.in_ok-range.ensures.reads _),
-)
+      c.in_ok-token.ensures.text;
+  leads = λ rest. moves (c.in_ok-token.ensures.reads _) (c.in_ok-range.ensures.reads _);
+}

@@ -42,11 +42,11 @@ returns-in_err-mark-2 c =
 
 pub returns : goal.returns
 returns c = record {
-  reads = (
-    at c.args.self.now c.in_ok-first.first,
-    at c.mark.new.self c.in_ok-second.second,
-    c.pair_of.ensures,
-    λ rest. moves (moves (moves (moves (stays (ahead c.args.self.now (item is.Number ∷ mark is.Colon ∷ item is.Number ∷ mark is.Semicolon ∷ rest)))
-        (c.in_ok-first.ensures.reads _)) (c.in_ok-mark.ensures.reads _)) (c.in_ok-second.ensures.reads _)) (c.in_ok-mark-2.ensures.reads _),
-  );
+  reads = record {
+    first = at c.args.self.now c.in_ok-first.first;
+    second = at c.mark.new.self c.in_ok-second.second;
+    is = c.pair_of.ensures;
+    leads = λ rest. moves (moves (moves (moves (stays (ahead c.args.self.now (item is.Number ∷ mark is.Colon ∷ item is.Number ∷ mark is.Semicolon ∷ rest)))
+        (c.in_ok-first.ensures.reads _)) (c.in_ok-mark.ensures.reads _)) (c.in_ok-second.ensures.reads _)) (c.in_ok-mark-2.ensures.reads _);
+  };
 }

@@ -51,7 +51,7 @@ returns-in_err-cases c =
     record {
       reads = let p = err_from_is_err_and c.from_residual-in_err-cases.result c.from_residual-in_err-cases.ensures.1 in
           rw (p.1, p.2, k) (λ rest. stops (moves (moves (moves (c.in_ok-header.ensures.reads e _)
-          (c.in_ok-constants.ensures.reads (from_macros e) _)) (c.in_ok-macros.ensures.reads _)) (c.in_ok-name.ensures.reads.2 _))
+          (c.in_ok-constants.ensures.reads (from_macros e) _)) (c.in_ok-macros.ensures.reads _)) (c.in_ok-name.ensures.reads.leads _))
           (c.in_err-cases.ensures.reads _));
     }
 
@@ -61,12 +61,12 @@ returns c =
     let k = sym (c.edition_by-edition.ensures ∙ c.in_ok-header.ensures.version) in
     record {
       reads =
-          rw (k, c.in_ok-name.ensures.reads.1)
+          rw (k, c.in_ok-name.ensures.reads.is)
           (λ rest. reshaped _ (moves (moves (moves (moves (c.in_ok-header.ensures.reads e _)
-          (c.in_ok-constants.ensures.reads (from_macros e) _)) (c.in_ok-macros.ensures.reads _)) (c.in_ok-name.ensures.reads.2 _))
+          (c.in_ok-constants.ensures.reads (from_macros e) _)) (c.in_ok-macros.ensures.reads _)) (c.in_ok-name.ensures.reads.leads _))
           (c.in_ok-cases.ensures.reads _))
           (λ v. headed_so e rest c.in_ok-header.header (constants_of c.in_ok-constants.constants) (
             record { macros = map macro_of c.in_ok-macros.macros; heads = c.in_ok-macros.heads },
-            (c.in_ok-name.ensures.reads.0, (statements_of c.in_ok-name.body.items, (c.in_ok-cases.cases, v))),
+            (c.in_ok-name.ensures.reads.word, (statements_of c.in_ok-name.body.items, (c.in_ok-cases.cases, v))),
           ) c.in_ok-constants.ensures.none));
     }

@@ -30,4 +30,4 @@ returns-clause-reads c = let q : c.in_ok-label.label ≡ (at c.args.self.now c.b
     rw (q, c.in_ok-kind.ensures.text)
     (λ e n rest no_for. moves (moves (moves (plainly (g.use_ {v = e}) n c.args.self.now c.bump-token.new.self c.bump-token.result
     refl (c.requires, no_for) c.bump-token.ensures.taken c.bump-token.ensures.operators
-    rest) (c.in_ok-mark.ensures.reads _)) (c.in_ok-kind.ensures.reads _)) (c.in_ok-details.ensures.reads.1 _))
+    rest) (c.in_ok-mark.ensures.reads _)) (c.in_ok-kind.ensures.reads _)) (c.in_ok-details.ensures.reads.leads _))

@@ -18,8 +18,9 @@ returns-in_err-first-clause-reads c =
     rw (p.1, p.2) (λ rest. stops (moves (c.in_ok-var.ensures.reads _) (c.in_ok-mark.ensures.reads _)) (c.in_err-first.ensures.reads _))
 
 pub returns-clause-reads : goal.returns-clause-reads
-returns-clause-reads c = (
-  _,
-  c.in_ok-var.ensures.text,
-  λ rest. moves (moves (c.in_ok-var.ensures.reads _) (c.in_ok-mark.ensures.reads _)) (c.in_ok-first.ensures.reads _),
-)
+returns-clause-reads c = record {
+  word = _;
+  is = c.in_ok-var.ensures.text;
+  leads = λ rest.
+      moves (moves (c.in_ok-var.ensures.reads _) (c.in_ok-mark.ensures.reads _)) (c.in_ok-first.ensures.reads _);
+}

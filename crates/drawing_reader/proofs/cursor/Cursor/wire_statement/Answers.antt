@@ -15,9 +15,9 @@ pub returns-in_err-min-clause-reads : goal.returns-in_err-min-clause-reads
 returns-in_err-min-clause-reads c = let p =
     err_from_is_err_and c.from_residual-in_err-min.result c.from_residual-in_err-min.ensures.1 in
     rw (p.1, p.2) (λ e n rest. stops (moves (plainly (g.wire {v = e}) n c.args.self.now c.bump-token.new.self c.bump-token.result
-    refl c.requires c.bump-token.ensures.taken c.bump-token.ensures.operators rest) (c.in_ok-net.ensures.reads.2 _)) (c.in_err-min.ensures.reads _))
+    refl c.requires c.bump-token.ensures.taken c.bump-token.ensures.operators rest) (c.in_ok-net.ensures.reads.leads _)) (c.in_err-min.ensures.reads _))
 
 pub returns-clause-reads : goal.returns-clause-reads
-returns-clause-reads c = rw c.in_ok-net.ensures.reads.1
+returns-clause-reads c = rw c.in_ok-net.ensures.reads.is
     (λ e n rest. moves (moves (plainly (g.wire {v = e}) n c.args.self.now c.bump-token.new.self c.bump-token.result refl
-    c.requires c.bump-token.ensures.taken c.bump-token.ensures.operators rest) (c.in_ok-net.ensures.reads.2 _)) (c.in_ok-min.ensures.reads _))
+    c.requires c.bump-token.ensures.taken c.bump-token.ensures.operators rest) (c.in_ok-net.ensures.reads.leads _)) (c.in_ok-min.ensures.reads _))
